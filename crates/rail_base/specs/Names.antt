@@ -1,0 +1,16 @@
+-- What a name is: of a station, a type, a family or a trip.
+use Rattle.std.specs.Prelude.{ℕ, List, Bool, not, ◌&&◌, ◌==◌, length, nat_le, slice_index, ◌-◌}
+use Rattle.std.specs.List.{list_all}
+
+-- a space
+abbrev pub space : ℕ
+space = 32
+
+-- a byte that a name may have: no control byte, and not the byte 127
+abbrev pub is_name_byte : ℕ → Bool
+is_name_byte byte = nat_le 32 byte && not (byte == 127)
+
+-- 1 to 64 bytes that a name may have, with no space at either end (a text is UTF-8 apart from this)
+unfoldable pub is_name : List ℕ → Bool
+is_name bytes = nat_le 1 (length bytes) && nat_le (length bytes) 64 && list_all is_name_byte bytes
+    && not (slice_index bytes 0 == space) && not (slice_index bytes (length bytes - 1) == space)
