@@ -1,0 +1,112 @@
+//! The real folder and the real sink: files on disk, and the standard output. They tell no contents.
+
+ghost use Rattle.std.specs.Prelude.{◌≡◌, IfOk, ◌≤◌, length, None};
+
+use crate::{Failed, Folder, Sink};
+use std::io::{Print, Read, Seek, SeekFrom};
+use std::marker::Model;
+use std::rt::Files;
+use std::{fs, io};
+
+/// The files of the system, over the runtime that main is given. A path is taken from the folder that the program runs
+/// in. Each error of the system raises the count of faults, which stays at its last value.
+#[derive(Drop)]
+pub struct DiskFolder<'a, R: Files> {
+    rt: &'a R,
+    faults: u64,
+    taken: u64,
+}
+
+impl<'a, R: Files> Model for DiskFolder<'a, R> {
+    ghost use Rattle.rail_io.specs.OnDisk.{DiskCounts};
+
+    ghost Value = { DiskCounts };
+
+    ghost view = { λ a. record { faults = a.faults; taken = a.taken } };
+}
+
+/// Reads some bytes of a file from a place on, and answers how many: 0 only at its end.
+fn read_from<R: Files>(rt: &R, path: &str, from: u64, into: &mut [u8]) -> io::Result<usize>
+    ensures { IfOk result (λ n. n ≤ length into.new) }
+{
+    let mut file = fs::open(rt, path)?;
+    file.seek(SeekFrom::Start(from))?;
+    file.read(into)
+}
+
+impl<'a, R: Files> DiskFolder<'a, R> {
+    /// The files of the system. It touches none of them.
+    pub fn new(rt: &'a R) -> DiskFolder<'a, R>
+        ensures { result ≡ record { faults = 0; taken = 0 } }
+    {
+        DiskFolder {
+            rt,
+            faults: 0,
+            taken: 0,
+        }
+    }
+}
+
+impl<'a, R: Files> Folder for DiskFolder<'a, R> {
+    ghost holds = { λ _. None };
+
+    ghost faults = { λ folder. folder.faults };
+
+    ghost taken = { λ folder. folder.taken };
+
+    fn read_at(&mut self, path: &str, from: u64, into: &mut [u8]) -> Result<usize, Failed> {
+        if into.is_empty() {
+            return Ok(0);
+        }
+        let Ok(count) = read_from(self.rt, path, from, into) else {
+            self.faults = self.faults.saturating_add(1);
+            return Err(Failed);
+        };
+        self.taken = self.taken.saturating_add(count as u64);
+        Ok(count)
+    }
+}
+
+/// The standard output, over the runtime that main is given. Each error of the system, and a write of no bytes of a
+/// piece that is not empty, raises the count of faults, which stays at its last value.
+#[derive(Drop)]
+pub struct StdoutSink<'a, R: Print> {
+    rt: &'a R,
+    faults: u64,
+}
+
+impl<'a, R: Print> Model for StdoutSink<'a, R> {
+    ghost use Rattle.std.specs.Prelude.{ℕ};
+
+    ghost Value = { ℕ };
+
+    ghost view = { λ a. a.faults };
+}
+
+impl<'a, R: Print> StdoutSink<'a, R> {
+    /// The standard output. It writes nothing.
+    pub fn new(rt: &'a R) -> StdoutSink<'a, R>
+        ensures { result ≡ 0 }
+    {
+        StdoutSink { rt, faults: 0 }
+    }
+}
+
+impl<'a, R: Print> Sink for StdoutSink<'a, R> {
+    ghost written = { λ _. None };
+
+    ghost faults = { λ sink. sink };
+
+    fn write(&mut self, piece: &[u8]) -> Result<usize, Failed> {
+        if piece.is_empty() {
+            return Ok(0);
+        }
+        match self.rt.write_some(piece) {
+            Ok(count) if count > 0 => Ok(count),
+            _ => {
+                self.faults = self.faults.saturating_add(1);
+                Err(Failed)
+            }
+        }
+    }
+}
