@@ -10,11 +10,6 @@ pub record IsWriting (bytes : List ℕ) (done : ℕ) (written_before written : O
   pub appended : Appends (take done bytes) written_before written
   pub lasting : faults_before ≤ faults
 
--- nothing was appended where nothing changed
-pub Appends-nothing : (written : Option (List ℕ)) → Appends [] written written
-Appends-nothing None = tt
-Appends-nothing (Some bytes) = sym (append-nil bytes)
-
 -- what two calls appended, one after the other
 pub Appends-then : (first second : List ℕ) (before between after : Option (List ℕ)) →
     Appends first before between → Appends second between after → Appends (first ++ second) before after

@@ -1,6 +1,10 @@
 //! The real folder and the real sink: files on disk, and the standard output. They tell no contents.
 
-ghost use Rattle.std.specs.Prelude.{◌≡◌, IfOk, ◌≤◌, length, None};
+ghost use Rattle.std.specs.Prelude.{◌≡◌, ◌+◌, ◌-◌, ◌^◌, ◌<◌, ◌≤◌, min, length, take, IfOk, OnErr, Ok, None, Some, if◌then◌else◌};
+ghost use Rattle.std.specs.Result.{is_err};
+ghost use Rattle.rail_io.specs.Folders.{Rose, RoseBy};
+ghost use Rattle.rail_io.specs.InMemory.{counted};
+ghost use Rattle.rail_io.specs.Sinks.{Appends};
 
 use crate::{Failed, Folder, Sink};
 use std::io::{Print, Read, Seek, SeekFrom};
@@ -54,7 +58,16 @@ impl<'a, R: Files> Folder for DiskFolder<'a, R> {
 
     ghost taken = { λ folder. folder.taken };
 
-    fn read_at(&mut self, path: &str, from: u64, into: &mut [u8]) -> Result<usize, Failed> {
+    fn read_at(&mut self, path: &str, from: u64, into: &mut [u8]) -> Result<usize, Failed>
+        ensures room { IfOk result (λ n. n ≤ length into.new) }
+        ensures fault { OnErr result (Rose self.old.faults self.new.faults) }
+        ensures lasting { self.old.faults ≤ self.new.faults }
+        ensures taken { IfOk result (λ n. RoseBy n self.old.taken self.new.taken) }
+        ensures untaken { OnErr result (self.new.taken ≡ self.old.taken) }
+
+        ensures faults { self.new.faults ≡ (if is_err result then counted self.old.faults else self.old.faults) }
+        ensures empty { length into.old ≡ 0 → result ≡ Ok 0 }
+    {
         if into.is_empty() {
             return Ok(0);
         }
@@ -97,7 +110,15 @@ impl<'a, R: Print> Sink for StdoutSink<'a, R> {
 
     ghost faults = { λ sink. sink };
 
-    fn write(&mut self, piece: &[u8]) -> Result<usize, Failed> {
+    fn write(&mut self, piece: &[u8]) -> Result<usize, Failed>
+        ensures room { IfOk result (λ n. n ≤ length piece.now) }
+        ensures some { 0 < length piece.now → IfOk result (λ n. 0 < n) }
+        ensures fault { OnErr result (Rose self.old self.new) }
+        ensures lasting { self.old ≤ self.new }
+
+        ensures faults { self.new ≡ (if is_err result then counted self.old else self.old) }
+        ensures empty { length piece.now ≡ 0 → result ≡ Ok 0 }
+    {
         if piece.is_empty() {
             return Ok(0);
         }

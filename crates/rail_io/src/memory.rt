@@ -1,6 +1,6 @@
 //! A folder and a sink in memory, whose calls fail where they are told to. They are for tests.
 
-ghost use Rattle.std.specs.Prelude.{◌≡◌, ◌+◌, ◌<◌, ◌≤◌, [], IsTrue, IfOk, MatchOption, None, Some, OnErr, length, take, if◌then◌else◌};
+ghost use Rattle.std.specs.Prelude.{◌≡◌, ◌+◌, ◌<◌, ◌≤◌, ◌++◌, [], IsTrue, IfOk, MatchOption, None, Some, OnErr, length, take, if◌then◌else◌};
 ghost use Rattle.std.specs.Result.{is_err};
 ghost use Rattle.std.specs.FinMap as map;
 ghost use Rattle.rail_base.specs.Names.{is_name};
@@ -122,12 +122,11 @@ impl Folder for MemoryFolder {
     ghost taken = { λ folder. folder.taken };
 
     fn read_at(&mut self, path: &str, from: u64, into: &mut [u8]) -> Result<usize, Failed>
-        ensures told { (files : Files) → Some self.old.files ≡ Some files →
-            IfOk result (λ n. IsReadFrom (file_at files path.now) from n into.new) }
+        ensures told { IfOk result (λ n. IsReadFrom (file_at self.old.files path.now) from n into.new) }
         ensures room { IfOk result (λ n. n ≤ length into.new) }
         ensures fault { OnErr result (Rose self.old.faults self.new.faults) }
         ensures lasting { self.old.faults ≤ self.new.faults }
-        ensures same { Some self.new.files ≡ Some self.old.files }
+        ensures same { self.new.files ≡ self.old.files }
         ensures taken { IfOk result (λ n. RoseBy n self.old.taken self.new.taken) }
         ensures untaken { OnErr result (self.new.taken ≡ self.old.taken) }
 
@@ -228,8 +227,8 @@ impl Sink for MemorySink {
     fn write(&mut self, piece: &[u8]) -> Result<usize, Failed>
         ensures room { IfOk result (λ n. n ≤ length piece.now) }
         ensures some { 0 < length piece.now → IfOk result (λ n. 0 < n) }
-        ensures appended { IfOk result (λ n. Appends (take n piece.now) (Some self.old.written) (Some self.new.written)) }
-        ensures kept { OnErr result (Some self.new.written ≡ Some self.old.written) }
+        ensures appended { IfOk result (λ n. self.new.written ≡ self.old.written ++ take n piece.now) }
+        ensures kept { OnErr result (self.new.written ≡ self.old.written) }
         ensures fault { OnErr result (Rose self.old.faults self.new.faults) }
         ensures lasting { self.old.faults ≤ self.new.faults }
 
