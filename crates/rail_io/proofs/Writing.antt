@@ -1,8 +1,8 @@
 -- What holds of a sink while it is given a document piece by piece.
-use Rattle.std.proofs.Common.{◌≡◌, ℕ, ◌+◌, ◌<◌, ◌≤◌, List, [], ◌++◌, length, take, drop, Option, Some, None, refl, sym, ap, ◌∙◌, subst, ◌-◌, arith}
+use Rattle.std.proofs.Common.{ℕ, ◌+◌, ◌≤◌, List, ◌++◌, length, take, drop, Option, Some, None, sym, ap, ◌∙◌, subst, ◌-◌, arith}
 use Rattle.std.proofs.Math.Seq.{take-add}
-use Rattle.std.proofs.lemmas.List.{append-nil, append_assoc, length-drop, take_rest}
-use Rattle.rail_io.specs.Sinks.{Appends, AppendsPart}
+use Rattle.std.proofs.lemmas.List.{append_assoc, length-drop, take_rest}
+use Rattle.rail_io.specs.Sinks.{Appends}
 
 -- after some writes: this front of the bytes was appended, and the count of faults has not fallen
 pub record IsWriting (bytes : List ℕ) (done : ℕ) (written_before written : Option (List ℕ)) (faults_before faults : ℕ) : Type 0 where

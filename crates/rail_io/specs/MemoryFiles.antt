@@ -1,5 +1,5 @@
 -- The files that a list of them makes.
-use Rattle.std.specs.Prelude.{List, ℕ, map as list_map}
+use Rattle.std.specs.Prelude.{List, map as list_map}
 use Rattle.std.specs.FinMap as map
 use Rattle.rail_io.specs.declared.memory.MemoryFile.{MemoryFile}
 use Rattle.rail_io.specs.Folders.{Files}

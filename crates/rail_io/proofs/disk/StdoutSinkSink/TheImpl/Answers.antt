@@ -1,4 +1,4 @@
-use Rattle.std.proofs.Common.{ℕ, ◌<◌, ◌≤◌, length, refl}
+use Rattle.std.proofs.Common.{ℕ, ◌≤◌, length, refl}
 use Rattle.std.proofs.lemmas.Result.{IfOk-weaker, on_err_weaker}
 use Rattle.rail_io.specs.Folders.{Rose}
 use Rattle.rail_io.proofs.disk.StdoutSinkSink.TheImpl.Goals as goal
