@@ -1,5 +1,5 @@
 -- What a folder holds, what a read hands out, and when a count of faults rose.
-use Rattle.std.specs.Prelude.{◌≡◌, ◌⊎◌, ◌↔◌, ℕ, ◌+◌, ◌-◌, ◌^◌, ◌<◌, ◌≤◌, List, [], length, take, drop, unwrap_or}
+use Rattle.std.specs.Prelude.{◌≡◌, ◌⊎◌, ◌↔◌, ℕ, min, ◌+◌, ◌-◌, ◌^◌, ◌<◌, ◌≤◌, List, [], length, take, drop, unwrap_or}
 use Rattle.std.specs.Ordering.{nat_cmp}
 use Rattle.std.specs.Cmp.Lexicographic.{slice_cmp}
 use Rattle.std.specs.FinMap as map
@@ -11,6 +11,10 @@ Files = map.FinMap (slice_cmp nat_cmp) (List ℕ)
 -- the bytes of a path's file, and the empty file where the path is not named
 abbrev pub file_at : Files → List ℕ → List ℕ
 file_at files path = unwrap_or (map.get files path) []
+
+-- a counter after one more; it stays at its last value
+abbrev pub counted : ℕ → ℕ
+counted count = min (count + 1) (2 ^ 64 - 1)
 
 -- a count of faults rose: it is greater than before, or it stands at a counter's last value
 abbrev pub Rose : ℕ → ℕ → Type 0

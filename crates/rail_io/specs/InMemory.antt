@@ -1,13 +1,9 @@
 -- A folder and a sink in memory, and the calls on them that fail.
-use Rattle.std.specs.Prelude.{ℕ, ◌+◌, ◌-◌, ◌^◌, min, Bool, not, ◌&&◌, ◌||◌, ◌==◌, nat_lt, nat_le, List, length, refl}
+use Rattle.std.specs.Prelude.{ℕ, ◌-◌, min, Bool, not, ◌&&◌, ◌||◌, ◌==◌, nat_lt, nat_le, List, length, refl}
 use Rattle.std.specs.Coded.{Coded, code_by, coded×, coded_list, coded_ℕ}
 use Rattle.std.specs.List.{list_any}
 use Rattle.std.specs.FinMap as map
 use Rattle.rail_io.specs.Folders.{Files}
-
--- a counter after one more; it stays at its last value
-abbrev pub counted : ℕ → ℕ
-counted count = min (count + 1) (2 ^ 64 - 1)
 
 -- a folder in memory: its files, the numbers of the calls that fail, and how many calls, faults and bytes there were
 pub record FolderInMemory : Type 0 where

@@ -1,7 +1,7 @@
--- What is known of a folder on disk and of the standard output: how often calls failed, and how many bytes were read.
+-- What a contract sees of a folder on disk.
 use Rattle.std.specs.Prelude.{ℕ}
 
--- the counts of a folder on disk
+-- how often a call failed, and how many bytes were handed out
 pub record DiskCounts : Type 0 where
   pub faults : ℕ
   pub taken : ℕ

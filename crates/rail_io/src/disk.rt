@@ -1,10 +1,8 @@
 //! The real folder and the real sink: files on disk, and the standard output. They tell no contents.
 
-ghost use Rattle.std.specs.Prelude.{◌≡◌, ◌+◌, ◌-◌, ◌^◌, ◌<◌, ◌≤◌, min, length, take, IfOk, OnErr, Ok, None, Some, if◌then◌else◌};
+ghost use Rattle.std.specs.Prelude.{◌≡◌, ◌<◌, ◌≤◌, length, IfOk, OnErr, Ok, None, if◌then◌else◌};
 ghost use Rattle.std.specs.Result.{is_err};
-ghost use Rattle.rail_io.specs.Folders.{Rose, RoseBy};
-ghost use Rattle.rail_io.specs.InMemory.{counted};
-ghost use Rattle.rail_io.specs.Sinks.{Appends};
+ghost use Rattle.rail_io.specs.Folders.{Rose, RoseBy, counted};
 
 use crate::{Failed, Folder, Sink};
 use std::io::{Print, Read, Seek, SeekFrom};
@@ -13,7 +11,8 @@ use std::rt::Files;
 use std::{fs, io};
 
 /// The files of the system, over the runtime that main is given. A path is taken from the folder that the program runs
-/// in. Each error of the system raises the count of faults, which stays at its last value.
+/// in, and each read opens its file anew. Each error of the system raises the count of faults, which stays at its last
+/// value. A contract sees the counts of faults and of bytes handed out.
 #[derive(Drop)]
 pub struct DiskFolder<'a, R: Files> {
     rt: &'a R,
@@ -81,7 +80,7 @@ impl<'a, R: Files> Folder for DiskFolder<'a, R> {
 }
 
 /// The standard output, over the runtime that main is given. Each error of the system, and a write of no bytes of a
-/// piece that is not empty, raises the count of faults, which stays at its last value.
+/// piece that is not empty, raises the count of faults, which stays at its last value. A contract sees that count.
 #[derive(Drop)]
 pub struct StdoutSink<'a, R: Print> {
     rt: &'a R,

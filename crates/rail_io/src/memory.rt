@@ -1,13 +1,12 @@
 //! A folder and a sink in memory, whose calls fail where they are told to. They are for tests.
 
-ghost use Rattle.std.specs.Prelude.{◌≡◌, ◌+◌, ◌<◌, ◌≤◌, ◌++◌, [], IsTrue, IfOk, MatchOption, None, Some, OnErr, length, take, if◌then◌else◌};
+ghost use Rattle.std.specs.Prelude.{◌≡◌, ◌<◌, ◌≤◌, ◌++◌, [], length, take, IsTrue, MatchOption, None, Some, IfOk, OnErr, if◌then◌else◌};
 ghost use Rattle.std.specs.Result.{is_err};
 ghost use Rattle.std.specs.FinMap as map;
 ghost use Rattle.rail_base.specs.Names.{is_name};
-ghost use Rattle.rail_io.specs.Folders.{Files, IsReadFrom, Rose, RoseBy, file_at};
-ghost use Rattle.rail_io.specs.InMemory.{counted, read_fails, write_fails, write_takes};
+ghost use Rattle.rail_io.specs.Folders.{IsReadFrom, Rose, RoseBy, counted, file_at};
+ghost use Rattle.rail_io.specs.InMemory.{read_fails, write_fails, write_takes};
 ghost use Rattle.rail_io.specs.MemoryFiles.{files_of};
-ghost use Rattle.rail_io.specs.Sinks.{Appends};
 
 use crate::{Failed, Folder, Sink};
 use rail_base::{Bytes, Name, NoMemory};

@@ -1,6 +1,6 @@
 //! Whole files in, and whole documents out.
 
-ghost use Rattle.std.specs.Prelude.{◌≡◌, ◌<◌, ◌≤◌, Some, length, IfOk, IsErrOf, OnOk, OnErr};
+ghost use Rattle.std.specs.Prelude.{◌≡◌, ◌+◌, ◌<◌, ◌≤◌, Some, length, IfOk, IsErrOf, OnOk, OnErr};
 ghost use Rattle.rail_io.specs.Folders.{Files, Rose, RosePast, file_at};
 ghost use Rattle.rail_io.specs.Sinks.{Appends, AppendsPart};
 ghost use Rattle.rail_io.specs.declared.whole.FileRefusal.TheVariants.{NoMemory, ReadFault};
@@ -68,6 +68,7 @@ pub fn read_file<F: Folder>(
     ensures lasting { F.faults folder.old ≤ F.faults folder.new }
     ensures same { F.holds folder.new ≡ F.holds folder.old }
     ensures taken { F.taken folder.old ≤ F.taken folder.new }
+    ensures taken_at_most { IfOk result (λ bytes. F.taken folder.new ≤ F.taken folder.old + length bytes.items) }
 {
     let mut bytes = Vec::new(alloc);
     let mut piece = [0; PIECE_BYTES];
