@@ -6,6 +6,7 @@ ghost use Rattle.rail_io.specs.Sinks.{Appends, AppendsPart};
 ghost use Rattle.rail_io.specs.declared.whole.FileRefusal.TheVariants.{NoMemory, ReadFault};
 
 use crate::{Failed, Folder, Sink};
+use rail_base::limits::MOST_FILE_BYTES;
 use std::alloc::{AllocError, Global};
 use thiserror::Error;
 
@@ -43,7 +44,7 @@ impl From<AllocError> for FileRefusal {
 }
 
 /// The whole file of a path, where it has at most `limit` bytes. It reads until a read gives nothing or more than
-/// `limit` bytes were taken, and keeps no byte past the limit.
+/// `limit` bytes were taken, and keeps no byte past the limit. The limit is at most that of a file of any kind.
 ///
 /// - `ReadFault`: a read failed.
 /// - `TooLong`: no read failed, and the file is longer than `limit`.
@@ -54,7 +55,7 @@ pub fn read_file<F: Folder>(
     path: &str,
     limit: u64,
 ) -> Result<Vec<u8>, FileRefusal>
-    requires { limit ≤ 134217728 }
+    requires { limit ≤ MOST_FILE_BYTES }
 
     ensures told { (files : Files) → F.holds folder.old ≡ Some files →
         IfOk result (λ bytes. bytes.items ≡ file_at files path.now) }
