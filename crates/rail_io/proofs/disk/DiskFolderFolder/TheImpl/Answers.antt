@@ -1,0 +1,15 @@
+use Rattle.std.proofs.Common.{refl}
+use Rattle.std.proofs.lemmas.Option.{none-some}
+use Rattle.rail_io.proofs.disk.DiskFolderFolder.TheImpl.Goals as goal
+
+-- a folder on disk doesn't tell what it holds
+pub read_at-tells : goal.read_at-tells
+read_at-tells g c = record {
+  told = λ files tells. absurd (none-some files tells);
+  room = c.ensures.room;
+  fault = c.ensures.fault;
+  lasting = c.ensures.lasting;
+  same = refl;
+  taken = c.ensures.taken;
+  untaken = c.ensures.untaken;
+}

@@ -1,0 +1,6 @@
+use Rattle.rail_io.proofs.Writing.{IsWriting-more}
+use Rattle.rail_io.proofs.whole.write_all.Goals as goal
+
+pub loop-done-preserved : goal.loop-done-preserved
+loop-done-preserved g c =
+    IsWriting-more _ _ _ _ _ _ _ _ _ c.loop-done.invariant c.in_ok-done.ensures.room c.in_ok-done.ensures.appended c.write.ensures.lasting

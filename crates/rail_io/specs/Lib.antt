@@ -1,0 +1,5 @@
+pub mod Folders
+pub mod Sinks
+pub mod InMemory
+pub mod MemoryFiles
+pub mod OnDisk

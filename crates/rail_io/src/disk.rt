@@ -1,0 +1,132 @@
+//! The real folder and the real sink: files on disk, and the standard output. They tell no contents.
+
+ghost use Rattle.std.specs.Prelude.{◌≡◌, ◌<◌, ◌≤◌, length, IfOk, OnErr, Ok, None, if◌then◌else◌};
+ghost use Rattle.std.specs.Result.{is_err};
+ghost use Rattle.rail_io.specs.Folders.{Rose, RoseBy, counted};
+
+use crate::{Failed, Folder, Sink};
+use std::io::{Print, Read, Seek, SeekFrom};
+use std::marker::Model;
+use std::rt::Files;
+use std::{fs, io};
+
+/// The files of the system, over the runtime that main is given. A path is taken from the folder that the program runs
+/// in, and each read opens its file anew. Each error of the system raises the count of faults, which stays at its last
+/// value. A contract sees the counts of faults and of bytes handed out.
+#[derive(Drop)]
+pub struct DiskFolder<'a, R: Files> {
+    rt: &'a R,
+    faults: u64,
+    taken: u64,
+}
+
+impl<'a, R: Files> Model for DiskFolder<'a, R> {
+    ghost use Rattle.rail_io.specs.OnDisk.{DiskCounts};
+
+    ghost Value = { DiskCounts };
+
+    ghost view = { λ a. record { faults = a.faults; taken = a.taken } };
+}
+
+/// Reads some bytes of a file from a place on, and answers how many: 0 only at its end.
+fn read_from<R: Files>(rt: &R, path: &str, from: u64, into: &mut [u8]) -> io::Result<usize>
+    ensures { IfOk result (λ n. n ≤ length into.new) }
+{
+    let mut file = fs::open(rt, path)?;
+    file.seek(SeekFrom::Start(from))?;
+    file.read(into)
+}
+
+impl<'a, R: Files> DiskFolder<'a, R> {
+    /// The files of the system. It touches none of them.
+    pub fn new(rt: &'a R) -> DiskFolder<'a, R>
+        ensures { result ≡ record { faults = 0; taken = 0 } }
+    {
+        DiskFolder {
+            rt,
+            faults: 0,
+            taken: 0,
+        }
+    }
+}
+
+impl<'a, R: Files> Folder for DiskFolder<'a, R> {
+    ghost holds = { λ _. None };
+
+    ghost faults = { λ folder. folder.faults };
+
+    ghost taken = { λ folder. folder.taken };
+
+    fn read_at(&mut self, path: &str, from: u64, into: &mut [u8]) -> Result<usize, Failed>
+        ensures room { IfOk result (λ n. n ≤ length into.new) }
+        ensures fault { OnErr result (Rose self.old.faults self.new.faults) }
+        ensures lasting { self.old.faults ≤ self.new.faults }
+        ensures taken { IfOk result (λ n. RoseBy n self.old.taken self.new.taken) }
+        ensures untaken { OnErr result (self.new.taken ≡ self.old.taken) }
+
+        ensures faults { self.new.faults ≡ (if is_err result then counted self.old.faults else self.old.faults) }
+        ensures empty { length into.old ≡ 0 → result ≡ Ok 0 }
+    {
+        if into.is_empty() {
+            return Ok(0);
+        }
+        let Ok(count) = read_from(self.rt, path, from, into) else {
+            self.faults = self.faults.saturating_add(1);
+            return Err(Failed);
+        };
+        self.taken = self.taken.saturating_add(count as u64);
+        Ok(count)
+    }
+}
+
+/// The standard output, over the runtime that main is given. Each error of the system, and a write of no bytes of a
+/// piece that is not empty, raises the count of faults, which stays at its last value. A contract sees that count.
+#[derive(Drop)]
+pub struct StdoutSink<'a, R: Print> {
+    rt: &'a R,
+    faults: u64,
+}
+
+impl<'a, R: Print> Model for StdoutSink<'a, R> {
+    ghost use Rattle.std.specs.Prelude.{ℕ};
+
+    ghost Value = { ℕ };
+
+    ghost view = { λ a. a.faults };
+}
+
+impl<'a, R: Print> StdoutSink<'a, R> {
+    /// The standard output. It writes nothing.
+    pub fn new(rt: &'a R) -> StdoutSink<'a, R>
+        ensures { result ≡ 0 }
+    {
+        StdoutSink { rt, faults: 0 }
+    }
+}
+
+impl<'a, R: Print> Sink for StdoutSink<'a, R> {
+    ghost written = { λ _. None };
+
+    ghost faults = { λ sink. sink };
+
+    fn write(&mut self, piece: &[u8]) -> Result<usize, Failed>
+        ensures room { IfOk result (λ n. n ≤ length piece.now) }
+        ensures some { 0 < length piece.now → IfOk result (λ n. 0 < n) }
+        ensures fault { OnErr result (Rose self.old self.new) }
+        ensures lasting { self.old ≤ self.new }
+
+        ensures faults { self.new ≡ (if is_err result then counted self.old else self.old) }
+        ensures empty { length piece.now ≡ 0 → result ≡ Ok 0 }
+    {
+        if piece.is_empty() {
+            return Ok(0);
+        }
+        match self.rt.write_some(piece) {
+            Ok(count) if count > 0 => Ok(count),
+            _ => {
+                self.faults = self.faults.saturating_add(1);
+                Err(Failed)
+            }
+        }
+    }
+}

@@ -1,0 +1,36 @@
+//! A folder: a place from which files are read piece by piece.
+
+ghost use Rattle.std.specs.Prelude.{◌≡◌, ◌≤◌, ℕ, Option, Some, length, IfOk, OnErr};
+ghost use Rattle.rail_io.specs.Folders.{Files, IsReadFrom, Rose, RoseBy, file_at};
+
+use thiserror::Error;
+
+/// One call on a folder or a sink failed. Why is known to the system alone.
+#[derive(Clone, Copy, Debug, PartialEq, Eq, Hash, Error)]
+#[error("the call failed")]
+pub struct Failed;
+
+/// A place from which files are read piece by piece. A path that it does not name has the empty file.
+pub trait Folder {
+    /// What is held, the bytes of each path, or `None` where the folder does not tell. It never changes.
+    ghost holds: { Self → Option Files };
+
+    /// How often a call has failed, up to a counter's last value. It never falls.
+    ghost faults: { Self → ℕ };
+
+    /// How many bytes were handed out, exactly so up to 2^63. It never falls.
+    ghost taken: { Self → ℕ };
+
+    /// Puts bytes of the path's file, from place `from` on, at the front of `into`, and answers how many.
+    /// It answers 0 exactly where `into` is empty or nothing is left from there on. What stands in `into` past the
+    /// bytes put there is left open. `Failed` comes only where the count of faults rose.
+    fn read_at(&mut self, path: &str, from: u64, into: &mut [u8]) -> Result<usize, Failed>
+        ensures told { (files : Files) → holds self.old ≡ Some files →
+            IfOk result (λ n. IsReadFrom (file_at files path.now) from n into.new) }
+        ensures room { IfOk result (λ n. n ≤ length into.new) }
+        ensures fault { OnErr result (Rose (faults self.old) (faults self.new)) }
+        ensures lasting { faults self.old ≤ faults self.new }
+        ensures same { holds self.new ≡ holds self.old }
+        ensures taken { IfOk result (λ n. RoseBy n (taken self.old) (taken self.new)) }
+        ensures untaken { OnErr result (taken self.new ≡ taken self.old) };
+}

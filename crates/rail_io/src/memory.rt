@@ -1,0 +1,256 @@
+//! A folder and a sink in memory, whose calls fail where they are told to. They are for tests.
+
+ghost use Rattle.std.specs.Prelude.{◌≡◌, ◌<◌, ◌≤◌, ◌++◌, [], length, take, IsTrue, MatchOption, None, Some, IfOk, OnErr, if◌then◌else◌};
+ghost use Rattle.std.specs.Result.{is_err};
+ghost use Rattle.std.specs.FinMap as map;
+ghost use Rattle.rail_base.specs.Names.{is_name};
+ghost use Rattle.rail_io.specs.Folders.{IsReadFrom, Rose, RoseBy, counted, file_at};
+ghost use Rattle.rail_io.specs.InMemory.{read_fails, write_fails, write_takes};
+ghost use Rattle.rail_io.specs.MemoryFiles.{files_of};
+
+use crate::{Failed, Folder, Sink};
+use rail_base::{Bytes, Name, NoMemory};
+use std::alloc::Global;
+use std::marker::Model;
+
+/// A file in memory: its path, of at most 64 bytes, and its bytes.
+#[derive(Debug, Drop)]
+pub struct MemoryFile {
+    pub path: Name,
+    pub bytes: Bytes,
+}
+
+impl MemoryFile {
+    /// The file with a path and bytes, which are copied. The only refusal is want of memory.
+    pub fn new(alloc: Global, path: &str, bytes: &[u8]) -> Result<MemoryFile, NoMemory>
+        requires { IsTrue (is_name path.now) }
+        ensures { IfOk result (λ file. file ≡ record { path = path.now; bytes = bytes.now }) }
+    {
+        Ok(MemoryFile {
+            path: Name::copy(alloc, path)?,
+            bytes: Bytes::of(bytes.to_vec(alloc)?),
+        })
+    }
+}
+
+/// A folder in memory. A read fails where its number, counted from 0, is among those that are to fail, and where no
+/// file has the path. The count of faults rises in these calls and in no other.
+#[derive(Debug, Drop)]
+pub struct MemoryFolder {
+    files: Vec<MemoryFile>,
+    failing: Vec<u64>,
+    calls: u64,
+    faults: u64,
+    taken: u64,
+}
+
+impl Model for MemoryFolder {
+    ghost use Rattle.rail_io.specs.InMemory.{FolderInMemory, folder_code};
+
+    ghost Value = { FolderInMemory };
+
+    ghost coded = { folder_code };
+
+    ghost use Rattle.rail_io.specs.MemoryFiles.{files_of};
+
+    ghost view = { λ a. record {
+      files = files_of a.files.items;
+      failing = a.failing.items;
+      calls = a.calls;
+      faults = a.faults;
+      taken = a.taken;
+    } };
+}
+
+/// The bytes of the first file with a path.
+fn find_file<'a>(files: &'a [MemoryFile], path: &str) -> Option<&'a [u8]>
+    ensures { MatchOption result (map.get (files_of files.now) path.now ≡ None)
+        (λ bytes. map.get (files_of files.now) path.now ≡ Some bytes.now) }
+{
+    for file in files {
+        if path == file.path.as_str() {
+            return Some(file.bytes.items());
+        }
+    }
+    None
+}
+
+/// Copies what a file has from a place on, as far as there is room, and answers how many bytes that was.
+fn copy_from(file: &[u8], from: u64, into: &mut [u8]) -> usize
+    ensures read { IsReadFrom file.now from result into.new }
+    ensures room { result ≤ length into.new }
+{
+    let start = file.len().min(from as usize);
+    let rest = &file[start..];
+    let count = rest.len().min(into.len());
+    into[..count].copy_from_slice(&rest[..count]);
+    count
+}
+
+impl MemoryFolder {
+    /// The folder with these files, of which the first counts where two have one path, and the numbers of the reads
+    /// that fail, counted from 0. The only refusal is want of memory.
+    pub fn new(
+        _alloc: Global,
+        files: Vec<MemoryFile>,
+        failing: Vec<u64>,
+    ) -> Result<MemoryFolder, NoMemory>
+        ensures { IfOk result (λ folder. folder ≡ record {
+          files = files_of files.items;
+          failing = failing.items;
+          calls = 0;
+          faults = 0;
+          taken = 0;
+        }) }
+    {
+        Ok(MemoryFolder {
+            files,
+            failing,
+            calls: 0,
+            faults: 0,
+            taken: 0,
+        })
+    }
+}
+
+impl Folder for MemoryFolder {
+    ghost holds = { λ folder. Some folder.files };
+
+    ghost faults = { λ folder. folder.faults };
+
+    ghost taken = { λ folder. folder.taken };
+
+    fn read_at(&mut self, path: &str, from: u64, into: &mut [u8]) -> Result<usize, Failed>
+        ensures told { IfOk result (λ n. IsReadFrom (file_at self.old.files path.now) from n into.new) }
+        ensures room { IfOk result (λ n. n ≤ length into.new) }
+        ensures fault { OnErr result (Rose self.old.faults self.new.faults) }
+        ensures lasting { self.old.faults ≤ self.new.faults }
+        ensures same { self.new.files ≡ self.old.files }
+        ensures taken { IfOk result (λ n. RoseBy n self.old.taken self.new.taken) }
+        ensures untaken { OnErr result (self.new.taken ≡ self.old.taken) }
+
+        ensures fails { is_err result ≡ read_fails self.old path.now }
+        ensures faults { self.new.faults ≡ (if is_err result then counted self.old.faults else self.old.faults) }
+        ensures calls { self.new.calls ≡ counted self.old.calls }
+        ensures failing { self.new.failing ≡ self.old.failing }
+    {
+        let call = self.calls;
+        self.calls = call.saturating_add(1);
+        if self.failing.contains(&call) {
+            self.faults = self.faults.saturating_add(1);
+            return Err(Failed);
+        }
+        let Some(bytes) = find_file(&self.files, path) else {
+            self.faults = self.faults.saturating_add(1);
+            return Err(Failed);
+        };
+        let count = copy_from(bytes, from, into);
+        self.taken = self.taken.saturating_add(count as u64);
+        Ok(count)
+    }
+}
+
+/// A sink in memory. A write takes at most `most` bytes, and no more than there is room for. A write of a piece that
+/// is not empty fails where no room is left, and where its number, counted from 0, is among those that are to fail.
+/// The count of faults rises in these calls and in no other.
+#[derive(Debug, Drop)]
+pub struct MemorySink {
+    written: Vec<u8>,
+    room: usize,
+    most: usize,
+    failing: Vec<u64>,
+    calls: u64,
+    faults: u64,
+}
+
+impl Model for MemorySink {
+    ghost use Rattle.std.specs.Prelude.{◌≤◌, length, vec_capacity};
+    ghost use Rattle.rail_io.specs.InMemory.{SinkInMemory};
+
+    ghost Value = { SinkInMemory };
+
+    ghost view = { λ a. record {
+      written = a.written.items;
+      room = a.room;
+      most = a.most;
+      failing = a.failing.items;
+      calls = a.calls;
+      faults = a.faults;
+    } };
+
+    ghost invariant = { λ a. (length a.written.items ≤ a.room) × (a.room ≤ vec_capacity a.written) × (1 ≤ a.most) };
+}
+
+impl MemorySink {
+    /// An empty sink: how many bytes it has room for, how many a write takes at most, and the numbers of the writes
+    /// that fail, counted from 0. The only refusal is want of memory.
+    pub fn new(
+        alloc: Global,
+        room: usize,
+        most: usize,
+        failing: Vec<u64>,
+    ) -> Result<MemorySink, NoMemory>
+        requires { 1 ≤ most }
+        ensures { IfOk result (λ sink. sink ≡ record {
+          written = [];
+          room = room;
+          most = most;
+          failing = failing.items;
+          calls = 0;
+          faults = 0;
+        }) }
+    {
+        Ok(MemorySink {
+            written: Vec::with_capacity(alloc, room)?,
+            room,
+            most,
+            failing,
+            calls: 0,
+            faults: 0,
+        })
+    }
+
+    /// All bytes written so far.
+    pub fn written(&self) -> &[u8]
+        ensures { result.now ≡ self.now.written }
+    {
+        self.written.as_slice()
+    }
+}
+
+impl Sink for MemorySink {
+    ghost written = { λ sink. Some sink.written };
+
+    ghost faults = { λ sink. sink.faults };
+
+    fn write(&mut self, piece: &[u8]) -> Result<usize, Failed>
+        ensures room { IfOk result (λ n. n ≤ length piece.now) }
+        ensures some { 0 < length piece.now → IfOk result (λ n. 0 < n) }
+        ensures appended { IfOk result (λ n. self.new.written ≡ self.old.written ++ take n piece.now) }
+        ensures kept { OnErr result (self.new.written ≡ self.old.written) }
+        ensures fault { OnErr result (Rose self.old.faults self.new.faults) }
+        ensures lasting { self.old.faults ≤ self.new.faults }
+
+        ensures fails { is_err result ≡ write_fails self.old piece.now }
+        ensures count { IfOk result (λ n. n ≡ write_takes self.old piece.now) }
+        ensures faults { self.new.faults ≡ (if is_err result then counted self.old.faults else self.old.faults) }
+        ensures calls { self.new.calls ≡ counted self.old.calls }
+        ensures room_stays { self.new.room ≡ self.old.room }
+        ensures most_stays { self.new.most ≡ self.old.most }
+        ensures failing { self.new.failing ≡ self.old.failing }
+    {
+        let call = self.calls;
+        self.calls = call.saturating_add(1);
+        if piece.is_empty() {
+            return Ok(0);
+        }
+        let left = self.room - self.written.len();
+        if left == 0 || self.failing.contains(&call) {
+            self.faults = self.faults.saturating_add(1);
+            return Err(Failed);
+        }
+        let count = piece.len().min(self.most).min(left);
+        self.written.extend_from_slice(&piece[..count]).unwrap();
+        Ok(count)
+    }
+}

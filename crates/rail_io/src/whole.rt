@@ -1,0 +1,101 @@
+//! Whole files in, and whole documents out.
+
+ghost use Rattle.std.specs.Prelude.{◌≡◌, ◌+◌, ◌<◌, ◌≤◌, Some, length, IfOk, IsErrOf, OnOk, OnErr};
+ghost use Rattle.rail_io.specs.Folders.{Files, Rose, RosePast, file_at};
+ghost use Rattle.rail_io.specs.Sinks.{Appends, AppendsPart};
+ghost use Rattle.rail_io.specs.declared.whole.FileRefusal.TheVariants.{NoMemory, ReadFault};
+
+use crate::{Failed, Folder, Sink};
+use rail_base::limits::MOST_FILE_BYTES;
+use std::alloc::{AllocError, Global};
+use thiserror::Error;
+
+/// How many bytes one read asks for.
+const PIECE_BYTES: usize = 4096;
+
+/// Why a file was not read.
+#[derive(Clone, Copy, Debug, PartialEq, Eq, Hash, Error)]
+pub enum FileRefusal {
+    /// A read failed.
+    #[error("cannot be read")]
+    ReadFault,
+    /// The file is longer than the limit.
+    #[error("too long")]
+    TooLong,
+    /// The memory for its bytes could not be had.
+    #[error("out of memory")]
+    NoMemory,
+}
+
+impl From<Failed> for FileRefusal {
+    ghost from_gives = { λ _ refusal. refusal ≡ ReadFault };
+
+    fn from(_error: Failed) -> FileRefusal {
+        FileRefusal::ReadFault
+    }
+}
+
+impl From<AllocError> for FileRefusal {
+    ghost from_gives = { λ _ refusal. refusal ≡ NoMemory };
+
+    fn from(_error: AllocError) -> FileRefusal {
+        FileRefusal::NoMemory
+    }
+}
+
+/// The whole file of a path, where it has at most `limit` bytes. It reads until a read gives nothing or more than
+/// `limit` bytes were taken, and keeps no byte past the limit. The limit is at most that of a file of any kind.
+///
+/// - `ReadFault`: a read failed.
+/// - `TooLong`: no read failed, and the file is longer than `limit`.
+/// - `NoMemory`: the memory for its bytes could not be had.
+pub fn read_file<F: Folder>(
+    alloc: Global,
+    folder: &mut F,
+    path: &str,
+    limit: u64,
+) -> Result<Vec<u8>, FileRefusal>
+    requires { limit ≤ MOST_FILE_BYTES }
+
+    ensures told { (files : Files) → F.holds folder.old ≡ Some files →
+        IfOk result (λ bytes. bytes.items ≡ file_at files path.now) }
+    ensures within { IfOk result (λ bytes. length bytes.items ≤ limit) }
+    ensures longer { (files : Files) → F.holds folder.old ≡ Some files →
+        IsErrOf result FileRefusal.TooLong → limit < length (file_at files path.now) }
+
+    ensures fault { IsErrOf result FileRefusal.ReadFault → Rose (F.faults folder.old) (F.faults folder.new) }
+    ensures too_long { IsErrOf result FileRefusal.TooLong → RosePast limit (F.taken folder.old) (F.taken folder.new) }
+
+    ensures lasting { F.faults folder.old ≤ F.faults folder.new }
+    ensures same { F.holds folder.new ≡ F.holds folder.old }
+    ensures taken { F.taken folder.old ≤ F.taken folder.new }
+    ensures taken_at_most { IfOk result (λ bytes. F.taken folder.new ≤ F.taken folder.old + length bytes.items) }
+{
+    let mut bytes = Vec::new(alloc);
+    let mut piece = [0; PIECE_BYTES];
+    loop {
+        let count = folder.read_at(path, bytes.len() as u64, &mut piece)?;
+        if count == 0 {
+            return Ok(bytes);
+        }
+        if count as u64 > limit - bytes.len() as u64 {
+            return Err(FileRefusal::TooLong);
+        }
+        bytes.extend_from_slice(&piece[..count])?;
+    }
+}
+
+/// Writes all the bytes, piece by piece. Where it fails, the sink's count of faults rose, and a front of the bytes was
+/// written that is shorter than they are. It takes no memory.
+pub fn write_all<K: Sink>(sink: &mut K, bytes: &[u8]) -> Result<(), Failed>
+    ensures whole { OnOk result (Appends bytes.now (K.written sink.old) (K.written sink.new)) }
+    ensures part { OnErr result (AppendsPart bytes.now (K.written sink.old) (K.written sink.new)) }
+    ensures fault { OnErr result (Rose (K.faults sink.old) (K.faults sink.new)) }
+    ensures lasting { K.faults sink.old ≤ K.faults sink.new }
+{
+    let mut done = 0;
+    while done < bytes.len() {
+        done += sink.write(&bytes[done..])?;
+    }
+    Ok(())
+}
