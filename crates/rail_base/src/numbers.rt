@@ -27,7 +27,7 @@ impl StationNo {
 }
 
 /// The number of a unit type, counted from 0 in the order of the types table.
-#[derive(Clone, Copy, Debug, PartialEq, Eq, Hash, PartialOrd, Ord)]
+#[derive(Clone, Copy, Debug, Default, PartialEq, Eq, Hash, PartialOrd, Ord)]
 pub struct TypeNo(pub u32);
 
 impl Model for TypeNo {
