@@ -1,8 +1,9 @@
 //! Compositions: the units of one train, front to rear.
 
-ghost use Rattle.std.specs.Prelude.{◌≡◌, ◌<◌, ◌≤◌, ◌+◌, ◌-◌, ◌++◌, ◌==◌, ◌⊎◌, ◌↔◌, IsTrue, IsNone, IfSome, Some, length, slice_get, take, drop, reverse, count_by};
+ghost use Rattle.std.specs.Prelude.{[], ◌∷◌, ◌≡◌, ◌<◌, ◌≤◌, ◌+◌, ◌-◌, ◌++◌, ◌==◌, ◌⊎◌, ◌↔◌, IsTrue, IsNone, IfSome, Some, length, slice_get, take, drop, reverse, count_by};
 ghost use Rattle.std.specs.List.{list_all};
 ghost use Rattle.std.specs.Str.{bytes_eq};
+ghost use Rattle.compositions.specs.Catalogue.{comes_before};
 ghost use Rattle.compositions.specs.Composition.{metres_of, seats_of, carriages_of, family_of, is_one_family, are_types, fits_in, sum_over};
 ghost use Rattle.compositions.specs.Measure.{measure_of};
 
@@ -41,6 +42,19 @@ impl Composition {
         }
         let mut units = ArrayVec::new();
         match units.try_extend_from_slice(types) {
+            Ok(()) => Some(Composition { units }),
+            Err(_) => None,
+        }
+    }
+
+    /// A front of at most six units with one more at its rear, or nothing where these are more than six.
+    pub(crate) fn extended(front: &[TypeNo], unit_type: TypeNo) -> Option<Composition>
+        requires { length front.now ≤ 6 }
+        ensures none { IsNone result ↔ (6 < length front.now + 1) }
+        ensures some { IfSome result (λ composition. composition ≡ front.now ++ unit_type ∷ []) }
+    {
+        let mut units = copies_of(front);
+        match units.try_push(unit_type) {
             Ok(()) => Some(Composition { units }),
             Err(_) => None,
         }
@@ -86,6 +100,17 @@ impl Composition {
         ensures { IsTrue result ↔ (self.now ≡ other.now) }
     {
         self.units() == other.units()
+    }
+
+    /// Whether this composition comes before another in the order of the catalogue: by number of units, and then by type
+    /// numbers from the front.
+    pub fn is_before(&self, other: &Composition) -> bool
+        ensures { result ≡ comes_before self.now other.now }
+    {
+        if self.len() != other.len() {
+            return self.len() < other.len();
+        }
+        self.units() < other.units()
     }
 
     /// The same units as the train goes the other way.
