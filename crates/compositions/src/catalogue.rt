@@ -1,7 +1,7 @@
 //! The catalogue: all compositions that fit the longest platform, numbered in one order.
 
 ghost use Rattle.std.specs.Prelude.{List, AllPairs, slice_index_or, false, ◌≡◌, ◌<◌, ◌≤◌, ◌+◌, ◌++◌, ℕ, [], ◌∷◌, ◌↔◌, IsTrue, IsNone, IfSome, IfOk, OnOk, IfErr, Some, length, slice_get, Contains};
-ghost use Rattle.compositions.specs.Catalogue.{IsCatalogue, MoreFit, comes_before};
+ghost use Rattle.compositions.specs.Catalogue.{IsCatalogue, catalogue_of, comes_before};
 ghost use Rattle.compositions.specs.Composition.{fits_in};
 ghost use Rattle.compositions.specs.Extensions.{where_it_fits, extensions};
 ghost use Rattle.compositions.specs.declared.catalogue.CatalogueRefusal.TheVariants.{TooMany};
@@ -46,10 +46,15 @@ impl Model for Catalogue {
 impl Catalogue {
     /// The catalogue of the compositions that are no longer than so many metres. It is refused as `TooMany` exactly where
     /// more than 1,000 fit, and takes no more time then than for the first 1,001; the other refusal is want of memory.
-    pub fn build(alloc: Global, types: &UnitTypes, longest: u32) -> Result<Catalogue, CatalogueRefusal>
-        ensures ok { IfOk result (λ catalogue. IsCatalogue types.now longest catalogue) }
-        ensures few { IfOk result (λ catalogue. ¬ (MoreFit types.now longest 1000)) }
-        ensures too_many { IfErr result (λ refusal. refusal ≡ TooMany → MoreFit types.now longest 1000) }
+    pub fn build(
+        alloc: Global,
+        types: &UnitTypes,
+        longest: u32,
+    ) -> Result<Catalogue, CatalogueRefusal>
+        ensures ok { IfOk result (λ catalogue. catalogue ≡ catalogue_of types.now longest) }
+        ensures few { IfOk result (λ catalogue. length catalogue ≤ 1000) }
+        ensures too_many { IfErr result (λ refusal. refusal ≡ TooMany → 1000 < length (catalogue_of types.now longest)) }
+        ensures law { IsCatalogue types.now longest (catalogue_of types.now longest) }
     {
         let mut compositions = Vec::new(alloc);
         add_extensions(&mut compositions, &[], types, longest)?;
@@ -116,7 +121,12 @@ fn first_not_before(compositions: &[Composition], composition: &Composition) -> 
 }
 
 /// Adds what is made of a front by one more unit at the rear, of each type in turn, where that fits.
-fn add_extensions(compositions: &mut Vec<Composition>, front: &[TypeNo], types: &UnitTypes, longest: u32) -> Result<(), CatalogueRefusal>
+fn add_extensions(
+    compositions: &mut Vec<Composition>,
+    front: &[TypeNo],
+    types: &UnitTypes,
+    longest: u32,
+) -> Result<(), CatalogueRefusal>
     requires few { length compositions.old.items ≤ 1000 }
     requires front_few { length front.now ≤ 6 }
     ensures ok { OnOk result (compositions.new.items ≡ compositions.old.items ++ extensions (fits_in types.now longest) (length types.now) front.now) }
@@ -130,7 +140,13 @@ fn add_extensions(compositions: &mut Vec<Composition>, front: &[TypeNo], types: 
 }
 
 /// Adds what is made of a front by one more unit at the rear, where that fits.
-fn add_extension(compositions: &mut Vec<Composition>, front: &[TypeNo], unit_type: TypeNo, types: &UnitTypes, longest: u32) -> Result<(), CatalogueRefusal>
+fn add_extension(
+    compositions: &mut Vec<Composition>,
+    front: &[TypeNo],
+    unit_type: TypeNo,
+    types: &UnitTypes,
+    longest: u32,
+) -> Result<(), CatalogueRefusal>
     requires few { length compositions.old.items ≤ 1000 }
     requires front_few { length front.now ≤ 6 }
     ensures ok { OnOk result (compositions.new.items ≡ compositions.old.items ++ where_it_fits (fits_in types.now longest) (front.now ++ unit_type ∷ [])) }
@@ -146,6 +162,8 @@ fn add_extension(compositions: &mut Vec<Composition>, front: &[TypeNo], unit_typ
     if compositions.len() == MOST_COMPOSITIONS {
         return Err(CatalogueRefusal::TooMany);
     }
-    compositions.push(composition).map_err(|_| CatalogueRefusal::NoMemory)?;
+    compositions
+        .push(composition)
+        .map_err(|_| CatalogueRefusal::NoMemory)?;
     Ok(())
 }

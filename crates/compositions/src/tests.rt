@@ -1,11 +1,11 @@
-//! Each call once, on types of 80 and 60 metres.
+//! Each call once, and catalogues whose sizes were counted by hand.
 
 ghost use Rattle.std.specs.Prelude.{◌≡◌, ◌≤◌, IsTrue, IfOk, true, length};
 ghost use Rattle.rail_base.specs.Names.{is_name};
 ghost use Rattle.compositions.specs.UnitTypes.{is_within_limits};
 
-use crate::{Composition, UnitType, UnitTypes};
-use rail_base::{Name, NoMemory, TypeNo};
+use crate::{Catalogue, CatalogueRefusal, Composition, UnitType, UnitTypes};
+use rail_base::{CompNo, Name, NoMemory, TypeNo};
 use std::alloc::Global;
 
 /// A type of so many metres in the family `regional`.
@@ -33,6 +33,16 @@ fn two_types(alloc: Global) -> Result<UnitTypes, NoMemory>
     let mut types = Vec::new(alloc);
     types.push(regional(alloc, "A", 80)?)?;
     types.push(regional(alloc, "B", 60)?)?;
+    Ok(UnitTypes::new(types))
+}
+
+/// Three types of 50 metres.
+#[tactic(auto, unfolding(rail_base::specs::Names::is_name))]
+fn three_types(alloc: Global) -> Result<UnitTypes, NoMemory> {
+    let mut types = Vec::new(alloc);
+    types.push(regional(alloc, "A", 50)?)?;
+    types.push(regional(alloc, "B", 50)?)?;
+    types.push(regional(alloc, "C", 50)?)?;
     Ok(UnitTypes::new(types))
 }
 
@@ -69,4 +79,42 @@ fn measures(rt: HostRuntime) {
     assert!(rt; pair.one_family(&types));
     assert!(rt; pair.fits(&types, 140));
     assert!(rt; !pair.fits(&types, 139));
+}
+
+#[test]
+fn catalogue_in_order(rt: HostRuntime) {
+    let Ok(types) = two_types(rt.alloc()) else {
+        panic!(rt; "memory for two types");
+    };
+    let Ok(catalogue) = Catalogue::build(rt.alloc(), &types, 140) else {
+        panic!(rt; "a catalogue of A, B, AB, BA and BB");
+    };
+    assert!(rt; catalogue.len() == 5);
+    assert!(rt; catalogue.get(CompNo(0)).units() == [TypeNo(0)].as_slice());
+    assert!(rt; catalogue.get(CompNo(1)).units() == [TypeNo(1)].as_slice());
+    assert!(rt; catalogue.get(CompNo(2)).units() == [TypeNo(0), TypeNo(1)].as_slice());
+    assert!(rt; catalogue.get(CompNo(3)).units() == [TypeNo(1), TypeNo(0)].as_slice());
+    assert!(rt; catalogue.get(CompNo(4)).units() == [TypeNo(1), TypeNo(1)].as_slice());
+    assert!(rt; catalogue.find(catalogue.get(CompNo(3))) == Some(CompNo(3)));
+    let Some(too_long) = Composition::of(&[TypeNo(0), TypeNo(0)]) else {
+        panic!(rt; "a composition of two units");
+    };
+    assert!(rt; catalogue.find(&too_long).is_none());
+}
+
+#[test]
+fn most_compositions(rt: HostRuntime) {
+    let Ok(types) = three_types(rt.alloc()) else {
+        panic!(rt; "memory for three types");
+    };
+    let Ok(catalogue) = Catalogue::build(rt.alloc(), &types, 299) else {
+        panic!(rt; "a catalogue of up to five units");
+    };
+    assert!(rt; catalogue.len() == 363);
+    assert!(rt;
+        matches!(
+            Catalogue::build(rt.alloc(), &types, 300),
+            Err(CatalogueRefusal::TooMany)
+        )
+    );
 }
