@@ -27,8 +27,6 @@ impl Model for Composition {
     ghost view = { λ a. a.units.items };
 
     ghost invariant = { λ a. (1 ≤ length a.units.items) × (length a.units.items ≤ 6) };
-
-    ghost inverse = { λ ms. record { units = record { items = ms } } };
 }
 
 impl Composition {
