@@ -22,5 +22,7 @@ pub const MOST_PLAN_ROWS: usize = 400;
 pub const MOST_UNITS: u32 = 2_000;
 /// Units in one composition.
 pub const MOST_COMPOSITION: usize = 6;
+/// Compositions in the catalogue.
+pub const MOST_COMPOSITIONS: usize = 1_000;
 /// Words that a command line may have.
 pub const MOST_WORDS: usize = 1_000_000;
