@@ -1,0 +1,12 @@
+//! The tables of a day, read from CSV: typed rows, or the first thing that is wrong.
+#![tactic(auto)]
+
+pub mod columns;
+pub mod refusal;
+pub mod rows;
+
+pub use refusal::TableRefusal;
+pub use rows::{
+    End, KindWord, LinkRow, PlanRow, StationRow, StockRow, Table, TripRow, TypeRow, UnitList,
+    WeightsRow,
+};
