@@ -1,1 +1,5 @@
 pub mod Numerals
+pub mod Pieces
+pub mod Records
+pub mod Headers
+pub mod Turns

@@ -9,7 +9,7 @@ use Rattle.rail_csv.specs.declared.rows.KindWord.{KindWord}
 use Rattle.rail_csv.specs.declared.rows.KindWord.TheVariants as kinds
 use Rattle.rail_csv.specs.declared.rows.End.{End}
 use Rattle.rail_csv.specs.declared.rows.End.TheVariants as ends
-use Rattle.rail_csv.specs.Fields.{is_number, number_of, is_time, time_of, pieces_of, most_units, is_unit_number}
+use Rattle.rail_csv.specs.Fields.{is_number, number_of, is_time, time_of, pieces_of, numbers_of, most_units, is_unit}
 
 -- one step of reading, and then the next where it went well
 infixl 10 ◌>>=◌
@@ -70,7 +70,7 @@ end_column row column text =
 unfoldable pub units_column : ℕ → ℕ → List ℕ → Result (List ℕ) TableRefusal
 units_column row column text =
     if list_all is_number (pieces_of text)
-    then (if nat_le (length (pieces_of text)) most_units && list_all is_unit_number (pieces_of text)
-    then Ok (map number_of (pieces_of text))
+    then (if nat_le (length (numbers_of text)) most_units && list_all is_unit (numbers_of text)
+    then Ok (numbers_of text)
     else Err (OutOfRange row column))
     else Err (BadNumber row column)

@@ -49,11 +49,13 @@ abbrev pub pieces_of : List ℕ → List (List ℕ)
 pieces_of [] = []
 pieces_of (byte ∷ text) = slice_split (λ b. b == space) (byte ∷ text)
 
+-- the numbers that the pieces spell
+abbrev pub numbers_of : List ℕ → List ℕ
+numbers_of text = map number_of (pieces_of text)
+
 abbrev pub most_units : ℕ
 most_units = 6
 
-abbrev pub last_unit : ℕ
-last_unit = 1999
-
-abbrev pub is_unit_number : List ℕ → Bool
-is_unit_number piece = nat_le (number_of piece) last_unit
+-- a number that a unit may have
+abbrev pub is_unit : ℕ → Bool
+is_unit number = nat_le number 1999

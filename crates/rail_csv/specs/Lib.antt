@@ -1,4 +1,5 @@
 pub mod Fields
 pub mod Columns
 pub mod Tables
+pub mod Records
 pub mod Rows

@@ -1,16 +1,16 @@
 //! What each kind of column takes: a number, a time, a name, a word, units. A field that does not fit is refused with
 //! its row and its column.
 
-ghost use Rattle.std.specs.Prelude.{◌≡◌, ◌≤◌, ◌∷◌, [], Bool, List, ℕ, length, map, Option, Some, None, if◌then◌else◌, IfOk};
+ghost use Rattle.std.specs.Prelude.{◌≡◌, ◌≤◌, length, Some, None, if◌then◌else◌, IfOk, option_map, nat_le};
 ghost use Rattle.std.specs.List.{list_all};
-ghost use Rattle.rail_csv.specs.Fields.{are_digits, number_of, is_number, is_time, time_of, is_unit_number, pieces_of};
+ghost use Rattle.rail_csv.specs.Fields.{are_digits, number_of, is_number, is_time, time_of, is_unit, numbers_of, pieces_of};
 ghost use Rattle.rail_csv.specs.Columns.{number_column, time_column, name_column, optional_name_column, kind_column, answer_column, end_column, units_column};
 ghost use Rattle.rail_csv.specs.Tables.{Gives};
 
 use crate::refusal::TableRefusal;
 use crate::rows::{End, KindWord, UnitList};
 use rail_base::name::is_name;
-use rail_base::{Minute, Name, UnitNo};
+use rail_base::{Minute, Name, NoMemory, UnitNo};
 use std::alloc::Global;
 
 /// The number that a text of at most nine bytes spells, where it has digits alone.
@@ -167,4 +167,46 @@ pub fn end(text: &str, row: u32, column: u32) -> Result<End, TableRefusal>
         return Ok(End::Rear);
     }
     Err(TableRefusal::BadWord { row, column })
+}
+
+/// The units that the pieces of a text between spaces name, where each piece is a number. The text is not empty.
+fn unit_numbers(alloc: Global, text: &str) -> Result<Option<Vec<UnitNo>>, NoMemory>
+    requires { 1 ≤ length text.now }
+    ensures { IfOk result (λ units. option_map (λ v. v.items) units ≡ if list_all is_number (pieces_of text.now) then Some (numbers_of text.now) else None) }
+{
+    let mut units = Vec::new(alloc);
+    for piece in text.split(' ') {
+        let Some(number) = number_of(piece.as_bytes()) else {
+            return Ok(None);
+        };
+        units.push(UnitNo(number))?;
+    }
+    Ok(Some(units))
+}
+
+/// Whether each number is one that a unit may have.
+fn are_units(units: &[UnitNo]) -> bool
+    ensures { result ≡ list_all is_unit units.now }
+{
+    units.iter().all(|unit| unit.place() <= 1999)
+}
+
+/// Units by number, front to rear: nothing, or 1 to 6 numbers 0 to 1,999 with one space between two.
+#[tactic(auto, unfolding(crate::specs::Columns::units_column))]
+pub fn units(alloc: Global, text: &str, row: u32, column: u32) -> Result<UnitList, TableRefusal>
+    ensures { Gives result (units_column row column text.now) }
+{
+    if text.is_empty() {
+        return Ok(UnitList::of(Vec::new(alloc)));
+    }
+    let Some(units) = unit_numbers(alloc, text)? else {
+        return Err(TableRefusal::BadNumber { row, column });
+    };
+    if units.len() > 6 {
+        return Err(TableRefusal::OutOfRange { row, column });
+    }
+    if !are_units(units.as_slice()) {
+        return Err(TableRefusal::OutOfRange { row, column });
+    }
+    Ok(UnitList::of(units))
 }

@@ -2,8 +2,10 @@
 #![tactic(auto)]
 
 pub mod columns;
+pub mod reading;
 pub mod refusal;
 pub mod rows;
+pub mod table_rows;
 
 pub use refusal::TableRefusal;
 pub use rows::{
