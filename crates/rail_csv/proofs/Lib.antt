@@ -3,3 +3,4 @@ pub mod Pieces
 pub mod Records
 pub mod Headers
 pub mod Turns
+pub mod Accepted

@@ -2,11 +2,13 @@
 #![tactic(auto)]
 
 pub mod columns;
+pub mod readers;
 pub mod reading;
 pub mod refusal;
 pub mod rows;
 pub mod table_rows;
 
+pub use readers::{links, plan, stations, stock, trips, types, weights};
 pub use refusal::TableRefusal;
 pub use rows::{
     End, KindWord, LinkRow, PlanRow, StationRow, StockRow, Table, TripRow, TypeRow, UnitList,
