@@ -32,7 +32,7 @@ pub step : {A B : Type 0} {read : Result A TableRefusal} {next : A → Result B 
 step {read = Ok a} e P meets goes = goes a (meets a refl) e
 step {read = Err d} e P meets goes = absurd cc
 
-same : {A : Type 0} (x y : A) → the_ok x ≡ the_ok y → x ≡ y
+pub same : {A : Type 0} (x y : A) → the_ok x ≡ the_ok y → x ≡ y
 same x y e = cc
 
 both : (a b : Bool) → (a && b) ≡ true → (a ≡ true) × (b ≡ true)
@@ -48,11 +48,11 @@ in_both true true read y d f e = e
 in_both true false read y d f e = absurd cc
 in_both false b read y d f e = absurd cc
 
-went_on : {A : Type 0} (b : Bool) (read : Result A TableRefusal) (y : A) (d : TableRefusal) → cond b (Err d) read ≡ Ok y → (b ≡ false) × (read ≡ Ok y)
+pub went_on : {A : Type 0} (b : Bool) (read : Result A TableRefusal) (y : A) (d : TableRefusal) → cond b (Err d) read ≡ Ok y → (b ≡ false) × (read ≡ Ok y)
 went_on true read y d e = absurd cc
 went_on false read y d e = (refl, e)
 
-taken : {A : Type 0} (b : Bool) (read : Result A TableRefusal) (y : A) (d : TableRefusal) → cond b read (Err d) ≡ Ok y → read ≡ Ok y
+pub taken : {A : Type 0} (b : Bool) (read : Result A TableRefusal) (y : A) (d : TableRefusal) → cond b read (Err d) ≡ Ok y → read ≡ Ok y
 taken true read y d e = e
 taken false read y d e = absurd cc
 

@@ -4,3 +4,4 @@ pub mod Records
 pub mod Headers
 pub mod Turns
 pub mod Accepted
+pub mod Whole

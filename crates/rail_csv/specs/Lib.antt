@@ -3,3 +3,4 @@ pub mod Columns
 pub mod Tables
 pub mod Records
 pub mod Rows
+pub mod Laws

@@ -1,12 +1,13 @@
 //! The tables of a day, read from CSV: typed rows, or the first thing that is wrong.
 #![tactic(auto)]
 
-pub mod columns;
-pub mod readers;
-pub mod reading;
+mod columns;
+pub mod law;
+mod readers;
+mod reading;
 pub mod refusal;
 pub mod rows;
-pub mod table_rows;
+mod table_rows;
 
 pub use readers::{links, plan, stations, stock, trips, types, weights};
 pub use refusal::TableRefusal;
@@ -14,3 +15,6 @@ pub use rows::{
     End, KindWord, LinkRow, PlanRow, StationRow, StockRow, Table, TripRow, TypeRow, UnitList,
     WeightsRow,
 };
+
+#[cfg(test)]
+mod tests;
