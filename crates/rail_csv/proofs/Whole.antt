@@ -1,15 +1,15 @@
 -- A table is read to its rows exactly where it is a table of them, and else to its first wrong thing.
-use Rattle.std.proofs.Common.{◌≡◌, ℕ, zero, suc, ◌-◌, ◌+◌, ◌≤◌, ◌<◌, Bool, true, false, cond, ltb, List, [], ◌∷◌, length, get_or, Option, Some, None, Result, Ok, Err, refl, sym, ap, subst, ◌∙◌, arith, inl, inr, ◌⊎◌, add-one}
+use Rattle.std.proofs.Common.{◌≡◌, ℕ, zero, suc, ◌+◌, ◌≤◌, ◌<◌, Bool, true, false, cond, ltb, List, [], ◌∷◌, length, get_or, Some, Result, Ok, Err, refl, sym, ap, subst, ◌∙◌, arith, inl, inr, ◌⊎◌, add-one}
 use Rattle.std.specs.Prelude.{IsOk}
 use Rattle.std.specs.List.{slice_get}
-use Rattle.std.proofs.lemmas.Bool.{ltb-false, ltb-true, le-ltb, lt-ltb, false≢true}
+use Rattle.std.proofs.lemmas.Bool.{ltb-false, ltb-true, le-ltb, false≢true}
 use Rattle.rail_csv.specs.declared.refusal.TableRefusal.{TableRefusal}
-use Rattle.rail_csv.specs.declared.refusal.TableRefusal.TheVariants.{WrongHeader, TooManyRows}
+use Rattle.rail_csv.specs.declared.refusal.TableRefusal.TheVariants.{TooManyRows}
 use Rattle.rail_csv.specs.Columns.{◌>>=◌}
 use Rattle.rail_csv.specs.Tables.{Columns, is_header, row_of, rows_from, rows_under}
-use Rattle.rail_csv.specs.Laws.{HasHeader, row_at, IsTable, AreRightBefore, IsFirstWrongRow, HasTooManyRows, IsFirstWrong}
+use Rattle.rail_csv.specs.Laws.{HasHeader, row_at, IsTable, AreRightBefore, IsFirstWrong}
 use Rattle.rail_csv.proofs.Headers.{header_Decides}
-use Rattle.rail_csv.proofs.Accepted.{step, same, went_on, taken}
+use Rattle.rail_csv.proofs.Accepted.{step, same, went_on}
 
 -- ---- rows that are read
 

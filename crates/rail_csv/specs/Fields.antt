@@ -1,5 +1,5 @@
 -- What a field spells: a number, a time of day, a list of units.
-use Rattle.std.specs.Prelude.{ℕ, List, [], ◌∷◌, length, take, drop, map, Bool, true, false, ◌&&◌, ◌||◌, ◌==◌, ◌+◌, ◌-◌, ◌*◌, ◌^◌, nat_le, slice_index, Option, Some, None, if◌then◌else◌, codes}
+use Rattle.std.specs.Prelude.{ℕ, List, [], ◌∷◌, length, take, drop, map, Bool, ◌&&◌, ◌==◌, ◌+◌, ◌-◌, ◌*◌, ◌^◌, nat_le, slice_index}
 use Rattle.std.specs.List.{list_all, slice_split}
 
 -- an ASCII digit

@@ -1,5 +1,5 @@
 -- Tables in the words of their subject: what an accepted table is, and what the first wrong thing of a refused one is.
-use Rattle.std.specs.Prelude.{ℕ, ◌+◌, ◌<◌, ◌≤◌, ◌≡◌, ◌⊎◌, ◌↔◌, List, [], length, slice_index_or, Option, Some, Result, Ok, Err, IsOk}
+use Rattle.std.specs.Prelude.{ℕ, ◌+◌, ◌<◌, ◌≤◌, ◌≡◌, ◌⊎◌, List, [], length, slice_index_or, Some, Result, Ok, Err, IsOk}
 use Rattle.std.specs.List.{slice_get}
 use Rattle.rail_csv.specs.declared.refusal.TableRefusal.{TableRefusal}
 use Rattle.rail_csv.specs.declared.refusal.TableRefusal.TheVariants.{WrongHeader, TooManyRows}

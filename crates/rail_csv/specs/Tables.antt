@@ -1,5 +1,5 @@
 -- What a table is read as: its rows, or the first thing that is wrong in it.
-use Rattle.std.specs.Prelude.{ℕ, ◌+◌, List, [], ◌∷◌, length, Bool, ◌&&◌, ◌==◌, nat_lt, Result, Ok, Err, if◌then◌else◌, codes, ◌≡◌}
+use Rattle.std.specs.Prelude.{ℕ, ◌+◌, List, [], ◌∷◌, length, Bool, ◌==◌, nat_lt, Result, Ok, Err, if◌then◌else◌, codes, ◌≡◌}
 use Rattle.std.specs.List.{list_all}
 use Rattle.std.specs.Str.{bytes_eq, is_utf8}
 use Rattle.std.specs.Cmp.Lexicographic.{pointwise}

@@ -1,7 +1,7 @@
-use Rattle.std.proofs.Common.{◌≡◌, ◌<◌, ◌&&◌, Bool, ℕ, true, take, get_or, refl, rules, arith}
+use Rattle.std.proofs.Common.{rules, arith}
 use Rattle.std.proofs.lemmas.Grind.{common_steps}
 use Rattle.std.proofs.lemmas.Bool.Decides.{nat_tests}
-use Rattle.rail_csv.specs.Fields.{is_digit, number_of}
+use Rattle.rail_csv.specs.Fields.{number_of}
 use Rattle.rail_csv.proofs.Numerals.{number_more, room, digits_more}
 use Rattle.rail_csv.proofs.columns.digits_value.Goals as goal
 

@@ -1,4 +1,4 @@
-use Rattle.std.proofs.Common.{◌≡◌, ◌<◌, ◌≤◌, ℕ, List, [], Bor, length, map, get_or, sym, ◌∙◌, arith}
+use Rattle.std.proofs.Common.{◌≡◌, [], length, get_or, sym, ◌∙◌, arith}
 use borrow.Author.Count.{below_more}
 use Rattle.csv.specs.Records.{fields_of}
 use Rattle.rail_csv.proofs.Headers.{words, as_many, word_at, test_differs, test_agrees, not_header, same_header}

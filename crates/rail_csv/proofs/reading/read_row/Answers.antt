@@ -1,9 +1,9 @@
-use Rattle.std.proofs.Common.{◌≡◌, subst, sym, ap, ◌∙◌, Bor, List, ℕ, length, true, arith}
+use Rattle.std.proofs.Common.{◌≡◌, subst, sym, ap, ◌∙◌, length, true, arith}
 use Rattle.std.specs.List.{list_all}
 use Rattle.std.specs.Str.{is_utf8}
 use Rattle.std.proofs.lemmas.Bool.{false≢true}
 use Rattle.csv.specs.Records.{fields_of}
-use Rattle.rail_csv.specs.Tables.{Gives, row_of}
+use Rattle.rail_csv.specs.Tables.{Gives}
 use Rattle.rail_csv.proofs.Headers.{words, as_many, all_text, not_text, row_is, row_not_text}
 use Rattle.rail_csv.proofs.reading.read_row.Goals as goal
 

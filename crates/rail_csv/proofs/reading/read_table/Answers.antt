@@ -1,4 +1,4 @@
-use Rattle.std.proofs.Common.{◌≡◌, ℕ, List, true, false, subst, sym, ap, ◌∙◌}
+use Rattle.std.proofs.Common.{◌≡◌, true, false, subst, sym, ◌∙◌}
 use Rattle.csv.specs.Records.{fields_of}
 use Rattle.rail_csv.specs.Tables.{GivesRows, is_header, records_of, table_of}
 use Rattle.rail_csv.specs.Records.{records_left}

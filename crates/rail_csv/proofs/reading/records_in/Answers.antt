@@ -1,5 +1,5 @@
-use Rattle.std.proofs.Common.{◌≡◌, ℕ, List, Bor, true, false, not, refl, sym, ap, ◌∙◌}
-use Rattle.csv.specs.Reading.{builder_config, builder_names_headers, builder_trim, with_flexible, with_names_headers}
+use Rattle.std.proofs.Common.{true, ap, ◌∙◌}
+use Rattle.csv.specs.Reading.{builder_config, builder_names_headers, builder_trim, with_flexible}
 use Rattle.csv.specs.declared.reader.ReaderBuilder.{ReaderBuilder}
 use Rattle.rail_csv.proofs.Records.{begins}
 use Rattle.rail_csv.proofs.reading.records_in.Goals as goal
