@@ -1,0 +1,93 @@
+-- Rows read one after the other, as a loop does.
+use Rattle.std.proofs.Common.{◌≡◌, ℕ, ◌+◌, ◌≤◌, ◌<◌, true, false, ltb, List, [], ◌∷◌, ◌++◌, length, Result, Ok, Err, refl, sym, ap, ◌∙◌, append_assoc, arith}
+use Rattle.std.proofs.lemmas.Bool.{lt-ltb, le-ltb}
+use Rattle.std.proofs.lemmas.List.{append-nil, length_push}
+use Rattle.rail_csv.specs.declared.refusal.TableRefusal.{TableRefusal}
+use Rattle.rail_csv.specs.declared.refusal.TableRefusal.TheVariants.{NotUtf8, WrongHeader, FieldCount, TooManyRows, NoRow, NoMemory, BadNumber, OutOfRange, BadTime, BadName, BadWord}
+use Rattle.rail_csv.specs.Columns.{◌>>=◌}
+use Rattle.rail_csv.specs.Tables.{Columns, Fails, is_header, row_of, rows_from, rows_under}
+
+-- rows that were read before, and those that are still to be read
+abbrev pub with_front : {Row : Type 0} → List Row → Result (List Row) TableRefusal → Result (List Row) TableRefusal
+with_front front read = read >>= λ rest. Ok (front ++ rest)
+
+pub with_none : {Row : Type 0} (read : Result (List Row) TableRefusal) → with_front [] read ≡ read
+with_none (Ok rows) = refl
+with_none (Err e) = refl
+
+regroup : {Row : Type 0} (front : List Row) (row : Row) (read : Result (List Row) TableRefusal) → with_front front (read >>= λ rest. Ok (row ∷ rest)) ≡ with_front (front ++ row ∷ []) read
+regroup front row (Ok rest) = ap (λ (rows : List _). Ok rows) (sym (append_assoc front (row ∷ []) rest))
+regroup front row (Err e) = refl
+
+-- a refusal of one step is that of the next
+pub same_failure : {X Y : Type 0} (e : TableRefusal) (read : Result X TableRefusal) (total : Result Y TableRefusal) → ((f : TableRefusal) → read ≡ Err f → total ≡ Err f) → Fails e read → Fails e total
+same_failure (NotUtf8 row) read total h f = h (NotUtf8 row) f
+same_failure WrongHeader read total h f = h WrongHeader f
+same_failure (FieldCount row found) read total h f = h (FieldCount row found) f
+same_failure (BadNumber row column) read total h f = h (BadNumber row column) f
+same_failure (OutOfRange row column) read total h f = h (OutOfRange row column) f
+same_failure (BadTime row column) read total h f = h (BadTime row column) f
+same_failure (BadName row column) read total h f = h (BadName row column) f
+same_failure (BadWord row column) read total h f = h (BadWord row column) f
+same_failure TooManyRows read total h f = h TooManyRows f
+same_failure NoRow read total h f = h NoRow f
+same_failure NoMemory read total h f = tt
+
+pub memory_fails : {X : Type 0} (e : TableRefusal) (total : Result X TableRefusal) → e ≡ NoMemory → Fails e total
+memory_fails e total is = rw is tt
+
+-- ---- one turn of the loop
+
+pub goes_on : {Row : Type 0} (header : List (List ℕ)) (limit : ℕ) (columns : Columns Row) (front : List Row) (left : List (List (List ℕ))) (fields : List (List ℕ)) (others : List (List (List ℕ))) (row : Row) (total : Result (List Row) TableRefusal)
+    → length front < limit → left ≡ fields ∷ others → row_of header columns (length front + 1) fields ≡ Ok row
+    → with_front front (rows_from header limit columns (length front + 1) left) ≡ total
+    → with_front (front ++ row ∷ []) (rows_from header limit columns (length (front ++ row ∷ []) + 1) others) ≡ total
+unfolding rows_from
+goes_on header limit columns front left fields others row total room is read so_far =
+    let below : ltb limit (length front + 1) ≡ false = le-ltb _ _ (omega arith) in
+    let one : with_front front (rows_from header limit columns (length front + 1) left) ≡ with_front (front ++ row ∷ []) (rows_from header limit columns (length front + 1 + 1) others) =
+    rw (is, below, read) (regroup front row (rows_from header limit columns (length front + 1 + 1) others)) in
+    let number : length (front ++ row ∷ []) ≡ length front + 1 = length_push front row in
+    rw number (sym one ∙ so_far)
+
+pub fails : {Row : Type 0} (header : List (List ℕ)) (limit : ℕ) (columns : Columns Row) (front : List Row) (left : List (List (List ℕ))) (fields : List (List ℕ)) (others : List (List (List ℕ))) (e : TableRefusal) (total : Result (List Row) TableRefusal)
+    → length front < limit → left ≡ fields ∷ others → Fails e (row_of header columns (length front + 1) fields)
+    → with_front front (rows_from header limit columns (length front + 1) left) ≡ total → Fails e total
+unfolding rows_from
+fails header limit columns front left fields others e total room is f so_far =
+    let below : ltb limit (length front + 1) ≡ false = le-ltb _ _ (omega arith) in
+    same_failure e (row_of header columns (length front + 1) fields) total (λ refusal read.
+    let one : with_front front (rows_from header limit columns (length front + 1) left) ≡ Err refusal = rw (is, below, read) refl in
+    sym so_far ∙ one) f
+
+pub too_many : {Row : Type 0} (header : List (List ℕ)) (limit : ℕ) (columns : Columns Row) (front : List Row) (left : List (List (List ℕ))) (fields : List (List ℕ)) (others : List (List (List ℕ))) (total : Result (List Row) TableRefusal)
+    → limit ≤ length front → left ≡ fields ∷ others
+    → with_front front (rows_from header limit columns (length front + 1) left) ≡ total → total ≡ Err TooManyRows
+unfolding rows_from
+too_many header limit columns front left fields others total full is so_far =
+    let above : ltb limit (length front + 1) ≡ true = lt-ltb _ _ (omega arith) in
+    let one : with_front front (rows_from header limit columns (length front + 1) left) ≡ Err TooManyRows = rw (is, above) refl in
+    sym so_far ∙ one
+
+pub is_done : {Row : Type 0} (header : List (List ℕ)) (limit : ℕ) (columns : Columns Row) (front : List Row) (left : List (List (List ℕ))) (total : Result (List Row) TableRefusal)
+    → left ≡ [] → with_front front (rows_from header limit columns (length front + 1) left) ≡ total → total ≡ Ok front
+unfolding rows_from
+is_done header limit columns front left total is so_far =
+    let one : with_front front (rows_from header limit columns (length front + 1) left) ≡ Ok front = rw is (ap (λ (rows : List _). Ok rows) (append-nil front)) in
+    sym so_far ∙ one
+
+-- ---- the header
+
+pub no_records : {Row : Type 0} (header : List (List ℕ)) (limit : ℕ) (columns : Columns Row) (records : List (List (List ℕ))) → records ≡ [] → rows_under header limit columns records ≡ Err WrongHeader
+unfolding rows_under
+no_records header limit columns records is = rw is refl
+
+pub wrong_header : {Row : Type 0} (header : List (List ℕ)) (limit : ℕ) (columns : Columns Row) (records : List (List (List ℕ))) (first : List (List ℕ)) (others : List (List (List ℕ))) → records ≡ first ∷ others
+    → is_header header first ≡ false → rows_under header limit columns records ≡ Err WrongHeader
+unfolding rows_under
+wrong_header header limit columns records first others is wrong = rw (is, wrong) refl
+
+pub right_header : {Row : Type 0} (header : List (List ℕ)) (limit : ℕ) (columns : Columns Row) (records : List (List (List ℕ))) (first : List (List ℕ)) (others : List (List (List ℕ))) → records ≡ first ∷ others
+    → is_header header first ≡ true → rows_from header limit columns 1 others ≡ rows_under header limit columns records
+unfolding rows_under
+right_header header limit columns records first others is right = rw (is, right) refl

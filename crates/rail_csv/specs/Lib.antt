@@ -1,0 +1,6 @@
+pub mod Fields
+pub mod Columns
+pub mod Tables
+pub mod Records
+pub mod Rows
+pub mod Laws

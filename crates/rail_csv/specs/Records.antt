@@ -1,0 +1,36 @@
+-- The records that csv still has to read.
+use Rattle.std.specs.Prelude.{◌≡◌, ◌<◌, ◌≤◌, ◌+◌, ℕ, List, [], length, Option, Some, unwrap_or}
+use Rattle.std.specs.Borrow.{Bor}
+use Rattle.csv.specs.Reading.{records_from, default_config, source_of, Ready, reader_trim, reader_config, reader_state, owned_rows_reader, owned_rows_left}
+use Rattle.csv.specs.declared.parser.State.{State}
+use Rattle.csv.specs.declared.reader.Trim.TheVariants as trim
+use Rattle.csv.specs.declared.iter.ByteRecordsIntoIter.{ByteRecordsIntoIter}
+
+-- the records of a text, from a state
+abbrev pub rest_of : State → List ℕ → List (List (List ℕ))
+rest_of state text = records_from default_config (length text + 1) state text
+
+-- an iterator of the records of a slice
+abbrev pub Records : Type 0
+Records = ByteRecordsIntoIter (Bor (List ℕ))
+
+-- what a slice has to read
+abbrev pub unread : Bor (List ℕ) → Option (List ℕ)
+unread source = Some source.now
+
+-- the text that is left
+abbrev pub text_left : Records → List ℕ
+text_left records = unwrap_or (source_of unread (owned_rows_reader records)) []
+
+-- the records that are left
+abbrev pub records_left : Records → List (List (List ℕ))
+records_left records = rest_of (reader_state (owned_rows_reader records)) (text_left records)
+
+-- the records are read as they stand, from a text that is known and as short as a table
+pub record ReadsOn (records : Records) : Type 0 where
+  pub trim : reader_trim (owned_rows_reader records) ≡ trim.None
+  pub ready : Ready (owned_rows_reader records)
+  pub turns : 0 < owned_rows_left records
+  pub config : reader_config (owned_rows_reader records) ≡ default_config
+  pub source : source_of unread (owned_rows_reader records) ≡ Some (text_left records)
+  pub small : length (text_left records) ≤ 4194304

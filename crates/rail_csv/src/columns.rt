@@ -1,0 +1,212 @@
+//! What each kind of column takes: a number, a time, a name, a word, units. A field that does not fit is refused with
+//! its row and its column.
+
+ghost use Rattle.std.specs.Prelude.{◌≡◌, ◌≤◌, length, Some, None, if◌then◌else◌, IfOk, option_map, nat_le};
+ghost use Rattle.std.specs.List.{list_all};
+ghost use Rattle.rail_csv.specs.Fields.{are_digits, number_of, is_number, is_time, time_of, is_unit, numbers_of, pieces_of};
+ghost use Rattle.rail_csv.specs.Columns.{number_column, time_column, name_column, optional_name_column, kind_column, answer_column, end_column, units_column};
+ghost use Rattle.rail_csv.specs.Tables.{Gives};
+
+use crate::refusal::TableRefusal;
+use crate::rows::{End, KindWord, UnitList};
+use rail_base::name::is_name;
+use rail_base::{Minute, Name, NoMemory, UnitNo};
+use std::alloc::Global;
+
+/// The number that a text of at most nine bytes spells, where it has digits alone.
+fn digits_value(text: &[u8]) -> Option<u32>
+    requires { length text.now ≤ 9 }
+    ensures { result ≡ if are_digits text.now then Some (number_of text.now) else None }
+{
+    let mut value = 0u32;
+    for byte in text {
+        if !byte.is_ascii_digit() {
+            return None;
+        }
+        value = value * 10 + u32::from(*byte - b'0');
+    }
+    Some(value)
+}
+
+/// The number that a text spells, where it is a number: 1 to 9 digits.
+fn number_of(text: &[u8]) -> Option<u32>
+    ensures { result ≡ if is_number text.now then Some (number_of text.now) else None }
+{
+    if text.is_empty() {
+        return None;
+    }
+    if text.len() > 9 {
+        return None;
+    }
+    digits_value(text)
+}
+
+/// A number from `low` to `high`.
+#[tactic(auto, unfolding(crate::specs::Columns::number_column))]
+pub fn number(text: &str, low: u32, high: u32, row: u32, column: u32) -> Result<u32, TableRefusal>
+    ensures { Gives result (number_column low high row column text.now) }
+{
+    let Some(value) = number_of(text.as_bytes()) else {
+        return Err(TableRefusal::BadNumber { row, column });
+    };
+    if value < low {
+        return Err(TableRefusal::OutOfRange { row, column });
+    }
+    if value > high {
+        return Err(TableRefusal::OutOfRange { row, column });
+    }
+    Ok(value)
+}
+
+/// The minutes of a time since the first midnight, where a text is a time.
+fn minutes_of(text: &[u8]) -> Option<u16>
+    ensures { result ≡ if is_time text.now then Some (time_of text.now) else None }
+{
+    if text.len() < 4 {
+        return None;
+    }
+    if text.len() > 5 {
+        return None;
+    }
+    let hour = digits_value(&text[..text.len() - 3])?;
+    if text[text.len() - 3] != b':' {
+        return None;
+    }
+    let minute = digits_value(&text[text.len() - 2..])?;
+    if hour > 47 {
+        return None;
+    }
+    if minute > 59 {
+        return None;
+    }
+    Some((60 * hour + minute) as u16)
+}
+
+/// A time: one or two digits of the hour 0 to 47, a colon, and two digits of the minute 0 to 59.
+#[tactic(auto, unfolding(crate::specs::Columns::time_column))]
+pub fn time(text: &str, row: u32, column: u32) -> Result<Minute, TableRefusal>
+    ensures { Gives result (time_column row column text.now) }
+{
+    let Some(minutes) = minutes_of(text.as_bytes()) else {
+        return Err(TableRefusal::BadTime { row, column });
+    };
+    Ok(Minute(minutes))
+}
+
+/// A name.
+#[tactic(auto, unfolding(crate::specs::Columns::name_column))]
+pub fn name(alloc: Global, text: &str, row: u32, column: u32) -> Result<Name, TableRefusal>
+    ensures { Gives result (name_column row column text.now) }
+{
+    if !is_name(text.as_bytes()) {
+        return Err(TableRefusal::BadName { row, column });
+    }
+    Ok(Name::copy(alloc, text)?)
+}
+
+/// A name, or nothing where the field is empty.
+#[tactic(auto, unfolding(crate::specs::Columns::optional_name_column))]
+pub fn optional_name(
+    alloc: Global,
+    text: &str,
+    row: u32,
+    column: u32,
+) -> Result<Option<Name>, TableRefusal>
+    ensures { Gives result (optional_name_column row column text.now) }
+{
+    if text.is_empty() {
+        return Ok(None);
+    }
+    let name = name(alloc, text, row, column)?;
+    Ok(Some(name))
+}
+
+/// One of the words `turn`, `join` and `split`.
+#[tactic(auto, unfolding(crate::specs::Columns::kind_column))]
+pub fn kind(text: &str, row: u32, column: u32) -> Result<KindWord, TableRefusal>
+    ensures { Gives result (kind_column row column text.now) }
+{
+    if text == "turn" {
+        return Ok(KindWord::Turn);
+    }
+    if text == "join" {
+        return Ok(KindWord::Join);
+    }
+    if text == "split" {
+        return Ok(KindWord::Split);
+    }
+    Err(TableRefusal::BadWord { row, column })
+}
+
+/// One of the words `yes` and `no`.
+#[tactic(auto, unfolding(crate::specs::Columns::answer_column))]
+pub fn answer(text: &str, row: u32, column: u32) -> Result<bool, TableRefusal>
+    ensures { Gives result (answer_column row column text.now) }
+{
+    if text == "yes" {
+        return Ok(true);
+    }
+    if text == "no" {
+        return Ok(false);
+    }
+    Err(TableRefusal::BadWord { row, column })
+}
+
+/// One of the words `none`, `front` and `rear`.
+#[tactic(auto, unfolding(crate::specs::Columns::end_column))]
+pub fn end(text: &str, row: u32, column: u32) -> Result<End, TableRefusal>
+    ensures { Gives result (end_column row column text.now) }
+{
+    if text == "none" {
+        return Ok(End::None);
+    }
+    if text == "front" {
+        return Ok(End::Front);
+    }
+    if text == "rear" {
+        return Ok(End::Rear);
+    }
+    Err(TableRefusal::BadWord { row, column })
+}
+
+/// The units that the pieces of a text between spaces name, where each piece is a number. The text is not empty.
+fn unit_numbers(alloc: Global, text: &str) -> Result<Option<Vec<UnitNo>>, NoMemory>
+    requires { 1 ≤ length text.now }
+    ensures { IfOk result (λ units. option_map (λ v. v.items) units ≡ if list_all is_number (pieces_of text.now) then Some (numbers_of text.now) else None) }
+{
+    let mut units = Vec::new(alloc);
+    for piece in text.split(' ') {
+        let Some(number) = number_of(piece.as_bytes()) else {
+            return Ok(None);
+        };
+        units.push(UnitNo(number))?;
+    }
+    Ok(Some(units))
+}
+
+/// Whether each number is one that a unit may have.
+fn are_units(units: &[UnitNo]) -> bool
+    ensures { result ≡ list_all is_unit units.now }
+{
+    units.iter().all(|unit| unit.place() <= 1999)
+}
+
+/// Units by number, front to rear: nothing, or 1 to 6 numbers 0 to 1,999 with one space between two.
+#[tactic(auto, unfolding(crate::specs::Columns::units_column))]
+pub fn units(alloc: Global, text: &str, row: u32, column: u32) -> Result<UnitList, TableRefusal>
+    ensures { Gives result (units_column row column text.now) }
+{
+    if text.is_empty() {
+        return Ok(UnitList::of(Vec::new(alloc)));
+    }
+    let Some(units) = unit_numbers(alloc, text)? else {
+        return Err(TableRefusal::BadNumber { row, column });
+    };
+    if units.len() > 6 {
+        return Err(TableRefusal::OutOfRange { row, column });
+    }
+    if !are_units(units.as_slice()) {
+        return Err(TableRefusal::OutOfRange { row, column });
+    }
+    Ok(UnitList::of(units))
+}

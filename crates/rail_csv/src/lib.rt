@@ -1,0 +1,20 @@
+//! The tables of a day, read from CSV: typed rows, or the first thing that is wrong.
+#![tactic(auto)]
+
+mod columns;
+pub mod law;
+mod readers;
+mod reading;
+pub mod refusal;
+pub mod rows;
+mod table_rows;
+
+pub use readers::{links, plan, stations, stock, trips, types, weights};
+pub use refusal::TableRefusal;
+pub use rows::{
+    End, KindWord, LinkRow, PlanRow, StationRow, StockRow, Table, TripRow, TypeRow, UnitList,
+    WeightsRow,
+};
+
+#[cfg(test)]
+mod tests;

@@ -1,0 +1,107 @@
+//! Why a table is refused.
+
+use rail_base::NoMemory;
+use std::alloc::{AllocError, AllocFailed};
+use thiserror::Error;
+
+/// Why a table is refused: the first thing wrong in it. Rows are counted from 1, and row 1 is the record after the
+/// header; columns are counted from 0.
+#[derive(Clone, Copy, Debug, PartialEq, Eq, Error)]
+pub enum TableRefusal {
+    /// A field of this row is not UTF-8.
+    #[error("row {0} is not UTF-8")]
+    NotUtf8(u32),
+    /// The first record is absent, or its fields are not the columns of the table.
+    #[error("wrong header")]
+    WrongHeader,
+    /// The row has another number of fields than the table has columns.
+    #[error("row {row} has {found} fields")]
+    FieldCount {
+        /// The row.
+        row: u32,
+        /// How many fields it has.
+        found: u32,
+    },
+    /// A number is wanted, which is 1 to 9 digits.
+    #[error("row {row}, column {column}: not a number")]
+    BadNumber {
+        /// The row.
+        row: u32,
+        /// The column.
+        column: u32,
+    },
+    /// The number is outside the range of its column, or there are too many units.
+    #[error("row {row}, column {column}: out of range")]
+    OutOfRange {
+        /// The row.
+        row: u32,
+        /// The column.
+        column: u32,
+    },
+    /// A time is wanted, as `7:05` or `23:59`, with an hour up to 47.
+    #[error("row {row}, column {column}: not a time")]
+    BadTime {
+        /// The row.
+        row: u32,
+        /// The column.
+        column: u32,
+    },
+    /// A name is wanted.
+    #[error("row {row}, column {column}: not a name")]
+    BadName {
+        /// The row.
+        row: u32,
+        /// The column.
+        column: u32,
+    },
+    /// One of the words of the column is wanted.
+    #[error("row {row}, column {column}: not a word of this column")]
+    BadWord {
+        /// The row.
+        row: u32,
+        /// The column.
+        column: u32,
+    },
+    /// The rows up to the limit of the table are right, and one more is there.
+    #[error("too many rows")]
+    TooManyRows,
+    /// The weights table has no row.
+    #[error("no row")]
+    NoRow,
+    /// Want of memory, which may come at any table.
+    #[error("out of memory")]
+    NoMemory,
+}
+
+impl From<NoMemory> for TableRefusal {
+    ghost use Rattle.std.specs.Prelude.{◌≡◌};
+    ghost use Rattle.rail_csv.specs.declared.refusal.TableRefusal.TheVariants as refusals;
+
+    ghost from_gives = { λ _ e. e ≡ refusals.NoMemory };
+
+    fn from(_error: NoMemory) -> TableRefusal {
+        TableRefusal::NoMemory
+    }
+}
+
+impl From<AllocError> for TableRefusal {
+    ghost use Rattle.std.specs.Prelude.{◌≡◌};
+    ghost use Rattle.rail_csv.specs.declared.refusal.TableRefusal.TheVariants as refusals;
+
+    ghost from_gives = { λ _ e. e ≡ refusals.NoMemory };
+
+    fn from(_error: AllocError) -> TableRefusal {
+        TableRefusal::NoMemory
+    }
+}
+
+impl<T: Drop> From<AllocFailed<T>> for TableRefusal {
+    ghost use Rattle.std.specs.Prelude.{◌≡◌};
+    ghost use Rattle.rail_csv.specs.declared.refusal.TableRefusal.TheVariants as refusals;
+
+    ghost from_gives = { λ _ e. e ≡ refusals.NoMemory };
+
+    fn from(_error: AllocFailed<T>) -> TableRefusal {
+        TableRefusal::NoMemory
+    }
+}

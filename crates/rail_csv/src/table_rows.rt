@@ -1,0 +1,155 @@
+//! The columns of each table.
+
+ghost use Rattle.std.specs.Prelude.{◌≡◌};
+
+use crate::columns;
+use crate::reading::{TableRow, field};
+use crate::refusal::TableRefusal;
+use crate::rows::{LinkRow, PlanRow, StationRow, StockRow, TripRow, TypeRow, WeightsRow};
+use csv::StringRecord;
+use std::alloc::Global;
+
+impl TableRow for TypeRow {
+    ghost use Rattle.rail_csv.specs.Tables.{type_columns};
+
+    ghost columns = { type_columns };
+
+    #[tactic(auto, unfolding(crate::specs::Tables::type_columns))]
+    fn read(alloc: Global, row: u32, fields: &StringRecord) -> Result<TypeRow, TableRefusal> {
+        let name = columns::name(alloc, field(fields, 0), row, 0)?;
+        let carriages = columns::number(field(fields, 1), 1, 20, row, 1)?;
+        let seats = columns::number(field(fields, 2), 1, 2000, row, 2)?;
+        let metres = columns::number(field(fields, 3), 1, 500, row, 3)?;
+        let family = columns::name(alloc, field(fields, 4), row, 4)?;
+        Ok(TypeRow {
+            name,
+            carriages,
+            seats,
+            metres,
+            family,
+        })
+    }
+}
+
+impl TableRow for StationRow {
+    ghost use Rattle.rail_csv.specs.Tables.{station_columns};
+
+    ghost columns = { station_columns };
+
+    #[tactic(auto, unfolding(crate::specs::Tables::station_columns))]
+    fn read(alloc: Global, row: u32, fields: &StringRecord) -> Result<StationRow, TableRefusal> {
+        let name = columns::name(alloc, field(fields, 0), row, 0)?;
+        let platform = columns::number(field(fields, 1), 1, 1000, row, 1)?;
+        let reallocation = columns::number(field(fields, 2), 0, 600, row, 2)?;
+        Ok(StationRow {
+            name,
+            platform,
+            reallocation,
+        })
+    }
+}
+
+impl TableRow for StockRow {
+    ghost use Rattle.rail_csv.specs.Tables.{stock_columns};
+
+    ghost columns = { stock_columns };
+
+    #[tactic(auto, unfolding(crate::specs::Tables::stock_columns))]
+    fn read(alloc: Global, row: u32, fields: &StringRecord) -> Result<StockRow, TableRefusal> {
+        let station = columns::name(alloc, field(fields, 0), row, 0)?;
+        let unit_type = columns::name(alloc, field(fields, 1), row, 1)?;
+        let start = columns::number(field(fields, 2), 0, 2000, row, 2)?;
+        let end = columns::number(field(fields, 3), 0, 2000, row, 3)?;
+        Ok(StockRow {
+            station,
+            unit_type,
+            start,
+            end,
+        })
+    }
+}
+
+impl TableRow for TripRow {
+    ghost use Rattle.rail_csv.specs.Tables.{trip_columns};
+
+    ghost columns = { trip_columns };
+
+    #[tactic(auto, unfolding(crate::specs::Tables::trip_columns))]
+    fn read(alloc: Global, row: u32, fields: &StringRecord) -> Result<TripRow, TableRefusal> {
+        let name = columns::name(alloc, field(fields, 0), row, 0)?;
+        let from = columns::name(alloc, field(fields, 1), row, 1)?;
+        let departure = columns::time(field(fields, 2), row, 2)?;
+        let to = columns::name(alloc, field(fields, 3), row, 3)?;
+        let arrival = columns::time(field(fields, 4), row, 4)?;
+        let km = columns::number(field(fields, 5), 1, 1000, row, 5)?;
+        let demand = columns::number(field(fields, 6), 0, 10_000, row, 6)?;
+        Ok(TripRow {
+            name,
+            from,
+            departure,
+            to,
+            arrival,
+            km,
+            demand,
+        })
+    }
+}
+
+impl TableRow for LinkRow {
+    ghost use Rattle.rail_csv.specs.Tables.{link_columns};
+
+    ghost columns = { link_columns };
+
+    #[tactic(auto, unfolding(crate::specs::Tables::link_columns))]
+    fn read(alloc: Global, row: u32, fields: &StringRecord) -> Result<LinkRow, TableRefusal> {
+        let kind = columns::kind(field(fields, 0), row, 0)?;
+        let arriving = columns::name(alloc, field(fields, 1), row, 1)?;
+        let arriving2 = columns::optional_name(alloc, field(fields, 2), row, 2)?;
+        let departing = columns::name(alloc, field(fields, 3), row, 3)?;
+        let departing2 = columns::optional_name(alloc, field(fields, 4), row, 4)?;
+        let reverse = columns::answer(field(fields, 5), row, 5)?;
+        let uncouple = columns::end(field(fields, 6), row, 6)?;
+        let couple = columns::end(field(fields, 7), row, 7)?;
+        Ok(LinkRow {
+            kind,
+            arriving,
+            arriving2,
+            departing,
+            departing2,
+            reverse,
+            uncouple,
+            couple,
+        })
+    }
+}
+
+impl TableRow for WeightsRow {
+    ghost use Rattle.rail_csv.specs.Tables.{weight_columns};
+
+    ghost columns = { weight_columns };
+
+    #[tactic(auto, unfolding(crate::specs::Tables::weight_columns))]
+    fn read(_alloc: Global, row: u32, fields: &StringRecord) -> Result<WeightsRow, TableRefusal> {
+        let carriage = columns::number(field(fields, 0), 0, 10_000, row, 0)?;
+        let shortage = columns::number(field(fields, 1), 0, 10_000, row, 1)?;
+        let shunting = columns::number(field(fields, 2), 0, 10_000, row, 2)?;
+        Ok(WeightsRow {
+            carriage,
+            shortage,
+            shunting,
+        })
+    }
+}
+
+impl TableRow for PlanRow {
+    ghost use Rattle.rail_csv.specs.Tables.{plan_columns};
+
+    ghost columns = { plan_columns };
+
+    #[tactic(auto, unfolding(crate::specs::Tables::plan_columns))]
+    fn read(alloc: Global, row: u32, fields: &StringRecord) -> Result<PlanRow, TableRefusal> {
+        let trip = columns::name(alloc, field(fields, 0), row, 0)?;
+        let units = columns::units(alloc, field(fields, 1), row, 1)?;
+        Ok(PlanRow { trip, units })
+    }
+}
