@@ -1,0 +1,140 @@
+-- The day of the tests is the day of the tables in their own words.
+use Rattle.std.proofs.Common.{◌≡◌, ◌≢◌, ℕ, ◌<◌, true, false, List, [], length, get_or, sym, ap, subst, ◌∙◌, arith, Some, Ok, slice_get}
+use Rattle.std.specs.Prelude.{◌==◌, ◌&&◌, min, option_map}
+use Rattle.std.specs.List.{All, AllPairs}
+use Rattle.std.specs.Str.{bytes_eq}
+use Rattle.std.proofs.lemmas.Bool.{and_from, eq-eqb, eqb-false, both_ways}
+use Rattle.std.proofs.lemmas.List.Elements.{All-nil}
+use Rattle.std.proofs.lemmas.List.Folds.{list_any_at}
+use Rattle.std.proofs.lemmas.Option.{slice_get-map, slice_get-get_or}
+use Rattle.std.proofs.lemmas.Slice.Eq.{bytes_eq-Decides}
+use Rattle.compositions.specs.Composition.{fits_in}
+use Rattle.compositions.specs.declared.types.UnitType.{UnitType}
+use Rattle.rail_csv.specs.declared.rows.StationRow.{StationRow}
+use Rattle.rail_csv.specs.declared.rows.StockRow.{StockRow}
+use Rattle.rail_csv.specs.declared.rows.TripRow.{TripRow}
+use Rattle.timetable.specs.declared.records.Station.{Station}
+use Rattle.timetable.specs.declared.records.Stock.{Stock}
+use Rattle.timetable.specs.declared.records.Trip.{Trip}
+use Rattle.timetable.specs.declared.tables.Tables.{Tables}
+use Rattle.timetable.specs.Admissible.{is_admissible}
+use Rattle.timetable.specs.Build.{has_name, find_name, has_stock, platform_at, accept_type, accept_station, accept_stock, accept_trip, type_in, station_in, types_in, stations_in, stock_in, trips_in, day_of}
+use Rattle.timetable.specs.Day.{Day, leaves, arrives, from_of, to_of, platform_of, units_of}
+use Rattle.timetable.specs.Meaning.{IsNumberOf, IsStockOf, IsTripOf, AreNamedApart, IsOtherStock, IsDayOf}
+use Rattle.timetable.proofs.Accepting.{accepted_all, accepted_map, accepted_zip, accepted_pairs}
+use Rattle.timetable.proofs.Days.{IsMade, entry_at, entry_is, length-units_in, day_is_made}
+use Rattle.timetable.proofs.Entries.{IsStockOfRow, IsTripOfRow, Passes, found_name, type_of_row, station_of_row, stock_of_row, trip_of_row}
+use Rattle.timetable.proofs.Fitting.{fitting_admits}
+
+-- a number that was found is that of the name
+pub number_found : {X : Type 0} (name_of : X → List ℕ) (entries : List X) (name : List ℕ) (n : ℕ) → find_name name_of entries name ≡ Some n → IsNumberOf name_of entries name n
+number_found name_of entries name n e =
+    let (below, is) = found_name name_of entries name n e in
+    let (x, at, _) = entry_at (λ _. Unit {0}) entries n below (λ k d b. tt) in
+    slice_get-map name_of entries n ∙ ap (option_map name_of) (slice_get-get_or entries n x below) ∙ ap Some (is x)
+
+-- a new name is none of those before it
+new_name : {X : Type 0} (name_of : X → List ℕ) (before : List X) (name : List ℕ) → has_name name_of before name ≡ false → (k : ℕ) (d : X) → k < length before → name_of (get_or before k d) ≢ name
+new_name name_of before name new k d below same =
+    both_ways (has_name name_of before name) new (list_any_at (λ entry. bytes_eq (name_of entry) name) before k d below ((bytes_eq-Decides (name_of (get_or before k d)) name).1 same))
+
+-- a new pair of station and type is none of those before it
+new_stock_row : (before : List Stock) (stock : Stock) → has_stock before stock.station stock.unit_type ≡ false → (k : ℕ) (d : Stock) → k < length before → IsOtherStock (get_or before k d) stock
+new_stock_row before stock new k d below same =
+    let at : Stock = get_or before k d in
+    both_ways (has_stock before stock.station stock.unit_type) new
+    (list_any_at (λ row. (row.station == stock.station) && (row.unit_type == stock.unit_type)) before k d below
+    (and_from (at.station == stock.station) (at.unit_type == stock.unit_type) (eq-eqb at.station stock.station same.0) (eq-eqb at.unit_type stock.unit_type same.1)))
+
+-- two names are apart in an empty list
+none_apart : {X : Type 0} (R : X → X → Type 0) → AllPairs R []
+none_apart R i j d below within = absurd (omega arith)
+
+-- stations that were accepted have names of their own
+pub stations_apart : (rows : List StationRow) (stations : List Station) → stations_in rows ≡ Ok stations → AreNamedApart (λ s. s.name) stations
+unfolding stations_in
+stations_apart rows stations e = accepted_pairs accept_station (λ a b. a.name ≢ b.name)
+    (λ before row s is k d below. subst (λ (s : Station). (get_or before k d).name ≢ s.name) (station_of_row before row s is).1 (new_name (λ s. s.name) before row.name (station_of_row before row s is).0 k d below))
+    [] rows stations (none_apart (λ a b. a.name ≢ b.name)) e
+
+stock_said : (day : Day) (before : List Stock) (row : StockRow) (stock : Stock) → accept_stock day.stations day.types before row ≡ Ok stock → IsStockOf day row stock
+stock_said day before row stock e =
+    let is = stock_of_row day.stations day.types before row stock e in
+    record {
+      station = number_found (λ s. s.name) day.stations row.station stock.station is.station;
+      unit_type = number_found (λ t. t.name) day.types row.unit_type stock.unit_type is.unit_type;
+      start = is.start;
+      end = is.end;
+    }
+
+trip_said : (day : Day) (before : List Trip) (row : TripRow) (trip : Trip) → accept_trip day.stations day.types before row ≡ Ok trip → IsTripOf day row trip
+trip_said day before row trip e =
+    let is = trip_of_row day.stations day.types before row trip e in
+    record {
+      name = ap (λ (t : Trip). t.name) is.is;
+      from = number_found (λ s. s.name) day.stations row.from trip.from is.from;
+      departure = ap (λ (t : Trip). t.departure) is.is;
+      to = number_found (λ s. s.name) day.stations row.to trip.to is.to;
+      arrival = ap (λ (t : Trip). t.arrival) is.is;
+      km = ap (λ (t : Trip). t.km) is.is;
+      demand = ap (λ (t : Trip). t.demand) is.is;
+    }
+
+-- every trip passed the tests on its stations and times
+all_pass : (tables : Tables) (day : Day) → IsMade tables day → All (Passes day.stations day.types) day.trips
+unfolding trips_in
+all_pass tables day made = accepted_all (accept_trip day.stations day.types) (λ _. Unit {0}) (Passes day.stations day.types)
+    (λ before row trip _ e.
+    let is : IsTripOfRow day.stations day.types before row trip = trip_of_row day.stations day.types before row trip e in
+    record { differ = is.differ; time = is.time; fits = is.fits })
+    [] tables.trips day.trips (All-nil (Passes day.stations day.types)) (λ k d below. tt) made.trips
+
+-- some composition may run on a trip that passed
+trip_served : (day : Day) (t : ℕ) (trip : Trip) → slice_get day.trips t ≡ Some trip → Passes day.stations day.types trip → (types : List ℕ) × (is_admissible day t types ≡ true)
+unfolding is_admissible platform_of from_of to_of
+trip_served day t trip at passes =
+    let longest : ℕ → ℕ → ℕ = λ a b. min (platform_at day.stations a) (platform_at day.stations b) in
+    let from : from_of day t ≡ trip.from = entry_is (λ trip. trip.from) day.trips t 0 trip at in
+    let to : to_of day t ≡ trip.to = entry_is (λ trip. trip.to) day.trips t 0 trip at in
+    let (ms, fits) = fitting_admits day.types (longest trip.from trip.to) passes.fits in
+    let same : longest trip.from trip.to ≡ longest (from_of day t) (to_of day t) = ap (λ (a : ℕ). longest a trip.to) (sym from) ∙ ap (λ (b : ℕ). longest (from_of day t) b) (sym to) in
+    (ms, subst (λ (n : ℕ). fits_in day.types n ms ≡ true) same fits)
+
+-- the day that the tests give
+pub is_day_of : (tables : Tables) (day : Day) → day_of tables ≡ Ok day → IsDayOf tables day
+unfolding types_in stations_in stock_in trips_in leaves arrives from_of to_of units_of
+is_day_of tables day e =
+    let made = day_is_made tables day e in
+    let pass = all_pass tables day made in
+    record {
+      types = accepted_map accept_type type_in (λ before row t is. (type_of_row before row t is).1) [] tables.types day.types made.types;
+      stations = accepted_map accept_station station_in (λ before row s is. (station_of_row before row s is).1) [] tables.stations day.stations made.stations;
+      stock = accepted_zip (accept_stock day.stations day.types) (IsStockOf day) (stock_said day) [] [] tables.stock day.stock tt made.stock;
+      trips = accepted_zip (accept_trip day.stations day.types) (IsTripOf day) (trip_said day) [] [] tables.trips day.trips tt made.trips;
+      links = made.links;
+      weights = made.weights;
+      type_names = accepted_pairs accept_type (λ a b. a.name ≢ b.name)
+          (λ before row t is k d below. subst (λ (t : UnitType). (get_or before k d).name ≢ t.name) (type_of_row before row t is).1 (new_name (λ t. t.name) before row.name (type_of_row before row t is).0 k d below))
+          [] tables.types day.types (none_apart (λ a b. a.name ≢ b.name)) made.types;
+      station_names = stations_apart tables.stations day.stations made.stations;
+      trip_names = accepted_pairs (accept_trip day.stations day.types) (λ a b. a.name ≢ b.name)
+          (λ before row t is k d below.
+          let of_row : IsTripOfRow day.stations day.types before row t = trip_of_row day.stations day.types before row t is in
+          subst (λ (t : Trip). (get_or before k d).name ≢ t.name) (sym of_row.is) (new_name (λ t. t.name) before row.name of_row.new k d below))
+          [] tables.trips day.trips (none_apart (λ a b. a.name ≢ b.name)) made.trips;
+      stock_rows = accepted_pairs (accept_stock day.stations day.types) IsOtherStock
+          (λ before row stock is k d below.
+          let of_row : IsStockOfRow day.stations day.types before row stock = stock_of_row day.stations day.types before row stock is in
+          new_stock_row before stock of_row.new k d below)
+          [] tables.stock day.stock (none_apart IsOtherStock) made.stock;
+      units = omega (arith, made.few, length-units_in day.stock);
+      elsewhere = λ t below same.
+          let (trip, at, passes) = entry_at (Passes day.stations day.types) day.trips t below pass in
+          eqb-false trip.from trip.to passes.differ (sym (entry_is (λ trip. trip.from) day.trips t 0 trip at) ∙ same ∙ entry_is (λ trip. trip.to) day.trips t 0 trip at);
+      later = λ t below.
+          let (trip, at, passes) = entry_at (Passes day.stations day.types) day.trips t below pass in
+          rw (entry_is (λ trip. trip.departure) day.trips t 0 trip at, entry_is (λ trip. trip.arrival) day.trips t 1 trip at) passes.time;
+      served = λ t below.
+          let (trip, at, passes) = entry_at (Passes day.stations day.types) day.trips t below pass in
+          trip_served day t trip at passes;
+    }

@@ -1,0 +1,76 @@
+-- The day is that of the tests, and keeps within the limits.
+use Rattle.std.proofs.Common.{◌≡◌, length, ap, arith, rules, Ok}
+use Rattle.timetable.specs.Build.{day_of}
+use Rattle.timetable.specs.Day.{Day, units_of}
+use Rattle.timetable.specs.Within.{AreTypes, AreStations}
+use Rattle.timetable.proofs.Days.{day_within_limits}
+use Rattle.timetable.proofs.Entries.{are_types, types_within_limits, are_stations}
+use Rattle.timetable.proofs.Said.{is_day_of}
+use Rattle.timetable.proofs.Refused.{answer_is_so, refusal_is_so}
+use Rattle.timetable.specs.declared.refusal.InstanceRefusal.TheVariants.{TooManyUnits}
+use Rattle.timetable.proofs.instance.Instance.build.Goals as goal
+
+pub new-requires-clause-few : goal.new-requires-clause-few
+new-requires-clause-few c = (are_types c.args.tables.types c.in_ok-types.types.items c.requires.types c.in_ok-types.ensures).few
+
+pub new-requires-clause-limits : goal.new-requires-clause-limits
+new-requires-clause-limits c = types_within_limits c.args.tables.types c.in_ok-types.types.items c.requires.types c.in_ok-types.ensures
+
+pub stock_of-requires-clause-types : goal.stock_of-requires-clause-types
+stock_of-requires-clause-types c =
+    let types : AreTypes c.in_ok-types.types.items = are_types c.args.tables.types c.in_ok-types.types.items c.requires.types c.in_ok-types.ensures in
+    omega (arith, types.few, ap length c.deref-2.ensures.value)
+
+pub stock_of-requires-clause-stations : goal.stock_of-requires-clause-stations
+stock_of-requires-clause-stations c =
+    let stations : AreStations c.in_ok-stations.stations.items = are_stations c.args.tables.stations c.in_ok-stations.stations.items c.requires.stations c.in_ok-stations.ensures in
+    omega (arith, stations.few, ap length c.deref.ensures.value)
+
+pub trips_of-requires-clause-stations : goal.trips_of-requires-clause-stations
+trips_of-requires-clause-stations c =
+    let stations : AreStations c.in_ok-stations.stations.items = are_stations c.args.tables.stations c.in_ok-stations.stations.items c.requires.stations c.in_ok-stations.ensures in
+    omega (arith, stations.few, ap length c.deref-4.ensures.value)
+
+pub invariant_of-result : goal.invariant_of-result
+unfolding day_of units_of
+invariant_of-result c =
+    let day : Day = record { types = c.new.result; stations = c.in_ok-stations.stations.items; stock = c.in_ok-stock.stock.items; trips = c.in_ok-trips.trips.items; links = c.new-2.result.items; weights = c.weights_of.result } in
+    let made : day_of c.args.tables ≡ Ok day = search rules in
+    record {
+      units = search rules;
+      day = day_within_limits c.args.tables day c.requires.types c.requires.stations c.requires.trips c.requires.weights made;
+    }
+
+pub returns-clause-meaning : goal.returns-clause-meaning
+unfolding day_of
+returns-clause-meaning c =
+    let day : Day = record { types = c.new.result; stations = c.in_ok-stations.stations.items; stock = c.in_ok-stock.stock.items; trips = c.in_ok-trips.trips.items; links = c.new-2.result.items; weights = c.weights_of.result } in
+    let made : day_of c.args.tables ≡ Ok day = search rules in
+    is_day_of c.args.tables day made
+
+pub returns-clause-limits : goal.returns-clause-limits
+unfolding day_of
+returns-clause-limits c =
+    let day : Day = record { types = c.new.result; stations = c.in_ok-stations.stations.items; stock = c.in_ok-stock.stock.items; trips = c.in_ok-trips.trips.items; links = c.new-2.result.items; weights = c.weights_of.result } in
+    let made : day_of c.args.tables ≡ Ok day = search rules in
+    day_within_limits c.args.tables day c.requires.types c.requires.stations c.requires.trips c.requires.weights made
+
+pub returns-in_err-types-clause-refusal : goal.returns-in_err-types-clause-refusal
+unfolding day_of
+returns-in_err-types-clause-refusal c = answer_is_so c.args.tables c.from_residual.result (search rules)
+
+pub returns-in_err-stations-clause-refusal : goal.returns-in_err-stations-clause-refusal
+unfolding day_of
+returns-in_err-stations-clause-refusal c = answer_is_so c.args.tables c.from_residual-in_err-stations.result (search rules)
+
+pub returns-in_err-stock-clause-refusal : goal.returns-in_err-stock-clause-refusal
+unfolding day_of
+returns-in_err-stock-clause-refusal c = answer_is_so c.args.tables c.from_residual-in_err-stock.result (search rules)
+
+pub returns-in_err-trips-clause-refusal : goal.returns-in_err-trips-clause-refusal
+unfolding day_of
+returns-in_err-trips-clause-refusal c = answer_is_so c.args.tables c.from_residual-in_err-trips.result (search rules)
+
+pub returns-then-are_too_many-clause-refusal : goal.returns-then-are_too_many-clause-refusal
+unfolding day_of
+returns-then-are_too_many-clause-refusal c = refusal_is_so c.args.tables TooManyUnits (search rules)

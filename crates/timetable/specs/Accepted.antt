@@ -1,0 +1,48 @@
+-- What is known of every day that was accepted.
+use Rattle.std.specs.Prelude.{ℕ, ◌+◌, ◌<◌, ◌≤◌, ◌≡◌, length, List, [], ◌∷◌, All, IsTrue, Some, slice_get}
+use Rattle.compositions.specs.declared.types.UnitType.{UnitType}
+use Rattle.timetable.specs.Day.{Day, leaves, arrives, from_of, to_of, km_of, demand_of, home_of, type_of, unit_count, reallocation_of}
+use Rattle.timetable.specs.Links.{arriving_in, departing_in}
+use Rattle.timetable.specs.Lists.{count_of, has}
+use Rattle.timetable.specs.declared.records.Link.{Link}
+use Rattle.timetable.specs.declared.records.LinkKind.{LinkKind}
+
+-- the numbers of a unit type are within the limits
+pub record IsUnitType (t : UnitType) : Type 0 where
+  pub carriages : t.carriages ≤ 20
+  pub seats : t.seats ≤ 2000
+  pub metres : t.metres ≤ 500
+
+-- every trip arrives after it leaves and on the second day at the latest, what it names is there, and each number is within its limit
+pub record IsDay (day : Day) : Type 0 where
+  pub time : (t : ℕ) → t < length day.trips → leaves day t < arrives day t
+  pub late : (t : ℕ) → t < length day.trips → arrives day t < 2880
+  pub origin : (t : ℕ) → t < length day.trips → from_of day t < length day.stations
+  pub goal : (t : ℕ) → t < length day.trips → to_of day t < length day.stations
+  pub km : (t : ℕ) → t < length day.trips → km_of day t ≤ 1000
+  pub demand : (t : ℕ) → t < length day.trips → demand_of day t ≤ 10000
+  pub home : (u : ℕ) → u < unit_count day → home_of day u < length day.stations
+  pub unit_type : (u : ℕ) → u < unit_count day → type_of day u < length day.types
+  pub reallocation : (s : ℕ) → reallocation_of day s ≤ 600
+  pub unit_types : All IsUnitType day.types
+  pub type_count : length day.types ≤ 6
+  pub station_count : length day.stations ≤ 60
+  pub trip_count : length day.trips ≤ 400
+  pub link_count : length day.links ≤ 400
+  pub units : unit_count day ≤ 2000
+  pub carriage : day.weights.carriage ≤ 10000
+  pub shortage : day.weights.shortage ≤ 10000
+  pub shunting : day.weights.shunting ≤ 10000
+
+-- how often links name a trip on one side, as arriving or as departing
+abbrev pub times_named : (LinkKind → List ℕ) → List Link → ℕ → ℕ
+times_named side [] t = 0
+times_named side (link ∷ links) t = count_of t (side link.kind) + times_named side links t
+
+-- no trip arrives for two links or departs by two, each link names trips of the day, and none departs before one that it goes on from arrives
+pub record AreLinks (day : Day) : Type 0 where
+  pub arriving_once : (t : ℕ) → times_named arriving_in day.links t ≤ 1
+  pub departing_once : (t : ℕ) → times_named departing_in day.links t ≤ 1
+  pub arriving : (l t : ℕ) (link : Link) → slice_get day.links l ≡ Some link → IsTrue (has t (arriving_in link.kind)) → t < length day.trips
+  pub departing : (l t : ℕ) (link : Link) → slice_get day.links l ≡ Some link → IsTrue (has t (departing_in link.kind)) → t < length day.trips
+  pub in_time : (l a b : ℕ) (link : Link) → slice_get day.links l ≡ Some link → IsTrue (has a (arriving_in link.kind)) → IsTrue (has b (departing_in link.kind)) → arrives day a ≤ leaves day b

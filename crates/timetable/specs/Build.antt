@@ -1,0 +1,167 @@
+-- What the tables make: the day, or the first test that fails. Rows are tested in order, each by what the rows before it gave.
+use Rattle.std.specs.Prelude.{ℕ, ◌+◌, ◌≡◌, List, [], ◌∷◌, Bool, ◌&&◌, ◌==◌, nat_le, nat_lt, min, if◌then◌else◌, Option, Some, None, Result, Ok, Err, position}
+use Rattle.std.specs.List.{list_any}
+use Rattle.std.specs.Str.{bytes_eq}
+use Rattle.std.specs.Global.{Vec}
+use Rattle.compositions.specs.declared.types.UnitType.{UnitType}
+use Rattle.rail_csv.specs.declared.rows.TypeRow.{TypeRow}
+use Rattle.rail_csv.specs.declared.rows.StationRow.{StationRow}
+use Rattle.rail_csv.specs.declared.rows.StockRow.{StockRow}
+use Rattle.rail_csv.specs.declared.rows.TripRow.{TripRow}
+use Rattle.rail_csv.specs.declared.rows.WeightsRow.{WeightsRow}
+use Rattle.rail_csv.specs.declared.rows.Table.TheVariants as tables
+use Rattle.timetable.specs.declared.records.Station.{Station}
+use Rattle.timetable.specs.declared.records.Stock.{Stock}
+use Rattle.timetable.specs.declared.records.Trip.{Trip}
+use Rattle.timetable.specs.declared.records.Weights.{Weights}
+use Rattle.timetable.specs.declared.tables.Tables.{Tables}
+use Rattle.timetable.specs.declared.refusal.InstanceRefusal.{InstanceRefusal}
+use Rattle.timetable.specs.declared.refusal.InstanceRefusal.TheVariants.{RepeatedName, UnknownName, RepeatedStock, ArrivalNotAfterDeparture, SameStation, TripUsedTwice, WrongStation, TooEarly, WrongLinkFields, NoComposition, TooManyUnits, TooManyCompositions, NoMemory}
+use Rattle.timetable.specs.Day.{Day}
+use Rattle.timetable.specs.Lists.{of_entry}
+use Rattle.timetable.specs.Rowwise.{◌>>=◌, row_after, accept_each}
+
+-- ---- names and rows
+
+-- whether one of the entries has the name
+abbrev pub has_name : {X : Type 0} → (X → List ℕ) → List X → List ℕ → Bool
+has_name name_of entries name = list_any (λ entry. bytes_eq (name_of entry) name) entries
+
+-- the number of the first entry with the name
+abbrev pub find_name : {X : Type 0} → (X → List ℕ) → List X → List ℕ → Option ℕ
+find_name name_of entries name = position (λ entry. bytes_eq (name_of entry) name) entries
+
+-- a number that was found, or the refusal
+abbrev pub found_or : Option ℕ → InstanceRefusal → Result ℕ InstanceRefusal
+found_or (Some n) refusal = Ok n
+found_or None refusal = Err refusal
+
+-- ---- types
+
+-- the type that a row describes
+abbrev pub type_in : TypeRow → UnitType
+type_in row = record { name = row.name; carriages = row.carriages; seats = row.seats; metres = row.metres; family = row.family }
+
+unfoldable pub accept_type : List UnitType → TypeRow → Result UnitType InstanceRefusal
+accept_type before row =
+    if has_name (λ t. t.name) before row.name then Err (RepeatedName tables.Types (row_after before))
+    else Ok (type_in row)
+
+-- ---- stations
+
+-- the station that a row describes
+abbrev pub station_in : StationRow → Station
+station_in row = record { name = row.name; platform = row.platform; reallocation = row.reallocation }
+
+unfoldable pub accept_station : List Station → StationRow → Result Station InstanceRefusal
+accept_station before row =
+    if has_name (λ s. s.name) before row.name then Err (RepeatedName tables.Stations (row_after before))
+    else Ok (station_in row)
+
+-- ---- stock
+
+abbrev pub has_stock : List Stock → ℕ → ℕ → Bool
+has_stock before s m = list_any (λ row. (row.station == s) && (row.unit_type == m)) before
+
+-- the stock of a row whose names were found, where its pair is new
+abbrev pub new_stock : List Stock → StockRow → ℕ → ℕ → Result Stock InstanceRefusal
+new_stock before row station unit_type =
+    if has_stock before station unit_type then Err (RepeatedStock (row_after before))
+    else Ok (record { station = station; unit_type = unit_type; start = row.start; end = row.end })
+
+unfoldable pub accept_stock : List Station → List UnitType → List Stock → StockRow → Result Stock InstanceRefusal
+accept_stock stations types before row = do
+  station ← found_or (find_name (λ s. s.name) stations row.station) (UnknownName tables.Stock (row_after before) 0)
+  unit_type ← found_or (find_name (λ t. t.name) types row.unit_type) (UnknownName tables.Stock (row_after before) 1)
+  new_stock before row station unit_type
+
+-- the units of all stock rows at the start of the day
+abbrev pub starts_of : List Stock → ℕ
+starts_of [] = 0
+starts_of (row ∷ rows) = row.start + starts_of rows
+
+abbrev pub most_units : ℕ
+most_units = 2000
+
+-- ---- trips
+
+-- the metres of the platform of a station, and 0 where there is no such station
+abbrev pub platform_at : List Station → ℕ → ℕ
+platform_at stations s = of_entry (λ station. station.platform) stations s 0
+
+-- whether one unit of some type is no longer than so many metres
+abbrev pub has_fitting : List UnitType → ℕ → Bool
+has_fitting types longest = list_any (λ t. nat_le t.metres longest) types
+
+-- a trip's times and stations, which are known to be there
+unfoldable pub accept_run : List Station → List UnitType → ℕ → Trip → Result Trip InstanceRefusal
+accept_run stations types row trip =
+    if trip.from == trip.to then Err (SameStation row)
+    else if nat_le trip.arrival trip.departure then Err (ArrivalNotAfterDeparture row)
+    else if has_fitting types (min (platform_at stations trip.from) (platform_at stations trip.to)) then Ok trip
+    else Err (NoComposition row)
+
+-- the trip of a row between two stations
+abbrev pub trip_between : TripRow → ℕ → ℕ → Trip
+trip_between row from to = record { name = row.name; from = from; departure = row.departure; to = to; arrival = row.arrival; km = row.km; demand = row.demand }
+
+unfoldable pub accept_trip : List Station → List UnitType → List Trip → TripRow → Result Trip InstanceRefusal
+accept_trip stations types before row = if has_name (λ t. t.name) before row.name then Err (RepeatedName tables.Trips (row_after before)) else do
+  from ← found_or (find_name (λ s. s.name) stations row.from) (UnknownName tables.Trips (row_after before) 1)
+  to ← found_or (find_name (λ s. s.name) stations row.to) (UnknownName tables.Trips (row_after before) 3)
+  accept_run stations types (row_after before) (trip_between row from to)
+
+-- ---- the day
+
+unfoldable pub types_in : List TypeRow → Result (List UnitType) InstanceRefusal
+types_in rows = accept_each accept_type [] rows
+
+unfoldable pub stations_in : List StationRow → Result (List Station) InstanceRefusal
+stations_in rows = accept_each accept_station [] rows
+
+unfoldable pub stock_in : List Station → List UnitType → List StockRow → Result (List Stock) InstanceRefusal
+stock_in stations types rows = accept_each (accept_stock stations types) [] rows
+
+unfoldable pub trips_in : List Station → List UnitType → List TripRow → Result (List Trip) InstanceRefusal
+trips_in stations types rows = accept_each (accept_trip stations types) [] rows
+
+abbrev pub weights_in : WeightsRow → Weights
+weights_in row = record { carriage = row.carriage; shortage = row.shortage; shunting = row.shunting }
+
+-- The day that tables without links make: types, stations, stock, the number of units, and then trips.
+unfoldable pub day_of : Tables → Result Day InstanceRefusal
+day_of tables = do
+  types ← types_in tables.types
+  stations ← stations_in tables.stations
+  stock ← stock_in stations types tables.stock
+  if nat_lt most_units (starts_of stock) then Err TooManyUnits else do
+    trips ← trips_in stations types tables.trips
+    Ok (record { types = types; stations = stations; stock = stock; trips = trips; links = []; weights = weights_in tables.weights })
+
+-- ---- what a call answers
+
+-- A refusal is the one that the tests give; want of memory is free.
+abbrev pub Fails : {X : Type 0} → InstanceRefusal → Result X InstanceRefusal → Type 0
+Fails (RepeatedName table row) tests = tests ≡ Err (RepeatedName table row)
+Fails (UnknownName table row column) tests = tests ≡ Err (UnknownName table row column)
+Fails (RepeatedStock row) tests = tests ≡ Err (RepeatedStock row)
+Fails (ArrivalNotAfterDeparture row) tests = tests ≡ Err (ArrivalNotAfterDeparture row)
+Fails (SameStation row) tests = tests ≡ Err (SameStation row)
+Fails (TripUsedTwice row) tests = tests ≡ Err (TripUsedTwice row)
+Fails (WrongStation row) tests = tests ≡ Err (WrongStation row)
+Fails (TooEarly row) tests = tests ≡ Err (TooEarly row)
+Fails (WrongLinkFields row) tests = tests ≡ Err (WrongLinkFields row)
+Fails (NoComposition row) tests = tests ≡ Err (NoComposition row)
+Fails TooManyUnits tests = tests ≡ Err TooManyUnits
+Fails TooManyCompositions tests = tests ≡ Err TooManyCompositions
+Fails NoMemory tests = Unit {0}
+
+-- A call answers what the tests give, unless memory ran out.
+abbrev pub Gives : {X : Type 0} → Result X InstanceRefusal → Result X InstanceRefusal → Type 0
+Gives (Ok x) tests = tests ≡ Ok x
+Gives (Err e) tests = Fails e tests
+
+-- The same of a call that answers a vector.
+abbrev pub GivesRows : {X : Type 0} → Result (Vec X) InstanceRefusal → Result (List X) InstanceRefusal → Type 0
+GivesRows (Ok rows) tests = tests ≡ Ok rows.items
+GivesRows (Err e) tests = Fails e tests

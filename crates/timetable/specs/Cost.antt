@@ -1,0 +1,31 @@
+-- What a plan costs. It depends on the types of its lists alone.
+use Rattle.std.specs.Prelude.{ℕ, ◌+◌, ◌-◌, ◌*◌, List, [], map, length, ◌==◌, if◌then◌else◌, option_map, unwrap_or, slice_get}
+use Rattle.compositions.specs.Composition.{carriages_of, seats_of}
+use Rattle.timetable.specs.declared.records.LinkKind.{LinkKind}
+use Rattle.timetable.specs.declared.records.LinkKind.TheVariants.{Turn, Join, Split}
+use Rattle.timetable.specs.Day.{Day, km_of, demand_of, types_of}
+use Rattle.timetable.specs.Links.{list_of}
+use Rattle.timetable.specs.Lists.{sum_below}
+
+-- a trip with this composition: its carriages, and the seats that are missing (none where there are enough), for its kilometres
+unfoldable pub trip_cost : Day → ℕ → List ℕ → ℕ
+trip_cost day t types =
+    day.weights.carriage * carriages_of day.types types * km_of day t
+    + day.weights.shortage * (demand_of day t - seats_of day.types types) * km_of day t
+
+-- a turn that couples or uncouples costs the weight of shunting once
+abbrev pub kind_cost : Day → LinkKind → List (List ℕ) → ℕ
+kind_cost day (Turn a b uncouple couple) lists = if length (list_of lists a) == length (list_of lists b) then 0 else day.weights.shunting
+kind_cost day (Join a1 a2 b) lists = 0
+kind_cost day (Split a b1 b2) lists = 0
+
+unfoldable pub link_cost : Day → ℕ → List (List ℕ) → ℕ
+link_cost day l lists = unwrap_or (option_map (λ link. kind_cost day link.kind lists) (slice_get day.links l)) 0
+
+-- the cost of compositions, one for each trip, each the list of its types
+unfoldable pub cost_of : Day → List (List ℕ) → ℕ
+cost_of day lists = sum_below (λ t. trip_cost day t (list_of lists t)) (length day.trips) + sum_below (λ l. link_cost day l lists) (length day.links)
+
+-- the cost of a plan
+abbrev pub plan_cost : Day → List (List ℕ) → ℕ
+plan_cost day plan = cost_of day (map (types_of day) plan)

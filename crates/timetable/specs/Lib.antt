@@ -1,0 +1,17 @@
+pub mod Lists
+pub mod Day
+pub mod Accepted
+pub mod Admissible
+pub mod Links
+pub mod Duties
+pub mod Running
+pub mod Cost
+pub mod Rowwise
+pub mod Build
+pub mod Within
+pub mod Starts
+pub mod Holding
+pub mod Plans
+pub mod Meaning
+pub mod Refusals
+pub use Rattle.compositions.specs.Composition

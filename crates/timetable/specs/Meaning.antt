@@ -1,0 +1,60 @@
+-- What it means that a day is the day of tables, in the tables' own words: the rows in order, with what they name, and no
+-- rule broken.
+use Rattle.std.specs.Prelude.{ℕ, ◌≡◌, ◌≢◌, ◌<◌, ◌≤◌, List, [], map, length, true, Some, slice_get}
+use Rattle.std.specs.List.{AllZip, AllPairs}
+use Rattle.rail_csv.specs.declared.rows.StockRow.{StockRow}
+use Rattle.rail_csv.specs.declared.rows.TripRow.{TripRow}
+use Rattle.timetable.specs.declared.records.Stock.{Stock}
+use Rattle.timetable.specs.declared.records.Trip.{Trip}
+use Rattle.timetable.specs.declared.tables.Tables.{Tables}
+use Rattle.timetable.specs.Admissible.{is_admissible}
+use Rattle.timetable.specs.Build.{type_in, station_in, weights_in}
+use Rattle.timetable.specs.Day.{Day, leaves, arrives, from_of, to_of, unit_count}
+
+-- the number is that of the entry with the name
+abbrev pub IsNumberOf : {X : Type 0} → (X → List ℕ) → List X → List ℕ → ℕ → Type 0
+IsNumberOf name_of entries name n = slice_get (map name_of entries) n ≡ Some name
+
+-- the stock of a row
+pub record IsStockOf (day : Day) (row : StockRow) (stock : Stock) : Type 0 where
+  pub station : IsNumberOf (λ s. s.name) day.stations row.station stock.station
+  pub unit_type : IsNumberOf (λ t. t.name) day.types row.unit_type stock.unit_type
+  pub start : stock.start ≡ row.start
+  pub end : stock.end ≡ row.end
+
+-- the trip of a row
+pub record IsTripOf (day : Day) (row : TripRow) (trip : Trip) : Type 0 where
+  pub name : trip.name ≡ row.name
+  pub from : IsNumberOf (λ s. s.name) day.stations row.from trip.from
+  pub departure : trip.departure ≡ row.departure
+  pub to : IsNumberOf (λ s. s.name) day.stations row.to trip.to
+  pub arrival : trip.arrival ≡ row.arrival
+  pub km : trip.km ≡ row.km
+  pub demand : trip.demand ≡ row.demand
+
+-- no two entries have one name
+abbrev pub AreNamedApart : {X : Type 0} → (X → List ℕ) → List X → Type 0
+AreNamedApart name_of entries = AllPairs (λ a b. name_of a ≢ name_of b) entries
+
+-- the stock is of another station or another type
+abbrev pub IsOtherStock : Stock → Stock → Type 0
+IsOtherStock a b = ¬ ((a.station ≡ b.station) × (a.unit_type ≡ b.unit_type))
+
+pub record IsDayOf (tables : Tables) (day : Day) : Type 0 where
+  -- the rows in order, with the numbers of what they name
+  pub types : day.types ≡ map type_in tables.types
+  pub stations : day.stations ≡ map station_in tables.stations
+  pub stock : AllZip (IsStockOf day) tables.stock day.stock
+  pub trips : AllZip (IsTripOf day) tables.trips day.trips
+  pub links : day.links ≡ []
+  pub weights : day.weights ≡ weights_in tables.weights
+  -- each name once, and each station and type once in the stock
+  pub type_names : AreNamedApart (λ t. t.name) day.types
+  pub station_names : AreNamedApart (λ s. s.name) day.stations
+  pub trip_names : AreNamedApart (λ t. t.name) day.trips
+  pub stock_rows : AllPairs IsOtherStock day.stock
+  pub units : unit_count day ≤ 2000
+  -- every trip goes to another station, arrives after it leaves, and some composition may run on it
+  pub elsewhere : (t : ℕ) → t < length day.trips → from_of day t ≢ to_of day t
+  pub later : (t : ℕ) → t < length day.trips → leaves day t < arrives day t
+  pub served : (t : ℕ) → t < length day.trips → (types : List ℕ) × (is_admissible day t types ≡ true)

@@ -1,0 +1,53 @@
+-- The plan that rows make of a day, or the first row that is wrong.
+use Rattle.std.specs.Prelude.{ℕ, ◌≡◌, List, [], length, Bool, false, nat_lt, if◌then◌else◌, Option, Some, None, Result, Ok, Err, slice_get}
+use Rattle.std.specs.List.{list_all}
+use Rattle.std.specs.Str.{bytes_eq}
+use Rattle.std.specs.Global.{Vec}
+use Rattle.rail_csv.specs.declared.rows.PlanRow.{PlanRow}
+use Rattle.timetable.specs.declared.records.Trip.{Trip}
+use Rattle.timetable.specs.declared.refusal.PlanRefusal.{PlanRefusal}
+use Rattle.timetable.specs.declared.refusal.PlanRefusal.TheVariants.{WrongTrip, UnknownUnit, MissingTrip, NoMemory}
+use Rattle.timetable.specs.Day.{Day, unit_count}
+use Rattle.timetable.specs.Rowwise.{◌>>=◌, row_after, accept_each}
+
+-- whether there is a trip, and it has the name
+abbrev pub is_named : Option Trip → List ℕ → Bool
+is_named None name = false
+is_named (Some trip) name = bytes_eq trip.name name
+
+-- whether each is the number of a unit of the day
+abbrev pub are_units : Day → List ℕ → Bool
+are_units day units = list_all (λ u. nat_lt u (unit_count day)) units
+
+-- the list of a row, which must name the trip of its number and units of the day
+unfoldable pub accept_list : Day → List (List ℕ) → PlanRow → Result (List ℕ) PlanRefusal
+accept_list day before row =
+    if is_named (slice_get day.trips (length before)) row.trip
+    then (if are_units day row.units then Ok row.units else Err (UnknownUnit (row_after before)))
+    else Err (WrongTrip (row_after before))
+
+unfoldable pub lists_in : Day → List PlanRow → Result (List (List ℕ)) PlanRefusal
+lists_in day rows = accept_each (accept_list day) [] rows
+
+-- the plan of a day that rows make: a list for each trip
+unfoldable pub plan_of : Day → List PlanRow → Result (List (List ℕ)) PlanRefusal
+plan_of day rows = do
+  plan ← lists_in day rows
+  if nat_lt (length rows) (length day.trips) then Err (MissingTrip (length rows)) else Ok plan
+
+-- A refusal is the one that the tests give; want of memory is free.
+abbrev pub Fails : {X : Type 0} → PlanRefusal → Result X PlanRefusal → Type 0
+Fails (WrongTrip row) tests = tests ≡ Err (WrongTrip row)
+Fails (UnknownUnit row) tests = tests ≡ Err (UnknownUnit row)
+Fails (MissingTrip row) tests = tests ≡ Err (MissingTrip row)
+Fails NoMemory tests = Unit {0}
+
+-- A call answers what the tests give, unless memory ran out.
+abbrev pub Gives : {X : Type 0} → Result X PlanRefusal → Result X PlanRefusal → Type 0
+Gives (Ok x) tests = tests ≡ Ok x
+Gives (Err e) tests = Fails e tests
+
+-- The same of a call that answers a vector.
+abbrev pub GivesRows : {X : Type 0} → Result (Vec X) PlanRefusal → Result (List X) PlanRefusal → Type 0
+GivesRows (Ok rows) tests = tests ≡ Ok rows.items
+GivesRows (Err e) tests = Fails e tests

@@ -1,0 +1,234 @@
+//! The instance: a day that was accepted, with its units numbered.
+
+ghost use Rattle.std.specs.Prelude.{◌≡◌, ◌<◌, ◌≤◌, [], ◌∷◌, ◌++◌, length, slice_get, Some, replicate, OnOk, IfOk, IfErr};
+ghost use Rattle.rail_csv.specs.Rows.{AreTypeRows, AreStationRows, AreStockRows, AreTripRows, IsWeightsRow};
+ghost use Rattle.timetable.specs.Accepted.{IsDay};
+ghost use Rattle.timetable.specs.Build.{day_of, Gives, weights_in};
+ghost use Rattle.timetable.specs.Day.{units_of, units_in, unit_count, wanted_in, wanted_of};
+ghost use Rattle.timetable.specs.Meaning.{IsDayOf};
+ghost use Rattle.timetable.specs.Refusals.{IsBroken};
+ghost use Rattle.timetable.specs.Starts.{start_in, start_of};
+
+use crate::build::{are_too_many, stations_of, stock_of, trips_of, types_of};
+use crate::records::{Link, Station, Stock, Trip, Unit, Weights};
+use crate::refusal::InstanceRefusal;
+use crate::tables::Tables;
+use compositions::UnitTypes;
+use rail_base::{NoMemory, StationNo, TripNo, TypeNo, UnitNo};
+use rail_csv::WeightsRow;
+use std::alloc::Global;
+use std::marker::Model;
+
+/// A day that was accepted: its types, stations, stock, trips and links in the order of their tables, and its units,
+/// numbered by stock row and then within the row. A contract sees the day.
+#[derive(Debug, Drop)]
+pub struct Instance {
+    types: UnitTypes,
+    stations: Vec<Station>,
+    stock: Vec<Stock>,
+    trips: Vec<Trip>,
+    links: Vec<Link>,
+    weights: Weights,
+    units: Vec<Unit>,
+}
+
+impl Model for Instance {
+    ghost use Rattle.timetable.specs.Day.{Day};
+
+    ghost Value = { Day };
+
+    ghost use Rattle.timetable.specs.Holding.{day_in, Holds};
+
+    ghost view = { day_in };
+
+    ghost invariant = { Holds };
+}
+
+impl Instance {
+    /// The day of tables without links, whose rows keep within the rules of their columns and the limits of rows.
+    ///
+    /// Refusals, the first test that fails: a repeated name of a type; of a station; a stock row with an unknown station,
+    /// an unknown type, or the station and type of an earlier row; more than 2,000 units; a trip with a repeated name, an
+    /// unknown station, one station twice, an arrival not after its departure, or platforms that no composition fits.
+    /// `NoMemory` may come at any of them.
+    #[tactic(auto, unfolding(crate::specs::Build::day_of))]
+    pub fn build(alloc: Global, tables: Tables) -> Result<Instance, InstanceRefusal>
+        requires types { AreTypeRows tables.types }
+        requires stations { AreStationRows tables.stations }
+        requires stock { AreStockRows tables.stock }
+        requires trips { AreTripRows tables.trips }
+        requires weights { IsWeightsRow tables.weights }
+        requires without_links { tables.links ≡ [] }
+        // The refusal is the first test that fails, and else the day is that of the tests.
+        ensures exact { Gives result (day_of tables) }
+        // The day is that of the tables in their own words.
+        ensures meaning { IfOk result (λ instance. IsDayOf tables instance) }
+        // A refusal says what is so in the tables.
+        ensures refusal { IfErr result (λ refusal. IsBroken tables refusal) }
+        ensures limits { IfOk result (λ instance. IsDay instance) }
+    {
+        let types = types_of(alloc, tables.types)?;
+        let stations = stations_of(alloc, tables.stations)?;
+        let stock = stock_of(alloc, &stations, &types, tables.stock)?;
+        if are_too_many(&stock) {
+            return Err(InstanceRefusal::TooManyUnits);
+        }
+        let trips = trips_of(alloc, &stations, &types, tables.trips)?;
+        let units = units_of(alloc, &stock)?;
+        Ok(Instance {
+            types: UnitTypes::new(types),
+            stations,
+            stock,
+            trips,
+            links: Vec::new(alloc),
+            weights: weights_of(tables.weights),
+            units,
+        })
+    }
+
+    /// How many stations there are.
+    pub fn stations(&self) -> u32
+        ensures value { result ≡ length self.now.stations }
+        ensures few { result ≤ 60 }
+    {
+        self.stations.len() as u32
+    }
+
+    /// How many trips there are.
+    pub fn trips(&self) -> u32
+        ensures value { result ≡ length self.now.trips }
+        ensures few { result ≤ 400 }
+        ensures sound { IsDay self.now }
+    {
+        self.trips.len() as u32
+    }
+
+    /// How many links there are.
+    pub fn links(&self) -> u32
+        ensures value { result ≡ length self.now.links }
+        ensures few { result ≤ 400 }
+    {
+        self.links.len() as u32
+    }
+
+    /// How many units there are.
+    pub fn units(&self) -> u32
+        ensures value { result ≡ unit_count self.now }
+        ensures few { result ≤ 2000 }
+    {
+        self.units.len() as u32
+    }
+
+    /// The types of the units.
+    pub fn types(&self) -> &UnitTypes
+        ensures { result.now ≡ self.now.types }
+    {
+        &self.types
+    }
+
+    /// The weights of the cost.
+    pub fn weights(&self) -> Weights
+        ensures { result ≡ self.now.weights }
+    {
+        self.weights
+    }
+
+    /// The station of this number, which is below `stations`.
+    pub fn station(&self, station: StationNo) -> &Station
+        requires { station < length self.now.stations }
+        ensures { slice_get self.now.stations station ≡ Some result.now }
+    {
+        &self.stations[station.place()]
+    }
+
+    /// The trip of this number, which is below `trips`.
+    pub fn trip(&self, trip: TripNo) -> &Trip
+        requires { trip < length self.now.trips }
+        ensures { slice_get self.now.trips trip ≡ Some result.now }
+    {
+        &self.trips[trip.place()]
+    }
+
+    /// The unit of this number, which is below `units`.
+    pub fn unit(&self, unit: UnitNo) -> Unit
+        requires { unit < unit_count self.now }
+        ensures { slice_get (units_of self.now) unit ≡ Some result }
+    {
+        self.units[unit.place()]
+    }
+
+    /// How many units of a type stand at a station at the start of the day: none where no stock row says it.
+    #[tactic(auto, unfolding(crate::specs::Starts::start_of))]
+    pub fn start(&self, station: StationNo, unit_type: TypeNo) -> u32
+        ensures { result ≡ start_of self.now station unit_type }
+    {
+        start_in(&self.stock, station, unit_type)
+    }
+
+    /// How many units of a type are wanted at a station at the end of the day: none where no stock row says it.
+    #[tactic(auto, unfolding(crate::specs::Day::wanted_of))]
+    pub fn end(&self, station: StationNo, unit_type: TypeNo) -> u32
+        ensures { result ≡ wanted_of self.now station unit_type }
+    {
+        wanted_in(&self.stock, station, unit_type)
+    }
+}
+
+/// The weights of their row.
+fn weights_of(row: WeightsRow) -> Weights
+    ensures { result ≡ weights_in row }
+{
+    Weights {
+        carriage: row.carriage,
+        shortage: row.shortage,
+        shunting: row.shunting,
+    }
+}
+
+/// Adds the units of a stock row.
+fn push_units(units: &mut Vec<Unit>, row: Stock) -> Result<(), NoMemory>
+    ensures { OnOk result (units.new.items ≡ units.old.items ++ replicate row.start (record { unit_type = row.unit_type; home = row.station })) }
+{
+    for _ in 0..row.start {
+        units.push(Unit {
+            unit_type: row.unit_type,
+            home: row.station,
+        })?;
+    }
+    Ok(())
+}
+
+/// The units of all stock rows, by row and then within the row.
+fn units_of(alloc: Global, stock: &[Stock]) -> Result<Vec<Unit>, NoMemory>
+    ensures { IfOk result (λ units. units.items ≡ units_in stock.now) }
+{
+    let mut units = Vec::new(alloc);
+    for row in stock {
+        push_units(&mut units, *row)?;
+    }
+    Ok(units)
+}
+
+/// The start of the stock row of a station and a type, and 0 where there is none.
+fn start_in(stock: &[Stock], station: StationNo, unit_type: TypeNo) -> u32
+    ensures { result ≡ start_in stock.now station unit_type }
+{
+    for row in stock {
+        if row.station == station && row.unit_type == unit_type {
+            return row.start;
+        }
+    }
+    0
+}
+
+/// The end of the stock row of a station and a type, and 0 where there is none.
+fn wanted_in(stock: &[Stock], station: StationNo, unit_type: TypeNo) -> u32
+    ensures { result ≡ wanted_in stock.now station unit_type }
+{
+    for row in stock {
+        if row.station == station && row.unit_type == unit_type {
+            return row.end;
+        }
+    }
+    0
+}

@@ -1,0 +1,15 @@
+//! The day that is planned: its types, stations, stock, trips and links, and plans of it.
+#![tactic(auto)]
+
+mod build;
+pub mod instance;
+pub mod plan;
+pub mod records;
+pub mod refusal;
+pub mod tables;
+
+pub use instance::Instance;
+pub use plan::NamedPlan;
+pub use records::{Link, LinkKind, Station, Stock, Trip, Unit, Weights};
+pub use refusal::{InstanceRefusal, PlanRefusal};
+pub use tables::{Rows, Tables};

@@ -1,0 +1,100 @@
+//! The parts of a day, numbered in the order of their tables.
+
+use rail_base::{Minute, Name, StationNo, TripNo, TypeNo};
+use rail_csv::End;
+
+/// A station.
+#[derive(Debug, Drop)]
+pub struct Station {
+    /// The name of the station.
+    pub name: Name,
+    /// The length of the platform, in metres.
+    pub platform: u32,
+    /// The minutes until a unit that was given to the yard is ready.
+    pub reallocation: u32,
+}
+
+/// How many units of a type stand at a station at the start of the day, and how many are to stand there at its end.
+#[derive(Clone, Copy, Debug)]
+pub struct Stock {
+    /// The station.
+    pub station: StationNo,
+    /// The type of the units.
+    pub unit_type: TypeNo,
+    /// Units at the start.
+    pub start: u32,
+    /// Units wanted at the end.
+    pub end: u32,
+}
+
+/// A trip of the timetable.
+#[derive(Debug, Drop)]
+pub struct Trip {
+    /// The name of the trip.
+    pub name: Name,
+    /// The station that it leaves from.
+    pub from: StationNo,
+    /// The minute at which it leaves.
+    pub departure: Minute,
+    /// The station that it goes to.
+    pub to: StationNo,
+    /// The minute at which it arrives.
+    pub arrival: Minute,
+    /// Its length, in kilometres.
+    pub km: u32,
+    /// How many seats are wanted.
+    pub demand: u32,
+}
+
+/// A link from trips that arrive to trips that leave with the same units.
+#[derive(Clone, Copy, Debug)]
+pub struct Link {
+    /// What becomes of the units.
+    pub kind: LinkKind,
+    /// Whether each arriving train turns round, so that its front becomes its rear.
+    pub reverse: bool,
+}
+
+/// What becomes of the units of a link's arriving trips.
+#[derive(Clone, Copy, Debug)]
+pub enum LinkKind {
+    /// One train goes on as one train, and units are uncoupled at one end or coupled at one end.
+    Turn {
+        arriving: TripNo,
+        departing: TripNo,
+        uncouple: End,
+        couple: End,
+    },
+    /// Two trains go on as one, the first in front.
+    Join {
+        first: TripNo,
+        second: TripNo,
+        departing: TripNo,
+    },
+    /// One train goes on as two, of which the first is its front.
+    Split {
+        arriving: TripNo,
+        first: TripNo,
+        second: TripNo,
+    },
+}
+
+/// A train unit.
+#[derive(Clone, Copy, Debug, PartialEq, Eq)]
+pub struct Unit {
+    /// Its type.
+    pub unit_type: TypeNo,
+    /// The station where it stands at the start of the day.
+    pub home: StationNo,
+}
+
+/// The weights of the three parts of the cost.
+#[derive(Clone, Copy, Debug, PartialEq, Eq)]
+pub struct Weights {
+    /// The cost of a carriage for a kilometre.
+    pub carriage: u32,
+    /// The cost of a missing seat for a kilometre.
+    pub shortage: u32,
+    /// The cost of a turn that couples or uncouples.
+    pub shunting: u32,
+}
