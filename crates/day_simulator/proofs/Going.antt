@@ -1,0 +1,300 @@
+-- The whole day on its way: what holds of each state along the fixed order, and that each event keeps it.
+use Rattle.std.proofs.Common.{◌≡◌, ℕ, zero, suc, ◌+◌, ◌<◌, ◌≤◌, List, [], ◌∷◌, length, map, Bool, true, false, cond, eqb, Option, Some, None, refl, sym, ap, ◌∙◌, subst, arith, ◌≢◌, ⊎_elim}
+use Rattle.std.specs.Prelude.{slice_get, slice_set, unwrap_or, option_map, not}
+use Rattle.std.specs.List.{list_all}
+use Rattle.std.proofs.lemmas.Bool.{cases_eq, cases_lt, leb-true, le-leb, ne_eqb, and_parts, and_from}
+use Rattle.std.proofs.lemmas.List.{length-set, length-map}
+use Rattle.timetable.specs.Day.{Day, arrives, to_of, reallocation_of, home_of, units_of, unit_count, types_of, type_of}
+use Rattle.timetable.specs.Lists.{count_of, IsDistinct}
+use Rattle.timetable.specs.Accepted.{IsDay}
+use Rattle.timetable.specs.Admissible.{is_admissible}
+use Rattle.timetable.specs.Links.{list_of, given, taken}
+use Rattle.timetable.specs.Running.{IsPlan}
+use Rattle.timetable.specs.declared.records.Unit as unit
+use Rattle.timetable.specs.declared.records.Trip.{Trip}
+use Rattle.day_simulator.specs.declared.events.DayEvent.{DayEvent}
+use Rattle.day_simulator.specs.declared.events.DayEvent.TheVariants.{Depart, Arrive}
+use Rattle.day_simulator.specs.declared.events.Place.TheVariants.{Yard, Aboard, Standing}
+use Rattle.day_simulator.specs.declared.events.Stage.{Stage}
+use Rattle.day_simulator.specs.declared.events.Stage.TheVariants as stage
+use Rattle.day_simulator.specs.declared.events.StepFault.{StepFault}
+use Rattle.day_simulator.specs.declared.events.StepFault.TheVariants.{NotNow, NoUnits, NotAdmissible, LinkBroken, NotInYard}
+use Rattle.day_simulator.specs.State.{State, start_of, place_of, stage_of, is_waiting, is_under_way, has_arrived, moment_of, put_all}
+use Rattle.day_simulator.specs.Steps.{feeders, is_now, broken_into, broken_out, first_missing, fault_of, after}
+use Rattle.day_simulator.specs.Orders.{IsOrder, departures, arrivals, AllFrom}
+use Rattle.day_simulator.proofs.Order.{one_same, one_other}
+use Rattle.day_simulator.proofs.Lawful.{Lawful, left_depart, left_arrive, lawful_tail, lawful_order, arrived_before}
+use Rattle.day_simulator.proofs.Places.{stage_same, stage_other, HavePlaces, length-put_all, put_in, put_out, Served, served_from_none}
+use Rattle.day_simulator.proofs.Hands.{HandsOver, kept_arrives}
+use Rattle.day_simulator.proofs.Moves.{is_trip, Fits, DistinctSoFar, Boarding, fits_board, fits_pass_depart, fits_give, fits_keep, fits_pass_arrive, boarding_of, boards_once}
+
+pub record Going (day : Day) (plan : List (List ℕ)) (state : State) (es : List DayEvent) : Type 0 where
+  pub lawful : Lawful day es
+  pub moment : AllFrom day state.moment es
+  pub places : length state.places ≡ unit_count day
+  pub stages : length state.stages ≡ length day.trips
+  pub waiting : (t : ℕ) → 1 ≤ departures t es → stage_of state.stages t ≡ stage.Waiting
+  pub under_way : (t : ℕ) → departures t es ≡ 0 → 1 ≤ arrivals t es → stage_of state.stages t ≡ stage.UnderWay
+  pub arrived : (t : ℕ) → arrivals t es ≡ 0 → stage_of state.stages t ≡ stage.Arrived
+  pub fits : (u : ℕ) → u < unit_count day → Fits day plan u (place_of state.places u) es
+  pub so_far : DistinctSoFar plan es
+
+-- a departure without a fault
+pub record Departs (day : Day) (plan : List (List ℕ)) (state : State) (t : ℕ) : Type 0 where
+  pub admissible : is_admissible day t (types_of day (list_of plan t)) ≡ true
+  pub none_missing : first_missing day t state.places (taken day plan t) ≡ None
+
+pub tests_pass : {X : Type 0} (now empty fine : Bool) (x y z : X) (rest : Option X) → cond (not now) (Some x) (cond empty (Some y) (cond (not fine) (Some z) rest)) ≡ None → (fine ≡ true) × (rest ≡ None)
+tests_pass false empty fine x y z rest e = absurd (cc)
+tests_pass true true fine x y z rest e = absurd (cc)
+tests_pass true false false x y z rest e = absurd (cc)
+tests_pass true false true x y z rest e = (refl, e)
+
+pub option_map_none : {X Y : Type 0} (f : X → Y) (o : Option X) → option_map f o ≡ None → o ≡ None
+option_map_none f None e = refl
+option_map_none f (Some x) e = absurd (cc)
+
+pub departs_from_none : (day : Day) (plan : List (List ℕ)) (state : State) (t : ℕ) → broken_into day plan t ≡ None → fault_of day plan state (Depart t) ≡ None → Departs day plan state t
+unfolding fault_of
+departs_from_none day plan state t into e =
+    let rest : Option StepFault = unwrap_or (option_map (λ l. Some (LinkBroken l)) (broken_into day plan t)) (option_map (λ u. NotInYard u t) (first_missing day t state.places (taken day plan t))) in
+    let both = tests_pass (is_now day state (Depart t)) (eqb (length (list_of plan t)) 0) (is_admissible day t (types_of day (list_of plan t))) (NotNow (Depart t)) (NoUnits t) (NotAdmissible t) rest e in
+    let none : option_map (λ u. NotInYard u t) (first_missing day t state.places (taken day plan t)) ≡ None = rw into at both.1 in
+    record { admissible = both.0; none_missing = option_map_none (λ u. NotInYard u t) (first_missing day t state.places (taken day plan t)) none }
+
+some_units : (day : Day) (t : ℕ) (types : List ℕ) → is_admissible day t types ≡ true → 1 ≤ length types
+unfolding is_admissible
+some_units day t types e = leb-true 1 (length types) (and_parts _ _ (and_parts _ _ (and_parts _ _ (and_parts _ _ e).0).0).0).0
+
+pub none_from_departs : (day : Day) (plan : List (List ℕ)) (state : State) (t : ℕ) → is_now day state (Depart t) ≡ true → broken_into day plan t ≡ None → Departs day plan state t → fault_of day plan state (Depart t) ≡ None
+unfolding fault_of
+none_from_departs day plan state t now into h =
+    let some = some_units day t (types_of day (list_of plan t)) h.admissible in
+    let same = length-map (list_of plan t) (type_of day) in
+    let filled : eqb (length (list_of plan t)) 0 ≡ false = ne_eqb (length (list_of plan t)) 0 (λ e. absurd (omega arith)) in
+    rw (now, filled, h.admissible, into, h.none_missing) refl
+
+pub none_from_arrives : (day : Day) (plan : List (List ℕ)) (state : State) (t : ℕ) → is_now day state (Arrive t) ≡ true → broken_out day plan t ≡ None → fault_of day plan state (Arrive t) ≡ None
+unfolding fault_of
+none_from_arrives day plan state t now out = rw (now, out) refl
+
+have_places : (day : Day) (plan : List (List ℕ)) (t n : ℕ) (us : List ℕ) → IsPlan day plan → n ≡ unit_count day → ((u : ℕ) → count_of u us ≤ count_of u (list_of plan t)) → HavePlaces n us
+have_places day plan t n us is_plan same le = record {
+  within = λ v c. let l = le v in let lt = is_plan.units t v (le-leb 1 (count_of v (list_of plan t)) (omega arith)) in omega arith;
+}
+
+all_arrived : (stages : List Stage) (ts : List ℕ) → ((a : ℕ) → 1 ≤ count_of a ts → stage_of stages a ≡ stage.Arrived) → list_all (λ a. has_arrived (stage_of stages a)) ts ≡ true
+all_arrived stages [] h = refl
+all_arrived stages (a ∷ ts) h =
+    let o = one_same a a refl in
+    and_from (has_arrived (stage_of stages a)) (list_all (λ a. has_arrived (stage_of stages a)) ts) (ap has_arrived (h a (omega arith))) (all_arrived stages ts (λ x c. h x (omega arith)))
+
+module _ (day : Day) (plan : List (List ℕ)) (is_day : IsDay day) (is_plan : IsPlan day plan) (hands : HandsOver day plan) where
+  pub taken_within : (t u : ℕ) → count_of u (taken day plan t) ≤ count_of u (list_of plan t)
+  taken_within t u = let total = (hands.takes t).total u in omega arith
+
+  pub given_within : (t u : ℕ) → count_of u (given day plan t) ≤ count_of u (list_of plan t)
+  given_within t u = let total = (hands.gives t).total u in omega arith
+
+  pub now_depart : (state : State) (t : ℕ) (es : List DayEvent) → Going day plan state (Depart t ∷ es) → is_now day state (Depart t) ≡ true
+  unfolding is_now
+  now_depart state t es g =
+      let o = one_same t t refl in
+      and_from _ _
+      (and_from _ _ (le-leb state.moment (moment_of day (Depart t)) g.moment.0) (ap is_waiting (g.waiting t (omega arith))))
+      (all_arrived state.stages (feeders day t) (λ a c. g.arrived a (arrived_before day a t es (hands.before a t c) g.lawful)))
+
+  pub now_arrive : (state : State) (t : ℕ) (es : List DayEvent) → Going day plan state (Arrive t ∷ es) → is_now day state (Arrive t) ≡ true
+  unfolding is_now
+  now_arrive state t es g =
+      let o = one_same t t refl in
+      and_from _ _ (le-leb state.moment (moment_of day (Arrive t)) g.moment.0) (ap is_under_way (g.under_way t (left_arrive day t es is_day g.lawful).departs (omega arith)))
+
+  -- where units are after an event
+  module _ (state : State) (t : ℕ) (same : length state.places ≡ unit_count day) where
+    pub place_aboard : (u : ℕ) → 1 ≤ count_of u (list_of plan t) → place_of (after day plan state (Depart t)).places u ≡ Aboard t
+    unfolding after
+    place_aboard u c = put_in state.places (list_of plan t) (Aboard t) u (have_places day plan t _ (list_of plan t) is_plan same (λ v. omega arith)) c
+
+    pub place_stays : (u : ℕ) → count_of u (list_of plan t) ≡ 0 → place_of (after day plan state (Depart t)).places u ≡ place_of state.places u
+    unfolding after
+    place_stays u c = put_out state.places (list_of plan t) (Aboard t) u c
+
+    pub place_given : (u : ℕ) → 1 ≤ count_of u (given day plan t) → place_of (after day plan state (Arrive t)).places u ≡ Yard (to_of day t) (arrives day t + reallocation_of day (to_of day t))
+    unfolding after
+    place_given u c = put_in (put_all state.places (list_of plan t) (Standing t)) (given day plan t) (Yard (to_of day t) (arrives day t + reallocation_of day (to_of day t))) u
+        (have_places day plan t _ (given day plan t) is_plan (length-put_all state.places (list_of plan t) (Standing t) ∙ same) (given_within t)) c
+
+    pub place_kept : (u : ℕ) → 1 ≤ count_of u (list_of plan t) → count_of u (given day plan t) ≡ 0 → place_of (after day plan state (Arrive t)).places u ≡ Standing t
+    unfolding after
+    place_kept u c none =
+        put_out (put_all state.places (list_of plan t) (Standing t)) (given day plan t) _ u none
+        ∙ put_in state.places (list_of plan t) (Standing t) u (have_places day plan t _ (list_of plan t) is_plan same (λ v. omega arith)) c
+
+    pub place_remains : (u : ℕ) → count_of u (list_of plan t) ≡ 0 → place_of (after day plan state (Arrive t)).places u ≡ place_of state.places u
+    unfolding after
+    place_remains u none =
+        let le = given_within t u in
+        put_out (put_all state.places (list_of plan t) (Standing t)) (given day plan t) _ u (omega arith)
+        ∙ put_out state.places (list_of plan t) (Standing t) u none
+
+  served_of : (state : State) (t : ℕ) (es : List DayEvent) → Going day plan state (Depart t ∷ es) → Departs day plan state t → Served day t state.places (taken day plan t)
+  served_of state t es g h = served_from_none day t state.places (taken day plan t) (have_places day plan t _ (taken day plan t) is_plan g.places (taken_within t)) h.none_missing
+
+  pub boarding : (state : State) (t : ℕ) (es : List DayEvent) (u : ℕ) → Going day plan state (Depart t ∷ es) → Departs day plan state t → 1 ≤ count_of u (list_of plan t) → Boarding day plan u t (place_of state.places u)
+  boarding state t es u g h c =
+      boarding_of day plan is_day is_plan hands u t (place_of state.places u) es g.lawful c
+      (λ k. (served_of state t es g h).ready.ready u k)
+      (g.fits u (is_plan.units t u (le-leb 1 (count_of u (list_of plan t)) c)))
+
+  pub distinct_here : (state : State) (t : ℕ) (es : List DayEvent) → Going day plan state (Depart t ∷ es) → Departs day plan state t → IsDistinct (list_of plan t)
+  distinct_here state t es g h u =
+      ⊎_elim (λ (c : 0 < count_of u (list_of plan t)).
+      boards_once day plan is_day is_plan hands u t (place_of state.places u) es g.lawful g.so_far ((served_of state t es g h).distinct u)
+      (λ k. (served_of state t es g h).ready.ready u k)
+      (g.fits u (is_plan.units t u (le-leb 1 (count_of u (list_of plan t)) (omega arith)))))
+      (λ (c : count_of u (list_of plan t) ≤ 0). omega arith) (cases_lt 0 (count_of u (list_of plan t)))
+
+  pub going_depart : (state : State) (t : ℕ) (es : List DayEvent) → Going day plan state (Depart t ∷ es) → Departs day plan state t → Going day plan (after day plan state (Depart t)) es
+  unfolding after
+  going_depart state t es g h =
+      let left = left_depart day t es g.lawful in
+      let range : t < length state.stages = (let trip = left.trip in let same = g.stages in omega arith) in
+      record {
+        lawful = lawful_tail day (Depart t) es is_day g.lawful;
+        moment = g.lawful.never_falls.0;
+        places = length-put_all state.places (list_of plan t) (Aboard t) ∙ g.places;
+        stages = length-set state.stages t stage.UnderWay ∙ g.stages;
+        waiting = λ s c.
+            let ne : s ≢ t = λ e. (let c' = subst (λ x. 1 ≤ departures x es) e c in let none = left.departs in absurd (omega arith)) in
+            stage_other state.stages t s stage.UnderWay ne ∙ g.waiting s (omega arith);
+        under_way = λ s d a. ⊎_elim (λ (e : t ≡ s). subst (λ x. stage_of (slice_set state.stages t stage.UnderWay) x ≡ stage.UnderWay) e (stage_same state.stages t stage.UnderWay range))
+            (λ (ne : t ≢ s). let o = one_other t s ne in stage_other state.stages t s stage.UnderWay (λ e. ne (sym e)) ∙ g.under_way s (omega arith) a) (cases_eq t s);
+        arrived = λ s z.
+            let ne : s ≢ t = λ e. (let z' = subst (λ x. arrivals x es ≡ 0) e z in let yet = left.arrives in absurd (omega arith)) in
+            stage_other state.stages t s stage.UnderWay ne ∙ g.arrived s z;
+        fits = λ u lt. ⊎_elim
+            (λ (c : 0 < count_of u (list_of plan t)).
+            let mine : 1 ≤ count_of u (list_of plan t) = omega arith in
+            subst (λ p. Fits day plan u p es) (sym (place_aboard state t g.places u mine))
+            (fits_board day plan is_day is_plan hands u t (place_of state.places u) es g.lawful g.so_far mine (g.fits u lt) (boarding state t es u g h mine)))
+            (λ (c : count_of u (list_of plan t) ≤ 0).
+            let none : count_of u (list_of plan t) ≡ 0 = omega arith in
+            subst (λ p. Fits day plan u p es) (sym (place_stays state t g.places u none))
+            (fits_pass_depart day plan is_day is_plan hands u t (place_of state.places u) es none (g.fits u lt)))
+            (cases_lt 0 (count_of u (list_of plan t)));
+        so_far = record {
+          distinct = λ a none. ⊎_elim (λ (e : t ≡ a). subst (λ x. IsDistinct (list_of plan x)) e (distinct_here state t es g h))
+              (λ (ne : t ≢ a). let o = one_other t a ne in g.so_far.distinct a (omega arith)) (cases_eq t a);
+        };
+      }
+
+  pub going_arrive : (state : State) (t : ℕ) (es : List DayEvent) → Going day plan state (Arrive t ∷ es) → Going day plan (after day plan state (Arrive t)) es
+  unfolding after
+  going_arrive state t es g =
+      let left = left_arrive day t es is_day g.lawful in
+      let range : t < length state.stages = (let trip = left.trip in let same = g.stages in omega arith) in
+      let here = one_same t t refl in
+      record {
+        lawful = lawful_tail day (Arrive t) es is_day g.lawful;
+        moment = g.lawful.never_falls.0;
+        places = length-put_all (put_all state.places (list_of plan t) (Standing t)) (given day plan t) _ ∙ length-put_all state.places (list_of plan t) (Standing t) ∙ g.places;
+        stages = length-set state.stages t stage.Arrived ∙ g.stages;
+        waiting = λ s c.
+            let ne : s ≢ t = λ e. (let c' = subst (λ x. 1 ≤ departures x es) e c in let none = left.departs in absurd (omega arith)) in
+            stage_other state.stages t s stage.Arrived ne ∙ g.waiting s c;
+        under_way = λ s d a.
+            let ne : s ≢ t = λ e. (let a' = subst (λ x. 1 ≤ arrivals x es) e a in let none = left.arrives in absurd (omega arith)) in
+            stage_other state.stages t s stage.Arrived ne ∙ g.under_way s d (omega arith);
+        arrived = λ s z. ⊎_elim (λ (e : t ≡ s). subst (λ x. stage_of (slice_set state.stages t stage.Arrived) x ≡ stage.Arrived) e (stage_same state.stages t stage.Arrived range))
+            (λ (ne : t ≢ s). let o = one_other t s ne in stage_other state.stages t s stage.Arrived (λ e. ne (sym e)) ∙ g.arrived s (omega arith)) (cases_eq t s);
+        fits = λ u lt. ⊎_elim
+            (λ (c : 0 < count_of u (list_of plan t)).
+            let mine : 1 ≤ count_of u (list_of plan t) = omega arith in
+            ⊎_elim
+            (λ (d : 0 < count_of u (given day plan t)).
+            let gives : 1 ≤ count_of u (given day plan t) = omega arith in
+            subst (λ p. Fits day plan u p es) (sym (place_given state t g.places u gives))
+            (fits_give day plan is_day is_plan hands u t _ _ (place_of state.places u) es g.lawful g.so_far mine gives (g.fits u lt)))
+            (λ (d : count_of u (given day plan t) ≤ 0).
+            let none : count_of u (given day plan t) ≡ 0 = omega arith in
+            subst (λ p. Fits day plan u p es) (sym (place_kept state t g.places u mine none))
+            (fits_keep day plan is_day is_plan hands u t (place_of state.places u) es g.lawful mine none (g.fits u lt)))
+            (cases_lt 0 (count_of u (given day plan t))))
+            (λ (c : count_of u (list_of plan t) ≤ 0).
+            let none : count_of u (list_of plan t) ≡ 0 = omega arith in
+            subst (λ p. Fits day plan u p es) (sym (place_remains state t g.places u none))
+            (fits_pass_arrive day plan is_day is_plan hands u t (place_of state.places u) es none (g.fits u lt)))
+            (cases_lt 0 (count_of u (list_of plan t)));
+        so_far = record { distinct = g.so_far.distinct };
+      }
+
+home_place : (us : List unit.Unit) (u : ℕ) → u < length us → unwrap_or (slice_get (map (λ unit. Yard unit.home 0) us) u) (Yard 0 0) ≡ Yard (unwrap_or (option_map (λ (x : unit.Unit). x.home) (slice_get us u)) 0) 0
+home_place [] u lt = absurd (omega arith)
+home_place (x ∷ us) zero lt = refl
+home_place (x ∷ us) (suc u) lt = home_place us u (omega arith)
+
+-- at the start each unit is at home
+pub start_place : (day : Day) (u : ℕ) → u < unit_count day → place_of (start_of day).places u ≡ Yard (home_of day u) 0
+unfolding start_of place_of home_of
+start_place day u lt = home_place (units_of day) u lt
+
+waits : (trips : List Trip) (t : ℕ) → t < length trips → unwrap_or (slice_get (map (λ trip. stage.Waiting) trips) t) stage.Arrived ≡ stage.Waiting
+waits [] t lt = absurd (omega arith)
+waits (x ∷ trips) zero lt = refl
+waits (x ∷ trips) (suc t) lt = waits trips t (omega arith)
+
+gone_already : (trips : List Trip) (t : ℕ) → length trips ≤ t → unwrap_or (slice_get (map (λ trip. stage.Waiting) trips) t) stage.Arrived ≡ stage.Arrived
+gone_already [] t lt = refl
+gone_already (x ∷ trips) zero lt = absurd (omega arith)
+gone_already (x ∷ trips) (suc t) lt = gone_already trips t (omega arith)
+
+start_waits : (day : Day) (t : ℕ) → t < length day.trips → stage_of (start_of day).stages t ≡ stage.Waiting
+unfolding start_of stage_of
+start_waits day t lt = waits day.trips t lt
+
+start_gone : (day : Day) (t : ℕ) → length day.trips ≤ t → stage_of (start_of day).stages t ≡ stage.Arrived
+unfolding start_of stage_of
+start_gone day t ge = gone_already day.trips t ge
+
+from_zero : (day : Day) (es : List DayEvent) → AllFrom day 0 es
+from_zero day [] = tt
+from_zero day (e ∷ es) = (omega arith, from_zero day es)
+
+pub going_start : (day : Day) (plan : List (List ℕ)) (es : List DayEvent) → IsOrder day es → IsPlan day plan → HandsOver day plan → Going day plan (start_of day) es
+unfolding start_of
+going_start day plan es order is_plan hands = record {
+  lawful = lawful_order day es order;
+  moment = from_zero day es;
+  places = length-map (units_of day) _;
+  stages = length-map day.trips _;
+  waiting = λ t c. start_waits day t (in_day t (let too = (lawful_order day es order).departs_too t in omega arith));
+  under_way = λ t d a. (let one = order.departs_once t (in_day t a) in absurd (omega arith));
+  arrived = λ t z. start_gone day t (past t z);
+  fits = λ u lt. subst (λ p. Fits day plan u p es) (sym (start_place day u lt)) (record {
+    under_way = λ t c d a. (let one = order.departs_once t (in_day t a) in absurd (omega arith));
+    pending = λ a b k gone yet.
+        let le = kept_arrives day plan hands u a b in
+        let trip = is_trip day plan u a is_plan (omega arith) in
+        let one = order.arrives_once a trip in
+        absurd (omega arith);
+    aboard = λ t e. absurd (cc);
+    standing = λ t e. absurd (cc);
+  });
+  so_far = record {
+    distinct = λ a none u.
+        ⊎_elim (λ (c : 0 < count_of u (list_of plan a)).
+        let trip = is_trip day plan u a is_plan (omega arith) in
+        let one = order.departs_once a trip in
+        absurd (omega arith))
+        (λ (c : count_of u (list_of plan a) ≤ 0). omega arith) (cases_lt 0 (count_of u (list_of plan a)));
+  };
+}
+  where
+    in_day : (t : ℕ) → 1 ≤ arrivals t es → t < length day.trips
+    in_day t c = ⊎_elim (λ (lt : t < length day.trips). lt)
+        (λ (ge : length day.trips ≤ t). let z = (lawful_order day es order).in_range t ge in absurd (omega arith)) (cases_lt t (length day.trips))
+
+    past : (t : ℕ) → arrivals t es ≡ 0 → length day.trips ≤ t
+    past t z = ⊎_elim (λ (lt : t < length day.trips). (let one = order.arrives_once t lt in absurd (omega arith)))
+        (λ (ge : length day.trips ≤ t). ge) (cases_lt t (length day.trips))

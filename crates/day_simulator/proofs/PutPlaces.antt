@@ -1,0 +1,78 @@
+-- Where units are after some were put to a place.
+use Rattle.std.proofs.Common.{◌≡◌, ◌≢◌, ℕ, ◌+◌, ◌<◌, ◌≤◌, List, [], ◌∷◌, ◌++◌, length, get_or, set, take, Bool, true, false, cond, refl, sym, ap, ◌∙◌, subst, arith, leb, eq-eqb, ne_eqb, ⊎_elim}
+use Rattle.std.specs.Prelude.{slice_set, ◌==◌, ◌||◌}
+use Rattle.std.specs.List.{list_any}
+use Rattle.std.proofs.lemmas.Bool.Decides.{nat_tests}
+use Rattle.std.proofs.lemmas.Bool.{le-leb, cases_eq}
+use Rattle.std.proofs.lemmas.Option.{unwrap_or-slice_get}
+use Rattle.std.proofs.lemmas.List.{take_more, length-set, get_or-set_same, get_or-set_other}
+use Rattle.timetable.specs.Lists.{count_of, has}
+use Rattle.day_simulator.specs.declared.events.Place.{Place}
+use Rattle.day_simulator.specs.declared.events.Place.TheVariants.{Yard}
+use Rattle.day_simulator.specs.State.{place_of, put_all}
+
+-- as many places as before
+pub length-put_all : (ps : List Place) (us : List ℕ) (p : Place) → length (put_all ps us p) ≡ length ps
+length-put_all ps [] p = refl
+length-put_all ps (u ∷ us) p = length-put_all (set ps u p) us p ∙ length-set ps u p
+
+pub put_all-append : (ps : List Place) (us vs : List ℕ) (p : Place) → put_all ps (us ++ vs) p ≡ put_all (put_all ps us p) vs p
+put_all-append ps [] vs p = refl
+put_all-append ps (u ∷ us) vs p = put_all-append (set ps u p) us vs p
+
+-- one more unit is put to the place
+pub put_all-more : (ps : List Place) (us : List ℕ) (k u : ℕ) (p : Place) → k < length us → u ≡ get_or us k u
+    → slice_set (put_all ps (take k us) p) u p ≡ put_all ps (take (k + 1) us) p
+put_all-more ps us k u p h e =
+    let there : take (k + 1) us ≡ take k us ++ u ∷ [] = rw (take_more us k u h, ← e) refl in
+    rw there (sym (put_all-append ps (take k us) (u ∷ []) p))
+
+pub place_of-get_or : (ps : List Place) (u : ℕ) → place_of ps u ≡ get_or ps u (Yard 0 0)
+unfolding place_of
+place_of-get_or ps u = unwrap_or-slice_get ps u (Yard 0 0)
+
+-- where a unit is after one was put to a place
+pub place_of-set_same : (ps : List Place) (u : ℕ) (p : Place) → u < length ps → place_of (set ps u p) u ≡ p
+place_of-set_same ps u p h = place_of-get_or (set ps u p) u ∙ get_or-set_same ps u p (Yard 0 0) h
+
+pub place_of-set_other : (ps : List Place) (v u : ℕ) (p : Place) → u ≢ v → place_of (set ps v p) u ≡ place_of ps u
+place_of-set_other ps v u p h = place_of-get_or (set ps v p) u ∙ get_or-set_other ps v u p (Yard 0 0) h ∙ sym (place_of-get_or ps u)
+
+cond_same : {X : Type 0} (b : Bool) (x : X) → cond b x x ≡ x
+cond_same true x = refl
+cond_same false x = refl
+
+has_first : (v u : ℕ) (us : List ℕ) → v ≡ u → has u (v ∷ us) ≡ true
+has_first v u us e = let one : 1 ≤ count_of u (v ∷ us) = grind (arith, nat_tests) in le-leb 1 (count_of u (v ∷ us)) one
+
+has_later : (v u : ℕ) (us : List ℕ) → v ≢ u → has u (v ∷ us) ≡ has u us
+has_later v u us ne = let same : count_of u (v ∷ us) ≡ count_of u us = grind (arith, nat_tests) in ap (λ (n : ℕ). leb 1 n) same
+
+-- where a unit is after these were put to a place
+pub place_of-put_all : (ps : List Place) (us : List ℕ) (p : Place) (u : ℕ) → u < length ps
+    → place_of (put_all ps us p) u ≡ cond (has u us) p (place_of ps u)
+place_of-put_all ps [] p u h = refl
+place_of-put_all ps (v ∷ us) p u h =
+    place_of-put_all (set ps v p) us p u (omega (arith, length-set ps v p))
+    ∙ ⊎_elim here there (cases_eq v u)
+  where
+    here : v ≡ u → cond (has u us) p (place_of (set ps v p) u) ≡ cond (has u (v ∷ us)) p (place_of ps u)
+    here e =
+        let put : place_of (set ps v p) u ≡ p = subst (λ (w : ℕ). place_of (set ps w p) u ≡ p) (sym e) (place_of-set_same ps u p h) in
+        ap (λ (q : Place). cond (has u us) p q) put ∙ cond_same (has u us) p ∙ sym (ap (λ (b : Bool). cond b p (place_of ps u)) (has_first v u us e))
+
+    there : v ≢ u → cond (has u us) p (place_of (set ps v p) u) ≡ cond (has u (v ∷ us)) p (place_of ps u)
+    there ne =
+        ap (λ (q : Place). cond (has u us) p q) (place_of-set_other ps v u p (λ e. ne (sym e)))
+        ∙ ap (λ (b : Bool). cond b p (place_of ps u)) (sym (has_later v u us ne))
+
+-- the test for a unit among others
+pub list_any-has : (us : List ℕ) (u : ℕ) → list_any (λ v. v == u) us ≡ has u us
+list_any-has [] u = refl
+list_any-has (v ∷ us) u = ⊎_elim here (there (list_any-has us u)) (cases_eq v u)
+  where
+    here : v ≡ u → (v == u) || list_any (λ v. v == u) us ≡ has u (v ∷ us)
+    here e = ap (λ (b : Bool). b || list_any (λ v. v == u) us) (eq-eqb v u e) ∙ sym (has_first v u us e)
+
+    there : list_any (λ v. v == u) us ≡ has u us → v ≢ u → (v == u) || list_any (λ v. v == u) us ≡ has u (v ∷ us)
+    there later ne = ap (λ (b : Bool). b || list_any (λ v. v == u) us) (ne_eqb v u ne) ∙ later ∙ sym (has_later v u us ne)

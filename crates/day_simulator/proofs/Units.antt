@@ -1,0 +1,68 @@
+-- Units in a list, and their types.
+use Rattle.std.proofs.Common.{◌≡◌, ℕ, zero, suc, ◌+◌, ◌*◌, ◌<◌, ◌≤◌, List, [], ◌∷◌, ◌++◌, length, get_or, take, map, Option, Some, None, ⊎_elim, true, IsTrue, refl, sym, ap, ◌∙◌, subst, arith, unwrap_or, slice_get}
+use Rattle.std.specs.Prelude.{option_map}
+use Rattle.std.proofs.lemmas.Bool.Decides.{nat_tests}
+use Rattle.std.proofs.lemmas.Bool.{le-leb, leb-true, and_from}
+use Rattle.std.proofs.lemmas.Option.{slice_get_cases}
+use Rattle.std.specs.List.{All}
+use Rattle.compositions.specs.declared.types.UnitType.{UnitType}
+use Rattle.compositions.specs.Composition.{of_type, carriages_of, are_types}
+use Rattle.timetable.specs.Accepted.{IsDay, IsUnitType}
+use Rattle.std.proofs.lemmas.List.{take_more, map-append}
+use Rattle.timetable.specs.declared.records.Unit as unit
+use Rattle.timetable.specs.Lists.{count_of, has}
+use Rattle.timetable.specs.Day.{Day, units_of, type_of, types_of, unit_count}
+use Rattle.day_simulator.specs.Trips.{AreUnits}
+
+count_at : (us : List ℕ) (k d : ℕ) → k < length us → 1 ≤ count_of (get_or us k d) us
+count_at [] k d h = absurd (omega arith)
+count_at (x ∷ us) zero d h = grind (arith, nat_tests)
+count_at (x ∷ us) (suc k) d h = omega (arith, count_at us k d (omega arith))
+
+-- a list has what stands at a place of it
+pub has_at : (us : List ℕ) (k u : ℕ) → k < length us → u ≡ get_or us k u → IsTrue (has u us)
+has_at us k u h e = let one : 1 ≤ count_of u us = subst (λ (v : ℕ). 1 ≤ count_of v us) (sym e) (count_at us k u h) in le-leb 1 (count_of u us) one
+
+-- a unit of a list is a unit of the day
+pub unit_at : (day : Day) (us : List ℕ) (k u : ℕ) → AreUnits day us → k < length us → u ≡ get_or us k u → u < unit_count day
+unit_at day us k u known h e = known u (has_at us k u h e)
+
+-- the type of a unit that is there
+pub type_is : (day : Day) (u : ℕ) (x : unit.Unit) → slice_get (units_of day) u ≡ Some x → type_of day u ≡ x.unit_type
+unfolding type_of
+type_is day u x e = ap (λ (o : Option unit.Unit). unwrap_or (option_map (λ x. x.unit_type) o) 0) e
+
+-- the types of one more unit
+pub types_more : (day : Day) (us : List ℕ) (k u : ℕ) (x : unit.Unit) → k < length us → u ≡ get_or us k u → slice_get (units_of day) u ≡ Some x
+    → types_of day (take (k + 1) us) ≡ types_of day (take k us) ++ x.unit_type ∷ []
+types_more day us k u x h e s =
+    let there : take (k + 1) us ≡ take k us ++ u ∷ [] = rw (take_more us k u h, ← e) refl in
+    rw there (map-append (type_of day) (take k us) (u ∷ []) ∙ ap (λ (m : ℕ). map (type_of day) (take k us) ++ m ∷ []) (type_is day u x s))
+
+has_first : (u : ℕ) (us : List ℕ) → IsTrue (has u (u ∷ us))
+has_first u us = has_at (u ∷ us) 0 u (omega arith) refl
+
+has_later : (v u : ℕ) (us : List ℕ) → IsTrue (has u us) → IsTrue (has u (v ∷ us))
+has_later v u us h = let more : 1 ≤ count_of u us = leb-true 1 (count_of u us) h in le-leb 1 (count_of u (v ∷ us)) (omega arith)
+
+-- the types of units are types of the day
+pub types_known : (day : Day) (us : List ℕ) → IsDay day → AreUnits day us → are_types day.types (types_of day us) ≡ true
+types_known day [] sound known = refl
+types_known day (u ∷ us) sound known =
+    and_from _ _ (le-leb (suc (type_of day u)) (length day.types) (sound.unit_type u (known u (has_first u us))))
+    (types_known day us sound (λ v h. known v (has_later u v us h)))
+
+-- a type has at most 20 carriages
+carriages_of_type : (types : List UnitType) (m : ℕ) → All IsUnitType types → of_type (λ t. t.carriages) types m ≤ 20
+carriages_of_type types m each = ⊎_elim (λ w. there w.0 w.1 w.2 w.3) (λ w. nothing w.1) (slice_get_cases types m).1
+  where
+    there : (x : UnitType) → m < length types → slice_get types m ≡ Some x → get_or types m x ≡ x → of_type (λ t. t.carriages) types m ≤ 20
+    there x inside e same = rw e (subst (λ (y : UnitType). y.carriages ≤ 20) same (each m x inside).carriages)
+
+    nothing : slice_get types m ≡ None → of_type (λ t. t.carriages) types m ≤ 20
+    nothing e = rw e (omega arith)
+
+-- six units have at most 120
+pub carriages_le : (types : List UnitType) (ms : List ℕ) → All IsUnitType types → carriages_of types ms ≤ 20 * length ms
+carriages_le types [] each = omega arith
+carriages_le types (m ∷ ms) each = omega (arith, carriages_of_type types m each, carriages_le types ms each)

@@ -1,0 +1,37 @@
+use Rattle.std.proofs.Common.{◌≡◌, ◌<◌, ◌≤◌, false, sym, ap, ◌∙◌, subst, arith, length}
+use Rattle.day_simulator.specs.declared.events.DayEvent.TheVariants.{Depart, Arrive}
+use Rattle.day_simulator.specs.Progressing.{Progress}
+use Rattle.day_simulator.specs.Progress.{progress_in}
+use Rattle.day_simulator.specs.State.{is_waiting, is_under_way, moment_of}
+use Rattle.day_simulator.specs.Steps.{is_now}
+use Rattle.day_simulator.proofs.Unlinked.{too_late, departure_in_time, arrival_in_time}
+use Rattle.day_simulator.proofs.Missing.{stage_read}
+use Rattle.day_simulator.proofs.day.Day.is_now.Goals as goal
+
+pub returns-then-self-moment_of : goal.returns-then-self-moment_of
+returns-then-self-moment_of c =
+    let p = progress_in c.self.inside in
+    subst (λ (q : Progress). false ≡ is_now q.day q.state c.args.event) c.self.view_is
+    (too_late p.day c.self.invariant.without_links p.state c.args.event (omega arith))
+
+pub returns-in-Depart : goal.returns-in-Depart
+returns-in-Depart c =
+    let p = progress_in c.self.inside in
+    let t = c.in-Depart.trip in
+    let within : t < length p.day.trips = subst (λ (q : Progress). t < length q.day.trips) (sym c.self.view_is) (rw c.in-Depart.is at c.requires) in
+    let not_passed : p.state.moment ≤ moment_of p.day c.args.event = omega (arith, c.moment_of.ensures) in
+    let in_time : p.state.moment ≤ moment_of p.day (Depart t) = rw c.in-Depart.is at not_passed in
+    let read = stage_read p.state.stages t c.place.result c.index.result.now c.place.ensures.number (omega (arith, c.place.ensures.number, c.self.invariant.stages, within)) c.index.ensures in
+    subst (λ (q : Progress). c.is_waiting.result ≡ is_now q.day q.state c.args.event) c.self.view_is
+    (c.is_waiting.ensures ∙ ap is_waiting (sym read) ∙ sym (departure_in_time p.day c.self.invariant.without_links p.state t in_time) ∙ ap (is_now p.day p.state) (sym c.in-Depart.is))
+
+pub returns-in-Arrive : goal.returns-in-Arrive
+returns-in-Arrive c =
+    let p = progress_in c.self.inside in
+    let t = c.in-Arrive.trip in
+    let within : t < length p.day.trips = subst (λ (q : Progress). t < length q.day.trips) (sym c.self.view_is) (rw c.in-Arrive.is at c.requires) in
+    let not_passed : p.state.moment ≤ moment_of p.day c.args.event = omega (arith, c.moment_of.ensures) in
+    let in_time : p.state.moment ≤ moment_of p.day (Arrive t) = rw c.in-Arrive.is at not_passed in
+    let read = stage_read p.state.stages t c.place-in-Arrive.result c.index-in-Arrive.result.now c.place-in-Arrive.ensures.number (omega (arith, c.place-in-Arrive.ensures.number, c.self.invariant.stages, within)) c.index-in-Arrive.ensures in
+    subst (λ (q : Progress). c.is_under_way.result ≡ is_now q.day q.state c.args.event) c.self.view_is
+    (c.is_under_way.ensures ∙ ap is_under_way (sym read) ∙ sym (arrival_in_time p.day c.self.invariant.without_links p.state t in_time) ∙ ap (is_now p.day p.state) (sym c.in-Arrive.is))

@@ -1,0 +1,26 @@
+-- The machine and the conditions on a plan say the same.
+use Rattle.std.specs.Prelude.{ℕ, ◌≡◌, List, [], Ok}
+use Rattle.timetable.specs.Day.{Day}
+use Rattle.timetable.specs.Accepted.{IsDay, AreLinks}
+use Rattle.timetable.specs.Running.{IsPlan, Runs}
+use Rattle.timetable.specs.Cost.{plan_cost}
+use Rattle.day_simulator.specs.declared.events.DayEvent.{DayEvent}
+use Rattle.day_simulator.specs.Finish.{simulation}
+use Rattle.day_simulator.specs.Orders.{IsOrder, RunsInOrder}
+
+-- In every order of its events, the day goes through to its end exactly where the plan runs, and always ends alike.
+abbrev pub InEveryOrder : Type 0
+InEveryOrder = (day : Day) (plan : List (List ℕ)) (events : List DayEvent) → IsDay day → AreLinks day → IsPlan day plan → IsOrder day events → RunsInOrder day plan events
+
+-- In the fixed order, the day goes through to its end exactly where the plan runs, and costs what the plan costs.
+abbrev pub RunsExactly : Day → List (List ℕ) → Type 0
+RunsExactly day plan = (Runs day plan → simulation day plan ≡ Ok (plan_cost day plan))
+    × ((cost : ℕ) → simulation day plan ≡ Ok cost → Runs day plan × (cost ≡ plan_cost day plan))
+
+-- on every day, whatever its links
+abbrev pub WithLinks : Type 0
+WithLinks = (day : Day) (plan : List (List ℕ)) → IsDay day → AreLinks day → IsPlan day plan → RunsExactly day plan
+
+-- on a day without links
+abbrev pub WithoutLinks : Type 0
+WithoutLinks = (day : Day) (plan : List (List ℕ)) → IsDay day → IsPlan day plan → day.links ≡ [] → RunsExactly day plan

@@ -1,0 +1,12 @@
+pub mod State
+pub mod Trips
+pub mod Steps
+pub mod Finish
+pub mod Progressing
+pub mod Progress
+pub mod Orders
+pub mod Laws
+pub use Rattle.timetable.specs.Day
+pub use Rattle.timetable.specs.Links
+pub use Rattle.timetable.specs.Running
+pub use Rattle.timetable.specs.Cost

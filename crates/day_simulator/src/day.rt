@@ -1,0 +1,219 @@
+//! The day as it goes from event to event.
+
+ghost use Rattle.std.specs.Prelude.{◌≡◌, ◌<◌, ◌≤◌, [], ℕ, length, map, IfOk};
+ghost use Rattle.timetable.specs.Day.{units_of};
+ghost use Rattle.timetable.specs.Running.{IsPlan};
+ghost use Rattle.day_simulator.specs.State.{start_of, is_waiting, is_under_way};
+ghost use Rattle.day_simulator.specs.Trips.{trip_of};
+ghost use Rattle.day_simulator.specs.Steps.{fault_of, is_now, fixed_order};
+ghost use Rattle.day_simulator.specs.Progressing.{MakesStep, Finishes};
+ghost use Rattle.day_simulator.specs.Finish.{first_not_made, first_differing};
+ghost use Rattle.timetable.specs.Lists.{below};
+ghost use Rattle.day_simulator.specs.declared.events.DayEvent.TheVariants.{Depart, Arrive};
+ghost use Rattle.day_simulator.specs.declared.events.Place.TheVariants.{Yard};
+ghost use Rattle.day_simulator.specs.declared.events.Stage.TheVariants as stage;
+
+use crate::balance::{first_differing, first_not_made};
+use crate::cost::plan_cost;
+use crate::events::{DayEvent, Place, Stage, StepFault};
+use crate::sequence::{fixed_order, moment_of};
+use crate::trips::{arrival, goal, is_admissible, reallocation};
+use crate::yards::{first_missing, put_all};
+use rail_base::{Money, NoMemory, TripNo, UnitNo};
+use std::alloc::Global;
+use std::marker::Model;
+use timetable::{Instance, NamedPlan};
+
+/// A day that follows a plan from event to event. A contract sees the day, the plan and the state that it has come to.
+#[derive(Drop)]
+pub struct Day<'a> {
+    instance: &'a Instance,
+    plan: &'a NamedPlan,
+    order: Vec<DayEvent>,
+    places: Vec<Place>,
+    stages: Vec<Stage>,
+    moment: u32,
+}
+
+impl<'a> Model for Day<'a> {
+    ghost use Rattle.day_simulator.specs.Progressing.{Progress};
+
+    ghost Value = { Progress };
+
+    ghost use Rattle.day_simulator.specs.Progress.{progress_in, IsInProgress};
+
+    ghost view = { progress_in };
+
+    ghost invariant = { IsInProgress };
+}
+
+impl<'a> Day<'a> {
+    /// The day at its start: all units stand at home, ready from the first minute on. The plan is one of this day.
+    pub fn new(
+        alloc: Global,
+        instance: &'a Instance,
+        plan: &'a NamedPlan,
+    ) -> Result<Day<'a>, NoMemory>
+        requires plan { IsPlan instance.now plan.now }
+        requires without_links { instance.now.links ≡ [] }
+        ensures { IfOk result (λ day. day ≡ record { day = instance.now; plan = plan.now; state = start_of instance.now }) }
+    {
+        let _known = instance.trips();
+        let order = fixed_order(alloc, instance)?;
+        let places = places_at_home(alloc, instance)?;
+        let stages = stages_of_waiting(alloc, instance)?;
+        Ok(Day {
+            instance,
+            plan,
+            order,
+            places,
+            stages,
+            moment: 0,
+        })
+    }
+
+    /// Makes one step. After a fault, which is the first that holds, the day is as before.
+    pub fn step(&mut self, event: DayEvent) -> Result<(), StepFault>
+        requires { trip_of event < length self.old.day.trips }
+        ensures { MakesStep self.old event result self.new }
+    {
+        match event {
+            DayEvent::Depart(trip) => self.depart(trip),
+            DayEvent::Arrive(trip) => self.arrive(trip),
+        }
+    }
+
+    /// The cost of the day, once all its events were made; else the first event that is missing, or the first count of
+    /// units at the end of the day, by station and then by type, that differs from the one wanted.
+    pub fn finish(&self) -> Result<Money, StepFault>
+        ensures { Finishes self.now result }
+    {
+        if let Some(event) = self.first_missing_event() {
+            return Err(StepFault::NotNow(event));
+        }
+        if let Some(fault) = self.first_imbalance() {
+            return Err(fault);
+        }
+        let cost = plan_cost(self.instance, self.plan);
+        Ok(Money(i128::from(cost)))
+    }
+
+    /// The first event of the day that was not made.
+    fn first_missing_event(&self) -> Option<DayEvent>
+        ensures { result ≡ first_not_made self.now.state (fixed_order self.now.day) }
+    {
+        first_not_made(self.stages.as_slice(), self.order.as_slice())
+    }
+
+    /// The first station and type of which another number of units stands in the yard than is wanted at the end.
+    fn first_imbalance(&self) -> Option<StepFault>
+        ensures { result ≡ first_differing self.now.day self.now.state (below (length self.now.day.stations)) }
+    {
+        first_differing(self.instance, self.places.as_slice())
+    }
+
+    /// Whether an event may be made now.
+    fn is_now(&self, event: DayEvent) -> bool
+        requires { trip_of event < length self.now.day.trips }
+        ensures { result ≡ is_now self.now.day self.now.state event }
+    {
+        if self.moment > moment_of(self.instance, event) {
+            return false;
+        }
+        match &event {
+            DayEvent::Depart(trip) => is_waiting(self.stages[trip.place()]),
+            DayEvent::Arrive(trip) => is_under_way(self.stages[trip.place()]),
+        }
+    }
+
+    /// What is wrong with a departure, if anything is.
+    fn departure_fault(&self, trip: TripNo) -> Option<StepFault>
+        requires { trip < length self.now.day.trips }
+        ensures { result ≡ fault_of self.now.day self.now.plan self.now.state (Depart trip) }
+    {
+        if !self.is_now(DayEvent::Depart(trip)) {
+            return Some(StepFault::NotNow(DayEvent::Depart(trip)));
+        }
+        let units = self.plan.units(trip);
+        if units.is_empty() {
+            return Some(StepFault::NoUnits(trip));
+        }
+        if !is_admissible(self.instance, trip, units) {
+            return Some(StepFault::NotAdmissible(trip));
+        }
+        match first_missing(self.instance, trip, self.places.as_slice(), units) {
+            Some(unit) => Some(StepFault::NotInYard { unit, trip }),
+            None => None,
+        }
+    }
+
+    fn depart(&mut self, trip: TripNo) -> Result<(), StepFault>
+        requires { trip < length self.old.day.trips }
+        ensures { MakesStep self.old (Depart trip) result self.new }
+    {
+        if let Some(fault) = self.departure_fault(trip) {
+            return Err(fault);
+        }
+        let moment = moment_of(self.instance, DayEvent::Depart(trip));
+        let units = self.plan.units(trip);
+        put_all(&mut self.places, units, &Place::Aboard(trip));
+        self.stages[trip.place()] = Stage::UnderWay;
+        self.moment = moment;
+        Ok(())
+    }
+
+    fn arrive(&mut self, trip: TripNo) -> Result<(), StepFault>
+        requires { trip < length self.old.day.trips }
+        ensures { MakesStep self.old (Arrive trip) result self.new }
+    {
+        if !self.is_now(DayEvent::Arrive(trip)) {
+            return Err(StepFault::NotNow(DayEvent::Arrive(trip)));
+        }
+        let moment = moment_of(self.instance, DayEvent::Arrive(trip));
+        let station = goal(self.instance, trip);
+        let ready = arrival(self.instance, trip) + reallocation(self.instance, station);
+        let units = self.plan.units(trip);
+        put_all(&mut self.places, units, &Place::Standing(trip));
+        put_all(&mut self.places, units, &Place::Yard { station, ready });
+        self.stages[trip.place()] = Stage::Arrived;
+        self.moment = moment;
+        Ok(())
+    }
+}
+
+/// Whether a trip has not left.
+fn is_waiting(stage: Stage) -> bool
+    ensures { result ≡ is_waiting stage }
+{
+    matches!(stage, Stage::Waiting)
+}
+
+/// Whether a trip has left and not arrived.
+fn is_under_way(stage: Stage) -> bool
+    ensures { result ≡ is_under_way stage }
+{
+    matches!(stage, Stage::UnderWay)
+}
+
+/// Each unit in the yard of its home, ready from the first minute on.
+fn places_at_home(alloc: Global, instance: &Instance) -> Result<Vec<Place>, NoMemory>
+    ensures { IfOk result (λ places. places.items ≡ map (λ unit. Yard unit.home 0) (units_of instance.now)) }
+{
+    let mut places = Vec::new(alloc);
+    for number in 0..instance.units() {
+        let station = instance.unit(UnitNo(number)).home;
+        places.push(Place::Yard { station, ready: 0 })?;
+    }
+    Ok(places)
+}
+
+/// Each trip waiting.
+fn stages_of_waiting(alloc: Global, instance: &Instance) -> Result<Vec<Stage>, NoMemory>
+    ensures { IfOk result (λ stages. stages.items ≡ map (λ trip. stage.Waiting) instance.now.trips) }
+{
+    let mut stages = Vec::new(alloc);
+    for _number in 0..instance.trips() {
+        stages.push(Stage::Waiting)?;
+    }
+    Ok(stages)
+}

@@ -1,0 +1,59 @@
+//! What happens on a day, where its units and trips are, and what can be wrong with a step.
+
+use rail_base::{LinkNo, StationNo, TripNo, TypeNo, UnitNo};
+
+/// One step of the day.
+#[derive(Clone, Copy, Debug, PartialEq, Eq)]
+pub enum DayEvent {
+    /// A trip leaves.
+    Depart(TripNo),
+    /// A trip arrives.
+    Arrive(TripNo),
+}
+
+/// Where a unit is.
+#[derive(Clone, Copy, Debug, PartialEq, Eq)]
+pub enum Place {
+    /// In the yard of a station, ready from a minute on.
+    Yard { station: StationNo, ready: u32 },
+    /// In a trip that is under way.
+    Aboard(TripNo),
+    /// In the train of a trip that has arrived, for the trip that it goes on as.
+    Standing(TripNo),
+}
+
+/// What has become of a trip.
+#[derive(Clone, Copy, Debug, PartialEq, Eq)]
+pub enum Stage {
+    /// It has not left.
+    Waiting,
+    /// It has left and has not arrived.
+    UnderWay,
+    /// It has arrived.
+    Arrived,
+}
+
+/// Why a step cannot be made, or why the day cannot end so.
+#[derive(Clone, Copy, Debug, PartialEq, Eq)]
+pub enum StepFault {
+    /// The event is out of turn, or is missing at the end.
+    NotNow(DayEvent),
+    /// The trip has no units.
+    NoUnits(TripNo),
+    /// The trip's units are no composition that may run on it.
+    NotAdmissible(TripNo),
+    /// The link's rule is broken.
+    LinkBroken(LinkNo),
+    /// The unit is not in the yard and ready when the trip takes it.
+    NotInYard {
+        unit: UnitNo,
+        trip: TripNo,
+    },
+    /// A station has another number of units of a type at the end than is wanted.
+    Balance {
+        station: StationNo,
+        unit_type: TypeNo,
+        count: u32,
+        wanted: u32,
+    },
+}

@@ -1,0 +1,21 @@
+//! The machine and the conditions on a plan say the same, in every order of the day's events.
+//!
+//! Each law is the contract of a function that does nothing: it holds of every day and every plan.
+
+ghost use Rattle.day_simulator.specs.Laws.{InEveryOrder, WithLinks, WithoutLinks};
+
+/// In every order of the day's events, all of them go through to the end exactly where the plan runs. Then each unit is in
+/// the yard of its last place, ready at the same minute, and the day costs what the plan costs, whichever the order was.
+pub fn runs_in_every_order()
+    ensures law { InEveryOrder }
+{}
+
+/// In the fixed order, the day goes through to its end exactly where the plan runs, and then costs what the plan costs.
+pub fn runs_exactly()
+    ensures law { WithLinks }
+{}
+
+/// The same on a day without links, of which nothing needs to be known about links.
+pub fn runs_exactly_without_links()
+    ensures law { WithoutLinks }
+{}

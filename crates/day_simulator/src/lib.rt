@@ -1,0 +1,16 @@
+//! The day as a machine: it goes from event to event, and tells the first fault.
+#![tactic(auto)]
+
+mod balance;
+mod cost;
+pub mod day;
+pub mod events;
+pub mod laws;
+mod sequence;
+mod trips;
+pub mod whole_day;
+mod yards;
+
+pub use day::Day;
+pub use events::{DayEvent, Place, Stage, StepFault};
+pub use whole_day::{Ran, SimulateRefusal, simulate};

@@ -1,0 +1,120 @@
+//! What a trip asks of its units: where and when it runs, and which compositions may run on it.
+
+ghost use Rattle.std.specs.Prelude.{◌≡◌, ◌<◌, ◌≤◌, ◌↔◌, ℕ, length, IsNone, IfSome, IsTrue};
+ghost use Rattle.timetable.specs.Day.{leaves, arrives, from_of, to_of, km_of, demand_of, reallocation_of, types_of};
+ghost use Rattle.timetable.specs.Admissible.{is_admissible, longest_of};
+ghost use Rattle.compositions.specs.Composition.{are_types};
+ghost use Rattle.day_simulator.specs.Trips.{AreUnits};
+
+use arrayvec::ArrayVec;
+use compositions::Composition;
+use rail_base::{StationNo, TripNo, TypeNo, UnitNo};
+use timetable::Instance;
+
+/// The minute at which a trip leaves; 0 where there is no such trip.
+#[tactic(auto, unfolding(timetable::specs::Day::leaves))]
+pub(crate) fn departure(instance: &Instance, trip: TripNo) -> u32
+    ensures minute { result ≡ leaves instance.now trip }
+    ensures range { result < 2880 }
+{
+    if trip.0 >= instance.trips() {
+        return 0;
+    }
+    instance.trip(trip).departure.minutes()
+}
+
+/// The minute at which a trip arrives; 1 where there is no such trip.
+#[tactic(auto, unfolding(timetable::specs::Day::arrives))]
+pub(crate) fn arrival(instance: &Instance, trip: TripNo) -> u32
+    ensures minute { result ≡ arrives instance.now trip }
+    ensures range { result < 2880 }
+{
+    if trip.0 >= instance.trips() {
+        return 1;
+    }
+    instance.trip(trip).arrival.minutes()
+}
+
+/// The station that a trip leaves from.
+#[tactic(auto, unfolding(timetable::specs::Day::from_of))]
+pub(crate) fn origin(instance: &Instance, trip: TripNo) -> StationNo
+    requires { trip < length instance.now.trips }
+    ensures station { result ≡ from_of instance.now trip }
+    ensures known { result < length instance.now.stations }
+{
+    let _known = instance.trips();
+    instance.trip(trip).from
+}
+
+/// The station that a trip goes to.
+#[tactic(auto, unfolding(timetable::specs::Day::to_of))]
+pub(crate) fn goal(instance: &Instance, trip: TripNo) -> StationNo
+    requires { trip < length instance.now.trips }
+    ensures station { result ≡ to_of instance.now trip }
+    ensures known { result < length instance.now.stations }
+{
+    let _known = instance.trips();
+    instance.trip(trip).to
+}
+
+/// The minutes until a unit that is given at a station is ready.
+#[tactic(auto, unfolding(timetable::specs::Day::reallocation_of))]
+pub(crate) fn reallocation(instance: &Instance, station: StationNo) -> u32
+    requires { station < length instance.now.stations }
+    ensures minutes { result ≡ reallocation_of instance.now station }
+    ensures range { result ≤ 600 }
+{
+    let _known = instance.trips();
+    instance.station(station).reallocation
+}
+
+/// The types of units, front to rear.
+fn types_of(instance: &Instance, units: &[UnitNo]) -> ArrayVec<TypeNo, 6>
+    requires known { AreUnits instance.now units.now }
+    requires few { length units.now ≤ 6 }
+    ensures { result.items ≡ types_of instance.now units.now }
+{
+    let mut types = ArrayVec::new();
+    for unit in units {
+        types.push(instance.unit(*unit).unit_type);
+    }
+    types
+}
+
+/// The composition of units, or nothing where there are none.
+pub(crate) fn composition_of(instance: &Instance, units: &[UnitNo]) -> Option<Composition>
+    requires known { AreUnits instance.now units.now }
+    requires few { length units.now ≤ 6 }
+    ensures none { IsNone result ↔ (length units.now ≡ 0) }
+    ensures some { IfSome result (λ composition. composition ≡ types_of instance.now units.now) }
+    ensures known { IsTrue (are_types instance.now.types (types_of instance.now units.now)) }
+{
+    let _known = instance.trips();
+    let types = types_of(instance, units);
+    Composition::of(types.as_slice())
+}
+
+/// The metres that fit both platforms of a trip.
+#[tactic(auto, unfolding(timetable::specs::Day::platform_of))]
+fn longest(instance: &Instance, trip: TripNo) -> u32
+    requires { trip < length instance.now.trips }
+    ensures { result ≡ longest_of instance.now trip }
+{
+    let from = instance.station(origin(instance, trip)).platform;
+    let to = instance.station(goal(instance, trip)).platform;
+    from.min(to)
+}
+
+/// Whether units may run on a trip as a composition.
+#[tactic(auto, unfolding(timetable::specs::Admissible::is_admissible))]
+pub(crate) fn is_admissible(instance: &Instance, trip: TripNo, units: &[UnitNo]) -> bool
+    requires trip { trip < length instance.now.trips }
+    requires known { AreUnits instance.now units.now }
+    requires few { length units.now ≤ 6 }
+    ensures { result ≡ is_admissible instance.now trip (types_of instance.now units.now) }
+{
+    match composition_of(instance, units) {
+        Some(composition) => composition.fits(instance.types(), longest(instance, trip)),
+        None => false,
+    }
+}
