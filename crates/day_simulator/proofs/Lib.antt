@@ -3,10 +3,12 @@ pub mod Counting
 pub mod Differing
 pub mod End
 pub mod Ending
+pub mod Faults
 pub mod FixedOrder
 pub mod Going
 pub mod Hands
 pub mod Lawful
+pub mod Joining
 pub mod Legs
 pub mod LinkKinds
 pub mod Linked

@@ -6,6 +6,7 @@ mod cost;
 pub mod day;
 pub mod events;
 pub mod laws;
+mod links;
 mod sequence;
 mod trips;
 pub mod whole_day;
