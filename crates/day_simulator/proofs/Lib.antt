@@ -11,6 +11,7 @@ pub mod Lawful
 pub mod Joining
 pub mod Legs
 pub mod LinkKinds
+pub mod LinkTrips
 pub mod Linked
 pub mod Missing
 pub mod Moves

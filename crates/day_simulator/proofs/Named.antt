@@ -11,7 +11,7 @@ use Rattle.timetable.specs.declared.records.Link.{Link}
 use Rattle.timetable.specs.declared.records.LinkKind.{LinkKind}
 
 -- what the first place that passes has
-position_some : {X : Type 0} (p : X → Bool) (xs : List X) (i : ℕ) → position p xs ≡ Some i → (x : X) × (slice_get xs i ≡ Some x) × (p x ≡ true)
+pub position_some : {X : Type 0} (p : X → Bool) (xs : List X) (i : ℕ) → position p xs ≡ Some i → (x : X) × (slice_get xs i ≡ Some x) × (p x ≡ true)
 position_some p xs i e =
     let both = cond_some (ltb (position_or_len p xs) (length xs)) (position_or_len p xs) i e in
     let within = ltb-true (position_or_len p xs) (length xs) both.0 in

@@ -1,0 +1,92 @@
+-- The links that lead into a trip and on from it: their trips are of the day, and so are the units that they hand over.
+use Rattle.std.proofs.Common.{◌≡◌, ℕ, ◌+◌, ◌<◌, ◌≤◌, List, [], ◌∷◌, length, Bool, true, false, Option, Some, None, IsTrue, refl, sym, ap, ◌∙◌, subst, arith, ⊎_elim, ◌&&◌}
+use Rattle.std.specs.Prelude.{option_map, option_and_then, unwrap_or, slice_get, position, IfSome, if◌then◌else◌, not}
+use Rattle.std.specs.List.{list_all}
+use Rattle.std.proofs.lemmas.Bool.{le-leb, leb-true}
+use Rattle.std.proofs.lemmas.Option.{slice_get_within}
+use Rattle.timetable.specs.declared.records.Link.{Link}
+use Rattle.timetable.specs.declared.records.LinkKind.{LinkKind}
+use Rattle.timetable.specs.declared.records.LinkKind.TheVariants.{Turn, Join, Split}
+use Rattle.timetable.specs.Accepted.{AreLinks}
+use Rattle.timetable.specs.Day.{Day, unit_count}
+use Rattle.timetable.specs.Lists.{count_of, has}
+use Rattle.timetable.specs.Links.{list_of, incoming, outgoing, link_into, link_out, arriving_in, departing_in, turned, given_by, taken_by, given, taken}
+use Rattle.timetable.specs.Running.{IsPlan}
+use Rattle.day_simulator.specs.Trips.{AreUnits, NamesBelow}
+use Rattle.day_simulator.proofs.Named.{position_some}
+use Rattle.day_simulator.proofs.Order.{one_same}
+use Rattle.day_simulator.proofs.Shares.{turn_shares, count_of-turned}
+
+-- a list of one or two has each of them
+has_one : (a : ℕ) → IsTrue (has a (a ∷ []))
+has_one a = let o = one_same a a refl in le-leb 1 (count_of a (a ∷ [])) (omega arith)
+
+has_front : (a b : ℕ) → IsTrue (has a (a ∷ b ∷ []))
+has_front a b = let o = one_same a a refl in le-leb 1 (count_of a (a ∷ b ∷ [])) (omega arith)
+
+has_rear : (a b : ℕ) → IsTrue (has b (a ∷ b ∷ []))
+has_rear a b = let o = one_same b b refl in le-leb 1 (count_of b (a ∷ b ∷ [])) (omega arith)
+
+-- a link names trips of the day
+pub names_below : (day : Day) → AreLinks day → (l : ℕ) (link : Link) → slice_get day.links l ≡ Some link → NamesBelow (length day.trips) link.kind
+names_below day links l link at =
+    of_kind link.kind (λ t h. links.arriving l t link at h) (λ t h. links.departing l t link at h)
+  where
+    of_kind : (kind : LinkKind) → ((t : ℕ) → IsTrue (has t (arriving_in kind)) → t < length day.trips) → ((t : ℕ) → IsTrue (has t (departing_in kind)) → t < length day.trips)
+        → NamesBelow (length day.trips) kind
+    of_kind (Turn a b uncouple couple) arrive depart = (arrive a (has_one a), depart b (has_one b))
+    of_kind (Join a1 a2 b) arrive depart = (arrive a1 (has_front a1 a2), arrive a2 (has_rear a1 a2), depart b (has_one b))
+    of_kind (Split a b1 b2) arrive depart = (arrive a (has_one a), depart b1 (has_front b1 b2), depart b2 (has_rear b1 b2))
+
+-- the numbers that are found are of links
+pub incoming_within : (day : Day) (t l : ℕ) → incoming day t ≡ Some l → l < length day.links
+unfolding incoming
+incoming_within day t l e = let there = position_some (λ (link : Link). has t (departing_in link.kind)) day.links l e in slice_get_within day.links l there.0 there.1
+
+pub outgoing_within : (day : Day) (t l : ℕ) → outgoing day t ≡ Some l → l < length day.links
+unfolding outgoing
+outgoing_within day t l e = let there = position_some (λ (link : Link). has t (arriving_in link.kind)) day.links l e in slice_get_within day.links l there.0 there.1
+
+-- the link of a number that was found
+pub link_at : (day : Day) (number : Option ℕ) (l : ℕ) (link : Link) → number ≡ Some l → slice_get day.links l ≡ Some link → option_and_then (slice_get day.links) number ≡ Some link
+link_at day number l link e at = ap (option_and_then (slice_get day.links)) e ∙ at
+
+-- the units that a link gives or takes are in the list of a trip
+pub given_is_listed : (kind : LinkKind) (r : Bool) (plan : List (List ℕ)) (u : ℕ) → 1 ≤ count_of u (given_by kind r plan) → (t : ℕ) × (1 ≤ count_of u (list_of plan t))
+given_is_listed (Turn a b uncouple couple) r plan u c =
+    let shares = (turn_shares uncouple couple (turned r (list_of plan a)) (list_of plan b)).arrives u in
+    let turns = count_of-turned u r (list_of plan a) in
+    (a, omega arith)
+given_is_listed (Join a1 a2 b) r plan u c = absurd (omega arith)
+given_is_listed (Split a b1 b2) r plan u c = absurd (omega arith)
+
+pub taken_is_listed : (kind : LinkKind) (r : Bool) (plan : List (List ℕ)) (u : ℕ) → 1 ≤ count_of u (taken_by kind r plan) → (t : ℕ) × (1 ≤ count_of u (list_of plan t))
+taken_is_listed (Turn a b uncouple couple) r plan u c =
+    let shares = (turn_shares uncouple couple (turned r (list_of plan a)) (list_of plan b)).departs u in
+    (b, omega arith)
+taken_is_listed (Join a1 a2 b) r plan u c = absurd (omega arith)
+taken_is_listed (Split a b1 b2) r plan u c = absurd (omega arith)
+
+module _ (day : Day) (plan : List (List ℕ)) (is_plan : IsPlan day plan) where
+  -- units of a trip's list are units of the day
+  pub listed_known : (t : ℕ) → AreUnits day (list_of plan t)
+  listed_known t u h = is_plan.units t u h
+
+  known : (u t : ℕ) → 1 ≤ count_of u (list_of plan t) → u < unit_count day
+  known u t c = is_plan.units t u (le-leb 1 (count_of u (list_of plan t)) c)
+
+  pub given_known : (t : ℕ) → AreUnits day (given day plan t)
+  unfolding given
+  given_known t = of_link (link_out day t)
+    where
+      of_link : (o : Option Link) → AreUnits day (unwrap_or (option_map (λ link. given_by link.kind link.reverse plan) o) (list_of plan t))
+      of_link None u h = listed_known t u h
+      of_link (Some link) u h = let there = given_is_listed link.kind link.reverse plan u (leb-true 1 (count_of u (given_by link.kind link.reverse plan)) h) in known u there.0 there.1
+
+  pub taken_known : (t : ℕ) → AreUnits day (taken day plan t)
+  unfolding taken
+  taken_known t = of_link (link_into day t)
+    where
+      of_link : (o : Option Link) → AreUnits day (unwrap_or (option_map (λ link. taken_by link.kind link.reverse plan) o) (list_of plan t))
+      of_link None u h = listed_known t u h
+      of_link (Some link) u h = let there = taken_is_listed link.kind link.reverse plan u (leb-true 1 (count_of u (taken_by link.kind link.reverse plan)) h) in known u there.0 there.1
