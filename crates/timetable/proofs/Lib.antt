@@ -1,6 +1,7 @@
 pub mod Accepting
 pub mod Entries
 pub mod Days
+pub mod LinkTables
 pub mod Lists
 pub mod Fitting
 pub mod Said

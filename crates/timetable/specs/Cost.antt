@@ -1,5 +1,5 @@
 -- What a plan costs. It depends on the types of its lists alone.
-use Rattle.std.specs.Prelude.{ℕ, ◌+◌, ◌-◌, ◌*◌, List, [], map, length, ◌==◌, if◌then◌else◌, option_map, unwrap_or, slice_get}
+use Rattle.std.specs.Prelude.{ℕ, ◌+◌, ◌-◌, ◌*◌, List, map, length, ◌==◌, if◌then◌else◌, option_map, unwrap_or, slice_get}
 use Rattle.compositions.specs.Composition.{carriages_of, seats_of}
 use Rattle.timetable.specs.declared.records.LinkKind.{LinkKind}
 use Rattle.timetable.specs.declared.records.LinkKind.TheVariants.{Turn, Join, Split}

@@ -1,6 +1,6 @@
 -- The day as a value: plain lists, in which stations, types, trips and links are numbered by their place.
 -- A number that is out of range reads as something harmless, so that laws hold for every number.
-use Rattle.std.specs.Prelude.{ℕ, List, [], ◌∷◌, ◌++◌, length, replicate, ◌==◌, ◌&&◌, ◌+◌, if◌then◌else◌, map}
+use Rattle.std.specs.Prelude.{ℕ, List, [], ◌∷◌, ◌++◌, length, replicate, ◌==◌, ◌&&◌, if◌then◌else◌, map}
 use Rattle.compositions.specs.declared.types.UnitType.{UnitType}
 use Rattle.timetable.specs.declared.records.Station.{Station}
 use Rattle.timetable.specs.declared.records.Stock.{Stock}

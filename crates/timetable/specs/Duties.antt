@@ -1,5 +1,5 @@
 -- The duty of a unit: the trips that it runs on, one after another.
-use Rattle.std.specs.Prelude.{ℕ, List, [], ◌∷◌, Bool, ◌==◌, ◌&&◌, ◌||◌, if◌then◌else◌, nat_lt, filter, length, Option, Some, None}
+use Rattle.std.specs.Prelude.{ℕ, List, [], ◌∷◌, Bool, ◌==◌, ◌&&◌, ◌||◌, if◌then◌else◌, nat_lt, filter, length}
 use Rattle.timetable.specs.Day.{Day, leaves, to_of, home_of}
 use Rattle.timetable.specs.Links.{list_of}
 use Rattle.timetable.specs.Lists.{has, below}

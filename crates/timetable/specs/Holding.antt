@@ -1,13 +1,18 @@
--- What an instance holds: the parts of a day, and its units as one list.
-use Rattle.std.specs.Prelude.{◌≡◌}
+-- What an instance holds: the parts of a day, its units as one list, and the links by trip.
+use Rattle.std.specs.Prelude.{◌≡◌, length}
 use Rattle.timetable.specs.declared.instance.Instance.TheInside.{Inside}
 use Rattle.timetable.specs.Day.{Day, units_of}
-use Rattle.timetable.specs.Accepted.{IsDay}
+use Rattle.timetable.specs.Accepted.{IsDay, AreLinks}
+use Rattle.timetable.specs.Links.{arriving_in, departing_in}
+use Rattle.timetable.specs.LinkTables.{link_table}
 
 abbrev pub day_in : Inside → Day
 day_in a = record { types = a.types; stations = a.stations.items; stock = a.stock.items; trips = a.trips.items; links = a.links.items; weights = a.weights }
 
--- the units are those of the day, and the day is within the limits
+-- the units are those of the day, the links are those that name each trip, and the day is within the limits
 pub record Holds (a : Inside) : Type 0 where
   pub units : a.units.items ≡ units_of (day_in a)
   pub day : IsDay (day_in a)
+  pub links : AreLinks (day_in a)
+  pub incoming : a.incoming.items ≡ link_table departing_in a.links.items (length a.trips.items)
+  pub outgoing : a.outgoing.items ≡ link_table arriving_in a.links.items (length a.trips.items)

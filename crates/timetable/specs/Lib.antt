@@ -3,6 +3,7 @@ pub mod Day
 pub mod Accepted
 pub mod Admissible
 pub mod Links
+pub mod LinkTables
 pub mod Duties
 pub mod Running
 pub mod Cost

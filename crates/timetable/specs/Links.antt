@@ -1,5 +1,5 @@
 -- The rule of a link, over lists of units or lists of types, and which of the units stay in the train.
-use Rattle.std.specs.Prelude.{ℕ, ◌-◌, ◌≤◌, ◌≡◌, List, [], ◌∷◌, ◌++◌, length, take, drop, reverse, Bool, true, false, ◌&&◌, ◌==◌, if◌then◌else◌, nat_le, nat_lt, Option, Some, None, is_some, option_map, unwrap_or, option_and_then, slice_get, position}
+use Rattle.std.specs.Prelude.{ℕ, ◌-◌, List, [], ◌∷◌, ◌++◌, length, take, drop, reverse, Bool, false, ◌&&◌, ◌==◌, if◌then◌else◌, nat_le, nat_lt, Option, Some, None, is_some, option_map, unwrap_or, option_and_then, slice_get, position}
 use Rattle.std.specs.Str.{bytes_eq}
 use Rattle.rail_csv.specs.declared.rows.End.{End}
 use Rattle.rail_csv.specs.declared.rows.End.TheVariants as at

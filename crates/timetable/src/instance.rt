@@ -2,19 +2,21 @@
 
 ghost use Rattle.std.specs.Prelude.{◌≡◌, ◌<◌, ◌≤◌, [], ◌∷◌, ◌++◌, length, slice_get, Some, replicate, OnOk, IfOk, IfErr};
 ghost use Rattle.rail_csv.specs.Rows.{AreTypeRows, AreStationRows, AreStockRows, AreTripRows, IsWeightsRow};
-ghost use Rattle.timetable.specs.Accepted.{IsDay};
+ghost use Rattle.timetable.specs.Accepted.{IsDay, AreLinks};
 ghost use Rattle.timetable.specs.Build.{day_of, Gives, weights_in};
 ghost use Rattle.timetable.specs.Day.{units_of, units_in, unit_count, wanted_in, wanted_of};
+ghost use Rattle.timetable.specs.Links.{incoming, outgoing};
 ghost use Rattle.timetable.specs.Meaning.{IsDayOf};
 ghost use Rattle.timetable.specs.Refusals.{IsBroken};
 ghost use Rattle.timetable.specs.Starts.{start_in, start_of};
 
 use crate::build::{are_too_many, stations_of, stock_of, trips_of, types_of};
+use crate::link_tables::{Side, links_by_trip};
 use crate::records::{Link, Station, Stock, Trip, Unit, Weights};
 use crate::refusal::InstanceRefusal;
 use crate::tables::Tables;
 use compositions::UnitTypes;
-use rail_base::{NoMemory, StationNo, TripNo, TypeNo, UnitNo};
+use rail_base::{LinkNo, NoMemory, StationNo, TripNo, TypeNo, UnitNo};
 use rail_csv::WeightsRow;
 use std::alloc::Global;
 use std::marker::Model;
@@ -30,6 +32,8 @@ pub struct Instance {
     links: Vec<Link>,
     weights: Weights,
     units: Vec<Unit>,
+    incoming: Vec<Option<LinkNo>>,
+    outgoing: Vec<Option<LinkNo>>,
 }
 
 impl Model for Instance {
@@ -75,14 +79,20 @@ impl Instance {
         }
         let trips = trips_of(alloc, &stations, &types, tables.trips)?;
         let units = units_of(alloc, &stock)?;
+        let links = Vec::new(alloc);
+        let trip_count = trips.len() as u32;
+        let incoming = links_by_trip(alloc, &links, Side::Departing, trip_count)?;
+        let outgoing = links_by_trip(alloc, &links, Side::Arriving, trip_count)?;
         Ok(Instance {
             types: UnitTypes::new(types),
             stations,
             stock,
             trips,
-            links: Vec::new(alloc),
+            links,
             weights: weights_of(tables.weights),
             units,
+            incoming,
+            outgoing,
         })
     }
 
@@ -107,6 +117,7 @@ impl Instance {
     pub fn links(&self) -> u32
         ensures value { result ≡ length self.now.links }
         ensures few { result ≤ 400 }
+        ensures sound { AreLinks self.now }
     {
         self.links.len() as u32
     }
@@ -147,6 +158,30 @@ impl Instance {
         ensures { slice_get self.now.trips trip ≡ Some result.now }
     {
         &self.trips[trip.place()]
+    }
+
+    /// The link of this number, which is below `links`.
+    pub fn link(&self, link: LinkNo) -> &Link
+        requires { link < length self.now.links }
+        ensures { slice_get self.now.links link ≡ Some result.now }
+    {
+        &self.links[link.place()]
+    }
+
+    /// The link that leads into the trip, which is below `trips`: nothing where the trip takes all its units from the yard.
+    pub fn incoming(&self, trip: TripNo) -> Option<LinkNo>
+        requires { trip < length self.now.trips }
+        ensures { result ≡ incoming self.now trip }
+    {
+        self.incoming[trip.place()]
+    }
+
+    /// The link that leads on from the trip, which is below `trips`: nothing where the trip gives all its units to the yard.
+    pub fn outgoing(&self, trip: TripNo) -> Option<LinkNo>
+        requires { trip < length self.now.trips }
+        ensures { result ≡ outgoing self.now trip }
+    {
+        self.outgoing[trip.place()]
     }
 
     /// The unit of this number, which is below `units`.

@@ -1,0 +1,22 @@
+-- The links that name a trip, listed by trip.
+use Rattle.std.specs.Prelude.{ℕ, zero, suc, List, [], ◌∷◌, ◌++◌, Option, position}
+use Rattle.timetable.specs.declared.link_tables.Side.{Side}
+use Rattle.timetable.specs.declared.link_tables.Side.TheVariants.{Arriving, Departing}
+use Rattle.timetable.specs.declared.records.Link.{Link}
+use Rattle.timetable.specs.declared.records.LinkKind.{LinkKind}
+use Rattle.timetable.specs.Links.{arriving_in, departing_in}
+use Rattle.timetable.specs.Lists.{has}
+
+-- the trips that a link names on one side
+abbrev pub trips_on : Side → LinkKind → List ℕ
+trips_on Arriving kind = arriving_in kind
+trips_on Departing kind = departing_in kind
+
+-- the number of the first link that names a trip on one side
+abbrev pub link_naming : (LinkKind → List ℕ) → List Link → ℕ → Option ℕ
+link_naming side links t = position (λ link. has t (side link.kind)) links
+
+-- these numbers for the trips below a bound
+abbrev pub link_table : (LinkKind → List ℕ) → List Link → ℕ → List (Option ℕ)
+link_table side links zero = []
+link_table side links (suc t) = link_table side links t ++ link_naming side links t ∷ []
