@@ -1,10 +1,15 @@
--- The cost of a plan of a day without links, summed up in a loop over the trips.
+-- The cost of a plan, summed up in loops over its trips and its links.
 use Rattle.std.proofs.Common.{◌≡◌, ℕ, zero, suc, ◌+◌, List, [], ◌∷◌, length, map, Option, Some, None, refl, sym, ap, ◌∙◌, arith, unwrap_or, slice_get}
 use Rattle.std.specs.Prelude.{option_map}
-use Rattle.timetable.specs.Day.{Day, types_of}
+use Rattle.std.proofs.lemmas.List.{length-map}
+use Rattle.timetable.specs.declared.records.Link.{Link}
+use Rattle.timetable.specs.declared.records.LinkKind.{LinkKind}
+use Rattle.timetable.specs.declared.records.LinkKind.TheVariants.{Turn, Join, Split}
+use Rattle.timetable.specs.Day.{Day, type_of, types_of}
 use Rattle.timetable.specs.Links.{list_of}
 use Rattle.timetable.specs.Lists.{sum_below}
-use Rattle.timetable.specs.Cost.{trip_cost, link_cost, cost_of, plan_cost}
+use Rattle.timetable.specs.Cost.{trip_cost, kind_cost, link_cost, cost_of, plan_cost}
+use Rattle.day_simulator.specs.Trips.{trips_cost, links_cost}
 
 slice_get-map : {X Y : Type 0} (f : X → Y) (xs : List X) (i : ℕ) → slice_get (map f xs) i ≡ option_map f (slice_get xs i)
 slice_get-map f [] i = refl
@@ -24,19 +29,32 @@ sum_below-same : (f g : ℕ → ℕ) (n : ℕ) → ((k : ℕ) → f k ≡ g k) �
 sum_below-same f g zero h = refl
 sum_below-same f g (suc n) h = omega (arith, sum_below-same f g n h, h n)
 
--- what the trips of a plan cost
-abbrev pub trips_cost : Day → List (List ℕ) → ℕ → ℕ
-trips_cost day plan n = sum_below (λ t. trip_cost day t (types_of day (list_of plan t))) n
-
--- without links that is all
-pub plan_cost-without_links : (day : Day) (plan : List (List ℕ)) → day.links ≡ [] → trips_cost day plan (length day.trips) ≡ plan_cost day plan
+-- the cost of a plan is that of its trips and its links
+pub plan_cost-parts : (day : Day) (plan : List (List ℕ)) → trips_cost day plan (length day.trips) + links_cost day plan (length day.links) ≡ plan_cost day plan
 unfolding cost_of
-plan_cost-without_links day plan e =
+plan_cost-parts day plan =
     let lists = map (types_of day) plan in
     let trips = sum_below-same (λ t. trip_cost day t (types_of day (list_of plan t))) (λ t. trip_cost day t (list_of lists t)) (length day.trips)
     (λ t. ap (trip_cost day t) (sym (list_of-types day plan t))) in
-    let no_links : sum_below (λ l. link_cost day l lists) (length day.links) ≡ 0 = ap (λ (n : ℕ). sum_below (λ l. link_cost day l lists) n) (ap length e) in
-    omega (arith, trips, no_links)
+    ap (λ (n : ℕ). n + links_cost day plan (length day.links)) trips
 
 pub trips_cost-more : (day : Day) (plan : List (List ℕ)) (n : ℕ) → trips_cost day plan (n + 1) ≡ trips_cost day plan n + trip_cost day n (types_of day (list_of plan n))
 trips_cost-more day plan n = let next : n + 1 ≡ suc n = omega arith in ap (trips_cost day plan) next
+
+pub links_cost-more : (day : Day) (plan : List (List ℕ)) (n : ℕ) → links_cost day plan (n + 1) ≡ links_cost day plan n + link_cost day n (map (types_of day) plan)
+links_cost-more day plan n = let next : n + 1 ≡ suc n = omega arith in ap (links_cost day plan) next
+
+-- the types of a list are as many as its units
+length-types : (day : Day) (plan : List (List ℕ)) (t : ℕ) → length (list_of (map (types_of day) plan) t) ≡ length (list_of plan t)
+length-types day plan t = ap length (list_of-types day plan t) ∙ length-map (list_of plan t) (type_of day)
+
+-- what a link costs, by how many units its trips have
+pub link_cost-units : (day : Day) (plan : List (List ℕ)) (l : ℕ) (link : Link) → slice_get day.links l ≡ Some link → link_cost day l (map (types_of day) plan) ≡ kind_cost day link.kind plan
+unfolding link_cost
+link_cost-units day plan l link at =
+    ap (λ (o : Option Link). unwrap_or (option_map (λ link. kind_cost day link.kind (map (types_of day) plan)) o) 0) at ∙ of_kind link.kind
+  where
+    of_kind : (kind : LinkKind) → kind_cost day kind (map (types_of day) plan) ≡ kind_cost day kind plan
+    of_kind (Turn a b uncouple couple) = rw (length-types day plan a, length-types day plan b) refl
+    of_kind (Join a1 a2 b) = refl
+    of_kind (Split a b1 b2) = refl

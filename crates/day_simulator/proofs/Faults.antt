@@ -1,5 +1,5 @@
 -- When an event is now, and what its fault is, from the tests one after another.
-use Rattle.std.proofs.Common.{◌≡◌, ℕ, ◌<◌, ◌≤◌, ◌≢◌, List, [], length, Option, Some, None, Bool, true, false, not, ◌&&◌, cond, refl, sym, ap, ◌∙◌, unwrap_or, eqb, leb, eq-eqb, ne_eqb, arith}
+use Rattle.std.proofs.Common.{◌≡◌, ℕ, ◌<◌, ◌≤◌, ◌≢◌, List, length, Option, Some, None, Bool, true, false, not, ◌&&◌, cond, refl, sym, ap, ◌∙◌, unwrap_or, eqb, leb, eq-eqb, ne_eqb, arith}
 use Rattle.std.specs.Prelude.{option_map}
 use Rattle.std.specs.List.{list_all}
 use Rattle.std.proofs.lemmas.Bool.{le-leb}
@@ -25,7 +25,7 @@ passed a b l = grind (arith, nat_tests)
 
 module _ (day : Day) (state : State) where
   -- whether all the trips that a trip waits for have arrived
-  abbrev pub have_arrived : ℕ → Bool
+  abbrev have_arrived : ℕ → Bool
   have_arrived t = list_all (λ a. has_arrived (stage_of state.stages a)) (feeders day t)
 
   -- an event whose moment has passed is not now
@@ -35,22 +35,28 @@ module _ (day : Day) (state : State) where
   too_late (Arrive t) l = sym (ap (λ (b : Bool). b && is_under_way (stage_of state.stages t)) (passed state.moment (moment_of day (Arrive t)) l))
 
   -- one that has not passed is now where its trip, and those that it waits for, have come so far
-  pub departure_in_time : (t : ℕ) → state.moment ≤ moment_of day (Depart t) → is_now day state (Depart t) ≡ is_waiting (stage_of state.stages t) && have_arrived t
+  departure_in_time : (t : ℕ) → state.moment ≤ moment_of day (Depart t) → is_now day state (Depart t) ≡ is_waiting (stage_of state.stages t) && have_arrived t
   unfolding is_now
   departure_in_time t l = ap (λ (b : Bool). b && is_waiting (stage_of state.stages t) && have_arrived t) (le-leb state.moment (moment_of day (Depart t)) l)
+
+  pub departure_of_waiting : (t : ℕ) → state.moment ≤ moment_of day (Depart t) → is_waiting (stage_of state.stages t) ≡ true → is_now day state (Depart t) ≡ have_arrived t
+  departure_of_waiting t l waits = departure_in_time t l ∙ ap (λ (b : Bool). b && have_arrived t) waits
+
+  pub departure_of_left : (t : ℕ) → state.moment ≤ moment_of day (Depart t) → is_waiting (stage_of state.stages t) ≡ false → is_now day state (Depart t) ≡ false
+  departure_of_left t l left = departure_in_time t l ∙ ap (λ (b : Bool). b && have_arrived t) left
 
   pub arrival_in_time : (t : ℕ) → state.moment ≤ moment_of day (Arrive t) → is_now day state (Arrive t) ≡ is_under_way (stage_of state.stages t)
   unfolding is_now
   arrival_in_time t l = ap (λ (b : Bool). b && is_under_way (stage_of state.stages t)) (le-leb state.moment (moment_of day (Arrive t)) l)
 
 module _ (day : Day) (plan : List (List ℕ)) (state : State) (t : ℕ) where
-  abbrev yard_faults : Option StepFault
+  abbrev pub yard_faults : Option StepFault
   yard_faults = option_map (λ u. NotInYard u t) (first_missing day t state.places (taken day plan t))
 
-  abbrev link_faults : Option StepFault
+  abbrev pub link_faults : Option StepFault
   link_faults = unwrap_or (option_map (λ l. Some (LinkBroken l)) (broken_into day plan t)) yard_faults
 
-  abbrev composition_faults : Option StepFault
+  abbrev pub composition_faults : Option StepFault
   composition_faults = cond (not (is_admissible day t (types_of day (list_of plan t)))) (Some (NotAdmissible t)) link_faults
 
   abbrev unit_faults : Option StepFault

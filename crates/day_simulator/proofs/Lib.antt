@@ -27,6 +27,5 @@ pub mod Stepping
 pub mod Tested
 pub mod Theorem
 pub mod Units
-pub mod Unlinked
 pub mod Whole
 pub mod Simulating

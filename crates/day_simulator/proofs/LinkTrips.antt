@@ -1,7 +1,6 @@
 -- The links that lead into a trip and on from it: their trips are of the day, and so are the units that they hand over.
-use Rattle.std.proofs.Common.{◌≡◌, ℕ, ◌+◌, ◌<◌, ◌≤◌, List, [], ◌∷◌, length, Bool, true, false, Option, Some, None, IsTrue, refl, sym, ap, ◌∙◌, subst, arith, ⊎_elim, ◌&&◌}
-use Rattle.std.specs.Prelude.{option_map, option_and_then, unwrap_or, slice_get, position, IfSome, if◌then◌else◌, not}
-use Rattle.std.specs.List.{list_all}
+use Rattle.std.proofs.Common.{◌≡◌, ℕ, ◌<◌, ◌≤◌, List, [], ◌∷◌, length, Bool, Option, Some, None, IsTrue, refl, arith}
+use Rattle.std.specs.Prelude.{option_map, unwrap_or, slice_get, IfSome}
 use Rattle.std.proofs.lemmas.Bool.{le-leb, leb-true}
 use Rattle.std.proofs.lemmas.Option.{slice_get_within}
 use Rattle.timetable.specs.declared.records.Link.{Link}
@@ -47,9 +46,15 @@ pub outgoing_within : (day : Day) (t l : ℕ) → outgoing day t ≡ Some l → 
 unfolding outgoing
 outgoing_within day t l e = let there = position_some (λ (link : Link). has t (arriving_in link.kind)) day.links l e in slice_get_within day.links l there.0 there.1
 
--- the link of a number that was found
-pub link_at : (day : Day) (number : Option ℕ) (l : ℕ) (link : Link) → number ≡ Some l → slice_get day.links l ≡ Some link → option_and_then (slice_get day.links) number ≡ Some link
-link_at day number l link e at = ap (option_and_then (slice_get day.links)) e ∙ at
+within : (n : ℕ) (o : Option ℕ) → ((l : ℕ) → o ≡ Some l → l < n) → IfSome o (λ l. l < n)
+within n None h = tt
+within n (Some l) h = h l refl
+
+pub incoming_known : (day : Day) (t : ℕ) → IfSome (incoming day t) (λ l. l < length day.links)
+incoming_known day t = within (length day.links) (incoming day t) (incoming_within day t)
+
+pub outgoing_known : (day : Day) (t : ℕ) → IfSome (outgoing day t) (λ l. l < length day.links)
+outgoing_known day t = within (length day.links) (outgoing day t) (outgoing_within day t)
 
 -- the units that a link gives or takes are in the list of a trip
 pub given_is_listed : (kind : LinkKind) (r : Bool) (plan : List (List ℕ)) (u : ℕ) → 1 ≤ count_of u (given_by kind r plan) → (t : ℕ) × (1 ≤ count_of u (list_of plan t))

@@ -1,8 +1,8 @@
 -- What a step does, from its fault or its state.
-use Rattle.std.proofs.Common.{◌≡◌, ℕ, ◌+◌, List, [], Option, Some, None, Result, Ok, Err, refl, sym, subst, length, ap, ◌∙◌}
+use Rattle.std.proofs.Common.{◌≡◌, ℕ, ◌+◌, List, Option, Some, None, Result, Ok, Err, refl, sym, subst, length, ap, ◌∙◌}
 use Rattle.std.specs.Prelude.{MatchOption, slice_set}
 use Rattle.timetable.specs.Day.{Day, to_of, arrives, reallocation_of}
-use Rattle.timetable.specs.Links.{list_of}
+use Rattle.timetable.specs.Links.{list_of, given}
 use Rattle.day_simulator.specs.declared.events.DayEvent.{DayEvent}
 use Rattle.day_simulator.specs.declared.events.DayEvent.TheVariants.{Depart, Arrive}
 use Rattle.day_simulator.specs.declared.events.Place.{Place}
@@ -17,7 +17,6 @@ use Rattle.std.specs.Vec.{with_items}
 use Rattle.std.specs.Prelude.{Vec}
 use Rattle.std.proofs.lemmas.List.{with_items_is}
 use Rattle.day_simulator.proofs.PutPlaces.{length-put_all}
-use Rattle.day_simulator.proofs.Unlinked.{after-arrival}
 
 -- a step where this is the fault, if there is one
 abbrev StepWith : Progress → DayEvent → Result (Unit {0}) StepFault → Progress → Option StepFault → Type 0
@@ -42,10 +41,10 @@ pub departed : (day : Day) (plan : List (List ℕ)) (state : State) (t : ℕ) (p
 unfolding after
 departed day plan state t places stages moment p s m = rw (p, s, m) refl
 
--- the state after an arrival on a day without links
-pub arrived : (day : Day) (no_links : day.links ≡ []) (plan : List (List ℕ)) (state : State) (t : ℕ) (places : List Place) (stages : List Stage) (moment : ℕ)
-    → places ≡ put_all (put_all state.places (list_of plan t) (Standing t)) (list_of plan t) (Yard (to_of day t) (arrives day t + reallocation_of day (to_of day t)))
+-- the state after an arrival
+pub arrived : (day : Day) (plan : List (List ℕ)) (state : State) (t : ℕ) (places : List Place) (stages : List Stage) (moment : ℕ)
+    → places ≡ put_all (put_all state.places (list_of plan t) (Standing t)) (given day plan t) (Yard (to_of day t) (arrives day t + reallocation_of day (to_of day t)))
     → stages ≡ slice_set state.stages t stage.Arrived → moment ≡ moment_of day (Arrive t)
     → record { places = places; stages = stages; moment = moment } ≡ after day plan state (Arrive t)
 unfolding after
-arrived day no_links plan state t places stages moment p s m = rw (p ∙ sym (after-arrival day no_links plan state t), s, m) refl
+arrived day plan state t places stages moment p s m = rw (p, s, m) refl

@@ -1,5 +1,5 @@
 -- What a day in progress shows: the day, the plan that it follows, and the state that it has come to.
-use Rattle.std.specs.Prelude.{◌≡◌, [], length}
+use Rattle.std.specs.Prelude.{◌≡◌, length}
 use Rattle.timetable.specs.Day.{unit_count}
 use Rattle.timetable.specs.Accepted.{IsDay}
 use Rattle.timetable.specs.Running.{IsPlan}
@@ -18,7 +18,6 @@ progress_in a = record {
 pub record IsInProgress (a : Inside) : Type 0 where
   pub sound : IsDay a.instance.now
   pub plan : IsPlan a.instance.now a.plan.now
-  pub without_links : a.instance.now.links ≡ []
   pub order : a.order.items ≡ fixed_order a.instance.now
   pub places : length a.places.items ≡ unit_count a.instance.now
   pub stages : length a.stages.items ≡ length a.instance.now.trips

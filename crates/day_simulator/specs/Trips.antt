@@ -1,8 +1,11 @@
--- Units that a trip's list may name.
-use Rattle.std.specs.Prelude.{ℕ, ◌<◌, List, IsTrue}
+-- Units that a trip's list may name, the trips of events and links, and what the first trips and links of a plan cost.
+use Rattle.std.specs.Prelude.{ℕ, ◌<◌, List, IsTrue, map}
 use Rattle.timetable.specs.declared.records.LinkKind.{LinkKind}
 use Rattle.timetable.specs.declared.records.LinkKind.TheVariants.{Turn, Join, Split}
-use Rattle.timetable.specs.Day.{Day, unit_count}
+use Rattle.timetable.specs.Cost.{trip_cost, link_cost}
+use Rattle.timetable.specs.Day.{Day, unit_count, types_of}
+use Rattle.timetable.specs.Links.{list_of}
+use Rattle.timetable.specs.Lists.{sum_below}
 use Rattle.timetable.specs.Lists.{has}
 use Rattle.day_simulator.specs.declared.events.DayEvent.{DayEvent}
 use Rattle.day_simulator.specs.declared.events.DayEvent.TheVariants.{Depart, Arrive}
@@ -21,3 +24,10 @@ abbrev pub NamesBelow : ℕ → LinkKind → Type 0
 NamesBelow n (Turn a b uncouple couple) = (a < n) × (b < n)
 NamesBelow n (Join a1 a2 b) = (a1 < n) × (a2 < n) × (b < n)
 NamesBelow n (Split a b1 b2) = (a < n) × (b1 < n) × (b2 < n)
+
+-- what the first trips of a plan cost, and what its first links cost
+abbrev pub trips_cost : Day → List (List ℕ) → ℕ → ℕ
+trips_cost day plan n = sum_below (λ t. trip_cost day t (types_of day (list_of plan t))) n
+
+abbrev pub links_cost : Day → List (List ℕ) → ℕ → ℕ
+links_cost day plan n = sum_below (λ l. link_cost day l (map (types_of day) plan)) n

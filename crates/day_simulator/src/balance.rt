@@ -12,7 +12,7 @@ use timetable::Instance;
 
 /// What has become of a trip.
 #[tactic(auto, unfolding(crate::specs::State::stage_of))]
-fn stage_of(stages: &[Stage], trip: TripNo) -> Stage
+pub(crate) fn stage_of(stages: &[Stage], trip: TripNo) -> Stage
     ensures { result ≡ stage_of stages.now trip }
 {
     match stages.get(trip.place()) {

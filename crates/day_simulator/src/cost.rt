@@ -4,12 +4,13 @@ ghost use Rattle.std.specs.Prelude.{◌≡◌, ◌<◌, ◌≤◌, [], ℕ, leng
 ghost use Rattle.timetable.specs.Day.{types_of, km_of, demand_of};
 ghost use Rattle.timetable.specs.Links.{list_of};
 ghost use Rattle.timetable.specs.Running.{IsPlan};
-ghost use Rattle.timetable.specs.Cost.{trip_cost, plan_cost};
+ghost use Rattle.timetable.specs.Cost.{trip_cost, kind_cost, link_cost, plan_cost};
 ghost use Rattle.compositions.specs.Composition.{carriages_of, seats_of};
-ghost use Rattle.day_simulator.specs.Trips.{AreUnits};
+ghost use Rattle.day_simulator.specs.Trips.{AreUnits, NamesBelow, trips_cost, links_cost};
 
 use crate::trips::composition_of;
-use rail_base::{TripNo, UnitNo};
+use rail_base::{LinkNo, TripNo, UnitNo};
+use timetable::records::LinkKind;
 use timetable::{Instance, NamedPlan};
 
 /// The carriages and the seats of units.
@@ -48,11 +49,11 @@ fn trip_cost(instance: &Instance, trip: TripNo, units: &[UnitNo]) -> u64
         + u64::from(weights.shortage) * u64::from(missing) * u64::from(trip.km)
 }
 
-/// The cost of a plan of a day without links.
-pub(crate) fn plan_cost(instance: &Instance, plan: &NamedPlan) -> u64
-    requires plan { IsPlan instance.now plan.now }
-    requires without_links { instance.now.links ≡ [] }
-    ensures { result ≡ plan_cost instance.now plan.now }
+/// The cost of the trips of a plan.
+fn trips_cost(instance: &Instance, plan: &NamedPlan) -> u64
+    requires { IsPlan instance.now plan.now }
+    ensures cost { result ≡ trips_cost instance.now plan.now (length instance.now.trips) }
+    ensures range { result ≤ 40480000000000 }
 {
     let mut cost = 0;
     for number in 0..instance.trips() {
@@ -60,4 +61,59 @@ pub(crate) fn plan_cost(instance: &Instance, plan: &NamedPlan) -> u64
         cost += trip_cost(instance, trip, plan.units(trip));
     }
     cost
+}
+
+/// The cost of a link of this kind: a turn that couples or uncouples costs the weight of shunting once.
+fn kind_cost(instance: &Instance, plan: &NamedPlan, kind: LinkKind) -> u64
+    requires { NamesBelow (length plan.now) kind }
+    ensures cost { result ≡ kind_cost instance.now kind plan.now }
+    ensures range { result ≤ 10000 }
+{
+    let _known = instance.trips();
+    match kind {
+        LinkKind::Turn {
+            arriving,
+            departing,
+            ..
+        } => {
+            if plan.units(arriving).len() == plan.units(departing).len() {
+                0
+            } else {
+                u64::from(instance.weights().shunting)
+            }
+        }
+        LinkKind::Join { .. } | LinkKind::Split { .. } => 0,
+    }
+}
+
+/// The cost of a link.
+fn link_cost(instance: &Instance, plan: &NamedPlan, link: LinkNo) -> u64
+    requires plan { IsPlan instance.now plan.now }
+    requires link { link < length instance.now.links }
+    ensures cost { result ≡ link_cost instance.now link (map (types_of instance.now) plan.now) }
+    ensures range { result ≤ 10000 }
+{
+    let _known = instance.links();
+    kind_cost(instance, plan, instance.link(link).kind)
+}
+
+/// The cost of the links of a plan.
+fn links_cost(instance: &Instance, plan: &NamedPlan) -> u64
+    requires { IsPlan instance.now plan.now }
+    ensures cost { result ≡ links_cost instance.now plan.now (length instance.now.links) }
+    ensures range { result ≤ 4000000 }
+{
+    let mut cost = 0;
+    for number in 0..instance.links() {
+        cost += link_cost(instance, plan, LinkNo(number));
+    }
+    cost
+}
+
+/// The cost of a plan.
+pub(crate) fn plan_cost(instance: &Instance, plan: &NamedPlan) -> u64
+    requires { IsPlan instance.now plan.now }
+    ensures { result ≡ plan_cost instance.now plan.now }
+{
+    trips_cost(instance, plan) + links_cost(instance, plan)
 }

@@ -1,6 +1,6 @@
 //! The day as it goes from event to event.
 
-ghost use Rattle.std.specs.Prelude.{◌≡◌, ◌<◌, ◌≤◌, [], ℕ, length, map, IfOk};
+ghost use Rattle.std.specs.Prelude.{◌≡◌, ◌<◌, ◌≤◌, ℕ, length, map, IfOk};
 ghost use Rattle.timetable.specs.Day.{units_of};
 ghost use Rattle.timetable.specs.Running.{IsPlan};
 ghost use Rattle.day_simulator.specs.State.{start_of, is_waiting, is_under_way};
@@ -16,6 +16,7 @@ ghost use Rattle.day_simulator.specs.declared.events.Stage.TheVariants as stage;
 use crate::balance::{first_differing, first_not_made};
 use crate::cost::plan_cost;
 use crate::events::{DayEvent, Place, Stage, StepFault};
+use crate::links::{broken_into, broken_out, given, have_feeders_arrived, taken};
 use crate::sequence::{fixed_order, moment_of};
 use crate::trips::{arrival, goal, is_admissible, reallocation};
 use crate::yards::{first_missing, put_all};
@@ -54,8 +55,7 @@ impl<'a> Day<'a> {
         instance: &'a Instance,
         plan: &'a NamedPlan,
     ) -> Result<Day<'a>, NoMemory>
-        requires plan { IsPlan instance.now plan.now }
-        requires without_links { instance.now.links ≡ [] }
+        requires { IsPlan instance.now plan.now }
         ensures { IfOk result (λ day. day ≡ record { day = instance.now; plan = plan.now; state = start_of instance.now }) }
     {
         let _known = instance.trips();
@@ -121,7 +121,10 @@ impl<'a> Day<'a> {
             return false;
         }
         match &event {
-            DayEvent::Depart(trip) => is_waiting(self.stages[trip.place()]),
+            DayEvent::Depart(trip) => {
+                is_waiting(self.stages[trip.place()])
+                    && have_feeders_arrived(self.instance, self.stages.as_slice(), *trip)
+            }
             DayEvent::Arrive(trip) => is_under_way(self.stages[trip.place()]),
         }
     }
@@ -141,7 +144,16 @@ impl<'a> Day<'a> {
         if !is_admissible(self.instance, trip, units) {
             return Some(StepFault::NotAdmissible(trip));
         }
-        match first_missing(self.instance, trip, self.places.as_slice(), units) {
+        if let Some(link) = broken_into(self.instance, self.plan, trip) {
+            return Some(StepFault::LinkBroken(link));
+        }
+        let taken = taken(self.instance, self.plan, trip);
+        match first_missing(
+            self.instance,
+            trip,
+            self.places.as_slice(),
+            taken.as_slice(),
+        ) {
             Some(unit) => Some(StepFault::NotInYard { unit, trip }),
             None => None,
         }
@@ -169,12 +181,23 @@ impl<'a> Day<'a> {
         if !self.is_now(DayEvent::Arrive(trip)) {
             return Err(StepFault::NotNow(DayEvent::Arrive(trip)));
         }
+        if let Some(link) = broken_out(self.instance, self.plan, trip) {
+            return Err(StepFault::LinkBroken(link));
+        }
         let moment = moment_of(self.instance, DayEvent::Arrive(trip));
         let station = goal(self.instance, trip);
         let ready = arrival(self.instance, trip) + reallocation(self.instance, station);
-        let units = self.plan.units(trip);
-        put_all(&mut self.places, units, &Place::Standing(trip));
-        put_all(&mut self.places, units, &Place::Yard { station, ready });
+        let given = given(self.instance, self.plan, trip);
+        put_all(
+            &mut self.places,
+            self.plan.units(trip),
+            &Place::Standing(trip),
+        );
+        put_all(
+            &mut self.places,
+            given.as_slice(),
+            &Place::Yard { station, ready },
+        );
         self.stages[trip.place()] = Stage::Arrived;
         self.moment = moment;
         Ok(())

@@ -5,6 +5,7 @@ mod balance;
 mod cost;
 pub mod day;
 pub mod events;
+mod hand_over;
 pub mod laws;
 mod links;
 mod sequence;

@@ -1,39 +1,25 @@
-//! What links do with the units of their trips: whether a link's rule holds, and which units are given to a yard and which
-//! are taken from one.
+//! What links do on a day: whether their rules hold, which units a trip gives to the yard and which it takes from it, and
+//! which trips it waits for.
 
-ghost use Rattle.std.specs.Prelude.{◌≡◌, ◌≤◌, ◌++◌, length, IfSome};
-ghost use Rattle.timetable.specs.Links.{same, is_left_of, beyond, turn_parts, turn_of, join_holds, split_holds, turned, link_holds, given_by, taken_by};
-ghost use Rattle.day_simulator.specs.Trips.{NamesBelow};
+ghost use Rattle.std.specs.Prelude.{◌≡◌, ◌<◌, ℕ, length, IfSome};
+ghost use Rattle.std.specs.List.{list_all};
+ghost use Rattle.timetable.specs.Links.{link_holds, given_by, taken_by, link_out, link_into, arriving_in, given, taken};
+ghost use Rattle.timetable.specs.Running.{IsPlan};
+ghost use Rattle.day_simulator.specs.State.{stage_of, has_arrived};
+ghost use Rattle.day_simulator.specs.Steps.{is_tested_at, broken, broken_into, broken_out, feeders};
+ghost use Rattle.day_simulator.specs.Trips.{AreUnits, NamesBelow};
 
+use crate::balance::stage_of;
+use crate::events::Stage;
+use crate::hand_over::{copy_of, is_joined, is_split, turn_of, turn_parts, turned};
 use arrayvec::ArrayVec;
-use rail_base::UnitNo;
-use rail_csv::End;
-use std::marker::Model;
+use rail_base::{LinkNo, TripNo, UnitNo};
 use timetable::records::{Link, LinkKind};
-use timetable::NamedPlan;
-
-/// A hand-over from an arriving list to a departing list. A contract sees its three lists.
-#[derive(Drop)]
-struct Parts<'a> {
-    /// The units that stay in the train.
-    kept: &'a [UnitNo],
-    /// The units that are given to the yard.
-    given: &'a [UnitNo],
-    /// The units that are taken from the yard.
-    taken: &'a [UnitNo],
-}
-
-impl<'a> Model for Parts<'a> {
-    ghost use Rattle.timetable.specs.Links.{Parts};
-
-    ghost Value = { Parts };
-
-    ghost view = { λ a. record { kept = a.kept.now; given = a.given.now; taken = a.taken.now } };
-}
+use timetable::{Instance, NamedPlan};
 
 /// Whether a link's rule holds.
 #[tactic(auto, unfolding(timetable::specs::Links::link_holds, timetable::specs::Links::join_holds, timetable::specs::Links::split_holds))]
-pub(crate) fn link_holds(link: &Link, plan: &NamedPlan) -> bool
+fn link_holds(link: &Link, plan: &NamedPlan) -> bool
     requires { NamesBelow (length plan.now) link.now.kind }
     ensures { result ≡ link_holds link.now plan.now }
 {
@@ -68,7 +54,7 @@ pub(crate) fn link_holds(link: &Link, plan: &NamedPlan) -> bool
 }
 
 /// The units that the arriving trip of a link gives to the yard.
-pub(crate) fn given_by(link: &Link, plan: &NamedPlan) -> ArrayVec<UnitNo, 6>
+fn given_by(link: &Link, plan: &NamedPlan) -> ArrayVec<UnitNo, 6>
     requires { NamesBelow (length plan.now) link.now.kind }
     ensures { result.items ≡ given_by link.now.kind link.now.reverse plan.now }
 {
@@ -88,7 +74,7 @@ pub(crate) fn given_by(link: &Link, plan: &NamedPlan) -> ArrayVec<UnitNo, 6>
 }
 
 /// The units that the departing trip of a link takes from the yard, front to rear.
-pub(crate) fn taken_by(link: &Link, plan: &NamedPlan) -> ArrayVec<UnitNo, 6>
+fn taken_by(link: &Link, plan: &NamedPlan) -> ArrayVec<UnitNo, 6>
     requires { NamesBelow (length plan.now) link.now.kind }
     ensures { result.items ≡ taken_by link.now.kind link.now.reverse plan.now }
 {
@@ -107,128 +93,134 @@ pub(crate) fn taken_by(link: &Link, plan: &NamedPlan) -> ArrayVec<UnitNo, 6>
     }
 }
 
-/// The hand-over of a turn, or nothing where its rule is broken. The arriving list is the one after a reversal.
-#[tactic(auto, unfolding(timetable::specs::Links::turn_parts))]
-fn turn_parts<'a>(
-    uncouple: End,
-    couple: End,
-    arriving: &'a [UnitNo],
-    departing: &'a [UnitNo],
-) -> Option<Parts<'a>>
-    ensures parts { result ≡ turn_parts uncouple couple arriving.now departing.now }
-    ensures few_given { IfSome result (λ parts. length parts.given ≤ length arriving.now) }
-    ensures few_taken { IfSome result (λ parts. length parts.taken ≤ length departing.now) }
+/// The link that leads on from a trip, if any does.
+fn link_out(instance: &Instance, trip: TripNo) -> Option<Link>
+    requires { trip < length instance.now.trips }
+    ensures link { result ≡ link_out instance.now trip }
+    ensures trips { IfSome result (λ link. NamesBelow (length instance.now.trips) link.kind) }
 {
-    if arriving == departing {
-        return Some(Parts {
-            kept: arriving,
-            given: &[],
-            taken: &[],
-        });
-    }
-    if is_left_of(uncouple, arriving, departing) {
-        return Some(Parts {
-            kept: departing,
-            given: beyond(uncouple, arriving, departing.len()),
-            taken: &[],
-        });
-    }
-    if is_left_of(couple, departing, arriving) {
-        return Some(Parts {
-            kept: arriving,
-            given: &[],
-            taken: beyond(couple, departing, arriving.len()),
-        });
-    }
-    None
+    let _known = instance.links();
+    let number = instance.outgoing(trip)?;
+    Some(*instance.link(number))
 }
 
-/// The hand-over of a turn. Where its rule is broken, nothing is kept.
-fn turn_of<'a>(
-    uncouple: End,
-    couple: End,
-    arriving: &'a [UnitNo],
-    departing: &'a [UnitNo],
-) -> Parts<'a>
-    ensures parts { result ≡ turn_of uncouple couple arriving.now departing.now }
-    ensures few_given { length result.given ≤ length arriving.now }
-    ensures few_taken { length result.taken ≤ length departing.now }
+/// The link that leads into a trip, if any does.
+fn link_into(instance: &Instance, trip: TripNo) -> Option<Link>
+    requires { trip < length instance.now.trips }
+    ensures link { result ≡ link_into instance.now trip }
+    ensures trips { IfSome result (λ link. NamesBelow (length instance.now.trips) link.kind) }
 {
-    match turn_parts(uncouple, couple, arriving, departing) {
-        Some(parts) => parts,
-        None => Parts {
-            kept: &[],
-            given: arriving,
-            taken: departing,
-        },
+    let _known = instance.links();
+    let number = instance.incoming(trip)?;
+    Some(*instance.link(number))
+}
+
+/// The units that a trip gives to the yard where it arrives: all of them where no link leads on.
+#[tactic(auto, unfolding(timetable::specs::Links::given))]
+pub(crate) fn given(instance: &Instance, plan: &NamedPlan, trip: TripNo) -> ArrayVec<UnitNo, 6>
+    requires trip { trip < length instance.now.trips }
+    requires plan { IsPlan instance.now plan.now }
+    ensures units { result.items ≡ given instance.now plan.now trip }
+{
+    match link_out(instance, trip) {
+        Some(link) => given_by(&link, plan),
+        None => copy_of(plan.units(trip)),
     }
 }
 
-/// The same units in the same order.
-fn copy_of(units: &[UnitNo]) -> ArrayVec<UnitNo, 6>
-    requires { length units.now ≤ 6 }
-    ensures { result.items ≡ units.now }
+/// The units that a trip takes from the yard where it leaves, front to rear: all of them where no link leads into it.
+#[tactic(auto, unfolding(timetable::specs::Links::taken))]
+pub(crate) fn taken(instance: &Instance, plan: &NamedPlan, trip: TripNo) -> ArrayVec<UnitNo, 6>
+    requires trip { trip < length instance.now.trips }
+    requires plan { IsPlan instance.now plan.now }
+    ensures units { result.items ≡ taken instance.now plan.now trip }
 {
-    let mut copy = ArrayVec::new();
-    for unit in units {
-        copy.push(*unit);
-    }
-    copy
-}
-
-/// An arriving list as it stands after the train has turned round, or not.
-fn turned(reversed: bool, units: &[UnitNo]) -> ArrayVec<UnitNo, 6>
-    requires { length units.now ≤ 6 }
-    ensures { result.items ≡ turned reversed units.now }
-{
-    let mut list = copy_of(units);
-    if reversed {
-        list.reverse();
-    }
-    list
-}
-
-/// Whether the part is what is left of the whole after one or more units went at this end, and at least one stays.
-fn is_left_of(end: End, whole: &[UnitNo], part: &[UnitNo]) -> bool
-    ensures { result ≡ is_left_of end whole.now part.now }
-{
-    if part.is_empty() || part.len() >= whole.len() {
-        return false;
-    }
-    match end {
-        End::None => false,
-        End::Rear => &whole[..part.len()] == part,
-        End::Front => &whole[whole.len() - part.len()..] == part,
+    match link_into(instance, trip) {
+        Some(link) => taken_by(&link, plan),
+        None => copy_of(plan.units(trip)),
     }
 }
 
-/// The units at this end, beyond so many that stay.
-fn beyond<'a>(end: End, whole: &'a [UnitNo], stay: usize) -> &'a [UnitNo]
-    requires { stay ≤ length whole.now }
-    ensures units { result.now ≡ beyond end whole.now stay }
-    ensures few { length result.now ≤ length whole.now }
+/// Whether a link's rule is tested at departures, or else at arrivals: a join where its trip leaves, a turn and a split where
+/// their trip arrives.
+fn is_tested_at(departure: bool, kind: LinkKind) -> bool
+    ensures { result ≡ is_tested_at departure kind }
 {
-    match end {
-        End::None => &[],
-        End::Rear => &whole[stay..],
-        End::Front => &whole[..whole.len() - stay],
+    match kind {
+        LinkKind::Join { .. } => departure,
+        LinkKind::Turn { .. } | LinkKind::Split { .. } => !departure,
     }
 }
 
-/// Whether the whole is the first list and then the second.
-fn is_joined(first: &[UnitNo], second: &[UnitNo], whole: &[UnitNo]) -> bool
-    ensures { result ≡ same (first.now ++ second.now) whole.now }
+/// The number of a link, where its rule is tested here and is broken.
+fn broken(
+    instance: &Instance,
+    plan: &NamedPlan,
+    departure: bool,
+    number: Option<LinkNo>,
+) -> Option<LinkNo>
+    requires plan { IsPlan instance.now plan.now }
+    requires number { IfSome number (λ l. l < length instance.now.links) }
+    ensures { result ≡ broken instance.now plan.now departure number }
 {
-    if whole.len() != first.len() + second.len() {
-        return false;
+    let _known = instance.links();
+    let number = number?;
+    let link = instance.link(number);
+    if is_tested_at(departure, link.kind) && !link_holds(link, plan) {
+        Some(number)
+    } else {
+        None
     }
-    &whole[..first.len()] == first && &whole[first.len()..] == second
 }
 
-/// Whether an arriving list is the first departing list and then the second, and neither is empty.
-#[tactic(auto, unfolding(timetable::specs::Links::split_holds))]
-fn is_split(arriving: &[UnitNo], first: &[UnitNo], second: &[UnitNo]) -> bool
-    ensures { result ≡ split_holds arriving.now first.now second.now }
+/// The link into a trip, where it is tested when the trip leaves and its rule is broken.
+#[tactic(auto, unfolding(crate::specs::Steps::broken_into))]
+pub(crate) fn broken_into(instance: &Instance, plan: &NamedPlan, trip: TripNo) -> Option<LinkNo>
+    requires trip { trip < length instance.now.trips }
+    requires plan { IsPlan instance.now plan.now }
+    ensures { result ≡ broken_into instance.now plan.now trip }
 {
-    is_joined(first, second, arriving) && !first.is_empty() && !second.is_empty()
+    broken(instance, plan, true, instance.incoming(trip))
+}
+
+/// The link on from a trip, where it is tested when the trip arrives and its rule is broken.
+#[tactic(auto, unfolding(crate::specs::Steps::broken_out))]
+pub(crate) fn broken_out(instance: &Instance, plan: &NamedPlan, trip: TripNo) -> Option<LinkNo>
+    requires trip { trip < length instance.now.trips }
+    requires plan { IsPlan instance.now plan.now }
+    ensures { result ≡ broken_out instance.now plan.now trip }
+{
+    broken(instance, plan, false, instance.outgoing(trip))
+}
+
+/// Whether a trip has arrived.
+fn has_arrived(stages: &[Stage], trip: TripNo) -> bool
+    ensures { result ≡ has_arrived (stage_of stages.now trip) }
+{
+    matches!(stage_of(stages, trip), Stage::Arrived)
+}
+
+/// Whether all the arriving trips of a link have arrived.
+fn have_arrived(stages: &[Stage], kind: LinkKind) -> bool
+    ensures { result ≡ list_all (λ a. has_arrived (stage_of stages.now a)) (arriving_in kind) }
+{
+    match kind {
+        LinkKind::Turn { arriving, .. } | LinkKind::Split { arriving, .. } => {
+            has_arrived(stages, arriving)
+        }
+        LinkKind::Join { first, second, .. } => {
+            has_arrived(stages, first) && has_arrived(stages, second)
+        }
+    }
+}
+
+/// Whether all the trips have arrived that a trip waits for: those that arrive for the link into it.
+pub(crate) fn have_feeders_arrived(instance: &Instance, stages: &[Stage], trip: TripNo) -> bool
+    requires { trip < length instance.now.trips }
+    ensures { result ≡ list_all (λ a. has_arrived (stage_of stages.now a)) (feeders instance.now trip) }
+{
+    match link_into(instance, trip) {
+        Some(link) => have_arrived(stages, link.kind),
+        None => true,
+    }
 }

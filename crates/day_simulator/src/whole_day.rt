@@ -42,19 +42,18 @@ impl From<NoMemory> for SimulateRefusal {
 }
 
 /// Steps a day's events by minute, arrivals before departures and then by trip number, and finishes it: its cost exactly
-/// where the plan runs, and else the first fault. The plan is one of this day, which has no links.
+/// where the plan runs, and else the first fault. The plan is one of this day.
 pub fn simulate(
     alloc: Global,
     instance: &Instance,
     plan: &NamedPlan,
 ) -> Result<Ran, SimulateRefusal>
-    requires plan { IsPlan instance.now plan.now }
-    requires without_links { instance.now.links ≡ [] }
+    requires { IsPlan instance.now plan.now }
     ensures exact { Simulates instance.now plan.now result }
     ensures runs { IfOk result (λ ran. Runs instance.now plan.now × IsCost (plan_cost instance.now plan.now) ran.cost) }
     ensures stops { (fault : StepFault) → IsErrOf result (SimulateRefusal.Stops fault) → Runs instance.now plan.now → ⊥ }
 {
-    let _known = instance.trips();
+    let _known = (instance.trips(), instance.links());
     let mut day = Day::new(alloc, instance, plan)?;
     let order = fixed_order(alloc, instance)?;
     if let Err(fault) = step_all(&mut day, order.as_slice()) {

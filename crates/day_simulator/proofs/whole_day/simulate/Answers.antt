@@ -12,7 +12,7 @@ returns-in-Err-clause-exact c =
 
 pub returns-in-Err-clause-stops : goal.returns-in-Err-clause-stops
 returns-in-Err-clause-stops c = λ fault is runs.
-    never_runs c.args.instance.now c.args.plan.now c.trips-known.ensures.sound c.requires.plan c.requires.without_links c.in-Err.fault (returns-in-Err-clause-exact c) runs
+    never_runs c.args.instance.now c.args.plan.now c.trips.ensures.sound c.links.ensures.sound c.requires c.in-Err.fault (returns-in-Err-clause-exact c) runs
 
 pub returns-in-Ok-clause-exact : goal.returns-in-Ok-clause-exact
 returns-in-Ok-clause-exact c =
@@ -24,7 +24,7 @@ returns-in-Ok-clause-exact c =
 pub returns-in-Ok-clause-runs : goal.returns-in-Ok-clause-runs
 returns-in-Ok-clause-runs c =
     let ran = returns-in-Ok-clause-exact c in
-    runs_at_cost c.args.instance.now c.args.plan.now c.trips-known.ensures.sound c.requires.plan c.requires.without_links ran.0 c.in-Ok.cost ran.1 ran.2
+    runs_at_cost c.args.instance.now c.args.plan.now c.trips.ensures.sound c.links.ensures.sound c.requires ran.0 c.in-Ok.cost ran.1 ran.2
 
 pub returns-clause-exact : goal.returns-clause-exact
 returns-clause-exact c =
@@ -35,4 +35,4 @@ returns-clause-exact c =
 
 pub returns-clause-stops : goal.returns-clause-stops
 returns-clause-stops c = λ fault is runs.
-    never_runs c.args.instance.now c.args.plan.now c.trips-known.ensures.sound c.requires.plan c.requires.without_links c.in-Err-finish.fault (returns-clause-exact c) runs
+    never_runs c.args.instance.now c.args.plan.now c.trips.ensures.sound c.links.ensures.sound c.requires c.in-Err-finish.fault (returns-clause-exact c) runs

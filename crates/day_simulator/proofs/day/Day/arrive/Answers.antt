@@ -1,15 +1,17 @@
-use Rattle.std.proofs.Common.{◌≡◌, ℕ, List, sym, ap, ◌∙◌, subst, refl, ◌+◌, true}
+use Rattle.std.proofs.Common.{◌≡◌, ℕ, List, Some, None, Err, IsTrue, sym, ap, ◌∙◌, subst, refl, ◌+◌, true, length, arith}
 use Rattle.day_simulator.specs.declared.events.DayEvent.TheVariants.{Arrive}
-use Rattle.day_simulator.specs.declared.events.StepFault.TheVariants.{NotNow}
-use Rattle.timetable.specs.Links.{list_of}
-use Rattle.day_simulator.specs.Progressing.{Progress}
+use Rattle.day_simulator.specs.declared.events.StepFault.TheVariants.{NotNow, LinkBroken}
+use Rattle.timetable.specs.Links.{list_of, given}
+use Rattle.timetable.specs.Lists.{has}
+use Rattle.day_simulator.specs.Progressing.{Progress, MakesStep}
 use Rattle.day_simulator.specs.Progress.{progress_in}
 use Rattle.day_simulator.specs.Steps.{is_now, fault_of}
-use Rattle.day_simulator.proofs.Unlinked.{not_now, arrival_now}
+use Rattle.day_simulator.proofs.Faults.{not_now, arrival_now}
+use Rattle.day_simulator.proofs.LinkTrips.{given_known}
+use Rattle.day_simulator.proofs.PutPlaces.{length-put_all}
 use Rattle.day_simulator.proofs.Stepping.{step_fails, step_goes, arrived, put_in}
 use Rattle.std.specs.Vec.{with_items}
-use Rattle.std.specs.Prelude.{slice_set}
-use Rattle.std.proofs.Common.{None}
+use Rattle.std.specs.Prelude.{slice_set, option_map}
 use Rattle.timetable.specs.Day.{to_of, arrives, reallocation_of}
 use Rattle.day_simulator.specs.declared.events.Place.{Place}
 use Rattle.day_simulator.specs.declared.events.Place.TheVariants.{Standing, Yard}
@@ -23,24 +25,47 @@ returns-then-not-is_now c =
     let e = Arrive c.args.trip in
     step_fails p e (NotNow e) (not_now p.day p.plan p.state e (sym c.is_now.ensures ∙ c.if-not-is_now.true))
 
+pub returns-in-Some : goal.returns-in-Some
+returns-in-Some c =
+    let p = progress_in c.self.inside in
+    let t = c.args.trip in
+    let e = Arrive t in
+    let now : is_now p.day p.state e ≡ true = subst (λ (q : Progress). is_now q.day q.state e ≡ true) (sym c.self.view_is) (sym c.is_now.ensures ∙ c.if-not-is_now.false) in
+    let breaks : Some (LinkBroken c.in-Some.link) ≡ fault_of p.day p.plan p.state e =
+    ap (option_map (λ l. LinkBroken l)) (sym c.in-Some.is ∙ c.broken_out.ensures) ∙ arrival_now p.day p.plan p.state t now in
+    subst (λ (q : Progress). MakesStep q e (Err (LinkBroken c.in-Some.link)) q) c.self.view_is (step_fails p e (LinkBroken c.in-Some.link) breaks)
+
+pub put_all-requires-2 : goal.put_all-requires-2
+put_all-requires-2 c = λ u h.
+    let p = progress_in c.self.inside in
+    let t = c.args.trip in
+    let us = c.units.result.now in
+    let listed = subst (λ (vs : List ℕ). IsTrue (has u vs)) (c.as_slice.ensures.value ∙ c.given-given.ensures.units) h in
+    let known = given_known p.day p.plan c.self.invariant.plan t u listed in
+    let put = c.put_all.ensures ∙ ap (λ (ps : List Place). put_all ps us (Standing t)) c.deref_mut.ensures.value in
+    let standing = c.deref_mut-2.ensures.value ∙ put_in c.self.inside.places us (Standing t) c.put_all.new.places put in
+    omega (arith, known, ap length standing, length-put_all p.state.places us (Standing t), c.self.invariant.places)
+
 pub returns : goal.returns
 returns c =
     let p = progress_in c.self.inside in
     let t = c.args.trip in
     let e = Arrive t in
-    let us = c.units-units.result.now in
+    let us = c.units.result.now in
+    let vs = c.as_slice.result.now in
     let yard = Yard c.goal-station.result (c.arrival.result + c.reallocation.result) in
+    let now : is_now p.day p.state e ≡ true = subst (λ (q : Progress). is_now q.day q.state e ≡ true) (sym c.self.view_is) (sym c.is_now.ensures ∙ c.if-not-is_now.false) in
     let none : None ≡ fault_of p.day p.plan p.state e =
-    arrival_now p.day c.self.invariant.without_links p.plan p.state t
-    (subst (λ (q : Progress). is_now q.day q.state e ≡ true) (sym c.self.view_is) (sym c.is_now.ensures ∙ c.if-not-is_now.false)) in
+    ap (option_map (λ l. LinkBroken l)) (sym c.in_default.is ∙ c.broken_out.ensures) ∙ arrival_now p.day p.plan p.state t now in
     let put = c.put_all.ensures ∙ ap (λ (ps : List Place). put_all ps us (Standing t)) c.deref_mut.ensures.value in
     let standing = put_in c.self.inside.places us (Standing t) c.put_all.new.places put in
-    let put_again = c.put_all-2.ensures ∙ ap (λ (ps : List Place). put_all ps us yard) c.deref_mut-2.ensures.value in
-    let given = put_in (with_items c.self.inside.places c.put_all.new.places) us yard c.put_all-2.new.places put_again ∙ ap (λ (ps : List Place). put_all ps us yard) standing in
-    let listed = ap (λ (vs : List ℕ). put_all (put_all p.state.places vs (Standing t)) vs yard) c.units-units.ensures.value in
+    let put_again = c.put_all-2.ensures ∙ ap (λ (ps : List Place). put_all ps vs yard) c.deref_mut-2.ensures.value in
+    let given_back = put_in (with_items c.self.inside.places c.put_all.new.places) vs yard c.put_all-2.new.places put_again ∙ ap (λ (ps : List Place). put_all ps vs yard) standing in
+    let listed = ap (λ (ws : List ℕ). put_all (put_all p.state.places ws (Standing t)) vs yard) c.units.ensures.value in
+    let handed = ap (λ (ws : List ℕ). put_all (put_all p.state.places (list_of p.plan t) (Standing t)) ws yard) (c.as_slice.ensures.value ∙ c.given-given.ensures.units) in
     let ready : yard ≡ Yard (to_of p.day t) (arrives p.day t + reallocation_of p.day (to_of p.day t)) =
     rw (c.reallocation.ensures.minutes, c.arrival.ensures.minute, c.goal-station.ensures.station) refl in
-    let placed = ap (λ (y : Place). put_all (put_all p.state.places (list_of p.plan t) (Standing t)) (list_of p.plan t) y) ready in
+    let placed = ap (λ (y : Place). put_all (put_all p.state.places (list_of p.plan t) (Standing t)) (given p.day p.plan t) y) ready in
     let stages = ap (λ (k : ℕ). slice_set p.state.stages k stage.Arrived) c.place.ensures.number in
-    let now = arrived p.day c.self.invariant.without_links p.plan p.state t _ _ _ (given ∙ listed ∙ placed) stages c.moment_of-moment.ensures in
-    rw (← c.self.view_is) (step_goes p _ e none (ap (λ (s : State). record p { state = s }) now))
+    let after = arrived p.day p.plan p.state t _ _ _ (given_back ∙ listed ∙ handed ∙ placed) stages c.moment_of-moment.ensures in
+    rw (← c.self.view_is) (step_goes p _ e none (ap (λ (s : State). record p { state = s }) after))

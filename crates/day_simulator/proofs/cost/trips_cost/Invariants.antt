@@ -1,6 +1,6 @@
 use Rattle.std.proofs.Common.{◌≡◌, ◌≤◌, ◌*◌}
-use Rattle.day_simulator.proofs.Costs.{trips_cost}
-use Rattle.day_simulator.proofs.cost.plan_cost.Given as goal
+use Rattle.day_simulator.specs.Trips.{trips_cost}
+use Rattle.day_simulator.proofs.cost.trips_cost.Given as goal
 
 abbrev pub invariant-loop-number : goal.invariant-loop-number
 invariant-loop-number l = record {

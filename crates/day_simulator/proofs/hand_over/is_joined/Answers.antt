@@ -1,6 +1,6 @@
 use Rattle.std.proofs.Common.{sym, ◌∙◌}
 use Rattle.day_simulator.proofs.Joining.{begins, begins_otherwise}
-use Rattle.day_simulator.proofs.links.is_joined.Goals as goal
+use Rattle.day_simulator.proofs.hand_over.is_joined.Goals as goal
 
 pub returns-then-eq : goal.returns-then-eq
 returns-then-eq c =
