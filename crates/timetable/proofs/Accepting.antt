@@ -5,7 +5,7 @@ use Rattle.std.proofs.lemmas.Bool.{or_cases}
 use Rattle.std.proofs.lemmas.List.Elements.{All-push, All-head, All-tail}
 use Rattle.std.proofs.lemmas.List.Quantifiers.{all_pairs_push}
 use Rattle.timetable.specs.declared.refusal.InstanceRefusal.{InstanceRefusal}
-use Rattle.timetable.specs.Build.{found_or}
+use Rattle.timetable.specs.Naming.{found_or}
 use Rattle.timetable.specs.Rowwise.{◌>>=◌, accept_each}
 
 -- a step that went well is one that gave a value, and the rest went well on it

@@ -6,7 +6,8 @@ use Rattle.std.proofs.lemmas.List.{length-replicate}
 use Rattle.std.proofs.lemmas.List.Elements.{All-nil, All-head, All-tail, All-append, All-replicate}
 use Rattle.std.proofs.lemmas.Bool.{ltb-false}
 use Rattle.compositions.specs.declared.types.UnitType.{UnitType}
-use Rattle.rail_csv.specs.Rows.{AreTypeRows, AreStationRows, AreTripRows, IsWeightsRow}
+use Rattle.rail_csv.specs.Rows.{AreTypeRows, AreStationRows, AreTripRows, AreLinkRows, IsWeightsRow}
+use Rattle.rail_csv.specs.declared.rows.LinkRow.{LinkRow}
 use Rattle.timetable.specs.declared.records.Link.{Link}
 use Rattle.timetable.specs.declared.records.Station.{Station}
 use Rattle.timetable.specs.declared.records.Stock.{Stock}
@@ -19,9 +20,10 @@ use Rattle.timetable.specs.Accepted.{IsDay}
 use Rattle.timetable.specs.Rowwise.{◌>>=◌}
 use Rattle.timetable.specs.Build.{starts_of, most_units, types_in, stations_in, stock_in, trips_in, weights_in, day_of}
 use Rattle.timetable.specs.Day.{Day, units_in, units_of, leaves, arrives, from_of, to_of, km_of, demand_of, home_of, type_of, reallocation_of}
+use Rattle.timetable.specs.LinkRows.{accept_link, links_in}
 use Rattle.timetable.specs.Lists.{of_entry}
 use Rattle.timetable.specs.Within.{AreTypes, AreStations, IsStockAt, IsTripAt, AreTrips, AreWeights}
-use Rattle.timetable.proofs.Accepting.{bind_ok, guard_ok, same_ok}
+use Rattle.timetable.proofs.Accepting.{bind_ok, guard_ok, same_ok, accepted_length}
 use Rattle.timetable.proofs.Entries.{are_types, are_stations, are_stock, are_trips}
 
 -- an entry that is there
@@ -62,7 +64,7 @@ units_within stations types (row ∷ rows) all =
 
 -- a day of accepted entries
 is_day : (day : Day) → AreTypes day.types → AreStations day.stations → All (IsStockAt (length day.stations) (length day.types)) day.stock → starts_of day.stock ≤ 2000
-    → AreTrips (length day.stations) day.trips → day.links ≡ [] → AreWeights day.weights → IsDay day
+    → AreTrips (length day.stations) day.trips → length day.links ≤ 400 → AreWeights day.weights → IsDay day
 unfolding leaves arrives from_of to_of km_of demand_of home_of type_of reallocation_of units_of
 is_day day types stations stock few trips links weights =
     let trip_at = λ (t : ℕ) (below : t < length day.trips). entry_at (IsTripAt (length day.stations)) day.trips t below trips.each in
@@ -83,7 +85,7 @@ is_day day types stations stock few trips links weights =
       type_count = types.few;
       station_count = stations.few;
       trip_count = trips.few;
-      link_count = subst (λ (ls : List Link). length ls ≤ 400) (sym links) (omega arith);
+      link_count = links;
       units = omega (arith, length-units_in day.stock);
       carriage = weights.carriage;
       shortage = weights.shortage;
@@ -97,36 +99,43 @@ pub record IsMade (tables : Tables) (day : Day) : Type 0 where
   pub stock : stock_in day.stations day.types tables.stock ≡ Ok day.stock
   pub few : starts_of day.stock ≤ 2000
   pub trips : trips_in day.stations day.types tables.trips ≡ Ok day.trips
-  pub links : day.links ≡ []
+  pub links : links_in day.trips tables.links ≡ Ok day.links
   pub weights : day.weights ≡ weights_in tables.weights
 
 pub day_is_made : (tables : Tables) (day : Day) → day_of tables ≡ Ok day → IsMade tables day
 unfolding day_of
 day_is_made tables day e =
-    let made : List UnitType → List Station → List Stock → List Trip → Day = λ types stations stock trips. record { types = types; stations = stations; stock = stock; trips = trips; links = []; weights = weights_in tables.weights } in
-    let with_trips : List UnitType → List Station → List Stock → Result Day InstanceRefusal = λ types stations stock. trips_in stations types tables.trips >>= (λ trips. Ok (made types stations stock trips)) in
+    let made : List UnitType → List Station → List Stock → List Trip → List Link → Day = λ types stations stock trips links. record { types = types; stations = stations; stock = stock; trips = trips; links = links; weights = weights_in tables.weights } in
+    let with_links : List UnitType → List Station → List Stock → List Trip → Result Day InstanceRefusal = λ types stations stock trips. links_in trips tables.links >>= (λ links. Ok (made types stations stock trips links)) in
+    let with_trips : List UnitType → List Station → List Stock → Result Day InstanceRefusal = λ types stations stock. trips_in stations types tables.trips >>= (λ trips. with_links types stations stock trips) in
     let with_stock : List UnitType → List Station → List Stock → Result Day InstanceRefusal = λ types stations stock. if nat_lt most_units (starts_of stock) then Err TooManyUnits else with_trips types stations stock in
     let (types, is_types, e1) = bind_ok (types_in tables.types) (λ types. stations_in tables.stations >>= (λ stations. stock_in stations types tables.stock >>= (λ stock. with_stock types stations stock))) day e in
     let (stations, is_stations, e2) = bind_ok (stations_in tables.stations) (λ stations. stock_in stations types tables.stock >>= (λ stock. with_stock types stations stock)) day e1 in
     let (stock, is_stock, e3) = bind_ok (stock_in stations types tables.stock) (λ stock. with_stock types stations stock) day e2 in
     let (few, e4) = guard_ok (nat_lt most_units (starts_of stock)) TooManyUnits (with_trips types stations stock) day e3 in
-    let (trips, is_trips, e5) = bind_ok (trips_in stations types tables.trips) (λ trips. Ok (made types stations stock trips)) day e4 in
-    subst (IsMade tables) (same_ok (made types stations stock trips) day e5) (record {
+    let (trips, is_trips, e5) = bind_ok (trips_in stations types tables.trips) (λ trips. with_links types stations stock trips) day e4 in
+    let (links, is_links, e6) = bind_ok (links_in trips tables.links) (λ links. Ok (made types stations stock trips links)) day e5 in
+    subst (IsMade tables) {x = made types stations stock trips links} (same_ok (made types stations stock trips links) day e6) (record {
       types = is_types;
       stations = is_stations;
       stock = is_stock;
       few = ltb-false 2000 (starts_of stock) few;
       trips = is_trips;
-      links = refl;
+      links = is_links;
       weights = refl;
     })
 
+-- there are no more links than rows
+pub few_links : (trips : List Trip) (rows : List LinkRow) (links : List Link) → AreLinkRows rows → links_in trips rows ≡ Ok links → length links ≤ 400
+unfolding links_in
+few_links trips rows links are e = omega (arith, accepted_length (accept_link trips) [] rows links e, are.few)
+
 -- the day of tables whose rows keep within the rules keeps within the limits
-pub day_within_limits : (tables : Tables) (day : Day) → AreTypeRows tables.types → AreStationRows tables.stations → AreTripRows tables.trips → IsWeightsRow tables.weights
+pub day_within_limits : (tables : Tables) (day : Day) → AreTypeRows tables.types → AreStationRows tables.stations → AreTripRows tables.trips → AreLinkRows tables.links → IsWeightsRow tables.weights
     → day_of tables ≡ Ok day → IsDay day
-day_within_limits tables day types stations trips weights e =
+day_within_limits tables day types stations trips links weights e =
     let made = day_is_made tables day e in
     is_day day (are_types tables.types day.types types made.types) (are_stations tables.stations day.stations stations made.stations)
     (are_stock day.stations day.types tables.stock day.stock made.stock) made.few
-    (are_trips day.stations day.types tables.trips day.trips trips made.trips) made.links
+    (are_trips day.stations day.types tables.trips day.trips trips made.trips) (few_links day.trips tables.links day.links links made.links)
     (subst AreWeights (sym made.weights) (record { carriage = weights.carriage.1; shortage = weights.shortage.1; shunting = weights.shunting.1 }))

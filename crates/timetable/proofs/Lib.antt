@@ -2,7 +2,10 @@ pub mod Accepting
 pub mod Entries
 pub mod Days
 pub mod LinkTables
+pub mod Linking
 pub mod Lists
 pub mod Fitting
 pub mod Said
+pub mod RefusedRows
+pub mod LinksRefused
 pub mod Refused

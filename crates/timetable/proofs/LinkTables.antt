@@ -1,12 +1,9 @@
 -- The links that name a trip, listed by trip.
-use Rattle.std.proofs.Common.{◌≡◌, inl, inr, ℕ, zero, suc, ◌<◌, ◌≤◌, List, [], ◌∷◌, ◌++◌, length, get_or, refl, sym, ap, subst, ◌∙◌, arith, length-append, Option, Some, slice_get}
+use Rattle.std.proofs.Common.{◌≡◌, inl, inr, ℕ, zero, suc, ◌<◌, List, [], ◌∷◌, ◌++◌, length, get_or, refl, sym, ap, subst, ◌∙◌, arith, length-append, Option, Some, slice_get}
 use Rattle.std.proofs.lemmas.Bool.{cases_lt}
-use Rattle.std.proofs.lemmas.Option.{slice_get_within, get_or_from_slice_get}
+use Rattle.std.proofs.lemmas.Option.{get_or_from_slice_get}
 use Rattle.timetable.specs.declared.records.Link.{Link}
 use Rattle.timetable.specs.declared.records.LinkKind.{LinkKind}
-use Rattle.timetable.specs.Accepted.{AreLinks, times_named}
-use Rattle.timetable.specs.Day.{Day}
-use Rattle.timetable.specs.Links.{arriving_in, departing_in}
 use Rattle.timetable.specs.LinkTables.{link_naming, link_table}
 
 pub length-link_table : (side : LinkKind → List ℕ) (links : List Link) (n : ℕ) → length (link_table side links n) ≡ n
@@ -43,16 +40,3 @@ table_entry side links n t table d is below =
 -- a table of these links and so many trips
 pub table_of : (side : LinkKind → List ℕ) (table : List (Option ℕ)) (read links : List Link) (n trips : ℕ) → table ≡ link_table side read n → read ≡ links → n ≡ trips → table ≡ link_table side links trips
 table_of side table read links n trips is same count = is ∙ ap (λ (ls : List Link). link_table side ls n) same ∙ ap (λ (k : ℕ). link_table side links k) count
-
--- where there are no links, nothing is named
-pub no_links : (day : Day) → day.links ≡ [] → AreLinks day
-no_links day none = record {
-  arriving_once = λ t. subst (λ (ls : List Link). times_named arriving_in ls t ≤ 1) (sym none) (omega arith);
-  departing_once = λ t. subst (λ (ls : List Link). times_named departing_in ls t ≤ 1) (sym none) (omega arith);
-  arriving = λ l t link at. absurd (not_there l link (subst (λ (ls : List Link). slice_get ls l ≡ Some link) none at));
-  departing = λ l t link at. absurd (not_there l link (subst (λ (ls : List Link). slice_get ls l ≡ Some link) none at));
-  in_time = λ l a b link at. absurd (not_there l link (subst (λ (ls : List Link). slice_get ls l ≡ Some link) none at));
-}
-  where
-    not_there : (l : ℕ) (link : Link) → slice_get [] l ≡ Some link → ⊥
-    not_there l link at = let below : l < 0 = slice_get_within [] l link at in absurd (omega arith)

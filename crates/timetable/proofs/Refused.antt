@@ -1,18 +1,18 @@
 -- What the tests refuse is so in the tables.
-use Rattle.std.proofs.Common.{◌≡◌, ◌≢◌, inl, inr, ℕ, ◌<◌, ◌≤◌, Bool, true, false, List, [], ◌∷◌, map, length, get_or, refl, sym, ap, subst, ◌∙◌, arith, zero-add, Option, Some, None, Result, Ok, Err, ltb, cond}
+use Rattle.std.proofs.Common.{◌≡◌, ◌≢◌, inl, inr, ℕ, ◌<◌, Bool, true, false, List, [], ◌∷◌, map, length, get_or, refl, sym, ap, subst, ◌∙◌, arith, Option, Some, Result, Ok, Err}
 use Rattle.std.specs.Prelude.{◌==◌, ◌&&◌, option_map, min, IfErr, nat_le, nat_lt, if◌then◌else◌}
-use Rattle.std.specs.List.{All, AllZip, position_or_len}
+use Rattle.std.specs.List.{All, AllZip}
 use Rattle.std.specs.Str.{bytes_eq}
-use Rattle.std.proofs.lemmas.Bool.{and_parts, eqb-true, leb-true, ltb-true, ltb-false, both_ways, cases_order}
+use Rattle.std.proofs.lemmas.Bool.{and_parts, eqb-true, leb-true, ltb-true, cases_order}
 use Rattle.std.proofs.lemmas.Option.{slice_get_within, slice_get-map, slice_get-get_or, same_Some}
 use Rattle.std.proofs.lemmas.List.{length-map}
-use Rattle.std.proofs.lemmas.List.Sums.{fails_before_first}
 use Rattle.std.proofs.lemmas.Slice.Eq.{bytes_eq-Decides}
 use Rattle.compositions.specs.Composition.{fits_in}
 use Rattle.compositions.specs.declared.types.UnitType.{UnitType}
 use Rattle.rail_csv.specs.declared.rows.StockRow.{StockRow}
 use Rattle.rail_csv.specs.declared.rows.TripRow.{TripRow}
 use Rattle.rail_csv.specs.declared.rows.Table.TheVariants as names
+use Rattle.timetable.specs.declared.records.Link.{Link}
 use Rattle.timetable.specs.declared.records.Station.{Station}
 use Rattle.timetable.specs.declared.records.Stock.{Stock}
 use Rattle.timetable.specs.declared.records.Trip.{Trip}
@@ -20,22 +20,20 @@ use Rattle.timetable.specs.declared.refusal.InstanceRefusal.{InstanceRefusal}
 use Rattle.timetable.specs.declared.refusal.InstanceRefusal.TheVariants.{RepeatedName, UnknownName, RepeatedStock, ArrivalNotAfterDeparture, SameStation, TripUsedTwice, WrongStation, TooEarly, WrongLinkFields, NoComposition, TooManyUnits, TooManyCompositions, NoMemory}
 use Rattle.timetable.specs.declared.tables.Tables.{Tables}
 use Rattle.timetable.specs.Admissible.{is_admissible}
-use Rattle.timetable.specs.Build.{has_name, find_name, found_or, has_stock, new_stock, has_fitting, platform_at, accept_type, accept_station, accept_stock, accept_trip, accept_run, type_in, station_in, types_in, stations_in, stock_in, trips_in, trip_between, starts_of, most_units, weights_in, day_of, Fails, Gives}
+use Rattle.timetable.specs.Build.{has_stock, new_stock, has_fitting, platform_at, accept_type, accept_station, accept_stock, accept_trip, accept_run, type_in, station_in, types_in, stations_in, stock_in, trips_in, trip_between, starts_of, most_units, weights_in, day_of, Fails, Gives}
+use Rattle.timetable.specs.Naming.{has_name, find_name, found_or}
 use Rattle.timetable.specs.Day.{Day, from_of, to_of, platform_of}
+use Rattle.timetable.specs.LinkRows.{links_in}
 use Rattle.timetable.specs.Meaning.{IsNumberOf, AreNamedApart}
 use Rattle.timetable.proofs.Said.{stations_apart, number_found}
 use Rattle.timetable.specs.Refusals.{IsRow, Repeats, IsUnserved, starts_in, IsBroken}
 use Rattle.timetable.specs.Rowwise.{◌>>=◌, row_after}
-use Rattle.timetable.proofs.Accepting.{IsFirstRefused, first_refused, bind_err, guard_err, choice_err, found_err, found_ok, any_front, accepted_length, accepted_map, accepted_zip}
+use Rattle.timetable.proofs.Accepting.{IsFirstRefused, first_refused, bind_err, guard_err, choice_err, found_err, found_ok, any_front, accepted_map, accepted_zip}
 use Rattle.timetable.proofs.Days.{entry_at, entry_is}
-use Rattle.timetable.proofs.Entries.{found_name, type_of_row, station_of_row, stock_of_row, trip_of_row}
+use Rattle.timetable.proofs.Entries.{type_of_row, station_of_row, stock_of_row, trip_of_row}
 use Rattle.timetable.proofs.Fitting.{nothing_admitted}
-
--- the row after those that gave so many entries
-refused_row : {A B E : Type 0} (accept : List B → A → Result B E) (rows : List A) (d : E) → (first : IsFirstRefused accept [] rows d) → IsRow rows (row_after first.entries) first.front first.row
-refused_row accept rows d first =
-    let same : length first.entries ≡ length first.front = accepted_length accept [] first.front first.entries first.accepted ∙ zero-add (length first.front) in
-    record { after = first.back; split = first.split; place = omega arith }
+use Rattle.timetable.proofs.LinksRefused.{links_refused}
+use Rattle.timetable.proofs.RefusedRows.{refused_row, not_found, same_name}
 
 -- a name that an entry has is that of a row before
 repeated : {A B E : Type 0} (accept : List B → A → Result B E) (row_name : A → List ℕ) (name_of : B → List ℕ) → ((before : List B) (row : A) (b : B) → accept before row ≡ Ok b → row_name row ≡ name_of b)
@@ -48,26 +46,6 @@ repeated accept row_name name_of step rows d first some = (
       (λ a b same here. same ∙ (bytes_eq-Decides (name_of b) (row_name first.row)).0 here)
       first.front first.entries (accepted_zip accept (λ a b. row_name a ≡ name_of b) step [] [] first.front first.entries tt first.accepted) some,
 )
-
--- a name that was not found is no entry's
-not_found : {X : Type 0} (name_of : X → List ℕ) (entries : List X) (name : List ℕ) → find_name name_of entries name ≡ None → All (λ entry. name_of entry ≢ name) entries
-not_found {X} name_of entries name e k d below same =
-    let test : X → Bool = λ entry. bytes_eq (name_of entry) name in
-    let past : ltb (position_or_len test entries) (length entries) ≡ false = cond_none (ltb (position_or_len test entries) (length entries)) (position_or_len test entries) e in
-    let after : length entries ≤ position_or_len test entries = ltb-false (position_or_len test entries) (length entries) past in
-    both_ways (test (get_or entries k d)) (fails_before_first test entries k d (omega arith)) ((bytes_eq-Decides (name_of (get_or entries k d)) name).1 same)
-  where
-    cond_none : (test : Bool) (n : ℕ) → cond test (Some n) None ≡ None → test ≡ false
-    cond_none true n e = absurd cc
-    cond_none false n e = refl
-
--- two names with one number are one
-same_name : {X : Type 0} (name_of : X → List ℕ) (entries : List X) (a b : List ℕ) (n : ℕ) → find_name name_of entries a ≡ Some n → find_name name_of entries b ≡ Some n → a ≡ b
-same_name name_of entries a b n is_a is_b =
-    let (below, at_a) = found_name name_of entries a n is_a in
-    let (_, at_b) = found_name name_of entries b n is_b in
-    let (x, _, _) = entry_at (λ _. Unit {0}) entries n below (λ k d b. tt) in
-    sym (at_a x) ∙ at_b x
 
 types_refused : (tables : Tables) (d : InstanceRefusal) → types_in tables.types ≡ Err d → IsBroken tables d
 unfolding types_in accept_type
@@ -234,7 +212,9 @@ trips_refused tables stations types d made are_stations are_types e =
 pub refusal_is_so : (tables : Tables) (d : InstanceRefusal) → day_of tables ≡ Err d → IsBroken tables d
 unfolding day_of types_in stations_in
 refusal_is_so tables d e =
-    let with_trips : List UnitType → List Station → List Stock → Result Day InstanceRefusal = λ types stations stock. trips_in stations types tables.trips >>= (λ trips. Ok (record { types = types; stations = stations; stock = stock; trips = trips; links = []; weights = weights_in tables.weights })) in
+    let made : List UnitType → List Station → List Stock → List Trip → List Link → Day = λ types stations stock trips links. record { types = types; stations = stations; stock = stock; trips = trips; links = links; weights = weights_in tables.weights } in
+    let with_links : List UnitType → List Station → List Stock → List Trip → Result Day InstanceRefusal = λ types stations stock trips. links_in trips tables.links >>= (λ links. Ok (made types stations stock trips links)) in
+    let with_trips : List UnitType → List Station → List Stock → Result Day InstanceRefusal = λ types stations stock. trips_in stations types tables.trips >>= (λ trips. with_links types stations stock trips) in
     let with_stock : List UnitType → List Station → List Stock → Result Day InstanceRefusal = λ types stations stock. if nat_lt most_units (starts_of stock) then Err TooManyUnits else with_trips types stations stock in
     elim (bind_err (types_in tables.types) (λ types. stations_in tables.stations >>= (λ stations. stock_in stations types tables.stock >>= (λ stock. with_stock types stations stock))) d e) [
       | inl none ↦ types_refused tables d none
@@ -247,9 +227,12 @@ refusal_is_so tables d e =
               | inl none ↦ stock_refused tables stations types d are_stations are_types none
               | inr (stock, is_stock, e3) ↦ elim (guard_err (nat_lt most_units (starts_of stock)) TooManyUnits (with_trips types stations stock) d e3) [
                 | inl many ↦ subst (IsBroken tables) many.1 (units_refused tables stations types stock is_stock (ltb-true 2000 (starts_of stock) many.0))
-                | inr e4 ↦ elim (bind_err (trips_in stations types tables.trips) (λ trips. Ok (record { types = types; stations = stations; stock = stock; trips = trips; links = []; weights = weights_in tables.weights })) d e4) [
+                | inr e4 ↦ elim (bind_err (trips_in stations types tables.trips) (λ trips. with_links types stations stock trips) d e4) [
                   | inl none ↦ trips_refused tables stations types d is_stations are_stations are_types none
-                  | inr (trips, is_trips, e5) ↦ absurd cc
+                  | inr (trips, is_trips, e5) ↦ elim (bind_err (links_in trips tables.links) (λ links. Ok (made types stations stock trips links)) d e5) [
+                    | inl none ↦ links_refused tables stations types trips d is_trips none
+                    | inr (links, is_links, e6) ↦ absurd cc
+                  ]
                 ]
               ]
             ]

@@ -10,21 +10,28 @@ use Rattle.std.proofs.lemmas.Option.{slice_get-map, slice_get-get_or}
 use Rattle.std.proofs.lemmas.Slice.Eq.{bytes_eq-Decides}
 use Rattle.compositions.specs.Composition.{fits_in}
 use Rattle.compositions.specs.declared.types.UnitType.{UnitType}
+use Rattle.rail_csv.specs.declared.rows.LinkRow.{LinkRow}
 use Rattle.rail_csv.specs.declared.rows.StationRow.{StationRow}
 use Rattle.rail_csv.specs.declared.rows.StockRow.{StockRow}
 use Rattle.rail_csv.specs.declared.rows.TripRow.{TripRow}
+use Rattle.timetable.specs.declared.records.Link.{Link}
+use Rattle.timetable.specs.declared.records.LinkKind.{LinkKind}
+use Rattle.timetable.specs.declared.records.LinkKind.TheVariants.{Turn, Join, Split}
 use Rattle.timetable.specs.declared.records.Station.{Station}
 use Rattle.timetable.specs.declared.records.Stock.{Stock}
 use Rattle.timetable.specs.declared.records.Trip.{Trip}
 use Rattle.timetable.specs.declared.tables.Tables.{Tables}
 use Rattle.timetable.specs.Admissible.{is_admissible}
-use Rattle.timetable.specs.Build.{has_name, find_name, has_stock, platform_at, accept_type, accept_station, accept_stock, accept_trip, type_in, station_in, types_in, stations_in, stock_in, trips_in, day_of}
+use Rattle.timetable.specs.Build.{has_stock, platform_at, accept_type, accept_station, accept_stock, accept_trip, type_in, station_in, types_in, stations_in, stock_in, trips_in, day_of}
+use Rattle.timetable.specs.Naming.{has_name, find_name}
 use Rattle.timetable.specs.Day.{Day, leaves, arrives, from_of, to_of, platform_of, units_of}
-use Rattle.timetable.specs.Meaning.{IsNumberOf, IsStockOf, IsTripOf, AreNamedApart, IsOtherStock, IsDayOf}
+use Rattle.timetable.specs.LinkRows.{accept_link, links_in}
+use Rattle.timetable.specs.Meaning.{IsNumberOf, IsStockOf, IsTripOf, IsKindOf, IsLinkOf, AreNamedApart, IsOtherStock, IsDayOf}
 use Rattle.timetable.proofs.Accepting.{accepted_all, accepted_map, accepted_zip, accepted_pairs}
 use Rattle.timetable.proofs.Days.{IsMade, entry_at, entry_is, length-units_in, day_is_made}
 use Rattle.timetable.proofs.Entries.{IsStockOfRow, IsTripOfRow, Passes, found_name, type_of_row, station_of_row, stock_of_row, trip_of_row}
 use Rattle.timetable.proofs.Fitting.{fitting_admits}
+use Rattle.timetable.proofs.Linking.{IsFound, IsLinkOfRow, link_of_row, are_links, do_all_meet}
 
 -- a number that was found is that of the name
 pub number_found : {X : Type 0} (name_of : X → List ℕ) (entries : List X) (name : List ℕ) (n : ℕ) → find_name name_of entries name ≡ Some n → IsNumberOf name_of entries name n
@@ -100,9 +107,48 @@ trip_served day t trip at passes =
     let same : longest trip.from trip.to ≡ longest (from_of day t) (to_of day t) = ap (λ (a : ℕ). longest a trip.to) (sym from) ∙ ap (λ (b : ℕ). longest (from_of day t) b) (sym to) in
     (ms, subst (λ (n : ℕ). fits_in day.types n ms ≡ true) same fits)
 
+-- the kind that was found is that of the names
+kind_said : (trips : List Trip) (row : LinkRow) (kind : LinkKind) → IsKindOf (IsFound trips) row kind → IsKindOf (IsNumberOf (λ t. t.name) trips) row kind
+kind_said trips row (Turn a b uncouple couple) is = record {
+  kind = is.kind;
+  arriving = number_found (λ t. t.name) trips row.arriving a is.arriving;
+  no_arriving2 = is.no_arriving2;
+  departing = number_found (λ t. t.name) trips row.departing b is.departing;
+  no_departing2 = is.no_departing2;
+  uncoupling = is.uncoupling;
+  coupling = is.coupling;
+}
+kind_said trips row (Join a1 a2 b) is = record {
+  kind = is.kind;
+  arriving = number_found (λ t. t.name) trips row.arriving a1 is.arriving;
+  name = is.name;
+  named = is.named;
+  arriving2 = number_found (λ t. t.name) trips is.name a2 is.arriving2;
+  departing = number_found (λ t. t.name) trips row.departing b is.departing;
+  no_departing2 = is.no_departing2;
+  no_uncoupling = is.no_uncoupling;
+  no_coupling = is.no_coupling;
+}
+kind_said trips row (Split a b1 b2) is = record {
+  kind = is.kind;
+  arriving = number_found (λ t. t.name) trips row.arriving a is.arriving;
+  no_arriving2 = is.no_arriving2;
+  departing = number_found (λ t. t.name) trips row.departing b1 is.departing;
+  name = is.name;
+  named = is.named;
+  departing2 = number_found (λ t. t.name) trips is.name b2 is.departing2;
+  no_uncoupling = is.no_uncoupling;
+  no_coupling = is.no_coupling;
+}
+
+link_said : (day : Day) (before : List Link) (row : LinkRow) (link : Link) → accept_link day.trips before row ≡ Ok link → IsLinkOf day row link
+link_said day before row link e =
+    let of_row : IsLinkOfRow day.trips before row link = link_of_row day.trips before row link e in
+    record { kind = kind_said day.trips row link.kind of_row.kind; reverse = of_row.reverse }
+
 -- the day that the tests give
 pub is_day_of : (tables : Tables) (day : Day) → day_of tables ≡ Ok day → IsDayOf tables day
-unfolding types_in stations_in stock_in trips_in leaves arrives from_of to_of units_of
+unfolding types_in stations_in stock_in trips_in links_in leaves arrives from_of to_of units_of
 is_day_of tables day e =
     let made = day_is_made tables day e in
     let pass = all_pass tables day made in
@@ -111,7 +157,7 @@ is_day_of tables day e =
       stations = accepted_map accept_station station_in (λ before row s is. (station_of_row before row s is).1) [] tables.stations day.stations made.stations;
       stock = accepted_zip (accept_stock day.stations day.types) (IsStockOf day) (stock_said day) [] [] tables.stock day.stock tt made.stock;
       trips = accepted_zip (accept_trip day.stations day.types) (IsTripOf day) (trip_said day) [] [] tables.trips day.trips tt made.trips;
-      links = made.links;
+      links = accepted_zip (accept_link day.trips) (IsLinkOf day) (link_said day) [] [] tables.links day.links tt made.links;
       weights = made.weights;
       type_names = accepted_pairs accept_type (λ a b. a.name ≢ b.name)
           (λ before row t is k d below. subst (λ (t : UnitType). (get_or before k d).name ≢ t.name) (type_of_row before row t is).1 (new_name (λ t. t.name) before row.name (type_of_row before row t is).0 k d below))
@@ -137,4 +183,6 @@ is_day_of tables day e =
       served = λ t below.
           let (trip, at, passes) = entry_at (Passes day.stations day.types) day.trips t below pass in
           trip_served day t trip at passes;
+      linked = are_links day tables.links made.links;
+      meet = do_all_meet day tables.links made.links;
     }

@@ -46,3 +46,7 @@ pub record AreLinks (day : Day) : Type 0 where
   pub arriving : (l t : ℕ) (link : Link) → slice_get day.links l ≡ Some link → IsTrue (has t (arriving_in link.kind)) → t < length day.trips
   pub departing : (l t : ℕ) (link : Link) → slice_get day.links l ≡ Some link → IsTrue (has t (departing_in link.kind)) → t < length day.trips
   pub in_time : (l a b : ℕ) (link : Link) → slice_get day.links l ≡ Some link → IsTrue (has a (arriving_in link.kind)) → IsTrue (has b (departing_in link.kind)) → arrives day a ≤ leaves day b
+
+-- each arriving trip of a link goes to the station that each departing one leaves from
+pub record DoMeet (day : Day) : Type 0 where
+  pub station : (l a b : ℕ) (link : Link) → slice_get day.links l ≡ Some link → IsTrue (has a (arriving_in link.kind)) → IsTrue (has b (departing_in link.kind)) → to_of day a ≡ from_of day b

@@ -1,7 +1,6 @@
 -- What the tables make: the day, or the first test that fails. Rows are tested in order, each by what the rows before it gave.
-use Rattle.std.specs.Prelude.{ℕ, ◌+◌, ◌≡◌, List, [], ◌∷◌, Bool, ◌&&◌, ◌==◌, nat_le, nat_lt, min, if◌then◌else◌, Option, Some, None, Result, Ok, Err, position}
+use Rattle.std.specs.Prelude.{ℕ, ◌+◌, ◌≡◌, List, [], ◌∷◌, Bool, ◌&&◌, ◌==◌, nat_le, nat_lt, min, if◌then◌else◌, Result, Ok, Err}
 use Rattle.std.specs.List.{list_any}
-use Rattle.std.specs.Str.{bytes_eq}
 use Rattle.std.specs.Global.{Vec}
 use Rattle.compositions.specs.declared.types.UnitType.{UnitType}
 use Rattle.rail_csv.specs.declared.rows.TypeRow.{TypeRow}
@@ -18,23 +17,10 @@ use Rattle.timetable.specs.declared.tables.Tables.{Tables}
 use Rattle.timetable.specs.declared.refusal.InstanceRefusal.{InstanceRefusal}
 use Rattle.timetable.specs.declared.refusal.InstanceRefusal.TheVariants.{RepeatedName, UnknownName, RepeatedStock, ArrivalNotAfterDeparture, SameStation, TripUsedTwice, WrongStation, TooEarly, WrongLinkFields, NoComposition, TooManyUnits, TooManyCompositions, NoMemory}
 use Rattle.timetable.specs.Day.{Day}
+use Rattle.timetable.specs.LinkRows.{links_in}
 use Rattle.timetable.specs.Lists.{of_entry}
+use Rattle.timetable.specs.Naming.{has_name, find_name, found_or}
 use Rattle.timetable.specs.Rowwise.{◌>>=◌, row_after, accept_each}
-
--- ---- names and rows
-
--- whether one of the entries has the name
-abbrev pub has_name : {X : Type 0} → (X → List ℕ) → List X → List ℕ → Bool
-has_name name_of entries name = list_any (λ entry. bytes_eq (name_of entry) name) entries
-
--- the number of the first entry with the name
-abbrev pub find_name : {X : Type 0} → (X → List ℕ) → List X → List ℕ → Option ℕ
-find_name name_of entries name = position (λ entry. bytes_eq (name_of entry) name) entries
-
--- a number that was found, or the refusal
-abbrev pub found_or : Option ℕ → InstanceRefusal → Result ℕ InstanceRefusal
-found_or (Some n) refusal = Ok n
-found_or None refusal = Err refusal
 
 -- ---- types
 
@@ -128,7 +114,7 @@ trips_in stations types rows = accept_each (accept_trip stations types) [] rows
 abbrev pub weights_in : WeightsRow → Weights
 weights_in row = record { carriage = row.carriage; shortage = row.shortage; shunting = row.shunting }
 
--- The day that tables without links make: types, stations, stock, the number of units, and then trips.
+-- The day that tables make: types, stations, stock, the number of units, trips, and then links.
 unfoldable pub day_of : Tables → Result Day InstanceRefusal
 day_of tables = do
   types ← types_in tables.types
@@ -136,7 +122,8 @@ day_of tables = do
   stock ← stock_in stations types tables.stock
   if nat_lt most_units (starts_of stock) then Err TooManyUnits else do
     trips ← trips_in stations types tables.trips
-    Ok (record { types = types; stations = stations; stock = stock; trips = trips; links = []; weights = weights_in tables.weights })
+    links ← links_in trips tables.links
+    Ok (record { types = types; stations = stations; stock = stock; trips = trips; links = links; weights = weights_in tables.weights })
 
 -- ---- what a call answers
 

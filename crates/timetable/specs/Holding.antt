@@ -2,7 +2,7 @@
 use Rattle.std.specs.Prelude.{◌≡◌, length}
 use Rattle.timetable.specs.declared.instance.Instance.TheInside.{Inside}
 use Rattle.timetable.specs.Day.{Day, units_of}
-use Rattle.timetable.specs.Accepted.{IsDay, AreLinks}
+use Rattle.timetable.specs.Accepted.{IsDay, AreLinks, DoMeet}
 use Rattle.timetable.specs.Links.{arriving_in, departing_in}
 use Rattle.timetable.specs.LinkTables.{link_table}
 
@@ -14,5 +14,6 @@ pub record Holds (a : Inside) : Type 0 where
   pub units : a.units.items ≡ units_of (day_in a)
   pub day : IsDay (day_in a)
   pub links : AreLinks (day_in a)
+  pub meet : DoMeet (day_in a)
   pub incoming : a.incoming.items ≡ link_table departing_in a.links.items (length a.trips.items)
   pub outgoing : a.outgoing.items ≡ link_table arriving_in a.links.items (length a.trips.items)

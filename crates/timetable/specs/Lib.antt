@@ -8,6 +8,8 @@ pub mod Duties
 pub mod Running
 pub mod Cost
 pub mod Rowwise
+pub mod Naming
+pub mod LinkRows
 pub mod Build
 pub mod Within
 pub mod Starts

@@ -1,12 +1,20 @@
 -- What it means that a day is the day of tables, in the tables' own words: the rows in order, with what they name, and no
 -- rule broken.
-use Rattle.std.specs.Prelude.{ℕ, ◌≡◌, ◌≢◌, ◌<◌, ◌≤◌, List, [], map, length, true, Some, slice_get}
+use Rattle.std.specs.Prelude.{ℕ, ◌≡◌, ◌≢◌, ◌<◌, ◌≤◌, List, map, length, true, Some, None, slice_get}
 use Rattle.std.specs.List.{AllZip, AllPairs}
+use Rattle.rail_csv.specs.declared.rows.End.{End}
+use Rattle.rail_csv.specs.declared.rows.End.TheVariants as at
+use Rattle.rail_csv.specs.declared.rows.KindWord.TheVariants as words
+use Rattle.rail_csv.specs.declared.rows.LinkRow.{LinkRow}
 use Rattle.rail_csv.specs.declared.rows.StockRow.{StockRow}
 use Rattle.rail_csv.specs.declared.rows.TripRow.{TripRow}
+use Rattle.timetable.specs.declared.records.Link.{Link}
+use Rattle.timetable.specs.declared.records.LinkKind.{LinkKind}
+use Rattle.timetable.specs.declared.records.LinkKind.TheVariants.{Turn, Join, Split}
 use Rattle.timetable.specs.declared.records.Stock.{Stock}
 use Rattle.timetable.specs.declared.records.Trip.{Trip}
 use Rattle.timetable.specs.declared.tables.Tables.{Tables}
+use Rattle.timetable.specs.Accepted.{AreLinks, DoMeet}
 use Rattle.timetable.specs.Admissible.{is_admissible}
 use Rattle.timetable.specs.Build.{type_in, station_in, weights_in}
 use Rattle.timetable.specs.Day.{Day, leaves, arrives, from_of, to_of, unit_count}
@@ -32,6 +40,50 @@ pub record IsTripOf (day : Day) (row : TripRow) (trip : Trip) : Type 0 where
   pub km : trip.km ≡ row.km
   pub demand : trip.demand ≡ row.demand
 
+-- a turn names one trip on either side, and its ends
+pub record IsTurnOf (IsTrip : List ℕ → ℕ → Type 0) (row : LinkRow) (a b : ℕ) (uncouple couple : End) : Type 0 where
+  pub kind : row.kind ≡ words.Turn
+  pub arriving : IsTrip row.arriving a
+  pub no_arriving2 : row.arriving2 ≡ None
+  pub departing : IsTrip row.departing b
+  pub no_departing2 : row.departing2 ≡ None
+  pub uncoupling : uncouple ≡ row.uncouple
+  pub coupling : couple ≡ row.couple
+
+-- a join names two arriving trips and one departing trip, and no end
+pub record IsJoinOf (IsTrip : List ℕ → ℕ → Type 0) (row : LinkRow) (a1 a2 b : ℕ) : Type 0 where
+  pub kind : row.kind ≡ words.Join
+  pub arriving : IsTrip row.arriving a1
+  pub name : List ℕ
+  pub named : row.arriving2 ≡ Some name
+  pub arriving2 : IsTrip name a2
+  pub departing : IsTrip row.departing b
+  pub no_departing2 : row.departing2 ≡ None
+  pub no_uncoupling : row.uncouple ≡ at.None
+  pub no_coupling : row.couple ≡ at.None
+
+-- a split names one arriving trip and two departing trips, and no end
+pub record IsSplitOf (IsTrip : List ℕ → ℕ → Type 0) (row : LinkRow) (a b1 b2 : ℕ) : Type 0 where
+  pub kind : row.kind ≡ words.Split
+  pub arriving : IsTrip row.arriving a
+  pub no_arriving2 : row.arriving2 ≡ None
+  pub departing : IsTrip row.departing b1
+  pub name : List ℕ
+  pub named : row.departing2 ≡ Some name
+  pub departing2 : IsTrip name b2
+  pub no_uncoupling : row.uncouple ≡ at.None
+  pub no_coupling : row.couple ≡ at.None
+
+abbrev pub IsKindOf : (List ℕ → ℕ → Type 0) → LinkRow → LinkKind → Type 0
+IsKindOf IsTrip row (Turn a b uncouple couple) = IsTurnOf IsTrip row a b uncouple couple
+IsKindOf IsTrip row (Join a1 a2 b) = IsJoinOf IsTrip row a1 a2 b
+IsKindOf IsTrip row (Split a b1 b2) = IsSplitOf IsTrip row a b1 b2
+
+-- the link of a row
+pub record IsLinkOf (day : Day) (row : LinkRow) (link : Link) : Type 0 where
+  pub kind : IsKindOf (IsNumberOf (λ t. t.name) day.trips) row link.kind
+  pub reverse : link.reverse ≡ row.reverse
+
 -- no two entries have one name
 abbrev pub AreNamedApart : {X : Type 0} → (X → List ℕ) → List X → Type 0
 AreNamedApart name_of entries = AllPairs (λ a b. name_of a ≢ name_of b) entries
@@ -46,7 +98,7 @@ pub record IsDayOf (tables : Tables) (day : Day) : Type 0 where
   pub stations : day.stations ≡ map station_in tables.stations
   pub stock : AllZip (IsStockOf day) tables.stock day.stock
   pub trips : AllZip (IsTripOf day) tables.trips day.trips
-  pub links : day.links ≡ []
+  pub links : AllZip (IsLinkOf day) tables.links day.links
   pub weights : day.weights ≡ weights_in tables.weights
   -- each name once, and each station and type once in the stock
   pub type_names : AreNamedApart (λ t. t.name) day.types
@@ -58,3 +110,6 @@ pub record IsDayOf (tables : Tables) (day : Day) : Type 0 where
   pub elsewhere : (t : ℕ) → t < length day.trips → from_of day t ≢ to_of day t
   pub later : (t : ℕ) → t < length day.trips → leaves day t < arrives day t
   pub served : (t : ℕ) → t < length day.trips → (types : List ℕ) × (is_admissible day t types ≡ true)
+  -- no trip is linked twice on one side, and the trips of a link meet at a station in time
+  pub linked : AreLinks day
+  pub meet : DoMeet day

@@ -2,7 +2,8 @@
 
 ghost use Rattle.std.specs.Prelude.{◌≡◌, ◌+◌, ◌<◌, ◌≤◌, ◌++◌, ◌∷◌, [], length, nat_lt, min, IfSome};
 ghost use Rattle.std.specs.Str.{bytes_eq};
-ghost use Rattle.timetable.specs.Build.{has_name, find_name, accept_type, accept_station, has_stock, accept_stock, starts_of, most_units, platform_at, has_fitting, accept_run, accept_trip, types_in, stations_in, stock_in, trips_in, GivesRows};
+ghost use Rattle.timetable.specs.Build.{accept_type, accept_station, has_stock, accept_stock, starts_of, most_units, platform_at, has_fitting, accept_run, accept_trip, types_in, stations_in, stock_in, trips_in, GivesRows};
+ghost use Rattle.timetable.specs.Naming.{has_name, find_name};
 
 use crate::records::{Station, Stock, Trip};
 use crate::refusal::InstanceRefusal;

@@ -1,8 +1,8 @@
 //! The instance: a day that was accepted, with its units numbered.
 
 ghost use Rattle.std.specs.Prelude.{◌≡◌, ◌<◌, ◌≤◌, [], ◌∷◌, ◌++◌, length, slice_get, Some, replicate, OnOk, IfOk, IfErr};
-ghost use Rattle.rail_csv.specs.Rows.{AreTypeRows, AreStationRows, AreStockRows, AreTripRows, IsWeightsRow};
-ghost use Rattle.timetable.specs.Accepted.{IsDay, AreLinks};
+ghost use Rattle.rail_csv.specs.Rows.{AreTypeRows, AreStationRows, AreStockRows, AreTripRows, AreLinkRows, IsWeightsRow};
+ghost use Rattle.timetable.specs.Accepted.{IsDay, AreLinks, DoMeet};
 ghost use Rattle.timetable.specs.Build.{day_of, Gives, weights_in};
 ghost use Rattle.timetable.specs.Day.{units_of, units_in, unit_count, wanted_in, wanted_of};
 ghost use Rattle.timetable.specs.Links.{incoming, outgoing};
@@ -11,6 +11,7 @@ ghost use Rattle.timetable.specs.Refusals.{IsBroken};
 ghost use Rattle.timetable.specs.Starts.{start_in, start_of};
 
 use crate::build::{are_too_many, stations_of, stock_of, trips_of, types_of};
+use crate::link_rows::links_of;
 use crate::link_tables::{Side, links_by_trip};
 use crate::records::{Link, Station, Stock, Trip, Unit, Weights};
 use crate::refusal::InstanceRefusal;
@@ -49,20 +50,22 @@ impl Model for Instance {
 }
 
 impl Instance {
-    /// The day of tables without links, whose rows keep within the rules of their columns and the limits of rows.
+    /// The day of tables whose rows keep within the rules of their columns and the limits of rows.
     ///
     /// Refusals, the first test that fails: a repeated name of a type; of a station; a stock row with an unknown station,
     /// an unknown type, or the station and type of an earlier row; more than 2,000 units; a trip with a repeated name, an
-    /// unknown station, one station twice, an arrival not after its departure, or platforms that no composition fits.
-    /// `NoMemory` may come at any of them.
+    /// unknown station, one station twice, an arrival not after its departure, or platforms that no composition fits; a
+    /// link whose fields do not fit its kind, with an unknown trip, with a trip that it or an earlier link has named on the
+    /// same side, with trips that do not meet at a station, or with a departure before an arrival. `NoMemory` may come at
+    /// any of them.
     #[tactic(auto, unfolding(crate::specs::Build::day_of))]
     pub fn build(alloc: Global, tables: Tables) -> Result<Instance, InstanceRefusal>
         requires types { AreTypeRows tables.types }
         requires stations { AreStationRows tables.stations }
         requires stock { AreStockRows tables.stock }
         requires trips { AreTripRows tables.trips }
+        requires links { AreLinkRows tables.links }
         requires weights { IsWeightsRow tables.weights }
-        requires without_links { tables.links ≡ [] }
         // The refusal is the first test that fails, and else the day is that of the tests.
         ensures exact { Gives result (day_of tables) }
         // The day is that of the tables in their own words.
@@ -78,8 +81,8 @@ impl Instance {
             return Err(InstanceRefusal::TooManyUnits);
         }
         let trips = trips_of(alloc, &stations, &types, tables.trips)?;
+        let links = links_of(alloc, &trips, tables.links.items())?;
         let units = units_of(alloc, &stock)?;
-        let links = Vec::new(alloc);
         let trip_count = trips.len() as u32;
         let incoming = links_by_trip(alloc, &links, Side::Departing, trip_count)?;
         let outgoing = links_by_trip(alloc, &links, Side::Arriving, trip_count)?;
@@ -118,6 +121,7 @@ impl Instance {
         ensures value { result ≡ length self.now.links }
         ensures few { result ≤ 400 }
         ensures sound { AreLinks self.now }
+        ensures meet { DoMeet self.now }
     {
         self.links.len() as u32
     }

@@ -3,6 +3,7 @@
 
 mod build;
 pub mod instance;
+mod link_rows;
 mod link_tables;
 pub mod plan;
 pub mod records;

@@ -1,0 +1,303 @@
+//! The tests on the rows of the links table.
+
+ghost use Rattle.std.specs.Prelude.{◌≡◌, ◌<◌, ◌≤◌, ◌||◌, length, IfOk, IfSome};
+ghost use Rattle.timetable.specs.Build.{GivesRows};
+ghost use Rattle.timetable.specs.LinkRows.{trip_named, is_an_end, turn_in, join_in, split_in, kind_of, NamesBelow, is_arriving, is_departing, names_again, do_meet, is_in_time, each_pair, accept_trips, accept_link, links_in};
+ghost use Rattle.timetable.specs.Naming.{find_name};
+
+use crate::build::{are_same, row_after};
+use crate::link_tables::{Side, is_named_by};
+use crate::records::{Link, LinkKind, Trip};
+use crate::refusal::InstanceRefusal;
+use crate::tables::Rows;
+use rail_base::{Name, TripNo};
+use rail_csv::{End, KindWord, LinkRow, Table};
+use std::alloc::Global;
+
+/// The place of the first trip with the name.
+fn place_of_trip(trips: &[Trip], name: &Name) -> Option<usize>
+    ensures value { result ≡ find_name (λ t. t.name) trips.now name.now }
+    ensures within { IfSome result (λ place. place < length trips.now) }
+{
+    trips.iter().position(|trip| are_same(&trip.name, name))
+}
+
+/// The number of the trip that a column of a row names.
+fn find_trip(trips: &[Trip], row: u32, column: u32, name: &Name) -> Result<TripNo, InstanceRefusal>
+    requires { length trips.now ≤ 400 }
+    ensures value { result ≡ trip_named trips.now row column name.now }
+    ensures within { IfOk result (λ t. t < length trips.now) }
+{
+    let Some(place) = place_of_trip(trips, name) else {
+        return Err(InstanceRefusal::UnknownName {
+            table: Table::Links,
+            row,
+            column,
+        });
+    };
+    Ok(TripNo(place as u32))
+}
+
+/// Whether it is an end of the train, and not none.
+fn is_an_end(end: End) -> bool
+    ensures { result ≡ is_an_end end }
+{
+    match end {
+        End::None => false,
+        End::Front | End::Rear => true,
+    }
+}
+
+/// The kind of a row that is a turn.
+#[tactic(auto, unfolding(crate::specs::LinkRows::turn_in))]
+fn turn_of(trips: &[Trip], number: u32, row: &LinkRow) -> Result<LinkKind, InstanceRefusal>
+    requires { length trips.now ≤ 400 }
+    ensures value { result ≡ turn_in trips.now number row.now row.now.arriving2 row.now.departing2 }
+    ensures within { IfOk result (λ kind. NamesBelow (length trips.now) kind) }
+{
+    let (None, None) = (&row.arriving2, &row.departing2) else {
+        return Err(InstanceRefusal::WrongLinkFields(number));
+    };
+    let arriving = find_trip(trips, number, 1, &row.arriving)?;
+    let departing = find_trip(trips, number, 3, &row.departing)?;
+    Ok(LinkKind::Turn {
+        arriving,
+        departing,
+        uncouple: row.uncouple,
+        couple: row.couple,
+    })
+}
+
+/// The kind of a row that is a join.
+#[tactic(auto, unfolding(crate::specs::LinkRows::join_in))]
+fn join_of(trips: &[Trip], number: u32, row: &LinkRow) -> Result<LinkKind, InstanceRefusal>
+    requires { length trips.now ≤ 400 }
+    ensures value { result ≡ join_in trips.now number row.now row.now.arriving2 row.now.departing2 }
+    ensures within { IfOk result (λ kind. NamesBelow (length trips.now) kind) }
+{
+    let (Some(name), None) = (&row.arriving2, &row.departing2) else {
+        return Err(InstanceRefusal::WrongLinkFields(number));
+    };
+    if is_an_end(row.uncouple) || is_an_end(row.couple) {
+        return Err(InstanceRefusal::WrongLinkFields(number));
+    }
+    let first = find_trip(trips, number, 1, &row.arriving)?;
+    let second = find_trip(trips, number, 2, name)?;
+    let departing = find_trip(trips, number, 3, &row.departing)?;
+    Ok(LinkKind::Join {
+        first,
+        second,
+        departing,
+    })
+}
+
+/// The kind of a row that is a split.
+#[tactic(auto, unfolding(crate::specs::LinkRows::split_in))]
+fn split_of(trips: &[Trip], number: u32, row: &LinkRow) -> Result<LinkKind, InstanceRefusal>
+    requires { length trips.now ≤ 400 }
+    ensures value { result ≡ split_in trips.now number row.now row.now.arriving2 row.now.departing2 }
+    ensures within { IfOk result (λ kind. NamesBelow (length trips.now) kind) }
+{
+    let (None, Some(name)) = (&row.arriving2, &row.departing2) else {
+        return Err(InstanceRefusal::WrongLinkFields(number));
+    };
+    if is_an_end(row.uncouple) || is_an_end(row.couple) {
+        return Err(InstanceRefusal::WrongLinkFields(number));
+    }
+    let arriving = find_trip(trips, number, 1, &row.arriving)?;
+    let first = find_trip(trips, number, 3, &row.departing)?;
+    let second = find_trip(trips, number, 4, name)?;
+    Ok(LinkKind::Split {
+        arriving,
+        first,
+        second,
+    })
+}
+
+/// The kind of a row, with the trips that its names stand for.
+fn kind_of(trips: &[Trip], number: u32, row: &LinkRow) -> Result<LinkKind, InstanceRefusal>
+    requires { length trips.now ≤ 400 }
+    ensures value { result ≡ kind_of row.now.kind trips.now number row.now }
+    ensures within { IfOk result (λ kind. NamesBelow (length trips.now) kind) }
+{
+    match row.kind {
+        KindWord::Turn => turn_of(trips, number, row),
+        KindWord::Join => join_of(trips, number, row),
+        KindWord::Split => split_of(trips, number, row),
+    }
+}
+
+/// Whether one of the links names the trip as arriving.
+fn is_arriving(links: &[Link], trip: TripNo) -> bool
+    ensures { result ≡ is_arriving links.now trip }
+{
+    links
+        .iter()
+        .any(|link| is_named_by(link.kind, Side::Arriving, trip))
+}
+
+/// Whether one of the links names the trip as departing.
+fn is_departing(links: &[Link], trip: TripNo) -> bool
+    ensures { result ≡ is_departing links.now trip }
+{
+    links
+        .iter()
+        .any(|link| is_named_by(link.kind, Side::Departing, trip))
+}
+
+/// Whether a trip is named as arriving, or as departing, that the kind or an earlier link has already named so.
+fn names_again(before: &[Link], kind: LinkKind) -> bool
+    ensures { result ≡ names_again before.now kind }
+{
+    match kind {
+        LinkKind::Turn {
+            arriving,
+            departing,
+            ..
+        } => is_arriving(before, arriving) || is_departing(before, departing),
+        LinkKind::Join {
+            first,
+            second,
+            departing,
+        } => {
+            first == second
+                || is_arriving(before, first)
+                || is_arriving(before, second)
+                || is_departing(before, departing)
+        }
+        LinkKind::Split {
+            arriving,
+            first,
+            second,
+        } => {
+            first == second
+                || is_arriving(before, arriving)
+                || is_departing(before, first)
+                || is_departing(before, second)
+        }
+    }
+}
+
+/// Whether one trip goes to the station that the other leaves from.
+fn do_meet(trips: &[Trip], arriving: TripNo, departing: TripNo) -> bool
+    requires arriving { arriving < length trips.now }
+    requires departing { departing < length trips.now }
+    ensures { result ≡ do_meet trips.now arriving departing }
+{
+    trips[arriving.place()].to == trips[departing.place()].from
+}
+
+/// Whether each arriving trip of a link goes to the station that each departing one leaves from.
+fn all_meet(trips: &[Trip], kind: LinkKind) -> bool
+    requires { NamesBelow (length trips.now) kind }
+    ensures { result ≡ each_pair (do_meet trips.now) kind }
+{
+    match kind {
+        LinkKind::Turn {
+            arriving,
+            departing,
+            ..
+        } => do_meet(trips, arriving, departing),
+        LinkKind::Join {
+            first,
+            second,
+            departing,
+        } => do_meet(trips, first, departing) && do_meet(trips, second, departing),
+        LinkKind::Split {
+            arriving,
+            first,
+            second,
+        } => do_meet(trips, arriving, first) && do_meet(trips, arriving, second),
+    }
+}
+
+/// Whether one trip leaves at the minute at which the other arrives, or later.
+fn is_in_time(trips: &[Trip], arriving: TripNo, departing: TripNo) -> bool
+    requires arriving { arriving < length trips.now }
+    requires departing { departing < length trips.now }
+    ensures { result ≡ is_in_time trips.now arriving departing }
+{
+    trips[arriving.place()].arrival <= trips[departing.place()].departure
+}
+
+/// Whether each departing trip of a link leaves at the minute at which each arriving one arrives, or later.
+fn all_in_time(trips: &[Trip], kind: LinkKind) -> bool
+    requires { NamesBelow (length trips.now) kind }
+    ensures { result ≡ each_pair (is_in_time trips.now) kind }
+{
+    match kind {
+        LinkKind::Turn {
+            arriving,
+            departing,
+            ..
+        } => is_in_time(trips, arriving, departing),
+        LinkKind::Join {
+            first,
+            second,
+            departing,
+        } => is_in_time(trips, first, departing) && is_in_time(trips, second, departing),
+        LinkKind::Split {
+            arriving,
+            first,
+            second,
+        } => is_in_time(trips, arriving, first) && is_in_time(trips, arriving, second),
+    }
+}
+
+/// The link, once its trips passed the tests of its row.
+#[tactic(auto, unfolding(crate::specs::LinkRows::accept_trips))]
+fn accept_trips(
+    trips: &[Trip],
+    before: &[Link],
+    number: u32,
+    link: Link,
+) -> Result<Link, InstanceRefusal>
+    requires { NamesBelow (length trips.now) link.kind }
+    ensures { result ≡ accept_trips trips.now before.now number link }
+{
+    if names_again(before, link.kind) {
+        return Err(InstanceRefusal::TripUsedTwice(number));
+    }
+    if !all_meet(trips, link.kind) {
+        return Err(InstanceRefusal::WrongStation(number));
+    }
+    if !all_in_time(trips, link.kind) {
+        return Err(InstanceRefusal::TooEarly(number));
+    }
+    Ok(link)
+}
+
+/// The link of a row, after those of the rows before it.
+#[tactic(auto, unfolding(crate::specs::LinkRows::accept_link))]
+fn accept_link(trips: &[Trip], before: &[Link], row: &LinkRow) -> Result<Link, InstanceRefusal>
+    requires trips { length trips.now ≤ 400 }
+    requires before { length before.now ≤ 400 }
+    ensures { result ≡ accept_link trips.now before.now row.now }
+{
+    let number = row_after(before.len());
+    let kind = kind_of(trips, number, row)?;
+    let link = Link {
+        kind,
+        reverse: row.reverse,
+    };
+    accept_trips(trips, before, number, link)
+}
+
+/// The links of the rows.
+#[tactic(auto, unfolding(crate::specs::LinkRows::links_in))]
+pub fn links_of(
+    alloc: Global,
+    trips: &[Trip],
+    rows: &[LinkRow],
+) -> Result<Vec<Link>, InstanceRefusal>
+    requires trips { length trips.now ≤ 400 }
+    requires rows { length rows.now ≤ 400 }
+    ensures { GivesRows result (links_in trips.now rows.now) }
+{
+    let mut links = Vec::new(alloc);
+    for row in rows {
+        let accepted = accept_link(trips, &links, row)?;
+        links.push(accepted)?;
+    }
+    Ok(links)
+}
