@@ -1,8 +1,8 @@
 //! The end of the day: which event is missing, and how many units stand in the yards.
 
-ghost use Rattle.std.specs.Prelude.{◌≡◌, ◌<◌, ◌≤◌, [], ℕ, length, ◌&&◌, ◌==◌};
+ghost use Rattle.std.specs.Prelude.{◌≡◌, ◌<◌, length, ◌&&◌, ◌==◌};
 ghost use Rattle.timetable.specs.Day.{unit_count, type_of};
-ghost use Rattle.day_simulator.specs.State.{State, place_of, stage_of, is_in_yard, has_arrived, is_waiting};
+ghost use Rattle.day_simulator.specs.State.{State, stage_of, is_in_yard};
 ghost use Rattle.day_simulator.specs.Finish.{is_made, first_not_made, yard_count, first_differing_type, first_differing};
 ghost use Rattle.timetable.specs.Lists.{below};
 

@@ -1,8 +1,7 @@
 //! What a plan costs.
 
-ghost use Rattle.std.specs.Prelude.{◌≡◌, ◌<◌, ◌≤◌, [], ℕ, length, map};
-ghost use Rattle.timetable.specs.Day.{types_of, km_of, demand_of};
-ghost use Rattle.timetable.specs.Links.{list_of};
+ghost use Rattle.std.specs.Prelude.{◌≡◌, ◌<◌, ◌≤◌, length, map};
+ghost use Rattle.timetable.specs.Day.{types_of};
 ghost use Rattle.timetable.specs.Running.{IsPlan};
 ghost use Rattle.timetable.specs.Cost.{trip_cost, kind_cost, link_cost, plan_cost};
 ghost use Rattle.compositions.specs.Composition.{carriages_of, seats_of};

@@ -16,3 +16,6 @@ mod yards;
 pub use day::Day;
 pub use events::{DayEvent, Place, Stage, StepFault};
 pub use whole_day::{Ran, SimulateRefusal, simulate};
+
+#[cfg(test)]
+mod tests;

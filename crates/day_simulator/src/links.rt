@@ -1,13 +1,13 @@
 //! What links do on a day: whether their rules hold, which units a trip gives to the yard and which it takes from it, and
 //! which trips it waits for.
 
-ghost use Rattle.std.specs.Prelude.{◌≡◌, ◌<◌, ℕ, length, IfSome};
+ghost use Rattle.std.specs.Prelude.{◌≡◌, ◌<◌, length, IfSome};
 ghost use Rattle.std.specs.List.{list_all};
 ghost use Rattle.timetable.specs.Links.{link_holds, given_by, taken_by, link_out, link_into, arriving_in, given, taken};
 ghost use Rattle.timetable.specs.Running.{IsPlan};
 ghost use Rattle.day_simulator.specs.State.{stage_of, has_arrived};
 ghost use Rattle.day_simulator.specs.Steps.{is_tested_at, broken, broken_into, broken_out, feeders};
-ghost use Rattle.day_simulator.specs.Trips.{AreUnits, NamesBelow};
+ghost use Rattle.day_simulator.specs.Trips.{NamesBelow};
 
 use crate::balance::stage_of;
 use crate::events::Stage;
@@ -16,6 +16,15 @@ use arrayvec::ArrayVec;
 use rail_base::{LinkNo, TripNo, UnitNo};
 use timetable::records::{Link, LinkKind};
 use timetable::{Instance, NamedPlan};
+
+/// The units that a link does not keep in the train.
+#[derive(Drop)]
+struct YardUnits {
+    /// The units that the arriving trip gives to the yard.
+    given: ArrayVec<UnitNo, 6>,
+    /// The units that the departing trip takes from the yard, front to rear.
+    taken: ArrayVec<UnitNo, 6>,
+}
 
 /// Whether a link's rule holds.
 #[tactic(auto, unfolding(timetable::specs::Links::link_holds, timetable::specs::Links::join_holds, timetable::specs::Links::split_holds))]
@@ -53,10 +62,11 @@ fn link_holds(link: &Link, plan: &NamedPlan) -> bool
     }
 }
 
-/// The units that the arriving trip of a link gives to the yard.
-fn given_by(link: &Link, plan: &NamedPlan) -> ArrayVec<UnitNo, 6>
+/// What a link gives to the yard and takes from it: nothing at a join or a split.
+fn yard_units(link: &Link, plan: &NamedPlan) -> YardUnits
     requires { NamesBelow (length plan.now) link.now.kind }
-    ensures { result.items ≡ given_by link.now.kind link.now.reverse plan.now }
+    ensures given { result.given.items ≡ given_by link.now.kind link.now.reverse plan.now }
+    ensures taken { result.taken.items ≡ taken_by link.now.kind link.now.reverse plan.now }
 {
     match link.kind {
         LinkKind::Turn {
@@ -67,29 +77,16 @@ fn given_by(link: &Link, plan: &NamedPlan) -> ArrayVec<UnitNo, 6>
         } => {
             let arriving = turned(link.reverse, plan.units(arriving));
             let departing = plan.units(departing);
-            copy_of(turn_of(uncouple, couple, arriving.as_slice(), departing).given)
+            let parts = turn_of(uncouple, couple, arriving.as_slice(), departing);
+            YardUnits {
+                given: copy_of(parts.given),
+                taken: copy_of(parts.taken),
+            }
         }
-        LinkKind::Join { .. } | LinkKind::Split { .. } => ArrayVec::new(),
-    }
-}
-
-/// The units that the departing trip of a link takes from the yard, front to rear.
-fn taken_by(link: &Link, plan: &NamedPlan) -> ArrayVec<UnitNo, 6>
-    requires { NamesBelow (length plan.now) link.now.kind }
-    ensures { result.items ≡ taken_by link.now.kind link.now.reverse plan.now }
-{
-    match link.kind {
-        LinkKind::Turn {
-            arriving,
-            departing,
-            uncouple,
-            couple,
-        } => {
-            let arriving = turned(link.reverse, plan.units(arriving));
-            let departing = plan.units(departing);
-            copy_of(turn_of(uncouple, couple, arriving.as_slice(), departing).taken)
-        }
-        LinkKind::Join { .. } | LinkKind::Split { .. } => ArrayVec::new(),
+        LinkKind::Join { .. } | LinkKind::Split { .. } => YardUnits {
+            given: ArrayVec::new(),
+            taken: ArrayVec::new(),
+        },
     }
 }
 
@@ -123,7 +120,7 @@ pub(crate) fn given(instance: &Instance, plan: &NamedPlan, trip: TripNo) -> Arra
     ensures units { result.items ≡ given instance.now plan.now trip }
 {
     match link_out(instance, trip) {
-        Some(link) => given_by(&link, plan),
+        Some(link) => yard_units(&link, plan).given,
         None => copy_of(plan.units(trip)),
     }
 }
@@ -136,7 +133,7 @@ pub(crate) fn taken(instance: &Instance, plan: &NamedPlan, trip: TripNo) -> Arra
     ensures units { result.items ≡ taken instance.now plan.now trip }
 {
     match link_into(instance, trip) {
-        Some(link) => taken_by(&link, plan),
+        Some(link) => yard_units(&link, plan).taken,
         None => copy_of(plan.units(trip)),
     }
 }

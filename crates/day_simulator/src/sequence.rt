@@ -1,6 +1,6 @@
 //! The order in which a day is stepped.
 
-ghost use Rattle.std.specs.Prelude.{◌≡◌, ◌<◌, ◌++◌, ℕ, length, IfOk};
+ghost use Rattle.std.specs.Prelude.{◌≡◌, ◌<◌, length, IfOk};
 ghost use Rattle.day_simulator.specs.State.{moment_of};
 ghost use Rattle.day_simulator.specs.Steps.{fixed_order, events_by_trip};
 ghost use Rattle.std.specs.List.{All};

@@ -1,7 +1,7 @@
 //! What a trip asks of its units: where and when it runs, and which compositions may run on it.
 
-ghost use Rattle.std.specs.Prelude.{◌≡◌, ◌<◌, ◌≤◌, ◌↔◌, ℕ, length, IsNone, IfSome, IsTrue};
-ghost use Rattle.timetable.specs.Day.{leaves, arrives, from_of, to_of, km_of, demand_of, reallocation_of, types_of};
+ghost use Rattle.std.specs.Prelude.{◌≡◌, ◌<◌, ◌≤◌, ◌↔◌, length, IsNone, IfSome, IsTrue};
+ghost use Rattle.timetable.specs.Day.{leaves, arrives, from_of, to_of, reallocation_of, types_of};
 ghost use Rattle.timetable.specs.Admissible.{is_admissible, longest_of};
 ghost use Rattle.compositions.specs.Composition.{are_types};
 ghost use Rattle.day_simulator.specs.Trips.{AreUnits};

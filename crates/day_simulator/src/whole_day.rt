@@ -1,6 +1,6 @@
 //! A whole day, stepped in the fixed order.
 
-ghost use Rattle.std.specs.Prelude.{◌≡◌, ◌<◌, [], length, IfOk, IsErrOf, Ok, Err};
+ghost use Rattle.std.specs.Prelude.{◌≡◌, ◌<◌, length, IfOk, IsErrOf};
 ghost use Rattle.std.specs.List.{All};
 ghost use Rattle.timetable.specs.Running.{IsPlan, Runs};
 ghost use Rattle.timetable.specs.Cost.{plan_cost};

@@ -1,6 +1,6 @@
 //! Units that are taken from a yard, and units that are put to a place.
 
-ghost use Rattle.std.specs.Prelude.{◌≡◌, ◌<◌, ℕ, length, IsTrue, IfSome, slice_set};
+ghost use Rattle.std.specs.Prelude.{◌≡◌, ◌<◌, ℕ, length, IsTrue, slice_set};
 ghost use Rattle.timetable.specs.Day.{unit_count};
 ghost use Rattle.timetable.specs.Lists.{has};
 ghost use Rattle.day_simulator.specs.Trips.{AreUnits};
