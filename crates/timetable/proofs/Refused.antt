@@ -67,7 +67,7 @@ stations_refused tables d e =
       | inr never ↦ absurd cc
     ]
 
--- the first part of a stock row's tests
+-- what a stock row is refused for
 stock_refused : (tables : Tables) (stations : List Station) (types : List UnitType) (d : InstanceRefusal) → stations ≡ map station_in tables.stations → types ≡ map type_in tables.types
     → stock_in stations types tables.stock ≡ Err d → IsBroken tables d
 unfolding stock_in accept_stock
