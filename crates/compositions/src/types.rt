@@ -60,6 +60,13 @@ impl UnitTypes {
         self.types.len() as u32
     }
 
+    /// The unit types in order. It takes no memory.
+    pub fn items(&self) -> &[UnitType]
+        ensures { result.now ≡ self.now }
+    {
+        self.types.as_slice()
+    }
+
     /// The unit type of this number, which is below `len`.
     pub fn get(&self, unit_type: TypeNo) -> &UnitType
         requires { unit_type < length self.now }

@@ -5,6 +5,7 @@ use Rattle.std.specs.List.{All}
 use Rattle.std.proofs.lemmas.List.{length-replicate}
 use Rattle.std.proofs.lemmas.List.Elements.{All-nil, All-head, All-tail, All-append, All-replicate}
 use Rattle.std.proofs.lemmas.Bool.{ltb-false}
+use Rattle.compositions.specs.Catalogue.{catalogue_of}
 use Rattle.compositions.specs.declared.types.UnitType.{UnitType}
 use Rattle.rail_csv.specs.Rows.{AreTypeRows, AreStationRows, AreTripRows, AreLinkRows, IsWeightsRow}
 use Rattle.rail_csv.specs.declared.rows.LinkRow.{LinkRow}
@@ -14,11 +15,12 @@ use Rattle.timetable.specs.declared.records.Stock.{Stock}
 use Rattle.timetable.specs.declared.records.Trip.{Trip}
 use Rattle.timetable.specs.declared.records.Unit as unit
 use Rattle.timetable.specs.declared.refusal.InstanceRefusal.{InstanceRefusal}
-use Rattle.timetable.specs.declared.refusal.InstanceRefusal.TheVariants.{TooManyUnits}
+use Rattle.timetable.specs.declared.refusal.InstanceRefusal.TheVariants.{TooManyUnits, TooManyCompositions}
 use Rattle.timetable.specs.declared.tables.Tables.{Tables}
 use Rattle.timetable.specs.Accepted.{IsDay}
 use Rattle.timetable.specs.Rowwise.{◌>>=◌}
-use Rattle.timetable.specs.Build.{starts_of, most_units, types_in, stations_in, stock_in, trips_in, weights_in, day_of}
+use Rattle.timetable.specs.Build.{starts_of, most_units, most_compositions, catalogue_in, types_in, stations_in, stock_in, trips_in, weights_in, day_of}
+use Rattle.timetable.specs.Compositions.{greatest_in}
 use Rattle.timetable.specs.Day.{Day, units_in, units_of, leaves, arrives, from_of, to_of, km_of, demand_of, home_of, type_of, reallocation_of}
 use Rattle.timetable.specs.LinkRows.{accept_link, links_in}
 use Rattle.timetable.specs.Lists.{of_entry}
@@ -98,9 +100,17 @@ pub record IsMade (tables : Tables) (day : Day) : Type 0 where
   pub stations : stations_in tables.stations ≡ Ok day.stations
   pub stock : stock_in day.stations day.types tables.stock ≡ Ok day.stock
   pub few : starts_of day.stock ≤ 2000
+  pub compositions : length (catalogue_of day.types (greatest_in day.stations)) ≤ 1000
   pub trips : trips_in day.stations day.types tables.trips ≡ Ok day.trips
   pub links : links_in day.trips tables.links ≡ Ok day.links
   pub weights : day.weights ≡ weights_in tables.weights
+
+few_compositions : (types : List UnitType) (stations : List Station) (catalogue : List (List ℕ)) → catalogue_in types stations ≡ Ok catalogue → length (catalogue_of types (greatest_in stations)) ≤ 1000
+unfolding catalogue_in
+few_compositions types stations catalogue e =
+    let compositions : List (List ℕ) = catalogue_of types (greatest_in stations) in
+    let (few, same) = guard_ok (nat_lt most_compositions (length compositions)) TooManyCompositions (Ok compositions) catalogue e in
+    ltb-false 1000 (length compositions) few
 
 pub day_is_made : (tables : Tables) (day : Day) → day_of tables ≡ Ok day → IsMade tables day
 unfolding day_of
@@ -108,18 +118,21 @@ day_is_made tables day e =
     let made : List UnitType → List Station → List Stock → List Trip → List Link → Day = λ types stations stock trips links. record { types = types; stations = stations; stock = stock; trips = trips; links = links; weights = weights_in tables.weights } in
     let with_links : List UnitType → List Station → List Stock → List Trip → Result Day InstanceRefusal = λ types stations stock trips. links_in trips tables.links >>= (λ links. Ok (made types stations stock trips links)) in
     let with_trips : List UnitType → List Station → List Stock → Result Day InstanceRefusal = λ types stations stock. trips_in stations types tables.trips >>= (λ trips. with_links types stations stock trips) in
-    let with_stock : List UnitType → List Station → List Stock → Result Day InstanceRefusal = λ types stations stock. if nat_lt most_units (starts_of stock) then Err TooManyUnits else with_trips types stations stock in
+    let with_catalogue : List UnitType → List Station → List Stock → Result Day InstanceRefusal = λ types stations stock. catalogue_in types stations >>= (λ catalogue. with_trips types stations stock) in
+    let with_stock : List UnitType → List Station → List Stock → Result Day InstanceRefusal = λ types stations stock. if nat_lt most_units (starts_of stock) then Err TooManyUnits else with_catalogue types stations stock in
     let (types, is_types, e1) = bind_ok (types_in tables.types) (λ types. stations_in tables.stations >>= (λ stations. stock_in stations types tables.stock >>= (λ stock. with_stock types stations stock))) day e in
     let (stations, is_stations, e2) = bind_ok (stations_in tables.stations) (λ stations. stock_in stations types tables.stock >>= (λ stock. with_stock types stations stock)) day e1 in
     let (stock, is_stock, e3) = bind_ok (stock_in stations types tables.stock) (λ stock. with_stock types stations stock) day e2 in
-    let (few, e4) = guard_ok (nat_lt most_units (starts_of stock)) TooManyUnits (with_trips types stations stock) day e3 in
-    let (trips, is_trips, e5) = bind_ok (trips_in stations types tables.trips) (λ trips. with_links types stations stock trips) day e4 in
-    let (links, is_links, e6) = bind_ok (links_in trips tables.links) (λ links. Ok (made types stations stock trips links)) day e5 in
-    subst (IsMade tables) {x = made types stations stock trips links} (same_ok (made types stations stock trips links) day e6) (record {
+    let (few, e4) = guard_ok (nat_lt most_units (starts_of stock)) TooManyUnits (with_catalogue types stations stock) day e3 in
+    let (catalogue, is_catalogue, e5) = bind_ok (catalogue_in types stations) (λ catalogue. with_trips types stations stock) day e4 in
+    let (trips, is_trips, e6) = bind_ok (trips_in stations types tables.trips) (λ trips. with_links types stations stock trips) day e5 in
+    let (links, is_links, e7) = bind_ok (links_in trips tables.links) (λ links. Ok (made types stations stock trips links)) day e6 in
+    subst (IsMade tables) {x = made types stations stock trips links} (same_ok (made types stations stock trips links) day e7) (record {
       types = is_types;
       stations = is_stations;
       stock = is_stock;
       few = ltb-false 2000 (starts_of stock) few;
+      compositions = few_compositions types stations catalogue is_catalogue;
       trips = is_trips;
       links = is_links;
       weights = refl;

@@ -5,6 +5,7 @@ pub mod LinkTables
 pub mod Linking
 pub mod Lists
 pub mod Fitting
+pub mod Admitting
 pub mod Said
 pub mod RefusedRows
 pub mod LinksRefused

@@ -49,7 +49,7 @@ unfolding turn_in
 turn_made trips number row None None kind word none none_out e =
     let (a, is_a, e1) = bind_ok (trip_named trips number 1 row.arriving) (λ a. trip_named trips number 3 row.departing >>= (λ b. Ok (Turn a b row.uncouple row.couple))) kind e in
     let (b, is_b, e2) = bind_ok (trip_named trips number 3 row.departing) (λ b. Ok (Turn a b row.uncouple row.couple)) kind e1 in
-    subst (IsKindOf (IsFound trips) row) (same_ok (Turn a b row.uncouple row.couple) kind e2) (record {
+    subst (IsKindOf (IsFound trips) row) {x = Turn a b row.uncouple row.couple} (same_ok (Turn a b row.uncouple row.couple) kind e2) (record {
       kind = word;
       arriving = found trips number 1 row.arriving a is_a;
       no_arriving2 = none;
@@ -71,7 +71,7 @@ join_made trips number row (Some name) None kind word some none_out e =
     let (a1, is_a1, e1) = bind_ok (trip_named trips number 1 row.arriving) (λ a1. trip_named trips number 2 name >>= (λ a2. last a1 a2)) kind e0 in
     let (a2, is_a2, e2) = bind_ok (trip_named trips number 2 name) (λ a2. last a1 a2) kind e1 in
     let (b, is_b, e3) = bind_ok (trip_named trips number 3 row.departing) (λ b. Ok (Join a1 a2 b)) kind e2 in
-    subst (IsKindOf (IsFound trips) row) (same_ok (Join a1 a2 b) kind e3) (record {
+    subst (IsKindOf (IsFound trips) row) {x = Join a1 a2 b} (same_ok (Join a1 a2 b) kind e3) (record {
       kind = word;
       arriving = found trips number 1 row.arriving a1 is_a1;
       name = name;
@@ -95,7 +95,7 @@ split_made trips number row None (Some name) kind word none some e =
     let (a, is_a, e1) = bind_ok (trip_named trips number 1 row.arriving) (λ a. trip_named trips number 3 row.departing >>= (λ b1. last a b1)) kind e0 in
     let (b1, is_b1, e2) = bind_ok (trip_named trips number 3 row.departing) (λ b1. last a b1) kind e1 in
     let (b2, is_b2, e3) = bind_ok (trip_named trips number 4 name) (λ b2. Ok (Split a b1 b2)) kind e2 in
-    subst (IsKindOf (IsFound trips) row) (same_ok (Split a b1 b2) kind e3) (record {
+    subst (IsKindOf (IsFound trips) row) {x = Split a b1 b2} (same_ok (Split a b1 b2) kind e3) (record {
       kind = word;
       arriving = found trips number 1 row.arriving a is_a;
       no_arriving2 = none;
@@ -148,7 +148,7 @@ link_of_row trips before row link e =
     let (new, e2) = guard_ok (names_again before kind) (TripUsedTwice number) (if each_pair (do_meet trips) kind then timed else Err (WrongStation number)) link e1 in
     let (meet, e3) = choice_ok (each_pair (do_meet trips) kind) (WrongStation number) timed link e2 in
     let (in_time, e4) = choice_ok (each_pair (is_in_time trips) kind) (TooEarly number) (Ok (made kind)) link e3 in
-    subst (IsLinkOfRow trips before row) (same_ok (made kind) link e4) (record {
+    subst (IsLinkOfRow trips before row) {x = made kind} (same_ok (made kind) link e4) (record {
       kind = kind_made trips number row row.kind kind refl is_kind;
       reverse = refl;
       new = new;

@@ -7,6 +7,7 @@ use Rattle.std.proofs.lemmas.Bool.{and_parts, eqb-true, leb-true, ltb-true, case
 use Rattle.std.proofs.lemmas.Option.{slice_get_within, slice_get-map, slice_get-get_or, same_Some}
 use Rattle.std.proofs.lemmas.List.{length-map}
 use Rattle.std.proofs.lemmas.Slice.Eq.{bytes_eq-Decides}
+use Rattle.compositions.specs.Catalogue.{catalogue_of}
 use Rattle.compositions.specs.Composition.{fits_in}
 use Rattle.compositions.specs.declared.types.UnitType.{UnitType}
 use Rattle.rail_csv.specs.declared.rows.StockRow.{StockRow}
@@ -20,8 +21,9 @@ use Rattle.timetable.specs.declared.refusal.InstanceRefusal.{InstanceRefusal}
 use Rattle.timetable.specs.declared.refusal.InstanceRefusal.TheVariants.{RepeatedName, UnknownName, RepeatedStock, ArrivalNotAfterDeparture, SameStation, TripUsedTwice, WrongStation, TooEarly, WrongLinkFields, NoComposition, TooManyUnits, TooManyCompositions, NoMemory}
 use Rattle.timetable.specs.declared.tables.Tables.{Tables}
 use Rattle.timetable.specs.Admissible.{is_admissible}
-use Rattle.timetable.specs.Build.{has_stock, new_stock, has_fitting, platform_at, accept_type, accept_station, accept_stock, accept_trip, accept_run, type_in, station_in, types_in, stations_in, stock_in, trips_in, trip_between, starts_of, most_units, weights_in, day_of, Fails, Gives}
+use Rattle.timetable.specs.Build.{has_stock, new_stock, has_fitting, platform_at, accept_type, accept_station, accept_stock, accept_trip, accept_run, type_in, station_in, types_in, stations_in, stock_in, trips_in, trip_between, starts_of, most_units, most_compositions, catalogue_in, weights_in, day_of, Fails, Gives}
 use Rattle.timetable.specs.Naming.{has_name, find_name, found_or}
+use Rattle.timetable.specs.Compositions.{greatest_in}
 use Rattle.timetable.specs.Day.{Day, from_of, to_of, platform_of}
 use Rattle.timetable.specs.LinkRows.{links_in}
 use Rattle.timetable.specs.Meaning.{IsNumberOf, AreNamedApart}
@@ -65,7 +67,7 @@ stations_refused tables d e =
       | inr never ↦ absurd cc
     ]
 
--- the first part of a stock row's tests
+-- what a stock row is refused for
 stock_refused : (tables : Tables) (stations : List Station) (types : List UnitType) (d : InstanceRefusal) → stations ≡ map station_in tables.stations → types ≡ map type_in tables.types
     → stock_in stations types tables.stock ≡ Err d → IsBroken tables d
 unfolding stock_in accept_stock
@@ -208,6 +210,17 @@ trips_refused tables stations types d made are_stations are_types e =
       ]
     ]
 
+compositions_refused : (tables : Tables) (types : List UnitType) (stations : List Station) (d : InstanceRefusal) → types ≡ map type_in tables.types → stations ≡ map station_in tables.stations → catalogue_in types stations ≡ Err d → IsBroken tables d
+unfolding catalogue_in
+compositions_refused tables types stations d are_types are_stations e =
+    let compositions : List UnitType → List Station → List (List ℕ) = λ types stations. catalogue_of types (greatest_in stations) in
+    elim (guard_err (nat_lt most_compositions (length (compositions types stations))) TooManyCompositions (Ok (compositions types stations)) d e) [
+      | inl many ↦ subst (IsBroken tables) many.1
+          (subst (λ (ts : List UnitType). 1000 < length (compositions ts (map station_in tables.stations))) are_types
+          (subst (λ (ss : List Station). 1000 < length (compositions types ss)) are_stations (ltb-true 1000 (length (compositions types stations)) many.0)))
+      | inr never ↦ absurd cc
+    ]
+
 -- the test that fails first says what is so
 pub refusal_is_so : (tables : Tables) (d : InstanceRefusal) → day_of tables ≡ Err d → IsBroken tables d
 unfolding day_of types_in stations_in
@@ -215,7 +228,8 @@ refusal_is_so tables d e =
     let made : List UnitType → List Station → List Stock → List Trip → List Link → Day = λ types stations stock trips links. record { types = types; stations = stations; stock = stock; trips = trips; links = links; weights = weights_in tables.weights } in
     let with_links : List UnitType → List Station → List Stock → List Trip → Result Day InstanceRefusal = λ types stations stock trips. links_in trips tables.links >>= (λ links. Ok (made types stations stock trips links)) in
     let with_trips : List UnitType → List Station → List Stock → Result Day InstanceRefusal = λ types stations stock. trips_in stations types tables.trips >>= (λ trips. with_links types stations stock trips) in
-    let with_stock : List UnitType → List Station → List Stock → Result Day InstanceRefusal = λ types stations stock. if nat_lt most_units (starts_of stock) then Err TooManyUnits else with_trips types stations stock in
+    let with_catalogue : List UnitType → List Station → List Stock → Result Day InstanceRefusal = λ types stations stock. catalogue_in types stations >>= (λ catalogue. with_trips types stations stock) in
+    let with_stock : List UnitType → List Station → List Stock → Result Day InstanceRefusal = λ types stations stock. if nat_lt most_units (starts_of stock) then Err TooManyUnits else with_catalogue types stations stock in
     elim (bind_err (types_in tables.types) (λ types. stations_in tables.stations >>= (λ stations. stock_in stations types tables.stock >>= (λ stock. with_stock types stations stock))) d e) [
       | inl none ↦ types_refused tables d none
       | inr (types, is_types, e1) ↦ elim (bind_err (stations_in tables.stations) (λ stations. stock_in stations types tables.stock >>= (λ stock. with_stock types stations stock)) d e1) [
@@ -225,13 +239,16 @@ refusal_is_so tables d e =
             let are_stations : stations ≡ map station_in tables.stations = accepted_map accept_station station_in (λ before row s is. (station_of_row before row s is).1) [] tables.stations stations is_stations in
             elim (bind_err (stock_in stations types tables.stock) (λ stock. with_stock types stations stock) d e2) [
               | inl none ↦ stock_refused tables stations types d are_stations are_types none
-              | inr (stock, is_stock, e3) ↦ elim (guard_err (nat_lt most_units (starts_of stock)) TooManyUnits (with_trips types stations stock) d e3) [
+              | inr (stock, is_stock, e3) ↦ elim (guard_err (nat_lt most_units (starts_of stock)) TooManyUnits (with_catalogue types stations stock) d e3) [
                 | inl many ↦ subst (IsBroken tables) many.1 (units_refused tables stations types stock is_stock (ltb-true 2000 (starts_of stock) many.0))
-                | inr e4 ↦ elim (bind_err (trips_in stations types tables.trips) (λ trips. with_links types stations stock trips) d e4) [
-                  | inl none ↦ trips_refused tables stations types d is_stations are_stations are_types none
-                  | inr (trips, is_trips, e5) ↦ elim (bind_err (links_in trips tables.links) (λ links. Ok (made types stations stock trips links)) d e5) [
-                    | inl none ↦ links_refused tables stations types trips d is_trips none
-                    | inr (links, is_links, e6) ↦ absurd cc
+                | inr e4 ↦ elim (bind_err (catalogue_in types stations) (λ catalogue. with_trips types stations stock) d e4) [
+                  | inl many ↦ compositions_refused tables types stations d are_types are_stations many
+                  | inr (catalogue, is_catalogue, e5) ↦ elim (bind_err (trips_in stations types tables.trips) (λ trips. with_links types stations stock trips) d e5) [
+                    | inl none ↦ trips_refused tables stations types d is_stations are_stations are_types none
+                    | inr (trips, is_trips, e6) ↦ elim (bind_err (links_in trips tables.links) (λ links. Ok (made types stations stock trips links)) d e6) [
+                      | inl none ↦ links_refused tables stations types trips d is_trips none
+                      | inr (links, is_links, e7) ↦ absurd cc
+                    ]
                   ]
                 ]
               ]

@@ -24,6 +24,7 @@ use Rattle.timetable.specs.declared.tables.Tables.{Tables}
 use Rattle.timetable.specs.Admissible.{is_admissible}
 use Rattle.timetable.specs.Build.{has_stock, platform_at, accept_type, accept_station, accept_stock, accept_trip, type_in, station_in, types_in, stations_in, stock_in, trips_in, day_of}
 use Rattle.timetable.specs.Naming.{has_name, find_name}
+use Rattle.timetable.specs.Compositions.{greatest_platform}
 use Rattle.timetable.specs.Day.{Day, leaves, arrives, from_of, to_of, platform_of, units_of}
 use Rattle.timetable.specs.LinkRows.{accept_link, links_in}
 use Rattle.timetable.specs.Meaning.{IsNumberOf, IsStockOf, IsTripOf, IsKindOf, IsLinkOf, AreNamedApart, IsOtherStock, IsDayOf}
@@ -148,7 +149,7 @@ link_said day before row link e =
 
 -- the day that the tests give
 pub is_day_of : (tables : Tables) (day : Day) → day_of tables ≡ Ok day → IsDayOf tables day
-unfolding types_in stations_in stock_in trips_in links_in leaves arrives from_of to_of units_of
+unfolding types_in stations_in stock_in trips_in links_in leaves arrives from_of to_of units_of greatest_platform
 is_day_of tables day e =
     let made = day_is_made tables day e in
     let pass = all_pass tables day made in
@@ -174,6 +175,7 @@ is_day_of tables day e =
           new_stock_row before stock of_row.new k d below)
           [] tables.stock day.stock (none_apart IsOtherStock) made.stock;
       units = omega (arith, made.few, length-units_in day.stock);
+      compositions = made.compositions;
       elsewhere = λ t below same.
           let (trip, at, passes) = entry_at (Passes day.stations day.types) day.trips t below pass in
           eqb-false trip.from trip.to passes.differ (sym (entry_is (λ trip. trip.from) day.trips t 0 trip at) ∙ same ∙ entry_is (λ trip. trip.to) day.trips t 0 trip at);

@@ -1,7 +1,8 @@
 -- What the tables make: the day, or the first test that fails. Rows are tested in order, each by what the rows before it gave.
-use Rattle.std.specs.Prelude.{ℕ, ◌+◌, ◌≡◌, List, [], ◌∷◌, Bool, ◌&&◌, ◌==◌, nat_le, nat_lt, min, if◌then◌else◌, Result, Ok, Err}
+use Rattle.std.specs.Prelude.{ℕ, ◌+◌, ◌≡◌, List, [], ◌∷◌, length, Bool, ◌&&◌, ◌==◌, nat_le, nat_lt, min, if◌then◌else◌, Result, Ok, Err}
 use Rattle.std.specs.List.{list_any}
 use Rattle.std.specs.Global.{Vec}
+use Rattle.compositions.specs.Catalogue.{catalogue_of}
 use Rattle.compositions.specs.declared.types.UnitType.{UnitType}
 use Rattle.rail_csv.specs.declared.rows.TypeRow.{TypeRow}
 use Rattle.rail_csv.specs.declared.rows.StationRow.{StationRow}
@@ -16,6 +17,7 @@ use Rattle.timetable.specs.declared.records.Weights.{Weights}
 use Rattle.timetable.specs.declared.tables.Tables.{Tables}
 use Rattle.timetable.specs.declared.refusal.InstanceRefusal.{InstanceRefusal}
 use Rattle.timetable.specs.declared.refusal.InstanceRefusal.TheVariants.{RepeatedName, UnknownName, RepeatedStock, ArrivalNotAfterDeparture, SameStation, TripUsedTwice, WrongStation, TooEarly, WrongLinkFields, NoComposition, TooManyUnits, TooManyCompositions, NoMemory}
+use Rattle.timetable.specs.Compositions.{greatest_in}
 use Rattle.timetable.specs.Day.{Day}
 use Rattle.timetable.specs.LinkRows.{links_in}
 use Rattle.timetable.specs.Lists.{of_entry}
@@ -69,6 +71,17 @@ starts_of (row ∷ rows) = row.start + starts_of rows
 abbrev pub most_units : ℕ
 most_units = 2000
 
+-- ---- compositions
+
+abbrev pub most_compositions : ℕ
+most_compositions = 1000
+
+-- the compositions that fit the greatest platform
+unfoldable pub catalogue_in : List UnitType → List Station → Result (List (List ℕ)) InstanceRefusal
+catalogue_in types stations =
+    if nat_lt most_compositions (length (catalogue_of types (greatest_in stations))) then Err TooManyCompositions
+    else Ok (catalogue_of types (greatest_in stations))
+
 -- ---- trips
 
 -- the metres of the platform of a station, and 0 where there is no such station
@@ -114,13 +127,14 @@ trips_in stations types rows = accept_each (accept_trip stations types) [] rows
 abbrev pub weights_in : WeightsRow → Weights
 weights_in row = record { carriage = row.carriage; shortage = row.shortage; shunting = row.shunting }
 
--- The day that tables make: types, stations, stock, the number of units, trips, and then links.
+-- The day that tables make: types, stations, stock, the number of units, the number of compositions, trips, and then links.
 unfoldable pub day_of : Tables → Result Day InstanceRefusal
 day_of tables = do
   types ← types_in tables.types
   stations ← stations_in tables.stations
   stock ← stock_in stations types tables.stock
   if nat_lt most_units (starts_of stock) then Err TooManyUnits else do
+    catalogue ← catalogue_in types stations
     trips ← trips_in stations types tables.trips
     links ← links_in trips tables.links
     Ok (record { types = types; stations = stations; stock = stock; trips = trips; links = links; weights = weights_in tables.weights })

@@ -1,8 +1,10 @@
--- What an instance holds: the parts of a day, its units as one list, and the links by trip.
+-- What an instance holds: the parts of a day, its units as one list, its catalogue, and the links by trip.
 use Rattle.std.specs.Prelude.{◌≡◌, length}
+use Rattle.compositions.specs.Catalogue.{catalogue_of}
 use Rattle.timetable.specs.declared.instance.Instance.TheInside.{Inside}
 use Rattle.timetable.specs.Day.{Day, units_of}
 use Rattle.timetable.specs.Accepted.{IsDay, AreLinks, DoMeet}
+use Rattle.timetable.specs.Compositions.{greatest_in}
 use Rattle.timetable.specs.Links.{arriving_in, departing_in}
 use Rattle.timetable.specs.LinkTables.{link_table}
 
@@ -17,3 +19,4 @@ pub record Holds (a : Inside) : Type 0 where
   pub meet : DoMeet (day_in a)
   pub incoming : a.incoming.items ≡ link_table departing_in a.links.items (length a.trips.items)
   pub outgoing : a.outgoing.items ≡ link_table arriving_in a.links.items (length a.trips.items)
+  pub catalogue : a.catalogue ≡ catalogue_of a.types (greatest_in a.stations.items)

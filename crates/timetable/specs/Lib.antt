@@ -2,6 +2,7 @@ pub mod Lists
 pub mod Day
 pub mod Accepted
 pub mod Admissible
+pub mod Compositions
 pub mod Links
 pub mod LinkTables
 pub mod Duties

@@ -17,6 +17,7 @@ use Rattle.timetable.specs.declared.tables.Tables.{Tables}
 use Rattle.timetable.specs.Accepted.{AreLinks, DoMeet}
 use Rattle.timetable.specs.Admissible.{is_admissible}
 use Rattle.timetable.specs.Build.{type_in, station_in, weights_in}
+use Rattle.timetable.specs.Compositions.{compositions_of}
 use Rattle.timetable.specs.Day.{Day, leaves, arrives, from_of, to_of, unit_count}
 
 -- the number is that of the entry with the name
@@ -106,6 +107,7 @@ pub record IsDayOf (tables : Tables) (day : Day) : Type 0 where
   pub trip_names : AreNamedApart (λ t. t.name) day.trips
   pub stock_rows : AllPairs IsOtherStock day.stock
   pub units : unit_count day ≤ 2000
+  pub compositions : length (compositions_of day) ≤ 1000
   -- every trip goes to another station, arrives after it leaves, and some composition may run on it
   pub elsewhere : (t : ℕ) → t < length day.trips → from_of day t ≢ to_of day t
   pub later : (t : ℕ) → t < length day.trips → leaves day t < arrives day t

@@ -1,6 +1,7 @@
 -- What a refusal says of the tables: that this row, or this sum, breaks a rule.
 use Rattle.std.specs.Prelude.{ℕ, ◌≡◌, ◌≢◌, ◌+◌, ◌≤◌, ◌<◌, ◌⊎◌, List, [], ◌∷◌, ◌++◌, length, map, false, Option, Some, None, slice_get}
 use Rattle.std.specs.List.{All, Any}
+use Rattle.compositions.specs.Catalogue.{catalogue_of}
 use Rattle.rail_csv.specs.declared.rows.End.{End}
 use Rattle.rail_csv.specs.declared.rows.End.TheVariants as at
 use Rattle.rail_csv.specs.declared.rows.KindWord.{KindWord}
@@ -16,6 +17,7 @@ use Rattle.timetable.specs.declared.refusal.InstanceRefusal.TheVariants.{Repeate
 use Rattle.timetable.specs.declared.tables.Tables.{Tables}
 use Rattle.timetable.specs.Admissible.{is_admissible}
 use Rattle.timetable.specs.Build.{type_in, station_in}
+use Rattle.timetable.specs.Compositions.{greatest_in}
 use Rattle.timetable.specs.Day.{Day}
 use Rattle.timetable.specs.Meaning.{IsTripOf}
 
@@ -130,5 +132,5 @@ IsBroken tables (TooEarly number) = IsLinkRowThat (HasTripsThat (λ a b. b.depar
 IsBroken tables (WrongLinkFields number) = IsLinkRowThat (λ before row. ¬ FitsKind row.kind row.arriving2 row.departing2 row.uncouple row.couple) tables number
 IsBroken tables (NoComposition number) = IsTripRowThat (IsUnserved tables) tables number
 IsBroken tables TooManyUnits = 2000 < starts_in tables.stock
-IsBroken tables TooManyCompositions = ⊥
+IsBroken tables TooManyCompositions = 1000 < length (catalogue_of (map type_in tables.types) (greatest_in (map station_in tables.stations)))
 IsBroken tables NoMemory = Unit {0}

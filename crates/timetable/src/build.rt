@@ -1,14 +1,16 @@
 //! The tests on the rows of the tables, one table after another.
 
-ghost use Rattle.std.specs.Prelude.{◌≡◌, ◌+◌, ◌<◌, ◌≤◌, ◌++◌, ◌∷◌, [], length, nat_lt, min, IfSome};
+ghost use Rattle.std.specs.Prelude.{◌≡◌, ◌+◌, ◌<◌, ◌≤◌, ◌++◌, ◌∷◌, [], length, nat_lt, min, IfSome, IfOk};
 ghost use Rattle.std.specs.Str.{bytes_eq};
-ghost use Rattle.timetable.specs.Build.{accept_type, accept_station, has_stock, accept_stock, starts_of, most_units, platform_at, has_fitting, accept_run, accept_trip, types_in, stations_in, stock_in, trips_in, GivesRows};
+ghost use Rattle.timetable.specs.Build.{accept_type, accept_station, has_stock, accept_stock, starts_of, most_units, platform_at, has_fitting, accept_run, accept_trip, types_in, stations_in, stock_in, trips_in, catalogue_in, Gives, GivesRows};
+ghost use Rattle.compositions.specs.Catalogue.{catalogue_of};
+ghost use Rattle.timetable.specs.Compositions.{greatest_in};
 ghost use Rattle.timetable.specs.Naming.{has_name, find_name};
 
 use crate::records::{Station, Stock, Trip};
 use crate::refusal::InstanceRefusal;
 use crate::tables::Rows;
-use compositions::UnitType;
+use compositions::{Catalogue, CatalogueRefusal, UnitType, UnitTypes};
 use rail_base::limits::MOST_UNITS;
 use rail_base::{Name, StationNo, TypeNo};
 use rail_csv::{StationRow, StockRow, Table, TripRow, TypeRow};
@@ -239,6 +241,34 @@ pub fn are_too_many(stock: &[Stock]) -> bool
     false
 }
 
+/// The metres of the greatest platform, and 0 where there is no station.
+fn greatest_platform(stations: &[Station]) -> u32
+    ensures { result ≡ greatest_in stations.now }
+{
+    let mut longest = 0;
+    for station in stations {
+        longest = station.platform.max(longest);
+    }
+    longest
+}
+
+/// The compositions that fit the greatest platform.
+#[tactic(auto, unfolding(crate::specs::Build::catalogue_in))]
+pub fn catalogue_of(
+    alloc: Global,
+    types: &UnitTypes,
+    stations: &[Station],
+) -> Result<Catalogue, InstanceRefusal>
+    ensures exact { Gives result (catalogue_in types.now stations.now) }
+    ensures value { IfOk result (λ catalogue. catalogue ≡ catalogue_of types.now (greatest_in stations.now)) }
+{
+    match Catalogue::build(alloc, types, greatest_platform(stations)) {
+        Ok(catalogue) => Ok(catalogue),
+        Err(CatalogueRefusal::TooMany) => Err(InstanceRefusal::TooManyCompositions),
+        Err(CatalogueRefusal::NoMemory) => Err(InstanceRefusal::NoMemory),
+    }
+}
+
 /// Whether a trip has the name.
 fn is_trip_name(trips: &[Trip], name: &Name) -> bool
     ensures { result ≡ has_name (λ t. t.name) trips.now name.now }
@@ -254,7 +284,7 @@ fn has_fitting(types: &[UnitType], longest: u32) -> bool
 }
 
 /// The metres that fit the platforms of two stations.
-fn longest_between(stations: &[Station], from: StationNo, to: StationNo) -> u32
+pub fn longest_between(stations: &[Station], from: StationNo, to: StationNo) -> u32
     requires from { from < length stations.now }
     requires to { to < length stations.now }
     ensures { result ≡ min (platform_at stations.now from) (platform_at stations.now to) }

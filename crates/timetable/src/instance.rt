@@ -3,6 +3,8 @@
 ghost use Rattle.std.specs.Prelude.{◌≡◌, ◌<◌, ◌≤◌, [], ◌∷◌, ◌++◌, length, slice_get, Some, replicate, OnOk, IfOk, IfErr};
 ghost use Rattle.rail_csv.specs.Rows.{AreTypeRows, AreStationRows, AreStockRows, AreTripRows, AreLinkRows, IsWeightsRow};
 ghost use Rattle.timetable.specs.Accepted.{IsDay, AreLinks, DoMeet};
+ghost use Rattle.timetable.specs.Admissible.{is_admissible};
+ghost use Rattle.timetable.specs.Compositions.{compositions_of, composition_at};
 ghost use Rattle.timetable.specs.Build.{day_of, Gives, weights_in};
 ghost use Rattle.timetable.specs.Day.{units_of, units_in, unit_count, wanted_in, wanted_of};
 ghost use Rattle.timetable.specs.Links.{incoming, outgoing};
@@ -10,14 +12,16 @@ ghost use Rattle.timetable.specs.Meaning.{IsDayOf};
 ghost use Rattle.timetable.specs.Refusals.{IsBroken};
 ghost use Rattle.timetable.specs.Starts.{start_in, start_of};
 
-use crate::build::{are_too_many, stations_of, stock_of, trips_of, types_of};
+use crate::build::{
+    are_too_many, catalogue_of, longest_between, stations_of, stock_of, trips_of, types_of,
+};
 use crate::link_rows::links_of;
 use crate::link_tables::{Side, links_by_trip};
 use crate::records::{Link, Station, Stock, Trip, Unit, Weights};
 use crate::refusal::InstanceRefusal;
 use crate::tables::Tables;
-use compositions::UnitTypes;
-use rail_base::{LinkNo, NoMemory, StationNo, TripNo, TypeNo, UnitNo};
+use compositions::{Catalogue, UnitTypes};
+use rail_base::{CompNo, LinkNo, NoMemory, StationNo, TripNo, TypeNo, UnitNo};
 use rail_csv::WeightsRow;
 use std::alloc::Global;
 use std::marker::Model;
@@ -33,6 +37,7 @@ pub struct Instance {
     links: Vec<Link>,
     weights: Weights,
     units: Vec<Unit>,
+    catalogue: Catalogue,
     incoming: Vec<Option<LinkNo>>,
     outgoing: Vec<Option<LinkNo>>,
 }
@@ -53,7 +58,8 @@ impl Instance {
     /// The day of tables whose rows keep within the rules of their columns and the limits of rows.
     ///
     /// Refusals, the first test that fails: a repeated name of a type; of a station; a stock row with an unknown station,
-    /// an unknown type, or the station and type of an earlier row; more than 2,000 units; a trip with a repeated name, an
+    /// an unknown type, or the station and type of an earlier row; more than 2,000 units; more than 1,000 compositions that
+    /// fit the greatest platform; a trip with a repeated name, an
     /// unknown station, one station twice, an arrival not after its departure, or platforms that no composition fits; a
     /// link whose fields do not fit its kind, with an unknown trip, with a trip that it or an earlier link has named on the
     /// same side, with trips that do not meet at a station, or with a departure before an arrival. `NoMemory` may come at
@@ -80,20 +86,23 @@ impl Instance {
         if are_too_many(&stock) {
             return Err(InstanceRefusal::TooManyUnits);
         }
-        let trips = trips_of(alloc, &stations, &types, tables.trips)?;
+        let types = UnitTypes::new(types);
+        let catalogue = catalogue_of(alloc, &types, &stations)?;
+        let trips = trips_of(alloc, &stations, types.items(), tables.trips)?;
         let links = links_of(alloc, &trips, tables.links.items())?;
         let units = units_of(alloc, &stock)?;
         let trip_count = trips.len() as u32;
         let incoming = links_by_trip(alloc, &links, Side::Departing, trip_count)?;
         let outgoing = links_by_trip(alloc, &links, Side::Arriving, trip_count)?;
         Ok(Instance {
-            types: UnitTypes::new(types),
+            types,
             stations,
             stock,
             trips,
             links,
             weights: weights_of(tables.weights),
             units,
+            catalogue,
             incoming,
             outgoing,
         })
@@ -139,6 +148,27 @@ impl Instance {
         ensures { result.now ≡ self.now.types }
     {
         &self.types
+    }
+
+    /// The compositions that fit the greatest platform of the stations, and 0 metres where there is no station.
+    #[tactic(auto, unfolding(crate::specs::Compositions::greatest_platform))]
+    pub fn catalogue(&self) -> &Catalogue
+        ensures { result.now ≡ compositions_of self.now }
+    {
+        &self.catalogue
+    }
+
+    /// Whether the composition of this number may run on the trip: its metres fit the platforms of both stations. The trip is
+    /// below `trips`, the composition below the catalogue's `len`.
+    #[tactic(auto, unfolding(crate::specs::Compositions::greatest_platform, crate::specs::Admissible::is_admissible))]
+    pub fn admits(&self, trip: TripNo, comp: CompNo) -> bool
+        requires trip { trip < length self.now.trips }
+        requires comp { comp < length (compositions_of self.now) }
+        ensures { result ≡ is_admissible self.now trip (composition_at self.now comp) }
+    {
+        let trip = &self.trips[trip.place()];
+        let longest = longest_between(&self.stations, trip.from, trip.to);
+        self.catalogue.get(comp).fits(&self.types, longest)
     }
 
     /// The weights of the cost.

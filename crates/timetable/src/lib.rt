@@ -15,3 +15,6 @@ pub use plan::NamedPlan;
 pub use records::{Link, LinkKind, Station, Stock, Trip, Unit, Weights};
 pub use refusal::{InstanceRefusal, PlanRefusal};
 pub use tables::{Rows, Tables};
+
+#[cfg(test)]
+mod tests;
