@@ -1,7 +1,5 @@
 -- Units that a trip's list may name, the trips of events and links, and what the first trips and links of a plan cost.
 use Rattle.std.specs.Prelude.{ℕ, ◌<◌, List, IsTrue, map}
-use Rattle.timetable.specs.declared.records.LinkKind.{LinkKind}
-use Rattle.timetable.specs.declared.records.LinkKind.TheVariants.{Turn, Join, Split}
 use Rattle.timetable.specs.Cost.{trip_cost, link_cost}
 use Rattle.timetable.specs.Day.{Day, unit_count, types_of}
 use Rattle.timetable.specs.Links.{list_of}
@@ -18,12 +16,6 @@ AreUnits day us = (u : ℕ) → IsTrue (has u us) → u < unit_count day
 abbrev pub trip_of : DayEvent → ℕ
 trip_of (Depart t) = t
 trip_of (Arrive t) = t
-
--- the trips of a link are below a bound
-abbrev pub NamesBelow : ℕ → LinkKind → Type 0
-NamesBelow n (Turn a b uncouple couple) = (a < n) × (b < n)
-NamesBelow n (Join a1 a2 b) = (a1 < n) × (a2 < n) × (b < n)
-NamesBelow n (Split a b1 b2) = (a < n) × (b1 < n) × (b2 < n)
 
 -- what the first trips of a plan cost, and what its first links cost
 abbrev pub trips_cost : Day → List (List ℕ) → ℕ → ℕ

@@ -5,7 +5,8 @@ ghost use Rattle.timetable.specs.Day.{types_of};
 ghost use Rattle.timetable.specs.Running.{IsPlan};
 ghost use Rattle.timetable.specs.Cost.{trip_cost, kind_cost, link_cost, plan_cost};
 ghost use Rattle.compositions.specs.Composition.{carriages_of, seats_of};
-ghost use Rattle.day_simulator.specs.Trips.{AreUnits, NamesBelow, trips_cost, links_cost};
+ghost use Rattle.day_simulator.specs.Trips.{AreUnits, trips_cost, links_cost};
+ghost use Rattle.timetable.specs.LinkRows.{NamesBelow};
 
 use crate::trips::composition_of;
 use rail_base::{LinkNo, TripNo, UnitNo};

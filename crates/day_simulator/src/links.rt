@@ -7,7 +7,7 @@ ghost use Rattle.timetable.specs.Links.{link_holds, given_by, taken_by, link_out
 ghost use Rattle.timetable.specs.Running.{IsPlan};
 ghost use Rattle.day_simulator.specs.State.{stage_of, has_arrived};
 ghost use Rattle.day_simulator.specs.Steps.{is_tested_at, broken, broken_into, broken_out, feeders};
-ghost use Rattle.day_simulator.specs.Trips.{NamesBelow};
+ghost use Rattle.timetable.specs.LinkRows.{NamesBelow};
 
 use crate::balance::stage_of;
 use crate::events::Stage;

@@ -1,5 +1,5 @@
 use Rattle.std.proofs.Common.{ℕ, sym, ◌∙◌, subst}
-use Rattle.day_simulator.specs.Trips.{NamesBelow}
+use Rattle.timetable.specs.LinkRows.{NamesBelow}
 use Rattle.day_simulator.proofs.Costs.{link_cost-units}
 use Rattle.day_simulator.proofs.LinkTrips.{names_below}
 use Rattle.day_simulator.proofs.cost.link_cost.Goals as goal

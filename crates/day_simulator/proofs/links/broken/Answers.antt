@@ -1,5 +1,5 @@
 use Rattle.std.proofs.Common.{ℕ, sym, subst}
-use Rattle.day_simulator.specs.Trips.{NamesBelow}
+use Rattle.timetable.specs.LinkRows.{NamesBelow}
 use Rattle.day_simulator.proofs.LinkTrips.{names_below}
 use Rattle.day_simulator.proofs.links.broken.Goals as goal
 
