@@ -1,0 +1,7 @@
+pub mod Texts
+pub mod Words
+pub mod Inputs
+pub mod Giving
+pub mod Accepting
+pub mod Answering
+pub mod Ending
