@@ -53,6 +53,7 @@ pub fn simulate(
     ensures runs { IfOk result (λ ran. Runs instance.now plan.now × IsCost (plan_cost instance.now plan.now) ran.cost) }
     ensures stops { (fault : StepFault) → IsErrOf result (SimulateRefusal.Stops fault) → Runs instance.now plan.now → ⊥ }
 {
+    // What these two calls ensure of trips and links is what the law of running asks of the day.
     let _known = (instance.trips(), instance.links());
     let mut day = Day::new(alloc, instance, plan)?;
     let order = fixed_order(alloc, instance)?;

@@ -1,6 +1,5 @@
 -- Tables whose rows keep within the rules of their columns.
-use Rattle.std.specs.Prelude.{◌≡◌, []}
-use Rattle.rail_csv.specs.Rows.{AreTypeRows, AreStationRows, AreStockRows, AreTripRows, IsWeightsRow}
+use Rattle.rail_csv.specs.Rows.{AreTypeRows, AreStationRows, AreStockRows, AreTripRows, AreLinkRows, IsWeightsRow}
 use Rattle.timetable.specs.declared.tables.Tables.{Tables}
 
 pub record AreTables (tables : Tables) : Type 0 where
@@ -9,4 +8,4 @@ pub record AreTables (tables : Tables) : Type 0 where
   pub stock : AreStockRows tables.stock
   pub trips : AreTripRows tables.trips
   pub weights : IsWeightsRow tables.weights
-  pub links : tables.links ≡ []
+  pub links : AreLinkRows tables.links

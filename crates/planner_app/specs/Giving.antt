@@ -4,7 +4,7 @@ use Rattle.rail_io.specs.Folders.{Rose, RosePast}
 use Rattle.planner_app.specs.declared.outcome.Outcome.{Outcome}
 use Rattle.planner_app.specs.declared.outcome.Outcome.TheVariants.{Runs, Stops, Usage, Refused, CannotRead, NoMemory}
 use Rattle.planner_app.specs.declared.outcome.Refusal.{Refusal}
-use Rattle.planner_app.specs.declared.outcome.Refusal.TheVariants.{TooLong, WrongTable, LinksNotBuilt, NoDay, NoPlan}
+use Rattle.planner_app.specs.declared.outcome.Refusal.TheVariants.{TooLong, WrongTable, NoDay, NoPlan}
 use Rattle.rail_csv.specs.declared.rows.Table.{Table}
 use Rattle.rail_csv.specs.declared.refusal.TableRefusal.{TableRefusal}
 use Rattle.rail_csv.specs.declared.refusal.TableRefusal.TheVariants as t
@@ -30,7 +30,6 @@ abbrev pub IsCaused : ℕ → ℕ → ℕ → ℕ → Outcome → Type 0
 IsCaused faults faults' taken taken' (CannotRead table) = Rose faults faults'
 IsCaused faults faults' taken taken' (Refused (TooLong table)) = RosePast most_bytes taken taken'
 IsCaused faults faults' taken taken' (Refused (WrongTable table why)) = ⊤
-IsCaused faults faults' taken taken' (Refused LinksNotBuilt) = ⊤
 IsCaused faults faults' taken taken' (Refused (NoDay why)) = ⊤
 IsCaused faults faults' taken taken' (Refused (NoPlan why)) = ⊤
 IsCaused faults faults' taken taken' (Runs cost) = ⊤
@@ -57,7 +56,6 @@ abbrev pub IsReading : Outcome → Type 0
 IsReading NoMemory = ⊤
 IsReading (Refused (NoDay why)) = ⊤
 IsReading (Refused (NoPlan why)) = ⊤
-IsReading (Refused LinksNotBuilt) = ⊤
 IsReading (Refused (WrongTable table why)) = ⊤
 IsReading (Refused (TooLong table)) = ⊥
 IsReading (CannotRead table) = ⊥

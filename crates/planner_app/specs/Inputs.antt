@@ -1,9 +1,8 @@
 -- The day and the plan in a folder, or the first file that is refused.
-use Rattle.std.specs.Prelude.{ℕ, List, [], ◌∷◌, ◌++◌, length, nat_lt, if◌then◌else◌, Result, Ok, Err, codes}
+use Rattle.std.specs.Prelude.{ℕ, List, ◌++◌, length, nat_lt, if◌then◌else◌, Result, Ok, Err, codes}
 use Rattle.rail_io.specs.Folders.{Files, file_at}
 use Rattle.rail_csv.specs.declared.rows.Table.{Table}
 use Rattle.rail_csv.specs.declared.rows.Table.TheVariants as table
-use Rattle.rail_csv.specs.declared.rows.LinkRow.{LinkRow}
 use Rattle.rail_csv.specs.declared.refusal.TableRefusal.{TableRefusal}
 use Rattle.rail_csv.specs.Tables.{types_of, stations_of, stock_of, trips_of, links_of, weights_of, plan_of as plan_rows_of}
 use Rattle.timetable.specs.declared.tables.Tables.{Tables}
@@ -13,7 +12,7 @@ use Rattle.timetable.specs.Day.{Day}
 use Rattle.timetable.specs.Build.{day_of}
 use Rattle.timetable.specs.Plans.{plan_of}
 use Rattle.planner_app.specs.declared.outcome.Refusal.{Refusal}
-use Rattle.planner_app.specs.declared.outcome.Refusal.TheVariants.{TooLong, WrongTable, LinksNotBuilt, NoDay, NoPlan}
+use Rattle.planner_app.specs.declared.outcome.Refusal.TheVariants.{TooLong, WrongTable, NoDay, NoPlan}
 use Rattle.planner_app.specs.Texts.{file_name}
 
 -- one step, and then the next where it went well
@@ -56,11 +55,6 @@ read_as reading files dir table = do
   bytes ← bytes_in files dir table
   as_table table (reading bytes)
 
--- a table of links, as long as days with links are not built
-abbrev pub without_rows : List LinkRow → Result (List LinkRow) Refusal
-without_rows [] = Ok []
-without_rows (row ∷ rows) = Err LinksNotBuilt
-
 -- the six tables in order
 unfoldable pub tables_in : Files → List ℕ → Result Tables Refusal
 tables_in files dir = do
@@ -68,8 +62,7 @@ tables_in files dir = do
   stations ← read_as stations_of files dir table.Stations
   stock ← read_as stock_of files dir table.Stock
   trips ← read_as trips_of files dir table.Trips
-  rows ← read_as links_of files dir table.Links
-  links ← without_rows rows
+  links ← read_as links_of files dir table.Links
   weights ← read_as weights_of files dir table.Weights
   Ok (record { types = types; stations = stations; stock = stock; trips = trips; links = links; weights = weights })
 

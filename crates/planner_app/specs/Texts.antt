@@ -14,7 +14,7 @@ use Rattle.timetable.specs.declared.refusal.PlanRefusal.TheVariants as plan
 use Rattle.day_simulator.specs.declared.events.StepFault.{StepFault}
 use Rattle.day_simulator.specs.declared.events.StepFault.TheVariants.{NotNow, NoUnits, NotAdmissible, LinkBroken, NotInYard, Balance}
 use Rattle.planner_app.specs.declared.outcome.Refusal.{Refusal}
-use Rattle.planner_app.specs.declared.outcome.Refusal.TheVariants.{TooLong, WrongTable, LinksNotBuilt, NoDay, NoPlan}
+use Rattle.planner_app.specs.declared.outcome.Refusal.TheVariants.{TooLong, WrongTable, NoDay, NoPlan}
 use Rattle.planner_app.specs.declared.outcome.Outcome.{Outcome}
 use Rattle.planner_app.specs.declared.outcome.Outcome.TheVariants.{Runs, Stops, Usage, Refused, CannotRead, NoMemory}
 
@@ -117,7 +117,6 @@ plan_text plan.NoMemory = codes "out of memory"
 abbrev pub refusal_text : Refusal → List ℕ
 refusal_text (TooLong table) = codes "too long"
 refusal_text (WrongTable table refusal) = table_text table refusal
-refusal_text LinksNotBuilt = codes "not built"
 refusal_text (NoDay refusal) = instance_text refusal
 refusal_text (NoPlan refusal) = plan_text refusal
 
@@ -125,7 +124,6 @@ refusal_text (NoPlan refusal) = plan_text refusal
 abbrev pub refusal_file : Refusal → Table
 refusal_file (TooLong table) = table
 refusal_file (WrongTable table refusal) = table
-refusal_file LinksNotBuilt = Links
 refusal_file (NoDay refusal) = instance_file refusal
 refusal_file (NoPlan refusal) = Plan
 

@@ -80,7 +80,6 @@ fn refusal_file(refusal: &Refusal) -> Table
 {
     match refusal {
         Refusal::TooLong(table) | Refusal::WrongTable(table, _) => *table,
-        Refusal::LinksNotBuilt => Table::Links,
         Refusal::NoDay(refusal) => instance_file(refusal),
         Refusal::NoPlan(_) => Table::Plan,
     }
@@ -114,7 +113,6 @@ fn refusal_text(alloc: Global, refusal: &Refusal) -> Result<String, NoMemory>
     match refusal {
         Refusal::TooLong(_) => words(alloc, "too long"),
         Refusal::WrongTable(table, refusal) => table_text(alloc, *table, refusal),
-        Refusal::LinksNotBuilt => words(alloc, "not built"),
         Refusal::NoDay(refusal) => instance_text(alloc, refusal),
         Refusal::NoPlan(refusal) => plan_text(alloc, refusal),
     }

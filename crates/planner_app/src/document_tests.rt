@@ -3,8 +3,10 @@
 use crate::document::document;
 use crate::outcome::{Outcome, Refusal};
 use day_simulator::{DayEvent, StepFault};
-use rail_base::{LinkNo, Money, StationNo, TripNo, TypeNo, UnitNo};
+use rail_base::{LinkNo, Money, NoMemory, StationNo, TripNo, TypeNo, UnitNo};
 use rail_csv::{Table, TableRefusal};
+use std::alloc::Global;
+use std::process::Abort;
 use std::test::Fail;
 use timetable::{InstanceRefusal, PlanRefusal};
 
@@ -69,30 +71,26 @@ fn faults(rt: HostRuntime) -> Result<(), Fail> {
     Ok(())
 }
 
+/// Asserts the document of a refused file.
+fn expect_refused(
+    rt: &impl Abort,
+    alloc: Global,
+    refusal: Refusal,
+    want: &str,
+) -> Result<(), NoMemory> {
+    let text = document(alloc, &Outcome::Refused(refusal))?;
+    assert!(rt; text.as_str() == want);
+    Ok(())
+}
+
 #[test]
-fn refused_tables(rt: HostRuntime) -> Result<(), Fail> {
-    let found = TableRefusal::FieldCount { row: 4, found: 6 };
+fn refused_fields(rt: HostRuntime) -> Result<(), Fail> {
     let number = TableRefusal::BadNumber { row: 10, column: 1 };
     let range = TableRefusal::OutOfRange { row: 1, column: 2 };
     let time = TableRefusal::BadTime { row: 2, column: 4 };
     let name = TableRefusal::BadName { row: 3, column: 0 };
     let word = TableRefusal::BadWord { row: 5, column: 7 };
     for (table, refusal, want) in [
-        (
-            Table::Types,
-            TableRefusal::NotUtf8(2),
-            "refused types.csv: row 2 is not UTF-8\n",
-        ),
-        (
-            Table::Stations,
-            TableRefusal::WrongHeader,
-            "refused stations.csv: wrong header\n",
-        ),
-        (
-            Table::Stock,
-            found,
-            "refused stock.csv: row 4 has 6 fields\n",
-        ),
         (
             Table::Types,
             number,
@@ -118,6 +116,31 @@ fn refused_tables(rt: HostRuntime) -> Result<(), Fail> {
             word,
             "refused links.csv: row 5, column couple: not a word of this column\n",
         ),
+    ] {
+        expect_refused(&rt, rt.alloc(), Refusal::WrongTable(table, refusal), want)?;
+    }
+    Ok(())
+}
+
+#[test]
+fn refused_rows_and_headers(rt: HostRuntime) -> Result<(), Fail> {
+    let found = TableRefusal::FieldCount { row: 4, found: 6 };
+    for (table, refusal, want) in [
+        (
+            Table::Types,
+            TableRefusal::NotUtf8(2),
+            "refused types.csv: row 2 is not UTF-8\n",
+        ),
+        (
+            Table::Stations,
+            TableRefusal::WrongHeader,
+            "refused stations.csv: wrong header\n",
+        ),
+        (
+            Table::Stock,
+            found,
+            "refused stock.csv: row 4 has 6 fields\n",
+        ),
         (
             Table::Trips,
             TableRefusal::TooManyRows,
@@ -129,15 +152,13 @@ fn refused_tables(rt: HostRuntime) -> Result<(), Fail> {
             "refused weights.csv: no row\n",
         ),
     ] {
-        let outcome = Outcome::Refused(Refusal::WrongTable(table, refusal));
-        let text = document(rt.alloc(), &outcome)?;
-        assert_eq!(rt; text.as_str(), want);
+        expect_refused(&rt, rt.alloc(), Refusal::WrongTable(table, refusal), want)?;
     }
     Ok(())
 }
 
 #[test]
-fn refused_days(rt: HostRuntime) -> Result<(), Fail> {
+fn refused_types_stations_and_stock(rt: HostRuntime) -> Result<(), Fail> {
     let repeated = InstanceRefusal::RepeatedName {
         table: Table::Stations,
         row: 2,
@@ -147,7 +168,9 @@ fn refused_days(rt: HostRuntime) -> Result<(), Fail> {
         row: 3,
         column: 1,
     };
-    let late = InstanceRefusal::ArrivalNotAfterDeparture(8);
+    let pair = InstanceRefusal::RepeatedStock(4);
+    let units = InstanceRefusal::TooManyUnits;
+    let compositions = InstanceRefusal::TooManyCompositions;
     for (refusal, want) in [
         (repeated, "refused stations.csv: row 2: repeated name\n"),
         (
@@ -155,48 +178,48 @@ fn refused_days(rt: HostRuntime) -> Result<(), Fail> {
             "refused stock.csv: row 3, column type: unknown name\n",
         ),
         (
-            InstanceRefusal::RepeatedStock(4),
+            pair,
             "refused stock.csv: row 4: repeated station and type\n",
         ),
+        (units, "refused stock.csv: too many units\n"),
+        (compositions, "refused types.csv: too many compositions\n"),
+    ] {
+        expect_refused(&rt, rt.alloc(), Refusal::NoDay(refusal), want)?;
+    }
+    Ok(())
+}
+
+#[test]
+fn refused_trips_and_links(rt: HostRuntime) -> Result<(), Fail> {
+    let late = InstanceRefusal::ArrivalNotAfterDeparture(8);
+    let same = InstanceRefusal::SameStation(1);
+    let none = InstanceRefusal::NoComposition(6);
+    let twice = InstanceRefusal::TripUsedTwice(2);
+    let apart = InstanceRefusal::WrongStation(3);
+    let early = InstanceRefusal::TooEarly(4);
+    let fields = InstanceRefusal::WrongLinkFields(5);
+    for (refusal, want) in [
         (
             late,
             "refused trips.csv: row 8: arrival is not after departure\n",
         ),
+        (same, "refused trips.csv: row 1: same station\n"),
+        (none, "refused trips.csv: row 6: no composition fits\n"),
+        (twice, "refused links.csv: row 2: trip used twice\n"),
         (
-            InstanceRefusal::SameStation(1),
-            "refused trips.csv: row 1: same station\n",
-        ),
-        (
-            InstanceRefusal::NoComposition(6),
-            "refused trips.csv: row 6: no composition fits\n",
-        ),
-        (
-            InstanceRefusal::TripUsedTwice(2),
-            "refused links.csv: row 2: trip used twice\n",
-        ),
-        (
-            InstanceRefusal::WrongStation(3),
+            apart,
             "refused links.csv: row 3: trips do not meet at a station\n",
         ),
         (
-            InstanceRefusal::TooEarly(4),
+            early,
             "refused links.csv: row 4: departure before arrival\n",
         ),
         (
-            InstanceRefusal::WrongLinkFields(5),
+            fields,
             "refused links.csv: row 5: fields do not fit the kind\n",
         ),
-        (
-            InstanceRefusal::TooManyUnits,
-            "refused stock.csv: too many units\n",
-        ),
-        (
-            InstanceRefusal::TooManyCompositions,
-            "refused types.csv: too many compositions\n",
-        ),
     ] {
-        let text = document(rt.alloc(), &Outcome::Refused(Refusal::NoDay(refusal)))?;
-        assert_eq!(rt; text.as_str(), want);
+        expect_refused(&rt, rt.alloc(), Refusal::NoDay(refusal), want)?;
     }
     Ok(())
 }
@@ -208,7 +231,6 @@ fn refused_files_and_plans(rt: HostRuntime) -> Result<(), Fail> {
             Refusal::TooLong(Table::Stock),
             "refused stock.csv: too long\n",
         ),
-        (Refusal::LinksNotBuilt, "refused links.csv: not built\n"),
         (
             Refusal::NoPlan(PlanRefusal::WrongTrip(1)),
             "refused plan.csv: row 1: wrong trip\n",

@@ -12,8 +12,6 @@ pub enum Refusal {
     TooLong(Table),
     /// The file of this table is no such table.
     WrongTable(Table, TableRefusal),
-    /// The table of links has a row, and days with links are not built yet.
-    LinksNotBuilt,
     /// The tables make no day.
     NoDay(InstanceRefusal),
     /// The rows of the plan make no plan of the day.

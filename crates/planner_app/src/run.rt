@@ -26,7 +26,6 @@ use timetable::{Instance, InstanceRefusal, NamedPlan, PlanRefusal, Tables};
 fn day_of(alloc: Global, tables: Tables) -> Result<Instance, Outcome>
     requires { AreTables tables }
     ensures told { Gives (λ instance. instance) result (as_day (day_of tables)) }
-    ensures without_links { IfOk result (λ instance. instance.links ≡ []) }
     ensures reading { IfErr result IsReading }
 {
     match Instance::build(alloc, tables) {
@@ -59,7 +58,6 @@ fn inputs_in<F: Folder>(
 ) -> Result<(Instance, NamedPlan), Outcome>
     ensures told { (files : Files) → F.holds folder.old ≡ Some files → Gives (λ pair. inputs_of pair.0 pair.1) result (inputs_in files dir.now) }
     ensures is_plan { IfOk result (λ pair. IsPlan pair.0 pair.1) }
-    ensures without_links { IfOk result (λ pair. pair.0.links ≡ []) }
     ensures caused { IfErr result (λ outcome. IsCaused (F.faults folder.old) (F.faults folder.new) (F.taken folder.old) (F.taken folder.new) outcome) }
     ensures same { F.holds folder.new ≡ F.holds folder.old }
     ensures faults { F.faults folder.old ≤ F.faults folder.new }
@@ -75,7 +73,6 @@ fn inputs_in<F: Folder>(
 /// Whether a plan runs.
 fn simulated(alloc: Global, instance: &Instance, plan: &NamedPlan) -> Outcome
     requires plan { IsPlan instance.now plan.now }
-    requires without_links { instance.now.links ≡ [] }
     ensures told { Tells (inputs_of instance.now plan.now) result }
     ensures reading { IsReading result }
 {

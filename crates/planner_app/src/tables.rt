@@ -5,7 +5,7 @@ ghost use Rattle.rail_io.specs.Folders.{Files};
 ghost use Rattle.rail_csv.specs.Rows.{AreTypeRows, AreStationRows, AreStockRows, AreTripRows, AreLinkRows, ArePlanRows, IsWeightsRow};
 ghost use Rattle.rail_csv.specs.Tables.{Fails, types_of, stations_of, stock_of, trips_of, links_of, weights_of, plan_of};
 ghost use Rattle.rail_csv.specs.declared.rows.Table.TheVariants as table;
-ghost use Rattle.planner_app.specs.Inputs.{read_as, as_table, tables_in, without_rows};
+ghost use Rattle.planner_app.specs.Inputs.{read_as, as_table, tables_in};
 ghost use Rattle.planner_app.specs.Accepting.{AreTables};
 ghost use Rattle.planner_app.specs.Giving.{Gives, IsCaused, outcome_of};
 
@@ -155,19 +155,6 @@ pub(crate) fn plan_rows<F: Folder>(
     }
 }
 
-/// Rows of links, as long as days with links are not built: there must be none.
-fn without_rows(rows: Rows<LinkRow>) -> Result<Rows<LinkRow>, Outcome>
-    ensures told { Gives (λ links. links) result (without_rows rows) }
-    ensures none { IfOk result (λ links. links ≡ []) }
-    ensures refused { IfErr result (λ outcome. outcome ≡ Outcome.Refused Refusal.LinksNotBuilt) }
-{
-    if rows.items().is_empty() {
-        Ok(rows)
-    } else {
-        Err(Outcome::Refused(Refusal::LinksNotBuilt))
-    }
-}
-
 /// The rows of the six tables, read in their order. The first file that is refused or cannot be read ends the reading.
 #[tactic(auto, unfolding(crate::specs::Inputs::tables_in))]
 pub(crate) fn tables_in<F: Folder>(
@@ -186,7 +173,7 @@ pub(crate) fn tables_in<F: Folder>(
     let stations = stations(alloc, folder, dir)?;
     let stock = stock(alloc, folder, dir)?;
     let trips = trips(alloc, folder, dir)?;
-    let links = without_rows(links(alloc, folder, dir)?)?;
+    let links = links(alloc, folder, dir)?;
     let weights = weights(alloc, folder, dir)?;
     Ok(Tables {
         types,

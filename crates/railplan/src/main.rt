@@ -2,6 +2,7 @@
 #![tactic(auto)]
 
 use planner_app::railplan;
+use rail_base::limits::MOST_WORDS;
 use rail_base::{NoMemory, Words};
 use rail_io::{DiskFolder, StdoutSink};
 use std::alloc::Global;
@@ -9,14 +10,11 @@ use std::env::{self, Args};
 use std::io::ErrorKind;
 use std::process::ExitCode;
 
-/// The most words that are handed on: more than any command has.
-const MOST_WORDS: u32 = 100;
-
 /// The words of a command line.
 fn words_of(alloc: Global, args: Args) -> Result<Words, NoMemory> {
     let mut words = Words::new(alloc)?;
     for arg in args {
-        if words.len() >= MOST_WORDS {
+        if words.len() as usize >= MOST_WORDS {
             break;
         }
         words.push(arg.as_str())?;
