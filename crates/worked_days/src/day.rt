@@ -1,0 +1,189 @@
+//! A day in memory, with one text a file, and what a run over it comes to.
+
+use planner_app::railplan;
+use rail_base::name::is_name;
+use rail_base::{NoMemory, Words};
+use rail_io::{MemoryFile, MemoryFolder, MemorySink};
+use std::alloc::Global;
+use std::process::Abort;
+
+/// The texts of a day's files. A file that is None is not in the folder.
+#[derive(Clone, Copy, Debug)]
+pub(crate) struct Day<'a> {
+    pub(crate) types: Option<&'a str>,
+    pub(crate) stations: Option<&'a str>,
+    pub(crate) stock: Option<&'a str>,
+    pub(crate) trips: Option<&'a str>,
+    pub(crate) links: Option<&'a str>,
+    pub(crate) weights: Option<&'a str>,
+    pub(crate) plan: Option<&'a str>,
+}
+
+/// A status and what was written.
+#[derive(Debug, Drop)]
+pub(crate) struct Ending {
+    pub(crate) status: u8,
+    pub(crate) written: Vec<u8>,
+}
+
+/// The day of two trips: X to Y 08:00 to 09:00 and back 09:30 to 10:30, with one unit.
+pub(crate) fn two_trips() -> Day<'static> {
+    Day {
+        types: Some("type,carriages,seats,metres,family\nA,3,200,80,regional\n"),
+        stations: Some("station,platform,reallocation\nX,200,30\nY,200,30\n"),
+        stock: Some("station,type,start,end\nX,A,1,1\n"),
+        trips: Some(
+            "trip,from,departure,to,arrival,km,demand\nT1,X,08:00,Y,09:00,10,150\nT2,Y,09:30,X,10:30,10,150\n",
+        ),
+        links: Some("kind,arriving,arriving2,departing,departing2,reverse,uncouple,couple\n"),
+        weights: Some("carriage,shortage,shunting\n1,1,100\n"),
+        plan: Some("trip,units\nT1,0\nT2,0\n"),
+    }
+}
+
+/// The day of a turn: two units go out and come back on one link, with ten minutes between.
+pub(crate) fn base_day() -> Day<'static> {
+    Day {
+        stock: Some("station,type,start,end\nX,A,2,2\n"),
+        trips: Some(
+            "trip,from,departure,to,arrival,km,demand\nT1,X,08:00,Y,09:00,10,300\nT2,Y,09:10,X,10:10,10,150\n",
+        ),
+        links: Some(
+            "kind,arriving,arriving2,departing,departing2,reverse,uncouple,couple\nturn,T1,,T2,,yes,rear,none\n",
+        ),
+        plan: Some("trip,units\nT1,0 1\nT2,1 0\n"),
+        ..two_trips()
+    }
+}
+
+/// The base day with units of two types and platforms of 140 metres.
+pub(crate) fn two_types() -> Day<'static> {
+    Day {
+        types: Some(
+            "type,carriages,seats,metres,family\nA,3,200,80,regional\nB,2,100,60,regional\n",
+        ),
+        stations: Some("station,platform,reallocation\nX,140,30\nY,140,30\n"),
+        stock: Some("station,type,start,end\nX,A,1,0\nX,B,1,1\nY,A,0,1\n"),
+        trips: Some(
+            "trip,from,departure,to,arrival,km,demand\nT1,X,08:00,Y,09:00,10,300\nT2,Y,09:10,X,10:10,10,100\n",
+        ),
+        plan: Some("trip,units\nT1,0 1\nT2,1\n"),
+        ..base_day()
+    }
+}
+
+/// A ring: one trip's train is split over two trips, and a third trip's is joined of two.
+pub(crate) fn ring() -> Day<'static> {
+    Day {
+        stations: Some("station,platform,reallocation\nX,240,30\nY,240,30\nZ,240,30\n"),
+        stock: Some("station,type,start,end\nX,A,3,3\n"),
+        trips: Some(
+            "trip,from,departure,to,arrival,km,demand\nT1,X,08:00,Y,09:00,10,300\nT2,Y,09:10,Z,10:00,10,300\nT3,Y,09:20,Z,10:10,10,300\nT4,Z,10:30,X,11:30,10,300\n",
+        ),
+        links: Some(
+            "kind,arriving,arriving2,departing,departing2,reverse,uncouple,couple\nsplit,T1,,T2,T3,no,none,none\njoin,T3,T2,T4,,no,none,none\n",
+        ),
+        plan: Some("trip,units\nT1,0 1 2\nT2,0 1\nT3,2\nT4,2 0 1\n"),
+        ..two_trips()
+    }
+}
+
+/// A day with names in quotes and lines ended by CRLF, on which a unit waits while the rest of its train goes on.
+pub(crate) fn northport() -> Day<'static> {
+    Day {
+        types: Some(
+            "type,carriages,seats,metres,family\r\nIC-3,3,192,81,inter\r\nIC-4,4,254,108,inter\r\n",
+        ),
+        stations: Some(
+            "station,platform,reallocation\r\n\"Northport, Central\",340,20\r\nMidford,340,20\r\nSouthhaven,270,20\r\n",
+        ),
+        stock: Some(
+            "station,type,start,end\r\n\"Northport, Central\",IC-3,2,2\r\n\"Northport, Central\",IC-4,1,1\r\n",
+        ),
+        trips: Some(
+            "trip,from,departure,to,arrival,km,demand\r\n101,\"Northport, Central\",06:02,Midford,06:58,74,310\r\n102,Midford,07:05,Southhaven,07:50,58,180\r\n103,Southhaven,08:10,Midford,08:55,58,170\r\n104,Midford,09:02,\"Northport, Central\",09:58,74,290\r\n",
+        ),
+        links: Some(
+            "kind,arriving,arriving2,departing,departing2,reverse,uncouple,couple\r\nturn,101,,102,,no,rear,none\r\nturn,102,,103,,yes,none,none\r\nturn,103,,104,,no,none,rear\r\n",
+        ),
+        weights: Some("carriage,shortage,shunting\r\n10,10,500\r\n"),
+        plan: Some("trip,units\r\n101,0 1\r\n102,0\r\n103,0\r\n104,0 1\r\n"),
+    }
+}
+
+/// Adds a file where it is there.
+fn add(
+    rt: &impl Abort,
+    alloc: Global,
+    files: &mut Vec<MemoryFile>,
+    path: &str,
+    text: Option<&str>,
+) -> Result<(), NoMemory> {
+    assert!(rt; is_name(path.as_bytes()));
+    if let Some(text) = text {
+        files.push(MemoryFile::new(alloc, path, text.as_bytes())?)?;
+    }
+    Ok(())
+}
+
+/// The folder of a day, whose reads fail at these numbers.
+pub(crate) fn folder_of(
+    rt: &impl Abort,
+    alloc: Global,
+    day: &Day,
+    failing: Vec<u64>,
+) -> Result<MemoryFolder, NoMemory> {
+    let mut files = Vec::new(alloc);
+    add(rt, alloc, &mut files, "day/types.csv", day.types)?;
+    add(rt, alloc, &mut files, "day/stations.csv", day.stations)?;
+    add(rt, alloc, &mut files, "day/stock.csv", day.stock)?;
+    add(rt, alloc, &mut files, "day/trips.csv", day.trips)?;
+    add(rt, alloc, &mut files, "day/links.csv", day.links)?;
+    add(rt, alloc, &mut files, "day/weights.csv", day.weights)?;
+    add(rt, alloc, &mut files, "day/plan.csv", day.plan)?;
+    MemoryFolder::new(alloc, files, failing)
+}
+
+/// The words of a command line.
+pub(crate) fn words_of(rt: &impl Abort, alloc: Global, texts: &[&str]) -> Result<Words, NoMemory> {
+    let mut words = Words::new(alloc)?;
+    for text in texts {
+        assert!(rt; words.len() < 1000);
+        words.push(*text)?;
+    }
+    Ok(words)
+}
+
+/// What `simulate day` comes to over a folder and a sink.
+pub(crate) fn simulated_with(
+    rt: &impl Abort,
+    alloc: Global,
+    folder: &mut MemoryFolder,
+    mut out: MemorySink,
+) -> Result<Ending, NoMemory> {
+    let words = words_of(rt, alloc, &["railplan", "simulate", "day"])?;
+    let status = railplan(alloc, &words, folder, &mut out);
+    let written = out.written().to_vec(alloc)?;
+    Ok(Ending { status, written })
+}
+
+/// What `simulate day` comes to over a day in memory, with ample room.
+pub(crate) fn simulated(rt: &impl Abort, alloc: Global, day: &Day) -> Result<Ending, NoMemory> {
+    let mut folder = folder_of(rt, alloc, day, Vec::new(alloc))?;
+    let out = MemorySink::new(alloc, 1000, 1000, Vec::new(alloc))?;
+    simulated_with(rt, alloc, &mut folder, out)
+}
+
+/// Asserts the status of a day, and the document that it writes.
+pub(crate) fn expect_document(
+    rt: &impl Abort,
+    alloc: Global,
+    day: &Day,
+    status: u8,
+    document: &str,
+) -> Result<(), NoMemory> {
+    let ending = simulated(rt, alloc, day)?;
+    assert!(rt; ending.written.as_slice() == document.as_bytes());
+    assert!(rt; ending.status == status);
+    Ok(())
+}

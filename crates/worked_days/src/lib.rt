@@ -1,0 +1,9 @@
+//! Worked days: the top call over folders and sinks in memory, and what crosses crates.
+#![tactic(auto)]
+
+#[cfg(test)]
+mod day;
+#[cfg(test)]
+mod link_tests;
+#[cfg(test)]
+mod simulate_tests;

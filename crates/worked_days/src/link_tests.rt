@@ -1,0 +1,112 @@
+//! Running plans with turns, joins and splits: worked days with their lines.
+
+use crate::day::{Day, base_day, expect_document, northport, ring, two_trips, two_types};
+use std::test::Fail;
+
+/// The base day with another plan.
+fn with_plan(plan: &str) -> Day {
+    Day {
+        plan: Some(plan),
+        ..base_day()
+    }
+}
+
+#[test]
+fn a_train_turns_on_its_link(rt: HostRuntime) -> Result<(), Fail> {
+    let alloc = rt.alloc();
+    expect_document(&rt, alloc, &base_day(), 0, "runs 120\n")?;
+    let not_reversed = with_plan("trip,units\nT1,0 1\nT2,0 1\n");
+    let stops = "stops: link 0 is broken\n";
+    expect_document(&rt, alloc, &not_reversed, 1, stops)?;
+    expect_document(&rt, alloc, &northport(), 0, "runs 13360\n")?;
+    Ok(())
+}
+
+#[test]
+fn a_turn_uncouples_at_its_end(rt: HostRuntime) -> Result<(), Fail> {
+    let alloc = rt.alloc();
+    expect_document(&rt, alloc, &two_types(), 0, "runs 170\n")?;
+    let other_end = Day {
+        plan: Some("trip,units\nT1,0 1\nT2,0\n"),
+        ..two_types()
+    };
+    expect_document(&rt, alloc, &other_end, 1, "stops: link 0 is broken\n")?;
+    Ok(())
+}
+
+#[test]
+fn a_coupled_unit_comes_from_the_yard(rt: HostRuntime) -> Result<(), Fail> {
+    let alloc = rt.alloc();
+    let day = Day {
+        links: Some(
+            "kind,arriving,arriving2,departing,departing2,reverse,uncouple,couple\nturn,T1,,T2,,yes,none,rear\n",
+        ),
+        ..with_plan("trip,units\nT1,0\nT2,0 0\n")
+    };
+    let stops = "stops: unit 0 is not ready for trip 1\n";
+    expect_document(&rt, alloc, &day, 1, stops)?;
+    Ok(())
+}
+
+#[test]
+fn arrivals_come_before_departures(rt: HostRuntime) -> Result<(), Fail> {
+    let alloc = rt.alloc();
+    let day = Day {
+        stations: Some("station,platform,reallocation\nX,200,30\nY,200,0\n"),
+        trips: Some(
+            "trip,from,departure,to,arrival,km,demand\nT1,X,08:00,Y,09:00,10,150\nT2,Y,09:00,X,10:00,10,150\n",
+        ),
+        ..two_trips()
+    };
+    expect_document(&rt, alloc, &day, 0, "runs 60\n")?;
+    Ok(())
+}
+
+#[test]
+fn trains_are_split_and_joined(rt: HostRuntime) -> Result<(), Fail> {
+    let alloc = rt.alloc();
+    expect_document(&rt, alloc, &ring(), 0, "runs 1270\n")?;
+    let other_order = Day {
+        plan: Some("trip,units\nT1,0 1 2\nT2,0 1\nT3,2\nT4,0 1 2\n"),
+        ..ring()
+    };
+    expect_document(&rt, alloc, &other_order, 1, "stops: link 1 is broken\n")?;
+    Ok(())
+}
+
+#[test]
+fn wrong_links_are_refused(rt: HostRuntime) -> Result<(), Fail> {
+    let alloc = rt.alloc();
+    let twice = Day {
+        links: Some(
+            "kind,arriving,arriving2,departing,departing2,reverse,uncouple,couple\nturn,T1,,T2,,yes,rear,none\nturn,T1,,T2,,yes,rear,none\n",
+        ),
+        ..base_day()
+    };
+    let refused = "refused links.csv: row 2: trip used twice\n";
+    expect_document(&rt, alloc, &twice, 3, refused)?;
+    Ok(())
+}
+
+#[test]
+fn a_catalogue_has_at_most_1000_compositions(rt: HostRuntime) -> Result<(), Fail> {
+    let alloc = rt.alloc();
+    let day = Day {
+        types: Some(
+            "type,carriages,seats,metres,family\nA,3,200,50,regional\nB,3,100,50,regional\nC,3,100,50,regional\n",
+        ),
+        ..two_trips()
+    };
+    let long = Day {
+        stations: Some("station,platform,reallocation\nX,300,30\nY,300,30\n"),
+        ..day
+    };
+    let refused = "refused types.csv: too many compositions\n";
+    expect_document(&rt, alloc, &long, 3, refused)?;
+    let shorter = Day {
+        stations: Some("station,platform,reallocation\nX,299,30\nY,299,30\n"),
+        ..day
+    };
+    expect_document(&rt, alloc, &shorter, 0, "runs 60\n")?;
+    Ok(())
+}

@@ -1,0 +1,217 @@
+//! Running a plan: worked days with their lines, refused files, and reads and writes that fail.
+
+use crate::day::{Day, expect_document, folder_of, simulated_with, two_trips, words_of};
+use planner_app::railplan;
+use rail_io::MemorySink;
+use std::test::Fail;
+
+/// The day of two trips with other trips.
+fn with_trips(trips: &str) -> Day {
+    Day {
+        trips: Some(trips),
+        ..two_trips()
+    }
+}
+
+/// The day of two trips with another plan.
+fn with_plan(plan: &str) -> Day {
+    Day {
+        plan: Some(plan),
+        ..two_trips()
+    }
+}
+
+#[test]
+fn a_unit_that_is_ready_in_time_runs(rt: HostRuntime) -> Result<(), Fail> {
+    let alloc = rt.alloc();
+    expect_document(&rt, alloc, &two_trips(), 0, "runs 60\n")?;
+    let day = with_trips(
+        "trip,from,departure,to,arrival,km,demand\nT1,X,08:00,Y,09:00,10,150\nT2,Y,09:29,X,10:29,10,150\n",
+    );
+    let stops = "stops: unit 0 is not ready for trip 1\n";
+    expect_document(&rt, alloc, &day, 1, stops)?;
+    Ok(())
+}
+
+#[test]
+fn a_trip_has_units_and_each_once(rt: HostRuntime) -> Result<(), Fail> {
+    let alloc = rt.alloc();
+    let empty = with_plan("trip,units\nT1,0\nT2,\n");
+    expect_document(&rt, alloc, &empty, 1, "stops: trip 1 has no units\n")?;
+    let two_units = Day {
+        stock: Some("station,type,start,end\nX,A,2,2\n"),
+        ..two_trips()
+    };
+    let twice = Day {
+        plan: Some("trip,units\nT1,1 1\nT2,1\n"),
+        ..two_units
+    };
+    let stops = "stops: unit 1 is not ready for trip 0\n";
+    expect_document(&rt, alloc, &twice, 1, stops)?;
+    let both = Day {
+        plan: Some("trip,units\nT1,1 0\nT2,0 1\n"),
+        ..two_units
+    };
+    expect_document(&rt, alloc, &both, 0, "runs 120\n")?;
+    let long = Day {
+        stations: Some("station,platform,reallocation\nX,159,30\nY,200,30\n"),
+        ..both
+    };
+    let stops = "stops: trip 0 has no admissible composition\n";
+    expect_document(&rt, alloc, &long, 1, stops)?;
+    Ok(())
+}
+
+#[test]
+fn stations_end_at_their_balance(rt: HostRuntime) -> Result<(), Fail> {
+    let alloc = rt.alloc();
+    let day = Day {
+        stock: Some("station,type,start,end\nX,A,1,0\nY,A,0,1\n"),
+        ..two_trips()
+    };
+    let stops = "stops: station 0 has 1 units of type 0, 0 wanted\n";
+    expect_document(&rt, alloc, &day, 1, stops)?;
+    Ok(())
+}
+
+#[test]
+fn one_unit_leaves_once_in_a_minute(rt: HostRuntime) -> Result<(), Fail> {
+    let alloc = rt.alloc();
+    let day = with_trips(
+        "trip,from,departure,to,arrival,km,demand\nT1,X,08:00,Y,09:00,10,150\nT2,X,08:00,Y,09:00,10,150\n",
+    );
+    let stops = "stops: unit 0 is not ready for trip 1\n";
+    expect_document(&rt, alloc, &day, 1, stops)?;
+    Ok(())
+}
+
+#[test]
+fn a_day_may_have_no_trips(rt: HostRuntime) -> Result<(), Fail> {
+    let alloc = rt.alloc();
+    let day = Day {
+        plan: Some("trip,units\n"),
+        ..with_trips("trip,from,departure,to,arrival,km,demand\n")
+    };
+    expect_document(&rt, alloc, &day, 0, "runs 0\n")?;
+    Ok(())
+}
+
+#[test]
+fn files_are_read_as_csv(rt: HostRuntime) -> Result<(), Fail> {
+    let alloc = rt.alloc();
+    let day = Day {
+        stations: Some("\u{feff}station,platform,reallocation\r\n\"X\",200,30\r\n\r\nY,200,30"),
+        ..two_trips()
+    };
+    expect_document(&rt, alloc, &day, 0, "runs 60\n")?;
+    Ok(())
+}
+
+#[test]
+fn the_first_wrong_file_is_refused(rt: HostRuntime) -> Result<(), Fail> {
+    let alloc = rt.alloc();
+    let day = Day {
+        types: Some(""),
+        ..two_trips()
+    };
+    expect_document(&rt, alloc, &day, 3, "refused types.csv: wrong header\n")?;
+    let day = with_trips(
+        "trip,from,departure,to,arrival,km,demand\nT1,X,08:00,Y,09:00,0,300\nT2,Y,8h,X,10:10,10,150\n",
+    );
+    let refused = "refused trips.csv: row 1, column km: out of range\n";
+    expect_document(&rt, alloc, &day, 3, refused)?;
+    let short = Day {
+        stations: Some("station,platform,reallocation\nX,79,30\nY,79,30\n"),
+        ..two_trips()
+    };
+    let refused = "refused trips.csv: row 1: no composition fits\n";
+    expect_document(&rt, alloc, &short, 3, refused)?;
+    let unknown = with_plan("trip,units\nT1,0\nT2,1\n");
+    expect_document(
+        &rt,
+        alloc,
+        &unknown,
+        3,
+        "refused plan.csv: row 2: unknown unit\n",
+    )?;
+    let missing = with_plan("trip,units\nT1,0\n");
+    let refused = "refused plan.csv: trip missing after row 1\n";
+    expect_document(&rt, alloc, &missing, 3, refused)?;
+    Ok(())
+}
+
+#[test]
+fn a_table_may_have_4194304_bytes(rt: HostRuntime) -> Result<(), Fail> {
+    let alloc = rt.alloc();
+    let blank = vec![in alloc; b'\n'; 4194305]?;
+    let Ok(text) = std::str::from_utf8(&blank) else {
+        panic!(&rt; "line feeds are a text");
+    };
+    let day = Day {
+        types: Some(text),
+        ..two_trips()
+    };
+    expect_document(&rt, alloc, &day, 3, "refused types.csv: too long\n")?;
+    let day = Day {
+        types: Some(&text[1..]),
+        ..two_trips()
+    };
+    expect_document(&rt, alloc, &day, 3, "refused types.csv: wrong header\n")?;
+    Ok(())
+}
+
+#[test]
+fn a_file_that_cannot_be_read_is_named(rt: HostRuntime) -> Result<(), Fail> {
+    let alloc = rt.alloc();
+    let day = Day {
+        trips: None,
+        ..two_trips()
+    };
+    expect_document(&rt, alloc, &day, 5, "cannot read trips.csv\n")?;
+    let mut folder = folder_of(&rt, alloc, &two_trips(), vec![in alloc; 2]?)?;
+    let out = MemorySink::new(alloc, 1000, 1000, Vec::new(alloc))?;
+    let ending = simulated_with(&rt, alloc, &mut folder, out)?;
+    assert!(rt; ending.status == 5);
+    assert!(rt; ending.written.as_slice() == b"cannot read stations.csv\n".as_slice());
+    Ok(())
+}
+
+#[test]
+fn a_sink_that_fails_keeps_a_front(rt: HostRuntime) -> Result<(), Fail> {
+    let alloc = rt.alloc();
+    let document = b"runs 60\n";
+    for call in 0..8u64 {
+        let mut folder = folder_of(&rt, alloc, &two_trips(), Vec::new(alloc))?;
+        let out = MemorySink::new(alloc, 1000, 1, vec![in alloc; call]?)?;
+        let ending = simulated_with(&rt, alloc, &mut folder, out)?;
+        assert!(rt; ending.status == 6);
+        assert!(rt; ending.written.as_slice() == &document[..call as usize]);
+    }
+    let mut folder = folder_of(&rt, alloc, &two_trips(), Vec::new(alloc))?;
+    let out = MemorySink::new(alloc, 0, 100, Vec::new(alloc))?;
+    let ending = simulated_with(&rt, alloc, &mut folder, out)?;
+    assert!(rt; ending.status == 6 && ending.written.is_empty());
+    Ok(())
+}
+
+#[test]
+fn other_words_are_refused(rt: HostRuntime) -> Result<(), Fail> {
+    let alloc = rt.alloc();
+    for texts in [
+        [].as_slice(),
+        ["railplan"].as_slice(),
+        ["railplan", "simulate"].as_slice(),
+        ["railplan", "simulate", ""].as_slice(),
+        ["railplan", "simulate", "-day"].as_slice(),
+        ["railplan", "simulate", "day", "day"].as_slice(),
+        ["railplan", "plan", "day"].as_slice(),
+        ["railplan", "--help"].as_slice(),
+    ] {
+        let words = words_of(&rt, alloc, texts)?;
+        let mut folder = folder_of(&rt, alloc, &two_trips(), Vec::new(alloc))?;
+        let mut out = MemorySink::new(alloc, 1000, 1000, Vec::new(alloc))?;
+        assert!(rt; railplan(alloc, &words, &mut folder, &mut out) == 2);
+        assert!(rt; out.written() == b"usage\n".as_slice());
+    }
+    Ok(())
+}
