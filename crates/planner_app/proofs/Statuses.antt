@@ -1,5 +1,5 @@
 -- What the status of a run says, from its outcome and from what came of writing the outcome's document.
-use Rattle.std.proofs.Common.{◌≡◌, ◌≢◌, ◌↔◌, ℕ, ◌≤◌, List, Option, Some, None, Ok, Err, ap, sym, subst, ◌∙◌, arith}
+use Rattle.std.proofs.Common.{◌≡◌, ◌≢◌, ◌↔◌, ℕ, ◌≤◌, List, Option, Some, None, Ok, Err, ap, sym, subst, refl, ◌∙◌, arith, IsSome, inl, inr}
 use Rattle.rail_io.specs.Folders.{Files}
 use Rattle.rail_io.specs.Sinks.{Appends, AppendsPart}
 use Rattle.timetable.specs.Running as running
@@ -12,8 +12,9 @@ use Rattle.planner_app.specs.Words.{folder_of}
 use Rattle.planner_app.specs.Inputs.{Inputs, inputs_in}
 use Rattle.planner_app.specs.Texts.{IsDocument, refused_line}
 use Rattle.day_simulator.specs.Finish.{simulation}
+use Rattle.planner_app.specs.Giving.{IsCaused}
 use Rattle.planner_app.specs.Answering.{ComesTo}
-use Rattle.planner_app.specs.Ending.{Accepted, RefusedFor, RunsIn, StopsIn, IsRefusedIn, IsDocumentAt, status_of, Wrote, Whole, Part, Nothing}
+use Rattle.planner_app.specs.Ending.{IsStatusOf, IsWanted, Accepted, RefusedFor, RunsIn, StopsIn, IsRefusedIn, IsDocumentAt, status_of, Wrote, Whole, Part, Nothing}
 
 -- the words name one folder
 accepted_in : (words : List (List ℕ)) (files : Files) (dir : List ℕ) (inputs : Inputs) → folder_of words ≡ Some dir → Accepted words files inputs → inputs_in files dir ≡ Ok inputs
@@ -108,6 +109,50 @@ refused_if words files (Some dir) e (Refused why) h status s ne =
 refused_if words files (Some dir) e (CannotRead table) h status s ne = absurd (ne (sym (other 5 status s)))
 refused_if words files (Some dir) e NoMemory h status s ne = absurd (no_status status s)
 refused_if words files (Some dir) e Usage h status s ne = absurd h
+
+-- that the words are no command
+usage_if : (words : List (List ℕ)) (files : Files) (o : Option (List ℕ)) → folder_of words ≡ o → (outcome : Outcome) → ComesTo o files outcome → (status : ℕ) → status_of outcome ≡ Some status
+    → (status ≡ 2) ↔ (folder_of words ≡ None)
+usage_if words files None e outcome h status s = (λ _. e, λ _. not_usage outcome status h s)
+usage_if words files (Some dir) e (Runs money) h status s = let zero = other 0 status s in (λ z. absurd (omega arith), λ none. unnamed words dir none e)
+usage_if words files (Some dir) e (Stops fault) h status s = let one = other 1 status s in (λ z. absurd (omega arith), λ none. unnamed words dir none e)
+usage_if words files (Some dir) e (Refused why) h status s = let three = other 3 status s in (λ z. absurd (omega arith), λ none. unnamed words dir none e)
+usage_if words files (Some dir) e (CannotRead table) h status s = let five = other 5 status s in (λ z. absurd (omega arith), λ none. unnamed words dir none e)
+usage_if words files (Some dir) e NoMemory h status s = absurd (no_status status s)
+usage_if words files (Some dir) e Usage h status s = absurd h
+
+-- all that a status says
+status_of_files : (words : List (List ℕ)) (files : Files) (o : Option (List ℕ)) → folder_of words ≡ o → (outcome : Outcome) → ComesTo o files outcome → (status : ℕ) → status_of outcome ≡ Some status → status ≤ 3
+    → IsStatusOf words files status
+status_of_files words files o e outcome h status s low =
+    let ne : status ≢ 5 = λ five. absurd (omega arith) in
+    record {
+        runs = runs_if words files o e outcome h status s ne;
+        stops = stops_if words files o e outcome h status s ne;
+        usage = usage_if words files o e outcome h status s;
+        refused = refused_if words files o e outcome h status s ne;
+        one = low
+    }
+
+-- the status with which a run would have ended: that of the files, or that of a read that failed
+pub wanted_if : (words : List (List ℕ)) (files : Files) (o : Option (List ℕ)) → folder_of words ≡ o → (outcome : Outcome) → ComesTo o files outcome
+    → (f f' t t' : ℕ) → (IsSome o → IsCaused f f' t t' outcome) → (status : ℕ) → status_of outcome ≡ Some status
+    → IsWanted words files f f' status
+wanted_if words files None e outcome h f f' t t' caused status s =
+    let two = not_usage outcome status h s in
+    inl (status_of_files words files None e outcome h status s (omega arith))
+wanted_if words files (Some dir) e (Runs money) h f f' t t' caused status s =
+    let zero = other 0 status s in
+    inl (status_of_files words files (Some dir) e (Runs money) h status s (omega arith))
+wanted_if words files (Some dir) e (Stops fault) h f f' t t' caused status s =
+    let one = other 1 status s in
+    inl (status_of_files words files (Some dir) e (Stops fault) h status s (omega arith))
+wanted_if words files (Some dir) e (Refused why) h f f' t t' caused status s =
+    let three = other 3 status s in
+    inl (status_of_files words files (Some dir) e (Refused why) h status s (omega arith))
+wanted_if words files (Some dir) e (CannotRead table) h f f' t t' caused status s = inr (sym (other 5 status s), caused refl)
+wanted_if words files (Some dir) e NoMemory h f f' t t' caused status s = absurd (no_status status s)
+wanted_if words files (Some dir) e Usage h f f' t t' caused status s = absurd h
 
 -- the document of a status
 pub document_if : (words : List (List ℕ)) (files : Files) (o : Option (List ℕ)) → folder_of words ≡ o → (outcome : Outcome) → ComesTo o files outcome → (status : ℕ) → status_of outcome ≡ Some status

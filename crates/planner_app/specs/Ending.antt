@@ -1,5 +1,5 @@
 -- What the status of a run says, and the document that it writes.
-use Rattle.std.specs.Prelude.{ℕ, ◌≡◌, ◌≢◌, ◌⊎◌, ◌≤◌, List, Option, Some, None, Ok, Err}
+use Rattle.std.specs.Prelude.{ℕ, ◌≡◌, ◌≢◌, ◌↔◌, ◌⊎◌, ◌≤◌, List, Option, Some, None, Ok, Err}
 use Rattle.rail_io.specs.Folders.{Files, Rose}
 use Rattle.rail_io.specs.Sinks.{Appends, AppendsPart}
 use Rattle.rail_csv.specs.declared.rows.Table.{Table}
@@ -41,6 +41,18 @@ IsRefusedIn words files = (why : Refusal) × RefusedFor words files why
 -- no read and no write failed, and memory didn't run out
 abbrev pub IsUndisturbed : ℕ → Type 0
 IsUndisturbed status = (status ≢ 5) × (status ≢ 6) × (status ≢ 7)
+
+-- the status of words and files where no read fails
+pub record IsStatusOf (words : List (List ℕ)) (files : Files) (status : ℕ) : Type 0 where
+  pub runs : (status ≡ 0) ↔ RunsIn words files
+  pub stops : (status ≡ 1) ↔ StopsIn words files
+  pub usage : (status ≡ 2) ↔ (folder_of words ≡ None)
+  pub refused : (status ≡ 3) ↔ IsRefusedIn words files
+  pub one : status ≤ 3
+
+-- the status with which a run would have ended if no write had failed
+abbrev pub IsWanted : List (List ℕ) → Files → ℕ → ℕ → ℕ → Type 0
+IsWanted words files faults faults' status = IsStatusOf words files status ⊎ ((status ≡ 5) × Rose faults faults')
 
 -- the statuses that there are
 abbrev pub IsStatus : ℕ → Type 0

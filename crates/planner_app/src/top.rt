@@ -4,7 +4,7 @@ ghost use Rattle.std.specs.Prelude.{◌≡◌, ◌≢◌, ◌≤◌, ◌↔◌, 
 ghost use Rattle.rail_io.specs.Folders.{Files, Rose};
 ghost use Rattle.rail_io.specs.Sinks.{Appends, AppendsPart};
 ghost use Rattle.planner_app.specs.Words.{folder_of};
-ghost use Rattle.planner_app.specs.Ending.{RunsIn, StopsIn, IsRefusedIn, IsUndisturbed, IsStatus, IsDocumentAt, Wrote, status_of};
+ghost use Rattle.planner_app.specs.Ending.{RunsIn, StopsIn, IsRefusedIn, IsUndisturbed, IsStatus, IsDocumentAt, IsWanted, Wrote, status_of};
 
 use crate::document::document;
 use crate::outcome::Outcome;
@@ -73,7 +73,8 @@ pub fn railplan<F: Folder, K: Sink>(alloc: Global, words: &Words, folder: &mut F
     ensures document { (files : Files) → F.holds folder.old ≡ Some files → result ≢ 6 → result ≢ 7
         → (text : List ℕ) × IsDocumentAt words.now files result text × Appends text (K.written out.old) (K.written out.new) }
     ensures part { (files : Files) → F.holds folder.old ≡ Some files → result ≡ 6
-        → (status : ℕ) × (status ≢ 6) × (status ≢ 7) × (text : List ℕ) × IsDocumentAt words.now files status text × AppendsPart text (K.written out.old) (K.written out.new) }
+        → (status : ℕ) × IsWanted words.now files (F.faults folder.old) (F.faults folder.new) status
+        × (text : List ℕ) × IsDocumentAt words.now files status text × AppendsPart text (K.written out.old) (K.written out.new) }
     ensures nothing { result ≡ 7 → K.written out.new ≡ K.written out.old }
     ensures same { F.holds folder.new ≡ F.holds folder.old }
     ensures lasting { F.faults folder.old ≤ F.faults folder.new }

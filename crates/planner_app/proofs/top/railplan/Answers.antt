@@ -1,6 +1,6 @@
 use Rattle.std.proofs.Common.{refl}
 use Rattle.planner_app.specs.Words.{folder_of}
-use Rattle.planner_app.proofs.Statuses.{runs_if, stops_if, refused_if, document_if, whole_of, part_of}
+use Rattle.planner_app.proofs.Statuses.{runs_if, stops_if, refused_if, wanted_if, document_if, whole_of, part_of}
 use Rattle.planner_app.proofs.top.railplan.Goals as goal
 
 pub returns-clause-runs : goal.returns-clause-runs
@@ -26,4 +26,4 @@ returns-clause-document g c = λ files held n6 n7.
 pub returns-clause-part : goal.returns-clause-part
 returns-clause-part g c = λ files held six.
     let p = part_of c.outcome_of-outcome.result c.write_outcome.result _ _ _ _ c.write_outcome.ensures.wrote six in
-    (p.0, p.1, p.2, p.4, document_if c.args.words.now files (folder_of c.args.words.now) refl c.outcome_of-outcome.result (c.outcome_of-outcome.ensures.told files held) p.0 p.3 p.4 p.5, p.6)
+    (p.0, wanted_if c.args.words.now files (folder_of c.args.words.now) refl c.outcome_of-outcome.result (c.outcome_of-outcome.ensures.told files held) _ _ _ _ c.outcome_of-outcome.ensures.caused p.0 p.3, p.4, document_if c.args.words.now files (folder_of c.args.words.now) refl c.outcome_of-outcome.result (c.outcome_of-outcome.ensures.told files held) p.0 p.3 p.4 p.5, p.6)
