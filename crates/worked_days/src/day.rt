@@ -126,6 +126,22 @@ fn add(
     Ok(())
 }
 
+/// Adds the files of a day that are there.
+fn add_day(
+    rt: &impl Abort,
+    alloc: Global,
+    files: &mut Vec<MemoryFile>,
+    day: &Day,
+) -> Result<(), NoMemory> {
+    add(rt, alloc, files, "day/types.csv", day.types)?;
+    add(rt, alloc, files, "day/stations.csv", day.stations)?;
+    add(rt, alloc, files, "day/stock.csv", day.stock)?;
+    add(rt, alloc, files, "day/trips.csv", day.trips)?;
+    add(rt, alloc, files, "day/links.csv", day.links)?;
+    add(rt, alloc, files, "day/weights.csv", day.weights)?;
+    add(rt, alloc, files, "day/plan.csv", day.plan)
+}
+
 /// The folder of a day, whose reads fail at these numbers.
 pub(crate) fn folder_of(
     rt: &impl Abort,
@@ -134,14 +150,24 @@ pub(crate) fn folder_of(
     failing: Vec<u64>,
 ) -> Result<MemoryFolder, NoMemory> {
     let mut files = Vec::new(alloc);
-    add(rt, alloc, &mut files, "day/types.csv", day.types)?;
-    add(rt, alloc, &mut files, "day/stations.csv", day.stations)?;
-    add(rt, alloc, &mut files, "day/stock.csv", day.stock)?;
-    add(rt, alloc, &mut files, "day/trips.csv", day.trips)?;
-    add(rt, alloc, &mut files, "day/links.csv", day.links)?;
-    add(rt, alloc, &mut files, "day/weights.csv", day.weights)?;
-    add(rt, alloc, &mut files, "day/plan.csv", day.plan)?;
+    add_day(rt, alloc, &mut files, day)?;
     MemoryFolder::new(alloc, files, failing)
+}
+
+/// The folder of a day in which the file of a path has these bytes, which need not be a text. Of two files with one
+/// path the first counts.
+pub(crate) fn folder_with_bytes(
+    rt: &impl Abort,
+    alloc: Global,
+    day: &Day,
+    path: &str,
+    bytes: &[u8],
+) -> Result<MemoryFolder, NoMemory> {
+    assert!(rt; is_name(path.as_bytes()));
+    let mut files = Vec::new(alloc);
+    files.push(MemoryFile::new(alloc, path, bytes)?)?;
+    add_day(rt, alloc, &mut files, day)?;
+    MemoryFolder::new(alloc, files, Vec::new(alloc))
 }
 
 /// The words of a command line.

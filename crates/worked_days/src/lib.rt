@@ -6,4 +6,6 @@ mod day;
 #[cfg(test)]
 mod link_tests;
 #[cfg(test)]
+mod refusal_tests;
+#[cfg(test)]
 mod simulate_tests;

@@ -2,7 +2,10 @@
 
 use crate::day::{Day, expect_document, folder_of, simulated_with, two_trips, words_of};
 use planner_app::railplan;
+use rail_base::NoMemory;
 use rail_io::MemorySink;
+use std::alloc::Global;
+use std::process::Abort;
 use std::test::Fail;
 
 /// The day of two trips with other trips.
@@ -152,8 +155,11 @@ fn a_table_may_have_4194304_bytes(rt: HostRuntime) -> Result<(), Fail> {
         ..two_trips()
     };
     expect_document(&rt, alloc, &day, 3, "refused types.csv: too long\n")?;
+    let Some(shorter) = text.get(1..) else {
+        panic!(&rt; "the text is not empty");
+    };
     let day = Day {
-        types: Some(&text[1..]),
+        types: Some(shorter),
         ..two_trips()
     };
     expect_document(&rt, alloc, &day, 3, "refused types.csv: wrong header\n")?;
@@ -194,24 +200,26 @@ fn a_sink_that_fails_keeps_a_front(rt: HostRuntime) -> Result<(), Fail> {
     Ok(())
 }
 
+/// Asserts that words are not of the plain form.
+fn expect_usage(rt: &impl Abort, alloc: Global, texts: &[&str]) -> Result<(), NoMemory> {
+    let words = words_of(rt, alloc, texts)?;
+    let mut folder = folder_of(rt, alloc, &two_trips(), Vec::new(alloc))?;
+    let mut out = MemorySink::new(alloc, 1000, 1000, Vec::new(alloc))?;
+    assert!(rt; railplan(alloc, &words, &mut folder, &mut out) == 2);
+    assert!(rt; out.written() == b"usage\n".as_slice());
+    Ok(())
+}
+
 #[test]
 fn other_words_are_refused(rt: HostRuntime) -> Result<(), Fail> {
     let alloc = rt.alloc();
-    for texts in [
-        [].as_slice(),
-        ["railplan"].as_slice(),
-        ["railplan", "simulate"].as_slice(),
-        ["railplan", "simulate", ""].as_slice(),
-        ["railplan", "simulate", "-day"].as_slice(),
-        ["railplan", "simulate", "day", "day"].as_slice(),
-        ["railplan", "plan", "day"].as_slice(),
-        ["railplan", "--help"].as_slice(),
-    ] {
-        let words = words_of(&rt, alloc, texts)?;
-        let mut folder = folder_of(&rt, alloc, &two_trips(), Vec::new(alloc))?;
-        let mut out = MemorySink::new(alloc, 1000, 1000, Vec::new(alloc))?;
-        assert!(rt; railplan(alloc, &words, &mut folder, &mut out) == 2);
-        assert!(rt; out.written() == b"usage\n".as_slice());
-    }
+    expect_usage(&rt, alloc, &[])?;
+    expect_usage(&rt, alloc, &["railplan"])?;
+    expect_usage(&rt, alloc, &["railplan", "simulate"])?;
+    expect_usage(&rt, alloc, &["railplan", "simulate", ""])?;
+    expect_usage(&rt, alloc, &["railplan", "simulate", "-day"])?;
+    expect_usage(&rt, alloc, &["railplan", "simulate", "day", "day"])?;
+    expect_usage(&rt, alloc, &["railplan", "plan", "day"])?;
+    expect_usage(&rt, alloc, &["railplan", "--help"])?;
     Ok(())
 }

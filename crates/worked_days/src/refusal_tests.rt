@@ -1,0 +1,633 @@
+//! What is refused, and at which place: each text, the order in which a day is looked at, and fields that are accepted.
+
+use crate::day::{Day, base_day, expect_document, folder_with_bytes, simulated_with, two_trips};
+use rail_base::NoMemory;
+use rail_io::MemorySink;
+use std::alloc::Global;
+use std::process::Abort;
+use std::test::Fail;
+
+const TYPES: &str = "type,carriages,seats,metres,family";
+
+const STATIONS: &str = "station,platform,reallocation";
+
+const STOCK: &str = "station,type,start,end";
+
+const TRIPS: &str = "trip,from,departure,to,arrival,km,demand";
+
+const LINKS: &str = "kind,arriving,arriving2,departing,departing2,reverse,uncouple,couple";
+
+const WEIGHTS: &str = "carriage,shortage,shunting";
+
+const PLAN: &str = "trip,units";
+
+/// Asserts that a day is refused, with a file and a text.
+fn expect_refused(
+    rt: &impl Abort,
+    alloc: Global,
+    day: &Day,
+    file_and_text: &str,
+) -> Result<(), NoMemory> {
+    let document = format!(in alloc; "refused {file_and_text}\n")?;
+    expect_document(rt, alloc, day, 3, &document)
+}
+
+/// Asserts that the day of two trips is refused with a text where one of its files has these bytes.
+fn expect_file_refused(
+    rt: &impl Abort,
+    alloc: Global,
+    file: &str,
+    bytes: &[u8],
+    text: &str,
+) -> Result<(), NoMemory> {
+    let path = format!(in alloc; "day/{file}")?;
+    let mut folder = folder_with_bytes(rt, alloc, &two_trips(), &path, bytes)?;
+    let out = MemorySink::new(alloc, 1000, 1000, Vec::new(alloc))?;
+    let ending = simulated_with(rt, alloc, &mut folder, out)?;
+    let document = format!(in alloc; "refused {file}: {text}\n")?;
+    assert!(rt; ending.written.as_slice() == document.as_bytes());
+    assert!(rt; ending.status == 3);
+    Ok(())
+}
+
+/// Asserts that the day of two trips is refused with a text where one of its files has these rows under its header.
+fn expect_rows_refused(
+    rt: &impl Abort,
+    alloc: Global,
+    file: &str,
+    header: &str,
+    rows: &str,
+    text: &str,
+) -> Result<(), NoMemory> {
+    let table = format!(in alloc; "{header}\n{rows}\n")?;
+    expect_file_refused(rt, alloc, file, table.as_bytes(), text)
+}
+
+/// Asserts that the day of two trips is refused at a column of row 1 where one of its files has this row alone.
+fn expect_field_refused(
+    rt: &impl Abort,
+    alloc: Global,
+    file: &str,
+    header: &str,
+    row: &str,
+    column_and_text: &str,
+) -> Result<(), NoMemory> {
+    let text = format!(in alloc; "row 1, column {column_and_text}")?;
+    expect_rows_refused(rt, alloc, file, header, row, &text)
+}
+
+/// Asserts that the day of two trips runs with this departure of its first trip, this arrival of its second, and this
+/// length of both.
+fn expect_trips_run(
+    rt: &impl Abort,
+    alloc: Global,
+    departure: &str,
+    arrival: &str,
+    km: &str,
+) -> Result<(), NoMemory> {
+    let first = format!(in alloc; "T1,X,{departure},Y,09:00,{km},150")?;
+    let second = format!(in alloc; "T2,Y,09:30,X,{arrival},{km},150")?;
+    let trips = format!(in alloc; "{TRIPS}\n{first}\n{second}\n")?;
+    let day = Day {
+        trips: Some(trips.as_str()),
+        ..two_trips()
+    };
+    expect_document(rt, alloc, &day, 0, "runs 60\n")
+}
+
+/// Asserts that the day of two trips runs with another field for the name of station X.
+fn expect_station_runs(rt: &impl Abort, alloc: Global, name: &str) -> Result<(), NoMemory> {
+    let stations = format!(in alloc; "{STATIONS}\n{name},200,30\nY,200,30\n")?;
+    let stock = format!(in alloc; "{STOCK}\n{name},A,1,1\n")?;
+    let first = format!(in alloc; "T1,{name},08:00,Y,09:00,10,150")?;
+    let second = format!(in alloc; "T2,Y,09:30,{name},10:30,10,150")?;
+    let trips = format!(in alloc; "{TRIPS}\n{first}\n{second}\n")?;
+    let day = Day {
+        stations: Some(stations.as_str()),
+        stock: Some(stock.as_str()),
+        trips: Some(trips.as_str()),
+        ..two_trips()
+    };
+    expect_document(rt, alloc, &day, 0, "runs 60\n")
+}
+
+/// A day whose files can be read, and break a rule each.
+fn day_of_wrong_rows() -> Day<'static> {
+    Day {
+        types: Some("type,carriages,seats,metres,family\nA,3,9,10,r\nA,3,9,10,r\n"),
+        stations: Some("station,platform,reallocation\nX,200,30\nX,200,30\n"),
+        stock: Some("station,type,start,end\nX,A,2000,1\nZ,A,1,1\n"),
+        trips: Some("trip,from,departure,to,arrival,km,demand\nT1,X,08:00,X,09:00,10,150\n"),
+        links: Some(
+            "kind,arriving,arriving2,departing,departing2,reverse,uncouple,couple\njoin,T1,,T2,,no,none,none\n",
+        ),
+        plan: Some("trip,units\nT2,0\n"),
+        ..two_trips()
+    }
+}
+
+#[test]
+fn a_header_has_its_words_in_order(rt: HostRuntime) -> Result<(), Fail> {
+    let alloc = rt.alloc();
+    for table in [
+        "",
+        "\n\r\n",
+        "X,200,30\nY,200,30\n",
+        "station,platform\nX,200\nY,200\n",
+        "station,platform,reallocation,\nX,200,30,\nY,200,30,\n",
+        "platform,station,reallocation\n200,X,30\n200,Y,30\n",
+        "Station,platform,reallocation\nX,200,30\nY,200,30\n",
+        "station, platform,reallocation\nX,200,30\nY,200,30\n",
+        "\u{feff}\u{feff}station,platform,reallocation\nX,200,30\nY,200,30\n",
+        "station;platform;reallocation\nX,wide\n",
+    ] {
+        expect_file_refused(&rt, alloc, "stations.csv", table.as_bytes(), "wrong header")?;
+    }
+    Ok(())
+}
+
+#[test]
+fn wrong_types_are_refused(rt: HostRuntime) -> Result<(), Fail> {
+    let alloc = rt.alloc();
+    for (row, refused) in [
+        (",3,200,80,r", "type: not a name"),
+        ("A,three,200,80,r", "carriages: not a number"),
+        ("A,0,200,80,r", "carriages: out of range"),
+        ("A,21,200,80,r", "carriages: out of range"),
+        ("A,3,0,80,r", "seats: out of range"),
+        ("A,3,2001,80,r", "seats: out of range"),
+        ("A,3,200,0,r", "metres: out of range"),
+        ("A,3,200,501,r", "metres: out of range"),
+        ("A,3,200,80,", "family: not a name"),
+        ("A,0,x,80,", "carriages: out of range"),
+        ("A,3,x,0,", "seats: not a number"),
+        ("A,0,200,80,r\nB\n", "carriages: out of range"),
+    ] {
+        expect_field_refused(&rt, alloc, "types.csv", TYPES, row, refused)?;
+    }
+    for (rows, text) in [
+        ("A", "row 1 has 1 fields"),
+        ("A,3,200,80", "row 1 has 4 fields"),
+        ("A,3,200,80,r,", "row 1 has 6 fields"),
+        ("A,3,200,80,r\n,0,200,80", "row 2 has 4 fields"),
+        ("A,3,9,80,r\nA,3,8,60,s", "row 2: repeated name"),
+    ] {
+        expect_rows_refused(&rt, alloc, "types.csv", TYPES, rows, text)?;
+    }
+    Ok(())
+}
+
+#[test]
+fn types_have_at_most_six_rows(rt: HostRuntime) -> Result<(), Fail> {
+    let alloc = rt.alloc();
+    let five = "A,3,9,80,r\nB,3,9,80,r\nC,3,9,80,r\nD,3,9,80,r\nE,3,9,80,r";
+    for (rows, text) in [
+        ("F,3,9,80,r\nG,3,9,80,r", "too many rows"),
+        ("F,3,9,80,r\n\n,0,x", "too many rows"),
+        ("A,3,9,80,r\nA,3,9,80,r", "too many rows"),
+        (
+            "F,x,9,80,r\nG,3,9,80,r",
+            "row 6, column carriages: not a number",
+        ),
+        ("A,3,9,80,r", "row 6: repeated name"),
+    ] {
+        let types = format!(in alloc; "{five}\n{rows}")?;
+        expect_rows_refused(&rt, alloc, "types.csv", TYPES, &types, text)?;
+    }
+    Ok(())
+}
+
+#[test]
+fn wrong_stations_are_refused(rt: HostRuntime) -> Result<(), Fail> {
+    let alloc = rt.alloc();
+    for (row, refused) in [
+        (",200,30", "station: not a name"),
+        ("X,0,30", "platform: out of range"),
+        ("X,1001,30", "platform: out of range"),
+        ("X,200,601", "reallocation: out of range"),
+        ("X,200,-1", "reallocation: not a number"),
+    ] {
+        expect_field_refused(&rt, alloc, "stations.csv", STATIONS, row, refused)?;
+    }
+    for (rows, text) in [
+        ("X,200", "row 1 has 2 fields"),
+        ("X,200,30\nX,9,0\nY,200,30", "row 2: repeated name"),
+    ] {
+        expect_rows_refused(&rt, alloc, "stations.csv", STATIONS, rows, text)?;
+    }
+    Ok(())
+}
+
+#[test]
+fn wrong_stock_is_refused(rt: HostRuntime) -> Result<(), Fail> {
+    let alloc = rt.alloc();
+    for (row, refused) in [
+        ("X,,1,1", "type: not a name"),
+        ("X,A,2001,1", "start: out of range"),
+        ("X,A,1,2001", "end: out of range"),
+        ("X,A,1,one", "end: not a number"),
+        ("Z,B,1,1", "station: unknown name"),
+        ("x,A,1,1", "station: unknown name"),
+        ("X,B,1,1", "type: unknown name"),
+    ] {
+        expect_field_refused(&rt, alloc, "stock.csv", STOCK, row, refused)?;
+    }
+    for (rows, text) in [
+        ("X,A,1", "row 1 has 3 fields"),
+        (
+            "X,A,1,1\nY,A,0,0\nX,A,0,0",
+            "row 3: repeated station and type",
+        ),
+        (
+            "X,A,1,1\nX,A,0,0\nZ,A,0,0",
+            "row 2: repeated station and type",
+        ),
+        ("X,A,2000,1\nY,A,1,0", "too many units"),
+        (
+            "X,A,2000,1\nY,A,1,0\nX,A,0,0",
+            "row 3: repeated station and type",
+        ),
+    ] {
+        expect_rows_refused(&rt, alloc, "stock.csv", STOCK, rows, text)?;
+    }
+    Ok(())
+}
+
+#[test]
+fn wrong_trips_are_refused(rt: HostRuntime) -> Result<(), Fail> {
+    let alloc = rt.alloc();
+    for (row, refused) in [
+        ("T1,,8:00,,9:00,10,150", "from: not a name"),
+        ("T1,X,8h,Y,9h,10,150", "departure: not a time"),
+        ("T1,X,8:00,Y,9:00,1001,150", "km: out of range"),
+        ("T1,X,8:00,Y,9:00,10,10001", "demand: out of range"),
+        ("T1,Z,8:00,Z,8:00,10,150", "from: unknown name"),
+        ("T1,X,8:00,Z,8:00,10,150", "to: unknown name"),
+    ] {
+        expect_field_refused(&rt, alloc, "trips.csv", TRIPS, row, refused)?;
+    }
+    let first = "T1,X,8:00,Y,9:00,10,150";
+    for (rows, text) in [
+        ("T2,X,9:00,Y,9:00", "row 2 has 5 fields"),
+        ("T1,Z,9:00,Z,9:00,9,9", "row 2: repeated name"),
+        ("T2,X,9:00,X,9:00,9,9", "row 2: same station"),
+        (
+            "T2,X,9:00,Y,9:00,9,9",
+            "row 2: arrival is not after departure",
+        ),
+        (
+            "T2,X,9:00,Y,8:59,9,9",
+            "row 2: arrival is not after departure",
+        ),
+        (
+            "T2,X,9:00,X,9:01,9,9\nT1,X,9:00,Y,9:01,9,9",
+            "row 2: same station",
+        ),
+        (
+            "T1,X,9:00,Y,9:01,9,9\nT3,X,9:00,Y,9:60,9,9",
+            "row 3, column arrival: not a time",
+        ),
+    ] {
+        let trips = format!(in alloc; "{first}\n{rows}")?;
+        expect_rows_refused(&rt, alloc, "trips.csv", TRIPS, &trips, text)?;
+    }
+    Ok(())
+}
+
+#[test]
+fn words_of_links_are_those_of_their_columns(rt: HostRuntime) -> Result<(), Fail> {
+    let alloc = rt.alloc();
+    for (row, refused) in [
+        ("turn,,,T2,,yes,rear,none", "arriving: not a name"),
+        ("turn,T1, ,T2,,yes,rear,none", "arriving2: not a name"),
+        ("turn,T1,,,,yes,rear,none", "departing: not a name"),
+        ("turn,T1,,T2, T2,yes,rear,none", "departing2: not a name"),
+    ] {
+        expect_field_refused(&rt, alloc, "links.csv", LINKS, row, refused)?;
+    }
+    for (row, column) in [
+        ("Turn,T1,,T2,,yes,rear,none", "kind"),
+        (",T1,,T2,,yes,rear,none", "kind"),
+        ("turn,T1,,T2,,,rear,none", "reverse"),
+        ("turn,T1,,T2,,none,rear,none", "reverse"),
+        ("turn,T1,,T2,,yes,both,none", "uncouple"),
+        ("turn,T1,,T2,,yes,,none", "uncouple"),
+        ("turn,T1,,T2,,yes,rear,", "couple"),
+        ("turn,T1,,T2,,no,rear,none ", "couple"),
+        ("turn ,T1,,T2,,y,r,n", "kind"),
+    ] {
+        let refused = format!(in alloc; "{column}: not a word of this column")?;
+        expect_field_refused(&rt, alloc, "links.csv", LINKS, row, &refused)?;
+    }
+    Ok(())
+}
+
+#[test]
+fn fields_of_a_link_fit_its_kind(rt: HostRuntime) -> Result<(), Fail> {
+    let alloc = rt.alloc();
+    for row in [
+        "turn,T1,T2,T2,,yes,none,none",
+        "turn,T1,,T2,T1,yes,none,none",
+        "join,T1,,T2,,no,none,none",
+        "join,T1,T2,T2,T1,no,none,none",
+        "join,T1,T1,T2,,no,rear,none",
+        "join,T1,T1,T2,,no,none,front",
+        "split,T1,T2,T2,T1,no,none,none",
+        "split,T1,,T2,,no,none,none",
+        "split,T1,,T2,T2,no,front,none",
+        "split,T1,,T2,T2,no,none,rear",
+        "turn,T8,T8,T9,T9,no,none,none",
+    ] {
+        let text = "row 1: fields do not fit the kind";
+        expect_rows_refused(&rt, alloc, "links.csv", LINKS, row, text)?;
+    }
+    Ok(())
+}
+
+#[test]
+fn links_fit_their_trips(rt: HostRuntime) -> Result<(), Fail> {
+    let alloc = rt.alloc();
+    for (row, refused) in [
+        ("turn,T9,,T8,,no,none,none", "arriving: unknown name"),
+        ("join,T1,T9,T8,,no,none,none", "arriving2: unknown name"),
+        ("join,T1,T1,T9,,no,none,none", "departing: unknown name"),
+        ("split,T1,,T2,T9,no,none,none", "departing2: unknown name"),
+    ] {
+        expect_field_refused(&rt, alloc, "links.csv", LINKS, row, refused)?;
+    }
+    let meet = "trips do not meet at a station";
+    for (row, text) in [
+        ("join,T1,T1,T2,,no,none,none", "trip used twice"),
+        ("split,T1,,T2,T2,no,none,none", "trip used twice"),
+        ("split,T2,,T2,T2,no,none,none", "trip used twice"),
+        ("turn,T1,,T1,,no,none,none", meet),
+        ("join,T1,T2,T2,,no,none,none", meet),
+        ("split,T1,,T2,T1,no,none,none", meet),
+        ("turn,T2,,T1,,no,none,none", "departure before arrival"),
+        (
+            "turn,T2,,T1,,no,none,none\nturn,T1,,T9,,no,none,none",
+            "departure before arrival",
+        ),
+    ] {
+        let text = format!(in alloc; "row 1: {text}")?;
+        expect_rows_refused(&rt, alloc, "links.csv", LINKS, row, &text)?;
+    }
+    let turn = "turn,T1,,T2,,no,none,none";
+    for (row, text) in [
+        ("turn,T1,,T1,,no,none,none", "trip used twice"),
+        ("turn,T2,,T2,,no,none,none", "trip used twice"),
+        ("turn,T2,,T1,,no,none,none", "departure before arrival"),
+    ] {
+        let rows = format!(in alloc; "{turn}\n{row}")?;
+        let text = format!(in alloc; "row 2: {text}")?;
+        expect_rows_refused(&rt, alloc, "links.csv", LINKS, &rows, &text)?;
+    }
+    Ok(())
+}
+
+#[test]
+fn wrong_weights_are_refused(rt: HostRuntime) -> Result<(), Fail> {
+    let alloc = rt.alloc();
+    for (row, refused) in [
+        ("10001,1,100", "carriage: out of range"),
+        ("1,,100", "shortage: not a number"),
+        ("1,1,10001", "shunting: out of range"),
+    ] {
+        expect_field_refused(&rt, alloc, "weights.csv", WEIGHTS, row, refused)?;
+    }
+    for (rows, text) in [
+        ("", "no row"),
+        ("1,1", "row 1 has 2 fields"),
+        ("1,1,100\n1,1,100", "too many rows"),
+        ("1,1,100\n1", "too many rows"),
+    ] {
+        expect_rows_refused(&rt, alloc, "weights.csv", WEIGHTS, rows, text)?;
+    }
+    Ok(())
+}
+
+#[test]
+fn a_plan_has_the_row_of_each_trip(rt: HostRuntime) -> Result<(), Fail> {
+    let alloc = rt.alloc();
+    for (rows, text) in [
+        ("T1\nT2,0", "row 1 has 1 fields"),
+        (",x\nT2,0", "row 1, column trip: not a name"),
+        ("T2,0\nT1,0", "row 1: wrong trip"),
+        ("T1,0\nt2,0", "row 2: wrong trip"),
+        ("T1,0\nT2,0\nT3,0", "row 3: wrong trip"),
+        ("T1,0\nT2,0\nT2,0", "row 3: wrong trip"),
+        ("T2,1\nT2,0", "row 1: wrong trip"),
+        ("T1,0 1\nT1,0", "row 1: unknown unit"),
+        ("T1,1999", "row 1: unknown unit"),
+        ("", "trip missing after row 0"),
+    ] {
+        expect_rows_refused(&rt, alloc, "plan.csv", PLAN, rows, text)?;
+    }
+    for (units, refused) in [
+        ("first", "units: not a number"),
+        ("0  0", "units: not a number"),
+        (" 0", "units: not a number"),
+        ("0 ", "units: not a number"),
+        (" ", "units: not a number"),
+        ("2000 1 2 3 4 5 6 x", "units: not a number"),
+        ("0 2000", "units: out of range"),
+        ("0 1 2 3 4 5 6", "units: out of range"),
+    ] {
+        let rows = format!(in alloc; "T1,{units}\nT1,0")?;
+        expect_field_refused(&rt, alloc, "plan.csv", PLAN, &rows, refused)?;
+    }
+    Ok(())
+}
+
+#[test]
+fn fields_are_utf8(rt: HostRuntime) -> Result<(), Fail> {
+    let alloc = rt.alloc();
+    for (bytes, text) in [
+        (
+            b"trip,units\nT1,0\nT2,\xFF".as_slice(),
+            "row 2 is not UTF-8",
+        ),
+        (b"trip,units\n,x\xFF".as_slice(), "row 1 is not UTF-8"),
+        (b"trip,units\n\xC3,\xA9".as_slice(), "row 1 is not UTF-8"),
+        (b"trip,units\nT1,\xFF\nT2".as_slice(), "row 1 is not UTF-8"),
+        (b"trip,units\nT1,0\n\xFF".as_slice(), "row 2 has 1 fields"),
+        (
+            b"trip,units\n,0\nT2,\xFF".as_slice(),
+            "row 1, column trip: not a name",
+        ),
+        (b"trip,units\xFF\nT1,\xFF".as_slice(), "wrong header"),
+    ] {
+        expect_file_refused(&rt, alloc, "plan.csv", bytes, text)?;
+    }
+    Ok(())
+}
+
+#[test]
+fn names_have_1_to_64_bytes(rt: HostRuntime) -> Result<(), Fail> {
+    let alloc = rt.alloc();
+    let bytes62 = "ééééééééééééééééééééééééééééééé";
+    for name in ["\"X, \"\"Main\"\"\"", "\"Y \"\"\"", "X  0", "\u{a0}"] {
+        expect_station_runs(&rt, alloc, name)?;
+    }
+    for end in ["é", "ee"] {
+        let name = format!(in alloc; "{bytes62}{end}")?;
+        expect_station_runs(&rt, alloc, &name)?;
+    }
+    for (front, end) in [
+        (bytes62, "ée"),
+        (bytes62, "eee"),
+        ("", ""),
+        ("", "\"\""),
+        ("", "X "),
+        ("", "\" X\""),
+        ("", "X\t0"),
+        ("", "\"X\n0\""),
+        ("", "X\u{7f}"),
+    ] {
+        let row = format!(in alloc; "{front}{end},200,30")?;
+        let refused = "station: not a name";
+        expect_field_refused(&rt, alloc, "stations.csv", STATIONS, &row, refused)?;
+    }
+    Ok(())
+}
+
+#[test]
+fn numbers_have_1_to_9_digits(rt: HostRuntime) -> Result<(), Fail> {
+    let alloc = rt.alloc();
+    for km in ["0010", "000000010", "\"10\""] {
+        expect_trips_run(&rt, alloc, "08:00", "10:30", km)?;
+    }
+    for (km, refused) in [
+        ("0000000010", "km: not a number"),
+        ("1000000000", "km: not a number"),
+        ("", "km: not a number"),
+        ("+10", "km: not a number"),
+        ("-10", "km: not a number"),
+        (" 10", "km: not a number"),
+        ("10 ", "km: not a number"),
+        ("10.0", "km: not a number"),
+        ("1e1", "km: not a number"),
+        ("\u{661}\u{660}", "km: not a number"),
+        ("000000000", "km: out of range"),
+        ("999999999", "km: out of range"),
+    ] {
+        let row = format!(in alloc; "T1,X,08:00,Y,09:00,{km},x")?;
+        expect_field_refused(&rt, alloc, "trips.csv", TRIPS, &row, refused)?;
+    }
+    Ok(())
+}
+
+#[test]
+fn times_have_hours_0_to_47(rt: HostRuntime) -> Result<(), Fail> {
+    let alloc = rt.alloc();
+    for (departure, arrival) in [("7:05", "47:59"), ("0:00", "24:00"), ("00:00", "\"10:30\"")] {
+        expect_trips_run(&rt, alloc, departure, arrival, "10")?;
+    }
+    for time in [
+        "48:00", "10:60", "100:30", "", "7:5", "007:05", "7:005", ":05", "7:", "0705", "-7:05",
+        " 7:05", "7:05 ", "7:05:00", "7.05",
+    ] {
+        let row = format!(in alloc; "T1,X,08:00,Y,{time},0,150")?;
+        let refused = "arrival: not a time";
+        expect_field_refused(&rt, alloc, "trips.csv", TRIPS, &row, refused)?;
+    }
+    Ok(())
+}
+
+#[test]
+fn files_are_read_in_order(rt: HostRuntime) -> Result<(), Fail> {
+    let alloc = rt.alloc();
+    let wrong = Some("");
+    let two = two_trips();
+    let mut day = Day {
+        types: wrong,
+        stations: None,
+        stock: wrong,
+        trips: wrong,
+        links: wrong,
+        weights: wrong,
+        plan: None,
+    };
+    expect_refused(&rt, alloc, &day, "types.csv: wrong header")?;
+    day.types = None;
+    day.stations = wrong;
+    expect_document(&rt, alloc, &day, 5, "cannot read types.csv\n")?;
+    day.types = Some("type,carriages,seats,metres,family\nA,3,9,80,r\nA,3,9,80,r\n");
+    expect_refused(&rt, alloc, &day, "stations.csv: wrong header")?;
+    day.stations = two.stations;
+    expect_refused(&rt, alloc, &day, "stock.csv: wrong header")?;
+    day.stock = two.stock;
+    expect_refused(&rt, alloc, &day, "trips.csv: wrong header")?;
+    day.trips = two.trips;
+    expect_refused(&rt, alloc, &day, "links.csv: wrong header")?;
+    day.links = two.links;
+    expect_refused(&rt, alloc, &day, "weights.csv: wrong header")?;
+    day.weights = two.weights;
+    expect_refused(&rt, alloc, &day, "types.csv: row 2: repeated name")?;
+    day.types = two.types;
+    expect_document(&rt, alloc, &day, 5, "cannot read plan.csv\n")?;
+    day.plan = wrong;
+    expect_refused(&rt, alloc, &day, "plan.csv: wrong header")?;
+    Ok(())
+}
+
+#[test]
+fn rules_of_the_day_come_in_order(rt: HostRuntime) -> Result<(), Fail> {
+    let alloc = rt.alloc();
+    let two = two_trips();
+    let mut day = day_of_wrong_rows();
+    expect_refused(&rt, alloc, &day, "types.csv: row 2: repeated name")?;
+    day.types = Some("type,carriages,seats,metres,family\nA,3,9,10,r\nB,3,9,10,r\nC,3,9,10,r\n");
+    expect_refused(&rt, alloc, &day, "stations.csv: row 2: repeated name")?;
+    day.stations = two.stations;
+    expect_refused(
+        &rt,
+        alloc,
+        &day,
+        "stock.csv: row 2, column station: unknown name",
+    )?;
+    day.stock = Some("station,type,start,end\nX,A,2000,1\nY,A,1,1\n");
+    expect_refused(&rt, alloc, &day, "stock.csv: too many units")?;
+    day.stock = two.stock;
+    expect_refused(&rt, alloc, &day, "types.csv: too many compositions")?;
+    day.types = two.types;
+    expect_refused(&rt, alloc, &day, "trips.csv: row 1: same station")?;
+    day.trips = two.trips;
+    expect_refused(
+        &rt,
+        alloc,
+        &day,
+        "links.csv: row 1: fields do not fit the kind",
+    )?;
+    day.links = two.links;
+    expect_refused(&rt, alloc, &day, "plan.csv: row 1: wrong trip")?;
+    day.plan = two.plan;
+    expect_document(&rt, alloc, &day, 0, "runs 60\n")?;
+    Ok(())
+}
+
+#[test]
+fn other_forms_of_a_day_run(rt: HostRuntime) -> Result<(), Fail> {
+    let alloc = rt.alloc();
+    let most = Day {
+        stock: Some("station,type,start,end\r\nX,A,2000,2000\r\n"),
+        weights: Some("\u{feff}\"carriage\",shortage,shunting\n\n00001,1,10000"),
+        plan: Some("\u{feff}trip,units\r\nT1,000\r\n\"T2\",\"1999\"\r\n"),
+        ..two_trips()
+    };
+    let stops = "stops: unit 1999 is not ready for trip 1\n";
+    expect_document(&rt, alloc, &most, 1, stops)?;
+    let most = Day {
+        plan: Some("\u{feff}trip,units\r\nT1,000\r\n\"T2\",\"0\"\r\n"),
+        ..most
+    };
+    expect_document(&rt, alloc, &most, 0, "runs 60\n")?;
+    let at_once = Day {
+        trips: Some(
+            "trip,from,departure,to,arrival,km,demand\nT1,X,08:00,Y,09:00,10,300\nT2,Y,09:00,X,10:00,10,150\n",
+        ),
+        ..base_day()
+    };
+    expect_document(&rt, alloc, &at_once, 0, "runs 120\n")?;
+    Ok(())
+}
