@@ -127,11 +127,11 @@ status_of_files : (words : List (List ℕ)) (files : Files) (o : Option (List �
 status_of_files words files o e outcome h status s low =
     let ne : status ≢ 5 = λ five. absurd (omega arith) in
     record {
-        runs = runs_if words files o e outcome h status s ne;
-        stops = stops_if words files o e outcome h status s ne;
-        usage = usage_if words files o e outcome h status s;
-        refused = refused_if words files o e outcome h status s ne;
-        one = low
+      runs = runs_if words files o e outcome h status s ne;
+      stops = stops_if words files o e outcome h status s ne;
+      usage = usage_if words files o e outcome h status s;
+      refused = refused_if words files o e outcome h status s ne;
+      one = low;
     }
 
 -- the status with which a run would have ended: that of the files, or that of a read that failed
