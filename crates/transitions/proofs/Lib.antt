@@ -1,0 +1,7 @@
+pub mod Turning
+pub mod Rests
+pub mod Numbers
+pub mod Kept
+pub mod Listing
+pub mod Finding
+pub mod Links

@@ -1,0 +1,28 @@
+-- Each pair adds its edge, if it has one.
+use Rattle.std.proofs.Common.{arith, List, ◌+◌, ◌++◌, [], ◌∷◌, ◌≡◌, Some, None, subst, sym, length, ℕ, ◌<◌, ap}
+use Rattle.transitions.specs.declared.edge.Edge.{Edge}
+use Rattle.transitions.specs.Edges.{IsKindEdge}
+use Rattle.transitions.specs.Between.{AreEdgesUpTo}
+use Rattle.transitions.proofs.Listing.{skips, adds, row_ends}
+use Rattle.transitions.proofs.Links.{to_listed}
+use Rattle.transitions.proofs.graphs.push_edges.Goals as goal
+use Rattle.transitions.proofs.graphs.push_edges.Goals.{in-Some+in_ok-push, in_default}
+
+pub loop-to-preserved : goal.loop-to-preserved
+loop-to-preserved c = elim c.match-edge_between.branch [
+  | in-Some+in_ok-push w ↦
+      let items : c.match-edge_between.edges.items ≡ c.loop-to.edges.items ++ w.in-Some.edge ∷ [] = cc w.in_ok-push.ensures.items in
+      subst (λ (edges : List Edge). AreEdgesUpTo (IsKindEdge c.args.instance.now c.args.link.now.kind c.args.link.now.reverse) c.args.from (c.loop-to.to + 1) edges) (sym items)
+      (adds (IsKindEdge c.args.instance.now c.args.link.now.kind c.args.link.now.reverse) c.args.from c.loop-to.to c.loop-to.edges.items w.in-Some.edge c.loop-to.invariant w.in-Some.ensures)
+  | in_default w ↦
+      let items : c.match-edge_between.edges.items ≡ c.loop-to.edges.items = cc in
+      subst (λ (edges : List Edge). AreEdgesUpTo (IsKindEdge c.args.instance.now c.args.link.now.kind c.args.link.now.reverse) c.args.from (c.loop-to.to + 1) edges) (sym items)
+      (skips (IsKindEdge c.args.instance.now c.args.link.now.kind c.args.link.now.reverse) c.args.from c.loop-to.to c.loop-to.edges.items c.loop-to.invariant
+      (λ x allowed between. w.in_default.not-Some x ((c.edge_between.ensures x).1 (allowed, between))))
+]
+
+pub returns : goal.returns
+returns c =
+    let end : length c.catalogue.result.now ≡ c.loop-to.to = omega arith in
+    row_ends (IsKindEdge c.args.instance.now c.args.link.now.kind c.args.link.now.reverse) c.loop-to.to c.args.from c.loop-to.edges.items c.loop-to.invariant
+    (λ x allowed. let listed = to_listed c.args.instance.now c.args.link.now.kind c.args.link.now.reverse x allowed in omega (arith, ap length c.catalogue.ensures))

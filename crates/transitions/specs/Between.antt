@@ -1,0 +1,32 @@
+-- The first trips of a link, and edges between two compositions.
+use Rattle.std.specs.Prelude.{ℕ, ◌≡◌, ◌<◌, ◌⊎◌, ◌↔◌, List, AllPairs, Contains}
+use Rattle.timetable.specs.declared.records.LinkKind.{LinkKind}
+use Rattle.timetable.specs.declared.records.LinkKind.TheVariants.{Turn, Join, Split}
+use Rattle.timetable.specs.Day.{Day}
+use Rattle.transitions.specs.declared.edge.Edge.{Edge}
+use Rattle.transitions.specs.Edges.{IsKindEdge, AreInOrder}
+
+-- the trips of the train in front, as it arrives for a link and as it departs by it
+abbrev pub front_arriving : LinkKind → ℕ
+front_arriving (Turn a b uncouple couple) = a
+front_arriving (Join a1 a2 b) = a1
+front_arriving (Split a b1 b2) = a
+
+abbrev pub front_departing : LinkKind → ℕ
+front_departing (Turn a b uncouple couple) = b
+front_departing (Join a1 a2 b) = b
+front_departing (Split a b1 b2) = b1
+
+-- the edge goes from the one composition to the other
+pub record IsBetween (from to : ℕ) (edge : Edge) : Type 0 where
+  pub origin : edge.from ≡ from
+  pub goal : edge.to ≡ to
+
+-- the edge goes from a composition below from, or from it to one below to
+abbrev pub IsUpTo : ℕ → ℕ → Edge → Type 0
+IsUpTo from to edge = (edge.from < from) ⊎ ((edge.from ≡ from) × (edge.to < to))
+
+-- the edges that a rule allows and that come before those between from and to, in order
+pub record AreEdgesUpTo (Allows : Edge → Type 0) (from to : ℕ) (edges : List Edge) : Type 0 where
+  pub in_order : AreInOrder edges
+  pub exact : (edge : Edge) → Contains edges edge ↔ (Allows edge × IsUpTo from to edge)

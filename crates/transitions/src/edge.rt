@@ -1,0 +1,28 @@
+//! An edge: a composition that arrives and one that may depart after it.
+
+use rail_base::CompNo;
+
+/// What is done to a train between an arriving and a departing trip.
+#[derive(Clone, Copy, Debug, PartialEq, Eq)]
+pub enum Shunt {
+    /// The same units go on.
+    Keep,
+    /// So many units are uncoupled, and given to the yard.
+    Uncouple { units: u8 },
+    /// So many units are coupled, which were taken from the yard.
+    Couple { units: u8 },
+}
+
+/// A step that a link allows from one composition of the day's catalogue to another.
+#[derive(Clone, Copy, Debug, PartialEq, Eq)]
+pub struct Edge {
+    /// The composition of the arriving trip: at a join of the first arriving trip, the train in front.
+    pub from: CompNo,
+    /// The composition of the departing trip: at a split of the first departing trip, the train in front.
+    pub to: CompNo,
+    /// What a turn does, and `Keep` at a join or a split.
+    pub shunt: Shunt,
+    /// The composition of the second arriving trip of a join or of the second departing trip of a split, in that trip's own
+    /// driving direction; nothing at a turn.
+    pub part: Option<CompNo>,
+}

@@ -1,0 +1,169 @@
+//! The edges of all links of a day.
+
+ghost use Rattle.std.specs.Prelude.{ℕ, List, ◌≡◌, ◌<◌, ◌≤◌, ◌+◌, ◌↔◌, Some, None, length, slice_get, option_map, IfOk, OnOk, Contains};
+ghost use Rattle.timetable.specs.Compositions.{compositions_of};
+ghost use Rattle.timetable.specs.LinkRows.{NamesBelow};
+ghost use Rattle.transitions.specs.declared.edge.Edge.{Edge};
+ghost use Rattle.transitions.specs.declared.edge.Shunt.{Shunt};
+ghost use Rattle.transitions.specs.Edges.{IsKindEdge, AreInOrder, AreEdges, AreGraphs, IsFound, IsAllowed};
+ghost use Rattle.transitions.specs.Between.{IsBetween, AreEdgesUpTo};
+
+use crate::allowed::edge_between;
+use crate::edge::{Edge, Shunt};
+use rail_base::{CompNo, LinkNo, NoMemory};
+use std::alloc::Global;
+use std::marker::Model;
+use timetable::Instance;
+use timetable::records::Link;
+
+/// The edges of one link, in order. A contract sees the list of them.
+#[derive(Debug, Drop)]
+struct EdgeList {
+    edges: Vec<Edge>,
+}
+
+impl Model for EdgeList {
+    ghost use Rattle.std.specs.Prelude.{List};
+    ghost use Rattle.transitions.specs.declared.edge.Edge.{Edge};
+    ghost use Rattle.transitions.specs.Edges.{AreInOrder};
+
+    ghost Value = { List Edge };
+
+    ghost view = { λ a. a.edges.items };
+
+    ghost invariant = { λ a. AreInOrder a.edges.items };
+}
+
+/// For each link of a day the edges that it allows. A contract sees a list for each link.
+#[derive(Debug, Drop)]
+pub struct Graphs {
+    lists: Vec<EdgeList>,
+}
+
+impl Model for Graphs {
+    ghost use Rattle.std.specs.Prelude.{List};
+    ghost use Rattle.transitions.specs.declared.edge.Edge.{Edge};
+
+    ghost Value = { List (List Edge) };
+
+    ghost view = { λ a. a.lists.items };
+}
+
+impl Graphs {
+    /// The edges of all links of a day. It looks at each pair of compositions of the catalogue once for each link; the memory
+    /// is that of the edges. The error is want of memory.
+    pub fn build(alloc: Global, instance: &Instance) -> Result<Graphs, NoMemory>
+        ensures { IfOk result (λ graphs. AreGraphs instance.now graphs) }
+    {
+        let mut lists = Vec::new(alloc);
+        for link in 0..instance.links() {
+            let edges = edges_of(alloc, instance, LinkNo(link))?;
+            lists.push(edges)?;
+        }
+        Ok(Graphs { lists })
+    }
+
+    /// The edges that a link allows, by the composition that they go from and then by the one that they go to, each once. The
+    /// link is below the number of links of the day.
+    pub fn edges(&self, link: LinkNo) -> &[Edge]
+        requires { link < length self.now }
+        ensures value { slice_get self.now link ≡ Some result.now }
+        ensures in_order { AreInOrder result.now }
+    {
+        self.lists[link.place()].items()
+    }
+
+    /// The edge of a link from one composition to another, or nothing where there is no such edge. The link is below the number
+    /// of links of the day.
+    pub fn find(&self, link: LinkNo, from: CompNo, to: CompNo) -> Option<Edge>
+        requires { link < length self.now }
+        ensures { (edge : Edge) → (result ≡ Some edge) ↔ IsFound self.now link from to edge }
+    {
+        find_edge(self.edges(link), from, to)
+    }
+
+    /// The shunt of the edge of a link from one composition to another, or nothing where there is no such edge. The link is
+    /// below the number of links of the day.
+    pub fn allowed(&self, link: LinkNo, from: CompNo, to: CompNo) -> Option<Shunt>
+        requires { link < length self.now }
+        ensures { (shunt : Shunt) → (result ≡ Some shunt) ↔ IsAllowed self.now link from to shunt }
+    {
+        shunt_of(self.find(link, from, to))
+    }
+}
+
+/// The shunt of an edge, if there is one.
+fn shunt_of(edge: Option<Edge>) -> Option<Shunt>
+    ensures { result ≡ option_map (λ edge. edge.shunt) edge }
+{
+    match edge {
+        Some(edge) => Some(edge.shunt),
+        None => None,
+    }
+}
+
+impl EdgeList {
+    /// The edges.
+    fn items(&self) -> &[Edge]
+        ensures value { result.now ≡ self.now }
+        ensures in_order { AreInOrder self.now }
+    {
+        &self.edges
+    }
+}
+
+/// The edge between two compositions among edges in order.
+fn find_edge(edges: &[Edge], from: CompNo, to: CompNo) -> Option<Edge>
+    requires { AreInOrder edges.now }
+    ensures { (edge : Edge) → (result ≡ Some edge) ↔ (Contains edges.now edge × IsBetween from to edge) }
+{
+    for edge in edges {
+        if edge.from == from && edge.to == to {
+            return Some(*edge);
+        }
+    }
+    None
+}
+
+/// The edges that a link allows. The link is below the number of links.
+fn edges_of(alloc: Global, instance: &Instance, link: LinkNo) -> Result<EdgeList, NoMemory>
+    requires { link < length instance.now.links }
+    ensures { IfOk result (λ edges. AreEdges instance.now link edges) }
+{
+    let _known = instance.links();
+    let link = instance.link(link);
+    let edges = edges_from_all(alloc, instance, link)?;
+    Ok(EdgeList { edges })
+}
+
+/// The edges that a link allows from any composition.
+fn edges_from_all(alloc: Global, instance: &Instance, link: &Link) -> Result<Vec<Edge>, NoMemory>
+    requires { NamesBelow (length instance.now.trips) link.now.kind }
+    ensures { IfOk result (λ edges. AreEdgesUpTo (IsKindEdge instance.now link.now.kind link.now.reverse) (length (compositions_of instance.now)) 0 edges.items) }
+{
+    let mut edges = Vec::new(alloc);
+    for from in 0..instance.catalogue().len() {
+        push_edges(&mut edges, instance, link, CompNo(from))?;
+    }
+    Ok(edges)
+}
+
+/// Adds the edges that a link allows from a composition, behind those from lower ones.
+fn push_edges(
+    edges: &mut Vec<Edge>,
+    instance: &Instance,
+    link: &Link,
+    from: CompNo,
+) -> Result<(), NoMemory>
+    requires trips { NamesBelow (length instance.now.trips) link.now.kind }
+    requires from { from < length (compositions_of instance.now) }
+    requires before { AreEdgesUpTo (IsKindEdge instance.now link.now.kind link.now.reverse) from 0 edges.old.items }
+    ensures { OnOk result (AreEdgesUpTo (IsKindEdge instance.now link.now.kind link.now.reverse) (from + 1) 0 edges.new.items) }
+{
+    for to in 0..instance.catalogue().len() {
+        if let Some(edge) = edge_between(instance, link, from, CompNo(to)) {
+            edges.push(edge)?;
+        }
+    }
+    Ok(())
+}

@@ -1,0 +1,13 @@
+//! Which compositions follow one another by the links of a day.
+#![tactic(auto)]
+
+mod allowed;
+pub mod edge;
+pub mod graphs;
+mod turns;
+
+pub use edge::{Edge, Shunt};
+pub use graphs::Graphs;
+
+#[cfg(test)]
+mod tests;
