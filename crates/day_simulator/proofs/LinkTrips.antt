@@ -17,27 +17,6 @@ use Rattle.day_simulator.proofs.Named.{position_some}
 use Rattle.day_simulator.proofs.Order.{one_same}
 use Rattle.day_simulator.proofs.Shares.{turn_shares, count_of-turned}
 
--- a list of one or two has each of them
-has_one : (a : ℕ) → IsTrue (has a (a ∷ []))
-has_one a = let o = one_same a a refl in le-leb 1 (count_of a (a ∷ [])) (omega arith)
-
-has_front : (a b : ℕ) → IsTrue (has a (a ∷ b ∷ []))
-has_front a b = let o = one_same a a refl in le-leb 1 (count_of a (a ∷ b ∷ [])) (omega arith)
-
-has_rear : (a b : ℕ) → IsTrue (has b (a ∷ b ∷ []))
-has_rear a b = let o = one_same b b refl in le-leb 1 (count_of b (a ∷ b ∷ [])) (omega arith)
-
--- a link names trips of the day
-pub names_below : (day : Day) → AreLinks day → (l : ℕ) (link : Link) → slice_get day.links l ≡ Some link → NamesBelow (length day.trips) link.kind
-names_below day links l link at =
-    of_kind link.kind (λ t h. links.arriving l t link at h) (λ t h. links.departing l t link at h)
-  where
-    of_kind : (kind : LinkKind) → ((t : ℕ) → IsTrue (has t (arriving_in kind)) → t < length day.trips) → ((t : ℕ) → IsTrue (has t (departing_in kind)) → t < length day.trips)
-        → NamesBelow (length day.trips) kind
-    of_kind (Turn a b uncouple couple) arrive depart = (arrive a (has_one a), depart b (has_one b))
-    of_kind (Join a1 a2 b) arrive depart = (arrive a1 (has_front a1 a2), arrive a2 (has_rear a1 a2), depart b (has_one b))
-    of_kind (Split a b1 b2) arrive depart = (arrive a (has_one a), depart b1 (has_front b1 b2), depart b2 (has_rear b1 b2))
-
 -- the numbers that are found are of links
 pub incoming_within : (day : Day) (t l : ℕ) → incoming day t ≡ Some l → l < length day.links
 unfolding incoming

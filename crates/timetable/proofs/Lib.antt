@@ -10,3 +10,5 @@ pub mod Said
 pub mod RefusedRows
 pub mod LinksRefused
 pub mod Refused
+pub mod Carriages
+pub mod LinkNames

@@ -5,12 +5,14 @@ mod build;
 pub mod instance;
 mod link_rows;
 mod link_tables;
+pub mod picks;
 pub mod plan;
 pub mod records;
 pub mod refusal;
 pub mod tables;
 
 pub use instance::Instance;
+pub use picks::Picks;
 pub use plan::NamedPlan;
 pub use records::{Link, LinkKind, Station, Stock, Trip, Unit, Weights};
 pub use refusal::{InstanceRefusal, PlanRefusal};

@@ -2,7 +2,7 @@ use Rattle.std.proofs.Common.{arith, ◌≡◌, refl}
 use Rattle.std.proofs.lemmas.List.{length-map}
 use Rattle.compositions.specs.Composition.{carriages_of}
 use Rattle.timetable.specs.Day.{types_of, type_of}
-use Rattle.day_simulator.proofs.Units.{carriages_le}
+use Rattle.timetable.proofs.Carriages.{carriages_le}
 use Rattle.day_simulator.proofs.cost.carriages_and_seats.Goals as goal
 
 pub carriages-requires : goal.carriages-requires

@@ -1,7 +1,7 @@
 use Rattle.std.proofs.Common.{ℕ, sym, ◌∙◌, subst}
 use Rattle.timetable.specs.LinkRows.{NamesBelow}
 use Rattle.day_simulator.proofs.Costs.{link_cost-units}
-use Rattle.day_simulator.proofs.LinkTrips.{names_below}
+use Rattle.timetable.proofs.LinkNames.{names_below}
 use Rattle.day_simulator.proofs.cost.link_cost.Goals as goal
 
 pub kind_cost-requires : goal.kind_cost-requires

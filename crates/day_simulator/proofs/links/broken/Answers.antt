@@ -1,6 +1,6 @@
 use Rattle.std.proofs.Common.{ℕ, sym, subst}
 use Rattle.timetable.specs.LinkRows.{NamesBelow}
-use Rattle.day_simulator.proofs.LinkTrips.{names_below}
+use Rattle.timetable.proofs.LinkNames.{names_below}
 use Rattle.day_simulator.proofs.links.broken.Goals as goal
 
 pub link_holds-requires : goal.link_holds-requires

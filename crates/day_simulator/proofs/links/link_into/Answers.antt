@@ -1,5 +1,6 @@
 use Rattle.std.proofs.Common.{sym, ◌∙◌}
-use Rattle.day_simulator.proofs.LinkTrips.{names_below, incoming_within}
+use Rattle.timetable.proofs.LinkNames.{names_below}
+use Rattle.day_simulator.proofs.LinkTrips.{incoming_within}
 use Rattle.day_simulator.proofs.links.link_into.Goals as goal
 
 pub link-requires : goal.link-requires
