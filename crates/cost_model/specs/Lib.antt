@@ -1,0 +1,5 @@
+pub mod Picking
+pub mod Sums
+pub use Rattle.timetable.specs.Day
+pub use Rattle.timetable.specs.Cost
+pub use Rattle.timetable.specs.Compositions

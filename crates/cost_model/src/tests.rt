@@ -1,0 +1,98 @@
+//! The cost of the worked day of a turn, by hand.
+
+use crate::{CostParts, cost, parts};
+use rail_base::{CompNo, Money, TripNo};
+use std::alloc::Global;
+use std::test::Fail;
+use timetable::{Instance, Picks, Rows, Tables};
+
+/// Two trips with one turn between them, units of one type, and weights 1, 1 and 100.
+fn day_of_a_turn(alloc: Global) -> Result<Instance, Fail> {
+    let types = rail_csv::types(
+        alloc,
+        b"type,carriages,seats,metres,family\nA,3,200,80,regional\n",
+    )?;
+    let stations = rail_csv::stations(
+        alloc,
+        b"station,platform,reallocation\nX,200,30\nY,200,30\n",
+    )?;
+    let stock = rail_csv::stock(alloc, b"station,type,start,end\nX,A,2,2\n")?;
+    let trips = rail_csv::trips(
+        alloc,
+        b"trip,from,departure,to,arrival,km,demand\nT1,X,08:00,Y,09:00,10,300\nT2,Y,09:10,X,10:10,10,150\n",
+    )?;
+    let links = rail_csv::links(
+        alloc,
+        b"kind,arriving,arriving2,departing,departing2,reverse,uncouple,couple\nturn,T1,,T2,,yes,rear,none\n",
+    )?;
+    let weights = rail_csv::weights(alloc, b"carriage,shortage,shunting\n1,1,100\n")?;
+    Ok(Instance::build(
+        alloc,
+        Tables {
+            types: Rows::of(types),
+            stations: Rows::of(stations),
+            stock: Rows::of(stock),
+            trips: Rows::of(trips),
+            links: Rows::of(links),
+            weights,
+        },
+    )?)
+}
+
+/// What two picks cost, in all and in parts; nothing where the day has not two trips and these compositions.
+fn costs_of(
+    alloc: Global,
+    instance: &Instance,
+    first: u32,
+    second: u32,
+) -> Result<Option<(Money, CostParts)>, Fail> {
+    let compositions = instance.catalogue().len();
+    if instance.trips() != 2 || first >= compositions || second >= compositions {
+        return Ok(None);
+    }
+    let mut picks = Picks::new(alloc, 2)?;
+    picks.set(TripNo(0), CompNo(first));
+    picks.set(TripNo(1), CompNo(second));
+    Ok(Some((cost(instance, &picks), parts(instance, &picks))))
+}
+
+/// Amounts of carriages, missing seats and shunting.
+fn parts_of(carriage: i128, shortage: i128, shunting: i128) -> CostParts {
+    CostParts {
+        carriage: Money(carriage),
+        shortage: Money(shortage),
+        shunting: Money(shunting),
+    }
+}
+
+#[test]
+fn trains_of_one_length(rt: HostRuntime) -> Result<(), Fail> {
+    let instance = day_of_a_turn(rt.alloc())?;
+    let short = costs_of(rt.alloc(), &instance, 0, 0)?;
+    assert_eq!(rt; short, Some((Money(1060), parts_of(60, 1000, 0))));
+    let long = costs_of(rt.alloc(), &instance, 1, 1)?;
+    assert_eq!(rt; long, Some((Money(120), parts_of(120, 0, 0))));
+    Ok(())
+}
+
+#[test]
+fn trains_that_differ_in_length(rt: HostRuntime) -> Result<(), Fail> {
+    let instance = day_of_a_turn(rt.alloc())?;
+    let shortened = costs_of(rt.alloc(), &instance, 1, 0)?;
+    assert_eq!(rt; shortened, Some((Money(190), parts_of(90, 0, 100))));
+    let lengthened = costs_of(rt.alloc(), &instance, 0, 1)?;
+    assert_eq!(rt; lengthened, Some((Money(1190), parts_of(90, 1000, 100))));
+    Ok(())
+}
+
+#[test]
+fn picks(rt: HostRuntime) -> Result<(), Fail> {
+    let mut picks = Picks::new(rt.alloc(), 2)?;
+    assert_eq!(rt; picks.len(), 2);
+    picks.set(TripNo(1), CompNo(7));
+    assert_eq!(rt;
+        (picks.get(TripNo(0)), picks.get(TripNo(1))),
+        (CompNo(0), CompNo(7))
+    );
+    Ok(())
+}
