@@ -4,6 +4,8 @@
 #[cfg(test)]
 mod day;
 #[cfg(test)]
+mod failure_tests;
+#[cfg(test)]
 mod link_tests;
 #[cfg(test)]
 mod refusal_tests;
