@@ -26,6 +26,10 @@ folder_code =
 abbrev pub read_fails : FolderInMemory → List ℕ → Bool
 read_fails folder path = list_any (λ number. number == folder.calls) folder.failing || not (map.contains_key folder.files path)
 
+-- whether some read of a path may fail: some call is to fail, or no file has the path
+abbrev pub read_may_fail : FolderInMemory → List ℕ → Bool
+read_may_fail folder path = nat_lt 0 (length folder.failing) || not (map.contains_key folder.files path)
+
 -- a sink in memory: what was written, how much it holds, how much a write takes at most, the numbers of the calls that
 -- fail, and how many calls and faults there were
 pub record SinkInMemory : Type 0 where

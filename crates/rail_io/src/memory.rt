@@ -5,7 +5,7 @@ ghost use Rattle.std.specs.Result.{is_err};
 ghost use Rattle.std.specs.FinMap as map;
 ghost use Rattle.rail_base.specs.Names.{is_name};
 ghost use Rattle.rail_io.specs.Folders.{IsReadFrom, Rose, RoseBy, counted, file_at};
-ghost use Rattle.rail_io.specs.InMemory.{read_fails, write_fails, write_takes};
+ghost use Rattle.rail_io.specs.InMemory.{read_fails, read_may_fail, write_fails, write_takes};
 ghost use Rattle.rail_io.specs.MemoryFiles.{files_of};
 
 use crate::{Failed, Folder, Sink};
@@ -120,10 +120,13 @@ impl Folder for MemoryFolder {
 
     ghost taken = { λ folder. folder.taken };
 
+    ghost may_fail = { λ folder path. read_may_fail folder path };
+
     fn read_at(&mut self, path: &str, from: u64, into: &mut [u8]) -> Result<usize, Failed>
         ensures told { IfOk result (λ n. IsReadFrom (file_at self.old.files path.now) from n into.new) }
         ensures room { IfOk result (λ n. n ≤ length into.new) }
         ensures fault { OnErr result (Rose self.old.faults self.new.faults) }
+        ensures may { OnErr result (IsTrue (read_may_fail self.old path.now)) }
         ensures lasting { self.old.faults ≤ self.new.faults }
         ensures same { self.new.files ≡ self.old.files }
         ensures taken { IfOk result (λ n. RoseBy n self.old.taken self.new.taken) }

@@ -1,6 +1,6 @@
 //! Whole files in, and whole documents out.
 
-ghost use Rattle.std.specs.Prelude.{◌≡◌, ◌+◌, ◌<◌, ◌≤◌, Some, length, IfOk, IsErrOf, OnOk, OnErr};
+ghost use Rattle.std.specs.Prelude.{◌≡◌, ◌+◌, ◌<◌, ◌≤◌, Some, IsTrue, length, IfOk, IsErrOf, OnOk, OnErr};
 ghost use Rattle.rail_io.specs.Folders.{Files, Rose, RosePast, file_at};
 ghost use Rattle.rail_io.specs.Sinks.{Appends, AppendsPart};
 ghost use Rattle.rail_io.specs.declared.whole.FileRefusal.TheVariants.{NoMemory, ReadFault};
@@ -46,7 +46,7 @@ impl From<AllocError> for FileRefusal {
 /// The whole file of a path, where it has at most `limit` bytes. It reads until a read gives nothing or more than
 /// `limit` bytes were taken, and keeps no byte past the limit. The limit is at most that of a file of any kind.
 ///
-/// - `ReadFault`: a read failed.
+/// - `ReadFault`: a read failed, so reads of this path may fail.
 /// - `TooLong`: no read failed, and the file is longer than `limit`.
 /// - `NoMemory`: the memory for its bytes could not be had.
 pub fn read_file<F: Folder>(
@@ -64,10 +64,12 @@ pub fn read_file<F: Folder>(
         IsErrOf result FileRefusal.TooLong → limit < length (file_at files path.now) }
 
     ensures fault { IsErrOf result FileRefusal.ReadFault → Rose (F.faults folder.old) (F.faults folder.new) }
+    ensures may { IsErrOf result FileRefusal.ReadFault → IsTrue (F.may_fail folder.old path.now) }
     ensures too_long { IsErrOf result FileRefusal.TooLong → RosePast limit (F.taken folder.old) (F.taken folder.new) }
 
     ensures lasting { F.faults folder.old ≤ F.faults folder.new }
     ensures same { F.holds folder.new ≡ F.holds folder.old }
+    ensures steady { F.may_fail folder.new ≡ F.may_fail folder.old }
     ensures taken { F.taken folder.old ≤ F.taken folder.new }
     ensures taken_at_most { IfOk result (λ bytes. F.taken folder.new ≤ F.taken folder.old + length bytes.items) }
 {

@@ -1,5 +1,6 @@
 use Rattle.std.proofs.Common.{refl}
 use Rattle.std.proofs.lemmas.Option.{none-some}
+use Rattle.std.proofs.lemmas.Result.{on_err_weaker}
 use Rattle.rail_io.proofs.disk.DiskFolderFolder.TheImpl.Goals as goal
 
 -- a folder on disk doesn't tell what it holds
@@ -8,8 +9,10 @@ read_at-tells g c = record {
   told = λ files tells. absurd (none-some files tells);
   room = c.ensures.room;
   fault = c.ensures.fault;
+  may = on_err_weaker c.result (λ _. refl) c.ensures.fault;
   lasting = c.ensures.lasting;
   same = refl;
   taken = c.ensures.taken;
   untaken = c.ensures.untaken;
+  steady = refl;
 }
