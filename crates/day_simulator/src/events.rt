@@ -1,6 +1,7 @@
 //! What happens on a day, where its units and trips are, and what can be wrong with a step.
 
 use rail_base::{LinkNo, StationNo, TripNo, TypeNo, UnitNo};
+use thiserror::Error;
 
 /// One step of the day.
 #[derive(Clone, Copy, Debug, PartialEq, Eq)]
@@ -34,22 +35,28 @@ pub enum Stage {
 }
 
 /// Why a step cannot be made, or why the day cannot end so.
-#[derive(Clone, Copy, Debug, PartialEq, Eq)]
+#[derive(Clone, Copy, Debug, PartialEq, Eq, Error)]
 pub enum StepFault {
     /// The event is out of turn, or is missing at the end.
+    #[error("event out of turn")]
     NotNow(DayEvent),
     /// The trip has no units.
+    #[error("trip {} has no units", .0.0)]
     NoUnits(TripNo),
     /// The trip's units are no composition that may run on it.
+    #[error("trip {} has no admissible composition", .0.0)]
     NotAdmissible(TripNo),
     /// The link's rule is broken.
+    #[error("link {} is broken", .0.0)]
     LinkBroken(LinkNo),
     /// The unit is not in the yard and ready when the trip takes it.
+    #[error("unit {} is not ready for trip {}", .unit.0, .trip.0)]
     NotInYard {
         unit: UnitNo,
         trip: TripNo,
     },
     /// A station has another number of units of a type at the end than is wanted.
+    #[error("station {} has {count} units of type {}, {wanted} wanted", .station.0, .unit_type.0)]
     Balance {
         station: StationNo,
         unit_type: TypeNo,

@@ -12,6 +12,7 @@ use crate::events::{DayEvent, StepFault};
 use crate::sequence::fixed_order;
 use rail_base::{Money, NoMemory};
 use std::alloc::Global;
+use thiserror::Error;
 use timetable::{Instance, NamedPlan};
 
 /// What a day that went through to its end tells.
@@ -22,11 +23,13 @@ pub struct Ran {
 }
 
 /// Why a day did not go through.
-#[derive(Clone, Copy, Debug, PartialEq, Eq)]
+#[derive(Clone, Copy, Debug, PartialEq, Eq, Error)]
 pub enum SimulateRefusal {
     /// The plan stops: the first fault in the fixed order.
+    #[error("stops: {0}")]
     Stops(StepFault),
     /// Want of memory.
+    #[error("out of memory")]
     NoMemory,
 }
 

@@ -3,18 +3,23 @@
 use day_simulator::StepFault;
 use rail_base::{Money, NoMemory};
 use rail_csv::{Table, TableRefusal};
+use thiserror::Error;
 use timetable::{InstanceRefusal, PlanRefusal};
 
 /// Why a file is refused.
-#[derive(Clone, Copy, Debug, PartialEq, Eq)]
+#[derive(Clone, Copy, Debug, PartialEq, Eq, Error)]
 pub enum Refusal {
     /// The file of this table is longer than a table may be.
+    #[error("too long")]
     TooLong(Table),
     /// The file of this table is no such table.
+    #[error("{1}")]
     WrongTable(Table, TableRefusal),
     /// The tables make no day.
+    #[error("{0}")]
     NoDay(InstanceRefusal),
     /// The rows of the plan make no plan of the day.
+    #[error("{0}")]
     NoPlan(PlanRefusal),
 }
 
