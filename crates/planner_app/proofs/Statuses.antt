@@ -1,7 +1,8 @@
 -- What the status of a run says, from its outcome and from what came of writing the outcome's document.
-use Rattle.std.proofs.Common.{◌≡◌, ◌≢◌, ◌↔◌, ℕ, ◌≤◌, List, Option, Some, None, Ok, Err, ap, sym, subst, refl, ◌∙◌, arith, IsSome, inl, inr}
+use Rattle.std.proofs.Common.{◌≡◌, ◌≢◌, ◌↔◌, ℕ, ◌≤◌, Bool, List, Option, Some, None, Ok, Err, ap, sym, subst, refl, ◌∙◌, arith, IsSome, inl, inr}
 use Rattle.rail_io.specs.Folders.{Files}
 use Rattle.rail_io.specs.Sinks.{Appends, AppendsPart}
+use Rattle.rail_csv.specs.declared.rows.Table.{Table}
 use Rattle.timetable.specs.Running as running
 use Rattle.timetable.specs.Cost.{plan_cost}
 use Rattle.day_simulator.specs.Progressing.{IsCost}
@@ -10,10 +11,11 @@ use Rattle.planner_app.specs.declared.outcome.Outcome.TheVariants.{Runs, Stops, 
 use Rattle.planner_app.specs.declared.outcome.Refusal.{Refusal}
 use Rattle.planner_app.specs.Words.{folder_of}
 use Rattle.planner_app.specs.Inputs.{Inputs, inputs_in}
-use Rattle.planner_app.specs.Texts.{IsDocument, refused_line}
+use Rattle.planner_app.specs.Texts.{IsDocument, usage_line, refused_line, cannot_read_line}
 use Rattle.day_simulator.specs.Finish.{simulation}
 use Rattle.planner_app.specs.Giving.{IsCaused}
 use Rattle.planner_app.specs.Answering.{ComesTo}
+use Rattle.planner_app.specs.Reaching.{MayFail, MayFailAt}
 use Rattle.planner_app.specs.Ending.{IsStatusOf, IsWanted, Accepted, RefusedFor, RunsIn, StopsIn, IsRefusedIn, IsDocumentAt, status_of, Wrote, Whole, Part, Nothing}
 
 -- the words name one folder
@@ -156,11 +158,12 @@ wanted_if words files (Some dir) e Usage h f f' t t' caused status s = absurd h
 
 -- the document of a status
 pub document_if : (words : List (List ℕ)) (files : Files) (o : Option (List ℕ)) → folder_of words ≡ o → (outcome : Outcome) → ComesTo o files outcome → (status : ℕ) → status_of outcome ≡ Some status
-    → (text : List ℕ) → IsDocument outcome text → IsDocumentAt words files status text
-document_if words files None e outcome h status s text d =
+    → (may_fail : List ℕ → Bool) → ((dir : List ℕ) → folder_of words ≡ Some dir → MayFail may_fail dir outcome)
+    → (text : List ℕ) → IsDocument outcome text → IsDocumentAt words files may_fail status text
+document_if words files None e outcome h status s may_fail may text d =
     let two = not_usage outcome status h s in
     record { runs = λ z. absurd (omega arith); stops = λ z. absurd (omega arith); usage = λ _. subst (λ o. IsDocument o text) h d; refused = λ z. absurd (omega arith); unread = λ z. absurd (omega arith) }
-document_if words files (Some dir) e (Runs money) h status s text d =
+document_if words files (Some dir) e (Runs money) h status s may_fail may text d =
     let zero = other 0 status s in
     record {
       runs = λ _ inputs accepted. d (plan_cost inputs.day inputs.plan) (subst (λ (i : Inputs). IsCost (plan_cost i.day i.plan) money) (same_inputs files dir h.0 inputs h.1 (accepted_in words files dir inputs e accepted)) h.3);
@@ -169,7 +172,7 @@ document_if words files (Some dir) e (Runs money) h status s text d =
       refused = λ z. absurd (omega arith);
       unread = λ z. absurd (omega arith);
     }
-document_if words files (Some dir) e (Stops fault) h status s text d =
+document_if words files (Some dir) e (Stops fault) h status s may_fail may text d =
     let one = other 1 status s in
     record {
       runs = λ z. absurd (omega arith);
@@ -178,7 +181,7 @@ document_if words files (Some dir) e (Stops fault) h status s text d =
       refused = λ z. absurd (omega arith);
       unread = λ z. absurd (omega arith);
     }
-document_if words files (Some dir) e (Refused why) h status s text d =
+document_if words files (Some dir) e (Refused why) h status s may_fail may text d =
     let three = other 3 status s in
     record {
       runs = λ z. absurd (omega arith);
@@ -187,11 +190,11 @@ document_if words files (Some dir) e (Refused why) h status s text d =
       refused = λ _ w refused. d ∙ ap refused_line (same_refusal files dir why w h (refused_in words files dir w e refused));
       unread = λ z. absurd (omega arith);
     }
-document_if words files (Some dir) e (CannotRead table) h status s text d =
+document_if words files (Some dir) e (CannotRead table) h status s may_fail may text d =
     let five = other 5 status s in
-    record { runs = λ z. absurd (omega arith); stops = λ z. absurd (omega arith); usage = λ z. absurd (omega arith); refused = λ z. absurd (omega arith); unread = λ _. (table, d) }
-document_if words files (Some dir) e NoMemory h status s text d = absurd (no_status status s)
-document_if words files (Some dir) e Usage h status s text d = absurd h
+    record { runs = λ z. absurd (omega arith); stops = λ z. absurd (omega arith); usage = λ z. absurd (omega arith); refused = λ z. absurd (omega arith); unread = λ _. (table, d, record { dir = dir; named = e; reached = h }, record { dir = dir; named = e; may = may dir e }) }
+document_if words files (Some dir) e NoMemory h status s may_fail may text d = absurd (no_status status s)
+document_if words files (Some dir) e Usage h status s may_fail may text d = absurd h
 
 -- where no write failed and memory didn't run out, the whole document was written
 pub whole_of : (outcome : Outcome) (status : ℕ) (before after : Option (List ℕ)) (f f' : ℕ) → Wrote outcome status before after f f' → status ≢ 6 → status ≢ 7
@@ -215,3 +218,41 @@ pub part_of : (outcome : Outcome) (status : ℕ) (before after : Option (List �
 part_of outcome status before after f f' (Whole text d w s) e = let low = written_status outcome status s in absurd (omega arith)
 part_of outcome status before after f f' (Part text d w e r n s) _ = let low = written_status outcome n s in (n, (λ six. absurd (omega arith)), (λ seven. absurd (omega arith)), s, text, d, w)
 part_of outcome status before after f f' (Nothing e k) six = absurd (omega arith)
+
+-- the document of words that are no command, whether or not the folder tells what it holds
+pub usage_text_if : (outcome : Outcome) (status : ℕ) (text : List ℕ) → status_of outcome ≡ Some status → status ≡ 2 → IsDocument outcome text → text ≡ usage_line
+usage_text_if (Runs money) status text s two d = let e = other 0 status s in absurd (omega arith)
+usage_text_if (Stops fault) status text s two d = let e = other 1 status s in absurd (omega arith)
+usage_text_if Usage status text s two d = d
+usage_text_if (Refused why) status text s two d = let e = other 3 status s in absurd (omega arith)
+usage_text_if (CannotRead table) status text s two d = let e = other 5 status s in absurd (omega arith)
+usage_text_if NoMemory status text s two d = absurd (no_status status s)
+
+-- the document of a file that could not be read, whether or not the folder tells what it holds
+pub unread_text_if : (words : List (List ℕ)) (o : Option (List ℕ)) → folder_of words ≡ o → (outcome : Outcome) (status : ℕ) (text : List ℕ) → status_of outcome ≡ Some status → status ≡ 5
+    → ((outcome ≡ Usage) ↔ (folder_of words ≡ None)) → (may_fail : List ℕ → Bool) → ((dir : List ℕ) → folder_of words ≡ Some dir → MayFail may_fail dir outcome)
+    → IsDocument outcome text → (table : Table) × MayFailAt may_fail words table × (text ≡ cannot_read_line table)
+unread_text_if words o e (Runs money) status text s five usage may_fail may d = let z = other 0 status s in absurd (omega arith)
+unread_text_if words o e (Stops fault) status text s five usage may_fail may d = let z = other 1 status s in absurd (omega arith)
+unread_text_if words o e Usage status text s five usage may_fail may d = let z = other 2 status s in absurd (omega arith)
+unread_text_if words o e (Refused why) status text s five usage may_fail may d = let z = other 3 status s in absurd (omega arith)
+unread_text_if words (Some dir) e (CannotRead table) status text s five usage may_fail may d = (table, record { dir = dir; named = e; may = may dir e }, d)
+unread_text_if words None e (CannotRead table) status text s five usage may_fail may d = absurd (never (usage.1 e))
+  where
+    never : ◌≡◌ {A = Outcome} (CannotRead table) Usage → ⊥
+    never e = cc
+unread_text_if words o e NoMemory status text s five usage may_fail may d = absurd (no_status status s)
+
+-- the same of what was written
+pub usage_written : (outcome : Outcome) (status : ℕ) (before after : Option (List ℕ)) (f f' : ℕ) → Wrote outcome status before after f f' → status ≡ 2 → Appends usage_line before after
+usage_written outcome status before after f f' wrote two =
+    let w = whole_of outcome status before after f f' wrote (λ six. absurd (omega arith)) (λ seven. absurd (omega arith)) in
+    subst (λ (text : List ℕ). Appends text before after) (usage_text_if outcome status w.0 w.3 two w.1) w.2
+
+pub unread_written : (words : List (List ℕ)) (outcome : Outcome) (status : ℕ) (before after : Option (List ℕ)) (f f' : ℕ) → Wrote outcome status before after f f' → status ≡ 5
+    → ((outcome ≡ Usage) ↔ (folder_of words ≡ None)) → (may_fail : List ℕ → Bool) → ((dir : List ℕ) → folder_of words ≡ Some dir → MayFail may_fail dir outcome)
+    → (table : Table) × MayFailAt may_fail words table × Appends (cannot_read_line table) before after
+unread_written words outcome status before after f f' wrote five usage may_fail may =
+    let w = whole_of outcome status before after f f' wrote (λ six. absurd (omega arith)) (λ seven. absurd (omega arith)) in
+    let u = unread_text_if words (folder_of words) refl outcome status w.0 w.3 five usage may_fail may w.1 in
+    (u.0, u.1, subst (λ (text : List ℕ). Appends text before after) u.2 w.2)

@@ -8,13 +8,14 @@ use Rattle.day_simulator.specs.Finish.{simulation}
 use Rattle.planner_app.specs.declared.outcome.Outcome.{Outcome}
 use Rattle.planner_app.specs.declared.outcome.Outcome.TheVariants.{Runs, Stops, Usage, Refused, CannotRead, NoMemory}
 use Rattle.planner_app.specs.Inputs.{Inputs, inputs_in}
+use Rattle.planner_app.specs.Reaching.{Reaches}
 
 -- what an outcome says of the files in a folder
 abbrev pub Explains : Files → List ℕ → Outcome → Type 0
 Explains files dir (Runs money) = (inputs : Inputs) × (inputs_in files dir ≡ Ok inputs) × running.Runs inputs.day inputs.plan × IsCost (plan_cost inputs.day inputs.plan) money
 Explains files dir (Stops fault) = (inputs : Inputs) × (inputs_in files dir ≡ Ok inputs) × (running.Runs inputs.day inputs.plan → ⊥) × (simulation inputs.day inputs.plan ≡ Err fault)
 Explains files dir (Refused why) = inputs_in files dir ≡ Err why
-Explains files dir (CannotRead table) = ⊤
+Explains files dir (CannotRead table) = Reaches files dir table
 Explains files dir NoMemory = ⊤
 Explains files dir Usage = ⊥
 

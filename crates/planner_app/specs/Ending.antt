@@ -1,5 +1,5 @@
 -- What the status of a run says, and the document that it writes.
-use Rattle.std.specs.Prelude.{ℕ, ◌≡◌, ◌≢◌, ◌↔◌, ◌⊎◌, ◌≤◌, List, Option, Some, None, Ok, Err}
+use Rattle.std.specs.Prelude.{ℕ, ◌≡◌, ◌≢◌, ◌↔◌, ◌⊎◌, ◌≤◌, Bool, List, Option, Some, None, Ok, Err}
 use Rattle.rail_io.specs.Folders.{Files, Rose}
 use Rattle.rail_io.specs.Sinks.{Appends, AppendsPart}
 use Rattle.rail_csv.specs.declared.rows.Table.{Table}
@@ -12,6 +12,7 @@ use Rattle.planner_app.specs.declared.outcome.Outcome.TheVariants.{Runs, Stops, 
 use Rattle.planner_app.specs.declared.outcome.Refusal.{Refusal}
 use Rattle.planner_app.specs.Words.{folder_of}
 use Rattle.planner_app.specs.Inputs.{Inputs, inputs_in}
+use Rattle.planner_app.specs.Reaching.{ReachedAt, MayFailAt}
 use Rattle.planner_app.specs.Texts.{runs_line, stops_line, usage_line, refused_line, cannot_read_line, IsDocument}
 
 -- the words name a folder whose files are accepted as this day and this plan of it
@@ -58,14 +59,16 @@ IsWanted words files faults faults' status = IsStatusOf words files status ⊎ (
 abbrev pub IsStatus : ℕ → Type 0
 IsStatus status = (status ≤ 3) ⊎ ((5 ≤ status) × (status ≤ 7))
 
--- the document of words and files at a status
-pub record IsDocumentAt (words : List (List ℕ)) (files : Files) (status : ℕ) (text : List ℕ) : Type 0 where
+-- The document of words and files at a status. A file that could not be read is one that the reading reaches, after files that
+-- are all accepted, and of which a read may fail.
+pub record IsDocumentAt (words : List (List ℕ)) (files : Files) (may_fail : List ℕ → Bool) (status : ℕ) (text : List ℕ) : Type 0 where
   pub runs : status ≡ 0 → (inputs : Inputs) → Accepted words files inputs → text ≡ runs_line (plan_cost inputs.day inputs.plan)
   pub stops : status ≡ 1 → (inputs : Inputs) → Accepted words files inputs
       → (fault : StepFault) × (simulation inputs.day inputs.plan ≡ Err fault) × (text ≡ stops_line fault)
   pub usage : status ≡ 2 → text ≡ usage_line
   pub refused : status ≡ 3 → (why : Refusal) → RefusedFor words files why → text ≡ refused_line why
-  pub unread : status ≡ 5 → (table : Table) × (text ≡ cannot_read_line table)
+  pub unread : status ≡ 5
+      → (table : Table) × (text ≡ cannot_read_line table) × ReachedAt words files table × MayFailAt may_fail words table
 
 -- the status of an outcome whose document was written; there is none for want of memory
 abbrev pub status_of : Outcome → Option ℕ

@@ -74,11 +74,16 @@ pub record Inputs : Type 0 where
 abbrev pub inputs_of : Day → List (List ℕ) → Inputs
 inputs_of day plan = record { day = day; plan = plan }
 
--- the tables, the day that they make, the rows of the plan, and the plan that they make
+-- the day that the six tables make
+unfoldable pub day_in : Files → List ℕ → Result Day Refusal
+day_in files dir = do
+  tables ← tables_in files dir
+  as_day (day_of tables)
+
+-- the day, the rows of the plan, and the plan of the day that they make
 unfoldable pub inputs_in : Files → List ℕ → Result Inputs Refusal
 inputs_in files dir = do
-  tables ← tables_in files dir
-  day ← as_day (day_of tables)
+  day ← day_in files dir
   rows ← read_as plan_rows_of files dir table.Plan
   plan ← as_plan (plan_of day rows)
   Ok (inputs_of day plan)

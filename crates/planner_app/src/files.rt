@@ -5,6 +5,7 @@ ghost use Rattle.rail_io.specs.Folders.{Files};
 ghost use Rattle.planner_app.specs.Texts.{file_name};
 ghost use Rattle.planner_app.specs.Inputs.{path_of, bytes_in};
 ghost use Rattle.planner_app.specs.Giving.{Gives, IsCaused};
+ghost use Rattle.planner_app.specs.Reaching.{IsOf, MayFail};
 
 use crate::document::file_name;
 use crate::outcome::{Outcome, Refusal};
@@ -33,7 +34,10 @@ pub(crate) fn bytes_of<F: Folder>(
     ensures told { (files : Files) → F.holds folder.old ≡ Some files → Gives (λ v. v.items) result (bytes_in files dir.now table) }
     ensures few { IfOk result (λ v. length v.items ≤ 4194304) }
     ensures caused { IfErr result (λ outcome. IsCaused (F.faults folder.old) (F.faults folder.new) (F.taken folder.old) (F.taken folder.new) outcome) }
+    ensures may { IfErr result (MayFail (F.may_fail folder.old) dir.now) }
+    ensures of { IfErr result (IsOf table) }
     ensures same { F.holds folder.new ≡ F.holds folder.old }
+    ensures steady { F.may_fail folder.new ≡ F.may_fail folder.old }
     ensures faults { F.faults folder.old ≤ F.faults folder.new }
     ensures taken { F.taken folder.old ≤ F.taken folder.new }
 {

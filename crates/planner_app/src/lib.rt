@@ -3,6 +3,7 @@
 
 mod document;
 mod files;
+pub mod law;
 pub mod outcome;
 mod run;
 mod tables;

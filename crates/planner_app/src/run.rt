@@ -1,16 +1,17 @@
 //! From the words to the outcome: the tables, the day, the plan, and whether the plan runs.
 
-ghost use Rattle.std.specs.Prelude.{◌≡◌, ◌≤◌, [], ℕ, Some, None, Ok, Err, IfOk, IfErr, IsSome, ◌↔◌};
+ghost use Rattle.std.specs.Prelude.{◌≡◌, ◌≤◌, [], ℕ, Some, None, Ok, Err, IfOk, IfErr, IsSome, List, ◌↔◌};
 ghost use Rattle.rail_io.specs.Folders.{Files};
 ghost use Rattle.rail_csv.specs.Rows.{ArePlanRows};
 ghost use Rattle.timetable.specs.Build.{day_of};
 ghost use Rattle.timetable.specs.Plans.{plan_of};
 ghost use Rattle.timetable.specs.Running.{IsPlan, Runs};
 ghost use Rattle.planner_app.specs.Words.{folder_of};
-ghost use Rattle.planner_app.specs.Inputs.{inputs_in, inputs_of, as_day, as_plan};
+ghost use Rattle.planner_app.specs.Inputs.{day_in, inputs_in, inputs_of, as_day, as_plan};
 ghost use Rattle.planner_app.specs.Accepting.{AreTables};
 ghost use Rattle.planner_app.specs.Giving.{Gives, IsCaused, IsReading};
 ghost use Rattle.planner_app.specs.Answering.{Explains, ComesTo, Tells};
+ghost use Rattle.planner_app.specs.Reaching.{MayFail, IsReached};
 
 use crate::outcome::{Outcome, Refusal};
 use crate::tables::{plan_rows, tables_in};
@@ -49,6 +50,22 @@ fn plan_of(alloc: Global, instance: &Instance, rows: &[PlanRow]) -> Result<Named
     }
 }
 
+/// The day that the tables of a folder make. The first file that is refused or cannot be read ends the reading.
+#[tactic(auto, unfolding(crate::specs::Inputs::day_in))]
+fn day_in<F: Folder>(alloc: Global, folder: &mut F, dir: &str) -> Result<Instance, Outcome>
+    ensures told { (files : Files) → F.holds folder.old ≡ Some files → Gives (λ instance. instance) result (day_in files dir.now) }
+    ensures caused { IfErr result (λ outcome. IsCaused (F.faults folder.old) (F.faults folder.new) (F.taken folder.old) (F.taken folder.new) outcome) }
+    ensures may { IfErr result (MayFail (F.may_fail folder.old) dir.now) }
+    ensures reached { (files : Files) → F.holds folder.old ≡ Some files → IfErr result (IsReached files dir.now) }
+    ensures same { F.holds folder.new ≡ F.holds folder.old }
+    ensures steady { F.may_fail folder.new ≡ F.may_fail folder.old }
+    ensures faults { F.faults folder.old ≤ F.faults folder.new }
+    ensures taken { F.taken folder.old ≤ F.taken folder.new }
+{
+    let tables = tables_in(alloc, folder, dir)?;
+    day_of(alloc, tables)
+}
+
 /// The day and the plan of a folder. The first file that is refused or cannot be read ends the reading.
 #[tactic(auto, unfolding(crate::specs::Inputs::inputs_in))]
 fn inputs_in<F: Folder>(
@@ -59,12 +76,14 @@ fn inputs_in<F: Folder>(
     ensures told { (files : Files) → F.holds folder.old ≡ Some files → Gives (λ pair. inputs_of pair.0 pair.1) result (inputs_in files dir.now) }
     ensures is_plan { IfOk result (λ pair. IsPlan pair.0 pair.1) }
     ensures caused { IfErr result (λ outcome. IsCaused (F.faults folder.old) (F.faults folder.new) (F.taken folder.old) (F.taken folder.new) outcome) }
+    ensures may { IfErr result (MayFail (F.may_fail folder.old) dir.now) }
+    ensures reached { (files : Files) → F.holds folder.old ≡ Some files → IfErr result (IsReached files dir.now) }
     ensures same { F.holds folder.new ≡ F.holds folder.old }
+    ensures steady { F.may_fail folder.new ≡ F.may_fail folder.old }
     ensures faults { F.faults folder.old ≤ F.faults folder.new }
     ensures taken { F.taken folder.old ≤ F.taken folder.new }
 {
-    let tables = tables_in(alloc, folder, dir)?;
-    let instance = day_of(alloc, tables)?;
+    let instance = day_in(alloc, folder, dir)?;
     let rows = plan_rows(alloc, folder, dir)?;
     let plan = plan_of(alloc, &instance, rows.as_slice())?;
     Ok((instance, plan))
@@ -87,7 +106,9 @@ fn simulated(alloc: Global, instance: &Instance, plan: &NamedPlan) -> Outcome
 fn run<F: Folder>(alloc: Global, folder: &mut F, dir: &str) -> Outcome
     ensures told { (files : Files) → F.holds folder.old ≡ Some files → Explains files dir.now result }
     ensures caused { IsCaused (F.faults folder.old) (F.faults folder.new) (F.taken folder.old) (F.taken folder.new) result }
+    ensures may { MayFail (F.may_fail folder.old) dir.now result }
     ensures same { F.holds folder.new ≡ F.holds folder.old }
+    ensures steady { F.may_fail folder.new ≡ F.may_fail folder.old }
     ensures faults { F.faults folder.old ≤ F.faults folder.new }
     ensures taken { F.taken folder.old ≤ F.taken folder.new }
 {
@@ -102,7 +123,9 @@ pub(crate) fn outcome_of<F: Folder>(alloc: Global, words: &Words, folder: &mut F
     ensures told { (files : Files) → F.holds folder.old ≡ Some files → ComesTo (folder_of words.now) files result }
     ensures usage { (result ≡ Outcome.Usage) ↔ (folder_of words.now ≡ None) }
     ensures caused { IsSome (folder_of words.now) → IsCaused (F.faults folder.old) (F.faults folder.new) (F.taken folder.old) (F.taken folder.new) result }
+    ensures may { (dir : List ℕ) → folder_of words.now ≡ Some dir → MayFail (F.may_fail folder.old) dir result }
     ensures same { F.holds folder.new ≡ F.holds folder.old }
+    ensures steady { F.may_fail folder.new ≡ F.may_fail folder.old }
     ensures faults { F.faults folder.old ≤ F.faults folder.new }
     ensures taken { F.taken folder.old ≤ F.taken folder.new }
 {

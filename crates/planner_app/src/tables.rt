@@ -8,6 +8,7 @@ ghost use Rattle.rail_csv.specs.declared.rows.Table.TheVariants as table;
 ghost use Rattle.planner_app.specs.Inputs.{read_as, as_table, tables_in};
 ghost use Rattle.planner_app.specs.Accepting.{AreTables};
 ghost use Rattle.planner_app.specs.Giving.{Gives, IsCaused, outcome_of};
+ghost use Rattle.planner_app.specs.Reaching.{IsOf, MayFail, IsReached};
 
 use crate::files::bytes_of;
 use crate::outcome::{Outcome, Refusal};
@@ -34,7 +35,10 @@ fn types<F: Folder>(alloc: Global, folder: &mut F, dir: &str) -> Result<Rows<Typ
     ensures told { (files : Files) → F.holds folder.old ≡ Some files → Gives (λ rows. rows) result (read_as types_of files dir.now table.Types) }
     ensures rows { IfOk result (λ rows. AreTypeRows rows) }
     ensures caused { IfErr result (λ outcome. IsCaused (F.faults folder.old) (F.faults folder.new) (F.taken folder.old) (F.taken folder.new) outcome) }
+    ensures may { IfErr result (MayFail (F.may_fail folder.old) dir.now) }
+    ensures of { IfErr result (IsOf table.Types) }
     ensures same { F.holds folder.new ≡ F.holds folder.old }
+    ensures steady { F.may_fail folder.new ≡ F.may_fail folder.old }
     ensures faults { F.faults folder.old ≤ F.faults folder.new }
     ensures taken { F.taken folder.old ≤ F.taken folder.new }
 {
@@ -55,7 +59,10 @@ fn stations<F: Folder>(
     ensures told { (files : Files) → F.holds folder.old ≡ Some files → Gives (λ rows. rows) result (read_as stations_of files dir.now table.Stations) }
     ensures rows { IfOk result (λ rows. AreStationRows rows) }
     ensures caused { IfErr result (λ outcome. IsCaused (F.faults folder.old) (F.faults folder.new) (F.taken folder.old) (F.taken folder.new) outcome) }
+    ensures may { IfErr result (MayFail (F.may_fail folder.old) dir.now) }
+    ensures of { IfErr result (IsOf table.Stations) }
     ensures same { F.holds folder.new ≡ F.holds folder.old }
+    ensures steady { F.may_fail folder.new ≡ F.may_fail folder.old }
     ensures faults { F.faults folder.old ≤ F.faults folder.new }
     ensures taken { F.taken folder.old ≤ F.taken folder.new }
 {
@@ -72,7 +79,10 @@ fn stock<F: Folder>(alloc: Global, folder: &mut F, dir: &str) -> Result<Rows<Sto
     ensures told { (files : Files) → F.holds folder.old ≡ Some files → Gives (λ rows. rows) result (read_as stock_of files dir.now table.Stock) }
     ensures rows { IfOk result (λ rows. AreStockRows rows) }
     ensures caused { IfErr result (λ outcome. IsCaused (F.faults folder.old) (F.faults folder.new) (F.taken folder.old) (F.taken folder.new) outcome) }
+    ensures may { IfErr result (MayFail (F.may_fail folder.old) dir.now) }
+    ensures of { IfErr result (IsOf table.Stock) }
     ensures same { F.holds folder.new ≡ F.holds folder.old }
+    ensures steady { F.may_fail folder.new ≡ F.may_fail folder.old }
     ensures faults { F.faults folder.old ≤ F.faults folder.new }
     ensures taken { F.taken folder.old ≤ F.taken folder.new }
 {
@@ -89,7 +99,10 @@ fn trips<F: Folder>(alloc: Global, folder: &mut F, dir: &str) -> Result<Rows<Tri
     ensures told { (files : Files) → F.holds folder.old ≡ Some files → Gives (λ rows. rows) result (read_as trips_of files dir.now table.Trips) }
     ensures rows { IfOk result (λ rows. AreTripRows rows) }
     ensures caused { IfErr result (λ outcome. IsCaused (F.faults folder.old) (F.faults folder.new) (F.taken folder.old) (F.taken folder.new) outcome) }
+    ensures may { IfErr result (MayFail (F.may_fail folder.old) dir.now) }
+    ensures of { IfErr result (IsOf table.Trips) }
     ensures same { F.holds folder.new ≡ F.holds folder.old }
+    ensures steady { F.may_fail folder.new ≡ F.may_fail folder.old }
     ensures faults { F.faults folder.old ≤ F.faults folder.new }
     ensures taken { F.taken folder.old ≤ F.taken folder.new }
 {
@@ -106,7 +119,10 @@ fn links<F: Folder>(alloc: Global, folder: &mut F, dir: &str) -> Result<Rows<Lin
     ensures told { (files : Files) → F.holds folder.old ≡ Some files → Gives (λ rows. rows) result (read_as links_of files dir.now table.Links) }
     ensures rows { IfOk result (λ rows. AreLinkRows rows) }
     ensures caused { IfErr result (λ outcome. IsCaused (F.faults folder.old) (F.faults folder.new) (F.taken folder.old) (F.taken folder.new) outcome) }
+    ensures may { IfErr result (MayFail (F.may_fail folder.old) dir.now) }
+    ensures of { IfErr result (IsOf table.Links) }
     ensures same { F.holds folder.new ≡ F.holds folder.old }
+    ensures steady { F.may_fail folder.new ≡ F.may_fail folder.old }
     ensures faults { F.faults folder.old ≤ F.faults folder.new }
     ensures taken { F.taken folder.old ≤ F.taken folder.new }
 {
@@ -123,7 +139,10 @@ fn weights<F: Folder>(alloc: Global, folder: &mut F, dir: &str) -> Result<Weight
     ensures told { (files : Files) → F.holds folder.old ≡ Some files → Gives (λ row. row) result (read_as weights_of files dir.now table.Weights) }
     ensures row { IfOk result (λ row. IsWeightsRow row) }
     ensures caused { IfErr result (λ outcome. IsCaused (F.faults folder.old) (F.faults folder.new) (F.taken folder.old) (F.taken folder.new) outcome) }
+    ensures may { IfErr result (MayFail (F.may_fail folder.old) dir.now) }
+    ensures of { IfErr result (IsOf table.Weights) }
     ensures same { F.holds folder.new ≡ F.holds folder.old }
+    ensures steady { F.may_fail folder.new ≡ F.may_fail folder.old }
     ensures faults { F.faults folder.old ≤ F.faults folder.new }
     ensures taken { F.taken folder.old ≤ F.taken folder.new }
 {
@@ -144,7 +163,10 @@ pub(crate) fn plan_rows<F: Folder>(
     ensures told { (files : Files) → F.holds folder.old ≡ Some files → Gives (λ rows. rows.items) result (read_as plan_of files dir.now table.Plan) }
     ensures rows { IfOk result (λ rows. ArePlanRows rows.items) }
     ensures caused { IfErr result (λ outcome. IsCaused (F.faults folder.old) (F.faults folder.new) (F.taken folder.old) (F.taken folder.new) outcome) }
+    ensures may { IfErr result (MayFail (F.may_fail folder.old) dir.now) }
+    ensures of { IfErr result (IsOf table.Plan) }
     ensures same { F.holds folder.new ≡ F.holds folder.old }
+    ensures steady { F.may_fail folder.new ≡ F.may_fail folder.old }
     ensures faults { F.faults folder.old ≤ F.faults folder.new }
     ensures taken { F.taken folder.old ≤ F.taken folder.new }
 {
@@ -165,7 +187,10 @@ pub(crate) fn tables_in<F: Folder>(
     ensures told { (files : Files) → F.holds folder.old ≡ Some files → Gives (λ tables. tables) result (tables_in files dir.now) }
     ensures rows { IfOk result AreTables }
     ensures caused { IfErr result (λ outcome. IsCaused (F.faults folder.old) (F.faults folder.new) (F.taken folder.old) (F.taken folder.new) outcome) }
+    ensures may { IfErr result (MayFail (F.may_fail folder.old) dir.now) }
+    ensures reached { (files : Files) → F.holds folder.old ≡ Some files → IfErr result (IsReached files dir.now) }
     ensures same { F.holds folder.new ≡ F.holds folder.old }
+    ensures steady { F.may_fail folder.new ≡ F.may_fail folder.old }
     ensures faults { F.faults folder.old ≤ F.faults folder.new }
     ensures taken { F.taken folder.old ≤ F.taken folder.new }
 {

@@ -3,7 +3,10 @@
 ghost use Rattle.std.specs.Prelude.{◌≡◌, ◌≢◌, ◌≤◌, ◌↔◌, ℕ, List, Some, None};
 ghost use Rattle.rail_io.specs.Folders.{Files, Rose};
 ghost use Rattle.rail_io.specs.Sinks.{Appends, AppendsPart};
+ghost use Rattle.rail_csv.specs.declared.rows.Table.{Table};
 ghost use Rattle.planner_app.specs.Words.{folder_of};
+ghost use Rattle.planner_app.specs.Reaching.{MayFailAt};
+ghost use Rattle.planner_app.specs.Texts.{usage_line, cannot_read_line};
 ghost use Rattle.planner_app.specs.Ending.{RunsIn, StopsIn, IsRefusedIn, IsUndisturbed, IsStatus, IsDocumentAt, IsWanted, Wrote, status_of};
 
 use crate::document::document;
@@ -56,7 +59,7 @@ fn write_outcome<K: Sink>(alloc: Global, outcome: &Outcome, out: &mut K) -> u8
 /// | 1 | exactly where the files are accepted and the plan doesn't run | `stops:` and the first fault of the day |
 /// | 2 | exactly where the words are no such command | `usage` |
 /// | 3 | exactly where a file is refused | `refused`, the first such file and why |
-/// | 5 | only where a read failed in this call | `cannot read` and the file |
+/// | 5 | only where a read failed in this call | `cannot read` and the file, one that is reached and may fail |
 /// | 6 | only where a write failed in this call | a front of the document, and not all of it |
 /// | 7 | want of memory | nothing was written |
 ///
@@ -71,12 +74,16 @@ pub fn railplan<F: Folder, K: Sink>(alloc: Global, words: &Words, folder: &mut F
     ensures unwritten { result ≡ 6 → Rose (K.faults out.old) (K.faults out.new) }
     ensures statuses { IsStatus result }
     ensures document { (files : Files) → F.holds folder.old ≡ Some files → result ≢ 6 → result ≢ 7
-        → (text : List ℕ) × IsDocumentAt words.now files result text × Appends text (K.written out.old) (K.written out.new) }
+        → (text : List ℕ) × IsDocumentAt words.now files (F.may_fail folder.old) result text × Appends text (K.written out.old) (K.written out.new) }
+    ensures usage_line { result ≡ 2 → Appends usage_line (K.written out.old) (K.written out.new) }
+    ensures unread_line { result ≡ 5 → (table : Table) × MayFailAt (F.may_fail folder.old) words.now table
+        × Appends (cannot_read_line table) (K.written out.old) (K.written out.new) }
     ensures part { (files : Files) → F.holds folder.old ≡ Some files → result ≡ 6
         → (status : ℕ) × IsWanted words.now files (F.faults folder.old) (F.faults folder.new) status
-        × (text : List ℕ) × IsDocumentAt words.now files status text × AppendsPart text (K.written out.old) (K.written out.new) }
+        × (text : List ℕ) × IsDocumentAt words.now files (F.may_fail folder.old) status text × AppendsPart text (K.written out.old) (K.written out.new) }
     ensures nothing { result ≡ 7 → K.written out.new ≡ K.written out.old }
     ensures same { F.holds folder.new ≡ F.holds folder.old }
+    ensures steady { F.may_fail folder.new ≡ F.may_fail folder.old }
     ensures lasting { F.faults folder.old ≤ F.faults folder.new }
     ensures sink_lasting { K.faults out.old ≤ K.faults out.new }
 {
