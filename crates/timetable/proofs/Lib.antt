@@ -2,6 +2,7 @@ pub mod Accepting
 pub mod Entries
 pub mod Days
 pub mod LinkTables
+pub mod Noting
 pub mod Linking
 pub mod Lists
 pub mod Fitting

@@ -1,5 +1,5 @@
 -- The links that name a trip, listed by trip.
-use Rattle.std.specs.Prelude.{ℕ, zero, suc, List, [], ◌∷◌, ◌++◌, Option, position}
+use Rattle.std.specs.Prelude.{ℕ, zero, suc, List, [], ◌∷◌, ◌++◌, Option, set, position}
 use Rattle.timetable.specs.declared.link_tables.Side.{Side}
 use Rattle.timetable.specs.declared.link_tables.Side.TheVariants.{Arriving, Departing}
 use Rattle.timetable.specs.declared.records.Link.{Link}
@@ -15,6 +15,11 @@ trips_on Departing kind = departing_in kind
 -- the number of the first link that names a trip on one side
 abbrev pub link_naming : (LinkKind → List ℕ) → List Link → ℕ → Option ℕ
 link_naming side links t = position (λ link. has t (side link.kind)) links
+
+-- a table after an entry was set at each of these trips
+abbrev pub noted : Option ℕ → List ℕ → List (Option ℕ) → List (Option ℕ)
+noted entry [] table = table
+noted entry (t ∷ ts) table = noted entry ts (set table t entry)
 
 -- these numbers for the trips below a bound
 abbrev pub link_table : (LinkKind → List ℕ) → List Link → ℕ → List (Option ℕ)

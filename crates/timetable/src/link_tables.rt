@@ -1,7 +1,7 @@
 //! Which link names a trip, for each trip.
 
-ghost use Rattle.std.specs.Prelude.{◌≡◌, ◌<◌, ◌≤◌, length, IfOk, IfSome};
-ghost use Rattle.timetable.specs.LinkTables.{trips_on, link_naming, link_table};
+ghost use Rattle.std.specs.Prelude.{◌≡◌, ◌≤◌, Some, length, set, IfOk};
+ghost use Rattle.timetable.specs.LinkTables.{trips_on, noted, link_table};
 ghost use Rattle.timetable.specs.Lists.{has};
 
 use crate::records::{Link, LinkKind};
@@ -31,28 +31,37 @@ pub fn is_named_by(kind: LinkKind, side: Side, trip: TripNo) -> bool
     }
 }
 
-/// The place of the first link that names the trip on one side.
-fn place_of_link(links: &[Link], side: Side, trip: TripNo) -> Option<usize>
-    ensures value { result ≡ link_naming (trips_on side) links.now trip }
-    ensures within { IfSome result (λ place. place < length links.now) }
+/// Notes a link at a trip, where the table has an entry for the trip.
+fn note_at(table: &mut Vec<Option<LinkNo>>, trip: TripNo, link: LinkNo)
+    ensures { table.new.items ≡ set table.old.items trip (Some link) }
 {
-    links
-        .iter()
-        .position(|link| is_named_by(link.kind, side, trip))
+    if trip.place() < table.len() {
+        table[trip.place()] = Some(link);
+    }
 }
 
-/// The number of the first link that names the trip on one side.
-fn find_link(links: &[Link], side: Side, trip: TripNo) -> Option<LinkNo>
-    requires { length links.now ≤ 400 }
-    ensures { result ≡ link_naming (trips_on side) links.now trip }
+/// Notes a link at each trip that it names on one side.
+fn note_link(table: &mut Vec<Option<LinkNo>>, kind: LinkKind, side: Side, link: LinkNo)
+    ensures { table.new.items ≡ noted (Some link) (trips_on side kind) table.old.items }
 {
-    let Some(place) = place_of_link(links, side, trip) else {
-        return None;
-    };
-    Some(LinkNo(place as u32))
+    match (side, kind) {
+        (Side::Arriving, LinkKind::Turn { arriving, .. }) => note_at(table, arriving, link),
+        (Side::Arriving, LinkKind::Join { first, second, .. }) => {
+            note_at(table, first, link);
+            note_at(table, second, link);
+        }
+        (Side::Arriving, LinkKind::Split { arriving, .. }) => note_at(table, arriving, link),
+        (Side::Departing, LinkKind::Turn { departing, .. }) => note_at(table, departing, link),
+        (Side::Departing, LinkKind::Join { departing, .. }) => note_at(table, departing, link),
+        (Side::Departing, LinkKind::Split { first, second, .. }) => {
+            note_at(table, first, link);
+            note_at(table, second, link);
+        }
+    }
 }
 
-/// For each trip the number of the first link that names it on one side.
+/// For each trip the number of the first link that names it on one side. The links are noted from the last to the first,
+/// so that the first stays.
 pub fn links_by_trip(
     alloc: Global,
     links: &[Link],
@@ -62,9 +71,11 @@ pub fn links_by_trip(
     requires { length links.now ≤ 400 }
     ensures { IfOk result (λ table. table.items ≡ link_table (trips_on side) links.now trips) }
 {
-    let mut table = Vec::new(alloc);
-    for trip in 0..trips {
-        table.push(find_link(links, side, TripNo(trip)))?;
+    let mut table = vec![in alloc; None; trips as usize]?;
+    let mut left = links.len();
+    while left > 0 {
+        left -= 1;
+        note_link(&mut table, links[left].kind, side, LinkNo(left as u32));
     }
     Ok(table)
 }
