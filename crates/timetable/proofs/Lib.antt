@@ -13,3 +13,4 @@ pub mod LinksRefused
 pub mod Refused
 pub mod Carriages
 pub mod LinkNames
+pub mod TypeRule
