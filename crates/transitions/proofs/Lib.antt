@@ -5,3 +5,4 @@ pub mod Kept
 pub mod Listing
 pub mod Finding
 pub mod Links
+pub mod Following

@@ -1,3 +1,4 @@
 pub mod Turns
 pub mod Edges
 pub mod Between
+pub mod Laws

@@ -4,6 +4,7 @@
 mod allowed;
 pub mod edge;
 pub mod graphs;
+pub mod laws;
 mod turns;
 
 pub use edge::{Edge, Shunt};

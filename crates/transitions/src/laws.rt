@@ -1,0 +1,16 @@
+//! What holds of the edges of every day.
+//!
+//! Each law is the contract of a function that does nothing.
+
+ghost use Rattle.transitions.specs.Laws.{TypesFollow, EdgesFound};
+
+/// At each link the types of a plan that runs follow an edge that the link allows, with the shunt that the plan does there
+/// and the second train's composition as its part.
+pub fn types_follow_edges()
+    ensures law { TypesFollow }
+{}
+
+/// Each edge that a link allows is found between its two compositions.
+pub fn edges_are_found()
+    ensures law { EdgesFound }
+{}
