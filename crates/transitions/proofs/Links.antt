@@ -1,6 +1,6 @@
 -- What is known of the link of a number, and of its edges.
-use Rattle.std.proofs.Common.{◌≡◌, ℕ, zero, suc, ◌+◌, ◌<◌, ◌≤◌, List, [], ◌∷◌, ◌++◌, length, Bool, true, cond, eqb, Option, Some, None, inl, inr, refl, sym, ap, subst, ◌∙◌, arith, IsTrue, slice_get, Contains}
-use Rattle.std.specs.Prelude.{◌↔◌, ◌⊎◌}
+use Rattle.std.proofs.Common.{◌≡◌, ℕ, zero, suc, ◌+◌, ◌<◌, List, [], ◌∷◌, ◌++◌, length, Bool, cond, eqb, Some, inl, inr, refl, sym, ap, subst, ◌∙◌, arith, IsTrue, slice_get}
+use Rattle.std.specs.Prelude.{◌⊎◌}
 use Rattle.std.proofs.lemmas.Bool.{le-leb, eq-eqb, cond-true}
 use Rattle.std.proofs.lemmas.List.{length_push}
 use Rattle.timetable.specs.declared.records.Link.{Link}
@@ -13,8 +13,8 @@ use Rattle.timetable.specs.Links.{arriving_in, departing_in}
 use Rattle.timetable.specs.LinkRows.{NamesBelow}
 use Rattle.timetable.specs.Lists.{count_of, has}
 use Rattle.transitions.specs.declared.edge.Edge.{Edge}
-use Rattle.transitions.specs.Edges.{MayRun, IsKindEdge, IsEdge, AreEdges, AreGraphs}
-use Rattle.transitions.specs.Between.{IsUpTo, AreEdgesUpTo}
+use Rattle.transitions.specs.Edges.{IsKindEdge, AreEdges, AreGraphs}
+use Rattle.transitions.specs.Between.{AreEdgesUpTo}
 
 -- the compositions of an edge are in the catalogue
 pub from_listed : (day : Day) (kind : LinkKind) (r : Bool) (x : Edge) → IsKindEdge day kind r x → x.from < length (compositions_of day)

@@ -1,5 +1,5 @@
 -- The number of a composition in the catalogue of a day.
-use Rattle.std.proofs.Common.{◌≡◌, ℕ, ◌<◌, ◌≤◌, List, [], length, Option, Some, None, true, inl, inr, get_or, slice_get, unwrap_or, refl, sym, ap, subst, ◌∙◌, arith, AllPairs, IsTrue}
+use Rattle.std.proofs.Common.{◌≡◌, ℕ, ◌<◌, ◌≤◌, List, [], length, Option, Some, true, inl, inr, get_or, slice_get, unwrap_or, sym, ap, subst, ◌∙◌, AllPairs, IsTrue}
 use Rattle.std.specs.Prelude.{◌↔◌}
 use Rattle.std.proofs.lemmas.Bool.{cases_order, and_parts, leb-true}
 use Rattle.std.proofs.lemmas.Option.{get_or_from_slice_get, slice_get_within, slice_get-get_or, unwrap_or-slice_get}

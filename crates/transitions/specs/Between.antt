@@ -1,10 +1,9 @@
 -- The first trips of a link, and edges between two compositions.
-use Rattle.std.specs.Prelude.{ℕ, ◌≡◌, ◌<◌, ◌⊎◌, ◌↔◌, List, AllPairs, Contains}
+use Rattle.std.specs.Prelude.{ℕ, ◌≡◌, ◌<◌, ◌⊎◌, ◌↔◌, List, Contains}
 use Rattle.timetable.specs.declared.records.LinkKind.{LinkKind}
 use Rattle.timetable.specs.declared.records.LinkKind.TheVariants.{Turn, Join, Split}
-use Rattle.timetable.specs.Day.{Day}
 use Rattle.transitions.specs.declared.edge.Edge.{Edge}
-use Rattle.transitions.specs.Edges.{IsKindEdge, AreInOrder}
+use Rattle.transitions.specs.Edges.{AreInOrder}
 
 -- the trips of the train in front, as it arrives for a link and as it departs by it
 abbrev pub front_arriving : LinkKind → ℕ

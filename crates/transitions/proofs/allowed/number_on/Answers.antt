@@ -1,5 +1,5 @@
 -- The number that is found is the only one of the composition.
-use Rattle.std.proofs.Common.{◌≡◌, ℕ, List, Some, slice_get, AllPairs, IsTrue, true, sym, subst, ◌∙◌, ap}
+use Rattle.std.proofs.Common.{◌≡◌, ℕ, List, Some, slice_get, AllPairs, IsTrue, sym, subst, ◌∙◌, ap}
 use Rattle.compositions.specs.Catalogue.{comes_before}
 use Rattle.timetable.specs.Compositions.{compositions_of}
 use Rattle.transitions.proofs.Numbers.{number_found}

@@ -1,7 +1,6 @@
 -- The types behind the first train's are those of the second.
-use Rattle.std.proofs.Common.{◌≡◌, refl, ℕ, List, Option, Some, None, sym, ap, subst, ◌∙◌, slice_get, unwrap_or}
+use Rattle.std.proofs.Common.{◌≡◌, refl, Option, Some, sym, ap, subst, ◌∙◌}
 use Rattle.std.specs.Prelude.{◌↔◌}
-use Rattle.timetable.specs.Compositions.{compositions_of, composition_at}
 use Rattle.timetable.specs.Links.{turned}
 use Rattle.transitions.specs.declared.edge.Edge.{Edge}
 use Rattle.transitions.specs.Edges.{IsSplitEdge}

@@ -1,5 +1,5 @@
 -- After the last composition the edges are all of them.
-use Rattle.std.proofs.Common.{◌≡◌, ℕ, length, arith, ap, subst, ◌∙◌}
+use Rattle.std.proofs.Common.{◌≡◌, ℕ, length, arith, ap, subst}
 use Rattle.timetable.specs.Compositions.{compositions_of}
 use Rattle.transitions.specs.Edges.{IsKindEdge}
 use Rattle.transitions.specs.Between.{AreEdgesUpTo}

@@ -1,6 +1,6 @@
 -- An edge that is found is the only one between the two compositions.
-use Rattle.std.proofs.Common.{ℕ, arith, rules}
-use Rattle.transitions.proofs.Listing.{edge_found, edge_missing}
+use Rattle.std.proofs.Common.{arith, rules}
+use Rattle.transitions.proofs.Listing.{edge_found}
 use Rattle.transitions.proofs.graphs.find_edge.Goals as goal
 
 pub returns-then-eq-2 : goal.returns-then-eq-2

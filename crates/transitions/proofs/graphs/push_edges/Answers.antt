@@ -1,5 +1,5 @@
 -- Each pair adds its edge, if it has one.
-use Rattle.std.proofs.Common.{arith, List, ◌+◌, ◌++◌, [], ◌∷◌, ◌≡◌, Some, None, subst, sym, length, ℕ, ◌<◌, ap}
+use Rattle.std.proofs.Common.{arith, List, ◌+◌, ◌++◌, [], ◌∷◌, ◌≡◌, subst, sym, length, ap}
 use Rattle.transitions.specs.declared.edge.Edge.{Edge}
 use Rattle.transitions.specs.Edges.{IsKindEdge}
 use Rattle.transitions.specs.Between.{AreEdgesUpTo}
