@@ -6,3 +6,4 @@ pub mod Listing
 pub mod Finding
 pub mod Links
 pub mod Following
+pub mod Searching

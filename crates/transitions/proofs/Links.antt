@@ -1,20 +1,15 @@
 -- What is known of the link of a number, and of its edges.
-use Rattle.std.proofs.Common.{◌≡◌, ℕ, zero, suc, ◌+◌, ◌<◌, List, [], ◌∷◌, ◌++◌, length, Bool, cond, eqb, Some, inl, inr, refl, sym, ap, subst, ◌∙◌, arith, IsTrue, slice_get}
+use Rattle.std.proofs.Common.{◌≡◌, ℕ, zero, suc, ◌+◌, ◌<◌, List, [], ◌∷◌, ◌++◌, length, Bool, Some, inl, inr, refl, sym, ap, subst, ◌∙◌, slice_get}
 use Rattle.std.specs.Prelude.{◌⊎◌}
-use Rattle.std.proofs.lemmas.Bool.{le-leb, eq-eqb, cond-true}
 use Rattle.std.proofs.lemmas.List.{length_push}
 use Rattle.timetable.specs.declared.records.Link.{Link}
 use Rattle.timetable.specs.declared.records.LinkKind.{LinkKind}
 use Rattle.timetable.specs.declared.records.LinkKind.TheVariants.{Turn, Join, Split}
-use Rattle.timetable.specs.Accepted.{AreLinks}
 use Rattle.timetable.specs.Compositions.{compositions_of}
 use Rattle.timetable.specs.Day.{Day}
-use Rattle.timetable.specs.Links.{arriving_in, departing_in}
-use Rattle.timetable.specs.LinkRows.{NamesBelow}
-use Rattle.timetable.specs.Lists.{count_of, has}
 use Rattle.transitions.specs.declared.edge.Edge.{Edge}
-use Rattle.transitions.specs.Edges.{IsKindEdge, AreEdges, AreGraphs}
-use Rattle.transitions.specs.Between.{AreEdgesUpTo}
+use Rattle.transitions.specs.Edges.{MayRun, IsKindEdge, AreEdges, AreGraphs}
+use Rattle.transitions.specs.Between.{AreEdgesUpTo, front_arriving}
 
 -- the compositions of an edge are in the catalogue
 pub from_listed : (day : Day) (kind : LinkKind) (r : Bool) (x : Edge) → IsKindEdge day kind r x → x.from < length (compositions_of day)
@@ -26,6 +21,12 @@ pub to_listed : (day : Day) (kind : LinkKind) (r : Bool) (x : Edge) → IsKindEd
 to_listed day (Turn a b uncouple couple) r x e = e.departing.listed
 to_listed day (Join a1 a2 b) r x e = e.departing.listed
 to_listed day (Split a b1 b2) r x e = e.first.listed
+
+-- the first composition of an edge may run on the first arriving trip
+pub from_runs : (day : Day) (kind : LinkKind) (r : Bool) (x : Edge) → IsKindEdge day kind r x → MayRun day (front_arriving kind) x.from
+from_runs day (Turn a b uncouple couple) r x e = e.arriving
+from_runs day (Join a1 a2 b) r x e = e.first
+from_runs day (Split a b1 b2) r x e = e.arriving
 
 -- the edges that the kind allows are those of the link
 pub all_edges : (day : Day) (l : ℕ) (link : Link) (edges : List Edge) → slice_get day.links l ≡ Some link → AreEdgesUpTo (IsKindEdge day link.kind link.reverse) (length (compositions_of day)) 0 edges → AreEdges day l edges
@@ -67,27 +68,3 @@ all_lists day n lists so end = record { count = so.long ∙ end; each = so.each 
 
 pub no_lists : (day : Day) → AreLists day 0 []
 no_lists day = record { long = refl; each = λ l edges at. absurd cc }
-
--- a list of one or two has each of them
-once : (a : ℕ) → ◌≡◌ {A = ℕ} (cond (eqb a a) 1 0) 1
-once a = cond-true (eqb a a) 1 0 (eq-eqb a a refl)
-
-has_one : (a : ℕ) → IsTrue (has a (a ∷ []))
-has_one a = let o = once a in le-leb 1 (count_of a (a ∷ [])) (omega arith)
-
-has_front : (a b : ℕ) → IsTrue (has a (a ∷ b ∷ []))
-has_front a b = let o = once a in le-leb 1 (count_of a (a ∷ b ∷ [])) (omega arith)
-
-has_rear : (a b : ℕ) → IsTrue (has b (a ∷ b ∷ []))
-has_rear a b = let o = once b in le-leb 1 (count_of b (a ∷ b ∷ [])) (omega arith)
-
--- a link names trips of the day
-pub names_below : (day : Day) → AreLinks day → (l : ℕ) (link : Link) → slice_get day.links l ≡ Some link → NamesBelow (length day.trips) link.kind
-names_below day links l link at =
-    of_kind link.kind (λ t h. links.arriving l t link at h) (λ t h. links.departing l t link at h)
-  where
-    of_kind : (kind : LinkKind) → ((t : ℕ) → IsTrue (has t (arriving_in kind)) → t < length day.trips) → ((t : ℕ) → IsTrue (has t (departing_in kind)) → t < length day.trips)
-        → NamesBelow (length day.trips) kind
-    of_kind (Turn a b uncouple couple) arrive depart = (arrive a (has_one a), depart b (has_one b))
-    of_kind (Join a1 a2 b) arrive depart = (arrive a1 (has_front a1 a2), arrive a2 (has_rear a1 a2), depart b (has_one b))
-    of_kind (Split a b1 b2) arrive depart = (arrive a (has_one a), depart b1 (has_front b1 b2), depart b2 (has_rear b1 b2))

@@ -1,5 +1,5 @@
 -- The edges of a link, listed pair by pair.
-use Rattle.std.proofs.Common.{◌≡◌, ℕ, ◌+◌, ◌<◌, List, [], ◌∷◌, ◌++◌, length, Some, inl, inr, get_or, refl, sym, ap, subst, ◌∙◌, arith, Contains}
+use Rattle.std.proofs.Common.{◌≡◌, ℕ, ◌+◌, ◌<◌, ◌≤◌, List, [], ◌∷◌, ◌++◌, length, Some, inl, inr, get_or, refl, sym, ap, subst, ◌∙◌, arith, Contains}
 use Rattle.std.specs.Prelude.{◌↔◌, ◌⊎◌}
 use Rattle.std.proofs.lemmas.Bool.{cases_lt, cases_order}
 use Rattle.std.proofs.lemmas.List.{get_or_read}
@@ -88,6 +88,23 @@ module _ (Allows : Edge → Type 0) where
     );
   }
 
+  -- no edge goes from this composition
+  pub no_row : (from : ℕ) (edges : List Edge) → AreEdgesUpTo Allows from 0 edges → ((x : Edge) → Allows x → x.from ≡ from → ⊥) → AreEdgesUpTo Allows (from + 1) 0 edges
+  no_row from edges so_far none = record {
+    in_order = so_far.in_order;
+    exact = λ x. (
+      λ there. let h = (so_far.exact x).0 there in (h.0, row_end 0 from x h.1),
+      λ h. elim (cases_lt x.from from) [
+        | inl l ↦ (so_far.exact x).1 (h.0, inl l)
+        | inr l ↦ absurd (none x h.0 (at_end from x l h.1))
+      ],
+    );
+  }
+    where
+      at_end : (from : ℕ) (x : Edge) → from ≤ x.from → IsUpTo (from + 1) 0 x → x.from ≡ from
+      at_end from x past (inl lower) = omega arith
+      at_end from x past (inr same) = absurd (omega (arith, same.1))
+
 -- two edges between the same compositions are not one before the other
 not_before : (from to : ℕ) (x y : Edge) → IsBetween from to x → IsBetween from to y → IsBefore x y → ⊥
 not_before from to x y between between' (inl lower) = absurd (omega (arith, between.origin, between'.origin))
@@ -115,8 +132,3 @@ edge_found edges in_order from to k e below is between x =
       λ some. let same : e ≡ x = cc in subst (λ (y : Edge). Contains edges y × IsBetween from to y) same (there, between),
       λ h. ap (λ (y : Edge). Some y) (only_one edges in_order from to e x there h.0 between h.1),
     )
-
--- no edge is found
-pub edge_missing : (edges : List Edge) (from to : ℕ) → ((k : ℕ) (d : Edge) → k < length edges → IsBetween from to (get_or edges k d) → ⊥)
-    → (x : Edge) → Contains edges x → IsBetween from to x → ⊥
-edge_missing edges from to none x there between = none there.0 x there.1 (subst (λ (y : Edge). IsBetween from to y) (sym there.2) between)

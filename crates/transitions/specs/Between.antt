@@ -1,5 +1,7 @@
 -- The first trips of a link, and edges between two compositions.
 use Rattle.std.specs.Prelude.{ℕ, ◌≡◌, ◌<◌, ◌⊎◌, ◌↔◌, List, Contains}
+use Rattle.std.specs.Ordering.{nat_cmp, ordering_then}
+use Rattle.std.specs.declared.cmp.Ordering.{Ordering}
 use Rattle.timetable.specs.declared.records.LinkKind.{LinkKind}
 use Rattle.timetable.specs.declared.records.LinkKind.TheVariants.{Turn, Join, Split}
 use Rattle.transitions.specs.declared.edge.Edge.{Edge}
@@ -29,3 +31,7 @@ IsUpTo from to edge = (edge.from < from) ⊎ ((edge.from ≡ from) × (edge.to <
 pub record AreEdgesUpTo (Allows : Edge → Type 0) (from to : ℕ) (edges : List Edge) : Type 0 where
   pub in_order : AreInOrder edges
   pub exact : (edge : Edge) → Contains edges edge ↔ (Allows edge × IsUpTo from to edge)
+
+-- how the edge stands to two compositions in the order of edges: before them, between them or after them
+abbrev pub order_to : ℕ → ℕ → Edge → Ordering
+order_to from to edge = ordering_then (nat_cmp edge.from from) (nat_cmp edge.to to)

@@ -16,8 +16,8 @@ use rail_csv::End;
 use timetable::Instance;
 use timetable::records::{Link, LinkKind};
 
-/// The edge of a link from one composition to another, each below the catalogue's `len`, or nothing where the link does not
-/// allow it. The trips of the link are trips of the day.
+/// The edge of a link from one composition, which may run on the first arriving trip, to another, which is below the
+/// catalogue's `len`, or nothing where the link does not allow it. The trips of the link are trips of the day.
 pub(crate) fn edge_between(
     instance: &Instance,
     link: &Link,
@@ -25,11 +25,11 @@ pub(crate) fn edge_between(
     to: CompNo,
 ) -> Option<Edge>
     requires trips { NamesBelow (length instance.now.trips) link.now.kind }
-    requires from { from < length (compositions_of instance.now) }
+    requires from { MayRun instance.now (front_arriving link.now.kind) from }
     requires to { to < length (compositions_of instance.now) }
     ensures { (edge : Edge) → (result ≡ Some edge) ↔ (IsKindEdge instance.now link.now.kind link.now.reverse edge × IsBetween from to edge) }
 {
-    if !do_run(instance, link, from, to) {
+    if !may_depart(instance, link, to) {
         return None;
     }
     match link.kind {
@@ -65,16 +65,24 @@ fn front_departing(kind: LinkKind) -> TripNo
     }
 }
 
-/// Whether the compositions may run on the first arriving and the first departing trip of a link.
-fn do_run(instance: &Instance, link: &Link, from: CompNo, to: CompNo) -> bool
+/// Whether a composition, which is below the catalogue's `len`, may run on the first trip that arrives for a link.
+pub(crate) fn may_arrive(instance: &Instance, link: &Link, comp: CompNo) -> bool
     requires trips { NamesBelow (length instance.now.trips) link.now.kind }
-    requires from { from < length (compositions_of instance.now) }
-    requires to { to < length (compositions_of instance.now) }
-    ensures { IsTrue result ↔ (MayRun instance.now (front_arriving link.now.kind) from × MayRun instance.now (front_departing link.now.kind) to) }
+    requires comp { comp < length (compositions_of instance.now) }
+    ensures { IsTrue result ↔ MayRun instance.now (front_arriving link.now.kind) comp }
 {
-    let arriving = front_arriving(link.kind);
-    let departing = front_departing(link.kind);
-    instance.admits(arriving, from) && instance.admits(departing, to)
+    let trip = front_arriving(link.kind);
+    instance.admits(trip, comp)
+}
+
+/// Whether a composition, which is below the catalogue's `len`, may run on the first trip that departs by a link.
+fn may_depart(instance: &Instance, link: &Link, comp: CompNo) -> bool
+    requires trips { NamesBelow (length instance.now.trips) link.now.kind }
+    requires comp { comp < length (compositions_of instance.now) }
+    ensures { IsTrue result ↔ MayRun instance.now (front_departing link.now.kind) comp }
+{
+    let trip = front_departing(link.kind);
+    instance.admits(trip, comp)
 }
 
 /// The edge of a turn from one composition to another, which may run on its trips.

@@ -13,7 +13,7 @@ pub enum Shunt {
     Couple { units: u8 },
 }
 
-/// A step that a link allows from one composition of the day's catalogue to another.
+/// A step that a link allows from one composition of the day's catalogue to another. It takes 20 bytes.
 #[derive(Clone, Copy, Debug, PartialEq, Eq)]
 pub struct Edge {
     /// The composition of the arriving trip: at a join of the first arriving trip, the train in front.
@@ -26,3 +26,6 @@ pub struct Edge {
     /// driving direction; nothing at a turn.
     pub part: Option<CompNo>,
 }
+
+// The memory of a day's edges is reckoned from the size of one.
+const _: () = prove!(size_of::<Edge>() == 20);

@@ -6,12 +6,13 @@ ghost use Rattle.timetable.specs.LinkRows.{NamesBelow};
 ghost use Rattle.transitions.specs.declared.edge.Edge.{Edge};
 ghost use Rattle.transitions.specs.declared.edge.Shunt.{Shunt};
 ghost use Rattle.transitions.specs.Edges.{IsKindEdge, AreInOrder, AreEdges, AreGraphs, IsFound, IsAllowed};
-ghost use Rattle.transitions.specs.Between.{IsBetween, AreEdgesUpTo};
+ghost use Rattle.transitions.specs.Between.{IsBetween, AreEdgesUpTo, order_to};
 
-use crate::allowed::edge_between;
+use crate::allowed::{edge_between, may_arrive};
 use crate::edge::{Edge, Shunt};
 use rail_base::{CompNo, LinkNo, NoMemory};
 use std::alloc::Global;
+use std::cmp::Ordering;
 use std::marker::Model;
 use timetable::Instance;
 use timetable::records::Link;
@@ -50,8 +51,9 @@ impl Model for Graphs {
 }
 
 impl Graphs {
-    /// The edges of all links of a day. It looks at each pair of compositions of the catalogue once for each link; the memory
-    /// is that of the edges. The error is want of memory.
+    /// The edges of all links of a day. For each link it looks once at each pair of a composition that may run on the first
+    /// arriving trip and one of the catalogue. The error is want of memory: it takes memory for the edges, 20 bytes for each,
+    /// and up to as much again while the list of a link grows.
     pub fn build(alloc: Global, instance: &Instance) -> Result<Graphs, NoMemory>
         ensures { IfOk result (λ graphs. AreGraphs instance.now graphs) }
     {
@@ -112,17 +114,22 @@ impl EdgeList {
     }
 }
 
-/// The edge between two compositions among edges in order.
+/// The edge between two compositions among edges in order, by a binary search.
 fn find_edge(edges: &[Edge], from: CompNo, to: CompNo) -> Option<Edge>
     requires { AreInOrder edges.now }
     ensures { (edge : Edge) → (result ≡ Some edge) ↔ (Contains edges.now edge × IsBetween from to edge) }
 {
-    for edge in edges {
-        if edge.from == from && edge.to == to {
-            return Some(*edge);
-        }
+    match edges.binary_search_by(|edge| order_to(edge, from, to)) {
+        Ok(place) => Some(edges[place]),
+        Err(_) => None,
     }
-    None
+}
+
+/// How an edge stands to two compositions in the order of edges: before them, between them or after them.
+fn order_to(edge: &Edge, from: CompNo, to: CompNo) -> Ordering
+    ensures { result ≡ order_to from to edge.now }
+{
+    edge.from.cmp(&from).then(edge.to.cmp(&to))
 }
 
 /// The edges that a link allows. The link is below the number of links.
@@ -160,6 +167,9 @@ fn push_edges(
     requires before { AreEdgesUpTo (IsKindEdge instance.now link.now.kind link.now.reverse) from 0 edges.old.items }
     ensures { OnOk result (AreEdgesUpTo (IsKindEdge instance.now link.now.kind link.now.reverse) (from + 1) 0 edges.new.items) }
 {
+    if !may_arrive(instance, link, from) {
+        return Ok(());
+    }
     for to in 0..instance.catalogue().len() {
         if let Some(edge) = edge_between(instance, link, from, CompNo(to)) {
             edges.push(edge)?;

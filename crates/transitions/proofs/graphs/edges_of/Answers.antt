@@ -1,5 +1,5 @@
 -- The trips of the link are trips of the day.
-use Rattle.transitions.proofs.Links.{names_below}
+use Rattle.timetable.proofs.LinkNames.{names_below}
 use Rattle.transitions.proofs.graphs.edges_of.Goals as goal
 
 pub edges_from_all-requires : goal.edges_from_all-requires

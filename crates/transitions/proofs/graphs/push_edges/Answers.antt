@@ -1,12 +1,25 @@
 -- Each pair adds its edge, if it has one.
-use Rattle.std.proofs.Common.{arith, List, ◌+◌, ◌++◌, [], ◌∷◌, ◌≡◌, subst, sym, length, ap}
+use Rattle.std.proofs.Common.{arith, List, ◌+◌, ◌++◌, [], ◌∷◌, ◌≡◌, subst, sym, length, ap, ℕ}
 use Rattle.transitions.specs.declared.edge.Edge.{Edge}
 use Rattle.transitions.specs.Edges.{IsKindEdge}
 use Rattle.transitions.specs.Between.{AreEdgesUpTo}
-use Rattle.transitions.proofs.Listing.{skips, adds, row_ends}
-use Rattle.transitions.proofs.Links.{to_listed}
+use Rattle.std.proofs.lemmas.Bool.{iff_false}
+use Rattle.transitions.specs.Edges.{MayRun}
+use Rattle.transitions.specs.Between.{front_arriving}
+use Rattle.transitions.proofs.Listing.{skips, adds, row_ends, no_row}
+use Rattle.transitions.proofs.Links.{from_runs, to_listed}
 use Rattle.transitions.proofs.graphs.push_edges.Goals as goal
 use Rattle.transitions.proofs.graphs.push_edges.Goals.{in-Some+in_ok-push, in_default}
+
+pub returns-then-not-may_arrive : goal.returns-then-not-may_arrive
+returns-then-not-may_arrive c =
+    no_row (IsKindEdge c.args.instance.now c.args.link.now.kind c.args.link.now.reverse) c.args.from c.args.edges.now.items c.requires.before
+    (λ x allowed same.
+    let runs = subst (λ (n : ℕ). MayRun c.args.instance.now (front_arriving c.args.link.now.kind) n) same (from_runs c.args.instance.now c.args.link.now.kind c.args.link.now.reverse x allowed) in
+    absurd (iff_false c.may_arrive.ensures c.if-not-may_arrive.true runs))
+
+pub edge_between-requires-clause-from : goal.edge_between-requires-clause-from
+edge_between-requires-clause-from c = c.may_arrive.ensures.0 c.if-not-may_arrive.false
 
 pub loop-to-preserved : goal.loop-to-preserved
 loop-to-preserved c = elim c.match-edge_between.branch [
