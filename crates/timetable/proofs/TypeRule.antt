@@ -1,6 +1,6 @@
 -- The rule of a link on units is its rule on their types too, and the parts are those of the types.
 use Rattle.std.proofs.Common.{◌≡◌, ℕ, ◌-◌, ◌<◌, ◌≤◌, List, [], ◌∷◌, ◌++◌, length, take, drop, map, reverse, Bool, true, false, cond, Option, Some, None, inl, inr, refl, sym, ap, subst, ◌∙◌, arith, slice_get, unwrap_or}
-use Rattle.std.specs.Prelude.{option_map, is_some, nat_le, nat_lt, ◌&&◌, ◌==◌}
+use Rattle.std.specs.Prelude.{option_map, option_and_then, is_some, nat_le, nat_lt, ◌&&◌, ◌==◌}
 use Rattle.std.proofs.lemmas.Bool.{and_parts, and_from, ltb-true, cond-true, cond-false, false≢true, false_from_ne_true, cases_Bool}
 use Rattle.std.proofs.lemmas.List.{length-map, take-map, drop-map, map-append, reverse-append}
 use Rattle.std.proofs.lemmas.Option.{slice_get-map}
@@ -10,7 +10,8 @@ use Rattle.rail_csv.specs.declared.rows.End.TheVariants as at
 use Rattle.timetable.specs.declared.records.Link.{Link}
 use Rattle.timetable.specs.declared.records.LinkKind.{LinkKind}
 use Rattle.timetable.specs.declared.records.LinkKind.TheVariants.{Turn, Join, Split}
-use Rattle.timetable.specs.Links.{Parts, list_of, same, is_left_of, beyond, turn_parts, turn_of, turned, join_holds, split_holds, kind_holds, link_holds, kept_by, given_by, taken_by}
+use Rattle.timetable.specs.Links.{Parts, list_of, same, is_left_of, beyond, turn_parts, turn_of, turned, join_holds, split_holds, kind_holds, link_holds, kept_by, given_by, taken_by, link_out, link_into, outgoing, incoming, kept, given, taken}
+use Rattle.timetable.specs.Day.{Day}
 use Rattle.timetable.specs.Lists.{has}
 
 -- what is left is shorter
@@ -204,3 +205,37 @@ module _ (f : ℕ → ℕ) where
   taken_by-map (Turn a b uncouple couple) r plan holds = ap (λ (parts : Parts). parts.taken) (turn-map r uncouple couple plan a b holds)
   taken_by-map (Join a1 a2 b) r plan holds = refl
   taken_by-map (Split a b1 b2) r plan holds = refl
+
+  -- what is kept, given and taken on a day, where each link's rule holds
+  module _ (day : Day) (plan : List (List ℕ)) (holds : (l : ℕ) (link : Link) → slice_get day.links l ≡ Some link → link_holds link plan ≡ true) where
+    kind_at : (o : Option ℕ) (link : Link) → option_and_then (slice_get day.links) o ≡ Some link → kind_holds link.kind link.reverse plan ≡ true
+    unfolding link_holds
+    kind_at None link e = absurd cc
+    kind_at (Some l) link e = holds l link e
+
+    pub kept-map : (a b : ℕ) → kept day (map (map f) plan) a b ≡ map f (kept day plan a b)
+    unfolding kept
+    kept-map a b = of_link (link_out day a) refl
+      where
+        of_link : (o : Option Link) → link_out day a ≡ o
+            → unwrap_or (option_map (λ link. kept_by link.kind link.reverse (map (map f) plan) a b) o) [] ≡ map f (unwrap_or (option_map (λ link. kept_by link.kind link.reverse plan a b) o) [])
+        of_link None e = refl
+        of_link (Some link) e = kept_by-map link.kind link.reverse plan (kind_at (outgoing day a) link e) a b
+
+    pub given-map : (t : ℕ) → given day (map (map f) plan) t ≡ map f (given day plan t)
+    unfolding given
+    given-map t = of_link (link_out day t) refl
+      where
+        of_link : (o : Option Link) → link_out day t ≡ o
+            → unwrap_or (option_map (λ link. given_by link.kind link.reverse (map (map f) plan)) o) (list_of (map (map f) plan) t) ≡ map f (unwrap_or (option_map (λ link. given_by link.kind link.reverse plan) o) (list_of plan t))
+        of_link None e = list_of-map plan t
+        of_link (Some link) e = given_by-map link.kind link.reverse plan (kind_at (outgoing day t) link e)
+
+    pub taken-map : (t : ℕ) → taken day (map (map f) plan) t ≡ map f (taken day plan t)
+    unfolding taken
+    taken-map t = of_link (link_into day t) refl
+      where
+        of_link : (o : Option Link) → link_into day t ≡ o
+            → unwrap_or (option_map (λ link. taken_by link.kind link.reverse (map (map f) plan)) o) (list_of (map (map f) plan) t) ≡ map f (unwrap_or (option_map (λ link. taken_by link.kind link.reverse plan) o) (list_of plan t))
+        of_link None e = list_of-map plan t
+        of_link (Some link) e = taken_by-map link.kind link.reverse plan (kind_at (incoming day t) link e)
