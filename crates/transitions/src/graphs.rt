@@ -52,8 +52,8 @@ impl Model for Graphs {
 
 impl Graphs {
     /// The edges of all links of a day. For each link it looks once at each pair of a composition that may run on the first
-    /// arriving trip and one of the catalogue. The error is want of memory: it takes memory for the edges, 20 bytes for each,
-    /// and up to as much again while the list of a link grows.
+    /// arriving trip and one of the catalogue. An edge takes 20 bytes, and a list that grows may have room for as many edges
+    /// again. The error is want of memory.
     pub fn build(alloc: Global, instance: &Instance) -> Result<Graphs, NoMemory>
         ensures { IfOk result (λ graphs. AreGraphs instance.now graphs) }
     {
@@ -75,8 +75,8 @@ impl Graphs {
         self.lists[link.place()].items()
     }
 
-    /// The edge of a link from one composition to another, or nothing where there is no such edge. The link is below the number
-    /// of links of the day.
+    /// The edge of a link from one composition to another, or nothing where there is no such edge, by a binary search. The link
+    /// is below the number of links of the day.
     pub fn find(&self, link: LinkNo, from: CompNo, to: CompNo) -> Option<Edge>
         requires { link < length self.now }
         ensures { (edge : Edge) → (result ≡ Some edge) ↔ IsFound self.now link from to edge }
