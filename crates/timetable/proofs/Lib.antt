@@ -1,4 +1,5 @@
 pub mod Accepting
+pub mod Names
 pub mod Entries
 pub mod Days
 pub mod LinkTables

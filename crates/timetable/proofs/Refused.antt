@@ -275,3 +275,28 @@ failure_is_so tables NoMemory e = tt
 pub answer_is_so : (tables : Tables) (answer : Result Day InstanceRefusal) → Gives answer (day_of tables) → IfErr answer (λ d. IsBroken tables d)
 answer_is_so tables (Ok day) e = tt
 answer_is_so tables (Err d) e = failure_is_so tables d e
+
+-- where a step fails, so does what goes on from it
+fails_on : {A B : Type 0} (d : InstanceRefusal) (step : Result A InstanceRefusal) (next : A → Result B InstanceRefusal) → Fails d step → Fails d (step >>= next)
+fails_on {A} (RepeatedName table row) step next e = ap (λ (r : Result A InstanceRefusal). r >>= next) e
+fails_on {A} (UnknownName table row column) step next e = ap (λ (r : Result A InstanceRefusal). r >>= next) e
+fails_on {A} (RepeatedStock row) step next e = ap (λ (r : Result A InstanceRefusal). r >>= next) e
+fails_on {A} (ArrivalNotAfterDeparture row) step next e = ap (λ (r : Result A InstanceRefusal). r >>= next) e
+fails_on {A} (SameStation row) step next e = ap (λ (r : Result A InstanceRefusal). r >>= next) e
+fails_on {A} (TripUsedTwice row) step next e = ap (λ (r : Result A InstanceRefusal). r >>= next) e
+fails_on {A} (WrongStation row) step next e = ap (λ (r : Result A InstanceRefusal). r >>= next) e
+fails_on {A} (TooEarly row) step next e = ap (λ (r : Result A InstanceRefusal). r >>= next) e
+fails_on {A} (WrongLinkFields row) step next e = ap (λ (r : Result A InstanceRefusal). r >>= next) e
+fails_on {A} (NoComposition row) step next e = ap (λ (r : Result A InstanceRefusal). r >>= next) e
+fails_on {A} TooManyUnits step next e = ap (λ (r : Result A InstanceRefusal). r >>= next) e
+fails_on {A} TooManyCompositions step next e = ap (λ (r : Result A InstanceRefusal). r >>= next) e
+fails_on NoMemory step next e = tt
+
+-- once all other tables are accepted, the day fails as its links do
+pub links_fail : (tables : Tables) (types : List UnitType) (stations : List Station) (stock : List Stock) (catalogue : List (List ℕ)) (trips : List Trip) (d : InstanceRefusal)
+    → types_in tables.types ≡ Ok types → stations_in tables.stations ≡ Ok stations → stock_in stations types tables.stock ≡ Ok stock → nat_lt most_units (starts_of stock) ≡ false
+    → catalogue_in types stations ≡ Ok catalogue → trips_in stations types tables.trips ≡ Ok trips → Fails d (links_in trips tables.links) → Fails d (day_of tables)
+unfolding day_of
+links_fail tables types stations stock catalogue trips d e1 e2 e3 e4 e5 e6 fails =
+    rw (e1, e2, e3, e4, e5, e6) (fails_on d (links_in trips tables.links)
+    (λ links. Ok (record { types = types; stations = stations; stock = stock; trips = trips; links = links; weights = weights_in tables.weights })) fails)

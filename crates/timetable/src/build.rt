@@ -1,12 +1,13 @@
 //! The tests on the rows of the tables, one table after another.
 
-ghost use Rattle.std.specs.Prelude.{◌≡◌, ◌+◌, ◌<◌, ◌≤◌, ◌++◌, ◌∷◌, [], length, nat_lt, min, IfSome, IfOk};
+ghost use Rattle.std.specs.Prelude.{◌≡◌, ◌+◌, ◌<◌, ◌≤◌, ◌++◌, ◌∷◌, [], length, nat_lt, min, false, IfSome, IfOk};
 ghost use Rattle.std.specs.Str.{bytes_eq};
 ghost use Rattle.timetable.specs.Build.{accept_type, accept_station, has_stock, accept_stock, starts_of, most_units, platform_at, has_fitting, accept_run, accept_trip, types_in, stations_in, stock_in, trips_in, catalogue_in, Gives, GivesRows};
 ghost use Rattle.compositions.specs.Catalogue.{catalogue_of};
 ghost use Rattle.timetable.specs.Compositions.{greatest_in};
 ghost use Rattle.timetable.specs.Naming.{has_name, find_name};
 
+use crate::named::Named;
 use crate::records::{Station, Stock, Trip};
 use crate::refusal::InstanceRefusal;
 use crate::tables::Rows;
@@ -31,25 +32,17 @@ pub fn row_after(before: usize) -> u32
     before as u32 + 1
 }
 
-/// Whether a type has the name.
-fn is_type_name(types: &[UnitType], name: &Name) -> bool
-    ensures { result ≡ has_name (λ t. t.name) types.now name.now }
-{
-    types
-        .iter()
-        .any(|unit_type| are_same(&unit_type.name, name))
-}
-
 /// The unit type of a row, after those of the rows before it.
 #[tactic(auto, unfolding(crate::specs::Build::accept_type))]
-fn accept_type(before: &[UnitType], row: TypeRow) -> Result<UnitType, InstanceRefusal>
-    requires { length before.now ≤ 400 }
-    ensures { result ≡ accept_type before.now row }
+fn accept_type(types: &Named<UnitType>, row: TypeRow) -> Result<UnitType, InstanceRefusal>
+    requires { length types.now ≤ 400 }
+    ensures value { result ≡ accept_type types.now row }
+    ensures new { IfOk result (λ t. has_name (λ t. t.name) types.now t.name ≡ false) }
 {
-    if is_type_name(before, &row.name) {
+    if types.has(&row.name) {
         return Err(InstanceRefusal::RepeatedName {
             table: Table::Types,
-            row: row_after(before.len()),
+            row: row_after(types.len()),
         });
     }
     Ok(UnitType {
@@ -63,35 +56,29 @@ fn accept_type(before: &[UnitType], row: TypeRow) -> Result<UnitType, InstanceRe
 
 /// The unit types of the rows.
 #[tactic(auto, unfolding(crate::specs::Build::types_in))]
-pub fn types_of(alloc: Global, rows: Rows<TypeRow>) -> Result<Vec<UnitType>, InstanceRefusal>
+pub fn types_of(alloc: Global, rows: Rows<TypeRow>) -> Result<Named<UnitType>, InstanceRefusal>
     requires { length rows ≤ 400 }
-    ensures { GivesRows result (types_in rows) }
+    ensures { Gives result (types_in rows) }
 {
-    let mut types = Vec::new(alloc);
+    let mut types = Named::new(alloc);
     for row in rows.into_items() {
         let accepted = accept_type(&types, row)?;
-        types.push(accepted)?;
+        types.push(alloc, accepted)?;
     }
     Ok(types)
 }
 
-/// Whether a station has the name.
-fn is_station_name(stations: &[Station], name: &Name) -> bool
-    ensures { result ≡ has_name (λ s. s.name) stations.now name.now }
-{
-    stations.iter().any(|station| are_same(&station.name, name))
-}
-
 /// The station of a row, after those of the rows before it.
 #[tactic(auto, unfolding(crate::specs::Build::accept_station))]
-fn accept_station(before: &[Station], row: StationRow) -> Result<Station, InstanceRefusal>
-    requires { length before.now ≤ 400 }
-    ensures { result ≡ accept_station before.now row }
+fn accept_station(stations: &Named<Station>, row: StationRow) -> Result<Station, InstanceRefusal>
+    requires { length stations.now ≤ 400 }
+    ensures value { result ≡ accept_station stations.now row }
+    ensures new { IfOk result (λ s. has_name (λ s. s.name) stations.now s.name ≡ false) }
 {
-    if is_station_name(before, &row.name) {
+    if stations.has(&row.name) {
         return Err(InstanceRefusal::RepeatedName {
             table: Table::Stations,
-            row: row_after(before.len()),
+            row: row_after(stations.len()),
         });
     }
     Ok(Station {
@@ -103,56 +90,36 @@ fn accept_station(before: &[Station], row: StationRow) -> Result<Station, Instan
 
 /// The stations of the rows.
 #[tactic(auto, unfolding(crate::specs::Build::stations_in))]
-pub fn stations_of(alloc: Global, rows: Rows<StationRow>) -> Result<Vec<Station>, InstanceRefusal>
+pub fn stations_of(alloc: Global, rows: Rows<StationRow>) -> Result<Named<Station>, InstanceRefusal>
     requires { length rows ≤ 400 }
-    ensures { GivesRows result (stations_in rows) }
+    ensures { Gives result (stations_in rows) }
 {
-    let mut stations = Vec::new(alloc);
+    let mut stations = Named::new(alloc);
     for row in rows.into_items() {
         let accepted = accept_station(&stations, row)?;
-        stations.push(accepted)?;
+        stations.push(alloc, accepted)?;
     }
     Ok(stations)
 }
 
-/// The place of the first station with the name.
-fn place_of_station(stations: &[Station], name: &Name) -> Option<usize>
-    ensures value { result ≡ find_name (λ s. s.name) stations.now name.now }
-    ensures within { IfSome result (λ place. place < length stations.now) }
-{
-    stations
-        .iter()
-        .position(|station| are_same(&station.name, name))
-}
-
-/// The number of the first station with the name.
-fn find_station(stations: &[Station], name: &Name) -> Option<StationNo>
+/// The number of the station with the name.
+fn find_station(stations: &Named<Station>, name: &Name) -> Option<StationNo>
     requires { length stations.now ≤ 400 }
     ensures value { result ≡ find_name (λ s. s.name) stations.now name.now }
     ensures within { IfSome result (λ s. s < length stations.now) }
 {
-    let Some(place) = place_of_station(stations, name) else {
+    let Some(place) = stations.find(name) else {
         return None;
     };
     Some(StationNo(place as u32))
 }
 
-/// The place of the first type with the name.
-fn place_of_type(types: &[UnitType], name: &Name) -> Option<usize>
-    ensures value { result ≡ find_name (λ t. t.name) types.now name.now }
-    ensures within { IfSome result (λ place. place < length types.now) }
-{
-    types
-        .iter()
-        .position(|unit_type| are_same(&unit_type.name, name))
-}
-
-/// The number of the first type with the name.
-fn find_type(types: &[UnitType], name: &Name) -> Option<TypeNo>
+/// The number of the type with the name.
+fn find_type(types: &Named<UnitType>, name: &Name) -> Option<TypeNo>
     requires { length types.now ≤ 400 }
     ensures { result ≡ find_name (λ t. t.name) types.now name.now }
 {
-    let Some(place) = place_of_type(types, name) else {
+    let Some(place) = types.find(name) else {
         return None;
     };
     Some(TypeNo(place as u32))
@@ -170,8 +137,8 @@ fn has_stock(before: &[Stock], station: StationNo, unit_type: TypeNo) -> bool
 /// The stock of a row, after that of the rows before it.
 #[tactic(auto, unfolding(crate::specs::Build::accept_stock))]
 fn accept_stock(
-    stations: &[Station],
-    types: &[UnitType],
+    stations: &Named<Station>,
+    types: &Named<UnitType>,
     before: &[Stock],
     row: &StockRow,
 ) -> Result<Stock, InstanceRefusal>
@@ -210,8 +177,8 @@ fn accept_stock(
 #[tactic(auto, unfolding(crate::specs::Build::stock_in))]
 pub fn stock_of(
     alloc: Global,
-    stations: &[Station],
-    types: &[UnitType],
+    stations: &Named<Station>,
+    types: &Named<UnitType>,
     rows: Rows<StockRow>,
 ) -> Result<Vec<Stock>, InstanceRefusal>
     requires stations { length stations.now ≤ 400 }
@@ -269,13 +236,6 @@ pub fn catalogue_of(
     }
 }
 
-/// Whether a trip has the name.
-fn is_trip_name(trips: &[Trip], name: &Name) -> bool
-    ensures { result ≡ has_name (λ t. t.name) trips.now name.now }
-{
-    trips.iter().any(|trip| are_same(&trip.name, name))
-}
-
 /// Whether one unit of some type is no longer than so many metres.
 fn has_fitting(types: &[UnitType], longest: u32) -> bool
     ensures { result ≡ has_fitting types.now longest }
@@ -304,7 +264,8 @@ fn accept_run(
 ) -> Result<Trip, InstanceRefusal>
     requires from { trip.from < length stations.now }
     requires to { trip.to < length stations.now }
-    ensures { result ≡ accept_run stations.now types.now row trip }
+    ensures value { result ≡ accept_run stations.now types.now row trip }
+    ensures same { IfOk result (λ t. t ≡ trip) }
 {
     if trip.from == trip.to {
         return Err(InstanceRefusal::SameStation(row));
@@ -321,17 +282,18 @@ fn accept_run(
 /// The trip of a row, after those of the rows before it.
 #[tactic(auto, unfolding(crate::specs::Build::accept_trip))]
 fn accept_trip(
-    stations: &[Station],
+    stations: &Named<Station>,
     types: &[UnitType],
-    before: &[Trip],
+    before: &Named<Trip>,
     row: TripRow,
 ) -> Result<Trip, InstanceRefusal>
     requires stations { length stations.now ≤ 400 }
     requires before { length before.now ≤ 400 }
-    ensures { result ≡ accept_trip stations.now types.now before.now row }
+    ensures value { result ≡ accept_trip stations.now types.now before.now row }
+    ensures new { IfOk result (λ t. has_name (λ t. t.name) before.now t.name ≡ false) }
 {
     let number = row_after(before.len());
-    if is_trip_name(before, &row.name) {
+    if before.has(&row.name) {
         return Err(InstanceRefusal::RepeatedName {
             table: Table::Trips,
             row: number,
@@ -360,25 +322,25 @@ fn accept_trip(
         km: row.km,
         demand: row.demand,
     };
-    accept_run(stations, types, number, trip)
+    accept_run(stations.entries(), types, number, trip)
 }
 
 /// The trips of the rows.
 #[tactic(auto, unfolding(crate::specs::Build::trips_in))]
 pub fn trips_of(
     alloc: Global,
-    stations: &[Station],
+    stations: &Named<Station>,
     types: &[UnitType],
     rows: Rows<TripRow>,
-) -> Result<Vec<Trip>, InstanceRefusal>
+) -> Result<Named<Trip>, InstanceRefusal>
     requires stations { length stations.now ≤ 400 }
     requires rows { length rows ≤ 400 }
-    ensures { GivesRows result (trips_in stations.now types.now rows) }
+    ensures { Gives result (trips_in stations.now types.now rows) }
 {
-    let mut trips = Vec::new(alloc);
+    let mut trips = Named::new(alloc);
     for row in rows.into_items() {
         let accepted = accept_trip(stations, types, &trips, row)?;
-        trips.push(accepted)?;
+        trips.push(alloc, accepted)?;
     }
     Ok(trips)
 }

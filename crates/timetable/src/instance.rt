@@ -86,10 +86,12 @@ impl Instance {
         if are_too_many(&stock) {
             return Err(InstanceRefusal::TooManyUnits);
         }
-        let types = UnitTypes::new(types);
-        let catalogue = catalogue_of(alloc, &types, &stations)?;
+        let types = UnitTypes::new(types.into_entries());
+        let catalogue = catalogue_of(alloc, &types, stations.entries())?;
         let trips = trips_of(alloc, &stations, types.items(), tables.trips)?;
         let links = links_of(alloc, &trips, tables.links.items())?;
+        let stations = stations.into_entries();
+        let trips = trips.into_entries();
         let units = units_of(alloc, &stock)?;
         let trip_count = trips.len() as u32;
         let incoming = links_by_trip(alloc, &links, Side::Departing, trip_count)?;

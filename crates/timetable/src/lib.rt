@@ -5,6 +5,7 @@ mod build;
 pub mod instance;
 mod link_rows;
 mod link_tables;
+mod named;
 pub mod picks;
 pub mod plan;
 pub mod records;

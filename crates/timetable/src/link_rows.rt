@@ -3,10 +3,10 @@
 ghost use Rattle.std.specs.Prelude.{◌≡◌, ◌<◌, ◌≤◌, ◌||◌, length, IfOk, IfSome};
 ghost use Rattle.timetable.specs.Build.{GivesRows};
 ghost use Rattle.timetable.specs.LinkRows.{trip_named, is_an_end, turn_in, join_in, split_in, kind_of, NamesBelow, is_arriving, is_departing, names_again, do_meet, is_in_time, each_pair, accept_trips, accept_link, links_in};
-ghost use Rattle.timetable.specs.Naming.{find_name};
 
-use crate::build::{are_same, row_after};
+use crate::build::row_after;
 use crate::link_tables::{Side, is_named_by};
+use crate::named::Named;
 use crate::records::{Link, LinkKind, Trip};
 use crate::refusal::InstanceRefusal;
 use crate::tables::Rows;
@@ -14,21 +14,18 @@ use rail_base::{Name, TripNo};
 use rail_csv::{End, KindWord, LinkRow, Table};
 use std::alloc::Global;
 
-/// The place of the first trip with the name.
-fn place_of_trip(trips: &[Trip], name: &Name) -> Option<usize>
-    ensures value { result ≡ find_name (λ t. t.name) trips.now name.now }
-    ensures within { IfSome result (λ place. place < length trips.now) }
-{
-    trips.iter().position(|trip| are_same(&trip.name, name))
-}
-
 /// The number of the trip that a column of a row names.
-fn find_trip(trips: &[Trip], row: u32, column: u32, name: &Name) -> Result<TripNo, InstanceRefusal>
+fn find_trip(
+    trips: &Named<Trip>,
+    row: u32,
+    column: u32,
+    name: &Name,
+) -> Result<TripNo, InstanceRefusal>
     requires { length trips.now ≤ 400 }
     ensures value { result ≡ trip_named trips.now row column name.now }
     ensures within { IfOk result (λ t. t < length trips.now) }
 {
-    let Some(place) = place_of_trip(trips, name) else {
+    let Some(place) = trips.find(name) else {
         return Err(InstanceRefusal::UnknownName {
             table: Table::Links,
             row,
@@ -50,7 +47,7 @@ fn is_an_end(end: End) -> bool
 
 /// The kind of a row that is a turn.
 #[tactic(auto, unfolding(crate::specs::LinkRows::turn_in))]
-fn turn_of(trips: &[Trip], number: u32, row: &LinkRow) -> Result<LinkKind, InstanceRefusal>
+fn turn_of(trips: &Named<Trip>, number: u32, row: &LinkRow) -> Result<LinkKind, InstanceRefusal>
     requires { length trips.now ≤ 400 }
     ensures value { result ≡ turn_in trips.now number row.now row.now.arriving2 row.now.departing2 }
     ensures within { IfOk result (λ kind. NamesBelow (length trips.now) kind) }
@@ -70,7 +67,7 @@ fn turn_of(trips: &[Trip], number: u32, row: &LinkRow) -> Result<LinkKind, Insta
 
 /// The kind of a row that is a join.
 #[tactic(auto, unfolding(crate::specs::LinkRows::join_in))]
-fn join_of(trips: &[Trip], number: u32, row: &LinkRow) -> Result<LinkKind, InstanceRefusal>
+fn join_of(trips: &Named<Trip>, number: u32, row: &LinkRow) -> Result<LinkKind, InstanceRefusal>
     requires { length trips.now ≤ 400 }
     ensures value { result ≡ join_in trips.now number row.now row.now.arriving2 row.now.departing2 }
     ensures within { IfOk result (λ kind. NamesBelow (length trips.now) kind) }
@@ -93,7 +90,7 @@ fn join_of(trips: &[Trip], number: u32, row: &LinkRow) -> Result<LinkKind, Insta
 
 /// The kind of a row that is a split.
 #[tactic(auto, unfolding(crate::specs::LinkRows::split_in))]
-fn split_of(trips: &[Trip], number: u32, row: &LinkRow) -> Result<LinkKind, InstanceRefusal>
+fn split_of(trips: &Named<Trip>, number: u32, row: &LinkRow) -> Result<LinkKind, InstanceRefusal>
     requires { length trips.now ≤ 400 }
     ensures value { result ≡ split_in trips.now number row.now row.now.arriving2 row.now.departing2 }
     ensures within { IfOk result (λ kind. NamesBelow (length trips.now) kind) }
@@ -115,7 +112,7 @@ fn split_of(trips: &[Trip], number: u32, row: &LinkRow) -> Result<LinkKind, Inst
 }
 
 /// The kind of a row, with the trips that its names stand for.
-fn kind_of(trips: &[Trip], number: u32, row: &LinkRow) -> Result<LinkKind, InstanceRefusal>
+fn kind_of(trips: &Named<Trip>, number: u32, row: &LinkRow) -> Result<LinkKind, InstanceRefusal>
     requires { length trips.now ≤ 400 }
     ensures value { result ≡ kind_of row.now.kind trips.now number row.now }
     ensures within { IfOk result (λ kind. NamesBelow (length trips.now) kind) }
@@ -269,7 +266,7 @@ fn accept_trips(
 
 /// The link of a row, after those of the rows before it.
 #[tactic(auto, unfolding(crate::specs::LinkRows::accept_link))]
-fn accept_link(trips: &[Trip], before: &[Link], row: &LinkRow) -> Result<Link, InstanceRefusal>
+fn accept_link(trips: &Named<Trip>, before: &[Link], row: &LinkRow) -> Result<Link, InstanceRefusal>
     requires trips { length trips.now ≤ 400 }
     requires before { length before.now ≤ 400 }
     ensures { result ≡ accept_link trips.now before.now row.now }
@@ -280,14 +277,14 @@ fn accept_link(trips: &[Trip], before: &[Link], row: &LinkRow) -> Result<Link, I
         kind,
         reverse: row.reverse,
     };
-    accept_trips(trips, before, number, link)
+    accept_trips(trips.entries(), before, number, link)
 }
 
 /// The links of the rows.
 #[tactic(auto, unfolding(crate::specs::LinkRows::links_in))]
 pub fn links_of(
     alloc: Global,
-    trips: &[Trip],
+    trips: &Named<Trip>,
     rows: &[LinkRow],
 ) -> Result<Vec<Link>, InstanceRefusal>
     requires trips { length trips.now ≤ 400 }

@@ -7,7 +7,7 @@ use Rattle.timetable.proofs.build.trips_of.Given as goal
 
 abbrev pub invariant-loop-row : goal.invariant-loop-row
 invariant-loop-row l =
-    (accept_each (accept_trip l.stations l.types) l.trips.items (into_iter_items l.row-iterator) ≡ accept_each (accept_trip l.stations l.types) [] l.fn.rows) ×
-    (length l.trips.items + length (into_iter_items l.row-iterator) ≤ 400) ×
+    (accept_each (accept_trip l.stations l.types) l.trips (into_iter_items l.row-iterator) ≡ accept_each (accept_trip l.stations l.types) [] l.fn.rows) ×
+    (length l.trips + length (into_iter_items l.row-iterator) ≤ 400) ×
     (goal.iterator-loop-row).can_next l.row-iterator ×
     (goal.iterator-loop-row).is_finite l.row-iterator

@@ -1,9 +1,17 @@
 -- The day is that of the tests, and keeps within the limits.
-use Rattle.std.proofs.Common.{◌≡◌, ◌∙◌, ◌≤◌, List, length, ap, sym, subst, arith, rules, Ok}
+use Rattle.std.proofs.Common.{◌≡◌, ◌∙◌, ◌≤◌, false, List, length, ap, sym, subst, arith, rules, Result, Ok, Err}
+use Rattle.std.specs.Prelude.{nat_lt}
+use Rattle.std.specs.List.{list_all}
 use Rattle.compositions.specs.Catalogue.{catalogue_of}
+use Rattle.compositions.specs.UnitTypes.{is_within_limits}
 use Rattle.rail_csv.specs.Rows.{AreLinkRows}
+use Rattle.compositions.specs.declared.types.UnitType.{UnitType}
+use Rattle.rail_csv.specs.declared.rows.LinkRow.{LinkRow}
 use Rattle.timetable.specs.declared.records.Station.{Station}
-use Rattle.timetable.specs.Build.{day_of}
+use Rattle.timetable.specs.declared.records.Stock.{Stock}
+use Rattle.timetable.specs.declared.tables.Tables.{Tables}
+use Rattle.timetable.specs.declared.refusal.InstanceRefusal.{InstanceRefusal}
+use Rattle.timetable.specs.Build.{starts_of, most_units, catalogue_in, trips_in, day_of, Fails, Gives}
 use Rattle.timetable.specs.Compositions.{greatest_in}
 use Rattle.timetable.specs.Day.{Day, units_of}
 use Rattle.timetable.specs.LinkRows.{links_in}
@@ -14,79 +22,81 @@ use Rattle.timetable.proofs.Entries.{are_types, types_within_limits, are_station
 use Rattle.timetable.proofs.Linking.{are_links, do_all_meet}
 use Rattle.timetable.proofs.LinkTables.{table_of}
 use Rattle.timetable.proofs.Said.{is_day_of}
-use Rattle.timetable.proofs.Refused.{answer_is_so, refusal_is_so}
+use Rattle.timetable.proofs.Refused.{answer_is_so, refusal_is_so, links_fail}
 use Rattle.timetable.specs.declared.refusal.InstanceRefusal.TheVariants.{TooManyUnits}
 use Rattle.timetable.proofs.instance.Instance.build.Goals as goal
 
 pub new-types-requires-clause-few : goal.new-types-requires-clause-few
-new-types-requires-clause-few c = (are_types c.args.tables.types c.in_ok-types.types.items c.requires.types c.in_ok-types.ensures).few
+new-types-requires-clause-few c =
+    let types : AreTypes c.in_ok-types.types = are_types c.args.tables.types c.in_ok-types.types c.requires.types c.in_ok-types.ensures in
+    omega (arith, types.few, ap length c.into_entries.ensures)
 
 pub new-types-requires-clause-limits : goal.new-types-requires-clause-limits
-new-types-requires-clause-limits c = types_within_limits c.args.tables.types c.in_ok-types.types.items c.requires.types c.in_ok-types.ensures
+new-types-requires-clause-limits c = ap (list_all is_within_limits) c.into_entries.ensures ∙ types_within_limits c.args.tables.types c.in_ok-types.types c.requires.types c.in_ok-types.ensures
 
 pub stock_of-requires-clause-types : goal.stock_of-requires-clause-types
 stock_of-requires-clause-types c =
-    let types : AreTypes c.in_ok-types.types.items = are_types c.args.tables.types c.in_ok-types.types.items c.requires.types c.in_ok-types.ensures in
-    omega (arith, types.few, ap length c.deref-2.ensures.value)
+    let types : AreTypes c.in_ok-types.types = are_types c.args.tables.types c.in_ok-types.types c.requires.types c.in_ok-types.ensures in
+    omega (arith, types.few)
 
 pub stock_of-requires-clause-stations : goal.stock_of-requires-clause-stations
 stock_of-requires-clause-stations c =
-    let stations : AreStations c.in_ok-stations.stations.items = are_stations c.args.tables.stations c.in_ok-stations.stations.items c.requires.stations c.in_ok-stations.ensures in
-    omega (arith, stations.few, ap length c.deref.ensures.value)
+    let stations : AreStations c.in_ok-stations.stations = are_stations c.args.tables.stations c.in_ok-stations.stations c.requires.stations c.in_ok-stations.ensures in
+    omega (arith, stations.few)
 
 pub trips_of-requires-clause-stations : goal.trips_of-requires-clause-stations
 trips_of-requires-clause-stations c =
-    let stations : AreStations c.in_ok-stations.stations.items = are_stations c.args.tables.stations c.in_ok-stations.stations.items c.requires.stations c.in_ok-stations.ensures in
-    omega (arith, stations.few, ap length c.deref-4.ensures.value)
+    let stations : AreStations c.in_ok-stations.stations = are_stations c.args.tables.stations c.in_ok-stations.stations c.requires.stations c.in_ok-stations.ensures in
+    omega (arith, stations.few)
 
 pub links_of-requires-clause-trips : goal.links_of-requires-clause-trips
 links_of-requires-clause-trips c =
-    let trips : AreTrips (length c.deref-5.result.now) c.in_ok-trips.trips.items = are_trips c.deref-5.result.now c.items.result.now c.args.tables.trips c.in_ok-trips.trips.items c.requires.trips c.in_ok-trips.ensures in
-    omega (arith, trips.few, ap length c.deref-6.ensures.value)
+    let trips : AreTrips (length c.in_ok-stations.stations) c.in_ok-trips.trips = are_trips c.in_ok-stations.stations c.items.result.now c.args.tables.trips c.in_ok-trips.trips c.requires.trips c.in_ok-trips.ensures in
+    omega (arith, trips.few)
 
 pub links_by_trip-requires : goal.links_by_trip-requires
 links_by_trip-requires c =
-    let few : length c.in_ok-links.links.items ≤ 400 = few_links c.deref-6.result.now c.items-2.result.now c.in_ok-links.links.items (subst AreLinkRows (sym c.items-2.ensures) c.requires.links) c.in_ok-links.ensures in
-    omega (arith, ap length c.deref-8.ensures.value)
+    let few : length c.in_ok-links.links.items ≤ 400 = few_links c.in_ok-trips.trips c.items-2.result.now c.in_ok-links.links.items (subst AreLinkRows (sym c.items-2.ensures) c.requires.links) c.in_ok-links.ensures in
+    omega (arith, ap length c.deref-3.ensures.value)
 
 pub links_by_trip-requires-2 : goal.links_by_trip-requires-2
 links_by_trip-requires-2 c =
-    let few : length c.in_ok-links.links.items ≤ 400 = few_links c.deref-6.result.now c.items-2.result.now c.in_ok-links.links.items (subst AreLinkRows (sym c.items-2.ensures) c.requires.links) c.in_ok-links.ensures in
-    omega (arith, ap length c.deref-9.ensures.value)
+    let few : length c.in_ok-links.links.items ≤ 400 = few_links c.in_ok-trips.trips c.items-2.result.now c.in_ok-links.links.items (subst AreLinkRows (sym c.items-2.ensures) c.requires.links) c.in_ok-links.ensures in
+    omega (arith, ap length c.deref-4.ensures.value)
 
 pub overflow_cast-trip_count : goal.overflow_cast-trip_count
 overflow_cast-trip_count c =
-    let trips : AreTrips (length c.deref-5.result.now) c.in_ok-trips.trips.items = are_trips c.deref-5.result.now c.items.result.now c.args.tables.trips c.in_ok-trips.trips.items c.requires.trips c.in_ok-trips.ensures in
-    omega (arith, trips.few)
+    let trips : AreTrips (length c.in_ok-stations.stations) c.in_ok-trips.trips = are_trips c.in_ok-stations.stations c.items.result.now c.args.tables.trips c.in_ok-trips.trips c.requires.trips c.in_ok-trips.ensures in
+    omega (arith, trips.few, ap length c.into_entries-trips.ensures)
 
 pub invariant_of-result : goal.invariant_of-result
 unfolding day_of units_of
 invariant_of-result c =
-    let day : Day = record { types = c.new-types.result; stations = c.in_ok-stations.stations.items; stock = c.in_ok-stock.stock.items; trips = c.in_ok-trips.trips.items; links = c.in_ok-links.links.items; weights = c.weights_of.result } in
+    let day : Day = record { types = c.new-types.result; stations = c.into_entries-stations.result.items; stock = c.in_ok-stock.stock.items; trips = c.into_entries-trips.result.items; links = c.in_ok-links.links.items; weights = c.weights_of.result } in
     let made : day_of c.args.tables ≡ Ok day = search rules in
     let linked : links_in day.trips c.args.tables.links ≡ Ok day.links = (day_is_made c.args.tables day made).links in
-    let count : c.len-trip_count.result ≡ length c.in_ok-trips.trips.items = omega (arith, c.in_ok-trips.trips.ok, c.len-trip_count.ensures) in
+    let count : c.len-trip_count.result ≡ length day.trips = omega (arith, c.into_entries-trips.result.ok, c.len-trip_count.ensures) in
     record {
       units = search rules;
       day = day_within_limits c.args.tables day c.requires.types c.requires.stations c.requires.trips c.requires.links c.requires.weights made;
-      catalogue = c.in_ok-catalogue.ensures.value ∙ ap (λ (stations : List Station). catalogue_of c.new-types.result (greatest_in stations)) c.deref-4.ensures.value;
+      catalogue = c.in_ok-catalogue.ensures.value ∙ ap (λ (stations : List Station). catalogue_of c.new-types.result (greatest_in stations)) (c.entries.ensures ∙ sym c.into_entries-stations.ensures);
       links = are_links day c.args.tables.links linked;
       meet = do_all_meet day c.args.tables.links linked;
-      incoming = table_of departing_in c.in_ok-incoming.incoming.items c.deref-8.result.now c.in_ok-links.links.items c.len-trip_count.result (length c.in_ok-trips.trips.items) c.in_ok-incoming.ensures c.deref-8.ensures.value count;
-      outgoing = table_of arriving_in c.in_ok-outgoing.outgoing.items c.deref-9.result.now c.in_ok-links.links.items c.len-trip_count.result (length c.in_ok-trips.trips.items) c.in_ok-outgoing.ensures c.deref-9.ensures.value count;
+      incoming = table_of departing_in c.in_ok-incoming.incoming.items c.deref-3.result.now c.in_ok-links.links.items c.len-trip_count.result (length day.trips) c.in_ok-incoming.ensures c.deref-3.ensures.value count;
+      outgoing = table_of arriving_in c.in_ok-outgoing.outgoing.items c.deref-4.result.now c.in_ok-links.links.items c.len-trip_count.result (length day.trips) c.in_ok-outgoing.ensures c.deref-4.ensures.value count;
     }
 
 pub returns-clause-meaning : goal.returns-clause-meaning
 unfolding day_of
 returns-clause-meaning c =
-    let day : Day = record { types = c.new-types.result; stations = c.in_ok-stations.stations.items; stock = c.in_ok-stock.stock.items; trips = c.in_ok-trips.trips.items; links = c.in_ok-links.links.items; weights = c.weights_of.result } in
+    let day : Day = record { types = c.new-types.result; stations = c.into_entries-stations.result.items; stock = c.in_ok-stock.stock.items; trips = c.into_entries-trips.result.items; links = c.in_ok-links.links.items; weights = c.weights_of.result } in
     let made : day_of c.args.tables ≡ Ok day = search rules in
     is_day_of c.args.tables day made
 
 pub returns-clause-limits : goal.returns-clause-limits
 unfolding day_of
 returns-clause-limits c =
-    let day : Day = record { types = c.new-types.result; stations = c.in_ok-stations.stations.items; stock = c.in_ok-stock.stock.items; trips = c.in_ok-trips.trips.items; links = c.in_ok-links.links.items; weights = c.weights_of.result } in
+    let day : Day = record { types = c.new-types.result; stations = c.into_entries-stations.result.items; stock = c.in_ok-stock.stock.items; trips = c.into_entries-trips.result.items; links = c.in_ok-links.links.items; weights = c.weights_of.result } in
     let made : day_of c.args.tables ≡ Ok day = search rules in
     day_within_limits c.args.tables day c.requires.types c.requires.stations c.requires.trips c.requires.links c.requires.weights made
 
@@ -112,7 +122,18 @@ returns-in_err-catalogue-clause-refusal c = answer_is_so c.args.tables c.from_re
 
 pub returns-in_err-links-clause-refusal : goal.returns-in_err-links-clause-refusal
 unfolding day_of
-returns-in_err-links-clause-refusal c = answer_is_so c.args.tables c.from_residual-in_err-links.result (search rules)
+returns-in_err-links-clause-refusal c =
+    let d : InstanceRefusal = c.in_err-links.field-0.0 in
+    let rows : Tables = c.args.tables in
+    let types : c.new-types.result ≡ c.in_ok-types.types = c.new-types.ensures ∙ c.into_entries.ensures in
+    let few : nat_lt most_units (starts_of c.in_ok-stock.stock.items) ≡ false = sym (c.are_too_many.ensures ∙ ap (λ (stock : List Stock). nat_lt most_units (starts_of stock)) c.deref.ensures.value) ∙ c.if-are_too_many.false in
+    let catalogue : catalogue_in c.in_ok-types.types c.in_ok-stations.stations ≡ Ok c.in_ok-catalogue.catalogue = sym (λ i. catalogue_in (types i) (c.entries.ensures i)) ∙ c.in_ok-catalogue.ensures.exact in
+    let trips : trips_in c.in_ok-stations.stations c.in_ok-types.types rows.trips ≡ Ok c.in_ok-trips.trips = sym (ap (λ (types : List UnitType). trips_in c.in_ok-stations.stations types rows.trips) (c.items.ensures ∙ types)) ∙ c.in_ok-trips.ensures in
+    let links : Fails d (links_in c.in_ok-trips.trips rows.links) = subst (λ (links : List LinkRow). Fails d (links_in c.in_ok-trips.trips links)) c.items-2.ensures c.in_err-links.ensures in
+    let fails : Fails d (day_of rows) = links_fail rows c.in_ok-types.types c.in_ok-stations.stations c.in_ok-stock.stock.items c.in_ok-catalogue.catalogue c.in_ok-trips.trips d
+    c.in_ok-types.ensures c.in_ok-stations.ensures c.in_ok-stock.ensures few catalogue trips links in
+    let is : c.from_residual-in_err-links.result ≡ Err d = search rules in
+    answer_is_so rows c.from_residual-in_err-links.result (subst (λ (answer : Result Day InstanceRefusal). Gives answer (day_of rows)) (sym is) fails)
 
 pub returns-then-are_too_many-clause-refusal : goal.returns-then-are_too_many-clause-refusal
 unfolding day_of
