@@ -15,7 +15,6 @@ pub mod LinkTrips
 pub mod Linked
 pub mod Missing
 pub mod Moves
-pub mod Named
 pub mod Order
 pub mod Places
 pub mod PutPlaces

@@ -15,3 +15,4 @@ pub mod Refused
 pub mod Carriages
 pub mod LinkNames
 pub mod TypeRule
+pub mod Named
