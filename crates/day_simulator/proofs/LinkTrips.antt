@@ -13,7 +13,7 @@ use Rattle.timetable.specs.Links.{list_of, incoming, outgoing, link_into, link_o
 use Rattle.timetable.specs.Running.{IsPlan}
 use Rattle.day_simulator.specs.Trips.{AreUnits}
 use Rattle.timetable.specs.LinkRows.{NamesBelow}
-use Rattle.timetable.proofs.Named.{position_some}
+use Rattle.timetable.proofs.NamedTrips.{position_some}
 use Rattle.day_simulator.proofs.Order.{one_same}
 use Rattle.day_simulator.proofs.Shares.{turn_shares, count_of-turned}
 

@@ -8,7 +8,7 @@ use Rattle.timetable.specs.Accepted.{AreLinks}
 use Rattle.timetable.specs.declared.records.Link.{Link}
 use Rattle.timetable.specs.Links.{list_of, link_holds, kind_holds, arriving_in, departing_in, incoming, outgoing, link_into, link_out, kept_by, given_by, taken_by, kept, given, taken}
 use Rattle.day_simulator.specs.Steps.{feeders, is_tested_at, broken, broken_into, broken_out}
-use Rattle.timetable.proofs.Named.{IsNamed, named_or_not, named_here, named_twice}
+use Rattle.timetable.proofs.NamedTrips.{IsNamed, named_or_not, named_here, named_twice}
 use Rattle.day_simulator.proofs.LinkKinds.{kept_names, kept_zero, kind_gives, kind_takes, KindGives, KindTakes}
 use Rattle.day_simulator.proofs.Hands.{HandsOver, Gives, Takes}
 

@@ -15,4 +15,7 @@ pub mod Refused
 pub mod Carriages
 pub mod LinkNames
 pub mod TypeRule
-pub mod Named
+pub mod NamedTrips
+pub mod Leading
+pub mod WholeChains
+pub mod Handovers

@@ -1,10 +1,13 @@
 -- The links that name a trip, listed by trip.
-use Rattle.std.proofs.Common.{◌≡◌, inl, inr, ℕ, zero, suc, ◌<◌, List, [], ◌∷◌, ◌++◌, length, get_or, refl, sym, ap, subst, ◌∙◌, arith, length-append, Option, Some, slice_get}
+use Rattle.std.proofs.Common.{◌≡◌, inl, inr, ℕ, zero, suc, ◌<◌, List, [], ◌∷◌, ◌++◌, length, get_or, refl, sym, ap, subst, ◌∙◌, arith, length-append, Option, Some, None, slice_get}
+use Rattle.std.specs.Prelude.{option_and_then}
 use Rattle.std.proofs.lemmas.Bool.{cases_lt}
-use Rattle.std.proofs.lemmas.Option.{get_or_from_slice_get}
+use Rattle.std.proofs.lemmas.Option.{get_or_from_slice_get, slice_get-get_or, slice_get_within}
 use Rattle.timetable.specs.declared.records.Link.{Link}
 use Rattle.timetable.specs.declared.records.LinkKind.{LinkKind}
 use Rattle.timetable.specs.LinkTables.{link_naming, link_table}
+use Rattle.timetable.specs.Lists.{has}
+use Rattle.timetable.proofs.NamedTrips.{position_some}
 
 pub length-link_table : (side : LinkKind → List ℕ) (links : List Link) (n : ℕ) → length (link_table side links n) ≡ n
 length-link_table side links zero = refl
@@ -40,3 +43,36 @@ table_entry side links n t table d is below =
 -- a table of these links and so many trips
 pub table_of : (side : LinkKind → List ℕ) (table : List (Option ℕ)) (read links : List Link) (n trips : ℕ) → table ≡ link_table side read n → read ≡ links → n ≡ trips → table ≡ link_table side links trips
 table_of side table read links n trips is same count = is ∙ ap (λ (ls : List Link). link_table side ls n) same ∙ ap (λ (k : ℕ). link_table side links k) count
+
+-- what the entry of a trip says is the link that names it
+pub entry_says : (side : LinkKind → List ℕ) (links : List Link) (table : List (Option ℕ)) (place t : ℕ) (d o : Option ℕ) → table ≡ link_table side links (length table) → t < length table
+    → place ≡ t → get_or table place d ≡ o → link_naming side links t ≡ o
+entry_says side links table place t d o is below same entry = sym (table_entry side links (length table) t table d is below) ∙ ap (λ (k : ℕ). get_or table k d) (sym same) ∙ entry
+
+-- the link that names a trip is there
+pub names_within : (side : LinkKind → List ℕ) (links : List Link) (t number : ℕ) → link_naming side links t ≡ Some number → number < length links
+names_within side links t number e =
+    let (link, at, named) = position_some (λ (link : Link). has t (side link.kind)) links number e in
+    slice_get_within links number link at
+
+-- the link that is read by its number is the one that names the trip
+pub link_read : (side : LinkKind → List ℕ) (links : List Link) (t number place : ℕ) (d : Link) → link_naming side links t ≡ Some number → place ≡ number
+    → option_and_then (slice_get links) (link_naming side links t) ≡ Some (get_or links place d)
+link_read side links t number place d e same =
+    ap (λ (o : Option ℕ). option_and_then (slice_get links) o) e
+    ∙ slice_get-get_or links number d (names_within side links t number e)
+    ∙ ap (λ (k : ℕ). Some (get_or links k d)) (sym same)
+
+-- no link is read where none names the trip
+pub link_unread : (side : LinkKind → List ℕ) (links : List Link) (t : ℕ) → link_naming side links t ≡ None → option_and_then (slice_get links) (link_naming side links t) ≡ None
+link_unread side links t e = ap (λ (o : Option ℕ). option_and_then (slice_get links) o) e
+
+-- a table has an entry for each trip
+pub table_length : (side : LinkKind → List ℕ) (read : List Link) (n : ℕ) (table passed : List (Option ℕ)) → table ≡ link_table side read n → passed ≡ table → length passed ≡ n
+table_length side read n table passed is same = ap (λ (xs : List (Option ℕ)). length xs) (same ∙ is) ∙ length-link_table side read n
+
+-- a table that is passed on with its links is their table
+pub table_passed : (side : LinkKind → List ℕ) (read links links_passed : List Link) (n : ℕ) (table passed : List (Option ℕ)) → table ≡ link_table side read n → read ≡ links → passed ≡ table → links_passed ≡ links
+    → passed ≡ link_table side links_passed (length passed)
+table_passed side read links links_passed n table passed is same passes passes_links =
+    table_of side passed read links_passed n (length passed) (passes ∙ is) (same ∙ sym passes_links) (sym (table_length side read n table passed is passes))

@@ -1,10 +1,12 @@
--- What an instance holds: the parts of a day, its units as one list, its catalogue, and the links by trip.
+-- What an instance holds: the parts of a day, its units as one list, its catalogue, the links by trip, its chains and its hand-overs.
 use Rattle.std.specs.Prelude.{◌≡◌, length}
 use Rattle.compositions.specs.Catalogue.{catalogue_of}
 use Rattle.timetable.specs.declared.instance.Instance.TheInside.{Inside}
 use Rattle.timetable.specs.Day.{Day, units_of}
 use Rattle.timetable.specs.Accepted.{IsDay, AreLinks, DoMeet}
+use Rattle.timetable.specs.Chains.{chains_of}
 use Rattle.timetable.specs.Compositions.{greatest_in}
+use Rattle.timetable.specs.Handovers.{handovers_of}
 use Rattle.timetable.specs.Links.{arriving_in, departing_in}
 use Rattle.timetable.specs.LinkTables.{link_table}
 
@@ -20,3 +22,5 @@ pub record Holds (a : Inside) : Type 0 where
   pub incoming : a.incoming.items ≡ link_table departing_in a.links.items (length a.trips.items)
   pub outgoing : a.outgoing.items ≡ link_table arriving_in a.links.items (length a.trips.items)
   pub catalogue : a.catalogue ≡ catalogue_of a.types (greatest_in a.stations.items)
+  pub chains : a.chains.items ≡ chains_of (day_in a)
+  pub handovers : a.handovers.items ≡ handovers_of (day_in a)

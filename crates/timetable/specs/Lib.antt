@@ -7,6 +7,8 @@ pub mod Links
 pub mod LinkTables
 pub mod Duties
 pub mod Running
+pub mod Chains
+pub mod Handovers
 pub mod Cost
 pub mod Rowwise
 pub mod Naming

@@ -6,7 +6,9 @@ ghost use Rattle.timetable.specs.Accepted.{IsDay, AreLinks, DoMeet};
 ghost use Rattle.timetable.specs.Admissible.{is_admissible};
 ghost use Rattle.timetable.specs.Compositions.{compositions_of, composition_at};
 ghost use Rattle.timetable.specs.Build.{day_of, Gives, weights_in};
+ghost use Rattle.timetable.specs.Chains.{chains_of, AreChains};
 ghost use Rattle.timetable.specs.Day.{units_of, units_in, unit_count, wanted_in, wanted_of};
+ghost use Rattle.timetable.specs.Handovers.{handovers_of, AreHandovers};
 ghost use Rattle.timetable.specs.Links.{incoming, outgoing};
 ghost use Rattle.timetable.specs.Meaning.{IsDayOf};
 ghost use Rattle.timetable.specs.Refusals.{IsBroken};
@@ -15,9 +17,9 @@ ghost use Rattle.timetable.specs.Starts.{start_in, start_of};
 use crate::build::{
     are_too_many, catalogue_of, longest_between, stations_of, stock_of, trips_of, types_of,
 };
+use crate::chains::{Chain, linking_of};
 use crate::link_rows::links_of;
-use crate::link_tables::{Side, links_by_trip};
-use crate::records::{Link, Station, Stock, Trip, Unit, Weights};
+use crate::records::{Handover, Link, Station, Stock, Trip, Unit, Weights};
 use crate::refusal::InstanceRefusal;
 use crate::tables::Tables;
 use compositions::{Catalogue, UnitTypes};
@@ -40,6 +42,8 @@ pub struct Instance {
     catalogue: Catalogue,
     incoming: Vec<Option<LinkNo>>,
     outgoing: Vec<Option<LinkNo>>,
+    chains: Vec<Chain>,
+    handovers: Vec<Handover>,
 }
 
 impl Model for Instance {
@@ -94,8 +98,7 @@ impl Instance {
         let trips = trips.into_entries();
         let units = units_of(alloc, &stock)?;
         let trip_count = trips.len() as u32;
-        let incoming = links_by_trip(alloc, &links, Side::Departing, trip_count)?;
-        let outgoing = links_by_trip(alloc, &links, Side::Arriving, trip_count)?;
+        let linking = linking_of(alloc, &links, trip_count)?;
         Ok(Instance {
             types,
             stations,
@@ -105,8 +108,10 @@ impl Instance {
             weights: weights_of(tables.weights),
             units,
             catalogue,
-            incoming,
-            outgoing,
+            incoming: linking.incoming,
+            outgoing: linking.outgoing,
+            chains: linking.chains,
+            handovers: linking.handovers,
         })
     }
 
@@ -218,6 +223,42 @@ impl Instance {
         ensures { result ≡ outgoing self.now trip }
     {
         self.outgoing[trip.place()]
+    }
+
+    /// How many chains there are. A turn leads a chain from its arriving to its departing trip, a join from its first arriving
+    /// trip to its departing trip, a split from its arriving trip to its first departing trip; every trip lies in one chain.
+    pub fn chains(&self) -> u32
+        ensures value { result ≡ length (chains_of self.now) }
+        ensures few { result ≤ 400 }
+        ensures whole { AreChains self.now (chains_of self.now) }
+    {
+        self.chains.len() as u32
+    }
+
+    /// The trips of the chain of this number, which is below `chains`, in the order in which they run. Chains are numbered by
+    /// their first trips in rising order.
+    pub fn chain(&self, chain: u32) -> &[TripNo]
+        requires { chain < length (chains_of self.now) }
+        ensures { slice_get (chains_of self.now) chain ≡ Some result.now }
+    {
+        self.chains[chain as usize].items()
+    }
+
+    /// How many hand-overs there are: one for each join and each split.
+    pub fn handovers(&self) -> u32
+        ensures value { result ≡ length (handovers_of self.now) }
+        ensures few { result ≤ 400 }
+        ensures whole { AreHandovers self.now (handovers_of self.now) }
+    {
+        self.handovers.len() as u32
+    }
+
+    /// The hand-over of this number, which is below `handovers`. Hand-overs are numbered in the order of the links.
+    pub fn handover(&self, handover: u32) -> Handover
+        requires { handover < length (handovers_of self.now) }
+        ensures { slice_get (handovers_of self.now) handover ≡ Some result }
+    {
+        self.handovers[handover as usize]
     }
 
     /// The unit of this number, which is below `units`.

@@ -2,6 +2,7 @@
 #![tactic(auto)]
 
 mod build;
+mod chains;
 pub mod instance;
 mod link_rows;
 mod link_tables;
@@ -15,7 +16,7 @@ pub mod tables;
 pub use instance::Instance;
 pub use picks::Picks;
 pub use plan::NamedPlan;
-pub use records::{Link, LinkKind, Station, Stock, Trip, Unit, Weights};
+pub use records::{Handover, Link, LinkKind, Station, Stock, Trip, Unit, Weights};
 pub use refusal::{InstanceRefusal, PlanRefusal};
 pub use tables::{Rows, Tables};
 

@@ -1,6 +1,6 @@
 //! The parts of a day, numbered in the order of their tables.
 
-use rail_base::{Minute, Name, StationNo, TripNo, TypeNo};
+use rail_base::{LinkNo, Minute, Name, StationNo, TripNo, TypeNo};
 use rail_csv::End;
 
 /// A station.
@@ -97,4 +97,13 @@ pub struct Weights {
     pub shortage: u32,
     /// The cost of a turn that couples or uncouples.
     pub shunting: u32,
+}
+
+/// The second trip of a join or a split, whose units pass from one chain to another.
+#[derive(Clone, Copy, Debug, PartialEq, Eq)]
+pub struct Handover {
+    /// The join or the split.
+    pub link: LinkNo,
+    /// The second arriving trip of a join, or the second departing trip of a split.
+    pub second: TripNo,
 }

@@ -3,7 +3,7 @@
 ghost use Rattle.std.specs.Prelude.{◌≡◌, ◌≤◌, length, IfOk};
 ghost use Rattle.rail_csv.specs.Rows.{AreTypeRows, AreStationRows, AreStockRows, AreTripRows, AreLinkRows, IsWeightsRow};
 
-use crate::{Instance, InstanceRefusal, NamedPlan, PlanRefusal, Rows, Tables};
+use crate::{Handover, Instance, InstanceRefusal, NamedPlan, PlanRefusal, Rows, Tables};
 use rail_base::{CompNo, LinkNo, StationNo, TripNo, TypeNo, UnitNo};
 use rail_csv::{Table, TableRefusal, links, plan, stations, stock, trips, types, weights};
 use std::alloc::Global;
@@ -20,6 +20,16 @@ const TRIPS: &[u8] =
 
 const FORK: &[u8] =
     b"trip,from,departure,to,arrival,km,demand\nT1,X,08:00,Y,09:00,10,0\nT2,X,08:30,Y,09:30,10,0\nT3,Y,09:30,X,10:30,10,0\nT4,Y,09:20,X,10:20,10,0\n";
+
+const RING_STATIONS: &[u8] = b"station,platform,reallocation\nX,240,30\nY,240,30\nZ,240,30\n";
+
+const RING_STOCK: &[u8] = b"station,type,start,end\nX,A,3,3\n";
+
+const RING: &[u8] =
+    b"trip,from,departure,to,arrival,km,demand\nT1,X,08:00,Y,09:00,10,300\nT2,Y,09:10,Z,10:00,10,300\nT3,Y,09:20,Z,10:10,10,300\nT4,Z,10:30,X,11:30,10,300\n";
+
+const RING_LINKS: &[u8] =
+    b"kind,arriving,arriving2,departing,departing2,reverse,uncouple,couple\nsplit,T1,,T2,T3,no,none,none\njoin,T3,T2,T4,,no,none,none\n";
 
 const NO_LINKS: &[u8] = b"kind,arriving,arriving2,departing,departing2,reverse,uncouple,couple\n";
 
@@ -101,6 +111,39 @@ fn links_of_a_day(rt: HostRuntime) -> Result<(), Fail> {
         return Ok(());
     }
     panic!(rt; "one link and two trips")
+}
+
+#[test]
+fn chain_of_a_turn(rt: HostRuntime) -> Result<(), Fail> {
+    let tables = tables_of(rt.alloc(), STATIONS, STOCK, TRIPS, TURN)?;
+    let day = Instance::build(rt.alloc(), tables)?;
+    assert_eq!(rt; day.handovers(), 0);
+    if day.chains() == 1 {
+        assert!(rt; day.chain(0) == [TripNo(0), TripNo(1)].as_slice());
+        return Ok(());
+    }
+    panic!(rt; "one chain")
+}
+
+#[test]
+fn chains_of_a_ring(rt: HostRuntime) -> Result<(), Fail> {
+    let tables = tables_of(rt.alloc(), RING_STATIONS, RING_STOCK, RING, RING_LINKS)?;
+    let day = Instance::build(rt.alloc(), tables)?;
+    if day.chains() == 2 && day.handovers() == 2 {
+        assert!(rt; day.chain(0) == [TripNo(0), TripNo(1)].as_slice());
+        assert!(rt; day.chain(1) == [TripNo(2), TripNo(3)].as_slice());
+        let split = Handover {
+            link: LinkNo(0),
+            second: TripNo(2),
+        };
+        let join = Handover {
+            link: LinkNo(1),
+            second: TripNo(1),
+        };
+        assert_eq!(rt; (day.handover(0), day.handover(1)), (split, join));
+        return Ok(());
+    }
+    panic!(rt; "two chains and two hand-overs")
 }
 
 #[test]

@@ -1,5 +1,5 @@
 -- The day is that of the tests, and keeps within the limits.
-use Rattle.std.proofs.Common.{◌≡◌, ◌∙◌, ◌≤◌, false, List, length, ap, sym, subst, arith, rules, Result, Ok, Err}
+use Rattle.std.proofs.Common.{◌≡◌, ◌∙◌, ◌<◌, ◌≤◌, ℕ, false, List, length, ap, sym, subst, arith, rules, Result, Ok, Err}
 use Rattle.std.specs.Prelude.{nat_lt}
 use Rattle.std.specs.List.{list_all}
 use Rattle.compositions.specs.Catalogue.{catalogue_of}
@@ -7,13 +7,16 @@ use Rattle.compositions.specs.UnitTypes.{is_within_limits}
 use Rattle.rail_csv.specs.Rows.{AreLinkRows}
 use Rattle.compositions.specs.declared.types.UnitType.{UnitType}
 use Rattle.rail_csv.specs.declared.rows.LinkRow.{LinkRow}
+use Rattle.timetable.specs.declared.records.Link.{Link}
 use Rattle.timetable.specs.declared.records.Station.{Station}
 use Rattle.timetable.specs.declared.records.Stock.{Stock}
 use Rattle.timetable.specs.declared.tables.Tables.{Tables}
 use Rattle.timetable.specs.declared.refusal.InstanceRefusal.{InstanceRefusal}
 use Rattle.timetable.specs.Build.{starts_of, most_units, catalogue_in, trips_in, day_of, Fails, Gives}
+use Rattle.timetable.specs.Chains.{chains_below, chains_of}
 use Rattle.timetable.specs.Compositions.{greatest_in}
 use Rattle.timetable.specs.Day.{Day, units_of}
+use Rattle.timetable.specs.Handovers.{handovers_from, handovers_of}
 use Rattle.timetable.specs.LinkRows.{links_in}
 use Rattle.timetable.specs.Links.{arriving_in, departing_in}
 use Rattle.timetable.specs.Within.{AreTypes, AreStations, AreTrips}
@@ -21,6 +24,7 @@ use Rattle.timetable.proofs.Days.{day_is_made, day_within_limits, few_links}
 use Rattle.timetable.proofs.Entries.{are_types, types_within_limits, are_stations, are_trips}
 use Rattle.timetable.proofs.Linking.{are_links, do_all_meet}
 use Rattle.timetable.proofs.LinkTables.{table_of}
+use Rattle.timetable.proofs.Leading.{next_known}
 use Rattle.timetable.proofs.Said.{is_day_of}
 use Rattle.timetable.proofs.Refused.{answer_is_so, refusal_is_so, links_fail}
 use Rattle.timetable.specs.declared.refusal.InstanceRefusal.TheVariants.{TooManyUnits}
@@ -54,15 +58,22 @@ links_of-requires-clause-trips c =
     let trips : AreTrips (length c.in_ok-stations.stations) c.in_ok-trips.trips = are_trips c.in_ok-stations.stations c.items.result.now c.args.tables.trips c.in_ok-trips.trips c.requires.trips c.in_ok-trips.ensures in
     omega (arith, trips.few)
 
-pub links_by_trip-requires : goal.links_by_trip-requires
-links_by_trip-requires c =
+pub linking_of-requires-clause-links : goal.linking_of-requires-clause-links
+linking_of-requires-clause-links c =
     let few : length c.in_ok-links.links.items ≤ 400 = few_links c.in_ok-trips.trips c.items-2.result.now c.in_ok-links.links.items (subst AreLinkRows (sym c.items-2.ensures) c.requires.links) c.in_ok-links.ensures in
     omega (arith, ap length c.deref-3.ensures.value)
 
-pub links_by_trip-requires-2 : goal.links_by_trip-requires-2
-links_by_trip-requires-2 c =
-    let few : length c.in_ok-links.links.items ≤ 400 = few_links c.in_ok-trips.trips c.items-2.result.now c.in_ok-links.links.items (subst AreLinkRows (sym c.items-2.ensures) c.requires.links) c.in_ok-links.ensures in
-    omega (arith, ap length c.deref-4.ensures.value)
+pub linking_of-requires-clause-trips : goal.linking_of-requires-clause-trips
+linking_of-requires-clause-trips c =
+    let trips : AreTrips (length c.in_ok-stations.stations) c.in_ok-trips.trips = are_trips c.in_ok-stations.stations c.items.result.now c.args.tables.trips c.in_ok-trips.trips c.requires.trips c.in_ok-trips.ensures in
+    let count : c.len-trip_count.result ≡ length c.into_entries-trips.result.items = omega (arith, c.into_entries-trips.result.ok, c.len-trip_count.ensures) in
+    omega (arith, trips.few, ap length c.into_entries-trips.ensures)
+
+pub linking_of-requires-clause-known : goal.linking_of-requires-clause-known
+linking_of-requires-clause-known c = λ t b is.
+    let below : b < length c.in_ok-trips.trips = next_known c.in_ok-trips.trips c.items-2.result.now c.in_ok-links.links.items c.deref-3.result.now c.in_ok-links.ensures c.deref-3.ensures.value t b is in
+    let count : c.len-trip_count.result ≡ length c.into_entries-trips.result.items = omega (arith, c.into_entries-trips.result.ok, c.len-trip_count.ensures) in
+    omega (arith, ap length c.into_entries-trips.ensures)
 
 pub overflow_cast-trip_count : goal.overflow_cast-trip_count
 overflow_cast-trip_count c =
@@ -70,7 +81,7 @@ overflow_cast-trip_count c =
     omega (arith, trips.few, ap length c.into_entries-trips.ensures)
 
 pub invariant_of-result : goal.invariant_of-result
-unfolding day_of units_of
+unfolding day_of units_of chains_of handovers_of
 invariant_of-result c =
     let day : Day = record { types = c.new-types.result; stations = c.into_entries-stations.result.items; stock = c.in_ok-stock.stock.items; trips = c.into_entries-trips.result.items; links = c.in_ok-links.links.items; weights = c.weights_of.result } in
     let made : day_of c.args.tables ≡ Ok day = search rules in
@@ -82,8 +93,12 @@ invariant_of-result c =
       catalogue = c.in_ok-catalogue.ensures.value ∙ ap (λ (stations : List Station). catalogue_of c.new-types.result (greatest_in stations)) (c.entries.ensures ∙ sym c.into_entries-stations.ensures);
       links = are_links day c.args.tables.links linked;
       meet = do_all_meet day c.args.tables.links linked;
-      incoming = table_of departing_in c.in_ok-incoming.incoming.items c.deref-3.result.now c.in_ok-links.links.items c.len-trip_count.result (length day.trips) c.in_ok-incoming.ensures c.deref-3.ensures.value count;
-      outgoing = table_of arriving_in c.in_ok-outgoing.outgoing.items c.deref-4.result.now c.in_ok-links.links.items c.len-trip_count.result (length day.trips) c.in_ok-outgoing.ensures c.deref-4.ensures.value count;
+      incoming = table_of departing_in c.in_ok-linking.linking.incoming.items c.deref-3.result.now c.in_ok-links.links.items c.len-trip_count.result (length day.trips) c.in_ok-linking.ensures.incoming c.deref-3.ensures.value count;
+      outgoing = table_of arriving_in c.in_ok-linking.linking.outgoing.items c.deref-3.result.now c.in_ok-links.links.items c.len-trip_count.result (length day.trips) c.in_ok-linking.ensures.outgoing c.deref-3.ensures.value count;
+      chains = c.in_ok-linking.ensures.chains
+          ∙ ap (λ (links : List Link). chains_below links c.len-trip_count.result c.len-trip_count.result) c.deref-3.ensures.value
+          ∙ ap (λ (n : ℕ). chains_below day.links n n) count;
+      handovers = c.in_ok-linking.ensures.handovers ∙ ap (λ (links : List Link). handovers_from 0 links) c.deref-3.ensures.value;
     }
 
 pub returns-clause-meaning : goal.returns-clause-meaning
