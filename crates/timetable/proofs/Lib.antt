@@ -18,4 +18,5 @@ pub mod TypeRule
 pub mod NamedTrips
 pub mod Leading
 pub mod WholeChains
+pub mod SameChains
 pub mod Handovers

@@ -70,7 +70,7 @@ follows day (suc (suc n)) t = on (next_in day.links t) refl (follows day (suc n)
     on (Some b) is rest = (leads_next day t b is, rest b)
 
 -- the trips that follow are led to
-unled_later : (day : Day) (x : ℕ) (xs : List ℕ) (t : ℕ) → EachFollows (Leads day) (x ∷ xs) → ((a : ℕ) → ¬ Leads day a t) → count_of t xs ≡ 0
+pub unled_later : (day : Day) (x : ℕ) (xs : List ℕ) (t : ℕ) → EachFollows (Leads day) (x ∷ xs) → ((a : ℕ) → ¬ Leads day a t) → count_of t xs ≡ 0
 unled_later day x [] t each unled = refl
 unled_later day x (y ∷ ys) t each unled =
     let other : (y ≡ t → ⊥) = λ is. unled x (subst (λ (z : ℕ). Leads day x z) is each.0) in
