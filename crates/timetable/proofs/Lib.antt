@@ -4,6 +4,7 @@ pub mod Entries
 pub mod Days
 pub mod LinkTables
 pub mod Noting
+pub mod Flags
 pub mod Linking
 pub mod Lists
 pub mod Fitting

@@ -5,6 +5,8 @@ pub mod Admissible
 pub mod Compositions
 pub mod Links
 pub mod LinkTables
+pub mod Flags
+pub mod Flagged
 pub mod Duties
 pub mod Running
 pub mod Chains

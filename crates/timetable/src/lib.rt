@@ -6,6 +6,7 @@ mod chains;
 pub mod instance;
 mod link_rows;
 mod link_tables;
+mod linked;
 mod named;
 pub mod picks;
 pub mod plan;

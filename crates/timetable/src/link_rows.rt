@@ -2,10 +2,10 @@
 
 ghost use Rattle.std.specs.Prelude.{◌≡◌, ◌<◌, ◌≤◌, ◌||◌, length, IfOk, IfSome};
 ghost use Rattle.timetable.specs.Build.{GivesRows};
-ghost use Rattle.timetable.specs.LinkRows.{trip_named, is_an_end, turn_in, join_in, split_in, kind_of, NamesBelow, is_arriving, is_departing, names_again, do_meet, is_in_time, each_pair, accept_trips, accept_link, links_in};
+ghost use Rattle.timetable.specs.LinkRows.{trip_named, is_an_end, turn_in, join_in, split_in, kind_of, NamesBelow, names_again, do_meet, is_in_time, each_pair, accept_trips, accept_link, links_in};
 
 use crate::build::row_after;
-use crate::link_tables::{Side, is_named_by};
+use crate::linked::Linked;
 use crate::named::Named;
 use crate::records::{Link, LinkKind, Trip};
 use crate::refusal::InstanceRefusal;
@@ -124,43 +124,26 @@ fn kind_of(trips: &Named<Trip>, number: u32, row: &LinkRow) -> Result<LinkKind, 
     }
 }
 
-/// Whether one of the links names the trip as arriving.
-fn is_arriving(links: &[Link], trip: TripNo) -> bool
-    ensures { result ≡ is_arriving links.now trip }
-{
-    links
-        .iter()
-        .any(|link| is_named_by(link.kind, Side::Arriving, trip))
-}
-
-/// Whether one of the links names the trip as departing.
-fn is_departing(links: &[Link], trip: TripNo) -> bool
-    ensures { result ≡ is_departing links.now trip }
-{
-    links
-        .iter()
-        .any(|link| is_named_by(link.kind, Side::Departing, trip))
-}
-
 /// Whether a trip is named as arriving, or as departing, that the kind or an earlier link has already named so.
-fn names_again(before: &[Link], kind: LinkKind) -> bool
-    ensures { result ≡ names_again before.now kind }
+fn names_again(before: &Linked, kind: LinkKind) -> bool
+    requires { NamesBelow before.now.trips kind }
+    ensures { result ≡ names_again before.now.links kind }
 {
     match kind {
         LinkKind::Turn {
             arriving,
             departing,
             ..
-        } => is_arriving(before, arriving) || is_departing(before, departing),
+        } => before.is_arriving(arriving) || before.is_departing(departing),
         LinkKind::Join {
             first,
             second,
             departing,
         } => {
             first == second
-                || is_arriving(before, first)
-                || is_arriving(before, second)
-                || is_departing(before, departing)
+                || before.is_arriving(first)
+                || before.is_arriving(second)
+                || before.is_departing(departing)
         }
         LinkKind::Split {
             arriving,
@@ -168,9 +151,9 @@ fn names_again(before: &[Link], kind: LinkKind) -> bool
             second,
         } => {
             first == second
-                || is_arriving(before, arriving)
-                || is_departing(before, first)
-                || is_departing(before, second)
+                || before.is_arriving(arriving)
+                || before.is_departing(first)
+                || before.is_departing(second)
         }
     }
 }
@@ -245,12 +228,14 @@ fn all_in_time(trips: &[Trip], kind: LinkKind) -> bool
 #[tactic(auto, unfolding(crate::specs::LinkRows::accept_trips))]
 fn accept_trips(
     trips: &[Trip],
-    before: &[Link],
+    before: &Linked,
     number: u32,
     link: Link,
 ) -> Result<Link, InstanceRefusal>
-    requires { NamesBelow (length trips.now) link.kind }
-    ensures { result ≡ accept_trips trips.now before.now number link }
+    requires named { NamesBelow (length trips.now) link.kind }
+    requires trips { before.now.trips ≡ length trips.now }
+    ensures value { result ≡ accept_trips trips.now before.now.links number link }
+    ensures same { IfOk result (λ accepted. accepted ≡ link) }
 {
     if names_again(before, link.kind) {
         return Err(InstanceRefusal::TripUsedTwice(number));
@@ -266,10 +251,12 @@ fn accept_trips(
 
 /// The link of a row, after those of the rows before it.
 #[tactic(auto, unfolding(crate::specs::LinkRows::accept_link))]
-fn accept_link(trips: &Named<Trip>, before: &[Link], row: &LinkRow) -> Result<Link, InstanceRefusal>
+fn accept_link(trips: &Named<Trip>, before: &Linked, row: &LinkRow) -> Result<Link, InstanceRefusal>
     requires trips { length trips.now ≤ 400 }
-    requires before { length before.now ≤ 400 }
-    ensures { result ≡ accept_link trips.now before.now row.now }
+    requires before { length before.now.links ≤ 400 }
+    requires same_trips { before.now.trips ≡ length trips.now }
+    ensures value { result ≡ accept_link trips.now before.now.links row.now }
+    ensures named { IfOk result (λ link. NamesBelow (length trips.now) link.kind) }
 {
     let number = row_after(before.len());
     let kind = kind_of(trips, number, row)?;
@@ -291,10 +278,10 @@ pub fn links_of(
     requires rows { length rows.now ≤ 400 }
     ensures { GivesRows result (links_in trips.now rows.now) }
 {
-    let mut links = Vec::new(alloc);
+    let mut links = Linked::new(alloc, trips.len() as u32)?;
     for row in rows {
-        let accepted = accept_link(trips, &links, row)?;
-        links.push(accepted)?;
+        let Link { kind, reverse } = accept_link(trips, &links, row)?;
+        links.push(&Link { kind, reverse })?;
     }
-    Ok(links)
+    Ok(links.into_links())
 }

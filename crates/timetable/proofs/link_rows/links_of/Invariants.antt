@@ -6,5 +6,6 @@ use Rattle.timetable.proofs.link_rows.links_of.Given as goal
 
 abbrev pub invariant-loop-row : goal.invariant-loop-row
 invariant-loop-row l =
-    (accept_each (accept_link l.trips) l.links.items (drop l.row-index l.rows) ≡ accept_each (accept_link l.trips) [] l.rows) ×
-    (length l.links.items ≡ l.row-index)
+    (accept_each (accept_link l.trips) l.links.links (drop l.row-index l.rows) ≡ accept_each (accept_link l.trips) [] l.rows) ×
+    (length l.links.links ≡ l.row-index) ×
+    (l.links.trips ≡ length l.trips)
