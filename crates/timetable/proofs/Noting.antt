@@ -1,6 +1,6 @@
 -- Links that are noted at the trips that they name, from the last link to the first: each trip has the first that names it.
-use Rattle.std.proofs.Common.{◌≡◌, ◌≢◌, ℕ, zero, suc, ◌+◌, ◌-◌, ◌<◌, ◌≤◌, Bool, true, false, cond, ltb, List, [], ◌∷◌, length, get_or, drop, set, replicate, refl, sym, ap, subst, ◌∙◌, arith, zero-add, Option, Some, None, inl, inr}
-use Rattle.std.specs.Prelude.{option_map, position, ◌==◌, if◌then◌else◌}
+use Rattle.std.proofs.Common.{◌≡◌, ◌≢◌, ℕ, suc, ◌+◌, ◌-◌, ◌<◌, ◌≤◌, Bool, true, false, ltb, List, [], ◌∷◌, length, get_or, drop, set, replicate, refl, sym, ap, subst, ◌∙◌, arith, zero-add, Option, Some, None, inl, inr}
+use Rattle.std.specs.Prelude.{option_map, position, if◌then◌else◌}
 use Rattle.std.specs.List.{position_or_len}
 use Rattle.std.proofs.lemmas.Bool.{cases_lt, cases_eq, lt-ltb, le-ltb, le-leb, lt-leb, eq-eqb, ne_eqb}
 use Rattle.std.proofs.Math.Seq.{drop-cons}

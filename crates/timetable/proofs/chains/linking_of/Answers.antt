@@ -1,5 +1,5 @@
 -- Both tables have an entry for each trip.
-use Rattle.std.proofs.Common.{◌≡◌, ◌∙◌, ◌<◌, ℕ, length, refl, sym, ap, arith}
+use Rattle.std.proofs.Common.{◌≡◌, ◌∙◌, ℕ, length, refl, sym, ap, arith}
 use Rattle.timetable.specs.Chains.{chains_below}
 use Rattle.timetable.specs.Links.{arriving_in, departing_in}
 use Rattle.timetable.proofs.LinkTables.{table_length, table_passed}
