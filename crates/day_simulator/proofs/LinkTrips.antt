@@ -1,20 +1,17 @@
 -- The links that lead into a trip and on from it: their trips are of the day, and so are the units that they hand over.
-use Rattle.std.proofs.Common.{◌≡◌, ℕ, ◌<◌, ◌≤◌, List, [], ◌∷◌, length, Bool, Option, Some, None, IsTrue, refl, arith}
-use Rattle.std.specs.Prelude.{option_map, unwrap_or, slice_get, IfSome}
+use Rattle.std.proofs.Common.{◌≡◌, ℕ, ◌<◌, ◌≤◌, List, length, Bool, Option, Some, None, refl, arith}
+use Rattle.std.specs.Prelude.{option_map, unwrap_or, IfSome}
 use Rattle.std.proofs.lemmas.Bool.{le-leb, leb-true}
 use Rattle.std.proofs.lemmas.Option.{slice_get_within}
 use Rattle.timetable.specs.declared.records.Link.{Link}
 use Rattle.timetable.specs.declared.records.LinkKind.{LinkKind}
 use Rattle.timetable.specs.declared.records.LinkKind.TheVariants.{Turn, Join, Split}
-use Rattle.timetable.specs.Accepted.{AreLinks}
 use Rattle.timetable.specs.Day.{Day, unit_count}
 use Rattle.timetable.specs.Lists.{count_of, has}
 use Rattle.timetable.specs.Links.{list_of, incoming, outgoing, link_into, link_out, arriving_in, departing_in, turned, given_by, taken_by, given, taken}
 use Rattle.timetable.specs.Running.{IsPlan}
 use Rattle.day_simulator.specs.Trips.{AreUnits}
-use Rattle.timetable.specs.LinkRows.{NamesBelow}
 use Rattle.timetable.proofs.NamedTrips.{position_some}
-use Rattle.day_simulator.proofs.Order.{one_same}
 use Rattle.day_simulator.proofs.Shares.{turn_shares, count_of-turned}
 
 -- the numbers that are found are of links

@@ -1,13 +1,10 @@
 -- Units in a list, and their types.
-use Rattle.std.proofs.Common.{◌≡◌, ℕ, zero, suc, ◌+◌, ◌*◌, ◌<◌, ◌≤◌, List, [], ◌∷◌, ◌++◌, length, get_or, take, map, Option, Some, None, ⊎_elim, true, IsTrue, refl, sym, ap, ◌∙◌, subst, arith, unwrap_or, slice_get}
+use Rattle.std.proofs.Common.{◌≡◌, ℕ, zero, suc, ◌+◌, ◌<◌, ◌≤◌, List, [], ◌∷◌, ◌++◌, length, get_or, take, map, Option, Some, true, IsTrue, refl, sym, ap, ◌∙◌, subst, arith, unwrap_or, slice_get}
 use Rattle.std.specs.Prelude.{option_map}
 use Rattle.std.proofs.lemmas.Bool.Decides.{nat_tests}
 use Rattle.std.proofs.lemmas.Bool.{le-leb, leb-true, and_from}
-use Rattle.std.proofs.lemmas.Option.{slice_get_cases}
-use Rattle.std.specs.List.{All}
-use Rattle.compositions.specs.declared.types.UnitType.{UnitType}
-use Rattle.compositions.specs.Composition.{of_type, carriages_of, are_types}
-use Rattle.timetable.specs.Accepted.{IsDay, IsUnitType}
+use Rattle.compositions.specs.Composition.{are_types}
+use Rattle.timetable.specs.Accepted.{IsDay}
 use Rattle.std.proofs.lemmas.List.{take_more, map-append}
 use Rattle.timetable.specs.declared.records.Unit as unit
 use Rattle.timetable.specs.Lists.{count_of, has}

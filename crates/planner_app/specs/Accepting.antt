@@ -13,7 +13,7 @@ use Rattle.timetable.specs.Build.{day_of}
 use Rattle.timetable.specs.Plans.{plan_of}
 use Rattle.planner_app.specs.declared.outcome.Refusal.{Refusal}
 use Rattle.planner_app.specs.declared.outcome.Refusal.TheVariants.{TooLong, WrongTable, NoDay, NoPlan}
-use Rattle.planner_app.specs.Inputs.{Inputs, bytes_of, most_bytes, tables_in, day_in}
+use Rattle.planner_app.specs.Inputs.{Inputs, bytes_of, most_bytes, day_in}
 use Rattle.planner_app.specs.Reaching.{Reaches}
 
 -- tables whose rows keep within the rules of their columns

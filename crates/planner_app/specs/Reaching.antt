@@ -1,5 +1,5 @@
 -- Which file could not be read: one that the reading reaches, and of which a read may fail.
-use Rattle.std.specs.Prelude.{ℕ, ◌≡◌, List, Bool, Option, Some, Result, IsOk, IsTrue, ⊤}
+use Rattle.std.specs.Prelude.{ℕ, ◌≡◌, List, Bool, Some, Result, IsOk, IsTrue, ⊤}
 use Rattle.rail_io.specs.Folders.{Files}
 use Rattle.rail_csv.specs.declared.rows.Table.{Table}
 use Rattle.rail_csv.specs.declared.rows.Table.TheVariants as table
