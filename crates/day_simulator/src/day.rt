@@ -1,7 +1,7 @@
 //! The day as it goes from event to event.
 
-ghost use Rattle.std.specs.Prelude.{◌≡◌, ◌<◌, length, map, IfOk};
-ghost use Rattle.timetable.specs.Day.{units_of};
+ghost use Rattle.std.specs.Prelude.{◌≡◌, ◌<◌, length, map, slice_get, Some, IfOk};
+ghost use Rattle.timetable.specs.Day.{units_of, unit_count};
 ghost use Rattle.timetable.specs.Running.{IsPlan};
 ghost use Rattle.day_simulator.specs.State.{start_of, is_waiting, is_under_way};
 ghost use Rattle.day_simulator.specs.Trips.{trip_of};
@@ -70,6 +70,15 @@ impl<'a> Day<'a> {
             stages,
             moment: 0,
         })
+    }
+
+    /// Where a unit of the day is: in a yard with the minute from which it is ready, under way, or standing in a train that
+    /// has arrived.
+    pub fn place(&self, unit: UnitNo) -> Place
+        requires { unit < unit_count self.now.day }
+        ensures { slice_get self.now.state.places unit ≡ Some result }
+    {
+        self.places[unit.place()]
     }
 
     /// Makes one step. After a fault, which is the first that holds, the day is as before.

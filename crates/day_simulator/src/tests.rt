@@ -1,11 +1,12 @@
 //! Worked days: what simulating them tells, and one day step by step. The costs were counted by hand.
 
 ghost use Rattle.std.specs.Prelude.{◌≡◌, ◌<◌, ◌≤◌, length, IfOk};
+ghost use Rattle.timetable.specs.Day.{unit_count};
 ghost use Rattle.timetable.specs.Running.{IsPlan};
 ghost use Rattle.day_simulator.specs.Trips.{trip_of};
 
-use crate::{Day, DayEvent, Ran, SimulateRefusal, StepFault, simulate};
-use rail_base::{LinkNo, Money, TripNo, UnitNo};
+use crate::{Day, DayEvent, Place, Ran, SimulateRefusal, StepFault, simulate};
+use rail_base::{LinkNo, Money, StationNo, TripNo, UnitNo};
 use std::alloc::Global;
 use std::test::Fail;
 use timetable::{Instance, NamedPlan, Rows, Tables};
@@ -113,6 +114,85 @@ fn step(day: &mut Day<'_>, event: DayEvent) -> Result<(), StepFault>
     ensures { day.new.day ≡ day.old.day }
 {
     day.step(event)
+}
+
+/// Where two units are at the end of a day, and what the day cost.
+#[derive(Clone, Copy, Debug, PartialEq, Eq)]
+struct End {
+    first: Place,
+    second: Place,
+    cost: Money,
+}
+
+/// The end of a day of two units and four trips, of which the last two leave in the minute in which the first two arrive. The
+/// four events of that minute come in this order.
+fn end_of(
+    day: &mut Day<'_>,
+    first_in: TripNo,
+    then_in: TripNo,
+    first_out: TripNo,
+    then_out: TripNo,
+) -> Result<End, StepFault>
+    requires trips { length day.old.day.trips ≡ 4 }
+    requires units { unit_count day.old.day ≡ 2 }
+    requires first_in { first_in < 4 }
+    requires then_in { then_in < 4 }
+    requires first_out { first_out < 4 }
+    requires then_out { then_out < 4 }
+{
+    step(day, DayEvent::Depart(TripNo(0)))?;
+    step(day, DayEvent::Depart(TripNo(1)))?;
+    step(day, DayEvent::Arrive(first_in))?;
+    step(day, DayEvent::Arrive(then_in))?;
+    step(day, DayEvent::Depart(first_out))?;
+    step(day, DayEvent::Depart(then_out))?;
+    step(day, DayEvent::Arrive(TripNo(2)))?;
+    step(day, DayEvent::Arrive(TripNo(3)))?;
+    Ok(End {
+        first: day.place(UnitNo(0)),
+        second: day.place(UnitNo(1)),
+        cost: day.finish()?,
+    })
+}
+
+#[test]
+fn four_events_of_one_minute(rt: HostRuntime) -> Result<(), Fail> {
+    let alloc = rt.alloc();
+    let instance = day_of(
+        alloc,
+        &Texts {
+            types: b"type,carriages,seats,metres,family\nA,3,200,80,regional\n",
+            stations: b"station,platform,reallocation\nX,200,30\nY,200,0\nZ,200,20\n",
+            stock: b"station,type,start,end\nX,A,1,1\nZ,A,1,1\n",
+            trips: b"trip,from,departure,to,arrival,km,demand\nT1,X,08:00,Y,09:00,10,150\nT2,Z,08:00,Y,09:00,10,150\nT3,Y,09:00,X,10:00,10,150\nT4,Y,09:00,Z,10:00,10,150\n",
+            links: b"kind,arriving,arriving2,departing,departing2,reverse,uncouple,couple\n",
+        },
+    )?;
+    if instance.trips() != 4 || instance.units() != 2 {
+        panic!(rt; "a day of four trips and two units");
+    }
+    let plan = plan_of(alloc, &instance, b"trip,units\nT1,0\nT2,1\nT3,1\nT4,0\n")?;
+    let [one, two, three, four] = [TripNo(0), TripNo(1), TripNo(2), TripNo(3)];
+    let end = Ok(End {
+        first: Place::Yard {
+            station: StationNo(2),
+            ready: 620,
+        },
+        second: Place::Yard {
+            station: StationNo(0),
+            ready: 630,
+        },
+        cost: Money(120),
+    });
+    let mut day = Day::new(alloc, &instance, &plan)?;
+    assert!(rt; end_of(&mut day, one, two, three, four) == end);
+    let mut day = Day::new(alloc, &instance, &plan)?;
+    assert!(rt; end_of(&mut day, two, one, three, four) == end);
+    let mut day = Day::new(alloc, &instance, &plan)?;
+    assert!(rt; end_of(&mut day, one, two, four, three) == end);
+    let mut day = Day::new(alloc, &instance, &plan)?;
+    assert!(rt; end_of(&mut day, two, one, four, three) == end);
+    Ok(())
 }
 
 #[test]
