@@ -23,9 +23,10 @@ use Rattle.timetable.proofs.TypeRule.{map_parts, turn_parts-map, turned-map, joi
 use Rattle.transitions.specs.declared.edge.Edge.{Edge}
 use Rattle.transitions.specs.declared.edge.Shunt.{Shunt}
 use Rattle.transitions.specs.declared.edge.Shunt.TheVariants.{Keep, Uncouple, Couple}
-use Rattle.transitions.specs.Between.{front_arriving, front_departing}
+use Rattle.timetable.specs.Chains.{leads_from, leads_to}
+use Rattle.timetable.specs.Handovers.{second_of}
 use Rattle.transitions.specs.Edges.{MayRun, IsKindEdge}
-use Rattle.transitions.specs.Laws.{second_train, shunt_by, TypesFollow, EdgesFound}
+use Rattle.transitions.specs.Laws.{shunt_by, TypesFollow, EdgesFound}
 use Rattle.transitions.specs.Turns.{shunt_of, turn_shunt}
 
 -- no platform is greater than the greatest
@@ -92,9 +93,9 @@ module _ (f : ℕ → ℕ) (uncouple couple : End) (r : Bool) (arriving departin
 record KindFollows (day : Day) (plan : List (List ℕ)) (kind : LinkKind) (r : Bool) : Type 0 where
   edge : Edge
   allowed : IsKindEdge day kind r edge
-  origin : composition_at day edge.from ≡ types_of day (list_of plan (front_arriving kind))
-  goal : composition_at day edge.to ≡ types_of day (list_of plan (front_departing kind))
-  part : option_map (composition_at day) edge.part ≡ option_map (λ t. types_of day (list_of plan t)) (second_train kind)
+  origin : composition_at day edge.from ≡ types_of day (list_of plan (leads_from kind))
+  goal : composition_at day edge.to ≡ types_of day (list_of plan (leads_to kind))
+  part : option_map (composition_at day) edge.part ≡ option_map (λ t. types_of day (list_of plan t)) (second_of kind)
   shunt : edge.shunt ≡ shunt_by kind r plan
 
 module _ (day : Day) (plan : List (List ℕ)) (runs : Runs day plan) where

@@ -9,7 +9,8 @@ use Rattle.timetable.specs.Compositions.{compositions_of}
 use Rattle.timetable.specs.Day.{Day}
 use Rattle.transitions.specs.declared.edge.Edge.{Edge}
 use Rattle.transitions.specs.Edges.{MayRun, IsKindEdge, AreEdges, AreGraphs}
-use Rattle.transitions.specs.Between.{AreEdgesUpTo, front_arriving}
+use Rattle.transitions.specs.Between.{AreEdgesUpTo}
+use Rattle.timetable.specs.Chains.{leads_from}
 
 -- the compositions of an edge are in the catalogue
 pub from_listed : (day : Day) (kind : LinkKind) (r : Bool) (x : Edge) → IsKindEdge day kind r x → x.from < length (compositions_of day)
@@ -23,7 +24,7 @@ to_listed day (Join a1 a2 b) r x e = e.departing.listed
 to_listed day (Split a b1 b2) r x e = e.first.listed
 
 -- the first composition of an edge may run on the first arriving trip
-pub from_runs : (day : Day) (kind : LinkKind) (r : Bool) (x : Edge) → IsKindEdge day kind r x → MayRun day (front_arriving kind) x.from
+pub from_runs : (day : Day) (kind : LinkKind) (r : Bool) (x : Edge) → IsKindEdge day kind r x → MayRun day (leads_from kind) x.from
 from_runs day (Turn a b uncouple couple) r x e = e.arriving
 from_runs day (Join a1 a2 b) r x e = e.first
 from_runs day (Split a b1 b2) r x e = e.arriving

@@ -1,22 +1,9 @@
--- The first trips of a link, and edges between two compositions.
+-- Edges between two compositions.
 use Rattle.std.specs.Prelude.{ℕ, ◌≡◌, ◌<◌, ◌⊎◌, ◌↔◌, List, Contains}
 use Rattle.std.specs.Ordering.{nat_cmp, ordering_then}
 use Rattle.std.specs.declared.cmp.Ordering.{Ordering}
-use Rattle.timetable.specs.declared.records.LinkKind.{LinkKind}
-use Rattle.timetable.specs.declared.records.LinkKind.TheVariants.{Turn, Join, Split}
 use Rattle.transitions.specs.declared.edge.Edge.{Edge}
 use Rattle.transitions.specs.Edges.{AreInOrder}
-
--- the trips of the train in front, as it arrives for a link and as it departs by it
-abbrev pub front_arriving : LinkKind → ℕ
-front_arriving (Turn a b uncouple couple) = a
-front_arriving (Join a1 a2 b) = a1
-front_arriving (Split a b1 b2) = a
-
-abbrev pub front_departing : LinkKind → ℕ
-front_departing (Turn a b uncouple couple) = b
-front_departing (Join a1 a2 b) = b
-front_departing (Split a b1 b2) = b1
 
 -- the edge goes from the one composition to the other
 pub record IsBetween (from to : ℕ) (edge : Edge) : Type 0 where

@@ -1,25 +1,20 @@
 -- A plan that runs follows an edge of each link.
-use Rattle.std.specs.Prelude.{ℕ, ◌≡◌, List, Bool, Option, Some, None, option_map, slice_get}
+use Rattle.std.specs.Prelude.{ℕ, ◌≡◌, List, Bool, Some, option_map, slice_get}
 use Rattle.timetable.specs.declared.records.Link.{Link}
 use Rattle.timetable.specs.declared.records.LinkKind.{LinkKind}
 use Rattle.timetable.specs.declared.records.LinkKind.TheVariants.{Turn, Join, Split}
 use Rattle.timetable.specs.Accepted.{AreLinks}
+use Rattle.timetable.specs.Chains.{leads_from, leads_to}
 use Rattle.timetable.specs.Compositions.{composition_at}
 use Rattle.timetable.specs.Day.{Day, types_of}
+use Rattle.timetable.specs.Handovers.{second_of}
 use Rattle.timetable.specs.Links.{list_of, turned, turn_of}
 use Rattle.timetable.specs.Running.{Runs}
 use Rattle.transitions.specs.declared.edge.Edge.{Edge}
 use Rattle.transitions.specs.declared.edge.Shunt.{Shunt}
 use Rattle.transitions.specs.declared.edge.Shunt.TheVariants.{Keep}
-use Rattle.transitions.specs.Between.{front_arriving, front_departing}
 use Rattle.transitions.specs.Edges.{IsEdge, AreGraphs, IsFound}
 use Rattle.transitions.specs.Turns.{shunt_of}
-
--- the trip of the second train of a join or a split, and none at a turn
-abbrev pub second_train : LinkKind → Option ℕ
-second_train (Turn a b uncouple couple) = None
-second_train (Join a1 a2 b) = Some a2
-second_train (Split a b1 b2) = Some b2
 
 -- what is done to the train: a turn uncouples the units that the plan gives there, or couples those that it takes
 abbrev pub shunt_by : LinkKind → Bool → List (List ℕ) → Shunt
@@ -32,9 +27,9 @@ shunt_by (Split a b1 b2) reversed plan = Keep
 pub record FollowsEdge (day : Day) (plan : List (List ℕ)) (l : ℕ) (link : Link) : Type 0 where
   pub edge : Edge
   pub allowed : IsEdge day l edge
-  pub origin : composition_at day edge.from ≡ types_of day (list_of plan (front_arriving link.kind))
-  pub goal : composition_at day edge.to ≡ types_of day (list_of plan (front_departing link.kind))
-  pub part : option_map (composition_at day) edge.part ≡ option_map (λ t. types_of day (list_of plan t)) (second_train link.kind)
+  pub origin : composition_at day edge.from ≡ types_of day (list_of plan (leads_from link.kind))
+  pub goal : composition_at day edge.to ≡ types_of day (list_of plan (leads_to link.kind))
+  pub part : option_map (composition_at day) edge.part ≡ option_map (λ t. types_of day (list_of plan t)) (second_of link.kind)
   pub shunt : edge.shunt ≡ shunt_by link.kind link.reverse plan
 
 -- A plan that runs follows an edge of each link of its day.

@@ -6,7 +6,8 @@ ghost use Rattle.timetable.specs.LinkRows.{NamesBelow};
 ghost use Rattle.transitions.specs.declared.edge.Edge.{Edge};
 ghost use Rattle.transitions.specs.declared.edge.Shunt.TheVariants.{Keep};
 ghost use Rattle.transitions.specs.Edges.{MayRun, IsTurnEdge, IsJoinEdge, IsSplitEdge, IsKindEdge};
-ghost use Rattle.transitions.specs.Between.{IsBetween, front_arriving, front_departing};
+ghost use Rattle.transitions.specs.Between.{IsBetween};
+ghost use Rattle.timetable.specs.Chains.{leads_from, leads_to};
 
 use crate::edge::{Edge, Shunt};
 use crate::turns::{rest_after, turn_shunt, turned};
@@ -25,7 +26,7 @@ pub(crate) fn edge_between(
     to: CompNo,
 ) -> Option<Edge>
     requires trips { NamesBelow (length instance.now.trips) link.now.kind }
-    requires from { MayRun instance.now (front_arriving link.now.kind) from }
+    requires from { MayRun instance.now (leads_from link.now.kind) from }
     requires to { to < length (compositions_of instance.now) }
     ensures { (edge : Edge) → (result ≡ Some edge) ↔ (IsKindEdge instance.now link.now.kind link.now.reverse edge × IsBetween from to edge) }
 {
@@ -44,8 +45,8 @@ pub(crate) fn edge_between(
 }
 
 /// The first trip that arrives for a link: the train in front.
-fn front_arriving(kind: LinkKind) -> TripNo
-    ensures { result ≡ front_arriving kind }
+fn leads_from(kind: LinkKind) -> TripNo
+    ensures { result ≡ leads_from kind }
 {
     match kind {
         LinkKind::Turn { arriving, .. } => arriving,
@@ -55,8 +56,8 @@ fn front_arriving(kind: LinkKind) -> TripNo
 }
 
 /// The first trip that departs by a link: the train in front.
-fn front_departing(kind: LinkKind) -> TripNo
-    ensures { result ≡ front_departing kind }
+fn leads_to(kind: LinkKind) -> TripNo
+    ensures { result ≡ leads_to kind }
 {
     match kind {
         LinkKind::Turn { departing, .. } => departing,
@@ -69,9 +70,9 @@ fn front_departing(kind: LinkKind) -> TripNo
 pub(crate) fn may_arrive(instance: &Instance, link: &Link, comp: CompNo) -> bool
     requires trips { NamesBelow (length instance.now.trips) link.now.kind }
     requires comp { comp < length (compositions_of instance.now) }
-    ensures { IsTrue result ↔ MayRun instance.now (front_arriving link.now.kind) comp }
+    ensures { IsTrue result ↔ MayRun instance.now (leads_from link.now.kind) comp }
 {
-    let trip = front_arriving(link.kind);
+    let trip = leads_from(link.kind);
     instance.admits(trip, comp)
 }
 
@@ -79,9 +80,9 @@ pub(crate) fn may_arrive(instance: &Instance, link: &Link, comp: CompNo) -> bool
 fn may_depart(instance: &Instance, link: &Link, comp: CompNo) -> bool
     requires trips { NamesBelow (length instance.now.trips) link.now.kind }
     requires comp { comp < length (compositions_of instance.now) }
-    ensures { IsTrue result ↔ MayRun instance.now (front_departing link.now.kind) comp }
+    ensures { IsTrue result ↔ MayRun instance.now (leads_to link.now.kind) comp }
 {
-    let trip = front_departing(link.kind);
+    let trip = leads_to(link.kind);
     instance.admits(trip, comp)
 }
 

@@ -5,7 +5,7 @@ use Rattle.transitions.specs.Edges.{IsKindEdge}
 use Rattle.transitions.specs.Between.{AreEdgesUpTo}
 use Rattle.std.proofs.lemmas.Bool.{iff_false}
 use Rattle.transitions.specs.Edges.{MayRun}
-use Rattle.transitions.specs.Between.{front_arriving}
+use Rattle.timetable.specs.Chains.{leads_from}
 use Rattle.transitions.proofs.Listing.{skips, adds, row_ends, no_row}
 use Rattle.transitions.proofs.Links.{from_runs, to_listed}
 use Rattle.transitions.proofs.graphs.push_edges.Goals as goal
@@ -15,7 +15,7 @@ pub returns-then-not-may_arrive : goal.returns-then-not-may_arrive
 returns-then-not-may_arrive c =
     no_row (IsKindEdge c.args.instance.now c.args.link.now.kind c.args.link.now.reverse) c.args.from c.args.edges.now.items c.requires.before
     (λ x allowed same.
-    let runs = subst (λ (n : ℕ). MayRun c.args.instance.now (front_arriving c.args.link.now.kind) n) same (from_runs c.args.instance.now c.args.link.now.kind c.args.link.now.reverse x allowed) in
+    let runs = subst (λ (n : ℕ). MayRun c.args.instance.now (leads_from c.args.link.now.kind) n) same (from_runs c.args.instance.now c.args.link.now.kind c.args.link.now.reverse x allowed) in
     absurd (iff_false c.may_arrive.ensures c.if-not-may_arrive.true runs))
 
 pub edge_between-requires-clause-from : goal.edge_between-requires-clause-from
