@@ -1,9 +1,8 @@
 -- The whole day on its way: what holds of each state along the fixed order, and that each event keeps it.
-use Rattle.std.proofs.Common.{◌≡◌, ℕ, zero, suc, ◌+◌, ◌<◌, ◌≤◌, List, [], ◌∷◌, length, map, Bool, true, false, cond, eqb, Option, Some, None, refl, sym, ap, ◌∙◌, subst, arith, ◌≢◌, ⊎_elim}
-use Rattle.std.specs.Prelude.{slice_get, slice_set, unwrap_or, option_map, not}
-use Rattle.std.specs.List.{list_all}
-use Rattle.std.proofs.lemmas.Bool.{cases_eq, cases_lt, leb-true, le-leb, ne_eqb, and_parts, and_from}
-use Rattle.std.proofs.lemmas.List.{length-set, length-map}
+use Rattle.std.proofs.Common.{◌≡◌, ℕ, zero, suc, ◌+◌, ◌<◌, ◌≤◌, List, [], ◌∷◌, length, map, Bool, true, false, cond, eqb, Option, Some, None, refl, sym, ◌∙◌, subst, arith, ◌≢◌, ⊎_elim}
+use Rattle.std.specs.Prelude.{slice_get, unwrap_or, option_map, not}
+use Rattle.std.proofs.lemmas.Bool.{cases_eq, cases_lt, leb-true, le-leb, ne_eqb, and_parts}
+use Rattle.std.proofs.lemmas.List.{length-map}
 use Rattle.timetable.specs.Day.{Day, arrives, to_of, reallocation_of, home_of, units_of, unit_count, types_of, type_of}
 use Rattle.timetable.specs.Lists.{count_of, IsDistinct}
 use Rattle.timetable.specs.Accepted.{IsDay}
@@ -11,20 +10,19 @@ use Rattle.timetable.specs.Admissible.{is_admissible}
 use Rattle.timetable.specs.Links.{list_of, given, taken}
 use Rattle.timetable.specs.Running.{IsPlan}
 use Rattle.timetable.specs.declared.records.Unit as unit
-use Rattle.timetable.specs.declared.records.Trip.{Trip}
 use Rattle.day_simulator.specs.declared.events.DayEvent.{DayEvent}
 use Rattle.day_simulator.specs.declared.events.DayEvent.TheVariants.{Depart, Arrive}
 use Rattle.day_simulator.specs.declared.events.Place.TheVariants.{Yard, Aboard, Standing}
-use Rattle.day_simulator.specs.declared.events.Stage.{Stage}
 use Rattle.day_simulator.specs.declared.events.Stage.TheVariants as stage
 use Rattle.day_simulator.specs.declared.events.StepFault.{StepFault}
 use Rattle.day_simulator.specs.declared.events.StepFault.TheVariants.{NotNow, NoUnits, NotAdmissible, LinkBroken, NotInYard}
-use Rattle.day_simulator.specs.State.{State, start_of, place_of, stage_of, is_waiting, is_under_way, has_arrived, moment_of, put_all}
-use Rattle.day_simulator.specs.Steps.{feeders, is_now, broken_into, broken_out, first_missing, fault_of, after}
+use Rattle.day_simulator.specs.State.{State, start_of, place_of, stage_of, put_all}
+use Rattle.day_simulator.specs.Steps.{is_now, broken_into, broken_out, first_missing, fault_of, after}
 use Rattle.day_simulator.specs.Orders.{IsOrder, departures, arrivals, AllFrom}
-use Rattle.day_simulator.proofs.Order.{one_same, one_other}
-use Rattle.day_simulator.proofs.Lawful.{Lawful, left_depart, left_arrive, lawful_tail, lawful_order, arrived_before}
-use Rattle.day_simulator.proofs.Places.{stage_same, stage_other, HavePlaces, length-put_all, put_in, put_out, Served, served_from_none}
+use Rattle.day_simulator.proofs.Order.{one_other}
+use Rattle.day_simulator.proofs.Lawful.{Lawful, lawful_order}
+use Rattle.day_simulator.proofs.Timely.{Timely, timely_now_depart, timely_now_arrive, timely_depart, timely_arrive, timely_start}
+use Rattle.day_simulator.proofs.Places.{HavePlaces, length-put_all, put_in, put_out, Served, served_from_none}
 use Rattle.day_simulator.proofs.Hands.{HandsOver, kept_arrives}
 use Rattle.day_simulator.proofs.Moves.{is_trip, Fits, DistinctSoFar, Boarding, fits_board, fits_pass_depart, fits_give, fits_keep, fits_pass_arrive, boarding_of, boards_once}
 
@@ -38,6 +36,9 @@ pub record Going (day : Day) (plan : List (List ℕ)) (state : State) (es : List
   pub arrived : (t : ℕ) → arrivals t es ≡ 0 → stage_of state.stages t ≡ stage.Arrived
   pub fits : (u : ℕ) → u < unit_count day → Fits day plan u (place_of state.places u) es
   pub so_far : DistinctSoFar plan es
+
+timely_of : (day : Day) (plan : List (List ℕ)) (state : State) (es : List DayEvent) → Going day plan state es → Timely day state es
+timely_of day plan state es g = record { lawful = g.lawful; moment = g.moment; stages = g.stages; waiting = g.waiting; under_way = g.under_way; arrived = g.arrived }
 
 -- a departure without a fault
 pub record Departs (day : Day) (plan : List (List ℕ)) (state : State) (t : ℕ) : Type 0 where
@@ -83,12 +84,6 @@ have_places day plan t n us is_plan same le = record {
   within = λ v c. let l = le v in let lt = is_plan.units t v (le-leb 1 (count_of v (list_of plan t)) (omega arith)) in omega arith;
 }
 
-all_arrived : (stages : List Stage) (ts : List ℕ) → ((a : ℕ) → 1 ≤ count_of a ts → stage_of stages a ≡ stage.Arrived) → list_all (λ a. has_arrived (stage_of stages a)) ts ≡ true
-all_arrived stages [] h = refl
-all_arrived stages (a ∷ ts) h =
-    let o = one_same a a refl in
-    and_from (has_arrived (stage_of stages a)) (list_all (λ a. has_arrived (stage_of stages a)) ts) (ap has_arrived (h a (omega arith))) (all_arrived stages ts (λ x c. h x (omega arith)))
-
 module _ (day : Day) (plan : List (List ℕ)) (is_day : IsDay day) (is_plan : IsPlan day plan) (hands : HandsOver day plan) where
   pub taken_within : (t u : ℕ) → count_of u (taken day plan t) ≤ count_of u (list_of plan t)
   taken_within t u = let total = (hands.takes t).total u in omega arith
@@ -97,18 +92,10 @@ module _ (day : Day) (plan : List (List ℕ)) (is_day : IsDay day) (is_plan : Is
   given_within t u = let total = (hands.gives t).total u in omega arith
 
   pub now_depart : (state : State) (t : ℕ) (es : List DayEvent) → Going day plan state (Depart t ∷ es) → is_now day state (Depart t) ≡ true
-  unfolding is_now
-  now_depart state t es g =
-      let o = one_same t t refl in
-      and_from _ _
-      (and_from _ _ (le-leb state.moment (moment_of day (Depart t)) g.moment.0) (ap is_waiting (g.waiting t (omega arith))))
-      (all_arrived state.stages (feeders day t) (λ a c. g.arrived a (arrived_before day a t es (hands.before a t c) g.lawful)))
+  now_depart state t es g = timely_now_depart day is_day hands.before state t es (timely_of day plan state (Depart t ∷ es) g)
 
   pub now_arrive : (state : State) (t : ℕ) (es : List DayEvent) → Going day plan state (Arrive t ∷ es) → is_now day state (Arrive t) ≡ true
-  unfolding is_now
-  now_arrive state t es g =
-      let o = one_same t t refl in
-      and_from _ _ (le-leb state.moment (moment_of day (Arrive t)) g.moment.0) (ap is_under_way (g.under_way t (left_arrive day t es is_day g.lawful).departs (omega arith)))
+  now_arrive state t es g = timely_now_arrive day is_day state t es (timely_of day plan state (Arrive t ∷ es) g)
 
   -- where units are after an event
   module _ (state : State) (t : ℕ) (same : length state.places ≡ unit_count day) where
@@ -158,21 +145,15 @@ module _ (day : Day) (plan : List (List ℕ)) (is_day : IsDay day) (is_plan : Is
   pub going_depart : (state : State) (t : ℕ) (es : List DayEvent) → Going day plan state (Depart t ∷ es) → Departs day plan state t → Going day plan (after day plan state (Depart t)) es
   unfolding after
   going_depart state t es g h =
-      let left = left_depart day t es g.lawful in
-      let range : t < length state.stages = (let trip = left.trip in let same = g.stages in omega arith) in
+      let timely = timely_depart day is_day plan state t es (timely_of day plan state (Depart t ∷ es) g) in
       record {
-        lawful = lawful_tail day (Depart t) es is_day g.lawful;
-        moment = g.lawful.never_falls.0;
+        lawful = timely.lawful;
+        moment = timely.moment;
         places = length-put_all state.places (list_of plan t) (Aboard t) ∙ g.places;
-        stages = length-set state.stages t stage.UnderWay ∙ g.stages;
-        waiting = λ s c.
-            let ne : s ≢ t = λ e. (let c' = subst (λ x. 1 ≤ departures x es) e c in let none = left.departs in absurd (omega arith)) in
-            stage_other state.stages t s stage.UnderWay ne ∙ g.waiting s (omega arith);
-        under_way = λ s d a. ⊎_elim (λ (e : t ≡ s). subst (λ x. stage_of (slice_set state.stages t stage.UnderWay) x ≡ stage.UnderWay) e (stage_same state.stages t stage.UnderWay range))
-            (λ (ne : t ≢ s). let o = one_other t s ne in stage_other state.stages t s stage.UnderWay (λ e. ne (sym e)) ∙ g.under_way s (omega arith) a) (cases_eq t s);
-        arrived = λ s z.
-            let ne : s ≢ t = λ e. (let z' = subst (λ x. arrivals x es ≡ 0) e z in let yet = left.arrives in absurd (omega arith)) in
-            stage_other state.stages t s stage.UnderWay ne ∙ g.arrived s z;
+        stages = timely.stages;
+        waiting = timely.waiting;
+        under_way = timely.under_way;
+        arrived = timely.arrived;
         fits = λ u lt. ⊎_elim
             (λ (c : 0 < count_of u (list_of plan t)).
             let mine : 1 ≤ count_of u (list_of plan t) = omega arith in
@@ -192,22 +173,15 @@ module _ (day : Day) (plan : List (List ℕ)) (is_day : IsDay day) (is_plan : Is
   pub going_arrive : (state : State) (t : ℕ) (es : List DayEvent) → Going day plan state (Arrive t ∷ es) → Going day plan (after day plan state (Arrive t)) es
   unfolding after
   going_arrive state t es g =
-      let left = left_arrive day t es is_day g.lawful in
-      let range : t < length state.stages = (let trip = left.trip in let same = g.stages in omega arith) in
-      let here = one_same t t refl in
+      let timely = timely_arrive day is_day plan state t es (timely_of day plan state (Arrive t ∷ es) g) in
       record {
-        lawful = lawful_tail day (Arrive t) es is_day g.lawful;
-        moment = g.lawful.never_falls.0;
+        lawful = timely.lawful;
+        moment = timely.moment;
         places = length-put_all (put_all state.places (list_of plan t) (Standing t)) (given day plan t) _ ∙ length-put_all state.places (list_of plan t) (Standing t) ∙ g.places;
-        stages = length-set state.stages t stage.Arrived ∙ g.stages;
-        waiting = λ s c.
-            let ne : s ≢ t = λ e. (let c' = subst (λ x. 1 ≤ departures x es) e c in let none = left.departs in absurd (omega arith)) in
-            stage_other state.stages t s stage.Arrived ne ∙ g.waiting s c;
-        under_way = λ s d a.
-            let ne : s ≢ t = λ e. (let a' = subst (λ x. 1 ≤ arrivals x es) e a in let none = left.arrives in absurd (omega arith)) in
-            stage_other state.stages t s stage.Arrived ne ∙ g.under_way s d (omega arith);
-        arrived = λ s z. ⊎_elim (λ (e : t ≡ s). subst (λ x. stage_of (slice_set state.stages t stage.Arrived) x ≡ stage.Arrived) e (stage_same state.stages t stage.Arrived range))
-            (λ (ne : t ≢ s). let o = one_other t s ne in stage_other state.stages t s stage.Arrived (λ e. ne (sym e)) ∙ g.arrived s (omega arith)) (cases_eq t s);
+        stages = timely.stages;
+        waiting = timely.waiting;
+        under_way = timely.under_way;
+        arrived = timely.arrived;
         fits = λ u lt. ⊎_elim
             (λ (c : 0 < count_of u (list_of plan t)).
             let mine : 1 ≤ count_of u (list_of plan t) = omega arith in
@@ -239,62 +213,37 @@ pub start_place : (day : Day) (u : ℕ) → u < unit_count day → place_of (sta
 unfolding start_of place_of home_of
 start_place day u lt = home_place (units_of day) u lt
 
-waits : (trips : List Trip) (t : ℕ) → t < length trips → unwrap_or (slice_get (map (λ trip. stage.Waiting) trips) t) stage.Arrived ≡ stage.Waiting
-waits [] t lt = absurd (omega arith)
-waits (x ∷ trips) zero lt = refl
-waits (x ∷ trips) (suc t) lt = waits trips t (omega arith)
-
-gone_already : (trips : List Trip) (t : ℕ) → length trips ≤ t → unwrap_or (slice_get (map (λ trip. stage.Waiting) trips) t) stage.Arrived ≡ stage.Arrived
-gone_already [] t lt = refl
-gone_already (x ∷ trips) zero lt = absurd (omega arith)
-gone_already (x ∷ trips) (suc t) lt = gone_already trips t (omega arith)
-
-start_waits : (day : Day) (t : ℕ) → t < length day.trips → stage_of (start_of day).stages t ≡ stage.Waiting
-unfolding start_of stage_of
-start_waits day t lt = waits day.trips t lt
-
-start_gone : (day : Day) (t : ℕ) → length day.trips ≤ t → stage_of (start_of day).stages t ≡ stage.Arrived
-unfolding start_of stage_of
-start_gone day t ge = gone_already day.trips t ge
-
-from_zero : (day : Day) (es : List DayEvent) → AllFrom day 0 es
-from_zero day [] = tt
-from_zero day (e ∷ es) = (omega arith, from_zero day es)
-
 pub going_start : (day : Day) (plan : List (List ℕ)) (es : List DayEvent) → IsOrder day es → IsPlan day plan → HandsOver day plan → Going day plan (start_of day) es
 unfolding start_of
-going_start day plan es order is_plan hands = record {
-  lawful = lawful_order day es order;
-  moment = from_zero day es;
-  places = length-map (units_of day) _;
-  stages = length-map day.trips _;
-  waiting = λ t c. start_waits day t (in_day t (let too = (lawful_order day es order).departs_too t in omega arith));
-  under_way = λ t d a. (let one = order.departs_once t (in_day t a) in absurd (omega arith));
-  arrived = λ t z. start_gone day t (past t z);
-  fits = λ u lt. subst (λ p. Fits day plan u p es) (sym (start_place day u lt)) (record {
-    under_way = λ t c d a. (let one = order.departs_once t (in_day t a) in absurd (omega arith));
-    pending = λ a b k gone yet.
-        let le = kept_arrives day plan hands u a b in
-        let trip = is_trip day plan u a is_plan (omega arith) in
-        let one = order.arrives_once a trip in
-        absurd (omega arith);
-    aboard = λ t e. absurd (cc);
-    standing = λ t e. absurd (cc);
-  });
-  so_far = record {
-    distinct = λ a none u.
-        ⊎_elim (λ (c : 0 < count_of u (list_of plan a)).
-        let trip = is_trip day plan u a is_plan (omega arith) in
-        let one = order.departs_once a trip in
-        absurd (omega arith))
-        (λ (c : count_of u (list_of plan a) ≤ 0). omega arith) (cases_lt 0 (count_of u (list_of plan a)));
-  };
-}
+going_start day plan es order is_plan hands =
+    let timely = timely_start day es order in record {
+      lawful = timely.lawful;
+      moment = timely.moment;
+      places = length-map (units_of day) _;
+      stages = timely.stages;
+      waiting = timely.waiting;
+      under_way = timely.under_way;
+      arrived = timely.arrived;
+      fits = λ u lt. subst (λ p. Fits day plan u p es) (sym (start_place day u lt)) (record {
+        under_way = λ t c d a. (let one = order.departs_once t (in_day t a) in absurd (omega arith));
+        pending = λ a b k gone yet.
+            let le = kept_arrives day plan hands u a b in
+            let trip = is_trip day plan u a is_plan (omega arith) in
+            let one = order.arrives_once a trip in
+            absurd (omega arith);
+        aboard = λ t e. absurd (cc);
+        standing = λ t e. absurd (cc);
+      });
+      so_far = record {
+        distinct = λ a none u.
+            ⊎_elim (λ (c : 0 < count_of u (list_of plan a)).
+            let trip = is_trip day plan u a is_plan (omega arith) in
+            let one = order.departs_once a trip in
+            absurd (omega arith))
+            (λ (c : count_of u (list_of plan a) ≤ 0). omega arith) (cases_lt 0 (count_of u (list_of plan a)));
+      };
+    }
   where
     in_day : (t : ℕ) → 1 ≤ arrivals t es → t < length day.trips
     in_day t c = ⊎_elim (λ (lt : t < length day.trips). lt)
         (λ (ge : length day.trips ≤ t). let z = (lawful_order day es order).in_range t ge in absurd (omega arith)) (cases_lt t (length day.trips))
-
-    past : (t : ℕ) → arrivals t es ≡ 0 → length day.trips ≤ t
-    past t z = ⊎_elim (λ (lt : t < length day.trips). (let one = order.arrives_once t lt in absurd (omega arith)))
-        (λ (ge : length day.trips ≤ t). ge) (cases_lt t (length day.trips))

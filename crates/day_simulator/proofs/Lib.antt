@@ -5,6 +5,7 @@ pub mod End
 pub mod Ending
 pub mod Faults
 pub mod FixedOrder
+pub mod Timely
 pub mod Going
 pub mod Hands
 pub mod Lawful
@@ -27,4 +28,5 @@ pub mod Tested
 pub mod Theorem
 pub mod Units
 pub mod Whole
+pub mod InTurn
 pub mod Simulating

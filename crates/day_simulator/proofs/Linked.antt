@@ -71,7 +71,7 @@ module _ (day : Day) (plan : List (List ℕ)) (links : AreLinks day) where
       absurd (omega arith))
       (named_or_not arriving_in day.links a)
 
-  feeds_in_time : (a b : ℕ) → 1 ≤ count_of a (feeders day b) → arrives day a ≤ leaves day b
+  pub feeds_in_time : (a b : ℕ) → 1 ≤ count_of a (feeders day b) → arrives day a ≤ leaves day b
   unfolding incoming
   feeds_in_time a b c = ⊎_elim
       (λ (h : (link : Link) × IsNamed departing_in day.links b link).

@@ -1,10 +1,12 @@
 -- The machine and the conditions on a plan say the same.
-use Rattle.std.specs.Prelude.{ℕ, ◌≡◌, List, [], Ok}
+use Rattle.std.specs.Prelude.{ℕ, ◌≡◌, List, [], Ok, Err}
 use Rattle.timetable.specs.Day.{Day}
 use Rattle.timetable.specs.Accepted.{IsDay, AreLinks}
 use Rattle.timetable.specs.Running.{IsPlan, Runs}
 use Rattle.timetable.specs.Cost.{plan_cost}
 use Rattle.day_simulator.specs.declared.events.DayEvent.{DayEvent}
+use Rattle.day_simulator.specs.declared.events.StepFault.{StepFault}
+use Rattle.day_simulator.specs.declared.events.StepFault.TheVariants.{NotNow}
 use Rattle.day_simulator.specs.Finish.{simulation}
 use Rattle.day_simulator.specs.Orders.{IsOrder, RunsInOrder}
 
@@ -24,3 +26,11 @@ WithLinks = (day : Day) (plan : List (List ℕ)) → IsDay day → AreLinks day 
 -- on a day without links
 abbrev pub WithoutLinks : Type 0
 WithoutLinks = (day : Day) (plan : List (List ℕ)) → IsDay day → IsPlan day plan → day.links ≡ [] → RunsExactly day plan
+
+-- the fault is none of the turn of an event
+abbrev pub IsInTurn : StepFault → Type 0
+IsInTurn fault = (event : DayEvent) → ¬ (fault ≡ NotNow event)
+
+-- In the fixed order no event is out of turn, and none is missing at the end, whatever the plan is.
+abbrev pub InTurn : Type 0
+InTurn = (day : Day) (plan : List (List ℕ)) → IsDay day → AreLinks day → (fault : StepFault) → simulation day plan ≡ Err fault → IsInTurn fault

@@ -2,7 +2,7 @@
 //!
 //! Each law is the contract of a function that does nothing: it holds of every day and every plan.
 
-ghost use Rattle.day_simulator.specs.Laws.{InEveryOrder, WithLinks, WithoutLinks};
+ghost use Rattle.day_simulator.specs.Laws.{InEveryOrder, WithLinks, WithoutLinks, InTurn};
 
 /// In every order of the day's events, all of them go through to the end exactly where the plan runs. Then each unit is in
 /// the yard of its last place, ready at the same minute, and the day costs what the plan costs, whichever the order was.
@@ -18,4 +18,9 @@ pub fn runs_exactly()
 /// The same on a day without links, of which nothing needs to be known about links.
 pub fn runs_exactly_without_links()
     ensures law { WithoutLinks }
+{}
+
+/// In the fixed order no event is out of turn, and none is missing at the end: a plan stops for a cause of its own.
+pub fn is_always_in_turn()
+    ensures law { InTurn }
 {}

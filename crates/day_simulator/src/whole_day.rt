@@ -6,6 +6,7 @@ ghost use Rattle.timetable.specs.Running.{IsPlan, Runs};
 ghost use Rattle.timetable.specs.Cost.{plan_cost};
 ghost use Rattle.day_simulator.specs.Trips.{trip_of};
 ghost use Rattle.day_simulator.specs.Progressing.{IsCost, MakesSteps, Simulates};
+ghost use Rattle.day_simulator.specs.Laws.{IsInTurn};
 
 use crate::day::Day;
 use crate::events::{DayEvent, StepFault};
@@ -45,7 +46,7 @@ impl From<NoMemory> for SimulateRefusal {
 }
 
 /// Steps a day's events by minute, arrivals before departures and then by trip number, and finishes it: its cost exactly
-/// where the plan runs, and else the first fault. The plan is one of this day.
+/// where the plan runs, and else the first fault, which is never that an event is out of turn. The plan is one of this day.
 pub fn simulate(
     alloc: Global,
     instance: &Instance,
@@ -55,6 +56,7 @@ pub fn simulate(
     ensures exact { Simulates instance.now plan.now result }
     ensures runs { IfOk result (λ ran. Runs instance.now plan.now × IsCost (plan_cost instance.now plan.now) ran.cost) }
     ensures stops { (fault : StepFault) → IsErrOf result (SimulateRefusal.Stops fault) → Runs instance.now plan.now → ⊥ }
+    ensures in_turn { (fault : StepFault) → IsErrOf result (SimulateRefusal.Stops fault) → IsInTurn fault }
 {
     // What these two calls ensure of trips and links is what the law of running asks of the day.
     let _known = (instance.trips(), instance.links());

@@ -10,7 +10,7 @@ use Rattle.planner_app.specs.Answering.{Explains, Tells}
 
 pub told_of_inputs : (files : Files) (dir : List ℕ) (inputs : Inputs) (outcome : Outcome) → inputs_in files dir ≡ Ok inputs → Tells inputs outcome → Explains files dir outcome
 told_of_inputs files dir inputs (Runs money) e h = (inputs, e, h.0, h.1)
-told_of_inputs files dir inputs (Stops fault) e h = (inputs, e, h.0, h.1)
+told_of_inputs files dir inputs (Stops fault) e h = (inputs, e, h.0, h.1, h.2)
 told_of_inputs files dir inputs NoMemory e h = tt
 told_of_inputs files dir inputs (Refused why) e h = absurd h
 told_of_inputs files dir inputs (CannotRead table) e h = absurd h

@@ -176,7 +176,7 @@ document_if words files (Some dir) e (Stops fault) h status s may_fail may text 
     let one = other 1 status s in
     record {
       runs = λ z. absurd (omega arith);
-      stops = λ _ inputs accepted. (fault, subst (λ (i : Inputs). simulation i.day i.plan ≡ Err fault) (same_inputs files dir h.0 inputs h.1 (accepted_in words files dir inputs e accepted)) h.3, d);
+      stops = λ _ inputs accepted. (fault, subst (λ (i : Inputs). simulation i.day i.plan ≡ Err fault) (same_inputs files dir h.0 inputs h.1 (accepted_in words files dir inputs e accepted)) h.3, h.4, d);
       usage = λ z. absurd (omega arith);
       refused = λ z. absurd (omega arith);
       unread = λ z. absurd (omega arith);

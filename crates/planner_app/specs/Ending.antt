@@ -7,6 +7,7 @@ use Rattle.timetable.specs.Running as running
 use Rattle.timetable.specs.Cost.{plan_cost}
 use Rattle.day_simulator.specs.declared.events.StepFault.{StepFault}
 use Rattle.day_simulator.specs.Finish.{simulation}
+use Rattle.day_simulator.specs.Laws.{IsInTurn}
 use Rattle.planner_app.specs.declared.outcome.Outcome.{Outcome}
 use Rattle.planner_app.specs.declared.outcome.Outcome.TheVariants.{Runs, Stops, Usage, Refused, CannotRead, NoMemory}
 use Rattle.planner_app.specs.declared.outcome.Refusal.{Refusal}
@@ -64,7 +65,7 @@ IsStatus status = (status ≤ 3) ⊎ ((5 ≤ status) × (status ≤ 7))
 pub record IsDocumentAt (words : List (List ℕ)) (files : Files) (may_fail : List ℕ → Bool) (status : ℕ) (text : List ℕ) : Type 0 where
   pub runs : status ≡ 0 → (inputs : Inputs) → Accepted words files inputs → text ≡ runs_line (plan_cost inputs.day inputs.plan)
   pub stops : status ≡ 1 → (inputs : Inputs) → Accepted words files inputs
-      → (fault : StepFault) × (simulation inputs.day inputs.plan ≡ Err fault) × (text ≡ stops_line fault)
+      → (fault : StepFault) × (simulation inputs.day inputs.plan ≡ Err fault) × IsInTurn fault × (text ≡ stops_line fault)
   pub usage : status ≡ 2 → text ≡ usage_line
   pub refused : status ≡ 3 → (why : Refusal) → RefusedFor words files why → text ≡ refused_line why
   pub unread : status ≡ 5

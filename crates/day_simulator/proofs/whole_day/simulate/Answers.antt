@@ -1,6 +1,7 @@
 use Rattle.std.proofs.Common.{Ok, Err, ◌∙◌}
 use Rattle.day_simulator.specs.Steps.{fixed_order}
 use Rattle.day_simulator.proofs.Simulating.{steps_of, finishes_as, beginning, simulation_stops, simulation_ends_badly, simulation_ends_well, runs_at_cost, never_runs}
+use Rattle.day_simulator.proofs.InTurn.{stopped_in_turn}
 use Rattle.day_simulator.proofs.whole_day.simulate.Goals as goal
 
 pub returns-in-Err-clause-exact : goal.returns-in-Err-clause-exact
@@ -13,6 +14,10 @@ returns-in-Err-clause-exact c =
 pub returns-in-Err-clause-stops : goal.returns-in-Err-clause-stops
 returns-in-Err-clause-stops c = λ fault is runs.
     never_runs c.args.instance.now c.args.plan.now c.trips.ensures.sound c.links.ensures.sound c.requires c.in-Err.fault (returns-in-Err-clause-exact c) runs
+
+pub returns-in-Err-clause-in_turn : goal.returns-in-Err-clause-in_turn
+returns-in-Err-clause-in_turn c = λ fault is.
+    stopped_in_turn c.args.instance.now c.args.plan.now c.trips.ensures.sound c.links.ensures.sound c.in-Err.fault fault (returns-in-Err-clause-exact c) is
 
 pub returns-in-Ok-clause-exact : goal.returns-in-Ok-clause-exact
 returns-in-Ok-clause-exact c =
@@ -36,3 +41,7 @@ returns-clause-exact c =
 pub returns-clause-stops : goal.returns-clause-stops
 returns-clause-stops c = λ fault is runs.
     never_runs c.args.instance.now c.args.plan.now c.trips.ensures.sound c.links.ensures.sound c.requires c.in-Err-finish.fault (returns-clause-exact c) runs
+
+pub returns-clause-in_turn : goal.returns-clause-in_turn
+returns-clause-in_turn c = λ fault is.
+    stopped_in_turn c.args.instance.now c.args.plan.now c.trips.ensures.sound c.links.ensures.sound c.in-Err-finish.fault fault (returns-clause-exact c) is
