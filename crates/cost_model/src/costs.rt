@@ -11,8 +11,7 @@ ghost use Rattle.cost_model.specs.Sums.{carriages_on, missing_on, carriage_of, s
 
 use compositions::Composition;
 use rail_base::{LinkNo, Money, TripNo};
-use timetable::records::LinkKind;
-use timetable::{Instance, Picks};
+use timetable::{Instance, LinkKind, Picks};
 
 /// The three parts that add up to the cost of picks. None is negative.
 #[derive(Clone, Copy, Debug, PartialEq, Eq)]

@@ -3,8 +3,8 @@ use Rattle.std.proofs.Common.{◌≡◌, ℕ, suc, ◌+◌, ◌<◌, ◌≤◌, 
 use Rattle.std.specs.Prelude.{◌&&◌}
 use Rattle.std.proofs.lemmas.Bool.{cases_eq, cases_lt, leb-true, le-leb, eqb-true, eq-eqb, and_parts, and_from, cond-true}
 use Rattle.timetable.specs.Lists.{count_of, has}
-use Rattle.timetable.specs.declared.records.LinkKind.{LinkKind}
-use Rattle.timetable.specs.declared.records.LinkKind.TheVariants.{Turn, Join, Split}
+use Rattle.timetable.specs.declared.day.records.LinkKind.{LinkKind}
+use Rattle.timetable.specs.declared.day.records.LinkKind.TheVariants.{Turn, Join, Split}
 use Rattle.timetable.specs.Links.{list_of, turned, turn_of, kind_holds, arriving_in, departing_in, kept_by, given_by, taken_by}
 use Rattle.day_simulator.proofs.Order.{one_same, one_other}
 use Rattle.day_simulator.proofs.Shares.{turn_shares, join_counts, split_counts, count_of-turned}

@@ -5,7 +5,7 @@ use Rattle.std.proofs.lemmas.Bool.{cases_Bool, cases_eq, le-leb, and_right, and_
 use Rattle.timetable.specs.Day.{Day, leaves, arrives}
 use Rattle.timetable.specs.Lists.{count_of}
 use Rattle.timetable.specs.Accepted.{AreLinks}
-use Rattle.timetable.specs.declared.records.Link.{Link}
+use Rattle.timetable.specs.declared.day.records.Link.{Link}
 use Rattle.timetable.specs.Links.{list_of, link_holds, kind_holds, arriving_in, departing_in, incoming, outgoing, link_into, link_out, kept_by, given_by, taken_by, kept, given, taken}
 use Rattle.day_simulator.specs.Steps.{feeders, is_tested_at, broken, broken_into, broken_out}
 use Rattle.timetable.proofs.NamedTrips.{IsNamed, named_or_not, named_here, named_twice}

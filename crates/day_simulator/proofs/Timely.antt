@@ -7,7 +7,7 @@ use Rattle.std.proofs.lemmas.List.{length-set, length-map}
 use Rattle.timetable.specs.Day.{Day, leaves, arrives}
 use Rattle.timetable.specs.Lists.{count_of}
 use Rattle.timetable.specs.Accepted.{IsDay}
-use Rattle.timetable.specs.declared.records.Trip.{Trip}
+use Rattle.timetable.specs.declared.day.records.Trip.{Trip}
 use Rattle.day_simulator.specs.declared.events.DayEvent.{DayEvent}
 use Rattle.day_simulator.specs.declared.events.DayEvent.TheVariants.{Depart, Arrive}
 use Rattle.day_simulator.specs.declared.events.Stage.{Stage}

@@ -6,7 +6,7 @@ use Rattle.std.proofs.lemmas.Bool.{le-leb, leb-true, and_from}
 use Rattle.compositions.specs.Composition.{are_types}
 use Rattle.timetable.specs.Accepted.{IsDay}
 use Rattle.std.proofs.lemmas.List.{take_more, map-append}
-use Rattle.timetable.specs.declared.records.Unit as unit
+use Rattle.timetable.specs.declared.day.records.Unit as unit
 use Rattle.timetable.specs.Lists.{count_of, has}
 use Rattle.timetable.specs.Day.{Day, units_of, type_of, types_of, unit_count}
 use Rattle.day_simulator.specs.Trips.{AreUnits}

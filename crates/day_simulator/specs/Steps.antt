@@ -1,8 +1,8 @@
 -- One step of the day: its first fault, and the state after it.
 use Rattle.std.specs.Prelude.{ℕ, ◌+◌, List, [], ◌∷◌, Bool, true, false, not, ◌&&◌, ◌==◌, if◌then◌else◌, Option, Some, None, option_map, option_and_then, unwrap_or, slice_get, slice_set, nat_le, length, Result, Ok, Err}
 use Rattle.std.specs.List.{list_all}
-use Rattle.timetable.specs.declared.records.LinkKind.{LinkKind}
-use Rattle.timetable.specs.declared.records.LinkKind.TheVariants.{Turn, Join, Split}
+use Rattle.timetable.specs.declared.day.records.LinkKind.{LinkKind}
+use Rattle.timetable.specs.declared.day.records.LinkKind.TheVariants.{Turn, Join, Split}
 use Rattle.timetable.specs.Day.{Day, leaves, arrives, from_of, to_of, types_of, reallocation_of}
 use Rattle.timetable.specs.Admissible.{is_admissible}
 use Rattle.timetable.specs.Links.{list_of, incoming, outgoing, link_into, link_holds, arriving_in, given, taken}

@@ -10,8 +10,7 @@ ghost use Rattle.timetable.specs.LinkRows.{NamesBelow};
 
 use crate::trips::composition_of;
 use rail_base::{LinkNo, TripNo, UnitNo};
-use timetable::records::LinkKind;
-use timetable::{Instance, NamedPlan};
+use timetable::{Instance, LinkKind, NamedPlan};
 
 /// The carriages and the seats of units.
 fn carriages_and_seats(instance: &Instance, units: &[UnitNo]) -> (u32, u32)

@@ -14,8 +14,7 @@ use crate::events::Stage;
 use crate::hand_over::{copy_of, is_joined, is_split, turn_of, turn_parts, turned};
 use arrayvec::ArrayVec;
 use rail_base::{LinkNo, TripNo, UnitNo};
-use timetable::records::{Link, LinkKind};
-use timetable::{Instance, NamedPlan};
+use timetable::{Instance, Link, LinkKind, NamedPlan};
 
 /// The units that a link does not keep in the train.
 #[derive(Drop)]

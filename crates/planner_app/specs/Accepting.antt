@@ -7,7 +7,7 @@ use Rattle.rail_csv.specs.declared.rows.Table.TheVariants as table
 use Rattle.rail_csv.specs.declared.rows.PlanRow.{PlanRow}
 use Rattle.rail_csv.specs.declared.refusal.TableRefusal.{TableRefusal}
 use Rattle.rail_csv.specs.Tables.{types_of, stations_of, stock_of, trips_of, links_of, weights_of, plan_of as plan_rows_of}
-use Rattle.timetable.specs.declared.tables.Tables.{Tables}
+use Rattle.timetable.specs.declared.building.tables.Tables.{Tables}
 use Rattle.timetable.specs.Day.{Day}
 use Rattle.timetable.specs.Build.{day_of}
 use Rattle.timetable.specs.Plans.{plan_of}

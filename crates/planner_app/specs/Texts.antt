@@ -7,10 +7,10 @@ use Rattle.rail_csv.specs.declared.rows.Table.{Table}
 use Rattle.rail_csv.specs.declared.rows.Table.TheVariants.{Types, Stations, Stock, Trips, Links, Weights, Plan}
 use Rattle.rail_csv.specs.declared.refusal.TableRefusal.{TableRefusal}
 use Rattle.rail_csv.specs.declared.refusal.TableRefusal.TheVariants as wrong
-use Rattle.timetable.specs.declared.refusal.InstanceRefusal.{InstanceRefusal}
-use Rattle.timetable.specs.declared.refusal.InstanceRefusal.TheVariants as instance
-use Rattle.timetable.specs.declared.refusal.PlanRefusal.{PlanRefusal}
-use Rattle.timetable.specs.declared.refusal.PlanRefusal.TheVariants as plan
+use Rattle.timetable.specs.declared.building.refusal.InstanceRefusal.{InstanceRefusal}
+use Rattle.timetable.specs.declared.building.refusal.InstanceRefusal.TheVariants as instance
+use Rattle.timetable.specs.declared.building.refusal.PlanRefusal.{PlanRefusal}
+use Rattle.timetable.specs.declared.building.refusal.PlanRefusal.TheVariants as plan
 use Rattle.day_simulator.specs.declared.events.StepFault.{StepFault}
 use Rattle.day_simulator.specs.declared.events.StepFault.TheVariants.{NotNow, NoUnits, NotAdmissible, LinkBroken, NotInYard, Balance}
 use Rattle.planner_app.specs.declared.outcome.Refusal.{Refusal}

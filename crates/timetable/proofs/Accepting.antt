@@ -4,7 +4,7 @@ use Rattle.std.specs.List.{All, AllZip, AllPairs, Any, list_any}
 use Rattle.std.proofs.lemmas.Bool.{or_cases}
 use Rattle.std.proofs.lemmas.List.Elements.{All-push, All-head, All-tail}
 use Rattle.std.proofs.lemmas.List.Quantifiers.{all_pairs_push}
-use Rattle.timetable.specs.declared.refusal.InstanceRefusal.{InstanceRefusal}
+use Rattle.timetable.specs.declared.building.refusal.InstanceRefusal.{InstanceRefusal}
 use Rattle.timetable.specs.Naming.{found_or}
 use Rattle.timetable.specs.Rowwise.{◌>>=◌, accept_each}
 

@@ -9,14 +9,14 @@ use Rattle.compositions.specs.Catalogue.{catalogue_of}
 use Rattle.compositions.specs.declared.types.UnitType.{UnitType}
 use Rattle.rail_csv.specs.Rows.{AreTypeRows, AreStationRows, AreTripRows, AreLinkRows, IsWeightsRow}
 use Rattle.rail_csv.specs.declared.rows.LinkRow.{LinkRow}
-use Rattle.timetable.specs.declared.records.Link.{Link}
-use Rattle.timetable.specs.declared.records.Station.{Station}
-use Rattle.timetable.specs.declared.records.Stock.{Stock}
-use Rattle.timetable.specs.declared.records.Trip.{Trip}
-use Rattle.timetable.specs.declared.records.Unit as unit
-use Rattle.timetable.specs.declared.refusal.InstanceRefusal.{InstanceRefusal}
-use Rattle.timetable.specs.declared.refusal.InstanceRefusal.TheVariants.{TooManyUnits, TooManyCompositions}
-use Rattle.timetable.specs.declared.tables.Tables.{Tables}
+use Rattle.timetable.specs.declared.day.records.Link.{Link}
+use Rattle.timetable.specs.declared.day.records.Station.{Station}
+use Rattle.timetable.specs.declared.day.records.Stock.{Stock}
+use Rattle.timetable.specs.declared.day.records.Trip.{Trip}
+use Rattle.timetable.specs.declared.day.records.Unit as unit
+use Rattle.timetable.specs.declared.building.refusal.InstanceRefusal.{InstanceRefusal}
+use Rattle.timetable.specs.declared.building.refusal.InstanceRefusal.TheVariants.{TooManyUnits, TooManyCompositions}
+use Rattle.timetable.specs.declared.building.tables.Tables.{Tables}
 use Rattle.timetable.specs.Accepted.{IsDay}
 use Rattle.timetable.specs.Rowwise.{◌>>=◌}
 use Rattle.timetable.specs.Build.{starts_of, most_units, most_compositions, catalogue_in, types_in, stations_in, stock_in, trips_in, weights_in, day_of}

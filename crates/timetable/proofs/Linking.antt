@@ -11,12 +11,12 @@ use Rattle.rail_csv.specs.declared.rows.KindWord.{KindWord}
 use Rattle.rail_csv.specs.declared.rows.KindWord.TheVariants as words
 use Rattle.rail_csv.specs.declared.rows.LinkRow.{LinkRow}
 use Rattle.rail_csv.specs.declared.rows.Table.TheVariants as tables
-use Rattle.timetable.specs.declared.records.Link.{Link}
-use Rattle.timetable.specs.declared.records.LinkKind.{LinkKind}
-use Rattle.timetable.specs.declared.records.LinkKind.TheVariants.{Turn, Join, Split}
-use Rattle.timetable.specs.declared.records.Trip.{Trip}
-use Rattle.timetable.specs.declared.refusal.InstanceRefusal.{InstanceRefusal}
-use Rattle.timetable.specs.declared.refusal.InstanceRefusal.TheVariants.{UnknownName, TripUsedTwice, WrongStation, TooEarly, WrongLinkFields}
+use Rattle.timetable.specs.declared.day.records.Link.{Link}
+use Rattle.timetable.specs.declared.day.records.LinkKind.{LinkKind}
+use Rattle.timetable.specs.declared.day.records.LinkKind.TheVariants.{Turn, Join, Split}
+use Rattle.timetable.specs.declared.day.records.Trip.{Trip}
+use Rattle.timetable.specs.declared.building.refusal.InstanceRefusal.{InstanceRefusal}
+use Rattle.timetable.specs.declared.building.refusal.InstanceRefusal.TheVariants.{UnknownName, TripUsedTwice, WrongStation, TooEarly, WrongLinkFields}
 use Rattle.timetable.specs.Accepted.{AreLinks, DoMeet, times_named}
 use Rattle.timetable.specs.Day.{Day, leaves, arrives, from_of, to_of}
 use Rattle.timetable.specs.LinkRows.{trip_named, is_an_end, turn_in, join_in, split_in, kind_of, NamesBelow, is_arriving, is_departing, names_again, do_meet, is_in_time, each_pair, accept_trips, accept_link, links_in}

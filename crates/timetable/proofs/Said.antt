@@ -14,13 +14,13 @@ use Rattle.rail_csv.specs.declared.rows.LinkRow.{LinkRow}
 use Rattle.rail_csv.specs.declared.rows.StationRow.{StationRow}
 use Rattle.rail_csv.specs.declared.rows.StockRow.{StockRow}
 use Rattle.rail_csv.specs.declared.rows.TripRow.{TripRow}
-use Rattle.timetable.specs.declared.records.Link.{Link}
-use Rattle.timetable.specs.declared.records.LinkKind.{LinkKind}
-use Rattle.timetable.specs.declared.records.LinkKind.TheVariants.{Turn, Join, Split}
-use Rattle.timetable.specs.declared.records.Station.{Station}
-use Rattle.timetable.specs.declared.records.Stock.{Stock}
-use Rattle.timetable.specs.declared.records.Trip.{Trip}
-use Rattle.timetable.specs.declared.tables.Tables.{Tables}
+use Rattle.timetable.specs.declared.day.records.Link.{Link}
+use Rattle.timetable.specs.declared.day.records.LinkKind.{LinkKind}
+use Rattle.timetable.specs.declared.day.records.LinkKind.TheVariants.{Turn, Join, Split}
+use Rattle.timetable.specs.declared.day.records.Station.{Station}
+use Rattle.timetable.specs.declared.day.records.Stock.{Stock}
+use Rattle.timetable.specs.declared.day.records.Trip.{Trip}
+use Rattle.timetable.specs.declared.building.tables.Tables.{Tables}
 use Rattle.timetable.specs.Admissible.{is_admissible}
 use Rattle.timetable.specs.Build.{has_stock, platform_at, accept_type, accept_station, accept_stock, accept_trip, type_in, station_in, types_in, stations_in, stock_in, trips_in, day_of}
 use Rattle.timetable.specs.Naming.{has_name, find_name}

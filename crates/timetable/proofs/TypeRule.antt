@@ -7,9 +7,9 @@ use Rattle.std.proofs.lemmas.Option.{slice_get-map}
 use Rattle.std.proofs.lemmas.Slice.Eq.{bytes_eq-Decides}
 use Rattle.rail_csv.specs.declared.rows.End.{End}
 use Rattle.rail_csv.specs.declared.rows.End.TheVariants as at
-use Rattle.timetable.specs.declared.records.Link.{Link}
-use Rattle.timetable.specs.declared.records.LinkKind.{LinkKind}
-use Rattle.timetable.specs.declared.records.LinkKind.TheVariants.{Turn, Join, Split}
+use Rattle.timetable.specs.declared.day.records.Link.{Link}
+use Rattle.timetable.specs.declared.day.records.LinkKind.{LinkKind}
+use Rattle.timetable.specs.declared.day.records.LinkKind.TheVariants.{Turn, Join, Split}
 use Rattle.timetable.specs.Links.{Parts, list_of, same, is_left_of, beyond, turn_parts, turn_of, turned, join_holds, split_holds, kind_holds, link_holds, kept_by, given_by, taken_by, link_out, link_into, outgoing, incoming, kept, given, taken}
 use Rattle.timetable.specs.Day.{Day}
 use Rattle.timetable.specs.Lists.{has}

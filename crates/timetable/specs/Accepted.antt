@@ -4,8 +4,8 @@ use Rattle.compositions.specs.declared.types.UnitType.{UnitType}
 use Rattle.timetable.specs.Day.{Day, leaves, arrives, from_of, to_of, km_of, demand_of, home_of, type_of, unit_count, reallocation_of}
 use Rattle.timetable.specs.Links.{arriving_in, departing_in}
 use Rattle.timetable.specs.Lists.{count_of, has}
-use Rattle.timetable.specs.declared.records.Link.{Link}
-use Rattle.timetable.specs.declared.records.LinkKind.{LinkKind}
+use Rattle.timetable.specs.declared.day.records.Link.{Link}
+use Rattle.timetable.specs.declared.day.records.LinkKind.{LinkKind}
 
 -- the numbers of a unit type are within the limits
 pub record IsUnitType (t : UnitType) : Type 0 where

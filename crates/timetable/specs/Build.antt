@@ -10,13 +10,13 @@ use Rattle.rail_csv.specs.declared.rows.StockRow.{StockRow}
 use Rattle.rail_csv.specs.declared.rows.TripRow.{TripRow}
 use Rattle.rail_csv.specs.declared.rows.WeightsRow.{WeightsRow}
 use Rattle.rail_csv.specs.declared.rows.Table.TheVariants as tables
-use Rattle.timetable.specs.declared.records.Station.{Station}
-use Rattle.timetable.specs.declared.records.Stock.{Stock}
-use Rattle.timetable.specs.declared.records.Trip.{Trip}
-use Rattle.timetable.specs.declared.records.Weights.{Weights}
-use Rattle.timetable.specs.declared.tables.Tables.{Tables}
-use Rattle.timetable.specs.declared.refusal.InstanceRefusal.{InstanceRefusal}
-use Rattle.timetable.specs.declared.refusal.InstanceRefusal.TheVariants.{RepeatedName, UnknownName, RepeatedStock, ArrivalNotAfterDeparture, SameStation, TripUsedTwice, WrongStation, TooEarly, WrongLinkFields, NoComposition, TooManyUnits, TooManyCompositions, NoMemory}
+use Rattle.timetable.specs.declared.day.records.Station.{Station}
+use Rattle.timetable.specs.declared.day.records.Stock.{Stock}
+use Rattle.timetable.specs.declared.day.records.Trip.{Trip}
+use Rattle.timetable.specs.declared.day.records.Weights.{Weights}
+use Rattle.timetable.specs.declared.building.tables.Tables.{Tables}
+use Rattle.timetable.specs.declared.building.refusal.InstanceRefusal.{InstanceRefusal}
+use Rattle.timetable.specs.declared.building.refusal.InstanceRefusal.TheVariants.{RepeatedName, UnknownName, RepeatedStock, ArrivalNotAfterDeparture, SameStation, TripUsedTwice, WrongStation, TooEarly, WrongLinkFields, NoComposition, TooManyUnits, TooManyCompositions, NoMemory}
 use Rattle.timetable.specs.Compositions.{greatest_in}
 use Rattle.timetable.specs.Day.{Day}
 use Rattle.timetable.specs.LinkRows.{links_in}

@@ -1,9 +1,9 @@
 -- The chains of a day: links lead from trip to trip, and every trip lies in one chain.
 use Rattle.std.specs.Prelude.{ℕ, zero, suc, ◌+◌, ◌≡◌, ◌<◌, ◌≤◌, List, [], ◌∷◌, ◌++◌, length, Bool, false, ◌==◌, if◌then◌else◌, Option, Some, None, option_map, option_and_then, unwrap_or, slice_get}
 use Rattle.std.specs.List.{All, AllPairs}
-use Rattle.timetable.specs.declared.records.Link.{Link}
-use Rattle.timetable.specs.declared.records.LinkKind.{LinkKind}
-use Rattle.timetable.specs.declared.records.LinkKind.TheVariants.{Turn, Join, Split}
+use Rattle.timetable.specs.declared.day.records.Link.{Link}
+use Rattle.timetable.specs.declared.day.records.LinkKind.{LinkKind}
+use Rattle.timetable.specs.declared.day.records.LinkKind.TheVariants.{Turn, Join, Split}
 use Rattle.timetable.specs.Day.{Day}
 use Rattle.timetable.specs.Links.{arriving_in, departing_in}
 use Rattle.timetable.specs.LinkTables.{link_naming}

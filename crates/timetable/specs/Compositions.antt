@@ -1,7 +1,7 @@
 -- The compositions of a day: those that fit the greatest platform of its stations, numbered in the order of the catalogue.
 use Rattle.std.specs.Prelude.{ℕ, List, [], ◌∷◌, max, slice_get, unwrap_or}
 use Rattle.compositions.specs.Catalogue.{catalogue_of}
-use Rattle.timetable.specs.declared.records.Station.{Station}
+use Rattle.timetable.specs.declared.day.records.Station.{Station}
 use Rattle.timetable.specs.Day.{Day}
 
 -- the metres of the greatest platform, and 0 where there is no station

@@ -1,8 +1,8 @@
 -- What a plan costs. It depends on the types of its lists alone.
 use Rattle.std.specs.Prelude.{ℕ, ◌+◌, ◌-◌, ◌*◌, List, map, length, ◌==◌, if◌then◌else◌, option_map, unwrap_or, slice_get}
 use Rattle.compositions.specs.Composition.{carriages_of, seats_of}
-use Rattle.timetable.specs.declared.records.LinkKind.{LinkKind}
-use Rattle.timetable.specs.declared.records.LinkKind.TheVariants.{Turn, Join, Split}
+use Rattle.timetable.specs.declared.day.records.LinkKind.{LinkKind}
+use Rattle.timetable.specs.declared.day.records.LinkKind.TheVariants.{Turn, Join, Split}
 use Rattle.timetable.specs.Day.{Day, km_of, demand_of, types_of}
 use Rattle.timetable.specs.Links.{list_of}
 use Rattle.timetable.specs.Lists.{sum_below}

@@ -2,12 +2,12 @@
 -- A number that is out of range reads as something harmless, so that laws hold for every number.
 use Rattle.std.specs.Prelude.{ℕ, List, [], ◌∷◌, ◌++◌, length, replicate, ◌==◌, ◌&&◌, if◌then◌else◌, map}
 use Rattle.compositions.specs.declared.types.UnitType.{UnitType}
-use Rattle.timetable.specs.declared.records.Station.{Station}
-use Rattle.timetable.specs.declared.records.Stock.{Stock}
-use Rattle.timetable.specs.declared.records.Trip.{Trip}
-use Rattle.timetable.specs.declared.records.Link.{Link}
-use Rattle.timetable.specs.declared.records.Unit as unit
-use Rattle.timetable.specs.declared.records.Weights.{Weights}
+use Rattle.timetable.specs.declared.day.records.Station.{Station}
+use Rattle.timetable.specs.declared.day.records.Stock.{Stock}
+use Rattle.timetable.specs.declared.day.records.Trip.{Trip}
+use Rattle.timetable.specs.declared.day.records.Link.{Link}
+use Rattle.timetable.specs.declared.day.records.Unit as unit
+use Rattle.timetable.specs.declared.day.records.Weights.{Weights}
 use Rattle.timetable.specs.Lists.{of_entry}
 
 pub record Day : Type 0 where

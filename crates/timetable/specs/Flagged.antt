@@ -1,6 +1,6 @@
 -- What the links so far hold beside them: two flags for each trip.
 use Rattle.std.specs.Prelude.{◌≡◌, length}
-use Rattle.timetable.specs.declared.linked.Linked.TheInside.{Inside}
+use Rattle.timetable.specs.declared.building.linked.Linked.TheInside.{Inside}
 use Rattle.timetable.specs.Flags.{LinksOfTrips, IsFlagged}
 use Rattle.timetable.specs.Links.{arriving_in, departing_in}
 

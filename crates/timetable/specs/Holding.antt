@@ -1,7 +1,7 @@
 -- What an instance holds: the parts of a day, its units as one list, its catalogue, the links by trip, its chains and its hand-overs.
 use Rattle.std.specs.Prelude.{◌≡◌, length}
 use Rattle.compositions.specs.Catalogue.{catalogue_of}
-use Rattle.timetable.specs.declared.instance.Instance.TheInside.{Inside}
+use Rattle.timetable.specs.declared.day.instance.Instance.TheInside.{Inside}
 use Rattle.timetable.specs.Day.{Day, units_of}
 use Rattle.timetable.specs.Accepted.{IsDay, AreLinks, DoMeet}
 use Rattle.timetable.specs.Chains.{chains_of}

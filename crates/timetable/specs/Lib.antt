@@ -1,25 +1,31 @@
+-- what a day is
 pub mod Lists
 pub mod Day
-pub mod Accepted
+pub mod Starts
 pub mod Admissible
 pub mod Compositions
+-- which plans of it run, and what they cost
 pub mod Links
-pub mod LinkTables
-pub mod Flags
-pub mod Flagged
 pub mod Duties
 pub mod Running
+pub mod Cost
+-- its chains and hand-overs
 pub mod Chains
 pub mod Handovers
-pub mod Cost
+-- which tables make a day, and which rows make a plan
 pub mod Rowwise
 pub mod Naming
 pub mod LinkRows
 pub mod Build
-pub mod Within
-pub mod Starts
-pub mod Holding
 pub mod Plans
 pub mod Meaning
 pub mod Refusals
+-- what is known of accepted days and entries
+pub mod Accepted
+pub mod Within
+-- the inside of an instance, and of the building of one
+pub mod LinkTables
+pub mod Holding
+pub mod Flags
+pub mod Flagged
 pub use Rattle.compositions.specs.Composition

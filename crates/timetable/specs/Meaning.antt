@@ -8,12 +8,12 @@ use Rattle.rail_csv.specs.declared.rows.KindWord.TheVariants as words
 use Rattle.rail_csv.specs.declared.rows.LinkRow.{LinkRow}
 use Rattle.rail_csv.specs.declared.rows.StockRow.{StockRow}
 use Rattle.rail_csv.specs.declared.rows.TripRow.{TripRow}
-use Rattle.timetable.specs.declared.records.Link.{Link}
-use Rattle.timetable.specs.declared.records.LinkKind.{LinkKind}
-use Rattle.timetable.specs.declared.records.LinkKind.TheVariants.{Turn, Join, Split}
-use Rattle.timetable.specs.declared.records.Stock.{Stock}
-use Rattle.timetable.specs.declared.records.Trip.{Trip}
-use Rattle.timetable.specs.declared.tables.Tables.{Tables}
+use Rattle.timetable.specs.declared.day.records.Link.{Link}
+use Rattle.timetable.specs.declared.day.records.LinkKind.{LinkKind}
+use Rattle.timetable.specs.declared.day.records.LinkKind.TheVariants.{Turn, Join, Split}
+use Rattle.timetable.specs.declared.day.records.Stock.{Stock}
+use Rattle.timetable.specs.declared.day.records.Trip.{Trip}
+use Rattle.timetable.specs.declared.building.tables.Tables.{Tables}
 use Rattle.timetable.specs.Accepted.{AreLinks, DoMeet}
 use Rattle.timetable.specs.Admissible.{is_admissible}
 use Rattle.timetable.specs.Build.{type_in, station_in, weights_in}

@@ -2,7 +2,7 @@
 use Rattle.std.specs.Prelude.{ℕ, List, Bool, Option, Some, None, Result, Ok, Err, position}
 use Rattle.std.specs.List.{list_any}
 use Rattle.std.specs.Str.{bytes_eq}
-use Rattle.timetable.specs.declared.refusal.InstanceRefusal.{InstanceRefusal}
+use Rattle.timetable.specs.declared.building.refusal.InstanceRefusal.{InstanceRefusal}
 
 -- whether one of the entries has the name
 abbrev pub has_name : {X : Type 0} → (X → List ℕ) → List X → List ℕ → Bool

@@ -4,9 +4,9 @@ use Rattle.std.specs.List.{list_all}
 use Rattle.std.specs.Str.{bytes_eq}
 use Rattle.std.specs.Global.{Vec}
 use Rattle.rail_csv.specs.declared.rows.PlanRow.{PlanRow}
-use Rattle.timetable.specs.declared.records.Trip.{Trip}
-use Rattle.timetable.specs.declared.refusal.PlanRefusal.{PlanRefusal}
-use Rattle.timetable.specs.declared.refusal.PlanRefusal.TheVariants.{WrongTrip, UnknownUnit, MissingTrip, NoMemory}
+use Rattle.timetable.specs.declared.day.records.Trip.{Trip}
+use Rattle.timetable.specs.declared.building.refusal.PlanRefusal.{PlanRefusal}
+use Rattle.timetable.specs.declared.building.refusal.PlanRefusal.TheVariants.{WrongTrip, UnknownUnit, MissingTrip, NoMemory}
 use Rattle.timetable.specs.Day.{Day, unit_count}
 use Rattle.timetable.specs.Rowwise.{◌>>=◌, row_after, accept_each}
 

@@ -11,10 +11,10 @@ use Rattle.rail_csv.specs.declared.rows.StockRow.{StockRow}
 use Rattle.rail_csv.specs.declared.rows.TripRow.{TripRow}
 use Rattle.rail_csv.specs.declared.rows.Table.{Table}
 use Rattle.rail_csv.specs.declared.rows.Table.TheVariants as names
-use Rattle.timetable.specs.declared.records.Trip.{Trip}
-use Rattle.timetable.specs.declared.refusal.InstanceRefusal.{InstanceRefusal}
-use Rattle.timetable.specs.declared.refusal.InstanceRefusal.TheVariants.{RepeatedName, UnknownName, RepeatedStock, ArrivalNotAfterDeparture, SameStation, TripUsedTwice, WrongStation, TooEarly, WrongLinkFields, NoComposition, TooManyUnits, TooManyCompositions, NoMemory}
-use Rattle.timetable.specs.declared.tables.Tables.{Tables}
+use Rattle.timetable.specs.declared.day.records.Trip.{Trip}
+use Rattle.timetable.specs.declared.building.refusal.InstanceRefusal.{InstanceRefusal}
+use Rattle.timetable.specs.declared.building.refusal.InstanceRefusal.TheVariants.{RepeatedName, UnknownName, RepeatedStock, ArrivalNotAfterDeparture, SameStation, TripUsedTwice, WrongStation, TooEarly, WrongLinkFields, NoComposition, TooManyUnits, TooManyCompositions, NoMemory}
+use Rattle.timetable.specs.declared.building.tables.Tables.{Tables}
 use Rattle.timetable.specs.Admissible.{is_admissible}
 use Rattle.timetable.specs.Build.{type_in, station_in}
 use Rattle.timetable.specs.Compositions.{greatest_in}

@@ -1,6 +1,6 @@
 -- Which plans run.
 use Rattle.std.specs.Prelude.{ℕ, ◌+◌, ◌≡◌, ◌<◌, ◌≤◌, ◌⊎◌, List, [], ◌∷◌, length, true, ◌==◌, ◌&&◌, IsTrue, slice_get, Some, ⊤}
-use Rattle.timetable.specs.declared.records.Link.{Link}
+use Rattle.timetable.specs.declared.day.records.Link.{Link}
 use Rattle.timetable.specs.Day.{Day, leaves, arrives, from_of, to_of, home_of, type_of, types_of, unit_count, reallocation_of, wanted_of}
 use Rattle.timetable.specs.Admissible.{is_admissible}
 use Rattle.timetable.specs.Links.{list_of, link_holds, kept, given, taken}

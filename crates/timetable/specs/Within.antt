@@ -2,10 +2,10 @@
 use Rattle.std.specs.Prelude.{ℕ, List, length, ◌≤◌, ◌<◌}
 use Rattle.std.specs.List.{All}
 use Rattle.compositions.specs.declared.types.UnitType.{UnitType}
-use Rattle.timetable.specs.declared.records.Station.{Station}
-use Rattle.timetable.specs.declared.records.Stock.{Stock}
-use Rattle.timetable.specs.declared.records.Trip.{Trip}
-use Rattle.timetable.specs.declared.records.Weights.{Weights}
+use Rattle.timetable.specs.declared.day.records.Station.{Station}
+use Rattle.timetable.specs.declared.day.records.Stock.{Stock}
+use Rattle.timetable.specs.declared.day.records.Trip.{Trip}
+use Rattle.timetable.specs.declared.day.records.Weights.{Weights}
 use Rattle.timetable.specs.Accepted.{IsUnitType}
 
 pub record AreTypes (types : List UnitType) : Type 0 where

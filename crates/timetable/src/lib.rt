@@ -1,25 +1,15 @@
 //! The day that is planned: its types, stations, stock, trips and links, and plans of it.
 #![tactic(auto)]
 
-mod build;
-mod chains;
-pub mod instance;
-mod link_rows;
-mod link_tables;
-mod linked;
-mod named;
-pub mod picks;
-pub mod plan;
-pub mod records;
-pub mod refusal;
-pub mod tables;
+pub mod building;
+pub mod day;
 
-pub use instance::Instance;
-pub use picks::Picks;
-pub use plan::NamedPlan;
-pub use records::{Handover, Link, LinkKind, Station, Stock, Trip, Unit, Weights};
-pub use refusal::{InstanceRefusal, PlanRefusal};
-pub use tables::{Rows, Tables};
+pub use building::refusal::{InstanceRefusal, PlanRefusal};
+pub use building::tables::{Rows, Tables};
+pub use day::instance::Instance;
+pub use day::picks::Picks;
+pub use day::plan::NamedPlan;
+pub use day::records::{Handover, Link, LinkKind, Station, Stock, Trip, Unit, Weights};
 
 #[cfg(test)]
 mod tests;

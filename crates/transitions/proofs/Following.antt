@@ -8,9 +8,9 @@ use Rattle.compositions.specs.declared.types.UnitType.{UnitType}
 use Rattle.compositions.specs.Composition.{fits_in, metres_of}
 use Rattle.compositions.proofs.Listing.{catalogue_listed}
 use Rattle.rail_csv.specs.declared.rows.End.{End}
-use Rattle.timetable.specs.declared.records.LinkKind.{LinkKind}
-use Rattle.timetable.specs.declared.records.LinkKind.TheVariants.{Turn, Join, Split}
-use Rattle.timetable.specs.declared.records.Station.{Station}
+use Rattle.timetable.specs.declared.day.records.LinkKind.{LinkKind}
+use Rattle.timetable.specs.declared.day.records.LinkKind.TheVariants.{Turn, Join, Split}
+use Rattle.timetable.specs.declared.day.records.Station.{Station}
 use Rattle.timetable.specs.Admissible.{longest_of, is_admissible}
 use Rattle.timetable.specs.Compositions.{greatest_in, greatest_platform, compositions_of, composition_at}
 use Rattle.timetable.specs.Day.{Day, from_of, platform_of, type_of, types_of}

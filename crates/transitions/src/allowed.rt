@@ -14,8 +14,7 @@ use crate::turns::{rest_after, turn_shunt, turned};
 use compositions::Composition;
 use rail_base::{CompNo, TripNo};
 use rail_csv::End;
-use timetable::Instance;
-use timetable::records::{Link, LinkKind};
+use timetable::{Instance, Link, LinkKind};
 
 /// The edge of a link from one composition, which may run on the first arriving trip, to another, which is below the
 /// catalogue's `len`, or nothing where the link does not allow it. The trips of the link are trips of the day.

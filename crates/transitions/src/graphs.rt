@@ -14,8 +14,7 @@ use rail_base::{CompNo, LinkNo, NoMemory};
 use std::alloc::Global;
 use std::cmp::Ordering;
 use std::marker::Model;
-use timetable::Instance;
-use timetable::records::Link;
+use timetable::{Instance, Link};
 
 /// The edges of one link, in order. A contract sees the list of them.
 #[derive(Debug, Drop)]

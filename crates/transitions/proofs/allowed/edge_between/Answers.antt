@@ -1,7 +1,7 @@
 -- By the kind of the link.
 use Rattle.std.proofs.Common.{◌≡◌, Some, sym, subst}
 use Rattle.std.specs.Prelude.{◌↔◌}
-use Rattle.timetable.specs.declared.records.LinkKind.{LinkKind}
+use Rattle.timetable.specs.declared.day.records.LinkKind.{LinkKind}
 use Rattle.transitions.specs.Edges.{MayRun, IsKindEdge}
 use Rattle.transitions.specs.Between.{IsBetween}
 use Rattle.timetable.specs.Chains.{leads_from, leads_to}

@@ -1,0 +1,34 @@
+-- The table's entry of the trip is the link that leads on from it.
+use Rattle.std.proofs.Common.{◌∙◌, ◌<◌, length, Option, Some, None, sym, ap, arith}
+use Rattle.std.specs.Prelude.{option_and_then}
+use Rattle.timetable.specs.declared.day.records.Link.{Link}
+use Rattle.timetable.specs.Chains.{next_by}
+use Rattle.timetable.specs.Links.{arriving_in}
+use Rattle.timetable.proofs.LinkTables.{entry_says, names_within, link_read, link_unread}
+use Rattle.timetable.proofs.day.chains.next_in.Goals as goal
+
+pub returns-in_default : goal.returns-in_default
+returns-in_default c =
+    sym (ap (λ (o : Option Link). option_and_then (λ (link : Link). next_by link.kind c.args.trip) o)
+    (link_unread arriving_in c.args.links.now c.args.trip
+    (entry_says arriving_in c.args.links.now c.args.outgoing.now c.place.result c.args.trip _ None c.requires.table c.requires.trip c.place.ensures.number c.in_default.is)))
+
+pub bounds-links-place : goal.bounds-links-place
+bounds-links-place c =
+    let within : c.in-Some.link < length c.args.links.now = names_within arriving_in c.args.links.now c.args.trip c.in-Some.link
+    (entry_says arriving_in c.args.links.now c.args.outgoing.now c.place.result c.args.trip _ (Some c.in-Some.link) c.requires.table c.requires.trip c.place.ensures.number c.in-Some.is) in
+    omega (arith, c.place-2.ensures.number)
+
+pub bounds-links-place-in-Some : goal.bounds-links-place-in-Some
+bounds-links-place-in-Some c =
+    let within : c.in-Some.link < length c.args.links.now = names_within arriving_in c.args.links.now c.args.trip c.in-Some.link
+    (entry_says arriving_in c.args.links.now c.args.outgoing.now c.place.result c.args.trip _ (Some c.in-Some.link) c.requires.table c.requires.trip c.place.ensures.number c.in-Some.is) in
+    omega (arith, c.place-2.ensures.number)
+
+pub returns : goal.returns
+returns c =
+    c.next_by.ensures
+    ∙ sym (ap (λ (o : Option Link). option_and_then (λ (link : Link). next_by link.kind c.args.trip) o)
+    (link_read arriving_in c.args.links.now c.args.trip c.in-Some.link c.place-2.result c.index-links-place.result
+    (entry_says arriving_in c.args.links.now c.args.outgoing.now c.place.result c.args.trip _ (Some c.in-Some.link) c.requires.table c.requires.trip c.place.ensures.number c.in-Some.is)
+    c.place-2.ensures.number))

@@ -1,0 +1,346 @@
+//! The tests on the rows of the tables, one table after another.
+
+ghost use Rattle.std.specs.Prelude.{◌≡◌, ◌+◌, ◌<◌, ◌≤◌, ◌++◌, ◌∷◌, [], length, nat_lt, min, false, IfSome, IfOk};
+ghost use Rattle.std.specs.Str.{bytes_eq};
+ghost use Rattle.timetable.specs.Build.{accept_type, accept_station, has_stock, accept_stock, starts_of, most_units, platform_at, has_fitting, accept_run, accept_trip, types_in, stations_in, stock_in, trips_in, catalogue_in, Gives, GivesRows};
+ghost use Rattle.compositions.specs.Catalogue.{catalogue_of};
+ghost use Rattle.timetable.specs.Compositions.{greatest_in};
+ghost use Rattle.timetable.specs.Naming.{has_name, find_name};
+
+use crate::building::named::Named;
+use crate::building::refusal::InstanceRefusal;
+use crate::building::tables::Rows;
+use crate::day::records::{Station, Stock, Trip};
+use compositions::{Catalogue, CatalogueRefusal, UnitType, UnitTypes};
+use rail_base::limits::MOST_UNITS;
+use rail_base::{Name, StationNo, TypeNo};
+use rail_csv::{StationRow, StockRow, Table, TripRow, TypeRow};
+use std::alloc::Global;
+
+/// Whether two names are the same text.
+pub fn are_same(left: &Name, right: &Name) -> bool
+    ensures { result ≡ bytes_eq left.now right.now }
+{
+    left.as_str() == right.as_str()
+}
+
+/// The number of the row after so many, counted from 1.
+pub fn row_after(before: usize) -> u32
+    requires { before ≤ 400 }
+    ensures { result ≡ before + 1 }
+{
+    before as u32 + 1
+}
+
+/// The unit type of a row, after those of the rows before it.
+#[tactic(auto, unfolding(crate::specs::Build::accept_type))]
+fn accept_type(types: &Named<UnitType>, row: TypeRow) -> Result<UnitType, InstanceRefusal>
+    requires { length types.now ≤ 400 }
+    ensures value { result ≡ accept_type types.now row }
+    ensures new { IfOk result (λ t. has_name (λ t. t.name) types.now t.name ≡ false) }
+{
+    if types.has(&row.name) {
+        return Err(InstanceRefusal::RepeatedName {
+            table: Table::Types,
+            row: row_after(types.len()),
+        });
+    }
+    Ok(UnitType {
+        name: row.name,
+        carriages: row.carriages,
+        seats: row.seats,
+        metres: row.metres,
+        family: row.family,
+    })
+}
+
+/// The unit types of the rows.
+#[tactic(auto, unfolding(crate::specs::Build::types_in))]
+pub fn types_of(alloc: Global, rows: Rows<TypeRow>) -> Result<Named<UnitType>, InstanceRefusal>
+    requires { length rows ≤ 400 }
+    ensures { Gives result (types_in rows) }
+{
+    let mut types = Named::new(alloc);
+    for row in rows.into_items() {
+        let accepted = accept_type(&types, row)?;
+        types.push(alloc, accepted)?;
+    }
+    Ok(types)
+}
+
+/// The station of a row, after those of the rows before it.
+#[tactic(auto, unfolding(crate::specs::Build::accept_station))]
+fn accept_station(stations: &Named<Station>, row: StationRow) -> Result<Station, InstanceRefusal>
+    requires { length stations.now ≤ 400 }
+    ensures value { result ≡ accept_station stations.now row }
+    ensures new { IfOk result (λ s. has_name (λ s. s.name) stations.now s.name ≡ false) }
+{
+    if stations.has(&row.name) {
+        return Err(InstanceRefusal::RepeatedName {
+            table: Table::Stations,
+            row: row_after(stations.len()),
+        });
+    }
+    Ok(Station {
+        name: row.name,
+        platform: row.platform,
+        reallocation: row.reallocation,
+    })
+}
+
+/// The stations of the rows.
+#[tactic(auto, unfolding(crate::specs::Build::stations_in))]
+pub fn stations_of(alloc: Global, rows: Rows<StationRow>) -> Result<Named<Station>, InstanceRefusal>
+    requires { length rows ≤ 400 }
+    ensures { Gives result (stations_in rows) }
+{
+    let mut stations = Named::new(alloc);
+    for row in rows.into_items() {
+        let accepted = accept_station(&stations, row)?;
+        stations.push(alloc, accepted)?;
+    }
+    Ok(stations)
+}
+
+/// The number of the station with the name.
+fn find_station(stations: &Named<Station>, name: &Name) -> Option<StationNo>
+    requires { length stations.now ≤ 400 }
+    ensures value { result ≡ find_name (λ s. s.name) stations.now name.now }
+    ensures within { IfSome result (λ s. s < length stations.now) }
+{
+    let Some(place) = stations.find(name) else {
+        return None;
+    };
+    Some(StationNo(place as u32))
+}
+
+/// The number of the type with the name.
+fn find_type(types: &Named<UnitType>, name: &Name) -> Option<TypeNo>
+    requires { length types.now ≤ 400 }
+    ensures { result ≡ find_name (λ t. t.name) types.now name.now }
+{
+    let Some(place) = types.find(name) else {
+        return None;
+    };
+    Some(TypeNo(place as u32))
+}
+
+/// Whether a stock row is of this station and this type.
+fn has_stock(before: &[Stock], station: StationNo, unit_type: TypeNo) -> bool
+    ensures { result ≡ has_stock before.now station unit_type }
+{
+    before
+        .iter()
+        .any(|row| row.station == station && row.unit_type == unit_type)
+}
+
+/// The stock of a row, after that of the rows before it.
+#[tactic(auto, unfolding(crate::specs::Build::accept_stock))]
+fn accept_stock(
+    stations: &Named<Station>,
+    types: &Named<UnitType>,
+    before: &[Stock],
+    row: &StockRow,
+) -> Result<Stock, InstanceRefusal>
+    requires stations { length stations.now ≤ 400 }
+    requires types { length types.now ≤ 400 }
+    requires before { length before.now ≤ 400 }
+    ensures { result ≡ accept_stock stations.now types.now before.now row.now }
+{
+    let number = row_after(before.len());
+    let Some(station) = find_station(stations, &row.station) else {
+        return Err(InstanceRefusal::UnknownName {
+            table: Table::Stock,
+            row: number,
+            column: 0,
+        });
+    };
+    let Some(unit_type) = find_type(types, &row.unit_type) else {
+        return Err(InstanceRefusal::UnknownName {
+            table: Table::Stock,
+            row: number,
+            column: 1,
+        });
+    };
+    if has_stock(before, station, unit_type) {
+        return Err(InstanceRefusal::RepeatedStock(number));
+    }
+    Ok(Stock {
+        station,
+        unit_type,
+        start: row.start,
+        end: row.end,
+    })
+}
+
+/// The stock of the rows.
+#[tactic(auto, unfolding(crate::specs::Build::stock_in))]
+pub fn stock_of(
+    alloc: Global,
+    stations: &Named<Station>,
+    types: &Named<UnitType>,
+    rows: Rows<StockRow>,
+) -> Result<Vec<Stock>, InstanceRefusal>
+    requires stations { length stations.now ≤ 400 }
+    requires types { length types.now ≤ 400 }
+    requires rows { length rows ≤ 400 }
+    ensures { GivesRows result (stock_in stations.now types.now rows) }
+{
+    let mut stock = Vec::new(alloc);
+    for row in rows.into_items() {
+        let accepted = accept_stock(stations, types, &stock, &row)?;
+        stock.push(accepted)?;
+    }
+    Ok(stock)
+}
+
+/// Whether more units stand at the stations at the start than a day may have.
+pub fn are_too_many(stock: &[Stock]) -> bool
+    ensures { result ≡ nat_lt most_units (starts_of stock.now) }
+{
+    let mut units = 0;
+    for row in stock {
+        if row.start > MOST_UNITS - units {
+            return true;
+        }
+        units += row.start;
+    }
+    false
+}
+
+/// The metres of the greatest platform, and 0 where there is no station.
+fn greatest_platform(stations: &[Station]) -> u32
+    ensures { result ≡ greatest_in stations.now }
+{
+    let mut longest = 0;
+    for station in stations {
+        longest = station.platform.max(longest);
+    }
+    longest
+}
+
+/// The compositions that fit the greatest platform.
+#[tactic(auto, unfolding(crate::specs::Build::catalogue_in))]
+pub fn catalogue_of(
+    alloc: Global,
+    types: &UnitTypes,
+    stations: &[Station],
+) -> Result<Catalogue, InstanceRefusal>
+    ensures exact { Gives result (catalogue_in types.now stations.now) }
+    ensures value { IfOk result (λ catalogue. catalogue ≡ catalogue_of types.now (greatest_in stations.now)) }
+{
+    match Catalogue::build(alloc, types, greatest_platform(stations)) {
+        Ok(catalogue) => Ok(catalogue),
+        Err(CatalogueRefusal::TooMany) => Err(InstanceRefusal::TooManyCompositions),
+        Err(CatalogueRefusal::NoMemory) => Err(InstanceRefusal::NoMemory),
+    }
+}
+
+/// Whether one unit of some type is no longer than so many metres.
+fn has_fitting(types: &[UnitType], longest: u32) -> bool
+    ensures { result ≡ has_fitting types.now longest }
+{
+    types.iter().any(|unit_type| unit_type.metres <= longest)
+}
+
+/// The metres that fit the platforms of two stations.
+pub fn longest_between(stations: &[Station], from: StationNo, to: StationNo) -> u32
+    requires from { from < length stations.now }
+    requires to { to < length stations.now }
+    ensures { result ≡ min (platform_at stations.now from) (platform_at stations.now to) }
+{
+    let from = stations[from.place()].platform;
+    let to = stations[to.place()].platform;
+    from.min(to)
+}
+
+/// The trip, once its times and stations passed the tests of its row.
+#[tactic(auto, unfolding(crate::specs::Build::accept_run))]
+fn accept_run(
+    stations: &[Station],
+    types: &[UnitType],
+    row: u32,
+    trip: Trip,
+) -> Result<Trip, InstanceRefusal>
+    requires from { trip.from < length stations.now }
+    requires to { trip.to < length stations.now }
+    ensures value { result ≡ accept_run stations.now types.now row trip }
+    ensures same { IfOk result (λ t. t ≡ trip) }
+{
+    if trip.from == trip.to {
+        return Err(InstanceRefusal::SameStation(row));
+    }
+    if trip.arrival <= trip.departure {
+        return Err(InstanceRefusal::ArrivalNotAfterDeparture(row));
+    }
+    if !has_fitting(types, longest_between(stations, trip.from, trip.to)) {
+        return Err(InstanceRefusal::NoComposition(row));
+    }
+    Ok(trip)
+}
+
+/// The trip of a row, after those of the rows before it.
+#[tactic(auto, unfolding(crate::specs::Build::accept_trip))]
+fn accept_trip(
+    stations: &Named<Station>,
+    types: &[UnitType],
+    before: &Named<Trip>,
+    row: TripRow,
+) -> Result<Trip, InstanceRefusal>
+    requires stations { length stations.now ≤ 400 }
+    requires before { length before.now ≤ 400 }
+    ensures value { result ≡ accept_trip stations.now types.now before.now row }
+    ensures new { IfOk result (λ t. has_name (λ t. t.name) before.now t.name ≡ false) }
+{
+    let number = row_after(before.len());
+    if before.has(&row.name) {
+        return Err(InstanceRefusal::RepeatedName {
+            table: Table::Trips,
+            row: number,
+        });
+    }
+    let Some(from) = find_station(stations, &row.from) else {
+        return Err(InstanceRefusal::UnknownName {
+            table: Table::Trips,
+            row: number,
+            column: 1,
+        });
+    };
+    let Some(to) = find_station(stations, &row.to) else {
+        return Err(InstanceRefusal::UnknownName {
+            table: Table::Trips,
+            row: number,
+            column: 3,
+        });
+    };
+    let trip = Trip {
+        name: row.name,
+        from,
+        departure: row.departure,
+        to,
+        arrival: row.arrival,
+        km: row.km,
+        demand: row.demand,
+    };
+    accept_run(stations.entries(), types, number, trip)
+}
+
+/// The trips of the rows.
+#[tactic(auto, unfolding(crate::specs::Build::trips_in))]
+pub fn trips_of(
+    alloc: Global,
+    stations: &Named<Station>,
+    types: &[UnitType],
+    rows: Rows<TripRow>,
+) -> Result<Named<Trip>, InstanceRefusal>
+    requires stations { length stations.now ≤ 400 }
+    requires rows { length rows ≤ 400 }
+    ensures { Gives result (trips_in stations.now types.now rows) }
+{
+    let mut trips = Named::new(alloc);
+    for row in rows.into_items() {
+        let accepted = accept_trip(stations, types, &trips, row)?;
+        trips.push(alloc, accepted)?;
+    }
+    Ok(trips)
+}

@@ -1,0 +1,8 @@
+//! The day that is planned: what it holds and what can be asked of it, plans of it, and picks.
+
+pub(crate) mod chains;
+pub mod instance;
+pub(crate) mod link_tables;
+pub mod picks;
+pub mod plan;
+pub mod records;

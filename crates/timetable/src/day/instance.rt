@@ -1,0 +1,346 @@
+//! The instance: a day that was accepted, with its units numbered.
+
+ghost use Rattle.std.specs.Prelude.{◌≡◌, ◌<◌, ◌≤◌, [], ◌∷◌, ◌++◌, length, slice_get, Some, replicate, OnOk, IfOk, IfErr};
+ghost use Rattle.rail_csv.specs.Rows.{AreTypeRows, AreStationRows, AreStockRows, AreTripRows, AreLinkRows, IsWeightsRow};
+ghost use Rattle.timetable.specs.Accepted.{IsDay, AreLinks, DoMeet};
+ghost use Rattle.timetable.specs.Admissible.{is_admissible};
+ghost use Rattle.timetable.specs.Compositions.{compositions_of, composition_at};
+ghost use Rattle.timetable.specs.Build.{day_of, Gives, weights_in};
+ghost use Rattle.timetable.specs.Chains.{chains_of, AreChains};
+ghost use Rattle.timetable.specs.Day.{units_of, units_in, unit_count, wanted_in, wanted_of};
+ghost use Rattle.timetable.specs.Handovers.{handovers_of, AreHandovers};
+ghost use Rattle.timetable.specs.Links.{incoming, outgoing};
+ghost use Rattle.timetable.specs.Meaning.{IsDayOf};
+ghost use Rattle.timetable.specs.Refusals.{IsBroken};
+ghost use Rattle.timetable.specs.Starts.{start_in, start_of};
+
+use crate::building::entries::{
+    are_too_many, catalogue_of, longest_between, stations_of, stock_of, trips_of, types_of,
+};
+use crate::building::link_rows::links_of;
+use crate::building::refusal::InstanceRefusal;
+use crate::building::tables::Tables;
+use crate::day::chains::{Chain, linking_of};
+use crate::day::records::{Handover, Link, Station, Stock, Trip, Unit, Weights};
+use compositions::{Catalogue, UnitTypes};
+use rail_base::{CompNo, LinkNo, NoMemory, StationNo, TripNo, TypeNo, UnitNo};
+use rail_csv::WeightsRow;
+use std::alloc::Global;
+use std::marker::Model;
+
+/// A day that was accepted: its types, stations, stock, trips and links in the order of their tables, and its units,
+/// numbered by stock row and then within the row. A contract sees the day.
+#[derive(Debug, Drop)]
+pub struct Instance {
+    types: UnitTypes,
+    stations: Vec<Station>,
+    stock: Vec<Stock>,
+    trips: Vec<Trip>,
+    links: Vec<Link>,
+    weights: Weights,
+    units: Vec<Unit>,
+    catalogue: Catalogue,
+    incoming: Vec<Option<LinkNo>>,
+    outgoing: Vec<Option<LinkNo>>,
+    chains: Vec<Chain>,
+    handovers: Vec<Handover>,
+}
+
+impl Model for Instance {
+    ghost use Rattle.timetable.specs.Day.{Day};
+
+    ghost Value = { Day };
+
+    ghost use Rattle.timetable.specs.Holding.{day_in, Holds};
+
+    ghost view = { day_in };
+
+    ghost invariant = { Holds };
+}
+
+impl Instance {
+    /// The day of tables whose rows keep within the rules of their columns and the limits of rows.
+    ///
+    /// Refusals, the first test that fails: a repeated name of a type; of a station; a stock row with an unknown station,
+    /// an unknown type, or the station and type of an earlier row; more than 2,000 units; more than 1,000 compositions that
+    /// fit the greatest platform; a trip with a repeated name, an
+    /// unknown station, one station twice, an arrival not after its departure, or platforms that no composition fits; a
+    /// link whose fields do not fit its kind, with an unknown trip, with a trip that it or an earlier link has named on the
+    /// same side, with trips that do not meet at a station, or with a departure before an arrival. `NoMemory` may come at
+    /// any of them.
+    #[tactic(auto, unfolding(crate::specs::Build::day_of))]
+    pub fn build(alloc: Global, tables: Tables) -> Result<Instance, InstanceRefusal>
+        requires types { AreTypeRows tables.types }
+        requires stations { AreStationRows tables.stations }
+        requires stock { AreStockRows tables.stock }
+        requires trips { AreTripRows tables.trips }
+        requires links { AreLinkRows tables.links }
+        requires weights { IsWeightsRow tables.weights }
+        // The refusal is the first test that fails, and else the day is that of the tests.
+        ensures exact { Gives result (day_of tables) }
+        // The day is that of the tables in their own words.
+        ensures meaning { IfOk result (λ instance. IsDayOf tables instance) }
+        // A refusal says what is so in the tables.
+        ensures refusal { IfErr result (λ refusal. IsBroken tables refusal) }
+        ensures limits { IfOk result (λ instance. IsDay instance) }
+    {
+        let types = types_of(alloc, tables.types)?;
+        let stations = stations_of(alloc, tables.stations)?;
+        let stock = stock_of(alloc, &stations, &types, tables.stock)?;
+        if are_too_many(&stock) {
+            return Err(InstanceRefusal::TooManyUnits);
+        }
+        let types = UnitTypes::new(types.into_entries());
+        let catalogue = catalogue_of(alloc, &types, stations.entries())?;
+        let trips = trips_of(alloc, &stations, types.items(), tables.trips)?;
+        let links = links_of(alloc, &trips, tables.links.items())?;
+        let stations = stations.into_entries();
+        let trips = trips.into_entries();
+        let units = units_of(alloc, &stock)?;
+        let trip_count = trips.len() as u32;
+        let linking = linking_of(alloc, &links, trip_count)?;
+        Ok(Instance {
+            types,
+            stations,
+            stock,
+            trips,
+            links,
+            weights: weights_of(tables.weights),
+            units,
+            catalogue,
+            incoming: linking.incoming,
+            outgoing: linking.outgoing,
+            chains: linking.chains,
+            handovers: linking.handovers,
+        })
+    }
+
+    /// How many stations there are.
+    pub fn stations(&self) -> u32
+        ensures value { result ≡ length self.now.stations }
+        ensures few { result ≤ 60 }
+    {
+        self.stations.len() as u32
+    }
+
+    /// How many trips there are.
+    pub fn trips(&self) -> u32
+        ensures value { result ≡ length self.now.trips }
+        ensures few { result ≤ 400 }
+        ensures sound { IsDay self.now }
+    {
+        self.trips.len() as u32
+    }
+
+    /// How many links there are.
+    pub fn links(&self) -> u32
+        ensures value { result ≡ length self.now.links }
+        ensures few { result ≤ 400 }
+        ensures sound { AreLinks self.now }
+        ensures meet { DoMeet self.now }
+    {
+        self.links.len() as u32
+    }
+
+    /// How many units there are.
+    pub fn units(&self) -> u32
+        ensures value { result ≡ unit_count self.now }
+        ensures few { result ≤ 2000 }
+    {
+        self.units.len() as u32
+    }
+
+    /// The types of the units.
+    pub fn types(&self) -> &UnitTypes
+        ensures { result.now ≡ self.now.types }
+    {
+        &self.types
+    }
+
+    /// The compositions that fit the greatest platform of the stations, and 0 metres where there is no station.
+    #[tactic(auto, unfolding(crate::specs::Compositions::greatest_platform))]
+    pub fn catalogue(&self) -> &Catalogue
+        ensures { result.now ≡ compositions_of self.now }
+    {
+        &self.catalogue
+    }
+
+    /// Whether the composition of this number may run on the trip: its metres fit the platforms of both stations. The trip is
+    /// below `trips`, the composition below the catalogue's `len`.
+    #[tactic(auto, unfolding(crate::specs::Compositions::greatest_platform, crate::specs::Admissible::is_admissible))]
+    pub fn admits(&self, trip: TripNo, comp: CompNo) -> bool
+        requires trip { trip < length self.now.trips }
+        requires comp { comp < length (compositions_of self.now) }
+        ensures { result ≡ is_admissible self.now trip (composition_at self.now comp) }
+    {
+        let trip = &self.trips[trip.place()];
+        let longest = longest_between(&self.stations, trip.from, trip.to);
+        self.catalogue.get(comp).fits(&self.types, longest)
+    }
+
+    /// The weights of the cost.
+    pub fn weights(&self) -> Weights
+        ensures { result ≡ self.now.weights }
+    {
+        self.weights
+    }
+
+    /// The station of this number, which is below `stations`.
+    pub fn station(&self, station: StationNo) -> &Station
+        requires { station < length self.now.stations }
+        ensures { slice_get self.now.stations station ≡ Some result.now }
+    {
+        &self.stations[station.place()]
+    }
+
+    /// The trip of this number, which is below `trips`.
+    pub fn trip(&self, trip: TripNo) -> &Trip
+        requires { trip < length self.now.trips }
+        ensures { slice_get self.now.trips trip ≡ Some result.now }
+    {
+        &self.trips[trip.place()]
+    }
+
+    /// The link of this number, which is below `links`.
+    pub fn link(&self, link: LinkNo) -> &Link
+        requires { link < length self.now.links }
+        ensures { slice_get self.now.links link ≡ Some result.now }
+    {
+        &self.links[link.place()]
+    }
+
+    /// The link that leads into the trip, which is below `trips`: nothing where the trip takes all its units from the yard.
+    pub fn incoming(&self, trip: TripNo) -> Option<LinkNo>
+        requires { trip < length self.now.trips }
+        ensures { result ≡ incoming self.now trip }
+    {
+        self.incoming[trip.place()]
+    }
+
+    /// The link that leads on from the trip, which is below `trips`: nothing where the trip gives all its units to the yard.
+    pub fn outgoing(&self, trip: TripNo) -> Option<LinkNo>
+        requires { trip < length self.now.trips }
+        ensures { result ≡ outgoing self.now trip }
+    {
+        self.outgoing[trip.place()]
+    }
+
+    /// How many chains there are. A turn leads a chain from its arriving to its departing trip, a join from its first arriving
+    /// trip to its departing trip, a split from its arriving trip to its first departing trip; every trip lies in one chain.
+    pub fn chains(&self) -> u32
+        ensures value { result ≡ length (chains_of self.now) }
+        ensures few { result ≤ 400 }
+        ensures whole { AreChains self.now (chains_of self.now) }
+    {
+        self.chains.len() as u32
+    }
+
+    /// The trips of the chain of this number, which is below `chains`, in the order in which they run. Chains are numbered by
+    /// their first trips in rising order.
+    pub fn chain(&self, chain: u32) -> &[TripNo]
+        requires { chain < length (chains_of self.now) }
+        ensures { slice_get (chains_of self.now) chain ≡ Some result.now }
+    {
+        self.chains[chain as usize].items()
+    }
+
+    /// How many hand-overs there are: one for each join and each split.
+    pub fn handovers(&self) -> u32
+        ensures value { result ≡ length (handovers_of self.now) }
+        ensures few { result ≤ 400 }
+        ensures whole { AreHandovers self.now (handovers_of self.now) }
+    {
+        self.handovers.len() as u32
+    }
+
+    /// The hand-over of this number, which is below `handovers`. Hand-overs are numbered in the order of the links.
+    pub fn handover(&self, handover: u32) -> Handover
+        requires { handover < length (handovers_of self.now) }
+        ensures { slice_get (handovers_of self.now) handover ≡ Some result }
+    {
+        self.handovers[handover as usize]
+    }
+
+    /// The unit of this number, which is below `units`.
+    pub fn unit(&self, unit: UnitNo) -> Unit
+        requires { unit < unit_count self.now }
+        ensures { slice_get (units_of self.now) unit ≡ Some result }
+    {
+        self.units[unit.place()]
+    }
+
+    /// How many units of a type stand at a station at the start of the day: none where no stock row says it.
+    #[tactic(auto, unfolding(crate::specs::Starts::start_of))]
+    pub fn start(&self, station: StationNo, unit_type: TypeNo) -> u32
+        ensures { result ≡ start_of self.now station unit_type }
+    {
+        start_in(&self.stock, station, unit_type)
+    }
+
+    /// How many units of a type are wanted at a station at the end of the day: none where no stock row says it.
+    #[tactic(auto, unfolding(crate::specs::Day::wanted_of))]
+    pub fn end(&self, station: StationNo, unit_type: TypeNo) -> u32
+        ensures { result ≡ wanted_of self.now station unit_type }
+    {
+        wanted_in(&self.stock, station, unit_type)
+    }
+}
+
+/// The weights of their row.
+fn weights_of(row: WeightsRow) -> Weights
+    ensures { result ≡ weights_in row }
+{
+    Weights {
+        carriage: row.carriage,
+        shortage: row.shortage,
+        shunting: row.shunting,
+    }
+}
+
+/// Adds the units of a stock row.
+fn push_units(units: &mut Vec<Unit>, row: Stock) -> Result<(), NoMemory>
+    ensures { OnOk result (units.new.items ≡ units.old.items ++ replicate row.start (record { unit_type = row.unit_type; home = row.station })) }
+{
+    for _ in 0..row.start {
+        units.push(Unit {
+            unit_type: row.unit_type,
+            home: row.station,
+        })?;
+    }
+    Ok(())
+}
+
+/// The units of all stock rows, by row and then within the row.
+fn units_of(alloc: Global, stock: &[Stock]) -> Result<Vec<Unit>, NoMemory>
+    ensures { IfOk result (λ units. units.items ≡ units_in stock.now) }
+{
+    let mut units = Vec::new(alloc);
+    for row in stock {
+        push_units(&mut units, *row)?;
+    }
+    Ok(units)
+}
+
+/// The start of the stock row of a station and a type, and 0 where there is none.
+fn start_in(stock: &[Stock], station: StationNo, unit_type: TypeNo) -> u32
+    ensures { result ≡ start_in stock.now station unit_type }
+{
+    for row in stock {
+        if row.station == station && row.unit_type == unit_type {
+            return row.start;
+        }
+    }
+    0
+}
+
+/// The end of the stock row of a station and a type, and 0 where there is none.
+fn wanted_in(stock: &[Stock], station: StationNo, unit_type: TypeNo) -> u32
+    ensures { result ≡ wanted_in stock.now station unit_type }
+{
+    for row in stock {
+        if row.station == station && row.unit_type == unit_type {
+            return row.end;
+        }
+    }
+    0
+}

@@ -1,0 +1,81 @@
+//! Which link names a trip, for each trip.
+
+ghost use Rattle.std.specs.Prelude.{◌≡◌, ◌≤◌, Some, length, set, IfOk};
+ghost use Rattle.timetable.specs.LinkTables.{trips_on, noted, link_table};
+ghost use Rattle.timetable.specs.Lists.{has};
+
+use crate::day::records::{Link, LinkKind};
+use rail_base::{LinkNo, NoMemory, TripNo};
+use std::alloc::Global;
+
+/// A side of a link: the trips that arrive for it, or those that depart by it.
+#[derive(Clone, Copy, Debug)]
+pub enum Side {
+    /// The trips whose trains go on by the link.
+    Arriving,
+    /// The trips that these trains go on as.
+    Departing,
+}
+
+/// Whether a link names the trip on one side.
+pub fn is_named_by(kind: LinkKind, side: Side, trip: TripNo) -> bool
+    ensures { result ≡ has trip (trips_on side kind) }
+{
+    match (side, kind) {
+        (Side::Arriving, LinkKind::Turn { arriving, .. }) => arriving == trip,
+        (Side::Arriving, LinkKind::Join { first, second, .. }) => first == trip || second == trip,
+        (Side::Arriving, LinkKind::Split { arriving, .. }) => arriving == trip,
+        (Side::Departing, LinkKind::Turn { departing, .. }) => departing == trip,
+        (Side::Departing, LinkKind::Join { departing, .. }) => departing == trip,
+        (Side::Departing, LinkKind::Split { first, second, .. }) => first == trip || second == trip,
+    }
+}
+
+/// Notes a link at a trip, where the table has an entry for the trip.
+fn note_at(table: &mut Vec<Option<LinkNo>>, trip: TripNo, link: LinkNo)
+    ensures { table.new.items ≡ set table.old.items trip (Some link) }
+{
+    if trip.place() < table.len() {
+        table[trip.place()] = Some(link);
+    }
+}
+
+/// Notes a link at each trip that it names on one side.
+fn note_link(table: &mut Vec<Option<LinkNo>>, kind: LinkKind, side: Side, link: LinkNo)
+    ensures { table.new.items ≡ noted (Some link) (trips_on side kind) table.old.items }
+{
+    match (side, kind) {
+        (Side::Arriving, LinkKind::Turn { arriving, .. }) => note_at(table, arriving, link),
+        (Side::Arriving, LinkKind::Join { first, second, .. }) => {
+            note_at(table, first, link);
+            note_at(table, second, link);
+        }
+        (Side::Arriving, LinkKind::Split { arriving, .. }) => note_at(table, arriving, link),
+        (Side::Departing, LinkKind::Turn { departing, .. }) => note_at(table, departing, link),
+        (Side::Departing, LinkKind::Join { departing, .. }) => note_at(table, departing, link),
+        (Side::Departing, LinkKind::Split { first, second, .. }) => {
+            note_at(table, first, link);
+            note_at(table, second, link);
+        }
+    }
+}
+
+/// For each trip the number of the first link that names it on one side. The links are noted from the last to the first,
+/// so that the first stays.
+pub fn links_by_trip(
+    alloc: Global,
+    links: &[Link],
+    side: Side,
+    trips: u32,
+) -> Result<Vec<Option<LinkNo>>, NoMemory>
+    requires { length links.now ≤ 400 }
+    ensures { IfOk result (λ table. table.items ≡ link_table (trips_on side) links.now trips) }
+{
+    let mut table = vec![in alloc; None; trips as usize]?;
+    let mut left = links.len();
+    while left > 0 {
+        left -= 1;
+        note_link(&mut table, links[left].kind, side, LinkNo(left as u32));
+    }
+    Ok(table)
+}

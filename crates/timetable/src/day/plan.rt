@@ -1,0 +1,137 @@
+//! A plan of named units: which units run on each trip, front to rear.
+
+ghost use Rattle.std.specs.Prelude.{◌≡◌, ◌<◌, ◌≤◌, length, slice_get, IfOk};
+ghost use Rattle.rail_csv.specs.Rows.{ArePlanRows};
+ghost use Rattle.timetable.specs.Links.{list_of};
+ghost use Rattle.timetable.specs.Plans.{is_named, are_units, accept_list, lists_in, plan_of, Gives, GivesRows};
+ghost use Rattle.timetable.specs.Running.{IsPlan};
+
+use crate::building::entries::{are_same, row_after};
+use crate::building::refusal::PlanRefusal;
+use crate::day::instance::Instance;
+use rail_base::{Name, NoMemory, TripNo, UnitNo};
+use rail_csv::{PlanRow, UnitList};
+use std::alloc::Global;
+use std::marker::Model;
+
+/// The units of each trip of a day, front to rear, one list a trip. A contract sees the list of these lists.
+#[derive(Debug, Drop)]
+pub struct NamedPlan {
+    lists: Vec<UnitList>,
+}
+
+impl Model for NamedPlan {
+    ghost use Rattle.std.specs.Prelude.{List, ℕ, length, ◌≤◌};
+
+    ghost Value = { List (List ℕ) };
+
+    ghost view = { λ a. a.lists.items };
+
+    ghost invariant = { λ a. length a.lists.items ≤ 400 };
+}
+
+impl NamedPlan {
+    /// The plan that rows make of a day: row k, counted from 1, is for trip k - 1.
+    ///
+    /// Refusals, the first wrong row first: `WrongTrip`, where the row names another trip or there is no such trip; then
+    /// `UnknownUnit`, where a unit number is not below the number of units; after the last row `MissingTrip`, where trips
+    /// are left. `NoMemory` may come at any of them.
+    #[tactic(auto, unfolding(crate::specs::Plans::plan_of))]
+    pub fn build(
+        alloc: Global,
+        instance: &Instance,
+        rows: &[PlanRow],
+    ) -> Result<NamedPlan, PlanRefusal>
+        requires { ArePlanRows rows.now }
+        ensures exact { Gives result (plan_of instance.now rows.now) }
+        ensures is_plan { IfOk result (λ plan. IsPlan instance.now plan) }
+    {
+        let lists = lists_of(alloc, instance, rows)?;
+        if rows.len() < instance.trips() as usize {
+            return Err(PlanRefusal::MissingTrip(rows.len() as u32));
+        }
+        Ok(NamedPlan { lists })
+    }
+
+    /// The units of this trip, front to rear: at most six. The trip is below `trips`.
+    #[tactic(auto, unfolding(crate::specs::Links::list_of))]
+    pub fn units(&self, trip: TripNo) -> &[UnitNo]
+        requires { trip < length self.now }
+        ensures value { result.now ≡ list_of self.now trip }
+        ensures few { length result.now ≤ 6 }
+    {
+        self.lists[trip.place()].items()
+    }
+
+    /// For how many trips there is a list.
+    pub fn trips(&self) -> u32
+        ensures value { result ≡ length self.now }
+        ensures few { result ≤ 400 }
+    {
+        self.lists.len() as u32
+    }
+}
+
+/// Whether there is a trip of this number, and it has the name.
+fn is_trip(instance: &Instance, trip: usize, name: &Name) -> bool
+    ensures { result ≡ is_named (slice_get instance.now.trips trip) name.now }
+{
+    if trip >= instance.trips() as usize {
+        return false;
+    }
+    are_same(&instance.trip(TripNo(trip as u32)).name, name)
+}
+
+/// Whether each is a unit of the day.
+fn are_units(instance: &Instance, units: &[UnitNo]) -> bool
+    ensures { result ≡ are_units instance.now units.now }
+{
+    units.iter().all(|unit| unit.0 < instance.units())
+}
+
+/// The same units in the same order.
+fn copy_of(alloc: Global, units: &UnitList) -> Result<UnitList, NoMemory>
+    ensures { IfOk result (λ copy. copy ≡ units.now) }
+{
+    let items = units.items();
+    let copies = items.to_vec(alloc)?;
+    Ok(UnitList::of(copies))
+}
+
+/// The list of a row, after those of the rows before it.
+#[tactic(auto, unfolding(crate::specs::Plans::accept_list))]
+fn accept_list(
+    alloc: Global,
+    instance: &Instance,
+    before: &[UnitList],
+    row: &PlanRow,
+) -> Result<UnitList, PlanRefusal>
+    requires { length before.now ≤ 400 }
+    ensures { Gives result (accept_list instance.now before.now row.now) }
+{
+    if !is_trip(instance, before.len(), &row.trip) {
+        return Err(PlanRefusal::WrongTrip(row_after(before.len())));
+    }
+    if !are_units(instance, row.units.items()) {
+        return Err(PlanRefusal::UnknownUnit(row_after(before.len())));
+    }
+    Ok(copy_of(alloc, &row.units)?)
+}
+
+/// The lists of the rows.
+#[tactic(auto, unfolding(crate::specs::Plans::lists_in))]
+fn lists_of(
+    alloc: Global,
+    instance: &Instance,
+    rows: &[PlanRow],
+) -> Result<Vec<UnitList>, PlanRefusal>
+    requires { length rows.now ≤ 400 }
+    ensures { GivesRows result (lists_in instance.now rows.now) }
+{
+    let mut lists = Vec::new(alloc);
+    for row in rows {
+        let accepted = accept_list(alloc, instance, &lists, row)?;
+        lists.push(accepted)?;
+    }
+    Ok(lists)
+}

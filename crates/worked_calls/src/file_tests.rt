@@ -1,0 +1,1 @@
+//! Whole files in and out, over folders and sinks in memory and on disk.

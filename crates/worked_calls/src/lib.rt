@@ -1,0 +1,17 @@
+//! Worked calls: examples of the public calls of each crate, as tests alone.
+#![tactic(auto)]
+
+#[cfg(test)]
+mod composition_tests;
+#[cfg(test)]
+mod cost_tests;
+#[cfg(test)]
+mod edge_tests;
+#[cfg(test)]
+mod file_tests;
+#[cfg(test)]
+mod machine_tests;
+#[cfg(test)]
+mod row_tests;
+#[cfg(test)]
+mod timetable_tests;

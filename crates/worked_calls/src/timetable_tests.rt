@@ -1,0 +1,1 @@
+//! Days, plans and picks.
