@@ -45,6 +45,8 @@ ending day plan s m = count_below (λ u. (last_place day plan u == s) && (type_o
 
 -- The plan runs.
 pub record Runs (day : Day) (plan : List (List ℕ)) : Type 0 where
+  -- it is a plan of the day
+  pub is_plan : IsPlan day plan
   -- each trip has a list that may run on it
   pub lists : (t : ℕ) → t < length day.trips → MayRun day t (list_of plan t)
   -- each link's rule holds
