@@ -165,6 +165,7 @@ module _ (day : Day) (plan : List (List ℕ)) (is_day : IsDay day) (is_plan : Is
         let yards = yards_end final ran in
         let ok = ended_ok (first_not_made final (fixed_order day)) (first_differing day final (below (length day.stations))) (plan_cost day plan) cost f in (
           record {
+            is_plan = is_plan;
             lists = λ t lt. (let once = order.departs_once t lt in ran.good.lists t (omega arith));
             links = links;
             homes = λ u lt. (good_conditions ran.good u lt).0;
