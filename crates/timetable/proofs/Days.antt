@@ -3,7 +3,7 @@ use Rattle.std.proofs.Common.{◌≡◌, ℕ, suc, zero, ◌<◌, ◌≤◌, Lis
 use Rattle.std.specs.Prelude.{option_map, nat_lt, if◌then◌else◌}
 use Rattle.std.specs.List.{All}
 use Rattle.std.proofs.lemmas.List.{length-replicate}
-use Rattle.std.proofs.lemmas.List.Elements.{All-nil, All-head, All-tail, All-append, All-replicate}
+use Rattle.std.proofs.lemmas.List.Elements.{All-nil, All-head, All-tail, All-append, All-replicate, All-weaker}
 use Rattle.std.proofs.lemmas.Bool.{ltb-false}
 use Rattle.compositions.specs.Catalogue.{catalogue_of}
 use Rattle.compositions.specs.declared.types.UnitType.{UnitType}
@@ -21,10 +21,10 @@ use Rattle.timetable.specs.Accepted.{IsDay}
 use Rattle.timetable.specs.Rowwise.{◌>>=◌}
 use Rattle.timetable.specs.Build.{starts_of, most_units, most_compositions, catalogue_in, types_in, stations_in, stock_in, trips_in, weights_in, day_of}
 use Rattle.timetable.specs.Compositions.{greatest_in}
-use Rattle.timetable.specs.Day.{Day, units_in, units_of, leaves, arrives, from_of, to_of, km_of, demand_of, home_of, type_of, reallocation_of}
+use Rattle.timetable.specs.Day.{Day, units_in, units_of, leaves, arrives, from_of, to_of, km_of, demand_of, home_of, type_of, platform_of, reallocation_of}
 use Rattle.timetable.specs.LinkRows.{accept_link, links_in}
 use Rattle.timetable.specs.Lists.{of_entry}
-use Rattle.timetable.specs.Within.{AreTypes, AreStations, IsStockAt, IsTripAt, AreTrips, AreWeights}
+use Rattle.timetable.specs.Within.{AreTypes, IsStation, AreStations, IsStockAt, IsUnitAt, IsTripAt, AreTrips, AreWeights}
 use Rattle.timetable.proofs.Accepting.{bind_ok, guard_ok, same_ok, accepted_length}
 use Rattle.timetable.proofs.Entries.{are_types, are_stations, are_stock, are_trips}
 
@@ -50,12 +50,8 @@ length-units_in (row ∷ rows) =
     let u : unit.Unit = record { unit_type = row.unit_type; home = row.station } in
     omega (arith, length-append (replicate row.start u) (units_in rows), length-replicate row.start u, length-units_in rows)
 
--- a unit's station and type are there
-pub record IsUnitAt (stations types : ℕ) (u : unit.Unit) : Type 0 where
-  pub home : u.home < stations
-  pub unit_type : u.unit_type < types
-
-units_within : (stations types : ℕ) (stock : List Stock) → All (IsStockAt stations types) stock → All (IsUnitAt stations types) (units_in stock)
+-- the home and the type of each unit are there
+pub units_within : (stations types : ℕ) (stock : List Stock) → All (IsStockAt stations types) stock → All (IsUnitAt stations types) (units_in stock)
 units_within stations types [] all = All-nil (IsUnitAt stations types)
 units_within stations types (row ∷ rows) all =
     let here : IsStockAt stations types row = All-head (IsStockAt stations types) row rows all in
@@ -67,7 +63,7 @@ units_within stations types (row ∷ rows) all =
 -- a day of accepted entries
 is_day : (day : Day) → AreTypes day.types → AreStations day.stations → All (IsStockAt (length day.stations) (length day.types)) day.stock → starts_of day.stock ≤ 2000
     → AreTrips (length day.stations) day.trips → length day.links ≤ 400 → AreWeights day.weights → IsDay day
-unfolding leaves arrives from_of to_of km_of demand_of home_of type_of reallocation_of units_of
+unfolding leaves arrives from_of to_of km_of demand_of home_of type_of platform_of reallocation_of units_of
 is_day day types stations stock few trips links weights =
     let trip_at = λ (t : ℕ) (below : t < length day.trips). entry_at (IsTripAt (length day.stations)) day.trips t below trips.each in
     let unit_at = λ (u : ℕ) (below : u < length (units_in day.stock)). entry_at (IsUnitAt (length day.stations) (length day.types)) (units_in day.stock) u below (units_within (length day.stations) (length day.types) day.stock stock) in
@@ -82,7 +78,8 @@ is_day day types stations stock few trips links weights =
       demand = λ t below. let (trip, is, at) = trip_at t below in rw (entry_is (λ trip. trip.demand) day.trips t 0 trip is) at.demand;
       home = λ u below. let (found, is, at) = unit_at u below in rw (entry_is (λ (u : unit.Unit). u.home) (units_in day.stock) u 0 found is) at.home;
       unit_type = λ u below. let (found, is, at) = unit_at u below in rw (entry_is (λ (u : unit.Unit). u.unit_type) (units_in day.stock) u 0 found is) at.unit_type;
-      reallocation = λ s. entry_within (λ station. station.reallocation) 600 day.stations s 0 (omega arith) stations.each;
+      platform = λ s. entry_within (λ station. station.platform) 1000 day.stations s 0 (omega arith) (All-weaker IsStation (λ station. station.platform ≤ 1000) (λ station is. is.platform) day.stations stations.each);
+      reallocation = λ s. entry_within (λ station. station.reallocation) 600 day.stations s 0 (omega arith) (All-weaker IsStation (λ station. station.reallocation ≤ 600) (λ station is. is.reallocation) day.stations stations.each);
       unit_types = types.each;
       type_count = types.few;
       station_count = stations.few;

@@ -28,7 +28,7 @@ use Rattle.timetable.specs.declared.building.refusal.InstanceRefusal.TheVariants
 use Rattle.timetable.specs.Rowwise.{◌>>=◌, row_after}
 use Rattle.timetable.specs.Build.{new_stock, trip_between, has_fitting, platform_at, accept_type, types_in, type_in, accept_station, stations_in, station_in, has_stock, accept_stock, stock_in, accept_trip, accept_run, trips_in}
 use Rattle.timetable.specs.Naming.{has_name, find_name, found_or}
-use Rattle.timetable.specs.Within.{AreTypes, AreStations, IsReallocated, IsStockAt, IsTripAt, AreTrips}
+use Rattle.timetable.specs.Within.{AreTypes, AreStations, IsStation, IsStockAt, IsTripAt, AreTrips}
 use Rattle.timetable.proofs.Accepting.{bind_ok, guard_ok, choice_ok, found_ok, same_ok, accepted_all, accepted_length}
 
 -- a type that was accepted is that of its row, whose name is new
@@ -70,14 +70,14 @@ station_of_row before row s e =
     let (new, is) = guard_ok _ _ (Ok (station_in row)) s e in
     (new, same_ok _ s is)
 
-station_within : (row : StationRow) (s : Station) → IsStationRow row → station_in row ≡ s → IsReallocated s
-station_within row s is_row e = subst IsReallocated e is_row.reallocation.1
+station_within : (row : StationRow) (s : Station) → IsStationRow row → station_in row ≡ s → IsStation s
+station_within row s is_row e = subst IsStation e (record { platform = is_row.platform.1; reallocation = is_row.reallocation.1 })
 
 pub are_stations : (rows : List StationRow) (stations : List Station) → AreStationRows rows → stations_in rows ≡ Ok stations → AreStations stations
 unfolding stations_in
 are_stations rows stations within e = record {
   few = let h : length stations ≡ length rows = accepted_length accept_station [] rows stations e ∙ zero-add (length rows) in omega (arith, within.few);
-  each = accepted_all accept_station IsStationRow IsReallocated (λ before row s is_row is. station_within row s is_row (station_of_row before row s is).1) [] rows stations (All-nil IsReallocated) within.each e;
+  each = accepted_all accept_station IsStationRow IsStation (λ before row s is_row is. station_within row s is_row (station_of_row before row s is).1) [] rows stations (All-nil IsStation) within.each e;
 }
 
 -- ---- stock

@@ -15,6 +15,7 @@ pub mod LinksRefused
 pub mod Refused
 pub mod Carriages
 pub mod LinkNames
+pub mod Within
 pub mod TypeRule
 pub mod NamedTrips
 pub mod Leading

@@ -12,13 +12,13 @@ use Rattle.timetable.specs.Links.{arriving_in, departing_in}
 use Rattle.timetable.specs.Lists.{count_of, has}
 
 -- a list of one or two has each of them
-has_itself : (a : ℕ) → IsTrue (has a (a ∷ []))
+pub has_itself : (a : ℕ) → IsTrue (has a (a ∷ []))
 has_itself a = le-leb 1 (count_of a (a ∷ [])) (grind (arith, nat_tests))
 
-has_first : (a b : ℕ) → IsTrue (has a (a ∷ b ∷ []))
+pub has_first : (a b : ℕ) → IsTrue (has a (a ∷ b ∷ []))
 has_first a b = le-leb 1 (count_of a (a ∷ b ∷ [])) (grind (arith, nat_tests))
 
-has_second : (a b : ℕ) → IsTrue (has b (a ∷ b ∷ []))
+pub has_second : (a b : ℕ) → IsTrue (has b (a ∷ b ∷ []))
 has_second a b = le-leb 1 (count_of b (a ∷ b ∷ [])) (grind (arith, nat_tests))
 
 -- a link names trips of the day

@@ -1,6 +1,6 @@
 -- The links that name a trip, listed by trip.
 use Rattle.std.proofs.Common.{◌≡◌, inl, inr, ℕ, zero, suc, ◌<◌, List, [], ◌∷◌, ◌++◌, length, get_or, refl, sym, ap, subst, ◌∙◌, arith, length-append, Option, Some, None, slice_get}
-use Rattle.std.specs.Prelude.{option_and_then}
+use Rattle.std.specs.Prelude.{option_and_then, IfSome}
 use Rattle.std.proofs.lemmas.Bool.{cases_lt}
 use Rattle.std.proofs.lemmas.Option.{get_or_from_slice_get, slice_get-get_or, slice_get_within}
 use Rattle.timetable.specs.declared.day.records.Link.{Link}
@@ -54,6 +54,11 @@ pub names_within : (side : LinkKind → List ℕ) (links : List Link) (t number 
 names_within side links t number e =
     let (link, at, named) = position_some (λ (link : Link). has t (side link.kind)) links number e in
     slice_get_within links number link at
+
+-- an entry of a table is the number of a link
+pub entry_within : (side : LinkKind → List ℕ) (links : List Link) (t : ℕ) (entry : Option ℕ) → entry ≡ link_naming side links t → IfSome entry (λ number. number < length links)
+entry_within side links t None is = tt
+entry_within side links t (Some number) is = names_within side links t number (sym is)
 
 -- the link that is read by its number is the one that names the trip
 pub link_read : (side : LinkKind → List ℕ) (links : List Link) (t number place : ℕ) (d : Link) → link_naming side links t ≡ Some number → place ≡ number

@@ -1,7 +1,7 @@
 -- What is known of every day that was accepted.
 use Rattle.std.specs.Prelude.{ℕ, ◌+◌, ◌<◌, ◌≤◌, ◌≡◌, length, List, [], ◌∷◌, All, IsTrue, Some, slice_get}
 use Rattle.compositions.specs.declared.types.UnitType.{UnitType}
-use Rattle.timetable.specs.Day.{Day, leaves, arrives, from_of, to_of, km_of, demand_of, home_of, type_of, unit_count, reallocation_of}
+use Rattle.timetable.specs.Day.{Day, leaves, arrives, from_of, to_of, km_of, demand_of, home_of, type_of, unit_count, platform_of, reallocation_of}
 use Rattle.timetable.specs.Links.{arriving_in, departing_in}
 use Rattle.timetable.specs.Lists.{count_of, has}
 use Rattle.timetable.specs.declared.day.records.Link.{Link}
@@ -23,6 +23,7 @@ pub record IsDay (day : Day) : Type 0 where
   pub demand : (t : ℕ) → t < length day.trips → demand_of day t ≤ 10000
   pub home : (u : ℕ) → u < unit_count day → home_of day u < length day.stations
   pub unit_type : (u : ℕ) → u < unit_count day → type_of day u < length day.types
+  pub platform : (s : ℕ) → platform_of day s ≤ 1000
   pub reallocation : (s : ℕ) → reallocation_of day s ≤ 600
   pub unit_types : All IsUnitType day.types
   pub type_count : length day.types ≤ 6

@@ -3,12 +3,13 @@ use Rattle.std.specs.Prelude.{◌≡◌, length}
 use Rattle.compositions.specs.Catalogue.{catalogue_of}
 use Rattle.timetable.specs.declared.day.instance.Instance.TheInside.{Inside}
 use Rattle.timetable.specs.Day.{Day, units_of}
-use Rattle.timetable.specs.Accepted.{IsDay, AreLinks, DoMeet}
+use Rattle.timetable.specs.Accepted.{IsDay, AreLinks}
 use Rattle.timetable.specs.Chains.{chains_of}
 use Rattle.timetable.specs.Compositions.{greatest_in}
 use Rattle.timetable.specs.Handovers.{handovers_of}
 use Rattle.timetable.specs.Links.{arriving_in, departing_in}
 use Rattle.timetable.specs.LinkTables.{link_table}
+use Rattle.timetable.specs.Within.{IsWithin}
 
 abbrev pub day_in : Inside → Day
 day_in a = record { types = a.types; stations = a.stations.items; stock = a.stock.items; trips = a.trips.items; links = a.links.items; weights = a.weights }
@@ -17,8 +18,8 @@ day_in a = record { types = a.types; stations = a.stations.items; stock = a.stoc
 pub record Holds (a : Inside) : Type 0 where
   pub units : a.units.items ≡ units_of (day_in a)
   pub day : IsDay (day_in a)
+  pub within : IsWithin (day_in a)
   pub links : AreLinks (day_in a)
-  pub meet : DoMeet (day_in a)
   pub incoming : a.incoming.items ≡ link_table departing_in a.links.items (length a.trips.items)
   pub outgoing : a.outgoing.items ≡ link_table arriving_in a.links.items (length a.trips.items)
   pub catalogue : a.catalogue ≡ catalogue_of a.types (greatest_in a.stations.items)

@@ -1,29 +1,42 @@
--- What is known of the entries that were accepted: each within its limits, and what it names is there.
-use Rattle.std.specs.Prelude.{ℕ, List, length, ◌≤◌, ◌<◌}
+-- What is known of the entries of a day that was accepted: each within its limits, and what it names is there.
+use Rattle.std.specs.Prelude.{ℕ, List, length, ◌≤◌, ◌<◌, ◌≡◌}
 use Rattle.std.specs.List.{All}
 use Rattle.compositions.specs.declared.types.UnitType.{UnitType}
+use Rattle.timetable.specs.declared.day.records.Link.{Link}
+use Rattle.timetable.specs.declared.day.records.LinkKind.{LinkKind}
+use Rattle.timetable.specs.declared.day.records.LinkKind.TheVariants.{Turn, Join, Split}
 use Rattle.timetable.specs.declared.day.records.Station.{Station}
 use Rattle.timetable.specs.declared.day.records.Stock.{Stock}
 use Rattle.timetable.specs.declared.day.records.Trip.{Trip}
+use Rattle.timetable.specs.declared.day.records.Unit as unit
 use Rattle.timetable.specs.declared.day.records.Weights.{Weights}
 use Rattle.timetable.specs.Accepted.{IsUnitType}
+use Rattle.timetable.specs.Day.{Day, leaves, arrives, from_of, to_of, units_of}
+use Rattle.timetable.specs.LinkRows.{NamesBelow}
 
 pub record AreTypes (types : List UnitType) : Type 0 where
   pub few : length types ≤ 6
   pub each : All IsUnitType types
 
-abbrev pub IsReallocated : Station → Type 0
-IsReallocated station = station.reallocation ≤ 600
+pub record IsStation (station : Station) : Type 0 where
+  pub platform : station.platform ≤ 1000
+  pub reallocation : station.reallocation ≤ 600
 
 pub record AreStations (stations : List Station) : Type 0 where
   pub few : length stations ≤ 60
-  pub each : All IsReallocated stations
+  pub each : All IsStation stations
 
 -- the station and the type of a stock row are there
 pub record IsStockAt (stations types : ℕ) (row : Stock) : Type 0 where
   pub station : row.station < stations
   pub unit_type : row.unit_type < types
 
+-- the home and the type of a unit are there
+pub record IsUnitAt (stations types : ℕ) (u : unit.Unit) : Type 0 where
+  pub home : u.home < stations
+  pub unit_type : u.unit_type < types
+
+-- the trip arrives after it leaves and on the second day at the latest, and its stations are there
 pub record IsTripAt (stations : ℕ) (trip : Trip) : Type 0 where
   pub time : trip.departure < trip.arrival
   pub late : trip.arrival < 2880
@@ -36,7 +49,28 @@ pub record AreTrips (stations : ℕ) (trips : List Trip) : Type 0 where
   pub few : length trips ≤ 400
   pub each : All (IsTripAt stations) trips
 
+-- each arriving trip of a link, with each departing one
+abbrev pub EachPair : (ℕ → ℕ → Type 0) → LinkKind → Type 0
+EachPair P (Turn a b uncouple couple) = P a b
+EachPair P (Join a1 a2 b) = P a1 b × P a2 b
+EachPair P (Split a b1 b2) = P a b1 × P a b2
+
+-- the trips of the link are there and meet at one station, and none departs before one that it goes on from arrives
+pub record IsLinkAt (day : Day) (link : Link) : Type 0 where
+  pub trips : NamesBelow (length day.trips) link.kind
+  pub meet : EachPair (λ a b. to_of day a ≡ from_of day b) link.kind
+  pub in_time : EachPair (λ a b. arrives day a ≤ leaves day b) link.kind
+
 pub record AreWeights (weights : Weights) : Type 0 where
   pub carriage : weights.carriage ≤ 10000
   pub shortage : weights.shortage ≤ 10000
   pub shunting : weights.shunting ≤ 10000
+
+-- all entries of a day
+pub record IsWithin (day : Day) : Type 0 where
+  pub types : AreTypes day.types
+  pub stations : AreStations day.stations
+  pub units : All (IsUnitAt (length day.stations) (length day.types)) (units_of day)
+  pub trips : AreTrips (length day.stations) day.trips
+  pub links : All (IsLinkAt day) day.links
+  pub weights : AreWeights day.weights

@@ -1,18 +1,20 @@
 //! The instance: a day that was accepted, with its units numbered.
 
-ghost use Rattle.std.specs.Prelude.{◌≡◌, ◌<◌, ◌≤◌, [], ◌∷◌, ◌++◌, length, slice_get, Some, replicate, OnOk, IfOk, IfErr};
+ghost use Rattle.std.specs.Prelude.{◌≡◌, ◌<◌, ◌≤◌, [], ◌∷◌, ◌++◌, length, slice_get, Some, replicate, OnOk, IfOk, IfErr, IfSome};
+ghost use Rattle.std.specs.List.{All};
 ghost use Rattle.rail_csv.specs.Rows.{AreTypeRows, AreStationRows, AreStockRows, AreTripRows, AreLinkRows, IsWeightsRow};
-ghost use Rattle.timetable.specs.Accepted.{IsDay, AreLinks, DoMeet};
+ghost use Rattle.timetable.specs.Accepted.{IsDay, AreLinks};
 ghost use Rattle.timetable.specs.Admissible.{is_admissible};
 ghost use Rattle.timetable.specs.Compositions.{compositions_of, composition_at};
 ghost use Rattle.timetable.specs.Build.{day_of, Gives, weights_in};
-ghost use Rattle.timetable.specs.Chains.{chains_of, AreChains};
+ghost use Rattle.timetable.specs.Chains.{chains_of, IsChain, AreChains};
 ghost use Rattle.timetable.specs.Day.{units_of, units_in, unit_count, wanted_in, wanted_of};
-ghost use Rattle.timetable.specs.Handovers.{handovers_of, AreHandovers};
+ghost use Rattle.timetable.specs.Handovers.{handovers_of, IsHandover, AreHandovers};
 ghost use Rattle.timetable.specs.Links.{incoming, outgoing};
 ghost use Rattle.timetable.specs.Meaning.{IsDayOf};
 ghost use Rattle.timetable.specs.Refusals.{IsBroken};
 ghost use Rattle.timetable.specs.Starts.{start_in, start_of};
+ghost use Rattle.timetable.specs.Within.{AreTypes, IsStation, IsUnitAt, IsTripAt, IsLinkAt, AreWeights};
 
 use crate::building::entries::{
     are_too_many, catalogue_of, longest_between, stations_of, stock_of, trips_of, types_of,
@@ -137,7 +139,6 @@ impl Instance {
         ensures value { result ≡ length self.now.links }
         ensures few { result ≤ 400 }
         ensures sound { AreLinks self.now }
-        ensures meet { DoMeet self.now }
     {
         self.links.len() as u32
     }
@@ -150,9 +151,10 @@ impl Instance {
         self.units.len() as u32
     }
 
-    /// The types of the units.
+    /// The types of the units: at most six, each with its numbers within the limits.
     pub fn types(&self) -> &UnitTypes
-        ensures { result.now ≡ self.now.types }
+        ensures value { result.now ≡ self.now.types }
+        ensures within { AreTypes self.now.types }
     {
         &self.types
     }
@@ -178,49 +180,59 @@ impl Instance {
         self.catalogue.get(comp).fits(&self.types, longest)
     }
 
-    /// The weights of the cost.
+    /// The weights of the cost, each within its limit.
     pub fn weights(&self) -> Weights
-        ensures { result ≡ self.now.weights }
+        ensures value { result ≡ self.now.weights }
+        ensures within { AreWeights result }
     {
         self.weights
     }
 
-    /// The station of this number, which is below `stations`.
+    /// The station of this number, which is below `stations`. Its platform and its reallocation time are within the limits.
     pub fn station(&self, station: StationNo) -> &Station
         requires { station < length self.now.stations }
-        ensures { slice_get self.now.stations station ≡ Some result.now }
+        ensures value { slice_get self.now.stations station ≡ Some result.now }
+        ensures within { IsStation result.now }
     {
         &self.stations[station.place()]
     }
 
-    /// The trip of this number, which is below `trips`.
+    /// The trip of this number, which is below `trips`. It leaves before it arrives, within the two days, its stations are there,
+    /// and its kilometres and its demand are within the limits.
     pub fn trip(&self, trip: TripNo) -> &Trip
         requires { trip < length self.now.trips }
-        ensures { slice_get self.now.trips trip ≡ Some result.now }
+        ensures value { slice_get self.now.trips trip ≡ Some result.now }
+        ensures within { IsTripAt (length self.now.stations) result.now }
     {
         &self.trips[trip.place()]
     }
 
-    /// The link of this number, which is below `links`.
+    /// The link of this number, which is below `links`. Its trips are there and meet at one station, and none departs before
+    /// one that it goes on from arrives.
     pub fn link(&self, link: LinkNo) -> &Link
         requires { link < length self.now.links }
-        ensures { slice_get self.now.links link ≡ Some result.now }
+        ensures value { slice_get self.now.links link ≡ Some result.now }
+        ensures within { IsLinkAt self.now result.now }
     {
         &self.links[link.place()]
     }
 
-    /// The link that leads into the trip, which is below `trips`: nothing where the trip takes all its units from the yard.
+    /// The link that leads into the trip, which is below `trips`: nothing where the trip takes all its units from the yard. The
+    /// number is that of a link.
     pub fn incoming(&self, trip: TripNo) -> Option<LinkNo>
         requires { trip < length self.now.trips }
-        ensures { result ≡ incoming self.now trip }
+        ensures value { result ≡ incoming self.now trip }
+        ensures within { IfSome result (λ link. link < length self.now.links) }
     {
         self.incoming[trip.place()]
     }
 
     /// The link that leads on from the trip, which is below `trips`: nothing where the trip gives all its units to the yard.
+    /// The number is that of a link.
     pub fn outgoing(&self, trip: TripNo) -> Option<LinkNo>
         requires { trip < length self.now.trips }
-        ensures { result ≡ outgoing self.now trip }
+        ensures value { result ≡ outgoing self.now trip }
+        ensures within { IfSome result (λ link. link < length self.now.links) }
     {
         self.outgoing[trip.place()]
     }
@@ -236,10 +248,13 @@ impl Instance {
     }
 
     /// The trips of the chain of this number, which is below `chains`, in the order in which they run. Chains are numbered by
-    /// their first trips in rising order.
+    /// their first trips in rising order. No link leads to the first trip or on from the last, and one leads from each trip to
+    /// the next.
     pub fn chain(&self, chain: u32) -> &[TripNo]
         requires { chain < length (chains_of self.now) }
-        ensures { slice_get (chains_of self.now) chain ≡ Some result.now }
+        ensures value { slice_get (chains_of self.now) chain ≡ Some result.now }
+        ensures whole { IsChain self.now result.now }
+        ensures within { All (λ trip. trip < length self.now.trips) result.now }
     {
         self.chains[chain as usize].items()
     }
@@ -253,18 +268,22 @@ impl Instance {
         self.handovers.len() as u32
     }
 
-    /// The hand-over of this number, which is below `handovers`. Hand-overs are numbered in the order of the links.
+    /// The hand-over of this number, which is below `handovers`. Hand-overs are numbered in the order of the links. Its link is a
+    /// join or a split of the day, with this second trip.
     pub fn handover(&self, handover: u32) -> Handover
         requires { handover < length (handovers_of self.now) }
-        ensures { slice_get (handovers_of self.now) handover ≡ Some result }
+        ensures value { slice_get (handovers_of self.now) handover ≡ Some result }
+        ensures of_link { IsHandover self.now.links result }
+        ensures within { result.second < length self.now.trips }
     {
         self.handovers[handover as usize]
     }
 
-    /// The unit of this number, which is below `units`.
+    /// The unit of this number, which is below `units`. Its type and its home are there.
     pub fn unit(&self, unit: UnitNo) -> Unit
         requires { unit < unit_count self.now }
-        ensures { slice_get (units_of self.now) unit ≡ Some result }
+        ensures value { slice_get (units_of self.now) unit ≡ Some result }
+        ensures within { IsUnitAt (length self.now.stations) (length self.now.types) result }
     {
         self.units[unit.place()]
     }

@@ -22,10 +22,11 @@ use Rattle.timetable.specs.Links.{arriving_in, departing_in}
 use Rattle.timetable.specs.Within.{AreTypes, AreStations, AreTrips}
 use Rattle.timetable.proofs.Days.{day_is_made, day_within_limits, few_links}
 use Rattle.timetable.proofs.Entries.{are_types, types_within_limits, are_stations, are_trips}
-use Rattle.timetable.proofs.Linking.{are_links, do_all_meet}
+use Rattle.timetable.proofs.Linking.{are_links}
 use Rattle.timetable.proofs.LinkTables.{table_of}
 use Rattle.timetable.proofs.Leading.{next_known}
 use Rattle.timetable.proofs.Said.{is_day_of}
+use Rattle.timetable.proofs.Within.{entries_within}
 use Rattle.timetable.proofs.Refused.{answer_is_so, refusal_is_so, links_fail}
 use Rattle.timetable.specs.declared.building.refusal.InstanceRefusal.TheVariants.{TooManyUnits}
 use Rattle.timetable.proofs.day.instance.Instance.build.Goals as goal
@@ -90,9 +91,9 @@ invariant_of-result c =
     record {
       units = search rules;
       day = day_within_limits c.args.tables day c.requires.types c.requires.stations c.requires.trips c.requires.links c.requires.weights made;
+      within = entries_within c.args.tables day c.requires.types c.requires.stations c.requires.trips c.requires.weights made;
       catalogue = c.in_ok-catalogue.ensures.value ∙ ap (λ (stations : List Station). catalogue_of c.new-types.result (greatest_in stations)) (c.entries.ensures ∙ sym c.into_entries-stations.ensures);
       links = are_links day c.args.tables.links linked;
-      meet = do_all_meet day c.args.tables.links linked;
       incoming = table_of departing_in c.in_ok-linking.linking.incoming.items c.deref-3.result.now c.in_ok-links.links.items c.len-trip_count.result (length day.trips) c.in_ok-linking.ensures.incoming c.deref-3.ensures.value count;
       outgoing = table_of arriving_in c.in_ok-linking.linking.outgoing.items c.deref-3.result.now c.in_ok-links.links.items c.len-trip_count.result (length day.trips) c.in_ok-linking.ensures.outgoing c.deref-3.ensures.value count;
       chains = c.in_ok-linking.ensures.chains
