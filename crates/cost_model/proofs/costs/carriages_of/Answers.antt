@@ -7,5 +7,5 @@ pub returns-clause-few : goal.returns-clause-few
 returns-clause-few c =
     let bound = carriages_le c.args.instance.now.types c.args.composition.now c.trips-known.ensures.sound.unit_types in
     let value = c.carriages.ensures in
-    let types = c.types.ensures in
+    let types = c.types.ensures.value in
     rw (value, types) (omega (arith, bound, c.len-few.ensures.value, c.len-few.ensures.few))
