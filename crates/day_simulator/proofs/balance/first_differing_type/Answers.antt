@@ -11,7 +11,7 @@ returns-then-count-wanted c = λ state same.
     let n = c.loop-number.number in
     let here = differs_at day state s n c.yard_count-count.result c.end-wanted.result (c.yard_count-count.ensures state same) c.end-wanted.ensures c.if-count-wanted.true in
     let found = types_more day state s n ∙ ap (λ (o : Option StepFault). or_else o (fault_at day state s n)) (c.loop-number.invariant state same) ∙ here in
-    sym (types_later day state s (n + 1) (length day.types) _ (omega (arith, c.len-number-end.ensures.value, ap length c.types.ensures)) found)
+    sym (types_later day state s (n + 1) (length day.types) _ (omega (arith, c.len-number-end.ensures.value, ap length c.types.ensures.value)) found)
 
 pub loop-number-preserved : goal.loop-number-preserved
 loop-number-preserved c = λ state same.

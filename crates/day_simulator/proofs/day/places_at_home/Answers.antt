@@ -9,4 +9,4 @@ use Rattle.day_simulator.proofs.day.places_at_home.Goals as goal
 pub loop-number-preserved : goal.loop-number-preserved
 loop-number-preserved c =
     c.in_ok-push.ensures.items ∙ ap (λ (ps : List Place). ps ++ Yard c.unit-station.result.home 0 ∷ []) c.loop-number.invariant
-    ∙ sym (map-more (λ (u : unit.Unit). Yard u.home 0) (units_of c.args.instance.now) c.loop-number.number c.unit-station.result c.unit-station.ensures)
+    ∙ sym (map-more (λ (u : unit.Unit). Yard u.home 0) (units_of c.args.instance.now) c.loop-number.number c.unit-station.result c.unit-station.ensures.value)

@@ -5,5 +5,5 @@ use Rattle.day_simulator.proofs.links.broken.Goals as goal
 
 pub link_holds-requires : goal.link_holds-requires
 link_holds-requires c =
-    let names = names_below c.args.instance.now c.links-known.ensures.sound c.in_ok-number.number c.link-link.result.now c.link-link.ensures in
+    let names = names_below c.args.instance.now c.links-known.ensures.sound c.in_ok-number.number c.link-link.result.now c.link-link.ensures.value in
     subst (λ (n : ℕ). NamesBelow n c.link-link.result.now.kind) (sym c.requires.plan.trips) names

@@ -8,4 +8,4 @@ unit-requires c = unit_at c.args.instance.now c.args.units.now c.loop-unit.unit-
 pub loop-unit-preserved : goal.loop-unit-preserved
 loop-unit-preserved c =
     c.push.ensures.items ∙ ap (λ (ms : List ℕ). ms ++ c.unit.result.unit_type ∷ []) c.loop-unit.invariant
-    ∙ sym (types_more c.args.instance.now c.args.units.now c.loop-unit.unit-index c.unit-item.result c.unit.result c.loop-unit-test.true c.unit-item.is c.unit.ensures)
+    ∙ sym (types_more c.args.instance.now c.args.units.now c.loop-unit.unit-index c.unit-item.result c.unit.result c.loop-unit-test.true c.unit-item.is c.unit.ensures.value)
