@@ -16,6 +16,8 @@ pub mod Refused
 pub mod Carriages
 pub mod LinkNames
 pub mod Within
+pub mod Joining
+pub mod Shares
 pub mod TypeRule
 pub mod NamedTrips
 pub mod Leading

@@ -10,7 +10,7 @@ use Rattle.rail_csv.specs.declared.rows.End.TheVariants as at
 use Rattle.timetable.specs.declared.day.records.Link.{Link}
 use Rattle.timetable.specs.declared.day.records.LinkKind.{LinkKind}
 use Rattle.timetable.specs.declared.day.records.LinkKind.TheVariants.{Turn, Join, Split}
-use Rattle.timetable.specs.Links.{Parts, list_of, same, is_left_of, beyond, turn_parts, turn_of, turned, join_holds, split_holds, kind_holds, link_holds, kept_by, given_by, taken_by, link_out, link_into, outgoing, incoming, kept, given, taken}
+use Rattle.timetable.specs.Links.{Parts, list_of, same, is_left_of, beyond, turn_parts_by, turn_parts, turn_of, turned, join_holds, split_holds, kind_holds, link_holds, kept_by, given_by, taken_by, link_out, link_into, outgoing, incoming, kept, given, taken}
 use Rattle.timetable.specs.Day.{Day}
 use Rattle.timetable.specs.Lists.{has}
 
@@ -31,7 +31,7 @@ differ xs ys lengths = false_from_ne_true (same xs ys) (λ e. lengths (ap length
 
 module _ (f : ℕ → ℕ) where
   -- the parts, mapped
-  abbrev pub map_parts : Parts → Parts
+  abbrev pub map_parts : Parts ℕ → Parts ℕ
   map_parts parts = record { kept = map f parts.kept; given = map f parts.given; taken = map f parts.taken }
 
   same-map : (xs ys : List ℕ) → same xs ys ≡ true → same (map f xs) (map f ys) ≡ true
@@ -55,15 +55,15 @@ module _ (f : ℕ → ℕ) where
       ∙ take-map f (length whole - length part) whole
 
   module _ (uncouple couple : End) (arriving departing : List ℕ) where
-    abbrev Mapped : Parts → Type 0
+    abbrev Mapped : Parts ℕ → Type 0
     Mapped parts = turn_parts uncouple couple (map f arriving) (map f departing) ≡ Some (map_parts parts)
 
     keeps : same arriving departing ≡ true → Mapped (record { kept = arriving; given = []; taken = [] })
-    unfolding turn_parts
+    unfolding turn_parts_by
     keeps is = cond-true (same (map f arriving) (map f departing)) _ _ (same-map arriving departing is)
 
     gives : is_left_of uncouple arriving departing ≡ true → Mapped (record { kept = departing; given = beyond uncouple arriving (length departing); taken = [] })
-    unfolding turn_parts
+    unfolding turn_parts_by
     gives left =
         let shorter = left_shorter uncouple arriving departing left in
         let differs : same (map f arriving) (map f departing) ≡ false =
@@ -73,7 +73,7 @@ module _ (f : ℕ → ℕ) where
         ∙ ap (λ (us : List ℕ). Some (record { kept = map f departing; given = us; taken = [] })) (beyond-map uncouple arriving departing)
 
     takes : is_left_of couple departing arriving ≡ true → Mapped (record { kept = arriving; given = []; taken = beyond couple departing (length arriving) })
-    unfolding turn_parts
+    unfolding turn_parts_by
     takes left =
         let shorter = left_shorter couple departing arriving left in
         let differs : same (map f arriving) (map f departing) ≡ false =
@@ -85,12 +85,12 @@ module _ (f : ℕ → ℕ) where
         ∙ cond-true (is_left_of couple (map f departing) (map f arriving)) _ _ (left-map couple departing arriving left)
         ∙ ap (λ (us : List ℕ). Some (record { kept = map f arriving; given = []; taken = us })) (beyond-map couple departing arriving)
 
-    same_parts : (p q : Parts) → Some p ≡ Some q → Mapped p → Mapped q
+    same_parts : (p q : Parts ℕ) → Some p ≡ Some q → Mapped p → Mapped q
     same_parts p q e mapped = let is : p ≡ q = cc in subst Mapped is mapped
 
     -- the parts of a turn of units are those of the turn of their types
-    pub turn_parts-map : (parts : Parts) → turn_parts uncouple couple arriving departing ≡ Some parts → Mapped parts
-    unfolding turn_parts
+    pub turn_parts-map : (parts : Parts ℕ) → turn_parts uncouple couple arriving departing ≡ Some parts → Mapped parts
+    unfolding turn_parts_by
     turn_parts-map parts e = elim (cases_Bool (same arriving departing)) [
       | inl is ↦ same_parts _ parts (sym (cond-true (same arriving departing) _ _ is) ∙ e) (keeps is)
       | inr differs ↦
@@ -112,15 +112,15 @@ module _ (f : ℕ → ℕ) where
         × (turn_of uncouple couple (map f arriving) (map f departing) ≡ map_parts (turn_of uncouple couple arriving departing))
     turn_of-map holds = at (turn_parts uncouple couple arriving departing) refl holds
       where
-        at : (o : Option Parts) → turn_parts uncouple couple arriving departing ≡ o → is_some o ≡ true
+        at : (o : Option (Parts ℕ)) → turn_parts uncouple couple arriving departing ≡ o → is_some o ≡ true
             → (is_some (turn_parts uncouple couple (map f arriving) (map f departing)) ≡ true)
             × (turn_of uncouple couple (map f arriving) (map f departing) ≡ map_parts (turn_of uncouple couple arriving departing))
         at None is h = absurd (false≢true h)
         at (Some parts) is h =
             let mapped = turn_parts-map parts is in (
               ap is_some mapped,
-              ap (λ (o : Option Parts). unwrap_or o (record { kept = []; given = map f arriving; taken = map f departing })) mapped
-                  ∙ ap (λ (o : Option Parts). map_parts (unwrap_or o (record { kept = []; given = arriving; taken = departing }))) (sym is),
+              ap (λ (o : Option (Parts ℕ)). unwrap_or o (record { kept = []; given = map f arriving; taken = map f departing })) mapped
+                  ∙ ap (λ (o : Option (Parts ℕ)). map_parts (unwrap_or o (record { kept = []; given = arriving; taken = departing }))) (sym is),
             )
 
   -- a join and a split of units are a join and a split of their types
@@ -186,7 +186,7 @@ module _ (f : ℕ → ℕ) where
   -- what is kept, given and taken by a link whose rule holds
   pub kept_by-map : (kind : LinkKind) (r : Bool) (plan : List (List ℕ)) → kind_holds kind r plan ≡ true → (from to : ℕ) → kept_by kind r (map (map f) plan) from to ≡ map f (kept_by kind r plan from to)
   kept_by-map (Turn a b uncouple couple) r plan holds from to =
-      ap (λ (parts : Parts). cond ((from == a) && (to == b)) parts.kept []) (turn-map r uncouple couple plan a b holds)
+      ap (λ (parts : Parts ℕ). cond ((from == a) && (to == b)) parts.kept []) (turn-map r uncouple couple plan a b holds)
       ∙ map-cond ((from == a) && (to == b)) (turn_of uncouple couple (turned r (list_of plan a)) (list_of plan b)).kept
   kept_by-map (Join a1 a2 b) r plan holds from to =
       ap (λ (us : List ℕ). cond (has from (a1 ∷ a2 ∷ []) && (to == b)) (turned r us) []) (list_of-map plan from)
@@ -197,12 +197,12 @@ module _ (f : ℕ → ℕ) where
       ∙ map-cond ((from == a) && has to (b1 ∷ b2 ∷ [])) (list_of plan to)
 
   pub given_by-map : (kind : LinkKind) (r : Bool) (plan : List (List ℕ)) → kind_holds kind r plan ≡ true → given_by kind r (map (map f) plan) ≡ map f (given_by kind r plan)
-  given_by-map (Turn a b uncouple couple) r plan holds = ap (λ (parts : Parts). parts.given) (turn-map r uncouple couple plan a b holds)
+  given_by-map (Turn a b uncouple couple) r plan holds = ap (λ (parts : Parts ℕ). parts.given) (turn-map r uncouple couple plan a b holds)
   given_by-map (Join a1 a2 b) r plan holds = refl
   given_by-map (Split a b1 b2) r plan holds = refl
 
   pub taken_by-map : (kind : LinkKind) (r : Bool) (plan : List (List ℕ)) → kind_holds kind r plan ≡ true → taken_by kind r (map (map f) plan) ≡ map f (taken_by kind r plan)
-  taken_by-map (Turn a b uncouple couple) r plan holds = ap (λ (parts : Parts). parts.taken) (turn-map r uncouple couple plan a b holds)
+  taken_by-map (Turn a b uncouple couple) r plan holds = ap (λ (parts : Parts ℕ). parts.taken) (turn-map r uncouple couple plan a b holds)
   taken_by-map (Join a1 a2 b) r plan holds = refl
   taken_by-map (Split a b1 b2) r plan holds = refl
 

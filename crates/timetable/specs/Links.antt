@@ -1,5 +1,6 @@
 -- The rule of a link, over lists of units or lists of types, and which of the units stay in the train.
 use Rattle.std.specs.Prelude.{ℕ, ◌-◌, List, [], ◌∷◌, ◌++◌, length, take, drop, reverse, Bool, false, ◌&&◌, ◌==◌, if◌then◌else◌, nat_le, nat_lt, Option, Some, None, is_some, option_map, unwrap_or, option_and_then, slice_get, position}
+use Rattle.std.specs.Cmp.Lexicographic.{pointwise}
 use Rattle.std.specs.Str.{bytes_eq}
 use Rattle.rail_csv.specs.declared.rows.End.{End}
 use Rattle.rail_csv.specs.declared.rows.End.TheVariants as at
@@ -13,36 +14,50 @@ use Rattle.timetable.specs.Lists.{has}
 unfoldable pub list_of : List (List ℕ) → ℕ → List ℕ
 list_of plan t = unwrap_or (slice_get plan t) []
 
--- two lists are one
-abbrev pub same : List ℕ → List ℕ → Bool
-same = bytes_eq
+-- ---- the rule of a turn, over lists of units or of types, whose entries a test compares
 
 -- the part is what is left of the whole after one or more units went at this end, and at least one stays
-abbrev pub is_left_of : End → List ℕ → List ℕ → Bool
-is_left_of at.None whole part = false
-is_left_of at.Rear whole part = nat_le 1 (length part) && nat_lt (length part) (length whole) && same (take (length part) whole) part
-is_left_of at.Front whole part = nat_le 1 (length part) && nat_lt (length part) (length whole) && same (drop (length whole - length part) whole) part
+abbrev pub is_left_by : {X : Type 0} → (X → X → Bool) → End → List X → List X → Bool
+is_left_by eq at.None whole part = false
+is_left_by eq at.Rear whole part = nat_le 1 (length part) && nat_lt (length part) (length whole) && pointwise eq (take (length part) whole) part
+is_left_by eq at.Front whole part = nat_le 1 (length part) && nat_lt (length part) (length whole) && pointwise eq (drop (length whole - length part) whole) part
 
 -- the units at this end, beyond so many that stay
-abbrev pub beyond : End → List ℕ → ℕ → List ℕ
+abbrev pub beyond : {X : Type 0} → End → List X → ℕ → List X
 beyond at.None whole stay = []
 beyond at.Rear whole stay = drop stay whole
 beyond at.Front whole stay = take (length whole - stay) whole
 
--- a hand-over from an arriving list to a departing list: what stays in the train, what is given to the yard, what is taken from it
-pub record Parts : Type 0 where
-  pub kept : List ℕ
-  pub given : List ℕ
-  pub taken : List ℕ
+-- what becomes of an arriving and a departing list: what stays in the train, what is given to the yard, what is taken from it
+pub record Parts (X : Type 0) : Type 0 where
+  pub kept : List X
+  pub given : List X
+  pub taken : List X
 
 -- A turn: the departing list is the arriving one, or what is left of it after units were uncoupled at the one end, or the
 -- arriving one with units coupled at the other end. The arriving list is the one after a reversal.
-unfoldable pub turn_parts : End → End → List ℕ → List ℕ → Option Parts
-turn_parts uncouple couple arriving departing =
-    if same arriving departing then Some (record { kept = arriving; given = []; taken = [] })
-    else if is_left_of uncouple arriving departing then Some (record { kept = departing; given = beyond uncouple arriving (length departing); taken = [] })
-    else if is_left_of couple departing arriving then Some (record { kept = arriving; given = []; taken = beyond couple departing (length arriving) })
+unfoldable pub turn_parts_by : {X : Type 0} → (X → X → Bool) → End → End → List X → List X → Option (Parts X)
+turn_parts_by eq uncouple couple arriving departing =
+    if pointwise eq arriving departing then Some (record { kept = arriving; given = []; taken = [] })
+    else if is_left_by eq uncouple arriving departing then Some (record { kept = departing; given = beyond uncouple arriving (length departing); taken = [] })
+    else if is_left_by eq couple departing arriving then Some (record { kept = arriving; given = []; taken = beyond couple departing (length arriving) })
     else None
+
+-- a list as it stands after the link has turned the train round, or not
+abbrev pub turned : {X : Type 0} → Bool → List X → List X
+turned reversed list = if reversed then reverse list else list
+
+-- ---- the rule of a link, over lists of numbers: of units, or of types
+
+-- two lists are one
+abbrev pub same : List ℕ → List ℕ → Bool
+same = bytes_eq
+
+abbrev pub is_left_of : End → List ℕ → List ℕ → Bool
+is_left_of = is_left_by ◌==◌
+
+abbrev pub turn_parts : End → End → List ℕ → List ℕ → Option (Parts ℕ)
+turn_parts = turn_parts_by ◌==◌
 
 -- a join: the first arriving list, and then the second
 unfoldable pub join_holds : List ℕ → List ℕ → List ℕ → Bool
@@ -51,10 +66,6 @@ join_holds first second departing = same (first ++ second) departing
 -- a split: the arriving list is the first departing one and then the second, and neither is empty
 unfoldable pub split_holds : List ℕ → List ℕ → List ℕ → Bool
 split_holds arriving first second = same arriving (first ++ second) && nat_le 1 (length first) && nat_le 1 (length second)
-
--- a list as it stands after the link has turned the train round, or not
-abbrev pub turned : Bool → List ℕ → List ℕ
-turned reversed list = if reversed then reverse list else list
 
 abbrev pub kind_holds : LinkKind → Bool → List (List ℕ) → Bool
 kind_holds (Turn a b uncouple couple) r lists = is_some (turn_parts uncouple couple (turned r (list_of lists a)) (list_of lists b))
@@ -90,7 +101,7 @@ abbrev pub link_into : Day → ℕ → Option Link
 link_into day t = option_and_then (slice_get day.links) (incoming day t)
 
 -- the units that a turn keeps, gives and takes; nothing is kept where its rule is broken
-abbrev pub turn_of : End → End → List ℕ → List ℕ → Parts
+abbrev pub turn_of : End → End → List ℕ → List ℕ → Parts ℕ
 turn_of uncouple couple arriving departing =
     unwrap_or (turn_parts uncouple couple arriving departing) (record { kept = []; given = arriving; taken = departing })
 

@@ -6,3 +6,4 @@ pub(crate) mod link_tables;
 pub mod picks;
 pub mod plan;
 pub mod records;
+pub mod rule;

@@ -1,8 +1,8 @@
 //! The chains of a day, along which links lead from trip to trip, and the hand-overs between them.
 
 ghost use Rattle.std.specs.Prelude.{◌≡◌, ◌<◌, ◌≤◌, ◌==◌, ℕ, length, Some, IfOk};
-ghost use Rattle.timetable.specs.Chains.{leads_from, leads_to, next_by, next_in, is_led_in, chain_from, chains_below};
-ghost use Rattle.timetable.specs.Handovers.{second_of, handovers_from};
+ghost use Rattle.timetable.specs.Chains.{leads_to, next_by, next_in, is_led_in, chain_from, chains_below};
+ghost use Rattle.timetable.specs.Handovers.{handovers_from};
 ghost use Rattle.timetable.specs.Links.{arriving_in, departing_in};
 ghost use Rattle.timetable.specs.LinkTables.{link_table};
 
@@ -35,34 +35,12 @@ impl Chain {
     }
 }
 
-/// The trip that a link leads a chain from: its first arriving trip.
-fn leads_from(kind: &LinkKind) -> TripNo
-    ensures { result ≡ leads_from kind.now }
-{
-    match *kind {
-        LinkKind::Turn { arriving, .. } => arriving,
-        LinkKind::Join { first, .. } => first,
-        LinkKind::Split { arriving, .. } => arriving,
-    }
-}
-
-/// The trip that a link leads a chain to: its first departing trip.
-fn leads_to(kind: &LinkKind) -> TripNo
-    ensures { result ≡ leads_to kind.now }
-{
-    match *kind {
-        LinkKind::Turn { departing, .. } => departing,
-        LinkKind::Join { departing, .. } => departing,
-        LinkKind::Split { first, .. } => first,
-    }
-}
-
 /// The trip that a link leads a trip's chain on to: none where it leads no chain from this trip.
 fn next_by(kind: LinkKind, trip: TripNo) -> Option<TripNo>
     ensures { result ≡ next_by kind trip }
 {
-    if leads_from(&kind) == trip {
-        Some(leads_to(&kind))
+    if kind.leads_from() == trip {
+        Some(kind.leads_to())
     } else {
         None
     }
@@ -84,7 +62,7 @@ fn next_in(links: &[Link], outgoing: &[Option<LinkNo>], trip: TripNo) -> Option<
 fn is_led_by(kind: LinkKind, trip: TripNo) -> bool
     ensures { result ≡ (leads_to kind == trip) }
 {
-    leads_to(&kind) == trip
+    kind.leads_to() == trip
 }
 
 /// Whether a link leads a chain to a trip, by the table of the links that lead into trips.
@@ -149,17 +127,6 @@ fn chains_of(
     Ok(chains)
 }
 
-/// The second trip of a join or a split; a turn has none.
-fn second_of(kind: LinkKind) -> Option<TripNo>
-    ensures { result ≡ second_of kind }
-{
-    match kind {
-        LinkKind::Turn { .. } => None,
-        LinkKind::Join { second, .. } => Some(second),
-        LinkKind::Split { second, .. } => Some(second),
-    }
-}
-
 /// The hand-overs of joins and splits, in the order of the links.
 fn handovers_of(alloc: Global, links: &[Link]) -> Result<Vec<Handover>, NoMemory>
     requires { length links.now ≤ 400 }
@@ -167,7 +134,7 @@ fn handovers_of(alloc: Global, links: &[Link]) -> Result<Vec<Handover>, NoMemory
 {
     let mut handovers = Vec::new(alloc);
     for number in 0..links.len() {
-        if let Some(second) = second_of(links[number].kind) {
+        if let Some(second) = links[number].kind.second() {
             handovers.push(Handover {
                 link: LinkNo(number as u32),
                 second,
