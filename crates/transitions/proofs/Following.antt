@@ -65,7 +65,7 @@ number_of day t ms fits =
 abbrev shunt_at : ℕ → ℕ → Shunt
 shunt_at given taken = cond (ltb 0 given) (Uncouple given) (cond (ltb 0 taken) (Couple taken) Keep)
 
-shunt_of-map : (f : ℕ → ℕ) (parts : Parts) → shunt_of (map_parts f parts) ≡ shunt_of parts
+shunt_of-map : (f : ℕ → ℕ) (parts : Parts ℕ) → shunt_of (map_parts f parts) ≡ shunt_of parts
 shunt_of-map f parts =
     ap (λ (n : ℕ). shunt_at n (length (map f parts.taken))) (length-map parts.given f) ∙ ap (λ (n : ℕ). shunt_at (length parts.given) n) (length-map parts.taken f)
 
@@ -81,13 +81,13 @@ module _ (f : ℕ → ℕ) (uncouple couple : End) (r : Bool) (arriving departin
           ap (λ (us : List ℕ). turn_parts uncouple couple (turned r us) to) origin ∙ ap (λ (us : List ℕ). turn_parts uncouple couple us to) (turned-map f r arriving)
           ∙ ap (λ (us : List ℕ). turn_parts uncouple couple (map f (turned r arriving)) us) goal
 
-      at : (o : Option Parts) → turn_parts uncouple couple (turned r arriving) departing ≡ o → is_some o ≡ true
+      at : (o : Option (Parts ℕ)) → turn_parts uncouple couple (turned r arriving) departing ≡ o → is_some o ≡ true
           → option_map shunt_of (turn_parts uncouple couple (turned r from) to) ≡ Some (shunt_of (turn_of uncouple couple (turned r arriving) departing))
       at None is h = absurd (false≢true h)
       at (Some parts) is h =
           ap (option_map shunt_of) (lists ∙ turn_parts-map f uncouple couple (turned r arriving) departing parts is)
           ∙ ap (λ (s : Shunt). Some s) (shunt_of-map f parts)
-          ∙ ap (λ (o : Option Parts). Some (shunt_of (unwrap_or o (record { kept = []; given = turned r arriving; taken = departing })))) (sym is)
+          ∙ ap (λ (o : Option (Parts ℕ)). Some (shunt_of (unwrap_or o (record { kept = []; given = turned r arriving; taken = departing })))) (sym is)
 
 -- a link of a kind, whose rule holds
 record KindFollows (day : Day) (plan : List (List ℕ)) (kind : LinkKind) (r : Bool) : Type 0 where

@@ -1,4 +1,3 @@
-pub mod Turning
 pub mod Rests
 pub mod Numbers
 pub mod Kept

@@ -6,7 +6,7 @@ use Rattle.transitions.specs.declared.edge.Shunt.{Shunt}
 use Rattle.transitions.specs.declared.edge.Shunt.TheVariants.{Keep, Uncouple, Couple}
 
 -- the units that are given to the yard are uncoupled, and those that are taken from it are coupled
-abbrev pub shunt_of : Parts → Shunt
+abbrev pub shunt_of : Parts ℕ → Shunt
 shunt_of parts =
     if nat_lt 0 (length parts.given) then Uncouple (length parts.given)
     else if nat_lt 0 (length parts.taken) then Couple (length parts.taken)

@@ -43,35 +43,13 @@ pub(crate) fn edge_between(
     }
 }
 
-/// The first trip that arrives for a link: the train in front.
-fn leads_from(kind: LinkKind) -> TripNo
-    ensures { result ≡ leads_from kind }
-{
-    match kind {
-        LinkKind::Turn { arriving, .. } => arriving,
-        LinkKind::Join { first, .. } => first,
-        LinkKind::Split { arriving, .. } => arriving,
-    }
-}
-
-/// The first trip that departs by a link: the train in front.
-fn leads_to(kind: LinkKind) -> TripNo
-    ensures { result ≡ leads_to kind }
-{
-    match kind {
-        LinkKind::Turn { departing, .. } => departing,
-        LinkKind::Join { departing, .. } => departing,
-        LinkKind::Split { first, .. } => first,
-    }
-}
-
 /// Whether a composition, which is below the catalogue's `len`, may run on the first trip that arrives for a link.
 pub(crate) fn may_arrive(instance: &Instance, link: &Link, comp: CompNo) -> bool
     requires trips { NamesBelow (length instance.now.trips) link.now.kind }
     requires comp { comp < length (compositions_of instance.now) }
     ensures { IsTrue result ↔ MayRun instance.now (leads_from link.now.kind) comp }
 {
-    let trip = leads_from(link.kind);
+    let trip = link.kind.leads_from();
     instance.admits(trip, comp)
 }
 
@@ -81,7 +59,7 @@ fn may_depart(instance: &Instance, link: &Link, comp: CompNo) -> bool
     requires comp { comp < length (compositions_of instance.now) }
     ensures { IsTrue result ↔ MayRun instance.now (leads_to link.now.kind) comp }
 {
-    let trip = leads_to(link.kind);
+    let trip = link.kind.leads_to();
     instance.admits(trip, comp)
 }
 

@@ -2,30 +2,18 @@
 
 ghost use Rattle.std.specs.Prelude.{◌≡◌, ◌≤◌, ◌<◌, ◌++◌, ◌↔◌, length, List, ℕ};
 ghost use Rattle.std.specs.Prelude.{Some};
-ghost use Rattle.timetable.specs.Links.{is_left_of, turned};
-ghost use Rattle.transitions.specs.Turns.{turn_shunt};
+ghost use Rattle.timetable.specs.Links.{turned};
+ghost use Rattle.transitions.specs.Turns.{shunt_of, turn_shunt};
 
 use crate::edge::Shunt;
 use compositions::Composition;
 use rail_base::TypeNo;
 use rail_csv::End;
-
-/// Whether the part is what is left of the whole after one or more units went at this end, and at least one stays.
-fn is_left_of(end: End, whole: &[TypeNo], part: &[TypeNo]) -> bool
-    ensures { result ≡ is_left_of end whole.now part.now }
-{
-    if part.is_empty() || part.len() >= whole.len() {
-        return false;
-    }
-    match end {
-        End::None => false,
-        End::Rear => &whole[..part.len()] == part,
-        End::Front => &whole[whole.len() - part.len()..] == part,
-    }
-}
+use timetable::{Parts, turn_parts};
 
 /// The shunt of a turn between two lists of at most six types each, or nothing where the rule of the turn is broken. The
 /// arriving list is the one after a reversal.
+#[tactic(auto, unfolding(crate::specs::Turns::turn_shunt))]
 pub(crate) fn turn_shunt(
     uncouple: End,
     couple: End,
@@ -36,18 +24,27 @@ pub(crate) fn turn_shunt(
     requires departing { length departing.now ≤ 6 }
     ensures { result ≡ turn_shunt uncouple couple arriving.now departing.now }
 {
-    if arriving == departing {
-        return Some(Shunt::Keep);
+    let parts = turn_parts(uncouple, couple, arriving, departing)?;
+    Some(shunt_of(&parts))
+}
+
+/// What is done to a train whose parts these are, at most six types each.
+fn shunt_of(parts: &Parts<TypeNo>) -> Shunt
+    requires given { length parts.now.given ≤ 6 }
+    requires taken { length parts.now.taken ≤ 6 }
+    ensures { result ≡ shunt_of parts.now }
+{
+    if !parts.given.is_empty() {
+        return Shunt::Uncouple {
+            units: parts.given.len() as u8,
+        };
     }
-    if is_left_of(uncouple, arriving, departing) {
-        let units = (arriving.len() - departing.len()) as u8;
-        return Some(Shunt::Uncouple { units });
+    if !parts.taken.is_empty() {
+        return Shunt::Couple {
+            units: parts.taken.len() as u8,
+        };
     }
-    if is_left_of(couple, departing, arriving) {
-        let units = (departing.len() - arriving.len()) as u8;
-        return Some(Shunt::Couple { units });
-    }
-    None
+    Shunt::Keep
 }
 
 /// A composition as it stands after the train has turned round, or not.
@@ -66,11 +63,5 @@ pub(crate) fn rest_after(front: &[TypeNo], whole: &[TypeNo]) -> Option<Compositi
     requires { length whole.now ≤ 6 }
     ensures { (rest : List ℕ) → (result ≡ Some rest) ↔ ((front.now ++ rest ≡ whole.now) × (1 ≤ length rest)) }
 {
-    if front.len() >= whole.len() {
-        return None;
-    }
-    if &whole[..front.len()] == front {
-        return Composition::of(&whole[front.len()..]);
-    }
-    None
+    Composition::of(whole.strip_prefix(front)?)
 }
