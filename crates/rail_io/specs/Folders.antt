@@ -1,5 +1,5 @@
--- What a folder holds, what a read hands out, and when a count of faults rose.
-use Rattle.std.specs.Prelude.{◌≡◌, ◌⊎◌, ◌↔◌, ℕ, min, ◌+◌, ◌-◌, ◌^◌, ◌<◌, ◌≤◌, List, [], length, take, drop, unwrap_or}
+-- What a folder holds, what a read hands out, when a count of faults rose, and what no call on a folder changes.
+use Rattle.std.specs.Prelude.{◌≡◌, ◌⊎◌, ◌↔◌, ℕ, Bool, min, ◌+◌, ◌-◌, ◌^◌, ◌<◌, ◌≤◌, List, [], length, take, drop, Option, unwrap_or}
 use Rattle.std.specs.Ordering.{nat_cmp}
 use Rattle.std.specs.Cmp.Lexicographic.{slice_cmp}
 use Rattle.std.specs.FinMap as map
@@ -34,3 +34,10 @@ pub record RoseBy (n before after : ℕ) : Type 0 where
 -- a count of bytes handed out rose by more than a limit, or had reached 2 ^ 63
 abbrev pub RosePast : ℕ → ℕ → ℕ → Type 0
 RosePast limit before after = (before + limit < after) ⊎ (2 ^ 63 ≤ after)
+
+-- from before some calls on a folder to after them: what it holds and which reads may fail stay, and no count falls
+pub record OnlyReads {F : Type 0} (holds : F → Option Files) (may_fail : F → List ℕ → Bool) (faults taken : F → ℕ) (before after : F) : Type 0 where
+  pub same : holds after ≡ holds before
+  pub steady : may_fail after ≡ may_fail before
+  pub lasting : faults before ≤ faults after
+  pub growing : taken before ≤ taken after

@@ -1,6 +1,6 @@
 //! The real folder and the real sink: files on disk, and the standard output. They tell no contents.
 
-ghost use Rattle.std.specs.Prelude.{◌≡◌, ◌<◌, ◌≤◌, length, IfOk, OnErr, Ok, None, true, if◌then◌else◌};
+ghost use Rattle.std.specs.Prelude.{◌≡◌, ◌<◌, ◌≤◌, length, IfOk, OnErr, Ok, None, if◌then◌else◌};
 ghost use Rattle.std.specs.Result.{is_err};
 ghost use Rattle.rail_io.specs.Folders.{Rose, RoseBy, counted};
 
@@ -57,12 +57,11 @@ impl<'a, R: Files> Folder for DiskFolder<'a, R> {
 
     ghost taken = { λ folder. folder.taken };
 
-    ghost may_fail = { λ _ _. true };
-
     fn read_at(&mut self, path: &str, from: u64, into: &mut [u8]) -> Result<usize, Failed>
         ensures room { IfOk result (λ n. n ≤ length into.new) }
         ensures fault { OnErr result (Rose self.old.faults self.new.faults) }
         ensures lasting { self.old.faults ≤ self.new.faults }
+        ensures growing { self.old.taken ≤ self.new.taken }
         ensures taken { IfOk result (λ n. RoseBy n self.old.taken self.new.taken) }
         ensures untaken { OnErr result (self.new.taken ≡ self.old.taken) }
 

@@ -1,7 +1,7 @@
 //! A folder: a place from which files are read piece by piece.
 
-ghost use Rattle.std.specs.Prelude.{◌≡◌, ◌≤◌, ℕ, Bool, List, Option, Some, IsTrue, length, IfOk, OnErr};
-ghost use Rattle.rail_io.specs.Folders.{Files, IsReadFrom, Rose, RoseBy, file_at};
+ghost use Rattle.std.specs.Prelude.{◌≡◌, ◌≤◌, ℕ, Bool, true, List, Option, Some, IsTrue, length, IfOk, OnErr};
+ghost use Rattle.rail_io.specs.Folders.{Files, IsReadFrom, OnlyReads, Rose, RoseBy, file_at};
 
 use thiserror::Error;
 
@@ -21,22 +21,19 @@ pub trait Folder {
     /// How many bytes were handed out, exactly so up to 2^63. It never falls.
     ghost taken: { Self → ℕ };
 
-    /// Whether a read of a path may fail. It never changes.
-    ghost may_fail: { Self → List ℕ → Bool };
+    /// Whether a read of a path may fail: where nothing else is said, each may. It never changes.
+    ghost may_fail: { Self → List ℕ → Bool } = { λ _ _. true };
 
     /// Puts bytes of the path's file, from place `from` on, at the front of `into`, and answers how many.
     /// It answers 0 exactly where `into` is empty or nothing is left from there on. What stands in `into` past the
     /// bytes put there is left open. `Failed` comes only where the count of faults rose, and where a read of this path may
-    /// fail.
+    /// fail; of the bytes handed out it says no more than that their count has not fallen.
     fn read_at(&mut self, path: &str, from: u64, into: &mut [u8]) -> Result<usize, Failed>
         ensures told { (files : Files) → holds self.old ≡ Some files →
             IfOk result (λ n. IsReadFrom (file_at files path.now) from n into.new) }
         ensures room { IfOk result (λ n. n ≤ length into.new) }
+        ensures taken { IfOk result (λ n. RoseBy n (taken self.old) (taken self.new)) }
         ensures fault { OnErr result (Rose (faults self.old) (faults self.new)) }
         ensures may { OnErr result (IsTrue (may_fail self.old path.now)) }
-        ensures lasting { faults self.old ≤ faults self.new }
-        ensures same { holds self.new ≡ holds self.old }
-        ensures taken { IfOk result (λ n. RoseBy n (taken self.old) (taken self.new)) }
-        ensures untaken { OnErr result (taken self.new ≡ taken self.old) }
-        ensures steady { may_fail self.new ≡ may_fail self.old };
+        ensures only_reads { OnlyReads holds may_fail faults taken self.old self.new };
 }

@@ -128,6 +128,7 @@ impl Folder for MemoryFolder {
         ensures fault { OnErr result (Rose self.old.faults self.new.faults) }
         ensures may { OnErr result (IsTrue (read_may_fail self.old path.now)) }
         ensures lasting { self.old.faults ≤ self.new.faults }
+        ensures growing { self.old.taken ≤ self.new.taken }
         ensures same { self.new.files ≡ self.old.files }
         ensures taken { IfOk result (λ n. RoseBy n self.old.taken self.new.taken) }
         ensures untaken { OnErr result (self.new.taken ≡ self.old.taken) }

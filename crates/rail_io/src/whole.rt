@@ -1,7 +1,7 @@
 //! Whole files in, and whole documents out.
 
 ghost use Rattle.std.specs.Prelude.{◌≡◌, ◌+◌, ◌<◌, ◌≤◌, Some, IsTrue, length, IfOk, IsErrOf, OnOk, OnErr};
-ghost use Rattle.rail_io.specs.Folders.{Files, Rose, RosePast, file_at};
+ghost use Rattle.rail_io.specs.Folders.{Files, OnlyReads, Rose, RosePast, file_at};
 ghost use Rattle.rail_io.specs.Sinks.{Appends, AppendsPart};
 ghost use Rattle.rail_io.specs.declared.whole.FileRefusal.TheVariants.{NoMemory, ReadFault};
 
@@ -67,10 +67,7 @@ pub fn read_file<F: Folder>(
     ensures may { IsErrOf result FileRefusal.ReadFault → IsTrue (F.may_fail folder.old path.now) }
     ensures too_long { IsErrOf result FileRefusal.TooLong → RosePast limit (F.taken folder.old) (F.taken folder.new) }
 
-    ensures lasting { F.faults folder.old ≤ F.faults folder.new }
-    ensures same { F.holds folder.new ≡ F.holds folder.old }
-    ensures steady { F.may_fail folder.new ≡ F.may_fail folder.old }
-    ensures taken { F.taken folder.old ≤ F.taken folder.new }
+    ensures only_reads { OnlyReads F.holds F.may_fail F.faults F.taken folder.old folder.new }
     ensures taken_at_most { IfOk result (λ bytes. F.taken folder.new ≤ F.taken folder.old + length bytes.items) }
 {
     let mut bytes = Vec::new(alloc);

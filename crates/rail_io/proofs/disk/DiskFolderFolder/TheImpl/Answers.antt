@@ -8,11 +8,8 @@ pub read_at-tells : goal.read_at-tells
 read_at-tells g c = record {
   told = λ files tells. absurd (none-some files tells);
   room = c.ensures.room;
+  taken = c.ensures.taken;
   fault = c.ensures.fault;
   may = on_err_weaker c.result (λ _. refl) c.ensures.fault;
-  lasting = c.ensures.lasting;
-  same = refl;
-  taken = c.ensures.taken;
-  untaken = c.ensures.untaken;
-  steady = refl;
+  only_reads = record { same = refl; steady = refl; lasting = c.ensures.lasting; growing = c.ensures.growing };
 }
