@@ -12,6 +12,3 @@ pub use folder::{Failed, Folder};
 pub use memory::{MemoryFile, MemoryFolder, MemorySink};
 pub use sink::Sink;
 pub use whole::{FileRefusal, read_file, write_all};
-
-#[cfg(test)]
-mod tests;

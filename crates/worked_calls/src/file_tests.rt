@@ -1,1 +1,110 @@
-//! Whole files in and out, over folders and sinks in memory and on disk.
+//! Whole files in and documents out: over memory with calls that fail on the way, over the disk and the standard output.
+
+use rail_base::NoMemory;
+use rail_base::name::is_name;
+use rail_io::{
+    DiskFolder, Failed, FileRefusal, Folder, MemoryFile, MemoryFolder, MemorySink, Sink,
+    StdoutSink, read_file, write_all,
+};
+use std::alloc::Global;
+use std::process::Abort;
+use std::test::Fail;
+use std::{env, fs};
+
+/// A folder in memory with one file, whose reads fail at these numbers.
+fn folder_with(
+    rt: &impl Abort,
+    alloc: Global,
+    path: &str,
+    bytes: &[u8],
+    failing: Vec<u64>,
+) -> Result<MemoryFolder, NoMemory> {
+    assert!(rt; is_name(path.as_bytes()));
+    let mut files = Vec::new(alloc);
+    files.push(MemoryFile::new(alloc, path, bytes)?)?;
+    MemoryFolder::new(alloc, files, failing)
+}
+
+#[test]
+fn reads_whole_files(rt: HostRuntime) -> Result<(), Fail> {
+    let alloc = rt.alloc();
+    let long = vec![in alloc; b'x'; 5000]?;
+    let mut folder = folder_with(&rt, alloc, "trips.csv", &long, Vec::new(alloc))?;
+    let bytes = read_file(alloc, &mut folder, "trips.csv", 5000)?;
+    assert!(rt; bytes.as_slice() == long.as_slice());
+    let refusal = read_file(alloc, &mut folder, "trips.csv", 4999).err();
+    assert!(rt; refusal == Some(FileRefusal::TooLong));
+    let missing = read_file(alloc, &mut folder, "links.csv", 5000).err();
+    assert!(rt; missing == Some(FileRefusal::ReadFault));
+    Ok(())
+}
+
+#[test]
+fn stops_at_the_read_that_fails(rt: HostRuntime) -> Result<(), Fail> {
+    let alloc = rt.alloc();
+    for (number, refusal) in [
+        (0, Some(FileRefusal::ReadFault)),
+        (1, Some(FileRefusal::ReadFault)),
+        (2, None),
+    ] {
+        let failing = vec![in alloc; number]?;
+        let mut folder = folder_with(&rt, alloc, "stock.csv", b"station,type,count\n", failing)?;
+        let found = read_file(alloc, &mut folder, "stock.csv", 100).err();
+        assert!(rt; found == refusal, "where read {number} fails");
+    }
+    Ok(())
+}
+
+#[test]
+fn tells_a_failed_read_before_the_length(rt: HostRuntime) -> Result<(), Fail> {
+    let alloc = rt.alloc();
+    let long = vec![in alloc; b'x'; 101]?;
+    let first = vec![in alloc; 0]?;
+    let mut folder = folder_with(&rt, alloc, "links.csv", &long, first)?;
+    let refusal = read_file(alloc, &mut folder, "links.csv", 100).err();
+    assert!(rt; refusal == Some(FileRefusal::ReadFault));
+    let again = read_file(alloc, &mut folder, "links.csv", 100).err();
+    assert!(rt; again == Some(FileRefusal::TooLong));
+    Ok(())
+}
+
+#[test]
+fn keeps_what_was_written_before_the_failure(rt: HostRuntime) -> Result<(), Fail> {
+    let alloc = rt.alloc();
+    let mut sink = MemorySink::new(alloc, 100, 1, vec![in alloc; 3]?)?;
+    assert!(rt; write_all(&mut sink, b"runs 60\n") == Err(Failed));
+    assert!(rt; sink.written() == b"run".as_slice());
+
+    let mut sink = MemorySink::new(alloc, 6, 4, Vec::new(alloc))?;
+    write_all(&mut sink, b"runs ")?;
+    assert!(rt; write_all(&mut sink, b"60\n") == Err(Failed));
+    assert!(rt; sink.written() == b"runs 6".as_slice());
+    Ok(())
+}
+
+#[test]
+fn reads_the_disk(rt: HostRuntime) -> Result<(), Fail> {
+    let alloc = rt.alloc();
+    let name = format!(in alloc; "rail_io-{}.csv", std::process::id(rt.process()))?;
+    let path = env::temp_dir(&rt)?.join(alloc, name.as_str())?;
+    let text = vec![in alloc; b'7'; 9000]?;
+    fs::write(&rt, path.as_path(), text.as_slice())?;
+
+    let mut folder = DiskFolder::new(&rt);
+    let bytes = read_file(alloc, &mut folder, path.as_str(), 9000)?;
+    assert!(rt; bytes.as_slice() == text.as_slice());
+    let mut piece = [0; 4];
+    assert!(rt; folder.read_at(path.as_str(), 8998, &mut piece) == Ok(2));
+    assert!(rt; piece == [b'7', b'7', 0, 0]);
+    fs::remove_file(&rt, path.as_path())?;
+    assert!(rt; folder.read_at(path.as_str(), 0, &mut piece) == Err(Failed));
+    Ok(())
+}
+
+#[test]
+fn writes_to_the_standard_output(rt: HostRuntime) -> Result<(), Fail> {
+    let mut sink = StdoutSink::new(&rt);
+    assert!(rt; sink.write(b"") == Ok(0));
+    write_all(&mut sink, b"runs 60\n")?;
+    Ok(())
+}
