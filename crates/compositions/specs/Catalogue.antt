@@ -1,6 +1,7 @@
 -- The catalogue: all compositions that fit, in one order.
 use Rattle.std.specs.Prelude.{ℕ, zero, suc, Bool, false, ◌&&◌, ◌||◌, ◌==◌, IsTrue, List, [], ◌∷◌, ◌++◌, length, nat_lt, filter, All, AllPairs, Contains}
 use Rattle.std.specs.List.{flat_map}
+use Rattle.rail_base.specs.declared.limits.TheConstants.{MOST_COMPOSITION}
 use Rattle.compositions.specs.declared.types.UnitType.{UnitType}
 use Rattle.compositions.specs.Composition.{fits_in}
 
@@ -31,7 +32,7 @@ lists_up_to n (suc units) = lists_up_to n units ++ lists_of n (suc units)
 
 -- the compositions that fit in so many metres
 unfoldable pub catalogue_of : List UnitType → ℕ → List (List ℕ)
-catalogue_of types longest = filter (fits_in types longest) (lists_up_to (length types) 6)
+catalogue_of types longest = filter (fits_in types longest) (lists_up_to (length types) MOST_COMPOSITION)
 
 -- compositions that fit in so many metres, each once, in the order of the catalogue
 pub record FitInOrder (types : List UnitType) (longest : ℕ) (compositions : List (List ℕ)) : Type 0 where

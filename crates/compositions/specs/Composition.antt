@@ -2,6 +2,7 @@
 use Rattle.std.specs.Prelude.{ℕ, ◌+◌, List, [], ◌∷◌, Bool, true, ◌&&◌, option_map, unwrap_or, slice_get, length, nat_lt, nat_le}
 use Rattle.std.specs.List.{list_all}
 use Rattle.std.specs.Str.{bytes_eq}
+use Rattle.rail_base.specs.declared.limits.TheConstants.{MOST_COMPOSITION}
 use Rattle.compositions.specs.declared.types.UnitType.{UnitType}
 
 -- a number of the unit type m, and 0 where there is no such type
@@ -35,7 +36,7 @@ is_one_family types (m ∷ ms) = list_all (λ n. bytes_eq (family_of types n) (f
 abbrev pub are_types : List UnitType → List ℕ → Bool
 are_types types ms = list_all (λ m. nat_lt m (length types)) ms
 
--- a composition that may run where so many metres fit: 1 to 6 units, all of one family
+-- a composition that may run where so many metres fit: 1 to MOST_COMPOSITION units, all of one family
 abbrev pub fits_in : List UnitType → ℕ → List ℕ → Bool
-fits_in types longest ms = nat_le 1 (length ms) && nat_le (length ms) 6 && are_types types ms && is_one_family types ms
+fits_in types longest ms = nat_le 1 (length ms) && nat_le (length ms) MOST_COMPOSITION && are_types types ms && is_one_family types ms
     && nat_le (metres_of types ms) longest

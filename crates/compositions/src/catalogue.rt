@@ -8,7 +8,7 @@ ghost use Rattle.compositions.specs.declared.catalogue.CatalogueRefusal.TheVaria
 
 use crate::composition::Composition;
 use crate::types::UnitTypes;
-use rail_base::limits::MOST_COMPOSITIONS;
+use rail_base::limits::{MOST_COMPOSITION, MOST_COMPOSITIONS};
 use rail_base::{CompNo, TypeNo};
 use std::alloc::Global;
 use std::marker::Model;
@@ -34,13 +34,14 @@ pub struct Catalogue {
 
 impl Model for Catalogue {
     ghost use Rattle.std.specs.Prelude.{List, ℕ, length, ◌≤◌, IsTrue, AllPairs};
+    ghost use Rattle.rail_base.specs.declared.limits.TheConstants.{MOST_COMPOSITIONS};
     ghost use Rattle.compositions.specs.Catalogue.{comes_before};
 
     ghost Value = { List (List ℕ) };
 
     ghost view = { λ a. a.compositions.items };
 
-    ghost invariant = { λ a. (length a.compositions.items ≤ 1000) × AllPairs (λ ms ns. IsTrue (comes_before ms ns)) a.compositions.items };
+    ghost invariant = { λ a. (length a.compositions.items ≤ MOST_COMPOSITIONS) × AllPairs (λ ms ns. IsTrue (comes_before ms ns)) a.compositions.items };
 }
 
 impl Catalogue {
@@ -52,8 +53,8 @@ impl Catalogue {
         longest: u32,
     ) -> Result<Catalogue, CatalogueRefusal>
         ensures ok { IfOk result (λ catalogue. catalogue ≡ catalogue_of types.now longest) }
-        ensures few { IfOk result (λ catalogue. length catalogue ≤ 1000) }
-        ensures too_many { IfErr result (λ refusal. refusal ≡ TooMany → 1000 < length (catalogue_of types.now longest)) }
+        ensures few { IfOk result (λ catalogue. length catalogue ≤ MOST_COMPOSITIONS) }
+        ensures too_many { IfErr result (λ refusal. refusal ≡ TooMany → MOST_COMPOSITIONS < length (catalogue_of types.now longest)) }
         ensures law { IsCatalogue types.now longest (catalogue_of types.now longest) }
     {
         let mut compositions = Vec::new(alloc);
@@ -70,7 +71,7 @@ impl Catalogue {
     /// How many compositions there are.
     pub fn len(&self) -> u32
         ensures value { result ≡ length self.now }
-        ensures few { result ≤ 1000 }
+        ensures few { result ≤ MOST_COMPOSITIONS }
         ensures in_order { AllPairs (λ ms ns. IsTrue (comes_before ms ns)) self.now }
     {
         self.compositions.len() as u32
@@ -127,11 +128,11 @@ fn add_extensions(
     types: &UnitTypes,
     longest: u32,
 ) -> Result<(), CatalogueRefusal>
-    requires few { length compositions.old.items ≤ 1000 }
-    requires front_few { length front.now ≤ 6 }
+    requires few { length compositions.old.items ≤ MOST_COMPOSITIONS }
+    requires front_few { length front.now ≤ MOST_COMPOSITION }
     ensures ok { OnOk result (compositions.new.items ≡ compositions.old.items ++ extensions (fits_in types.now longest) (length types.now) front.now) }
-    ensures within { OnOk result (length compositions.new.items ≤ 1000) }
-    ensures too_many { IfErr result (λ refusal. refusal ≡ TooMany → (k : ℕ) × (1000 < length (compositions.old.items ++ extensions (fits_in types.now longest) k front.now))) }
+    ensures within { OnOk result (length compositions.new.items ≤ MOST_COMPOSITIONS) }
+    ensures too_many { IfErr result (λ refusal. refusal ≡ TooMany → (k : ℕ) × (MOST_COMPOSITIONS < length (compositions.old.items ++ extensions (fits_in types.now longest) k front.now))) }
 {
     for number in 0..types.len() {
         add_extension(compositions, front, TypeNo(number), types, longest)?;
@@ -147,11 +148,11 @@ fn add_extension(
     types: &UnitTypes,
     longest: u32,
 ) -> Result<(), CatalogueRefusal>
-    requires few { length compositions.old.items ≤ 1000 }
-    requires front_few { length front.now ≤ 6 }
+    requires few { length compositions.old.items ≤ MOST_COMPOSITIONS }
+    requires front_few { length front.now ≤ MOST_COMPOSITION }
     ensures ok { OnOk result (compositions.new.items ≡ compositions.old.items ++ where_it_fits (fits_in types.now longest) (front.now ++ unit_type ∷ [])) }
-    ensures within { OnOk result (length compositions.new.items ≤ 1000) }
-    ensures too_many { IfErr result (λ refusal. refusal ≡ TooMany → 1000 < length (compositions.old.items ++ where_it_fits (fits_in types.now longest) (front.now ++ unit_type ∷ []))) }
+    ensures within { OnOk result (length compositions.new.items ≤ MOST_COMPOSITIONS) }
+    ensures too_many { IfErr result (λ refusal. refusal ≡ TooMany → MOST_COMPOSITIONS < length (compositions.old.items ++ where_it_fits (fits_in types.now longest) (front.now ++ unit_type ∷ []))) }
 {
     let Some(composition) = Composition::extended(front, unit_type) else {
         return Ok(());

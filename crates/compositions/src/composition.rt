@@ -9,6 +9,7 @@ ghost use Rattle.compositions.specs.Measure.{measure_of};
 
 use crate::types::{UnitType, UnitTypes};
 use arrayvec::ArrayVec;
+use rail_base::limits::MOST_COMPOSITION;
 use rail_base::{Name, TypeNo};
 use std::marker::Model;
 
@@ -16,23 +17,24 @@ use std::marker::Model;
 /// numbers.
 #[derive(Debug, Drop)]
 pub struct Composition {
-    units: ArrayVec<TypeNo, 6>,
+    units: ArrayVec<TypeNo, MOST_COMPOSITION>,
 }
 
 impl Model for Composition {
     ghost use Rattle.std.specs.Prelude.{List, ℕ, length, ◌≤◌};
+    ghost use Rattle.rail_base.specs.declared.limits.TheConstants.{MOST_COMPOSITION};
 
     ghost Value = { List ℕ };
 
     ghost view = { λ a. a.units.items };
 
-    ghost invariant = { λ a. (1 ≤ length a.units.items) × (length a.units.items ≤ 6) };
+    ghost invariant = { λ a. (1 ≤ length a.units.items) × (length a.units.items ≤ MOST_COMPOSITION) };
 }
 
 impl Composition {
     /// The composition of these units, or nothing where they are none or more than six. It takes no memory.
     pub fn of(types: &[TypeNo]) -> Option<Composition>
-        ensures none { IsNone result ↔ (length types.now < 1) ⊎ (6 < length types.now) }
+        ensures none { IsNone result ↔ (length types.now < 1) ⊎ (MOST_COMPOSITION < length types.now) }
         ensures some { IfSome result (λ composition. composition ≡ types.now) }
     {
         if types.is_empty() {
@@ -47,8 +49,8 @@ impl Composition {
 
     /// A front of at most six units with one more at its rear, or nothing where these are more than six.
     pub(crate) fn extended(front: &[TypeNo], unit_type: TypeNo) -> Option<Composition>
-        requires { length front.now ≤ 6 }
-        ensures none { IsNone result ↔ (6 < length front.now + 1) }
+        requires { length front.now ≤ MOST_COMPOSITION }
+        ensures none { IsNone result ↔ (MOST_COMPOSITION < length front.now + 1) }
         ensures some { IfSome result (λ composition. composition ≡ front.now ++ unit_type ∷ []) }
     {
         let mut units = copies_of(front);
@@ -71,7 +73,7 @@ impl Composition {
     pub fn len(&self) -> u32
         ensures value { result ≡ length self.now }
         ensures some { 1 ≤ result }
-        ensures few { result ≤ 6 }
+        ensures few { result ≤ MOST_COMPOSITION }
     {
         self.units.len() as u32
     }
@@ -88,7 +90,7 @@ impl Composition {
     pub fn units(&self) -> &[TypeNo]
         ensures value { result.now ≡ self.now }
         ensures some { 1 ≤ length self.now }
-        ensures few { length self.now ≤ 6 }
+        ensures few { length self.now ≤ MOST_COMPOSITION }
     {
         self.units.as_slice()
     }
@@ -122,7 +124,7 @@ impl Composition {
 
     /// These units with those of `rear` behind them, or nothing where they are more than six together.
     pub fn joined(&self, rear: &Composition) -> Option<Composition>
-        ensures none { IsNone result ↔ (6 < length self.now + length rear.now) }
+        ensures none { IsNone result ↔ (MOST_COMPOSITION < length self.now + length rear.now) }
         ensures some { IfSome result (λ composition. composition ≡ self.now ++ rear.now) }
     {
         let mut units = copies_of(self.units());
@@ -193,7 +195,7 @@ impl Composition {
     #[tactic(auto, using(crate::proofs::Sums::few_count))]
     pub fn count(&self, unit_type: TypeNo) -> u32
         ensures value { result ≡ count_by (λ m. m == unit_type) self.now }
-        ensures few { result ≤ 6 }
+        ensures few { result ≤ MOST_COMPOSITION }
     {
         self.units()
             .iter()
@@ -238,7 +240,7 @@ impl Measure {
     /// The measure of all units.
     #[tactic(auto, using(crate::proofs::Sums::sums))]
     fn total(self, types: &UnitTypes, units: &[TypeNo]) -> u32
-        requires few { length units.now ≤ 6 }
+        requires few { length units.now ≤ MOST_COMPOSITION }
         requires known { IsTrue (are_types types.now units.now) }
         ensures { result ≡ sum_over (measure_of self) types.now units.now }
     {
@@ -251,8 +253,8 @@ impl Measure {
 }
 
 /// The units in the same order, at most six.
-fn copies_of(units: &[TypeNo]) -> ArrayVec<TypeNo, 6>
-    requires { length units.now ≤ 6 }
+fn copies_of(units: &[TypeNo]) -> ArrayVec<TypeNo, MOST_COMPOSITION>
+    requires { length units.now ≤ MOST_COMPOSITION }
     ensures { result.items ≡ units.now }
 {
     let mut copies = ArrayVec::new();

@@ -4,6 +4,7 @@ ghost use Rattle.std.specs.Prelude.{◌≡◌, ◌<◌, ◌≤◌, IsTrue, Some,
 ghost use Rattle.std.specs.List.{list_all};
 ghost use Rattle.compositions.specs.UnitTypes.{is_within_limits};
 
+use rail_base::limits::MOST_TYPES;
 use rail_base::{Name, TypeNo};
 use std::marker::Model;
 
@@ -31,6 +32,7 @@ pub struct UnitTypes {
 impl Model for UnitTypes {
     ghost use Rattle.std.specs.Prelude.{List, IsTrue, length, ◌≤◌};
     ghost use Rattle.std.specs.List.{list_all};
+    ghost use Rattle.rail_base.specs.declared.limits.TheConstants.{MOST_TYPES};
     ghost use Rattle.compositions.specs.declared.types.UnitType.{UnitType};
     ghost use Rattle.compositions.specs.UnitTypes.{is_within_limits};
 
@@ -38,13 +40,13 @@ impl Model for UnitTypes {
 
     ghost view = { λ a. a.types.items };
 
-    ghost invariant = { λ a. (length a.types.items ≤ 6) × IsTrue (list_all is_within_limits a.types.items) };
+    ghost invariant = { λ a. (length a.types.items ≤ MOST_TYPES) × IsTrue (list_all is_within_limits a.types.items) };
 }
 
 impl UnitTypes {
     /// These unit types: at most six, each with its numbers within the limits. It takes no memory.
     pub fn new(types: Vec<UnitType>) -> UnitTypes
-        requires few { length types.items ≤ 6 }
+        requires few { length types.items ≤ MOST_TYPES }
         requires limits { IsTrue (list_all is_within_limits types.items) }
         ensures { result ≡ types.items }
     {
@@ -54,7 +56,7 @@ impl UnitTypes {
     /// How many unit types there are.
     pub fn len(&self) -> u32
         ensures value { result ≡ length self.now }
-        ensures few { result ≤ 6 }
+        ensures few { result ≤ MOST_TYPES }
         ensures limits { IsTrue (list_all is_within_limits self.now) }
     {
         self.types.len() as u32

@@ -7,6 +7,7 @@ use Rattle.std.specs.Str.{is_utf8}
 use Rattle.std.proofs.lemmas.Bool.{ltb-false}
 use Rattle.std.proofs.lemmas.Bool.Decides.{nat_tests}
 use Rattle.std.proofs.lemmas.List.Elements.{All-from_recursion}
+use Rattle.rail_base.specs.Answers.{◌>>=◌, Gives, GivesRows}
 use Rattle.rail_base.specs.Names.{is_name}
 use Rattle.rail_csv.specs.declared.refusal.TableRefusal.{TableRefusal}
 use Rattle.rail_csv.specs.declared.rows.TypeRow.{TypeRow}
@@ -17,8 +18,8 @@ use Rattle.rail_csv.specs.declared.rows.LinkRow.{LinkRow}
 use Rattle.rail_csv.specs.declared.rows.WeightsRow.{WeightsRow}
 use Rattle.rail_csv.specs.declared.rows.PlanRow.{PlanRow}
 use Rattle.rail_csv.specs.Fields.{is_number, number_of, is_time, time_of, has_time_form, hour_text, minute_text, pieces_of, numbers_of, is_unit}
-use Rattle.rail_csv.specs.Columns.{◌>>=◌, field, number_column, time_column, name_column, optional_name_column, kind_column, answer_column, end_column, units_column}
-use Rattle.rail_csv.specs.Tables.{Columns, Gives, GivesRows, is_header, row_of, rows_from, rows_under, records_of, table_of, the_row, type_header, type_columns, types_of, station_header, station_columns, stations_of, stock_header, stock_columns, stock_of, trip_header, trip_columns, trips_of, link_header, link_columns, links_of, weight_header, weight_columns, weights_of, plan_header, plan_columns, plan_of}
+use Rattle.rail_csv.specs.Columns.{field, number_column, time_column, name_column, optional_name_column, kind_column, answer_column, end_column, units_column}
+use Rattle.rail_csv.specs.Tables.{Columns, is_header, is_memory, row_of, rows_from, rows_under, records_of, table_of, the_row, type_header, type_columns, types_of, station_header, station_columns, stations_of, stock_header, stock_columns, stock_of, trip_header, trip_columns, trips_of, link_header, link_columns, links_of, weight_header, weight_columns, weights_of, plan_header, plan_columns, plan_of}
 use Rattle.rail_csv.specs.Rows.{IsName, IsWithin, IsMinute, AreRows, IsTypeRow, IsStationRow, IsStockRow, IsTripRow, IsLinkRow, IsWeightsRow, IsPlanRow}
 
 -- ---- steps that went well
@@ -91,12 +92,12 @@ time_meets row column text minute e =
 
 -- at most six units, each with a number that a unit may have
 abbrev pub AreUnits : List ℕ → Type 0
-AreUnits units = (length units ≤ 6) × All (λ unit. unit ≤ 1999) units
+AreUnits units = (length units ≤ 6) × All (λ unit. unit < 2000) units
 
-unit_is : (unit : ℕ) → is_unit unit ≡ true → unit ≤ 1999
+unit_is : (unit : ℕ) → is_unit unit ≡ true → unit < 2000
 unit_is unit h = grind (arith, nat_tests)
 
-units_are : (units : List ℕ) → list_all is_unit units ≡ true → AllByRecursion (λ unit. unit ≤ 1999) units
+units_are : (units : List ℕ) → list_all is_unit units ≡ true → AllByRecursion (λ unit. unit < 2000) units
 units_are [] h = tt
 units_are (unit ∷ units) h =
     let parts = both (is_unit unit) (list_all is_unit units) h in
@@ -110,7 +111,7 @@ unfolding units_column
 units_meet row column text units e =
     let k = inner (list_all is_number (pieces_of text)) (leb (length (numbers_of text)) 6 && list_all is_unit (numbers_of text)) (numbers_of text) units _ _ e in
     let parts = both (leb (length (numbers_of text)) 6) (list_all is_unit (numbers_of text)) k.0 in
-    subst AreUnits k.1 (six (length (numbers_of text)) parts.0, All-from_recursion (λ unit. unit ≤ 1999) (numbers_of text) (units_are (numbers_of text) parts.1))
+    subst AreUnits k.1 (six (length (numbers_of text)) parts.0, All-from_recursion (λ unit. unit < 2000) (numbers_of text) (units_are (numbers_of text) parts.1))
 
 -- ---- the columns of each table
 
@@ -220,31 +221,31 @@ table_rows IsRow header limit columns meets (first ∷ others) rows e =
     (rows_read IsRow header limit columns meets others 1 rows (omega arith) (taken (is_header header first) _ rows _ e)).1
 
 accepted : {Row : Type 0} (IsRow : Row → Type 0) (limit : ℕ) (result : Result (Vec Row) TableRefusal) (read : Result (List Row) TableRefusal) → ((rows : List Row) → read ≡ Ok rows → AreRows limit IsRow rows)
-    → GivesRows result read → IfOk result (λ v. AreRows limit IsRow v.items)
+    → GivesRows is_memory result read → IfOk result (λ v. AreRows limit IsRow v.items)
 accepted IsRow limit (Ok v) read meets given = meets v.items given
 accepted IsRow limit (Err e) read meets given = tt
 
-pub types_are : (result : Result (Vec TypeRow) TableRefusal) (bytes : List ℕ) → GivesRows result (types_of bytes) → IfOk result (λ v. AreRows 6 IsTypeRow v.items)
+pub types_are : (result : Result (Vec TypeRow) TableRefusal) (bytes : List ℕ) → GivesRows is_memory result (types_of bytes) → IfOk result (λ v. AreRows 6 IsTypeRow v.items)
 unfolding types_of table_of
 types_are result bytes given = accepted IsTypeRow 6 result (types_of bytes) (λ rows e. table_read IsTypeRow type_header 6 type_columns type_meets (records_of bytes) rows e) given
 
-pub stations_are : (result : Result (Vec StationRow) TableRefusal) (bytes : List ℕ) → GivesRows result (stations_of bytes) → IfOk result (λ v. AreRows 60 IsStationRow v.items)
+pub stations_are : (result : Result (Vec StationRow) TableRefusal) (bytes : List ℕ) → GivesRows is_memory result (stations_of bytes) → IfOk result (λ v. AreRows 60 IsStationRow v.items)
 unfolding stations_of table_of
 stations_are result bytes given = accepted IsStationRow 60 result (stations_of bytes) (λ rows e. table_read IsStationRow station_header 60 station_columns station_meets (records_of bytes) rows e) given
 
-pub stock_are : (result : Result (Vec StockRow) TableRefusal) (bytes : List ℕ) → GivesRows result (stock_of bytes) → IfOk result (λ v. AreRows 360 IsStockRow v.items)
+pub stock_are : (result : Result (Vec StockRow) TableRefusal) (bytes : List ℕ) → GivesRows is_memory result (stock_of bytes) → IfOk result (λ v. AreRows 360 IsStockRow v.items)
 unfolding stock_of table_of
 stock_are result bytes given = accepted IsStockRow 360 result (stock_of bytes) (λ rows e. table_read IsStockRow stock_header 360 stock_columns stock_meets (records_of bytes) rows e) given
 
-pub trips_are : (result : Result (Vec TripRow) TableRefusal) (bytes : List ℕ) → GivesRows result (trips_of bytes) → IfOk result (λ v. AreRows 400 IsTripRow v.items)
+pub trips_are : (result : Result (Vec TripRow) TableRefusal) (bytes : List ℕ) → GivesRows is_memory result (trips_of bytes) → IfOk result (λ v. AreRows 400 IsTripRow v.items)
 unfolding trips_of table_of
 trips_are result bytes given = accepted IsTripRow 400 result (trips_of bytes) (λ rows e. table_read IsTripRow trip_header 400 trip_columns trip_meets (records_of bytes) rows e) given
 
-pub links_are : (result : Result (Vec LinkRow) TableRefusal) (bytes : List ℕ) → GivesRows result (links_of bytes) → IfOk result (λ v. AreRows 400 IsLinkRow v.items)
+pub links_are : (result : Result (Vec LinkRow) TableRefusal) (bytes : List ℕ) → GivesRows is_memory result (links_of bytes) → IfOk result (λ v. AreRows 400 IsLinkRow v.items)
 unfolding links_of table_of
 links_are result bytes given = accepted IsLinkRow 400 result (links_of bytes) (λ rows e. table_read IsLinkRow link_header 400 link_columns link_meets (records_of bytes) rows e) given
 
-pub plan_are : (result : Result (Vec PlanRow) TableRefusal) (bytes : List ℕ) → GivesRows result (plan_of bytes) → IfOk result (λ v. AreRows 400 IsPlanRow v.items)
+pub plan_are : (result : Result (Vec PlanRow) TableRefusal) (bytes : List ℕ) → GivesRows is_memory result (plan_of bytes) → IfOk result (λ v. AreRows 400 IsPlanRow v.items)
 unfolding plan_of table_of
 plan_are result bytes given = accepted IsPlanRow 400 result (plan_of bytes) (λ rows e. table_read IsPlanRow plan_header 400 plan_columns plan_meets (records_of bytes) rows e) given
 
@@ -257,6 +258,6 @@ unfolding weights_of table_of
 weights_read bytes row e =
     step e (λ rows. AllByRecursion IsWeightsRow rows) (λ rows read. table_rows IsWeightsRow weight_header 1 weight_columns weight_meets (records_of bytes) rows read) (λ rows each e1. the_row_meets rows row each e1)
 
-pub weights_are : (result : Result WeightsRow TableRefusal) (bytes : List ℕ) → Gives result (weights_of bytes) → IfOk result (λ row. IsWeightsRow row)
+pub weights_are : (result : Result WeightsRow TableRefusal) (bytes : List ℕ) → Gives is_memory result (weights_of bytes) → IfOk result (λ row. IsWeightsRow row)
 weights_are (Ok row) bytes given = weights_read bytes row given
 weights_are (Err e) bytes given = tt

@@ -3,9 +3,10 @@ use Rattle.std.proofs.Common.{◌≡◌, ℕ, ◌+◌, ◌≤◌, ◌<◌, true,
 use Rattle.std.proofs.lemmas.Bool.{lt-ltb, le-ltb}
 use Rattle.std.proofs.lemmas.List.{append-nil, length_push}
 use Rattle.rail_csv.specs.declared.refusal.TableRefusal.{TableRefusal}
-use Rattle.rail_csv.specs.declared.refusal.TableRefusal.TheVariants.{NotUtf8, WrongHeader, FieldCount, TooManyRows, NoRow, NoMemory, BadNumber, OutOfRange, BadTime, BadName, BadWord}
-use Rattle.rail_csv.specs.Columns.{◌>>=◌}
-use Rattle.rail_csv.specs.Tables.{Columns, Fails, is_header, row_of, rows_from, rows_under}
+use Rattle.rail_csv.specs.declared.refusal.TableRefusal.TheVariants.{WrongHeader, TooManyRows, NoMemory}
+use Rattle.rail_base.specs.Answers.{◌>>=◌, Fails}
+use Rattle.rail_base.proofs.Answers.{Fails-as}
+use Rattle.rail_csv.specs.Tables.{Columns, is_header, is_memory, row_of, rows_from, rows_under}
 
 -- rows that were read before, and those that are still to be read
 abbrev pub with_front : {Row : Type 0} → List Row → Result (List Row) TableRefusal → Result (List Row) TableRefusal
@@ -19,21 +20,7 @@ regroup : {Row : Type 0} (front : List Row) (row : Row) (read : Result (List Row
 regroup front row (Ok rest) = ap (λ (rows : List _). Ok rows) (sym (append_assoc front (row ∷ []) rest))
 regroup front row (Err e) = refl
 
--- a refusal of one step is that of the next
-pub same_failure : {X Y : Type 0} (e : TableRefusal) (read : Result X TableRefusal) (total : Result Y TableRefusal) → ((f : TableRefusal) → read ≡ Err f → total ≡ Err f) → Fails e read → Fails e total
-same_failure (NotUtf8 row) read total h f = h (NotUtf8 row) f
-same_failure WrongHeader read total h f = h WrongHeader f
-same_failure (FieldCount row found) read total h f = h (FieldCount row found) f
-same_failure (BadNumber row column) read total h f = h (BadNumber row column) f
-same_failure (OutOfRange row column) read total h f = h (OutOfRange row column) f
-same_failure (BadTime row column) read total h f = h (BadTime row column) f
-same_failure (BadName row column) read total h f = h (BadName row column) f
-same_failure (BadWord row column) read total h f = h (BadWord row column) f
-same_failure TooManyRows read total h f = h TooManyRows f
-same_failure NoRow read total h f = h NoRow f
-same_failure NoMemory read total h f = tt
-
-pub memory_fails : {X : Type 0} (e : TableRefusal) (total : Result X TableRefusal) → e ≡ NoMemory → Fails e total
+pub memory_fails : {X : Type 0} (e : TableRefusal) (total : Result X TableRefusal) → e ≡ NoMemory → Fails is_memory e total
 memory_fails e total is = rw is tt
 
 -- ---- one turn of the loop
@@ -51,12 +38,12 @@ goes_on header limit columns front left fields others row total room is read so_
     rw number (sym one ∙ so_far)
 
 pub fails : {Row : Type 0} (header : List (List ℕ)) (limit : ℕ) (columns : Columns Row) (front : List Row) (left : List (List (List ℕ))) (fields : List (List ℕ)) (others : List (List (List ℕ))) (e : TableRefusal) (total : Result (List Row) TableRefusal)
-    → length front < limit → left ≡ fields ∷ others → Fails e (row_of header columns (length front + 1) fields)
-    → with_front front (rows_from header limit columns (length front + 1) left) ≡ total → Fails e total
+    → length front < limit → left ≡ fields ∷ others → Fails is_memory e (row_of header columns (length front + 1) fields)
+    → with_front front (rows_from header limit columns (length front + 1) left) ≡ total → Fails is_memory e total
 unfolding rows_from
 fails header limit columns front left fields others e total room is f so_far =
     let below : ltb limit (length front + 1) ≡ false = le-ltb _ _ (omega arith) in
-    same_failure e (row_of header columns (length front + 1) fields) total (λ refusal read.
+    Fails-as is_memory e (row_of header columns (length front + 1) fields) total (λ refusal read.
     let one : with_front front (rows_from header limit columns (length front + 1) left) ≡ Err refusal = rw (is, below, read) refl in
     sym so_far ∙ one) f
 

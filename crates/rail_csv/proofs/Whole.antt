@@ -5,7 +5,7 @@ use Rattle.std.specs.List.{slice_get}
 use Rattle.std.proofs.lemmas.Bool.{ltb-false, ltb-true, le-ltb, false≢true}
 use Rattle.rail_csv.specs.declared.refusal.TableRefusal.{TableRefusal}
 use Rattle.rail_csv.specs.declared.refusal.TableRefusal.TheVariants.{TooManyRows}
-use Rattle.rail_csv.specs.Columns.{◌>>=◌}
+use Rattle.rail_base.specs.Answers.{◌>>=◌}
 use Rattle.rail_csv.specs.Tables.{Columns, is_header, row_of, rows_from, rows_under}
 use Rattle.rail_csv.specs.Laws.{HasHeader, row_at, IsTable, AreRightBefore, IsFirstWrong}
 use Rattle.rail_csv.proofs.Headers.{header_Decides}

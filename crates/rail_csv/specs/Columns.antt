@@ -2,20 +2,16 @@
 use Rattle.std.specs.Prelude.{ℕ, List, [], ◌∷◌, length, Bool, true, false, ◌&&◌, nat_le, Option, Some, None, Result, Ok, Err, if◌then◌else◌, codes, slice_index_or}
 use Rattle.std.specs.List.{list_all}
 use Rattle.std.specs.Str.{bytes_eq}
+use Rattle.rail_base.specs.Answers.{◌>>=◌}
 use Rattle.rail_base.specs.Names.{is_name}
+use Rattle.rail_base.specs.declared.limits.TheConstants.{MOST_COMPOSITION}
 use Rattle.rail_csv.specs.declared.refusal.TableRefusal.{TableRefusal}
 use Rattle.rail_csv.specs.declared.refusal.TableRefusal.TheVariants.{BadNumber, OutOfRange, BadTime, BadName, BadWord}
 use Rattle.rail_csv.specs.declared.rows.KindWord.{KindWord}
 use Rattle.rail_csv.specs.declared.rows.KindWord.TheVariants as kinds
 use Rattle.rail_csv.specs.declared.rows.End.{End}
 use Rattle.rail_csv.specs.declared.rows.End.TheVariants as ends
-use Rattle.rail_csv.specs.Fields.{is_number, number_of, is_time, time_of, pieces_of, numbers_of, most_units, is_unit}
-
--- one step of reading, and then the next where it went well
-infixl 10 ◌>>=◌
-abbrev pub ◌>>=◌ : {A B : Type 0} → Result A TableRefusal → (A → Result B TableRefusal) → Result B TableRefusal
-(Ok x) >>= next = next x
-(Err e) >>= next = Err e
+use Rattle.rail_csv.specs.Fields.{is_number, number_of, is_time, time_of, pieces_of, numbers_of, is_unit}
 
 -- the field of a column
 abbrev pub field : List (List ℕ) → ℕ → List ℕ
@@ -70,7 +66,7 @@ end_column row column text =
 unfoldable pub units_column : ℕ → ℕ → List ℕ → Result (List ℕ) TableRefusal
 units_column row column text =
     if list_all is_number (pieces_of text)
-    then (if nat_le (length (numbers_of text)) most_units && list_all is_unit (numbers_of text)
+    then (if nat_le (length (numbers_of text)) MOST_COMPOSITION && list_all is_unit (numbers_of text)
     then Ok (numbers_of text)
     else Err (OutOfRange row column))
     else Err (BadNumber row column)

@@ -1,6 +1,7 @@
 -- What a field spells: a number, a time of day, a list of units.
-use Rattle.std.specs.Prelude.{ℕ, List, [], ◌∷◌, length, take, drop, map, Bool, ◌&&◌, ◌==◌, ◌+◌, ◌-◌, ◌*◌, ◌^◌, nat_le, slice_index}
+use Rattle.std.specs.Prelude.{ℕ, List, [], ◌∷◌, length, take, drop, map, Bool, ◌&&◌, ◌==◌, ◌+◌, ◌-◌, ◌*◌, ◌^◌, nat_le, nat_lt, slice_index}
 use Rattle.std.specs.List.{list_all, slice_split}
+use Rattle.rail_base.specs.declared.limits.TheConstants.{MOST_UNITS}
 
 -- an ASCII digit
 abbrev pub is_digit : ℕ → Bool
@@ -53,9 +54,6 @@ pieces_of (byte ∷ text) = slice_split (λ b. b == space) (byte ∷ text)
 abbrev pub numbers_of : List ℕ → List ℕ
 numbers_of text = map number_of (pieces_of text)
 
-abbrev pub most_units : ℕ
-most_units = 6
-
 -- a number that a unit may have
 abbrev pub is_unit : ℕ → Bool
-is_unit number = nat_le number 1999
+is_unit number = nat_lt number MOST_UNITS

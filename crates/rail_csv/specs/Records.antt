@@ -4,6 +4,7 @@ use Rattle.std.specs.Borrow.{Bor}
 use Rattle.csv.specs.Reading.{records_from, default_config, source_of, Ready, reader_trim, reader_config, reader_state, owned_rows_reader, owned_rows_left}
 use Rattle.csv.specs.declared.parser.State.{State}
 use Rattle.csv.specs.declared.reader.Trim.TheVariants as trim
+use Rattle.rail_base.specs.declared.limits.TheConstants.{MOST_TABLE_BYTES}
 use Rattle.csv.specs.declared.iter.ByteRecordsIntoIter.{ByteRecordsIntoIter}
 
 -- the records of a text, from a state
@@ -33,4 +34,4 @@ pub record ReadsOn (records : Records) : Type 0 where
   pub turns : 0 < owned_rows_left records
   pub config : reader_config (owned_rows_reader records) ≡ default_config
   pub source : source_of unread (owned_rows_reader records) ≡ Some (text_left records)
-  pub small : length (text_left records) ≤ 4194304
+  pub small : length (text_left records) ≤ MOST_TABLE_BYTES

@@ -2,6 +2,7 @@
 use Rattle.std.specs.Prelude.{ℕ, List, length, ◌≤◌, ◌<◌, IsTrue, IfSome}
 use Rattle.std.specs.List.{All}
 use Rattle.rail_base.specs.Names.{is_name}
+use Rattle.rail_base.specs.declared.limits.TheConstants.{MOST_TYPES, MOST_STATIONS, MOST_STOCK_ROWS, MOST_TRIPS, MOST_LINKS, MOST_PLAN_ROWS, MOST_CARRIAGES, MOST_SEATS, MOST_METRES, MOST_PLATFORM, MOST_REALLOCATION, MOST_STOCK, MOST_MINUTES, MOST_KM, MOST_DEMAND, MOST_WEIGHT, MOST_COMPOSITION, MOST_UNITS}
 use Rattle.rail_csv.specs.declared.rows.TypeRow.{TypeRow}
 use Rattle.rail_csv.specs.declared.rows.StationRow.{StationRow}
 use Rattle.rail_csv.specs.declared.rows.StockRow.{StockRow}
@@ -18,25 +19,25 @@ IsWithin low high n = (low ≤ n) × (n ≤ high)
 
 -- a minute of the planned day or the day after it
 abbrev pub IsMinute : ℕ → Type 0
-IsMinute minute = minute < 2880
+IsMinute minute = minute < MOST_MINUTES
 
 pub record IsTypeRow (row : TypeRow) : Type 0 where
   pub name : IsName row.name
-  pub carriages : IsWithin 1 20 row.carriages
-  pub seats : IsWithin 1 2000 row.seats
-  pub metres : IsWithin 1 500 row.metres
+  pub carriages : IsWithin 1 MOST_CARRIAGES row.carriages
+  pub seats : IsWithin 1 MOST_SEATS row.seats
+  pub metres : IsWithin 1 MOST_METRES row.metres
   pub family : IsName row.family
 
 pub record IsStationRow (row : StationRow) : Type 0 where
   pub name : IsName row.name
-  pub platform : IsWithin 1 1000 row.platform
-  pub reallocation : IsWithin 0 600 row.reallocation
+  pub platform : IsWithin 1 MOST_PLATFORM row.platform
+  pub reallocation : IsWithin 0 MOST_REALLOCATION row.reallocation
 
 pub record IsStockRow (row : StockRow) : Type 0 where
   pub station : IsName row.station
   pub unit_type : IsName row.unit_type
-  pub start : IsWithin 0 2000 row.start
-  pub end : IsWithin 0 2000 row.end
+  pub start : IsWithin 0 MOST_STOCK row.start
+  pub end : IsWithin 0 MOST_STOCK row.end
 
 pub record IsTripRow (row : TripRow) : Type 0 where
   pub name : IsName row.name
@@ -44,8 +45,8 @@ pub record IsTripRow (row : TripRow) : Type 0 where
   pub departure : IsMinute row.departure
   pub to : IsName row.to
   pub arrival : IsMinute row.arrival
-  pub km : IsWithin 1 1000 row.km
-  pub demand : IsWithin 0 10000 row.demand
+  pub km : IsWithin 1 MOST_KM row.km
+  pub demand : IsWithin 0 MOST_DEMAND row.demand
 
 pub record IsLinkRow (row : LinkRow) : Type 0 where
   pub arriving : IsName row.arriving
@@ -54,14 +55,14 @@ pub record IsLinkRow (row : LinkRow) : Type 0 where
   pub departing2 : IfSome row.departing2 (λ name. IsName name)
 
 pub record IsWeightsRow (row : WeightsRow) : Type 0 where
-  pub carriage : IsWithin 0 10000 row.carriage
-  pub shortage : IsWithin 0 10000 row.shortage
-  pub shunting : IsWithin 0 10000 row.shunting
+  pub carriage : IsWithin 0 MOST_WEIGHT row.carriage
+  pub shortage : IsWithin 0 MOST_WEIGHT row.shortage
+  pub shunting : IsWithin 0 MOST_WEIGHT row.shunting
 
 pub record IsPlanRow (row : PlanRow) : Type 0 where
   pub trip : IsName row.trip
-  pub few : length row.units ≤ 6
-  pub units : All (λ unit. unit ≤ 1999) row.units
+  pub few : length row.units ≤ MOST_COMPOSITION
+  pub units : All (λ unit. unit < MOST_UNITS) row.units
 
 -- rows of a table: as many as the table may have, each within its ranges
 pub record AreRows {Row : Type 0} (limit : ℕ) (IsRow : Row → Type 0) (rows : List Row) : Type 0 where
@@ -69,19 +70,19 @@ pub record AreRows {Row : Type 0} (limit : ℕ) (IsRow : Row → Type 0) (rows :
   pub each : All (λ row. IsRow row) rows
 
 abbrev pub AreTypeRows : List TypeRow → Type 0
-AreTypeRows rows = AreRows 6 IsTypeRow rows
+AreTypeRows rows = AreRows MOST_TYPES IsTypeRow rows
 
 abbrev pub AreStationRows : List StationRow → Type 0
-AreStationRows rows = AreRows 60 IsStationRow rows
+AreStationRows rows = AreRows MOST_STATIONS IsStationRow rows
 
 abbrev pub AreStockRows : List StockRow → Type 0
-AreStockRows rows = AreRows 360 IsStockRow rows
+AreStockRows rows = AreRows MOST_STOCK_ROWS IsStockRow rows
 
 abbrev pub AreTripRows : List TripRow → Type 0
-AreTripRows rows = AreRows 400 IsTripRow rows
+AreTripRows rows = AreRows MOST_TRIPS IsTripRow rows
 
 abbrev pub AreLinkRows : List LinkRow → Type 0
-AreLinkRows rows = AreRows 400 IsLinkRow rows
+AreLinkRows rows = AreRows MOST_LINKS IsLinkRow rows
 
 abbrev pub ArePlanRows : List PlanRow → Type 0
-ArePlanRows rows = AreRows 400 IsPlanRow rows
+ArePlanRows rows = AreRows MOST_PLAN_ROWS IsPlanRow rows

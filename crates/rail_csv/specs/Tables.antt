@@ -1,12 +1,11 @@
 -- What a table is read as: its rows, or the first thing that is wrong in it.
-use Rattle.std.specs.Prelude.{ℕ, ◌+◌, List, [], ◌∷◌, length, Bool, ◌==◌, nat_lt, Result, Ok, Err, if◌then◌else◌, codes, ◌≡◌}
+use Rattle.std.specs.Prelude.{ℕ, ◌+◌, List, [], ◌∷◌, length, Bool, true, false, ◌==◌, nat_lt, Result, Ok, Err, if◌then◌else◌, codes}
 use Rattle.std.specs.List.{list_all}
 use Rattle.std.specs.Str.{bytes_eq, is_utf8}
 use Rattle.std.specs.Cmp.Lexicographic.{pointwise}
-use Rattle.std.specs.Global.{Vec}
 use Rattle.csv.specs.Reading.{default_config, strip_bom, records}
 use Rattle.rail_csv.specs.declared.refusal.TableRefusal.{TableRefusal}
-use Rattle.rail_csv.specs.declared.refusal.TableRefusal.TheVariants.{NotUtf8, WrongHeader, FieldCount, TooManyRows, NoRow, NoMemory, BadNumber, OutOfRange, BadTime, BadName, BadWord}
+use Rattle.rail_csv.specs.declared.refusal.TableRefusal.TheVariants.{NotUtf8, WrongHeader, FieldCount, TooManyRows, NoRow, NoMemory}
 use Rattle.rail_csv.specs.declared.rows.TypeRow.{TypeRow}
 use Rattle.rail_csv.specs.declared.rows.StationRow.{StationRow}
 use Rattle.rail_csv.specs.declared.rows.StockRow.{StockRow}
@@ -14,7 +13,9 @@ use Rattle.rail_csv.specs.declared.rows.TripRow.{TripRow}
 use Rattle.rail_csv.specs.declared.rows.LinkRow.{LinkRow}
 use Rattle.rail_csv.specs.declared.rows.WeightsRow.{WeightsRow}
 use Rattle.rail_csv.specs.declared.rows.PlanRow.{PlanRow}
-use Rattle.rail_csv.specs.Columns.{◌>>=◌, field, number_column, time_column, name_column, optional_name_column, kind_column, answer_column, end_column, units_column}
+use Rattle.rail_base.specs.Answers.{◌>>=◌}
+use Rattle.rail_base.specs.declared.limits.TheConstants.{MOST_TYPES, MOST_STATIONS, MOST_STOCK_ROWS, MOST_TRIPS, MOST_LINKS, MOST_WEIGHT_ROWS, MOST_PLAN_ROWS, MOST_CARRIAGES, MOST_SEATS, MOST_METRES, MOST_PLATFORM, MOST_REALLOCATION, MOST_STOCK, MOST_KM, MOST_DEMAND, MOST_WEIGHT}
+use Rattle.rail_csv.specs.Columns.{field, number_column, time_column, name_column, optional_name_column, kind_column, answer_column, end_column, units_column}
 
 -- ---- every table
 
@@ -54,29 +55,10 @@ rows_under header limit columns (first ∷ others) =
 unfoldable pub table_of : {Row : Type 0} → List (List ℕ) → ℕ → Columns Row → List ℕ → Result (List Row) TableRefusal
 table_of header limit columns bytes = rows_under header limit columns (records_of bytes)
 
--- A refusal is the one that reading gives; want of memory is free.
-abbrev pub Fails : {X : Type 0} → TableRefusal → Result X TableRefusal → Type 0
-Fails (NotUtf8 row) read = read ≡ Err (NotUtf8 row)
-Fails WrongHeader read = read ≡ Err WrongHeader
-Fails (FieldCount row found) read = read ≡ Err (FieldCount row found)
-Fails (BadNumber row column) read = read ≡ Err (BadNumber row column)
-Fails (OutOfRange row column) read = read ≡ Err (OutOfRange row column)
-Fails (BadTime row column) read = read ≡ Err (BadTime row column)
-Fails (BadName row column) read = read ≡ Err (BadName row column)
-Fails (BadWord row column) read = read ≡ Err (BadWord row column)
-Fails TooManyRows read = read ≡ Err TooManyRows
-Fails NoRow read = read ≡ Err NoRow
-Fails NoMemory read = Unit {0}
-
--- A call answers what reading gives, unless memory ran out.
-abbrev pub Gives : {X : Type 0} → Result X TableRefusal → Result X TableRefusal → Type 0
-Gives (Ok x) read = read ≡ Ok x
-Gives (Err e) read = Fails e read
-
--- The same of a call that answers a vector of rows.
-abbrev pub GivesRows : {X : Type 0} → Result (Vec X) TableRefusal → Result (List X) TableRefusal → Type 0
-GivesRows (Ok rows) read = read ≡ Ok rows.items
-GivesRows (Err e) read = Fails e read
+-- the refusal that is free
+abbrev pub is_memory : TableRefusal → Bool
+is_memory NoMemory = true
+is_memory why = false
 
 -- ---- the seven tables
 
@@ -86,14 +68,14 @@ type_header = codes "type" ∷ codes "carriages" ∷ codes "seats" ∷ codes "me
 unfoldable pub type_columns : Columns TypeRow
 type_columns row fields = do
   name ← name_column row 0 (field fields 0)
-  carriages ← number_column 1 20 row 1 (field fields 1)
-  seats ← number_column 1 2000 row 2 (field fields 2)
-  metres ← number_column 1 500 row 3 (field fields 3)
+  carriages ← number_column 1 MOST_CARRIAGES row 1 (field fields 1)
+  seats ← number_column 1 MOST_SEATS row 2 (field fields 2)
+  metres ← number_column 1 MOST_METRES row 3 (field fields 3)
   family ← name_column row 4 (field fields 4)
   Ok (record { name = name; carriages = carriages; seats = seats; metres = metres; family = family })
 
 unfoldable pub types_of : List ℕ → Result (List TypeRow) TableRefusal
-types_of bytes = table_of type_header 6 type_columns bytes
+types_of bytes = table_of type_header MOST_TYPES type_columns bytes
 
 abbrev pub station_header : List (List ℕ)
 station_header = codes "station" ∷ codes "platform" ∷ codes "reallocation" ∷ []
@@ -101,12 +83,12 @@ station_header = codes "station" ∷ codes "platform" ∷ codes "reallocation" �
 unfoldable pub station_columns : Columns StationRow
 station_columns row fields = do
   name ← name_column row 0 (field fields 0)
-  platform ← number_column 1 1000 row 1 (field fields 1)
-  reallocation ← number_column 0 600 row 2 (field fields 2)
+  platform ← number_column 1 MOST_PLATFORM row 1 (field fields 1)
+  reallocation ← number_column 0 MOST_REALLOCATION row 2 (field fields 2)
   Ok (record { name = name; platform = platform; reallocation = reallocation })
 
 unfoldable pub stations_of : List ℕ → Result (List StationRow) TableRefusal
-stations_of bytes = table_of station_header 60 station_columns bytes
+stations_of bytes = table_of station_header MOST_STATIONS station_columns bytes
 
 abbrev pub stock_header : List (List ℕ)
 stock_header = codes "station" ∷ codes "type" ∷ codes "start" ∷ codes "end" ∷ []
@@ -115,12 +97,12 @@ unfoldable pub stock_columns : Columns StockRow
 stock_columns row fields = do
   station ← name_column row 0 (field fields 0)
   unit_type ← name_column row 1 (field fields 1)
-  start ← number_column 0 2000 row 2 (field fields 2)
-  end ← number_column 0 2000 row 3 (field fields 3)
+  start ← number_column 0 MOST_STOCK row 2 (field fields 2)
+  end ← number_column 0 MOST_STOCK row 3 (field fields 3)
   Ok (record { station = station; unit_type = unit_type; start = start; end = end })
 
 unfoldable pub stock_of : List ℕ → Result (List StockRow) TableRefusal
-stock_of bytes = table_of stock_header 360 stock_columns bytes
+stock_of bytes = table_of stock_header MOST_STOCK_ROWS stock_columns bytes
 
 abbrev pub trip_header : List (List ℕ)
 trip_header = codes "trip" ∷ codes "from" ∷ codes "departure" ∷ codes "to" ∷ codes "arrival" ∷ codes "km" ∷ codes "demand" ∷ []
@@ -132,12 +114,12 @@ trip_columns row fields = do
   departure ← time_column row 2 (field fields 2)
   to ← name_column row 3 (field fields 3)
   arrival ← time_column row 4 (field fields 4)
-  km ← number_column 1 1000 row 5 (field fields 5)
-  demand ← number_column 0 10000 row 6 (field fields 6)
+  km ← number_column 1 MOST_KM row 5 (field fields 5)
+  demand ← number_column 0 MOST_DEMAND row 6 (field fields 6)
   Ok (record { name = name; from = from; departure = departure; to = to; arrival = arrival; km = km; demand = demand })
 
 unfoldable pub trips_of : List ℕ → Result (List TripRow) TableRefusal
-trips_of bytes = table_of trip_header 400 trip_columns bytes
+trips_of bytes = table_of trip_header MOST_TRIPS trip_columns bytes
 
 abbrev pub link_header : List (List ℕ)
 link_header = codes "kind" ∷ codes "arriving" ∷ codes "arriving2" ∷ codes "departing" ∷ codes "departing2" ∷ codes "reverse" ∷ codes "uncouple" ∷ codes "couple" ∷ []
@@ -155,16 +137,16 @@ link_columns row fields = do
   Ok (record { kind = kind; arriving = arriving; arriving2 = arriving2; departing = departing; departing2 = departing2; reverse = reverse; uncouple = uncouple; couple = couple })
 
 unfoldable pub links_of : List ℕ → Result (List LinkRow) TableRefusal
-links_of bytes = table_of link_header 400 link_columns bytes
+links_of bytes = table_of link_header MOST_LINKS link_columns bytes
 
 abbrev pub weight_header : List (List ℕ)
 weight_header = codes "carriage" ∷ codes "shortage" ∷ codes "shunting" ∷ []
 
 unfoldable pub weight_columns : Columns WeightsRow
 weight_columns row fields = do
-  carriage ← number_column 0 10000 row 0 (field fields 0)
-  shortage ← number_column 0 10000 row 1 (field fields 1)
-  shunting ← number_column 0 10000 row 2 (field fields 2)
+  carriage ← number_column 0 MOST_WEIGHT row 0 (field fields 0)
+  shortage ← number_column 0 MOST_WEIGHT row 1 (field fields 1)
+  shunting ← number_column 0 MOST_WEIGHT row 2 (field fields 2)
   Ok (record { carriage = carriage; shortage = shortage; shunting = shunting })
 
 -- the one row of a table
@@ -174,7 +156,7 @@ the_row (row ∷ others) = Ok row
 
 unfoldable pub weights_of : List ℕ → Result WeightsRow TableRefusal
 weights_of bytes = do
-  rows ← table_of weight_header 1 weight_columns bytes
+  rows ← table_of weight_header MOST_WEIGHT_ROWS weight_columns bytes
   the_row rows
 
 abbrev pub plan_header : List (List ℕ)
@@ -187,4 +169,4 @@ plan_columns row fields = do
   Ok (record { trip = trip; units = units })
 
 unfoldable pub plan_of : List ℕ → Result (List PlanRow) TableRefusal
-plan_of bytes = table_of plan_header 400 plan_columns bytes
+plan_of bytes = table_of plan_header MOST_PLAN_ROWS plan_columns bytes

@@ -5,10 +5,12 @@ ghost use Rattle.std.specs.Prelude.{◌≡◌, ◌≤◌, length, Some, None, if
 ghost use Rattle.std.specs.List.{list_all};
 ghost use Rattle.rail_csv.specs.Fields.{are_digits, number_of, is_number, is_time, time_of, is_unit, numbers_of, pieces_of};
 ghost use Rattle.rail_csv.specs.Columns.{number_column, time_column, name_column, optional_name_column, kind_column, answer_column, end_column, units_column};
-ghost use Rattle.rail_csv.specs.Tables.{Gives};
+ghost use Rattle.rail_csv.specs.Tables.{is_memory};
+ghost use Rattle.rail_base.specs.Answers.{Gives};
 
 use crate::refusal::TableRefusal;
 use crate::rows::{End, KindWord, UnitList};
+use rail_base::limits::{MOST_COMPOSITION, MOST_UNITS};
 use rail_base::name::is_name;
 use rail_base::{Minute, Name, NoMemory, UnitNo};
 use std::alloc::Global;
@@ -44,7 +46,7 @@ fn number_of(text: &[u8]) -> Option<u32>
 /// A number from `low` to `high`.
 #[tactic(auto, unfolding(crate::specs::Columns::number_column))]
 pub fn number(text: &str, low: u32, high: u32, row: u32, column: u32) -> Result<u32, TableRefusal>
-    ensures { Gives result (number_column low high row column text.now) }
+    ensures { Gives is_memory result (number_column low high row column text.now) }
 {
     let Some(value) = number_of(text.as_bytes()) else {
         return Err(TableRefusal::BadNumber { row, column });
@@ -85,7 +87,7 @@ fn minutes_of(text: &[u8]) -> Option<u16>
 /// A time: one or two digits of the hour 0 to 47, a colon, and two digits of the minute 0 to 59.
 #[tactic(auto, unfolding(crate::specs::Columns::time_column))]
 pub fn time(text: &str, row: u32, column: u32) -> Result<Minute, TableRefusal>
-    ensures { Gives result (time_column row column text.now) }
+    ensures { Gives is_memory result (time_column row column text.now) }
 {
     let Some(minutes) = minutes_of(text.as_bytes()) else {
         return Err(TableRefusal::BadTime { row, column });
@@ -96,7 +98,7 @@ pub fn time(text: &str, row: u32, column: u32) -> Result<Minute, TableRefusal>
 /// A name.
 #[tactic(auto, unfolding(crate::specs::Columns::name_column))]
 pub fn name(alloc: Global, text: &str, row: u32, column: u32) -> Result<Name, TableRefusal>
-    ensures { Gives result (name_column row column text.now) }
+    ensures { Gives is_memory result (name_column row column text.now) }
 {
     if !is_name(text.as_bytes()) {
         return Err(TableRefusal::BadName { row, column });
@@ -112,7 +114,7 @@ pub fn optional_name(
     row: u32,
     column: u32,
 ) -> Result<Option<Name>, TableRefusal>
-    ensures { Gives result (optional_name_column row column text.now) }
+    ensures { Gives is_memory result (optional_name_column row column text.now) }
 {
     if text.is_empty() {
         return Ok(None);
@@ -124,7 +126,7 @@ pub fn optional_name(
 /// One of the words `turn`, `join` and `split`.
 #[tactic(auto, unfolding(crate::specs::Columns::kind_column))]
 pub fn kind(text: &str, row: u32, column: u32) -> Result<KindWord, TableRefusal>
-    ensures { Gives result (kind_column row column text.now) }
+    ensures { Gives is_memory result (kind_column row column text.now) }
 {
     if text == "turn" {
         return Ok(KindWord::Turn);
@@ -141,7 +143,7 @@ pub fn kind(text: &str, row: u32, column: u32) -> Result<KindWord, TableRefusal>
 /// One of the words `yes` and `no`.
 #[tactic(auto, unfolding(crate::specs::Columns::answer_column))]
 pub fn answer(text: &str, row: u32, column: u32) -> Result<bool, TableRefusal>
-    ensures { Gives result (answer_column row column text.now) }
+    ensures { Gives is_memory result (answer_column row column text.now) }
 {
     if text == "yes" {
         return Ok(true);
@@ -155,7 +157,7 @@ pub fn answer(text: &str, row: u32, column: u32) -> Result<bool, TableRefusal>
 /// One of the words `none`, `front` and `rear`.
 #[tactic(auto, unfolding(crate::specs::Columns::end_column))]
 pub fn end(text: &str, row: u32, column: u32) -> Result<End, TableRefusal>
-    ensures { Gives result (end_column row column text.now) }
+    ensures { Gives is_memory result (end_column row column text.now) }
 {
     if text == "none" {
         return Ok(End::None);
@@ -188,13 +190,13 @@ fn unit_numbers(alloc: Global, text: &str) -> Result<Option<Vec<UnitNo>>, NoMemo
 fn are_units(units: &[UnitNo]) -> bool
     ensures { result ≡ list_all is_unit units.now }
 {
-    units.iter().all(|unit| unit.place() <= 1999)
+    units.iter().all(|unit| unit.0 < MOST_UNITS)
 }
 
 /// Units by number, front to rear: nothing, or 1 to 6 numbers 0 to 1,999 with one space between two.
 #[tactic(auto, unfolding(crate::specs::Columns::units_column))]
 pub fn units(alloc: Global, text: &str, row: u32, column: u32) -> Result<UnitList, TableRefusal>
-    ensures { Gives result (units_column row column text.now) }
+    ensures { Gives is_memory result (units_column row column text.now) }
 {
     if text.is_empty() {
         return Ok(UnitList::of(Vec::new(alloc)));
@@ -202,7 +204,7 @@ pub fn units(alloc: Global, text: &str, row: u32, column: u32) -> Result<UnitLis
     let Some(units) = unit_numbers(alloc, text)? else {
         return Err(TableRefusal::BadNumber { row, column });
     };
-    if units.len() > 6 {
+    if units.len() > MOST_COMPOSITION {
         return Err(TableRefusal::OutOfRange { row, column });
     }
     if !are_units(units.as_slice()) {

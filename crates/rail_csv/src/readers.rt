@@ -1,15 +1,16 @@
 //! The seven readers: what each table is read as.
 
 ghost use Rattle.std.specs.Prelude.{◌≤◌, length, IfOk};
+ghost use Rattle.rail_base.specs.Answers.{Gives, GivesRows};
 ghost use Rattle.rail_csv.specs.Rows.{AreLinkRows, ArePlanRows, AreStationRows, AreStockRows, AreTripRows, AreTypeRows, IsWeightsRow};
-ghost use Rattle.rail_csv.specs.Tables.{Gives, GivesRows, links_of, plan_of, stations_of, stock_of, trips_of, types_of, weights_of};
+ghost use Rattle.rail_csv.specs.Tables.{is_memory, links_of, plan_of, stations_of, stock_of, trips_of, types_of, weights_of};
 
 use crate::reading::read_table;
 use crate::refusal::TableRefusal;
 use crate::rows::{LinkRow, PlanRow, StationRow, StockRow, TripRow, TypeRow, WeightsRow};
 use rail_base::limits::{
-    MOST_LINKS, MOST_PLAN_ROWS, MOST_STATIONS, MOST_STOCK_ROWS, MOST_TRIPS, MOST_TYPES,
-    MOST_WEIGHTS,
+    MOST_LINKS, MOST_PLAN_ROWS, MOST_STATIONS, MOST_STOCK_ROWS, MOST_TABLE_BYTES, MOST_TRIPS,
+    MOST_TYPES, MOST_WEIGHT_ROWS,
 };
 use std::alloc::Global;
 
@@ -17,8 +18,8 @@ use std::alloc::Global;
 /// most 6 rows. The bytes are at most 4,194,304.
 #[tactic(auto, unfolding(crate::specs::Tables::types_of))]
 pub fn types(alloc: Global, bytes: &[u8]) -> Result<Vec<TypeRow>, TableRefusal>
-    requires { length bytes.now ≤ 4194304 }
-    ensures exact { GivesRows result (types_of bytes.now) }
+    requires { length bytes.now ≤ MOST_TABLE_BYTES }
+    ensures exact { GivesRows is_memory result (types_of bytes.now) }
     ensures rows { IfOk result (λ v. AreTypeRows v.items) }
 {
     let header = ["type", "carriages", "seats", "metres", "family"];
@@ -29,8 +30,8 @@ pub fn types(alloc: Global, bytes: &[u8]) -> Result<Vec<TypeRow>, TableRefusal>
 /// most 60 rows. The bytes are at most 4,194,304.
 #[tactic(auto, unfolding(crate::specs::Tables::stations_of))]
 pub fn stations(alloc: Global, bytes: &[u8]) -> Result<Vec<StationRow>, TableRefusal>
-    requires { length bytes.now ≤ 4194304 }
-    ensures exact { GivesRows result (stations_of bytes.now) }
+    requires { length bytes.now ≤ MOST_TABLE_BYTES }
+    ensures exact { GivesRows is_memory result (stations_of bytes.now) }
     ensures rows { IfOk result (λ v. AreStationRows v.items) }
 {
     let header = ["station", "platform", "reallocation"];
@@ -41,8 +42,8 @@ pub fn stations(alloc: Global, bytes: &[u8]) -> Result<Vec<StationRow>, TableRef
 /// most 360 rows. The bytes are at most 4,194,304.
 #[tactic(auto, unfolding(crate::specs::Tables::stock_of))]
 pub fn stock(alloc: Global, bytes: &[u8]) -> Result<Vec<StockRow>, TableRefusal>
-    requires { length bytes.now ≤ 4194304 }
-    ensures exact { GivesRows result (stock_of bytes.now) }
+    requires { length bytes.now ≤ MOST_TABLE_BYTES }
+    ensures exact { GivesRows is_memory result (stock_of bytes.now) }
     ensures rows { IfOk result (λ v. AreStockRows v.items) }
 {
     let header = ["station", "type", "start", "end"];
@@ -53,8 +54,8 @@ pub fn stock(alloc: Global, bytes: &[u8]) -> Result<Vec<StockRow>, TableRefusal>
 /// most 400 rows. The bytes are at most 4,194,304.
 #[tactic(auto, unfolding(crate::specs::Tables::trips_of))]
 pub fn trips(alloc: Global, bytes: &[u8]) -> Result<Vec<TripRow>, TableRefusal>
-    requires { length bytes.now ≤ 4194304 }
-    ensures exact { GivesRows result (trips_of bytes.now) }
+    requires { length bytes.now ≤ MOST_TABLE_BYTES }
+    ensures exact { GivesRows is_memory result (trips_of bytes.now) }
     ensures rows { IfOk result (λ v. AreTripRows v.items) }
 {
     let header = ["trip", "from", "departure", "to", "arrival", "km", "demand"];
@@ -65,8 +66,8 @@ pub fn trips(alloc: Global, bytes: &[u8]) -> Result<Vec<TripRow>, TableRefusal>
 /// most 400 rows. The bytes are at most 4,194,304.
 #[tactic(auto, unfolding(crate::specs::Tables::links_of))]
 pub fn links(alloc: Global, bytes: &[u8]) -> Result<Vec<LinkRow>, TableRefusal>
-    requires { length bytes.now ≤ 4194304 }
-    ensures exact { GivesRows result (links_of bytes.now) }
+    requires { length bytes.now ≤ MOST_TABLE_BYTES }
+    ensures exact { GivesRows is_memory result (links_of bytes.now) }
     ensures rows { IfOk result (λ v. AreLinkRows v.items) }
 {
     let header = [
@@ -85,8 +86,8 @@ pub fn links(alloc: Global, bytes: &[u8]) -> Result<Vec<LinkRow>, TableRefusal>
 /// Reads the weights table: its one row, or the first thing that is wrong. Its columns are `carriage,shortage,shunting`. The bytes
 /// are at most 4,194,304.
 pub fn weights(alloc: Global, bytes: &[u8]) -> Result<WeightsRow, TableRefusal>
-    requires { length bytes.now ≤ 4194304 }
-    ensures exact { Gives result (weights_of bytes.now) }
+    requires { length bytes.now ≤ MOST_TABLE_BYTES }
+    ensures exact { Gives is_memory result (weights_of bytes.now) }
     ensures row { IfOk result (λ row. IsWeightsRow row) }
 {
     the_weights(alloc, bytes)
@@ -95,11 +96,11 @@ pub fn weights(alloc: Global, bytes: &[u8]) -> Result<WeightsRow, TableRefusal>
 /// The one row of the weights table.
 #[tactic(auto, unfolding(crate::specs::Tables::weights_of))]
 fn the_weights(alloc: Global, bytes: &[u8]) -> Result<WeightsRow, TableRefusal>
-    requires { length bytes.now ≤ 4194304 }
-    ensures { Gives result (weights_of bytes.now) }
+    requires { length bytes.now ≤ MOST_TABLE_BYTES }
+    ensures { Gives is_memory result (weights_of bytes.now) }
 {
     let header = ["carriage", "shortage", "shunting"];
-    let rows: Vec<WeightsRow> = read_table(alloc, &header, MOST_WEIGHTS as u32, bytes)?;
+    let rows: Vec<WeightsRow> = read_table(alloc, &header, MOST_WEIGHT_ROWS as u32, bytes)?;
     match rows.as_slice() {
         [] => Err(TableRefusal::NoRow),
         [row, ..] => Ok(*row),
@@ -110,8 +111,8 @@ fn the_weights(alloc: Global, bytes: &[u8]) -> Result<WeightsRow, TableRefusal>
 /// most 400 rows. The bytes are at most 4,194,304.
 #[tactic(auto, unfolding(crate::specs::Tables::plan_of))]
 pub fn plan(alloc: Global, bytes: &[u8]) -> Result<Vec<PlanRow>, TableRefusal>
-    requires { length bytes.now ≤ 4194304 }
-    ensures exact { GivesRows result (plan_of bytes.now) }
+    requires { length bytes.now ≤ MOST_TABLE_BYTES }
+    ensures exact { GivesRows is_memory result (plan_of bytes.now) }
     ensures rows { IfOk result (λ v. ArePlanRows v.items) }
 {
     let header = ["trip", "units"];

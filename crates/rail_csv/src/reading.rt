@@ -2,13 +2,15 @@
 
 ghost use Rattle.std.specs.Prelude.{◌≡◌, ◌≤◌, ◌<◌, ◌^◌, length, map, Ok, IfOk, IfErr};
 ghost use Rattle.csv.specs.Records.{fields_of};
+ghost use Rattle.rail_base.specs.Answers.{Gives, GivesRows};
 ghost use Rattle.rail_csv.specs.Columns.{field};
-ghost use Rattle.rail_csv.specs.Tables.{Columns, Gives, GivesRows, is_header, records_of, row_of, rows_from, table_of};
+ghost use Rattle.rail_csv.specs.Tables.{Columns, is_header, is_memory, records_of, row_of, rows_from, table_of};
 ghost use Rattle.rail_csv.specs.Records.{ReadsOn, records_left};
 ghost use Rattle.rail_csv.specs.declared.refusal.TableRefusal.TheVariants.{NoMemory};
 
 use crate::refusal::TableRefusal;
 use csv::{ByteRecord, ByteRecordsIntoIter, Error, ReaderBuilder, StringRecord};
+use rail_base::limits::MOST_TABLE_BYTES;
 use std::alloc::Global;
 
 /// A row of a table, read column by column.
@@ -18,7 +20,7 @@ pub trait TableRow: Drop {
 
     /// Reads the columns from left to right: the row, or the first field that does not fit. `row` is its number.
     fn read(alloc: Global, row: u32, fields: &StringRecord) -> Result<Self, TableRefusal>
-        ensures { Gives result (columns row (fields_of fields.now)) };
+        ensures { Gives is_memory result (columns row (fields_of fields.now)) };
 }
 
 /// The field of a column, counted from 0; an empty text where there is none.
@@ -65,7 +67,7 @@ fn read_row<T: TableRow>(
     found: ByteRecord,
 ) -> Result<T, TableRefusal>
     requires { length (fields_of found) < 2 ^ 32 }
-    ensures { Gives result (row_of (map (λ word. word.now) header.now) T.columns row (fields_of found)) }
+    ensures { Gives is_memory result (row_of (map (λ word. word.now) header.now) T.columns row (fields_of found)) }
 {
     if found.len() != header.len() {
         return Err(TableRefusal::FieldCount {
@@ -92,7 +94,7 @@ fn taken(turn: Result<ByteRecord, Error>) -> Result<ByteRecord, TableRefusal>
 
 /// The records of a table, in turn, after a byte order mark at its front was dropped once.
 fn records_in(alloc: Global, bytes: &[u8]) -> ByteRecordsIntoIter<&[u8]>
-    requires { length bytes.now ≤ 4194304 }
+    requires { length bytes.now ≤ MOST_TABLE_BYTES }
     ensures reads { ReadsOn result }
     ensures all { records_left result ≡ records_of bytes.now }
 {
@@ -111,8 +113,8 @@ fn read_rows<T: TableRow>(
     records: ByteRecordsIntoIter<&[u8]>,
 ) -> Result<Vec<T>, TableRefusal>
     requires reads { ReadsOn records }
-    requires limit { limit ≤ 1000000 }
-    ensures { GivesRows result (rows_from (map (λ word. word.now) header.now) limit T.columns 1 (records_left records.entry)) }
+    requires limit { limit ≤ MOST_TABLE_BYTES }
+    ensures { GivesRows is_memory result (rows_from (map (λ word. word.now) header.now) limit T.columns 1 (records_left records.entry)) }
 {
     let mut rows: Vec<T> = Vec::new(alloc);
     for turn in records {
@@ -128,7 +130,7 @@ fn read_rows<T: TableRow>(
 }
 
 /// Reads a table with this header and at most `limit` rows. A byte order mark at the front is dropped once, and empty
-/// lines are no records.
+/// lines are no records. There can't be more rows than bytes, so no limit needs to be over the one on bytes.
 #[tactic(auto, unfolding(crate::specs::Tables::table_of))]
 pub fn read_table<T: TableRow>(
     alloc: Global,
@@ -136,9 +138,9 @@ pub fn read_table<T: TableRow>(
     limit: u32,
     bytes: &[u8],
 ) -> Result<Vec<T>, TableRefusal>
-    requires small { length bytes.now ≤ 4194304 }
-    requires limit { limit ≤ 1000000 }
-    ensures { GivesRows result (table_of (map (λ word. word.now) header.now) limit T.columns bytes.now) }
+    requires small { length bytes.now ≤ MOST_TABLE_BYTES }
+    requires limit { limit ≤ MOST_TABLE_BYTES }
+    ensures { GivesRows is_memory result (table_of (map (λ word. word.now) header.now) limit T.columns bytes.now) }
 {
     let mut records = records_in(alloc, bytes);
     let Some(turn) = records.next() else {

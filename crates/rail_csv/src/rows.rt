@@ -2,6 +2,7 @@
 
 ghost use Rattle.std.specs.Prelude.{◌≡◌, ◌≤◌, length, List, ℕ};
 
+use rail_base::limits::MOST_COMPOSITION;
 use rail_base::{Minute, Name, UnitNo};
 use std::marker::Model;
 
@@ -125,18 +126,19 @@ pub struct UnitList {
 
 impl Model for UnitList {
     ghost use Rattle.std.specs.Prelude.{List, ℕ, length, ◌≤◌};
+    ghost use Rattle.rail_base.specs.declared.limits.TheConstants.{MOST_COMPOSITION};
 
     ghost Value = { List ℕ };
 
     ghost view = { λ a. a.units.items };
 
-    ghost invariant = { λ a. length a.units.items ≤ 6 };
+    ghost invariant = { λ a. length a.units.items ≤ MOST_COMPOSITION };
 }
 
 impl UnitList {
     /// The list of these units, at most six. It takes no memory.
     pub fn of(items: Vec<UnitNo>) -> UnitList
-        requires { length items.items ≤ 6 }
+        requires { length items.items ≤ MOST_COMPOSITION }
         ensures { result ≡ items.items }
     {
         UnitList { units: items }
@@ -145,7 +147,7 @@ impl UnitList {
     /// The units, front to rear. It takes no memory.
     pub fn items(&self) -> &[UnitNo]
         ensures list { result.now ≡ self.now }
-        ensures few { length self.now ≤ 6 }
+        ensures few { length self.now ≤ MOST_COMPOSITION }
     {
         self.units.as_slice()
     }

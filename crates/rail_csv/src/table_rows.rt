@@ -7,6 +7,10 @@ use crate::reading::{TableRow, field};
 use crate::refusal::TableRefusal;
 use crate::rows::{LinkRow, PlanRow, StationRow, StockRow, TripRow, TypeRow, WeightsRow};
 use csv::StringRecord;
+use rail_base::limits::{
+    MOST_CARRIAGES, MOST_DEMAND, MOST_KM, MOST_METRES, MOST_PLATFORM, MOST_REALLOCATION,
+    MOST_SEATS, MOST_STOCK, MOST_WEIGHT,
+};
 use std::alloc::Global;
 
 impl TableRow for TypeRow {
@@ -17,9 +21,9 @@ impl TableRow for TypeRow {
     #[tactic(auto, unfolding(crate::specs::Tables::type_columns))]
     fn read(alloc: Global, row: u32, fields: &StringRecord) -> Result<TypeRow, TableRefusal> {
         let name = columns::name(alloc, field(fields, 0), row, 0)?;
-        let carriages = columns::number(field(fields, 1), 1, 20, row, 1)?;
-        let seats = columns::number(field(fields, 2), 1, 2000, row, 2)?;
-        let metres = columns::number(field(fields, 3), 1, 500, row, 3)?;
+        let carriages = columns::number(field(fields, 1), 1, MOST_CARRIAGES, row, 1)?;
+        let seats = columns::number(field(fields, 2), 1, MOST_SEATS, row, 2)?;
+        let metres = columns::number(field(fields, 3), 1, MOST_METRES, row, 3)?;
         let family = columns::name(alloc, field(fields, 4), row, 4)?;
         Ok(TypeRow {
             name,
@@ -39,8 +43,8 @@ impl TableRow for StationRow {
     #[tactic(auto, unfolding(crate::specs::Tables::station_columns))]
     fn read(alloc: Global, row: u32, fields: &StringRecord) -> Result<StationRow, TableRefusal> {
         let name = columns::name(alloc, field(fields, 0), row, 0)?;
-        let platform = columns::number(field(fields, 1), 1, 1000, row, 1)?;
-        let reallocation = columns::number(field(fields, 2), 0, 600, row, 2)?;
+        let platform = columns::number(field(fields, 1), 1, MOST_PLATFORM, row, 1)?;
+        let reallocation = columns::number(field(fields, 2), 0, MOST_REALLOCATION, row, 2)?;
         Ok(StationRow {
             name,
             platform,
@@ -58,8 +62,8 @@ impl TableRow for StockRow {
     fn read(alloc: Global, row: u32, fields: &StringRecord) -> Result<StockRow, TableRefusal> {
         let station = columns::name(alloc, field(fields, 0), row, 0)?;
         let unit_type = columns::name(alloc, field(fields, 1), row, 1)?;
-        let start = columns::number(field(fields, 2), 0, 2000, row, 2)?;
-        let end = columns::number(field(fields, 3), 0, 2000, row, 3)?;
+        let start = columns::number(field(fields, 2), 0, MOST_STOCK, row, 2)?;
+        let end = columns::number(field(fields, 3), 0, MOST_STOCK, row, 3)?;
         Ok(StockRow {
             station,
             unit_type,
@@ -81,8 +85,8 @@ impl TableRow for TripRow {
         let departure = columns::time(field(fields, 2), row, 2)?;
         let to = columns::name(alloc, field(fields, 3), row, 3)?;
         let arrival = columns::time(field(fields, 4), row, 4)?;
-        let km = columns::number(field(fields, 5), 1, 1000, row, 5)?;
-        let demand = columns::number(field(fields, 6), 0, 10_000, row, 6)?;
+        let km = columns::number(field(fields, 5), 1, MOST_KM, row, 5)?;
+        let demand = columns::number(field(fields, 6), 0, MOST_DEMAND, row, 6)?;
         Ok(TripRow {
             name,
             from,
@@ -130,9 +134,9 @@ impl TableRow for WeightsRow {
 
     #[tactic(auto, unfolding(crate::specs::Tables::weight_columns))]
     fn read(_alloc: Global, row: u32, fields: &StringRecord) -> Result<WeightsRow, TableRefusal> {
-        let carriage = columns::number(field(fields, 0), 0, 10_000, row, 0)?;
-        let shortage = columns::number(field(fields, 1), 0, 10_000, row, 1)?;
-        let shunting = columns::number(field(fields, 2), 0, 10_000, row, 2)?;
+        let carriage = columns::number(field(fields, 0), 0, MOST_WEIGHT, row, 0)?;
+        let shortage = columns::number(field(fields, 1), 0, MOST_WEIGHT, row, 1)?;
+        let shunting = columns::number(field(fields, 2), 0, MOST_WEIGHT, row, 2)?;
         Ok(WeightsRow {
             carriage,
             shortage,

@@ -2,7 +2,8 @@ use Rattle.std.proofs.Common.{◌≡◌, ◌<◌, ◌+◌, ℕ, Ok, length, subs
 use Rattle.std.proofs.lemmas.Result.{err_from_is_err_and}
 use Rattle.std.proofs.lemmas.List.{length_push}
 use Rattle.csv.specs.Records.{fields_of}
-use Rattle.rail_csv.specs.Tables.{Fails, row_of, rows_from}
+use Rattle.rail_csv.specs.Tables.{is_memory, row_of, rows_from}
+use Rattle.rail_base.specs.Answers.{Fails}
 use Rattle.rail_csv.specs.Records.{records_left}
 use Rattle.rail_csv.proofs.Headers.{words}
 use Rattle.rail_csv.proofs.Records.{took, ended}
@@ -29,7 +30,7 @@ returns-in_err-row g c =
     let t = took c.loop-turn.turn-iterator c.next.new.self c.in_ok-found.found inv.reads step in
     let p = err_from_is_err_and c.from_residual-in_err-row.result c.from_residual-in_err-row.ensures.1 in
     let len_is : c.len-in-loop-turn.result ≡ length c.loop-turn.rows.items = omega (arith, c.len-in-loop-turn.ensures) in
-    let failed = subst (λ (n : ℕ). Fails c.in_err-row.field-0.0 (row_of (words c.args.header.now) g.T.TableRow.columns (n + 1) (fields_of c.in_ok-found.found))) len_is c.in_err-row.ensures in
+    let failed = subst (λ (n : ℕ). Fails is_memory c.in_err-row.field-0.0 (row_of (words c.args.header.now) g.T.TableRow.columns (n + 1) (fields_of c.in_ok-found.found))) len_is c.in_err-row.ensures in
     rw (p.1, p.2) (fails (words c.args.header.now) c.args.limit g.T.TableRow.columns c.loop-turn.rows.items (records_left c.loop-turn.turn-iterator) (fields_of c.in_ok-found.found) (records_left c.next.new.self) c.in_err-row.field-0.0 (rows_from (words c.args.header.now) c.args.limit g.T.TableRow.columns 1 (records_left c.args.records)) (omega (arith, inv.few, c.len.ensures)) t.first failed inv.total)
 
 pub loop-turn-preserved : goal.loop-turn-preserved

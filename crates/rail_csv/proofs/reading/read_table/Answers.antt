@@ -1,6 +1,7 @@
 use Rattle.std.proofs.Common.{◌≡◌, true, false, subst, sym, ◌∙◌}
 use Rattle.csv.specs.Records.{fields_of}
-use Rattle.rail_csv.specs.Tables.{GivesRows, is_header, records_of, table_of}
+use Rattle.rail_csv.specs.Tables.{is_header, is_memory, records_of, table_of}
+use Rattle.rail_base.specs.Answers.{GivesRows}
 use Rattle.rail_csv.specs.Records.{records_left}
 use Rattle.rail_csv.proofs.Headers.{words}
 use Rattle.rail_csv.proofs.Records.{took, ended}
@@ -38,4 +39,4 @@ returns g c =
     let t = took c.records_in-records.result c.next.new.self c.in_ok-first.first b.reads step in
     let right : is_header (words c.args.header.now) (fields_of c.in_ok-first.first) ≡ true = sym c.is_header.ensures ∙ c.if-not-is_header.false in
     let rows = right_header (words c.args.header.now) c.args.limit g.T.TableRow.columns (records_of c.args.bytes.now) (fields_of c.in_ok-first.first) (records_left c.next.new.self) (sym b.all ∙ t.first) right in
-    subst (λ r. GivesRows c.read_rows.result r) rows c.read_rows.ensures
+    subst (λ r. GivesRows is_memory c.read_rows.result r) rows c.read_rows.ensures
