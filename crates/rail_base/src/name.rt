@@ -36,18 +36,22 @@ pub fn is_name(text: &[u8]) -> bool
     text[text.len() - 1] != b' '
 }
 
-/// A name of a station, a unit type, a family or a trip. A contract sees the list of its UTF-8 bytes.
+/// A name of a station, a unit type, a family or a trip: what `is_name` takes. A contract sees the list of its UTF-8
+/// bytes.
 #[derive(Debug, Drop)]
 pub struct Name {
     text: String,
 }
 
 impl Model for Name {
-    ghost use Rattle.std.specs.Prelude.{List, ℕ, string_bytes};
+    ghost use Rattle.std.specs.Prelude.{List, ℕ, string_bytes, IsTrue};
+    ghost use Rattle.rail_base.specs.Names.{is_name};
 
     ghost Value = { List ℕ };
 
     ghost view = { λ a. string_bytes a.text };
+
+    ghost invariant = { λ a. IsTrue (is_name (string_bytes a.text)) };
 }
 
 impl Name {
@@ -61,9 +65,10 @@ impl Name {
         })
     }
 
-    /// The text of the name.
+    /// The text of the name, which is a name.
     pub fn as_str(&self) -> &str
-        ensures { result.now ≡ self.now }
+        ensures value { result.now ≡ self.now }
+        ensures is_name { IsTrue (is_name self.now) }
     {
         self.text.as_str()
     }
