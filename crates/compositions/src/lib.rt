@@ -8,6 +8,3 @@ pub mod types;
 pub use catalogue::{Catalogue, CatalogueRefusal};
 pub use composition::Composition;
 pub use types::{UnitType, UnitTypes};
-
-#[cfg(test)]
-mod tests;

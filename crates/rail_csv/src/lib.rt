@@ -15,6 +15,3 @@ pub use rows::{
     End, KindWord, LinkRow, PlanRow, StationRow, StockRow, Table, TripRow, TypeRow, UnitList,
     WeightsRow,
 };
-
-#[cfg(test)]
-mod tests;

@@ -1,1 +1,137 @@
-//! Rows of the seven tables.
+//! The readers of the tables: how CSV may be written, and which refusal is the first.
+
+use rail_csv::{End, KindWord, TableRefusal, links, plan, stations, stock, trips, types, weights};
+use std::test::Fail;
+
+#[test]
+fn quoted_comma_and_crlf(rt: HostRuntime) -> Result<(), Fail> {
+    let text = b"type,carriages,seats,metres,family\r\n\"A, long\",3,200,80,regional\r\n";
+    for row in &types(rt.alloc(), text)? {
+        assert!(rt; row.name.as_str() == "A, long");
+        assert_eq!(rt; (row.carriages, row.seats, row.metres), (3, 200, 80));
+        assert!(rt; row.family.as_str() == "regional");
+    }
+    Ok(())
+}
+
+#[test]
+fn order_mark_blank_lines_and_no_last_newline(rt: HostRuntime) -> Result<(), Fail> {
+    let text = b"\xEF\xBB\xBFstation,platform,reallocation\n\nX,240,15\n\nY,0240,000000015";
+    let rows = stations(rt.alloc(), text)?;
+    assert_eq!(rt; rows.len(), 2);
+    for row in &rows {
+        assert_eq!(rt; (row.platform, row.reallocation), (240, 15));
+    }
+    Ok(())
+}
+
+#[test]
+fn stock_rows(rt: HostRuntime) -> Result<(), Fail> {
+    let rows = stock(rt.alloc(), b"station,type,start,end\nX,A,0,2000\n")?;
+    assert_eq!(rt; rows.len(), 1);
+    for row in &rows {
+        assert!(rt; row.station.as_str() == "X" && row.unit_type.as_str() == "A");
+        assert_eq!(rt; (row.start, row.end), (0, 2000));
+    }
+    Ok(())
+}
+
+#[test]
+fn times(rt: HostRuntime) -> Result<(), Fail> {
+    let text = b"trip,from,departure,to,arrival,km,demand\nT,X,7:05,Y,47:59,40,464\n";
+    let rows = trips(rt.alloc(), text)?;
+    assert_eq!(rt; rows.len(), 1);
+    for row in &rows {
+        assert_eq!(rt; (row.departure.0, row.arrival.0), (425, 2879));
+        assert_eq!(rt; (row.km, row.demand), (40, 464));
+        assert!(rt; row.from.as_str() == "X" && row.to.as_str() == "Y");
+    }
+    Ok(())
+}
+
+#[test]
+fn link_words(rt: HostRuntime) -> Result<(), Fail> {
+    let text =
+        b"kind,arriving,arriving2,departing,departing2,reverse,uncouple,couple\njoin,a,b,c,,yes,none,front\n";
+    let rows = links(rt.alloc(), text)?;
+    assert_eq!(rt; rows.len(), 1);
+    for row in &rows {
+        assert!(rt; row.kind == KindWord::Join && row.reverse);
+        assert!(rt; row.uncouple == End::None && row.couple == End::Front);
+        assert!(rt; row.arriving2.is_some() && row.departing2.is_none());
+    }
+    Ok(())
+}
+
+#[test]
+fn weight_rows(rt: HostRuntime) -> Result<(), Fail> {
+    let row = weights(rt.alloc(), b"carriage,shortage,shunting\n1,2,60\n")?;
+    assert_eq!(rt; (row.carriage, row.shortage, row.shunting), (1, 2, 60));
+    let none = weights(rt.alloc(), b"carriage,shortage,shunting\n").err();
+    assert_eq!(rt; none, Some(TableRefusal::NoRow));
+    let two = weights(rt.alloc(), b"carriage,shortage,shunting\n1,1,60\n1,1,60\n").err();
+    assert_eq!(rt; two, Some(TableRefusal::TooManyRows));
+    Ok(())
+}
+
+#[test]
+fn unit_lists(rt: HostRuntime) -> Result<(), Fail> {
+    for row in &plan(rt.alloc(), b"trip,units\nT,0 12 1999\n")? {
+        assert_eq!(rt; row.units.items().len(), 3);
+    }
+    for row in &plan(rt.alloc(), b"trip,units\nT,\n")? {
+        assert!(rt; row.units.items().is_empty());
+    }
+    let out_of_range = Some(TableRefusal::OutOfRange { row: 1, column: 1 });
+    let bad_number = Some(TableRefusal::BadNumber { row: 1, column: 1 });
+    assert_eq!(rt;
+        plan(rt.alloc(), b"trip,units\nT,1 2 3 4 5 6 7\n").err(),
+        out_of_range
+    );
+    assert_eq!(rt;
+        plan(rt.alloc(), b"trip,units\nT,2000\n").err(),
+        out_of_range
+    );
+    assert_eq!(rt;
+        plan(rt.alloc(), b"trip,units\nT,1 2 3 4 5 6 7 x\n").err(),
+        bad_number
+    );
+    assert_eq!(rt; plan(rt.alloc(), b"trip,units\nT,1  2\n").err(), bad_number);
+    Ok(())
+}
+
+#[test]
+fn first_wrong_column(rt: HostRuntime) {
+    let late = b"trip,from,departure,to,arrival,km,demand\nT,X,7:05,Y,48:00,0,464\n";
+    let bad_time = TableRefusal::BadTime { row: 1, column: 4 };
+    assert_eq!(rt; trips(rt.alloc(), late).err(), Some(bad_time));
+    let no_km = b"trip,from,departure,to,arrival,km,demand\nT,X,7:05,Y,8:00,0,x\n";
+    let out_of_range = TableRefusal::OutOfRange { row: 1, column: 5 };
+    assert_eq!(rt; trips(rt.alloc(), no_km).err(), Some(out_of_range));
+    let word =
+        b"kind,arriving,arriving2,departing,departing2,reverse,uncouple,couple\nturn,a,,b,,no,front,rear\nTurn,a,,b,,no,front,rear\n";
+    let bad_word = TableRefusal::BadWord { row: 2, column: 0 };
+    assert_eq!(rt; links(rt.alloc(), word).err(), Some(bad_word));
+}
+
+#[test]
+fn first_wrong_row(rt: HostRuntime) {
+    let not_text = b"type,carriages,seats,metres,family\nA,x,200,80,\xFF\n";
+    assert_eq!(rt;
+        types(rt.alloc(), not_text).err(),
+        Some(TableRefusal::NotUtf8(1))
+    );
+    let short = b"type,carriages,seats,metres,family\nA,3,200,80,r\nB,\xFF\n";
+    let field_count = TableRefusal::FieldCount { row: 2, found: 2 };
+    assert_eq!(rt; types(rt.alloc(), short).err(), Some(field_count));
+    let long = b"type,carriages,seats,metres,family\nA,0000000003,200,80,r\n";
+    let bad_number = TableRefusal::BadNumber { row: 1, column: 1 };
+    assert_eq!(rt; types(rt.alloc(), long).err(), Some(bad_number));
+    let space = b"type,carriages,seats,metres,family\n A,3,200,80,r\n";
+    let bad_name = TableRefusal::BadName { row: 1, column: 0 };
+    assert_eq!(rt; types(rt.alloc(), space).err(), Some(bad_name));
+    assert_eq!(rt;
+        types(rt.alloc(), b"").err(),
+        Some(TableRefusal::WrongHeader)
+    );
+}
