@@ -8,7 +8,7 @@ use Rattle.timetable.proofs.building.named.Named.find.Goals as goal
 pub returns-clause-value : goal.returns-clause-value
 returns-clause-value g c =
     c.get_index_of.ensures.index ∙ find_among string_bytes g.T.HasName.name_of c.self.inside.names.keys c.self.inside.entries.items c.as_str.result.now c.self.invariant
-    ∙ (λ i. find_name g.T.HasName.name_of (c.self.view_is i) (c.as_str.ensures i))
+    ∙ (λ i. find_name g.T.HasName.name_of (c.self.view_is i) (c.as_str.ensures.value i))
 
 pub returns-clause-within : goal.returns-clause-within
 returns-clause-within g c =

@@ -8,4 +8,4 @@ use Rattle.timetable.proofs.building.named.Named.has.Goals as goal
 pub returns : goal.returns
 returns g c =
     c.contains.ensures ∙ has_among string_bytes g.T.HasName.name_of c.self.inside.names.keys c.self.inside.entries.items c.as_str.result.now c.self.invariant
-    ∙ (λ i. has_name g.T.HasName.name_of (c.self.view_is i) (c.as_str.ensures i))
+    ∙ (λ i. has_name g.T.HasName.name_of (c.self.view_is i) (c.as_str.ensures.value i))
