@@ -1,4 +1,6 @@
+pub mod Units
 pub mod Picking
+pub mod Leading
 pub mod Sums
 pub use Rattle.timetable.specs.Day
 pub use Rattle.timetable.specs.Cost

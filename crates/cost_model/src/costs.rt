@@ -1,17 +1,17 @@
-//! The cost of picks, whole and in its three parts.
+//! What a day costs, whole and in its three parts: with picks, and with a plan.
 
-ghost use Rattle.std.specs.Prelude.{◌≡◌, ◌<◌, ◌≤◌, ◌+ℤ◌, ◌==◌, IsTrue, length, not, pos};
-ghost use Rattle.compositions.specs.Composition.{are_types, carriages_of, seats_of};
-ghost use Rattle.timetable.specs.Cost.{kind_cost, link_cost, cost_of};
-ghost use Rattle.timetable.specs.Day.{km_of, demand_of};
-ghost use Rattle.timetable.specs.LinkRows.{NamesBelow};
-ghost use Rattle.timetable.specs.Links.{list_of};
+ghost use Rattle.std.specs.Prelude.{◌≡◌, ◌<◌, ◌≤◌, ◌*◌, ◌+ℤ◌, length, pos};
+ghost use Rattle.timetable.specs.Cost.{link_cost, cost_of, plan_cost};
+ghost use Rattle.timetable.specs.Running.{IsPlan};
 ghost use Rattle.cost_model.specs.Picking.{ArePicks, picked};
-ghost use Rattle.cost_model.specs.Sums.{carriages_on, missing_on, carriage_of, shortage_of, shunting_of};
+ghost use Rattle.cost_model.specs.Sums.{carriage_of, shortage_of, shunting_of};
 
-use compositions::Composition;
+use crate::links::{MOST_LINK_COST, link_cost};
+use crate::lists::TypeLists;
+use crate::trips::{MOST_CARRIAGE_COST, MOST_SHORTAGE_COST, carriage_cost, shortage_cost};
+use rail_base::limits::{MOST_LINKS, MOST_TRIPS};
 use rail_base::{LinkNo, Money, TripNo};
-use timetable::{Instance, LinkKind, Picks};
+use timetable::{Instance, NamedPlan, Picks};
 
 /// The three parts that add up to the cost of picks. None is negative.
 #[derive(Clone, Copy, Debug, PartialEq, Eq)]
@@ -30,11 +30,7 @@ pub fn cost(instance: &Instance, picks: &Picks) -> Money
     requires { ArePicks instance.now picks.now }
     ensures { result.0 ≡ pos (cost_of instance.now (picked instance.now picks.now)) }
 {
-    Money(i128::from(
-        carriage_cost(instance, picks)
-            + shortage_cost(instance, picks)
-            + shunting_cost(instance, picks),
-    ))
+    whole_cost(instance, picks)
 }
 
 /// The parts of the cost of picks. There is one for each trip, and each is the number of a composition of the catalogue;
@@ -47,147 +43,94 @@ pub fn parts(instance: &Instance, picks: &Picks) -> CostParts
     ensures whole { result.carriage.0 +ℤ result.shortage.0 +ℤ result.shunting.0 ≡ pos (cost_of instance.now (picked instance.now picks.now)) }
 {
     CostParts {
-        carriage: Money(i128::from(carriage_cost(instance, picks))),
-        shortage: Money(i128::from(shortage_cost(instance, picks))),
-        shunting: Money(i128::from(shunting_cost(instance, picks))),
+        carriage: money(carriages_cost(instance, picks)),
+        shortage: money(shortages_cost(instance, picks)),
+        shunting: money(links_cost(instance, picks)),
     }
 }
 
-/// The composition that is picked for a trip.
-fn composition_on<'a>(instance: &'a Instance, picks: &Picks, trip: TripNo) -> &'a Composition
-    requires picks { ArePicks instance.now picks.now }
-    requires trip { trip < length instance.now.trips }
-    ensures value { result.now ≡ list_of (picked instance.now picks.now) trip }
-    ensures known { IsTrue (are_types instance.now.types result.now) }
+/// The cost of a plan of the day, whether it runs or not. It takes no memory.
+pub fn plan_cost(instance: &Instance, plan: &NamedPlan) -> Money
+    requires { IsPlan instance.now plan.now }
+    ensures { result.0 ≡ pos (plan_cost instance.now plan.now) }
 {
-    instance.catalogue().get(picks.get(trip))
+    whole_cost(instance, plan)
 }
 
-/// The carriages of a composition.
-fn carriages_of(instance: &Instance, composition: &Composition) -> u32
-    requires { IsTrue (are_types instance.now.types composition.now) }
-    ensures value { result ≡ carriages_of instance.now.types composition.now }
-    ensures few { result ≤ 120 }
+/// The cost of a day with these lists of types.
+fn whole_cost<L: TypeLists>(instance: &Instance, lists: &L) -> Money
+    requires { L.are_of lists.now instance.now }
+    ensures { result.0 ≡ pos (cost_of instance.now (L.lists lists.now instance.now)) }
 {
-    let _known = instance.trips();
-    let _few = composition.len();
-    composition.carriages(instance.types())
-}
-
-/// What the carriages of a trip cost.
-#[tactic(auto, unfolding(timetable::specs::Day::km_of))]
-fn carriages_on(instance: &Instance, picks: &Picks, trip: TripNo) -> u64
-    requires picks { ArePicks instance.now picks.now }
-    requires trip { trip < length instance.now.trips }
-    ensures cost { result ≡ carriages_on instance.now trip (list_of (picked instance.now picks.now) trip) }
-    ensures range { result ≤ 1200000000 }
-{
-    let _known = instance.trips();
-    let carriages = carriages_of(instance, composition_on(instance, picks, trip));
-    let weight = instance.weights().carriage;
-    u64::from(weight) * u64::from(carriages) * u64::from(instance.trip(trip).km)
-}
-
-/// What the missing seats of a trip cost.
-#[tactic(auto, unfolding(timetable::specs::Day::km_of, timetable::specs::Day::demand_of))]
-fn missing_on(instance: &Instance, picks: &Picks, trip: TripNo) -> u64
-    requires picks { ArePicks instance.now picks.now }
-    requires trip { trip < length instance.now.trips }
-    ensures cost { result ≡ missing_on instance.now trip (list_of (picked instance.now picks.now) trip) }
-    ensures range { result ≤ 100000000000 }
-{
-    let _known = instance.trips();
-    let seats = composition_on(instance, picks, trip).seats(instance.types());
-    let weight = instance.weights().shortage;
-    let trip = instance.trip(trip);
-    u64::from(weight) * u64::from(trip.demand.saturating_sub(seats)) * u64::from(trip.km)
+    money(
+        carriages_cost(instance, lists)
+            + shortages_cost(instance, lists)
+            + links_cost(instance, lists),
+    )
 }
 
 /// What the carriages of all trips cost.
 #[tactic(auto, unfolding(crate::specs::Sums::carriage_of))]
-fn carriage_cost(instance: &Instance, picks: &Picks) -> u64
-    requires { ArePicks instance.now picks.now }
-    ensures cost { result ≡ carriage_of instance.now (picked instance.now picks.now) }
-    ensures range { result ≤ 480000000000 }
+fn carriages_cost<L: TypeLists>(instance: &Instance, lists: &L) -> u64
+    requires { L.are_of lists.now instance.now }
+    ensures cost { result ≡ carriage_of instance.now (L.lists lists.now instance.now) }
+    ensures range { result ≤ MOST_CARRIAGE_COST * MOST_TRIPS }
 {
     let mut cost = 0;
     for number in 0..instance.trips() {
-        cost += carriages_on(instance, picks, TripNo(number));
+        let trip = TripNo(number);
+        let types = lists.types_on(instance, trip);
+        cost += carriage_cost(instance, trip, types.as_slice());
     }
     cost
 }
 
 /// What the missing seats of all trips cost.
 #[tactic(auto, unfolding(crate::specs::Sums::shortage_of))]
-fn shortage_cost(instance: &Instance, picks: &Picks) -> u64
-    requires { ArePicks instance.now picks.now }
-    ensures cost { result ≡ shortage_of instance.now (picked instance.now picks.now) }
-    ensures range { result ≤ 40000000000000 }
+fn shortages_cost<L: TypeLists>(instance: &Instance, lists: &L) -> u64
+    requires { L.are_of lists.now instance.now }
+    ensures cost { result ≡ shortage_of instance.now (L.lists lists.now instance.now) }
+    ensures range { result ≤ MOST_SHORTAGE_COST * MOST_TRIPS }
 {
     let mut cost = 0;
     for number in 0..instance.trips() {
-        cost += missing_on(instance, picks, TripNo(number));
+        let trip = TripNo(number);
+        let types = lists.types_on(instance, trip);
+        cost += shortage_cost(instance, trip, types.as_slice());
     }
     cost
-}
-
-/// Whether the trains of a turn differ in length, so that units are coupled or uncoupled.
-fn is_shunted(instance: &Instance, picks: &Picks, arriving: TripNo, departing: TripNo) -> bool
-    requires picks { ArePicks instance.now picks.now }
-    requires arriving { arriving < length instance.now.trips }
-    requires departing { departing < length instance.now.trips }
-    ensures { result ≡ not (length (list_of (picked instance.now picks.now) arriving) == length (list_of (picked instance.now picks.now) departing)) }
-{
-    composition_on(instance, picks, arriving).len()
-        != composition_on(instance, picks, departing).len()
-}
-
-/// What a link of this kind costs: a turn that couples or uncouples units costs the weight of shunting once.
-fn kind_cost(instance: &Instance, picks: &Picks, kind: LinkKind) -> u64
-    requires picks { ArePicks instance.now picks.now }
-    requires names { NamesBelow (length instance.now.trips) kind }
-    ensures cost { result ≡ kind_cost instance.now kind (picked instance.now picks.now) }
-    ensures range { result ≤ 10000 }
-{
-    let _known = instance.trips();
-    match kind {
-        LinkKind::Turn {
-            arriving,
-            departing,
-            ..
-        } => {
-            if is_shunted(instance, picks, arriving, departing) {
-                u64::from(instance.weights().shunting)
-            } else {
-                0
-            }
-        }
-        LinkKind::Join { .. } | LinkKind::Split { .. } => 0,
-    }
-}
-
-/// What a link costs.
-#[tactic(auto, unfolding(timetable::specs::Cost::link_cost))]
-fn link_cost(instance: &Instance, picks: &Picks, link: LinkNo) -> u64
-    requires picks { ArePicks instance.now picks.now }
-    requires link { link < length instance.now.links }
-    ensures cost { result ≡ link_cost instance.now link (picked instance.now picks.now) }
-    ensures range { result ≤ 10000 }
-{
-    let _known = instance.links();
-    kind_cost(instance, picks, instance.link(link).kind)
 }
 
 /// What all links cost.
 #[tactic(auto, unfolding(crate::specs::Sums::shunting_of))]
-fn shunting_cost(instance: &Instance, picks: &Picks) -> u64
-    requires { ArePicks instance.now picks.now }
-    ensures cost { result ≡ shunting_of instance.now (picked instance.now picks.now) }
-    ensures range { result ≤ 4000000 }
+fn links_cost<L: TypeLists>(instance: &Instance, lists: &L) -> u64
+    requires { L.are_of lists.now instance.now }
+    ensures cost { result ≡ shunting_of instance.now (L.lists lists.now instance.now) }
+    ensures range { result ≤ MOST_LINK_COST * MOST_LINKS }
 {
     let mut cost = 0;
     for number in 0..instance.links() {
-        cost += link_cost(instance, picks, LinkNo(number));
+        cost += cost_of_link(instance, lists, LinkNo(number));
     }
     cost
+}
+
+/// What a link costs.
+fn cost_of_link<L: TypeLists>(instance: &Instance, lists: &L, link: LinkNo) -> u64
+    requires lists { L.are_of lists.now instance.now }
+    requires link { link < length instance.now.links }
+    ensures cost { result ≡ link_cost instance.now link (L.lists lists.now instance.now) }
+    ensures range { result ≤ MOST_LINK_COST }
+{
+    let kind = &instance.link(link).kind;
+    let arriving = lists.types_on(instance, kind.leads_from());
+    let departing = lists.types_on(instance, kind.leads_to());
+    link_cost(instance, link, arriving.as_slice(), departing.as_slice())
+}
+
+/// A cost as an amount of money.
+fn money(cost: u64) -> Money
+    ensures { result.0 ≡ pos cost }
+{
+    Money(i128::from(cost))
 }

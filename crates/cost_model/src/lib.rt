@@ -1,10 +1,14 @@
-//! What picks cost: one composition for each trip of a day.
+//! What a day costs: a trip with its train, a link, and a whole day of picks or of a plan.
 #![tactic(auto)]
 
 pub mod costs;
 pub mod laws;
+pub mod links;
+mod lists;
+pub mod trips;
+pub mod units;
 
-pub use costs::{CostParts, cost, parts};
-
-#[cfg(test)]
-mod tests;
+pub use costs::{CostParts, cost, parts, plan_cost};
+pub use links::link_cost;
+pub use trips::trip_cost;
+pub use units::types_of;

@@ -1,4 +1,3 @@
-pub mod Costs
 pub mod Counting
 pub mod Differing
 pub mod End
@@ -26,7 +25,6 @@ pub mod Starts
 pub mod Stepping
 pub mod Tested
 pub mod Theorem
-pub mod Units
 pub mod Whole
 pub mod InTurn
 pub mod Simulating

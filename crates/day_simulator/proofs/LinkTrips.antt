@@ -10,7 +10,7 @@ use Rattle.timetable.specs.Day.{Day, unit_count}
 use Rattle.timetable.specs.Lists.{count_of, has}
 use Rattle.timetable.specs.Links.{list_of, incoming, outgoing, link_into, link_out, arriving_in, departing_in, turned, given_by, taken_by, given, taken}
 use Rattle.timetable.specs.Running.{IsPlan}
-use Rattle.day_simulator.specs.Trips.{AreUnits}
+use Rattle.cost_model.specs.Units.{AreUnits}
 use Rattle.timetable.proofs.NamedTrips.{position_some}
 use Rattle.day_simulator.proofs.Shares.{turn_shares, count_of-turned}
 

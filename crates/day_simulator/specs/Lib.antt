@@ -1,5 +1,4 @@
 pub mod State
-pub mod Trips
 pub mod Steps
 pub mod Finish
 pub mod Progressing

@@ -57,6 +57,11 @@ is_in_yard station (Yard s ready) = s == station
 is_in_yard station (Aboard t) = false
 is_in_yard station (Standing t) = false
 
+-- the trip of an event
+abbrev pub trip_of : DayEvent → ℕ
+trip_of (Depart t) = t
+trip_of (Arrive t) = t
+
 -- when an event comes: in each minute arrivals come before departures
 unfoldable pub moment_of : Day → DayEvent → ℕ
 moment_of day (Depart t) = 2 * leaves day t + 1

@@ -4,7 +4,7 @@ ghost use Rattle.std.specs.Prelude.{◌≡◌, ◌<◌, length, map, slice_get, 
 ghost use Rattle.timetable.specs.Day.{units_of, unit_count};
 ghost use Rattle.timetable.specs.Running.{IsPlan};
 ghost use Rattle.day_simulator.specs.State.{start_of, is_waiting, is_under_way};
-ghost use Rattle.day_simulator.specs.Trips.{trip_of};
+ghost use Rattle.day_simulator.specs.State.{trip_of};
 ghost use Rattle.day_simulator.specs.Steps.{fault_of, is_now, fixed_order};
 ghost use Rattle.day_simulator.specs.Progressing.{MakesStep, Finishes};
 ghost use Rattle.day_simulator.specs.Finish.{first_not_made, first_differing};
@@ -14,12 +14,12 @@ ghost use Rattle.day_simulator.specs.declared.events.Place.TheVariants.{Yard};
 ghost use Rattle.day_simulator.specs.declared.events.Stage.TheVariants as stage;
 
 use crate::balance::{first_differing, first_not_made};
-use crate::cost::plan_cost;
 use crate::events::{DayEvent, Place, Stage, StepFault};
 use crate::links::{broken_into, broken_out, given, have_feeders_arrived, taken};
 use crate::sequence::{fixed_order, moment_of};
 use crate::trips::{arrival, goal, is_admissible, reallocation};
 use crate::yards::{first_missing, put_all};
+use cost_model::plan_cost;
 use rail_base::{Money, NoMemory, TripNo, UnitNo};
 use std::alloc::Global;
 use std::marker::Model;
@@ -103,8 +103,7 @@ impl<'a> Day<'a> {
         if let Some(fault) = self.first_imbalance() {
             return Err(fault);
         }
-        let cost = plan_cost(self.instance, self.plan);
-        Ok(Money(i128::from(cost)))
+        Ok(plan_cost(self.instance, self.plan))
     }
 
     /// The first event of the day that was not made.

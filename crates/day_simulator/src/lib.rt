@@ -2,7 +2,6 @@
 #![tactic(auto)]
 
 mod balance;
-mod cost;
 pub mod day;
 pub mod events;
 mod hand_over;
@@ -16,6 +15,3 @@ mod yards;
 pub use day::Day;
 pub use events::{DayEvent, Place, Stage, StepFault};
 pub use whole_day::{Ran, SimulateRefusal, simulate};
-
-#[cfg(test)]
-mod tests;

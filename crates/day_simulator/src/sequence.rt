@@ -4,7 +4,7 @@ ghost use Rattle.std.specs.Prelude.{◌≡◌, ◌<◌, length, IfOk};
 ghost use Rattle.day_simulator.specs.State.{moment_of};
 ghost use Rattle.day_simulator.specs.Steps.{fixed_order, events_by_trip};
 ghost use Rattle.std.specs.List.{All};
-ghost use Rattle.day_simulator.specs.Trips.{trip_of};
+ghost use Rattle.day_simulator.specs.State.{trip_of};
 ghost use Rattle.timetable.specs.Lists.{below};
 
 use crate::events::DayEvent;

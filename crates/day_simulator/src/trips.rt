@@ -1,14 +1,13 @@
 //! What a trip asks of its units: where and when it runs, and which compositions may run on it.
 
-ghost use Rattle.std.specs.Prelude.{◌≡◌, ◌<◌, ◌≤◌, ◌↔◌, length, IsNone, IfSome, IsTrue};
+ghost use Rattle.std.specs.Prelude.{◌≡◌, ◌<◌, ◌≤◌, length};
 ghost use Rattle.timetable.specs.Day.{leaves, arrives, from_of, to_of, reallocation_of, types_of};
 ghost use Rattle.timetable.specs.Admissible.{is_admissible, longest_of};
-ghost use Rattle.compositions.specs.Composition.{are_types};
-ghost use Rattle.day_simulator.specs.Trips.{AreUnits};
+ghost use Rattle.cost_model.specs.Units.{AreUnits};
 
-use arrayvec::ArrayVec;
 use compositions::Composition;
-use rail_base::{StationNo, TripNo, TypeNo, UnitNo};
+use cost_model::types_of;
+use rail_base::{StationNo, TripNo, UnitNo};
 use timetable::Instance;
 
 /// The minute at which a trip leaves; 0 where there is no such trip.
@@ -68,32 +67,6 @@ pub(crate) fn reallocation(instance: &Instance, station: StationNo) -> u32
     instance.station(station).reallocation
 }
 
-/// The types of units, front to rear.
-fn types_of(instance: &Instance, units: &[UnitNo]) -> ArrayVec<TypeNo, 6>
-    requires known { AreUnits instance.now units.now }
-    requires few { length units.now ≤ 6 }
-    ensures { result.items ≡ types_of instance.now units.now }
-{
-    let mut types = ArrayVec::new();
-    for unit in units {
-        types.push(instance.unit(*unit).unit_type);
-    }
-    types
-}
-
-/// The composition of units, or nothing where there are none.
-pub(crate) fn composition_of(instance: &Instance, units: &[UnitNo]) -> Option<Composition>
-    requires known { AreUnits instance.now units.now }
-    requires few { length units.now ≤ 6 }
-    ensures none { IsNone result ↔ (length units.now ≡ 0) }
-    ensures some { IfSome result (λ composition. composition ≡ types_of instance.now units.now) }
-    ensures known { IsTrue (are_types instance.now.types (types_of instance.now units.now)) }
-{
-    let _known = instance.trips();
-    let types = types_of(instance, units);
-    Composition::of(types.as_slice())
-}
-
 /// The metres that fit both platforms of a trip.
 #[tactic(auto, unfolding(timetable::specs::Day::platform_of))]
 fn longest(instance: &Instance, trip: TripNo) -> u32
@@ -113,7 +86,8 @@ pub(crate) fn is_admissible(instance: &Instance, trip: TripNo, units: &[UnitNo])
     requires few { length units.now ≤ 6 }
     ensures { result ≡ is_admissible instance.now trip (types_of instance.now units.now) }
 {
-    match composition_of(instance, units) {
+    let types = types_of(instance, units);
+    match Composition::of(types.as_slice()) {
         Some(composition) => composition.fits(instance.types(), longest(instance, trip)),
         None => false,
     }

@@ -4,7 +4,7 @@ use Rattle.timetable.specs.Lists.{below}
 use Rattle.day_simulator.proofs.FixedOrder.{sort_by_moment_is}
 use Rattle.std.proofs.Common.{subst, length, ◌<◌}
 use Rattle.std.specs.List.{All}
-use Rattle.day_simulator.specs.Trips.{trip_of}
+use Rattle.day_simulator.specs.State.{trip_of}
 use Rattle.day_simulator.specs.declared.events.DayEvent.{DayEvent}
 use Rattle.day_simulator.proofs.Simulating.{known_order}
 use Rattle.day_simulator.proofs.sequence.fixed_order.Goals as goal

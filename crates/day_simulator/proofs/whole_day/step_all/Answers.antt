@@ -1,7 +1,7 @@
 use Rattle.std.proofs.Common.{◌<◌, length, subst, sym}
 use Rattle.timetable.specs.Day.{Day}
 use Rattle.day_simulator.specs.declared.events.DayEvent.{DayEvent}
-use Rattle.day_simulator.specs.Trips.{trip_of}
+use Rattle.day_simulator.specs.State.{trip_of}
 use Rattle.day_simulator.proofs.whole_day.step_all.Goals as goal
 
 pub step-requires : goal.step-requires

@@ -10,7 +10,7 @@ use Rattle.day_simulator.specs.declared.events.StepFault.TheVariants.{NoUnits, N
 use Rattle.day_simulator.specs.Progressing.{Progress}
 use Rattle.day_simulator.specs.Progress.{progress_in}
 use Rattle.day_simulator.specs.Steps.{is_now, fault_of, first_missing}
-use Rattle.day_simulator.specs.Trips.{AreUnits}
+use Rattle.cost_model.specs.Units.{AreUnits}
 use Rattle.day_simulator.proofs.Faults.{not_now, departure_without_units, departure_with_units, departure_not_admissible, departure_admissible, departure_broken, departure_from_yard}
 use Rattle.day_simulator.proofs.LinkTrips.{taken_known}
 use Rattle.day_simulator.proofs.day.Day.departure_fault.Goals as goal

@@ -1,6 +1,4 @@
-use Rattle.std.proofs.Common.{sym, ◌∙◌, pos, ap, rules}
-use Rattle.std.specs.Int.{w128}
-use Rattle.std.proofs.lemmas.Int.{to_z-of_z}
+use Rattle.std.proofs.Common.{sym, ◌∙◌, pos, ap}
 use Rattle.day_simulator.proofs.Ending.{ends_missing, ends_differing, ends_well}
 use Rattle.day_simulator.specs.Progressing.{Progress}
 use Rattle.timetable.specs.Cost.{plan_cost}
@@ -15,4 +13,4 @@ returns-in-Some-first_imbalance c =
 
 pub returns : goal.returns
 returns c = ends_well c.args.self.now _ (sym c.in_default.is ∙ c.first_missing_event.ensures) (sym c.in_default-first_imbalance.is ∙ c.first_imbalance.ensures)
-    (to_z-of_z w128 c.from.result (search rules) ∙ c.from.ensures ∙ ap pos (c.plan_cost-cost.ensures ∙ ap (λ (q : Progress). plan_cost q.day q.plan) c.self.view_is))
+    (c.plan_cost.ensures ∙ ap (λ (q : Progress). pos (plan_cost q.day q.plan)) c.self.view_is)

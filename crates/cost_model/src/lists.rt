@@ -1,0 +1,73 @@
+//! The types of the units on each trip of a day: of picks, and of a plan.
+
+ghost use Rattle.std.specs.Prelude.{◌≡◌, ◌<◌, ◌≤◌, ℕ, List, length, map, IsTrue};
+ghost use Rattle.compositions.specs.Composition.{are_types};
+ghost use Rattle.timetable.specs.Day.{Day, types_of};
+ghost use Rattle.timetable.specs.Links.{list_of};
+ghost use Rattle.timetable.specs.Running.{IsPlan};
+ghost use Rattle.cost_model.specs.Picking.{ArePicks, picked};
+
+use crate::units::types_of;
+use arrayvec::ArrayVec;
+use compositions::Composition;
+use rail_base::limits::MOST_COMPOSITION;
+use rail_base::{TripNo, TypeNo};
+use timetable::{Instance, NamedPlan, Picks};
+
+/// What gives each trip of a day a list of types, front to rear.
+pub(crate) trait TypeLists {
+    /// Whether it is of this day.
+    ghost are_of: { Self → Day → Type 0 };
+
+    /// The lists, one a trip.
+    ghost lists: { Self → Day → List (List ℕ) };
+
+    /// The types on a trip: at most six, and all of the day.
+    fn types_on(&self, instance: &Instance, trip: TripNo) -> ArrayVec<TypeNo, MOST_COMPOSITION>
+        requires of_day { are_of self.now instance.now }
+        requires trip { trip < length instance.now.trips }
+        ensures types { result.items ≡ list_of (lists self.now instance.now) trip }
+        ensures known { IsTrue (are_types instance.now.types result.items) };
+}
+
+impl TypeLists for Picks {
+    ghost are_of = { λ picks day. ArePicks day picks };
+
+    ghost lists = { λ picks day. picked day picks };
+
+    fn types_on(&self, instance: &Instance, trip: TripNo) -> ArrayVec<TypeNo, MOST_COMPOSITION> {
+        copy_of(composition_on(instance, self, trip).units())
+    }
+}
+
+impl TypeLists for NamedPlan {
+    ghost are_of = { λ plan day. IsPlan day plan };
+
+    ghost lists = { λ plan day. map (types_of day) plan };
+
+    fn types_on(&self, instance: &Instance, trip: TripNo) -> ArrayVec<TypeNo, MOST_COMPOSITION> {
+        types_of(instance, self.units(trip))
+    }
+}
+
+/// The composition that is picked for a trip.
+fn composition_on<'a>(instance: &'a Instance, picks: &Picks, trip: TripNo) -> &'a Composition
+    requires picks { ArePicks instance.now picks.now }
+    requires trip { trip < length instance.now.trips }
+    ensures value { result.now ≡ list_of (picked instance.now picks.now) trip }
+    ensures known { IsTrue (are_types instance.now.types result.now) }
+{
+    instance.catalogue().get(picks.get(trip))
+}
+
+/// The same types in the same order.
+fn copy_of(types: &[TypeNo]) -> ArrayVec<TypeNo, MOST_COMPOSITION>
+    requires { length types.now ≤ MOST_COMPOSITION }
+    ensures { result.items ≡ types.now }
+{
+    let mut copy = ArrayVec::new();
+    for unit_type in types {
+        copy.push(*unit_type);
+    }
+    copy
+}

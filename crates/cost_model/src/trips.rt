@@ -1,0 +1,87 @@
+//! What a trip costs with units of these types: its carriages and its missing seats, for its kilometres.
+
+ghost use Rattle.std.specs.Prelude.{◌≡◌, ◌<◌, ◌≤◌, length, IsTrue};
+ghost use Rattle.compositions.specs.Composition.{are_types, carriages_of, seats_of};
+ghost use Rattle.timetable.specs.Cost.{trip_cost};
+ghost use Rattle.cost_model.specs.Sums.{carriages_on, missing_on};
+
+use compositions::Composition;
+use rail_base::limits::MOST_COMPOSITION;
+use rail_base::{TripNo, TypeNo};
+use timetable::Instance;
+
+/// The most that the carriages of a trip cost: the most weight, for the most carriages of the most units, for the most
+/// kilometres.
+pub const MOST_CARRIAGE_COST: u64 = 10_000 * 20 * MOST_COMPOSITION as u64 * 1_000;
+/// The most that the missing seats of a trip cost: the most weight, for the most demand, for the most kilometres.
+pub const MOST_SHORTAGE_COST: u64 = 10_000 * 10_000 * 1_000;
+/// The most that a trip costs.
+pub const MOST_TRIP_COST: u64 = MOST_CARRIAGE_COST + MOST_SHORTAGE_COST;
+
+/// What a trip costs with units of these types: the weight of a carriage for each of its carriages and kilometres, and the
+/// weight of a missing seat for each seat that is wanted beyond its seats, and each kilometre. The trip is below `trips`;
+/// the types, at most six, are of the day, and need not fit the platforms. It takes no memory.
+#[tactic(auto, unfolding(timetable::specs::Cost::trip_cost))]
+pub fn trip_cost(instance: &Instance, trip: TripNo, types: &[TypeNo]) -> u64
+    requires trip { trip < length instance.now.trips }
+    requires few { length types.now ≤ MOST_COMPOSITION }
+    requires known { IsTrue (are_types instance.now.types types.now) }
+    ensures cost { result ≡ trip_cost instance.now trip types.now }
+    ensures range { result ≤ MOST_TRIP_COST }
+{
+    carriage_cost(instance, trip, types) + shortage_cost(instance, trip, types)
+}
+
+/// What the carriages of a trip cost.
+#[tactic(auto, unfolding(timetable::specs::Day::km_of))]
+pub(crate) fn carriage_cost(instance: &Instance, trip: TripNo, types: &[TypeNo]) -> u64
+    requires trip { trip < length instance.now.trips }
+    requires few { length types.now ≤ MOST_COMPOSITION }
+    requires known { IsTrue (are_types instance.now.types types.now) }
+    ensures cost { result ≡ carriages_on instance.now trip types.now }
+    ensures range { result ≤ MOST_CARRIAGE_COST }
+{
+    let carriages = carriages_of(instance, types);
+    let weight = instance.weights().carriage;
+    u64::from(weight) * u64::from(carriages) * u64::from(instance.trip(trip).km)
+}
+
+/// What the missing seats of a trip cost.
+#[tactic(auto, unfolding(timetable::specs::Day::km_of, timetable::specs::Day::demand_of))]
+pub(crate) fn shortage_cost(instance: &Instance, trip: TripNo, types: &[TypeNo]) -> u64
+    requires trip { trip < length instance.now.trips }
+    requires few { length types.now ≤ MOST_COMPOSITION }
+    requires known { IsTrue (are_types instance.now.types types.now) }
+    ensures cost { result ≡ missing_on instance.now trip types.now }
+    ensures range { result ≤ MOST_SHORTAGE_COST }
+{
+    let seats = seats_of(instance, types);
+    let weight = instance.weights().shortage;
+    let trip = instance.trip(trip);
+    u64::from(weight) * u64::from(trip.demand.saturating_sub(seats)) * u64::from(trip.km)
+}
+
+/// The carriages of units of these types.
+fn carriages_of(instance: &Instance, types: &[TypeNo]) -> u32
+    requires few { length types.now ≤ MOST_COMPOSITION }
+    requires known { IsTrue (are_types instance.now.types types.now) }
+    ensures value { result ≡ carriages_of instance.now.types types.now }
+    ensures few { result ≤ 120 }
+{
+    match Composition::of(types) {
+        Some(composition) => composition.carriages(instance.types()),
+        None => 0,
+    }
+}
+
+/// The seats of units of these types.
+fn seats_of(instance: &Instance, types: &[TypeNo]) -> u32
+    requires few { length types.now ≤ MOST_COMPOSITION }
+    requires known { IsTrue (are_types instance.now.types types.now) }
+    ensures value { result ≡ seats_of instance.now.types types.now }
+{
+    match Composition::of(types) {
+        Some(composition) => composition.seats(instance.types()),
+        None => 0,
+    }
+}
