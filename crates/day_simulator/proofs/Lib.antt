@@ -8,7 +8,6 @@ pub mod Timely
 pub mod Going
 pub mod Hands
 pub mod Lawful
-pub mod Joining
 pub mod Legs
 pub mod LinkKinds
 pub mod LinkTrips
@@ -19,7 +18,6 @@ pub mod Order
 pub mod Places
 pub mod PutPlaces
 pub mod Rising
-pub mod Shares
 pub mod Sorting
 pub mod Starts
 pub mod Stepping

@@ -7,7 +7,7 @@ use Rattle.timetable.specs.declared.day.records.LinkKind.{LinkKind}
 use Rattle.timetable.specs.declared.day.records.LinkKind.TheVariants.{Turn, Join, Split}
 use Rattle.timetable.specs.Links.{list_of, turned, turn_of, kind_holds, arriving_in, departing_in, kept_by, given_by, taken_by}
 use Rattle.day_simulator.proofs.Order.{one_same, one_other}
-use Rattle.day_simulator.proofs.Shares.{turn_shares, join_counts, split_counts, count_of-turned}
+use Rattle.timetable.proofs.Shares.{turn_shares, join_counts, split_counts, count_of-turned}
 
 same_alone : (x y : ℕ) → 1 ≤ count_of x (y ∷ []) → y ≡ x
 same_alone x y c = ⊎_elim (λ (e : y ≡ x). e) (λ (ne : y ≢ x). let o = one_other y x ne in absurd (omega arith)) (cases_eq y x)

@@ -12,7 +12,7 @@ use Rattle.timetable.specs.Links.{list_of, incoming, outgoing, link_into, link_o
 use Rattle.timetable.specs.Running.{IsPlan}
 use Rattle.cost_model.specs.Units.{AreUnits}
 use Rattle.timetable.proofs.NamedTrips.{position_some}
-use Rattle.day_simulator.proofs.Shares.{turn_shares, count_of-turned}
+use Rattle.timetable.proofs.Shares.{turn_shares, count_of-turned}
 
 -- the numbers that are found are of links
 pub incoming_within : (day : Day) (t l : ℕ) → incoming day t ≡ Some l → l < length day.links

@@ -15,7 +15,7 @@ ghost use Rattle.day_simulator.specs.declared.events.Stage.TheVariants as stage;
 
 use crate::balance::{first_differing, first_not_made};
 use crate::events::{DayEvent, Place, Stage, StepFault};
-use crate::links::{broken_into, broken_out, given, have_feeders_arrived, taken};
+use crate::links::{broken_into, broken_out, have_feeders_arrived};
 use crate::sequence::{fixed_order, moment_of};
 use crate::trips::{arrival, goal, is_admissible, reallocation};
 use crate::yards::{first_missing, put_all};
@@ -155,7 +155,7 @@ impl<'a> Day<'a> {
         if let Some(link) = broken_into(self.instance, self.plan, trip) {
             return Some(StepFault::LinkBroken(link));
         }
-        let taken = taken(self.instance, self.plan, trip);
+        let taken = self.plan.taken(self.instance, trip);
         match first_missing(
             self.instance,
             trip,
@@ -195,7 +195,7 @@ impl<'a> Day<'a> {
         let moment = moment_of(self.instance, DayEvent::Arrive(trip));
         let station = goal(self.instance, trip);
         let ready = arrival(self.instance, trip) + reallocation(self.instance, station);
-        let given = given(self.instance, self.plan, trip);
+        let given = self.plan.given(self.instance, trip);
         put_all(
             &mut self.places,
             self.plan.units(trip),

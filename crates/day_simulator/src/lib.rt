@@ -4,7 +4,6 @@
 mod balance;
 pub mod day;
 pub mod events;
-mod hand_over;
 pub mod laws;
 mod links;
 mod sequence;

@@ -41,7 +41,6 @@ pub(crate) fn origin(instance: &Instance, trip: TripNo) -> StationNo
     ensures station { result ≡ from_of instance.now trip }
     ensures known { result < length instance.now.stations }
 {
-    let _known = instance.trips();
     instance.trip(trip).from
 }
 
@@ -52,7 +51,6 @@ pub(crate) fn goal(instance: &Instance, trip: TripNo) -> StationNo
     ensures station { result ≡ to_of instance.now trip }
     ensures known { result < length instance.now.stations }
 {
-    let _known = instance.trips();
     instance.trip(trip).to
 }
 
@@ -63,7 +61,6 @@ pub(crate) fn reallocation(instance: &Instance, station: StationNo) -> u32
     ensures minutes { result ≡ reallocation_of instance.now station }
     ensures range { result ≤ 600 }
 {
-    let _known = instance.trips();
     instance.station(station).reallocation
 }
 

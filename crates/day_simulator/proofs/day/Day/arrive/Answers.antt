@@ -40,7 +40,7 @@ put_all-requires-2 c = λ u h.
     let p = progress_in c.self.inside in
     let t = c.args.trip in
     let us = c.units.result.now in
-    let listed = subst (λ (vs : List ℕ). IsTrue (has u vs)) (c.as_slice.ensures.value ∙ c.given-given.ensures.units) h in
+    let listed = subst (λ (vs : List ℕ). IsTrue (has u vs)) (c.as_slice.ensures.value ∙ c.given-given.ensures) h in
     let known = given_known p.day p.plan c.self.invariant.plan t u listed in
     let put = c.put_all.ensures ∙ ap (λ (ps : List Place). put_all ps us (Standing t)) c.deref_mut.ensures.value in
     let standing = c.deref_mut-2.ensures.value ∙ put_in c.self.inside.places us (Standing t) c.put_all.new.places put in
@@ -62,7 +62,7 @@ returns c =
     let put_again = c.put_all-2.ensures ∙ ap (λ (ps : List Place). put_all ps vs yard) c.deref_mut-2.ensures.value in
     let given_back = put_in (with_items c.self.inside.places c.put_all.new.places) vs yard c.put_all-2.new.places put_again ∙ ap (λ (ps : List Place). put_all ps vs yard) standing in
     let listed = ap (λ (ws : List ℕ). put_all (put_all p.state.places ws (Standing t)) vs yard) c.units.ensures.value in
-    let handed = ap (λ (ws : List ℕ). put_all (put_all p.state.places (list_of p.plan t) (Standing t)) ws yard) (c.as_slice.ensures.value ∙ c.given-given.ensures.units) in
+    let handed = ap (λ (ws : List ℕ). put_all (put_all p.state.places (list_of p.plan t) (Standing t)) ws yard) (c.as_slice.ensures.value ∙ c.given-given.ensures) in
     let ready : yard ≡ Yard (to_of p.day t) (arrives p.day t + reallocation_of p.day (to_of p.day t)) =
     rw (c.reallocation.ensures.minutes, c.arrival.ensures.minute, c.goal-station.ensures.station) refl in
     let placed = ap (λ (y : Place). put_all (put_all p.state.places (list_of p.plan t) (Standing t)) (given p.day p.plan t) y) ready in

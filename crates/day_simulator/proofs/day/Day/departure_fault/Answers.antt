@@ -58,7 +58,7 @@ returns-in-Some c =
 pub first_missing-requires-clause-known : goal.first_missing-requires-clause-known
 first_missing-requires-clause-known c =
     let p = progress_in c.self.inside in
-    subst (AreUnits p.day) (sym (c.as_slice-2.ensures.value ∙ c.taken-taken.ensures.units)) (taken_known p.day p.plan c.self.invariant.plan c.args.trip)
+    subst (AreUnits p.day) (sym (c.as_slice-2.ensures.value ∙ c.taken-taken.ensures)) (taken_known p.day p.plan c.self.invariant.plan c.args.trip)
 
 pub returns-in-Some-first_missing : goal.returns-in-Some-first_missing
 returns-in-Some-first_missing c =
@@ -74,7 +74,7 @@ returns-in-Some-first_missing c =
     let holds = departure_from_yard p.day p.plan p.state t admissible (sym c.broken_into.ensures ∙ c.in_default.is) in
     let same : c.first_missing.result ≡ first_missing p.day t p.state.places (taken p.day p.plan t) =
     c.first_missing.ensures ∙ ap (λ (ps : List Place). first_missing p.day t ps c.as_slice-2.result.now) c.as_slice.ensures.value
-    ∙ ap (first_missing p.day t p.state.places) (c.as_slice-2.ensures.value ∙ c.taken-taken.ensures.units) in
+    ∙ ap (first_missing p.day t p.state.places) (c.as_slice-2.ensures.value ∙ c.taken-taken.ensures) in
     subst (λ (q : Progress). Some (NotInYard c.in-Some-first_missing.unit t) ≡ fault_of q.day q.plan q.state (Depart t)) c.self.view_is
     (ap (option_map (λ u. NotInYard u t)) (sym c.in-Some-first_missing.is ∙ same) ∙ holds)
 
@@ -92,6 +92,6 @@ returns-in-None c =
     let holds = departure_from_yard p.day p.plan p.state t admissible (sym c.broken_into.ensures ∙ c.in_default.is) in
     let same : c.first_missing.result ≡ first_missing p.day t p.state.places (taken p.day p.plan t) =
     c.first_missing.ensures ∙ ap (λ (ps : List Place). first_missing p.day t ps c.as_slice-2.result.now) c.as_slice.ensures.value
-    ∙ ap (first_missing p.day t p.state.places) (c.as_slice-2.ensures.value ∙ c.taken-taken.ensures.units) in
+    ∙ ap (first_missing p.day t p.state.places) (c.as_slice-2.ensures.value ∙ c.taken-taken.ensures) in
     subst (λ (q : Progress). None ≡ fault_of q.day q.plan q.state (Depart t)) c.self.view_is
     (ap (option_map (λ u. NotInYard u t)) (sym c.in-None.is ∙ same) ∙ holds)
