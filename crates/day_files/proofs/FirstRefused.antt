@@ -1,0 +1,96 @@
+-- A file that is refused is the first one that is wrong.
+use Rattle.std.proofs.Common.{◌≡◌, ℕ, Bool, true, false, cond, ltb, List, length, Result, Ok, Err, refl, ap, subst, ◌∙◌}
+use Rattle.std.proofs.lemmas.Bool.{ltb-false, ltb-true}
+use Rattle.rail_base.specs.Answers.{◌>>=◌}
+use Rattle.rail_base.specs.declared.limits.TheConstants.{MOST_TABLE_BYTES}
+use Rattle.rail_io.specs.Folders.{Files}
+use Rattle.rail_csv.specs.declared.rows.PlanRow.{PlanRow}
+use Rattle.rail_csv.specs.declared.rows.Table.{Table}
+use Rattle.rail_csv.specs.declared.rows.Table.TheVariants as table
+use Rattle.rail_csv.specs.declared.refusal.TableRefusal.{TableRefusal}
+use Rattle.timetable.specs.declared.building.tables.Tables.{Tables}
+use Rattle.timetable.specs.declared.building.refusal.InstanceRefusal.{InstanceRefusal}
+use Rattle.timetable.specs.declared.building.refusal.PlanRefusal.{PlanRefusal}
+use Rattle.timetable.specs.Day.{Day}
+use Rattle.timetable.specs.Build.{day_of}
+use Rattle.timetable.specs.Plans.{plan_of}
+use Rattle.day_files.specs.declared.errors.Refusal.{Refusal}
+use Rattle.day_files.specs.declared.errors.Refusal.TheVariants.{TooLong, WrongTable, NoDay, NoPlan}
+use Rattle.day_files.specs.Tables.{RowsOf, reading, bytes_of, bytes_in, as_table, read_by, table_in}
+use Rattle.day_files.specs.Inputs.{as_day, as_plan, tables_in, day_in, inputs_in}
+use Rattle.day_files.specs.Order.{Reaches}
+use Rattle.day_files.specs.Acceptance.{IsFirstRefused}
+use Rattle.day_files.proofs.Accepted.{file_of, files_of}
+use Rattle.day_files.proofs.Reached.{went, reached, plan_reached}
+
+same_why : {A : Type 0} (d w : Refusal) → ◌≡◌ {A = Result A Refusal} (Err d) (Err w) → d ≡ w
+same_why d w e = cc
+
+-- a step that ends in a refusal: its own, or that of what follows it
+ends : {A B : Type 0} {read : Result A Refusal} {next : A → Result B Refusal} {why : Refusal} → (read >>= next) ≡ Err why → {Q : Type 0} → (read ≡ Err why → Q) → ((a : A) → read ≡ Ok a → next a ≡ Err why → Q) → Q
+ends {read = Ok a} e here later = later a refl e
+ends {read = Err d} e here later = here (ap (λ w. Err w) (same_why d _ e))
+
+-- ---- one file
+
+-- the file of a table that is reached is refused
+file_refused : (files : Files) (dir : List ℕ) (table : Table) (why : Refusal) → Reaches files dir table
+    → table_in files dir table ≡ Err why → IsFirstRefused files dir why
+unfolding read_by bytes_in
+file_refused files dir table why reached e =
+    ends e (λ long. by_length _ refl long) (λ bytes got refused.
+    let k = kept (ltb MOST_TABLE_BYTES (length (bytes_of files dir table))) bytes got in
+    by_table (reading table bytes) refl k.0 k.1 refused)
+  where
+    kept : (b : Bool) (bytes : List ℕ) → cond b (Err (TooLong table)) (Ok (bytes_of files dir table)) ≡ Ok bytes → (b ≡ false) × (bytes_of files dir table ≡ bytes)
+    kept true bytes e = absurd cc
+    kept false bytes e = (refl, cc)
+
+    by_length : (b : Bool) → ltb MOST_TABLE_BYTES (length (bytes_of files dir table)) ≡ b → ◌≡◌ {A = Result (List ℕ) Refusal} (cond b (Err (TooLong table)) (Ok (bytes_of files dir table))) (Err why) → IsFirstRefused files dir why
+    by_length true is e = subst (λ (w : Refusal). IsFirstRefused files dir w) (same_why (TooLong table) why e) (reached, ltb-true _ _ is)
+    by_length false is e = absurd cc
+
+    by_table : {bytes : List ℕ} (read : Result (RowsOf table) TableRefusal) → reading table bytes ≡ read → ltb MOST_TABLE_BYTES (length (bytes_of files dir table)) ≡ false → bytes_of files dir table ≡ bytes → as_table table read ≡ Err why → IsFirstRefused files dir why
+    by_table (Ok rows) is few bytes_are e = absurd cc
+    by_table (Err d) is few bytes_are e = subst (λ (w : Refusal). IsFirstRefused files dir w) (same_why (WrongTable table d) why e)
+        (reached, ltb-false _ _ few, ap (reading table) bytes_are ∙ is)
+
+-- ---- in order
+
+tables_refused : (files : Files) (dir : List ℕ) (why : Refusal) → tables_in files dir ≡ Err why → IsFirstRefused files dir why
+unfolding tables_in
+tables_refused files dir why e =
+    ends e (λ no. file_refused files dir table.Types why (reached files dir table.Types tt (λ e. cc)) no) (λ types types_read e1.
+    let r1 = went types_read in
+    ends e1 (λ no. file_refused files dir table.Stations why (reached files dir table.Stations (r1, tt) (λ e. cc)) no) (λ stations stations_read e2.
+    let r2 = went stations_read in
+    ends e2 (λ no. file_refused files dir table.Stock why (reached files dir table.Stock (r1, (r2, tt)) (λ e. cc)) no) (λ stock stock_read e3.
+    let r3 = went stock_read in
+    ends e3 (λ no. file_refused files dir table.Trips why (reached files dir table.Trips (r1, (r2, (r3, tt))) (λ e. cc)) no) (λ trips trips_read e4.
+    let r4 = went trips_read in
+    ends e4 (λ no. file_refused files dir table.Links why (reached files dir table.Links (r1, (r2, (r3, (r4, tt)))) (λ e. cc)) no) (λ links links_read e5.
+    let r5 = went links_read in
+    ends e5 (λ no. file_refused files dir table.Weights why (reached files dir table.Weights (r1, (r2, (r3, (r4, (r5, tt))))) (λ e. cc)) no) (λ weights weights_read e6.
+    absurd cc))))))
+
+day_refused : (files : Files) (dir : List ℕ) (why : Refusal) → day_in files dir ≡ Err why → IsFirstRefused files dir why
+unfolding day_in
+day_refused files dir why e =
+    ends e (tables_refused files dir why) (λ tables tables_read no. no_day tables tables_read (day_of tables) refl no)
+  where
+    no_day : (tables : Tables) → tables_in files dir ≡ Ok tables → (made : Result Day InstanceRefusal) → day_of tables ≡ made → as_day made ≡ Err why → IsFirstRefused files dir why
+    no_day tables tables_read (Ok day) is e = absurd cc
+    no_day tables tables_read (Err d) is e = subst (λ (w : Refusal). IsFirstRefused files dir w) (same_why (NoDay d) why e) (tables, files_of files dir tables tables_read, is)
+
+pub refused_if : (files : Files) (dir : List ℕ) (why : Refusal) → inputs_in files dir ≡ Err why → IsFirstRefused files dir why
+unfolding inputs_in
+refused_if files dir why e =
+    ends e (day_refused files dir why) (λ day made e1.
+    ends e1 (λ no. file_refused files dir table.Plan why (plan_reached files dir day made) no) (λ rows rows_read e2.
+    ends e2 (λ no. no_plan day made rows rows_read (plan_of day rows) refl no) (λ plan planned e3. absurd cc)))
+  where
+    no_plan : (day : Day) → day_in files dir ≡ Ok day → (rows : List PlanRow) → table_in files dir table.Plan ≡ Ok rows → (made : Result (List (List ℕ)) PlanRefusal) → plan_of day rows ≡ made
+        → as_plan made ≡ Err why → IsFirstRefused files dir why
+    no_plan day made rows rows_read (Ok plan) is e = absurd cc
+    no_plan day made rows rows_read (Err d) is e = subst (λ (w : Refusal). IsFirstRefused files dir w) (same_why (NoPlan d) why e)
+        (day, made, rows, file_of files dir table.Plan rows rows_read, is)

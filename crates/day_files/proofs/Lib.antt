@@ -1,0 +1,5 @@
+pub mod Refusing
+pub mod Accepted
+pub mod Reached
+pub mod FirstRefused
+pub mod RefusedFirst

@@ -1,0 +1,11 @@
+use Rattle.std.proofs.Common.{◌∙◌, rules}
+use Rattle.day_files.specs.Order.{Reaches}
+use Rattle.day_files.specs.Answers.{Reads}
+use Rattle.day_files.specs.Inputs.{inputs_in}
+use Rattle.day_files.proofs.Reached.{plan_ended}
+use Rattle.day_files.proofs.inputs.inputs_in.Goals as goal
+
+pub returns-in_err-rows-clause-told : goal.returns-in_err-rows-clause-told
+returns-in_err-rows-clause-told g c = λ files held.
+    let ended = plan_ended files c.args.dir.now c.in_ok-instance.instance c.in_err-rows.field-0.0 (c.in_ok-instance.ensures.told files held) (c.in_err-rows.ensures.told files (c.day_in.ensures.only_reads.same ∙ held)) in
+    search rules

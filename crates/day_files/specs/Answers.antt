@@ -1,0 +1,39 @@
+-- What a call that reads a folder answers.
+use Rattle.std.specs.Prelude.{ℕ, ◌≡◌, List, Bool, IsTrue, if◌then◌else◌, Result, Ok, Err, ⊤}
+use Rattle.rail_base.specs.declared.limits.TheConstants.{MOST_TABLE_BYTES}
+use Rattle.rail_io.specs.Folders.{Rose, RosePast}
+use Rattle.rail_csv.specs.declared.rows.Table.{Table}
+use Rattle.day_files.specs.declared.errors.Refusal.{Refusal}
+use Rattle.day_files.specs.declared.errors.Refusal.TheVariants.{TooLong, WrongTable, NoDay, NoPlan}
+use Rattle.day_files.specs.declared.errors.ReadError.{ReadError}
+use Rattle.day_files.specs.declared.errors.ReadError.TheVariants.{CannotRead, Refused, NoMemory}
+use Rattle.rail_csv.specs.declared.refusal.TableRefusal.{TableRefusal}
+use Rattle.rail_csv.specs.Tables.{is_memory}
+use Rattle.day_files.specs.Names.{path_of}
+
+-- A call reads what the files hold: its answer is theirs, and its refusal too. A file that could not be read is one that is
+-- reached. Want of memory says nothing of the files.
+abbrev pub Reads : {Y : Type 0} → (Table → Type 0) → Result Y ReadError → Result Y Refusal → Type 0
+Reads IsReached (Ok y) said = said ≡ Ok y
+Reads IsReached (Err (Refused why)) said = said ≡ Err why
+Reads IsReached (Err (CannotRead table)) said = IsReached table
+Reads IsReached (Err NoMemory) said = ⊤
+
+-- What an error says of the folder before and after. A file could not be read only where the count of faults rose and a read of
+-- it may fail. A file was too long only where more bytes were taken than a table may have, or the count of them was at 2^63.
+abbrev pub IsCaused : {F : Type 0} → (F → List ℕ → Bool) → (F → ℕ) → (F → ℕ) → List ℕ → F → F → ReadError → Type 0
+IsCaused may_fail faults taken dir before after (CannotRead table) =
+    Rose (faults before) (faults after) × IsTrue (may_fail before (path_of dir table))
+IsCaused may_fail faults taken dir before after (Refused (TooLong table)) = RosePast MOST_TABLE_BYTES (taken before) (taken after)
+IsCaused may_fail faults taken dir before after _ = ⊤
+
+-- what the refusal of a table comes to
+abbrev pub error_of : Table → TableRefusal → ReadError
+error_of table refusal = if is_memory refusal then NoMemory else Refused (WrongTable table refusal)
+
+-- an error that no read has a part in: the tables make no day, the rows no plan, or memory ran out
+abbrev pub IsMade : ReadError → Type 0
+IsMade (Refused (NoDay why)) = ⊤
+IsMade (Refused (NoPlan why)) = ⊤
+IsMade NoMemory = ⊤
+IsMade _ = ⊥

@@ -1,0 +1,75 @@
+-- The tables of a day: the rows that each of them has, what its bytes are read as, and what is known of accepted rows.
+use Rattle.std.specs.Prelude.{ℕ, List, length, nat_lt, if◌then◌else◌, Result, Ok, Err}
+use Rattle.rail_base.specs.Answers.{◌>>=◌}
+use Rattle.rail_base.specs.declared.limits.TheConstants.{MOST_TABLE_BYTES}
+use Rattle.rail_io.specs.Folders.{Files, file_at}
+use Rattle.rail_csv.specs.declared.rows.Table.{Table}
+use Rattle.rail_csv.specs.declared.rows.Table.TheVariants as table
+use Rattle.rail_csv.specs.declared.rows.TypeRow.{TypeRow}
+use Rattle.rail_csv.specs.declared.rows.StationRow.{StationRow}
+use Rattle.rail_csv.specs.declared.rows.StockRow.{StockRow}
+use Rattle.rail_csv.specs.declared.rows.TripRow.{TripRow}
+use Rattle.rail_csv.specs.declared.rows.LinkRow.{LinkRow}
+use Rattle.rail_csv.specs.declared.rows.WeightsRow.{WeightsRow}
+use Rattle.rail_csv.specs.declared.rows.PlanRow.{PlanRow}
+use Rattle.rail_csv.specs.declared.refusal.TableRefusal.{TableRefusal}
+use Rattle.rail_csv.specs.Tables.{types_of, stations_of, stock_of, trips_of, links_of, weights_of, plan_of}
+use Rattle.rail_csv.specs.Rows.{AreTypeRows, AreStationRows, AreStockRows, AreTripRows, AreLinkRows, IsWeightsRow}
+use Rattle.timetable.specs.declared.building.tables.Tables.{Tables}
+use Rattle.day_files.specs.declared.errors.Refusal.{Refusal}
+use Rattle.day_files.specs.declared.errors.Refusal.TheVariants.{TooLong, WrongTable}
+use Rattle.day_files.specs.Names.{path_of}
+
+-- what an accepted table is: its rows, and of the weights the one row
+abbrev pub RowsOf : Table → Type 0
+RowsOf table.Types = List TypeRow
+RowsOf table.Stations = List StationRow
+RowsOf table.Stock = List StockRow
+RowsOf table.Trips = List TripRow
+RowsOf table.Links = List LinkRow
+RowsOf table.Weights = WeightsRow
+RowsOf table.Plan = List PlanRow
+
+-- what bytes are read as: an accepted table, or the first thing that is wrong
+abbrev pub reading : (table : Table) → List ℕ → Result (RowsOf table) TableRefusal
+reading table.Types = types_of
+reading table.Stations = stations_of
+reading table.Stock = stock_of
+reading table.Trips = trips_of
+reading table.Links = links_of
+reading table.Weights = weights_of
+reading table.Plan = plan_of
+
+-- tables whose rows keep within the ranges of their columns
+pub record AreTables (tables : Tables) : Type 0 where
+  pub types : AreTypeRows tables.types
+  pub stations : AreStationRows tables.stations
+  pub stock : AreStockRows tables.stock
+  pub trips : AreTripRows tables.trips
+  pub links : AreLinkRows tables.links
+  pub weights : IsWeightsRow tables.weights
+
+-- ---- in a folder
+
+-- the bytes of a table's file
+abbrev pub bytes_of : Files → List ℕ → Table → List ℕ
+bytes_of files dir table = file_at files (path_of dir table)
+
+-- the same, where they are not too many
+unfoldable pub bytes_in : Files → List ℕ → Table → Result (List ℕ) Refusal
+bytes_in files dir table = if nat_lt MOST_TABLE_BYTES (length (bytes_of files dir table)) then Err (TooLong table) else Ok (bytes_of files dir table)
+
+-- a table's refusal is one of its file
+abbrev pub as_table : {A : Type 0} → Table → Result A TableRefusal → Result A Refusal
+as_table table (Ok rows) = Ok rows
+as_table table (Err why) = Err (WrongTable table why)
+
+-- the file of a table, as it is read by this reading
+unfoldable pub read_by : {A : Type 0} → (List ℕ → Result A TableRefusal) → Files → List ℕ → Table → Result A Refusal
+read_by by files dir table = do
+  bytes ← bytes_in files dir table
+  as_table table (by bytes)
+
+-- the table in a folder, or why its file is refused
+abbrev pub table_in : Files → List ℕ → (table : Table) → Result (RowsOf table) Refusal
+table_in files dir table = read_by (reading table) files dir table

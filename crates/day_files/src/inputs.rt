@@ -1,0 +1,110 @@
+//! The day and the plan of a folder: the tables, the day that they make, and the plan of it.
+
+ghost use Rattle.std.specs.Prelude.{◌≡◌, [], Some, Result, IfOk, IfErr};
+ghost use Rattle.rail_io.specs.Folders.{Files, OnlyReads};
+ghost use Rattle.rail_csv.specs.Rows.{ArePlanRows};
+ghost use Rattle.timetable.specs.Build.{day_of};
+ghost use Rattle.timetable.specs.Plans.{plan_of};
+ghost use Rattle.timetable.specs.Running.{IsPlan};
+ghost use Rattle.day_files.specs.Tables.{AreTables};
+ghost use Rattle.day_files.specs.Inputs.{as_day, as_plan, day_in, inputs_in, tables_in};
+ghost use Rattle.day_files.specs.Order.{Reaches};
+ghost use Rattle.day_files.specs.Answers.{Reads, IsCaused, IsMade};
+
+use crate::errors::{ReadError, Refusal};
+use crate::tables::table_in;
+use rail_csv::PlanRow;
+use rail_io::Folder;
+use std::alloc::Global;
+use timetable::{Instance, InstanceRefusal, NamedPlan, PlanRefusal, Rows, Tables};
+
+/// A day and a plan of it.
+#[derive(Debug, Drop)]
+pub struct Inputs {
+    /// The day.
+    pub instance: Instance,
+    /// The plan.
+    pub plan: NamedPlan,
+}
+
+/// The rows of the six tables, read in their order. The first file that is refused or cannot be read ends the reading.
+#[tactic(auto, unfolding(crate::specs::Inputs::tables_in))]
+fn tables_in<F: Folder>(alloc: Global, folder: &mut F, dir: &str) -> Result<Tables, ReadError>
+    ensures told { (files : Files) → F.holds folder.old ≡ Some files → Reads (Reaches files dir.now) result (tables_in files dir.now) }
+    ensures within { IfOk result AreTables }
+    ensures caused { IfErr result (IsCaused F.may_fail F.faults F.taken dir.now folder.old folder.new) }
+    ensures only_reads { OnlyReads F.holds F.may_fail F.faults F.taken folder.old folder.new }
+{
+    Ok(Tables {
+        types: table_in(alloc, folder, dir)?,
+        stations: table_in(alloc, folder, dir)?,
+        stock: table_in(alloc, folder, dir)?,
+        trips: table_in(alloc, folder, dir)?,
+        links: table_in(alloc, folder, dir)?,
+        weights: table_in(alloc, folder, dir)?,
+    })
+}
+
+/// The day of tables.
+fn day_of(alloc: Global, tables: Tables) -> Result<Instance, ReadError>
+    requires { AreTables tables }
+    ensures told { Reads (λ _. ⊥) result (as_day (day_of tables)) }
+    ensures made { IfErr result IsMade }
+{
+    match Instance::build(alloc, tables) {
+        Ok(instance) => Ok(instance),
+        Err(InstanceRefusal::NoMemory) => Err(ReadError::NoMemory),
+        Err(why) => Err(ReadError::Refused(Refusal::NoDay(why))),
+    }
+}
+
+/// The plan of a day that rows make.
+fn plan_of(alloc: Global, instance: &Instance, rows: &[PlanRow]) -> Result<NamedPlan, ReadError>
+    requires { ArePlanRows rows.now }
+    ensures told { Reads (λ _. ⊥) result (as_plan (plan_of instance.now rows.now)) }
+    ensures made { IfErr result IsMade }
+    ensures is_plan { IfOk result (λ plan. IsPlan instance.now plan) }
+{
+    match NamedPlan::build(alloc, instance, rows) {
+        Ok(plan) => Ok(plan),
+        Err(PlanRefusal::NoMemory) => Err(ReadError::NoMemory),
+        Err(why) => Err(ReadError::Refused(Refusal::NoPlan(why))),
+    }
+}
+
+/// The day that the six tables of a folder make: `types.csv`, `stations.csv`, `stock.csv`, `trips.csv`, `links.csv` and
+/// `weights.csv`, read in this order. The first file that is refused or cannot be read ends the reading, and the rules of
+/// the day come after the six files.
+///
+/// - `CannotRead`: a read of that file failed, and each file before it is accepted.
+/// - `Refused`: a file is refused, and it is the first; or the tables make no day.
+/// - `NoMemory`: want of memory.
+#[tactic(auto, unfolding(crate::specs::Inputs::day_in))]
+pub fn day_in<F: Folder>(alloc: Global, folder: &mut F, dir: &str) -> Result<Instance, ReadError>
+    ensures told { (files : Files) → F.holds folder.old ≡ Some files → Reads (Reaches files dir.now) result (day_in files dir.now) }
+    ensures caused { IfErr result (IsCaused F.may_fail F.faults F.taken dir.now folder.old folder.new) }
+    ensures only_reads { OnlyReads F.holds F.may_fail F.faults F.taken folder.old folder.new }
+{
+    let tables = tables_in(alloc, folder, dir)?;
+    day_of(alloc, tables)
+}
+
+/// The day and the plan of a folder: the day of its six tables, and then the plan of it that `plan.csv` makes. The first
+/// file that is refused or cannot be read ends the reading.
+///
+/// - `CannotRead`: a read of that file failed, and each file before it is accepted; where it is that of the plan, the
+///   tables make a day.
+/// - `Refused`: a file is refused, and it is the first; or the tables make no day, or the rows of the plan no plan of it.
+/// - `NoMemory`: want of memory.
+#[tactic(auto, using(crate::proofs::Reached::plan_ended), unfolding(crate::specs::Inputs::inputs_in))]
+pub fn inputs_in<F: Folder>(alloc: Global, folder: &mut F, dir: &str) -> Result<Inputs, ReadError>
+    ensures told { (files : Files) → F.holds folder.old ≡ Some files → Reads (Reaches files dir.now) result (inputs_in files dir.now) }
+    ensures is_plan { IfOk result (λ inputs. IsPlan inputs.instance inputs.plan) }
+    ensures caused { IfErr result (IsCaused F.may_fail F.faults F.taken dir.now folder.old folder.new) }
+    ensures only_reads { OnlyReads F.holds F.may_fail F.faults F.taken folder.old folder.new }
+{
+    let instance = day_in(alloc, folder, dir)?;
+    let rows: Rows<PlanRow> = table_in(alloc, folder, dir)?;
+    let plan = plan_of(alloc, &instance, rows.items())?;
+    Ok(Inputs { instance, plan })
+}

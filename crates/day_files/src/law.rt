@@ -1,0 +1,18 @@
+//! What the reading of a folder gives, in the words of files.
+
+ghost use Rattle.std.specs.Prelude.{◌≡◌, ◌↔◌, ℕ, List, Ok, Err};
+ghost use Rattle.rail_io.specs.Folders.{Files};
+ghost use Rattle.day_files.specs.declared.errors.Refusal.{Refusal};
+ghost use Rattle.day_files.specs.declared.inputs.Inputs.{Inputs};
+ghost use Rattle.day_files.specs.Inputs.{inputs_in};
+ghost use Rattle.day_files.specs.Acceptance.{AreAccepted, IsFirstRefused};
+
+/// For every folder: its files are accepted as a day and a plan exactly where each of the seven is a table of its rows,
+/// the six tables make the day and the rows of the plan make the plan. A refusal comes exactly where its file is the
+/// first that is wrong, and wrong in this way.
+pub fn what_is_accepted()
+    ensures accepted { (files : Files) (dir : List ℕ) (inputs : Inputs)
+        → (inputs_in files dir ≡ Ok inputs) ↔ AreAccepted files dir inputs }
+    ensures refused { (files : Files) (dir : List ℕ) (why : Refusal)
+        → (inputs_in files dir ≡ Err why) ↔ IsFirstRefused files dir why }
+{}

@@ -1,0 +1,13 @@
+//! The door: a folder read as a day and a plan of it, or the first file that is refused.
+#![tactic(auto)]
+
+pub mod errors;
+pub mod inputs;
+pub mod law;
+mod names;
+mod tables;
+mod texts;
+
+pub use errors::{ReadError, Refusal};
+pub use inputs::{Inputs, day_in, inputs_in};
+pub use names::file_name;
