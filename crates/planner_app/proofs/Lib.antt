@@ -1,5 +1,2 @@
-pub mod Reasons
-pub mod Explaining
+pub mod Outcomes
 pub mod Statuses
-pub mod Accepted
-pub mod FirstRefused

@@ -1,8 +1,6 @@
-pub mod Texts
+-- the words of a command line, and the lines that are written
 pub mod Words
-pub mod Inputs
-pub mod Giving
-pub mod Reaching
-pub mod Accepting
-pub mod Answering
-pub mod Ending
+pub mod Texts
+-- what a run comes to, and the status and the document of it
+pub mod Outcomes
+pub mod Statuses

@@ -2,16 +2,10 @@
 #![tactic(auto)]
 
 mod document;
-mod files;
-pub mod law;
 pub mod outcome;
 mod run;
-mod tables;
 mod top;
 mod words;
 
-pub use outcome::{Outcome, Refusal};
+pub use outcome::Outcome;
 pub use top::railplan;
-
-#[cfg(test)]
-mod document_tests;

@@ -1,12 +1,12 @@
 use Rattle.std.proofs.Common.{sym, subst, refl, ◌∙◌}
-use Rattle.planner_app.specs.Ending.{Whole, Part}
+use Rattle.planner_app.specs.Statuses.{Whole, Part}
 use Rattle.planner_app.specs.Texts.{IsDocument}
 use Rattle.planner_app.proofs.top.write_outcome.Goals as goal
 
 pub returns-in-Ok-write_all-clause-wrote : goal.returns-in-Ok-write_all-clause-wrote
 returns-in-Ok-write_all-clause-wrote g c =
-    Whole c.as_bytes.result.now (subst (λ text. IsDocument c.args.outcome.now text) (sym c.as_bytes.ensures.value) c.in-Ok.ensures) c.in-Ok-write_all.ensures.whole (sym c.status_of.ensures ∙ c.in-Some.is)
+    Whole c.as_bytes.result.now (subst (λ text. IsDocument c.args.outcome.now text) (sym c.as_bytes.ensures.value) c.in-Ok.ensures) c.in-Ok-write_all.ensures.whole c.status_of.ensures
 
 pub returns-clause-wrote : goal.returns-clause-wrote
 returns-clause-wrote g c =
-    Part c.as_bytes.result.now (subst (λ text. IsDocument c.args.outcome.now text) (sym c.as_bytes.ensures.value) c.in-Ok.ensures) c.in-Err.ensures.part refl c.in-Err.ensures.fault c.in-Some.status (sym c.status_of.ensures ∙ c.in-Some.is)
+    Part c.as_bytes.result.now (subst (λ text. IsDocument c.args.outcome.now text) (sym c.as_bytes.ensures.value) c.in-Ok.ensures) c.in-Err.ensures.part c.in-Err.ensures.fault refl
