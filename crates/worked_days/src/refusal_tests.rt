@@ -7,19 +7,47 @@ use std::alloc::Global;
 use std::process::Abort;
 use std::test::Fail;
 
-const TYPES: &str = "type,carriages,seats,metres,family";
+/// The file of a table and its header.
+#[derive(Clone, Copy)]
+struct File {
+    name: &'static str,
+    header: &'static str,
+}
 
-const STATIONS: &str = "station,platform,reallocation";
+const TYPES: File = File {
+    name: "types.csv",
+    header: "type,carriages,seats,metres,family",
+};
 
-const STOCK: &str = "station,type,start,end";
+const STATIONS: File = File {
+    name: "stations.csv",
+    header: "station,platform,reallocation",
+};
 
-const TRIPS: &str = "trip,from,departure,to,arrival,km,demand";
+const STOCK: File = File {
+    name: "stock.csv",
+    header: "station,type,start,end",
+};
 
-const LINKS: &str = "kind,arriving,arriving2,departing,departing2,reverse,uncouple,couple";
+const TRIPS: File = File {
+    name: "trips.csv",
+    header: "trip,from,departure,to,arrival,km,demand",
+};
 
-const WEIGHTS: &str = "carriage,shortage,shunting";
+const LINKS: File = File {
+    name: "links.csv",
+    header: "kind,arriving,arriving2,departing,departing2,reverse,uncouple,couple",
+};
 
-const PLAN: &str = "trip,units";
+const WEIGHTS: File = File {
+    name: "weights.csv",
+    header: "carriage,shortage,shunting",
+};
+
+const PLAN: File = File {
+    name: "plan.csv",
+    header: "trip,units",
+};
 
 /// Asserts that a day is refused, with a file and a text.
 fn expect_refused(
@@ -33,7 +61,7 @@ fn expect_refused(
 }
 
 /// Asserts that the day of two trips is refused with a text where one of its files has these bytes.
-fn expect_file_refused(
+fn expect_bytes_refused(
     rt: &impl Abort,
     alloc: Global,
     file: &str,
@@ -50,30 +78,25 @@ fn expect_file_refused(
     Ok(())
 }
 
-/// Asserts that the day of two trips is refused with a text where one of its files has these rows under its header.
+/// Asserts that the day of two trips is refused where one of its files has under its header the rows of a case, between
+/// a front and a back. A case is its rows, an arrow and the text of the refusal.
 fn expect_rows_refused(
     rt: &impl Abort,
     alloc: Global,
-    file: &str,
-    header: &str,
-    rows: &str,
-    text: &str,
+    file: File,
+    front: &str,
+    back: &str,
+    cases: &[&str],
 ) -> Result<(), NoMemory> {
-    let table = format!(in alloc; "{header}\n{rows}\n")?;
-    expect_file_refused(rt, alloc, file, table.as_bytes(), text)
-}
-
-/// Asserts that the day of two trips is refused at a column of row 1 where one of its files has this row alone.
-fn expect_field_refused(
-    rt: &impl Abort,
-    alloc: Global,
-    file: &str,
-    header: &str,
-    row: &str,
-    column_and_text: &str,
-) -> Result<(), NoMemory> {
-    let text = format!(in alloc; "row 1, column {column_and_text}")?;
-    expect_rows_refused(rt, alloc, file, header, row, &text)
+    let header = file.header;
+    for case in cases {
+        let Some((rows, text)) = case.split_once(" => ") else {
+            panic!(rt; "a case has an arrow");
+        };
+        let table = format!(in alloc; "{header}\n{front}{rows}{back}\n")?;
+        expect_bytes_refused(rt, alloc, file.name, table.as_bytes(), text)?;
+    }
+    Ok(())
 }
 
 /// Asserts that the day of two trips runs with this departure of its first trip, this arrival of its second, and this
@@ -87,7 +110,8 @@ fn expect_trips_run(
 ) -> Result<(), NoMemory> {
     let first = format!(in alloc; "T1,X,{departure},Y,09:00,{km},150")?;
     let second = format!(in alloc; "T2,Y,09:30,X,{arrival},{km},150")?;
-    let trips = format!(in alloc; "{TRIPS}\n{first}\n{second}\n")?;
+    let header = TRIPS.header;
+    let trips = format!(in alloc; "{header}\n{first}\n{second}\n")?;
     let day = Day {
         trips: Some(trips.as_str()),
         ..two_trips()
@@ -97,11 +121,14 @@ fn expect_trips_run(
 
 /// Asserts that the day of two trips runs with another field for the name of station X.
 fn expect_station_runs(rt: &impl Abort, alloc: Global, name: &str) -> Result<(), NoMemory> {
-    let stations = format!(in alloc; "{STATIONS}\n{name},200,30\nY,200,30\n")?;
-    let stock = format!(in alloc; "{STOCK}\n{name},A,1,1\n")?;
+    let header = STATIONS.header;
+    let stations = format!(in alloc; "{header}\n{name},200,30\nY,200,30\n")?;
+    let header = STOCK.header;
+    let stock = format!(in alloc; "{header}\n{name},A,1,1\n")?;
     let first = format!(in alloc; "T1,{name},08:00,Y,09:00,10,150")?;
     let second = format!(in alloc; "T2,Y,09:30,{name},10:30,10,150")?;
-    let trips = format!(in alloc; "{TRIPS}\n{first}\n{second}\n")?;
+    let header = TRIPS.header;
+    let trips = format!(in alloc; "{header}\n{first}\n{second}\n")?;
     let day = Day {
         stations: Some(stations.as_str()),
         stock: Some(stock.as_str()),
@@ -128,7 +155,6 @@ fn day_of_wrong_rows() -> Day<'static> {
 
 #[test]
 fn a_header_has_its_words_in_order(rt: HostRuntime) -> Result<(), Fail> {
-    let alloc = rt.alloc();
     for table in [
         "",
         "\n\r\n",
@@ -141,307 +167,225 @@ fn a_header_has_its_words_in_order(rt: HostRuntime) -> Result<(), Fail> {
         "\u{feff}\u{feff}station,platform,reallocation\nX,200,30\nY,200,30\n",
         "station;platform;reallocation\nX,wide\n",
     ] {
-        expect_file_refused(&rt, alloc, "stations.csv", table.as_bytes(), "wrong header")?;
+        expect_bytes_refused(
+            &rt,
+            rt.alloc(),
+            STATIONS.name,
+            table.as_bytes(),
+            "wrong header",
+        )?;
     }
     Ok(())
 }
 
 #[test]
 fn wrong_types_are_refused(rt: HostRuntime) -> Result<(), Fail> {
-    let alloc = rt.alloc();
-    for (row, refused) in [
-        (",3,200,80,r", "type: not a name"),
-        ("A,three,200,80,r", "carriages: not a number"),
-        ("A,0,200,80,r", "carriages: out of range"),
-        ("A,21,200,80,r", "carriages: out of range"),
-        ("A,3,0,80,r", "seats: out of range"),
-        ("A,3,2001,80,r", "seats: out of range"),
-        ("A,3,200,0,r", "metres: out of range"),
-        ("A,3,200,501,r", "metres: out of range"),
-        ("A,3,200,80,", "family: not a name"),
-        ("A,0,x,80,", "carriages: out of range"),
-        ("A,3,x,0,", "seats: not a number"),
-        ("A,0,200,80,r\nB\n", "carriages: out of range"),
-    ] {
-        expect_field_refused(&rt, alloc, "types.csv", TYPES, row, refused)?;
-    }
-    for (rows, text) in [
-        ("A", "row 1 has 1 fields"),
-        ("A,3,200,80", "row 1 has 4 fields"),
-        ("A,3,200,80,r,", "row 1 has 6 fields"),
-        ("A,3,200,80,r\n,0,200,80", "row 2 has 4 fields"),
-        ("A,3,9,80,r\nA,3,8,60,s", "row 2: repeated name"),
-    ] {
-        expect_rows_refused(&rt, alloc, "types.csv", TYPES, rows, text)?;
-    }
+    let cases = [
+        ",3,200,80,r => row 1, column type: not a name",
+        "A,three,200,80,r => row 1, column carriages: not a number",
+        "A,0,200,80,r => row 1, column carriages: out of range",
+        "A,21,200,80,r => row 1, column carriages: out of range",
+        "A,3,0,80,r => row 1, column seats: out of range",
+        "A,3,2001,80,r => row 1, column seats: out of range",
+        "A,3,200,0,r => row 1, column metres: out of range",
+        "A,3,200,501,r => row 1, column metres: out of range",
+        "A,3,200,80, => row 1, column family: not a name",
+        "A,0,x,80, => row 1, column carriages: out of range",
+        "A,3,x,0, => row 1, column seats: not a number",
+        "A,0,200,80,r\nB\n => row 1, column carriages: out of range",
+        "A => row 1 has 1 fields",
+        "A,3,200,80 => row 1 has 4 fields",
+        "A,3,200,80,r, => row 1 has 6 fields",
+        "A,3,200,80,r\n,0,200,80 => row 2 has 4 fields",
+        "A,3,9,80,r\nA,3,8,60,s => row 2: repeated name",
+    ];
+    expect_rows_refused(&rt, rt.alloc(), TYPES, "", "", &cases)?;
+    let five = "A,3,9,80,r\nB,3,9,80,r\nC,3,9,80,r\nD,3,9,80,r\nE,3,9,80,r\n";
+    let sixth = [
+        "F,3,9,80,r\nG,3,9,80,r => too many rows",
+        "F,3,9,80,r\n\n,0,x => too many rows",
+        "A,3,9,80,r\nA,3,9,80,r => too many rows",
+        "F,x,9,80,r\nG,3,9,80,r => row 6, column carriages: not a number",
+        "A,3,9,80,r => row 6: repeated name",
+    ];
+    expect_rows_refused(&rt, rt.alloc(), TYPES, five, "", &sixth)?;
     Ok(())
 }
 
 #[test]
-fn types_have_at_most_six_rows(rt: HostRuntime) -> Result<(), Fail> {
-    let alloc = rt.alloc();
-    let five = "A,3,9,80,r\nB,3,9,80,r\nC,3,9,80,r\nD,3,9,80,r\nE,3,9,80,r";
-    for (rows, text) in [
-        ("F,3,9,80,r\nG,3,9,80,r", "too many rows"),
-        ("F,3,9,80,r\n\n,0,x", "too many rows"),
-        ("A,3,9,80,r\nA,3,9,80,r", "too many rows"),
-        (
-            "F,x,9,80,r\nG,3,9,80,r",
-            "row 6, column carriages: not a number",
-        ),
-        ("A,3,9,80,r", "row 6: repeated name"),
-    ] {
-        let types = format!(in alloc; "{five}\n{rows}")?;
-        expect_rows_refused(&rt, alloc, "types.csv", TYPES, &types, text)?;
-    }
-    Ok(())
-}
-
-#[test]
-fn wrong_stations_are_refused(rt: HostRuntime) -> Result<(), Fail> {
-    let alloc = rt.alloc();
-    for (row, refused) in [
-        (",200,30", "station: not a name"),
-        ("X,0,30", "platform: out of range"),
-        ("X,1001,30", "platform: out of range"),
-        ("X,200,601", "reallocation: out of range"),
-        ("X,200,-1", "reallocation: not a number"),
-    ] {
-        expect_field_refused(&rt, alloc, "stations.csv", STATIONS, row, refused)?;
-    }
-    for (rows, text) in [
-        ("X,200", "row 1 has 2 fields"),
-        ("X,200,30\nX,9,0\nY,200,30", "row 2: repeated name"),
-    ] {
-        expect_rows_refused(&rt, alloc, "stations.csv", STATIONS, rows, text)?;
-    }
-    Ok(())
-}
-
-#[test]
-fn wrong_stock_is_refused(rt: HostRuntime) -> Result<(), Fail> {
-    let alloc = rt.alloc();
-    for (row, refused) in [
-        ("X,,1,1", "type: not a name"),
-        ("X,A,2001,1", "start: out of range"),
-        ("X,A,1,2001", "end: out of range"),
-        ("X,A,1,one", "end: not a number"),
-        ("Z,B,1,1", "station: unknown name"),
-        ("x,A,1,1", "station: unknown name"),
-        ("X,B,1,1", "type: unknown name"),
-    ] {
-        expect_field_refused(&rt, alloc, "stock.csv", STOCK, row, refused)?;
-    }
-    for (rows, text) in [
-        ("X,A,1", "row 1 has 3 fields"),
-        (
-            "X,A,1,1\nY,A,0,0\nX,A,0,0",
-            "row 3: repeated station and type",
-        ),
-        (
-            "X,A,1,1\nX,A,0,0\nZ,A,0,0",
-            "row 2: repeated station and type",
-        ),
-        ("X,A,2000,1\nY,A,1,0", "too many units"),
-        (
-            "X,A,2000,1\nY,A,1,0\nX,A,0,0",
-            "row 3: repeated station and type",
-        ),
-    ] {
-        expect_rows_refused(&rt, alloc, "stock.csv", STOCK, rows, text)?;
-    }
+fn wrong_stations_and_stock_are_refused(rt: HostRuntime) -> Result<(), Fail> {
+    let stations = [
+        ",200,30 => row 1, column station: not a name",
+        "X,0,30 => row 1, column platform: out of range",
+        "X,1001,30 => row 1, column platform: out of range",
+        "X,200,601 => row 1, column reallocation: out of range",
+        "X,200,-1 => row 1, column reallocation: not a number",
+        "X,200 => row 1 has 2 fields",
+        "X,200,30\nX,9,0\nY,200,30 => row 2: repeated name",
+    ];
+    expect_rows_refused(&rt, rt.alloc(), STATIONS, "", "", &stations)?;
+    let stock = [
+        "X,,1,1 => row 1, column type: not a name",
+        "X,A,2001,1 => row 1, column start: out of range",
+        "X,A,1,2001 => row 1, column end: out of range",
+        "X,A,1,one => row 1, column end: not a number",
+        "Z,B,1,1 => row 1, column station: unknown name",
+        "x,A,1,1 => row 1, column station: unknown name",
+        "X,B,1,1 => row 1, column type: unknown name",
+        "X,A,1 => row 1 has 3 fields",
+        "X,A,1,1\nY,A,0,0\nX,A,0,0 => row 3: repeated station and type",
+        "X,A,1,1\nX,A,0,0\nZ,A,0,0 => row 2: repeated station and type",
+        "X,A,2000,1\nY,A,1,0 => too many units",
+        "X,A,2000,1\nY,A,1,0\nX,A,0,0 => row 3: repeated station and type",
+    ];
+    expect_rows_refused(&rt, rt.alloc(), STOCK, "", "", &stock)?;
     Ok(())
 }
 
 #[test]
 fn wrong_trips_are_refused(rt: HostRuntime) -> Result<(), Fail> {
-    let alloc = rt.alloc();
-    for (row, refused) in [
-        ("T1,,8:00,,9:00,10,150", "from: not a name"),
-        ("T1,X,8h,Y,9h,10,150", "departure: not a time"),
-        ("T1,X,8:00,Y,9:00,1001,150", "km: out of range"),
-        ("T1,X,8:00,Y,9:00,10,10001", "demand: out of range"),
-        ("T1,Z,8:00,Z,8:00,10,150", "from: unknown name"),
-        ("T1,X,8:00,Z,8:00,10,150", "to: unknown name"),
-    ] {
-        expect_field_refused(&rt, alloc, "trips.csv", TRIPS, row, refused)?;
-    }
-    let first = "T1,X,8:00,Y,9:00,10,150";
-    for (rows, text) in [
-        ("T2,X,9:00,Y,9:00", "row 2 has 5 fields"),
-        ("T1,Z,9:00,Z,9:00,9,9", "row 2: repeated name"),
-        ("T2,X,9:00,X,9:00,9,9", "row 2: same station"),
-        (
-            "T2,X,9:00,Y,9:00,9,9",
-            "row 2: arrival is not after departure",
-        ),
-        (
-            "T2,X,9:00,Y,8:59,9,9",
-            "row 2: arrival is not after departure",
-        ),
-        (
-            "T2,X,9:00,X,9:01,9,9\nT1,X,9:00,Y,9:01,9,9",
-            "row 2: same station",
-        ),
-        (
-            "T1,X,9:00,Y,9:01,9,9\nT3,X,9:00,Y,9:60,9,9",
-            "row 3, column arrival: not a time",
-        ),
-    ] {
-        let trips = format!(in alloc; "{first}\n{rows}")?;
-        expect_rows_refused(&rt, alloc, "trips.csv", TRIPS, &trips, text)?;
-    }
+    let fields = [
+        ",X,8:00,Y,9:00,0,150 => row 1, column trip: not a name",
+        "T1,,8:00,,9:00,10,150 => row 1, column from: not a name",
+        "T1,X,8:00,,9:00,10,150 => row 1, column to: not a name",
+        "T1,X,8h,Y,9h,10,150 => row 1, column departure: not a time",
+        "T1,X,8:00,Y,9:00,1001,150 => row 1, column km: out of range",
+        "T1,X,8:00,Y,9:00,10,10001 => row 1, column demand: out of range",
+        "T1,Z,8:00,Z,8:00,10,150 => row 1, column from: unknown name",
+        "T1,X,8:00,Z,8:00,10,150 => row 1, column to: unknown name",
+    ];
+    expect_rows_refused(&rt, rt.alloc(), TRIPS, "", "", &fields)?;
+    let second = [
+        "T2,X,9:00,Y,9:00 => row 2 has 5 fields",
+        "T1,Z,9:00,Z,9:00,9,9 => row 2: repeated name",
+        "T2,X,9:00,X,9:00,9,9 => row 2: same station",
+        "T2,X,9:00,Y,9:00,9,9 => row 2: arrival is not after departure",
+        "T2,X,9:00,Y,8:59,9,9 => row 2: arrival is not after departure",
+        "T2,X,9:00,X,9:01,9,9\nT1,X,9:00,Y,9:01,9,9 => row 2: same station",
+        "T1,X,9:00,Y,9:01,9,9\nT3,X,9:00,Y,9:60,9,9 => row 3, column arrival: not a time",
+    ];
+    expect_rows_refused(
+        &rt,
+        rt.alloc(),
+        TRIPS,
+        "T1,X,8:00,Y,9:00,10,150\n",
+        "",
+        &second,
+    )?;
     Ok(())
 }
 
 #[test]
-fn words_of_links_are_those_of_their_columns(rt: HostRuntime) -> Result<(), Fail> {
-    let alloc = rt.alloc();
-    for (row, refused) in [
-        ("turn,,,T2,,yes,rear,none", "arriving: not a name"),
-        ("turn,T1, ,T2,,yes,rear,none", "arriving2: not a name"),
-        ("turn,T1,,,,yes,rear,none", "departing: not a name"),
-        ("turn,T1,,T2, T2,yes,rear,none", "departing2: not a name"),
-    ] {
-        expect_field_refused(&rt, alloc, "links.csv", LINKS, row, refused)?;
-    }
-    for (row, column) in [
-        ("Turn,T1,,T2,,yes,rear,none", "kind"),
-        (",T1,,T2,,yes,rear,none", "kind"),
-        ("turn,T1,,T2,,,rear,none", "reverse"),
-        ("turn,T1,,T2,,none,rear,none", "reverse"),
-        ("turn,T1,,T2,,yes,both,none", "uncouple"),
-        ("turn,T1,,T2,,yes,,none", "uncouple"),
-        ("turn,T1,,T2,,yes,rear,", "couple"),
-        ("turn,T1,,T2,,no,rear,none ", "couple"),
-        ("turn ,T1,,T2,,y,r,n", "kind"),
-    ] {
-        let refused = format!(in alloc; "{column}: not a word of this column")?;
-        expect_field_refused(&rt, alloc, "links.csv", LINKS, row, &refused)?;
-    }
-    Ok(())
-}
-
-#[test]
-fn fields_of_a_link_fit_its_kind(rt: HostRuntime) -> Result<(), Fail> {
-    let alloc = rt.alloc();
-    for row in [
-        "turn,T1,T2,T2,,yes,none,none",
-        "turn,T1,,T2,T1,yes,none,none",
-        "join,T1,,T2,,no,none,none",
-        "join,T1,T2,T2,T1,no,none,none",
-        "join,T1,T1,T2,,no,rear,none",
-        "join,T1,T1,T2,,no,none,front",
-        "split,T1,T2,T2,T1,no,none,none",
-        "split,T1,,T2,,no,none,none",
-        "split,T1,,T2,T2,no,front,none",
-        "split,T1,,T2,T2,no,none,rear",
-        "turn,T8,T8,T9,T9,no,none,none",
-    ] {
-        let text = "row 1: fields do not fit the kind";
-        expect_rows_refused(&rt, alloc, "links.csv", LINKS, row, text)?;
-    }
+fn fields_of_links_are_words_and_names(rt: HostRuntime) -> Result<(), Fail> {
+    let cases = [
+        "turn,,,T2,,yes,rear,none => row 1, column arriving: not a name",
+        "turn,T1, ,T2,,yes,rear,none => row 1, column arriving2: not a name",
+        "turn,T1,,,,yes,rear,none => row 1, column departing: not a name",
+        "turn,T1,,T2, T2,yes,rear,none => row 1, column departing2: not a name",
+        "Turn,T1,,T2,,yes,rear,none => row 1, column kind: not a word of this column",
+        ",T1,,T2,,yes,rear,none => row 1, column kind: not a word of this column",
+        "turn,T1,,T2,,,rear,none => row 1, column reverse: not a word of this column",
+        "turn,T1,,T2,,none,rear,none => row 1, column reverse: not a word of this column",
+        "turn,T1,,T2,,yes,both,none => row 1, column uncouple: not a word of this column",
+        "turn,T1,,T2,,yes,,none => row 1, column uncouple: not a word of this column",
+        "turn,T1,,T2,,yes,rear, => row 1, column couple: not a word of this column",
+        "turn,T1,,T2,,no,rear,none  => row 1, column couple: not a word of this column",
+        "turn ,T1,,T2,,y,r,n => row 1, column kind: not a word of this column",
+        "turn,T1,T2,T2,,yes,none,none => row 1: fields do not fit the kind",
+        "turn,T1,,T2,T1,yes,none,none => row 1: fields do not fit the kind",
+        "join,T1,,T2,,no,none,none => row 1: fields do not fit the kind",
+        "join,T1,T2,T2,T1,no,none,none => row 1: fields do not fit the kind",
+        "join,T1,T1,T2,,no,rear,none => row 1: fields do not fit the kind",
+        "join,T1,T1,T2,,no,none,front => row 1: fields do not fit the kind",
+        "split,T1,T2,T2,T1,no,none,none => row 1: fields do not fit the kind",
+        "split,T1,,T2,,no,none,none => row 1: fields do not fit the kind",
+        "split,T1,,T2,T2,no,front,none => row 1: fields do not fit the kind",
+        "split,T1,,T2,T2,no,none,rear => row 1: fields do not fit the kind",
+        "turn,T8,T8,T9,T9,no,none,none => row 1: fields do not fit the kind",
+    ];
+    expect_rows_refused(&rt, rt.alloc(), LINKS, "", "", &cases)?;
     Ok(())
 }
 
 #[test]
 fn links_fit_their_trips(rt: HostRuntime) -> Result<(), Fail> {
-    let alloc = rt.alloc();
-    for (row, refused) in [
-        ("turn,T9,,T8,,no,none,none", "arriving: unknown name"),
-        ("join,T1,T9,T8,,no,none,none", "arriving2: unknown name"),
-        ("join,T1,T1,T9,,no,none,none", "departing: unknown name"),
-        ("split,T1,,T2,T9,no,none,none", "departing2: unknown name"),
-    ] {
-        expect_field_refused(&rt, alloc, "links.csv", LINKS, row, refused)?;
-    }
-    let meet = "trips do not meet at a station";
-    for (row, text) in [
-        ("join,T1,T1,T2,,no,none,none", "trip used twice"),
-        ("split,T1,,T2,T2,no,none,none", "trip used twice"),
-        ("split,T2,,T2,T2,no,none,none", "trip used twice"),
-        ("turn,T1,,T1,,no,none,none", meet),
-        ("join,T1,T2,T2,,no,none,none", meet),
-        ("split,T1,,T2,T1,no,none,none", meet),
-        ("turn,T2,,T1,,no,none,none", "departure before arrival"),
-        (
-            "turn,T2,,T1,,no,none,none\nturn,T1,,T9,,no,none,none",
-            "departure before arrival",
-        ),
-    ] {
-        let text = format!(in alloc; "row 1: {text}")?;
-        expect_rows_refused(&rt, alloc, "links.csv", LINKS, row, &text)?;
-    }
-    let turn = "turn,T1,,T2,,no,none,none";
-    for (row, text) in [
-        ("turn,T1,,T1,,no,none,none", "trip used twice"),
-        ("turn,T2,,T2,,no,none,none", "trip used twice"),
-        ("turn,T2,,T1,,no,none,none", "departure before arrival"),
-    ] {
-        let rows = format!(in alloc; "{turn}\n{row}")?;
-        let text = format!(in alloc; "row 2: {text}")?;
-        expect_rows_refused(&rt, alloc, "links.csv", LINKS, &rows, &text)?;
-    }
+    let first = [
+        "turn,T9,,T8,,no,none,none => row 1, column arriving: unknown name",
+        "join,T1,T9,T8,,no,none,none => row 1, column arriving2: unknown name",
+        "join,T1,T1,T9,,no,none,none => row 1, column departing: unknown name",
+        "split,T1,,T2,T9,no,none,none => row 1, column departing2: unknown name",
+        "join,T1,T1,T2,,no,none,none => row 1: trip used twice",
+        "split,T1,,T2,T2,no,none,none => row 1: trip used twice",
+        "split,T2,,T2,T2,no,none,none => row 1: trip used twice",
+        "turn,T1,,T1,,no,none,none => row 1: trips do not meet at a station",
+        "join,T1,T2,T2,,no,none,none => row 1: trips do not meet at a station",
+        "split,T1,,T2,T1,no,none,none => row 1: trips do not meet at a station",
+        "turn,T2,,T1,,no,none,none => row 1: departure before arrival",
+        "turn,T2,,T1,,no,none,none\nturn,T1,,T9,,no,none,none => row 1: departure before arrival",
+    ];
+    expect_rows_refused(&rt, rt.alloc(), LINKS, "", "", &first)?;
+    let second = [
+        "turn,T1,,T1,,no,none,none => row 2: trip used twice",
+        "turn,T2,,T2,,no,none,none => row 2: trip used twice",
+        "turn,T2,,T1,,no,none,none => row 2: departure before arrival",
+    ];
+    expect_rows_refused(
+        &rt,
+        rt.alloc(),
+        LINKS,
+        "turn,T1,,T2,,no,none,none\n",
+        "",
+        &second,
+    )?;
     Ok(())
 }
 
 #[test]
 fn wrong_weights_are_refused(rt: HostRuntime) -> Result<(), Fail> {
-    let alloc = rt.alloc();
-    for (row, refused) in [
-        ("10001,1,100", "carriage: out of range"),
-        ("1,,100", "shortage: not a number"),
-        ("1,1,10001", "shunting: out of range"),
-    ] {
-        expect_field_refused(&rt, alloc, "weights.csv", WEIGHTS, row, refused)?;
-    }
-    for (rows, text) in [
-        ("", "no row"),
-        ("1,1", "row 1 has 2 fields"),
-        ("1,1,100\n1,1,100", "too many rows"),
-        ("1,1,100\n1", "too many rows"),
-    ] {
-        expect_rows_refused(&rt, alloc, "weights.csv", WEIGHTS, rows, text)?;
-    }
+    let cases = [
+        "10001,1,100 => row 1, column carriage: out of range",
+        "1,,100 => row 1, column shortage: not a number",
+        "1,1,10001 => row 1, column shunting: out of range",
+        " => no row",
+        "1,1 => row 1 has 2 fields",
+        "1,1,100\n1,1,100 => too many rows",
+        "1,1,100\n1 => too many rows",
+    ];
+    expect_rows_refused(&rt, rt.alloc(), WEIGHTS, "", "", &cases)?;
     Ok(())
 }
 
 #[test]
 fn a_plan_has_the_row_of_each_trip(rt: HostRuntime) -> Result<(), Fail> {
-    let alloc = rt.alloc();
-    for (rows, text) in [
-        ("T1\nT2,0", "row 1 has 1 fields"),
-        (",x\nT2,0", "row 1, column trip: not a name"),
-        ("T2,0\nT1,0", "row 1: wrong trip"),
-        ("T1,0\nt2,0", "row 2: wrong trip"),
-        ("T1,0\nT2,0\nT3,0", "row 3: wrong trip"),
-        ("T1,0\nT2,0\nT2,0", "row 3: wrong trip"),
-        ("T2,1\nT2,0", "row 1: wrong trip"),
-        ("T1,0 1\nT1,0", "row 1: unknown unit"),
-        ("T1,1999", "row 1: unknown unit"),
-        ("", "trip missing after row 0"),
-    ] {
-        expect_rows_refused(&rt, alloc, "plan.csv", PLAN, rows, text)?;
-    }
-    for (units, refused) in [
-        ("first", "units: not a number"),
-        ("0  0", "units: not a number"),
-        (" 0", "units: not a number"),
-        ("0 ", "units: not a number"),
-        (" ", "units: not a number"),
-        ("2000 1 2 3 4 5 6 x", "units: not a number"),
-        ("0 2000", "units: out of range"),
-        ("0 1 2 3 4 5 6", "units: out of range"),
-    ] {
-        let rows = format!(in alloc; "T1,{units}\nT1,0")?;
-        expect_field_refused(&rt, alloc, "plan.csv", PLAN, &rows, refused)?;
-    }
+    let rows = [
+        "T1\nT2,0 => row 1 has 1 fields",
+        ",x\nT2,0 => row 1, column trip: not a name",
+        "T2,0\nT1,0 => row 1: wrong trip",
+        "T1,0\nt2,0 => row 2: wrong trip",
+        "T1,0\nT2,0\nT3,0 => row 3: wrong trip",
+        "T1,0\nT2,0\nT2,0 => row 3: wrong trip",
+        "T2,1\nT2,0 => row 1: wrong trip",
+        "T1,0 1\nT1,0 => row 1: unknown unit",
+        "T1,1999 => row 1: unknown unit",
+        " => trip missing after row 0",
+    ];
+    expect_rows_refused(&rt, rt.alloc(), PLAN, "", "", &rows)?;
+    let units = [
+        "first => row 1, column units: not a number",
+        "0  0 => row 1, column units: not a number",
+        " 0 => row 1, column units: not a number",
+        "0  => row 1, column units: not a number",
+        "  => row 1, column units: not a number",
+        "2000 1 2 3 4 5 6 x => row 1, column units: not a number",
+        "0 2000 => row 1, column units: out of range",
+        "0 1 2 3 4 5 6 => row 1, column units: out of range",
+    ];
+    expect_rows_refused(&rt, rt.alloc(), PLAN, "T1,", "\nT1,0", &units)?;
     Ok(())
 }
 
 #[test]
 fn fields_are_utf8(rt: HostRuntime) -> Result<(), Fail> {
-    let alloc = rt.alloc();
     for (bytes, text) in [
         (
             b"trip,units\nT1,0\nT2,\xFF".as_slice(),
@@ -457,7 +401,7 @@ fn fields_are_utf8(rt: HostRuntime) -> Result<(), Fail> {
         ),
         (b"trip,units\xFF\nT1,\xFF".as_slice(), "wrong header"),
     ] {
-        expect_file_refused(&rt, alloc, "plan.csv", bytes, text)?;
+        expect_bytes_refused(&rt, rt.alloc(), PLAN.name, bytes, text)?;
     }
     Ok(())
 }
@@ -473,21 +417,21 @@ fn names_have_1_to_64_bytes(rt: HostRuntime) -> Result<(), Fail> {
         let name = format!(in alloc; "{bytes62}{end}")?;
         expect_station_runs(&rt, alloc, &name)?;
     }
-    for (front, end) in [
-        (bytes62, "ée"),
-        (bytes62, "eee"),
-        ("", ""),
-        ("", "\"\""),
-        ("", "X "),
-        ("", "\" X\""),
-        ("", "X\t0"),
-        ("", "\"X\n0\""),
-        ("", "X\u{7f}"),
-    ] {
-        let row = format!(in alloc; "{front}{end},200,30")?;
-        let refused = "station: not a name";
-        expect_field_refused(&rt, alloc, "stations.csv", STATIONS, &row, refused)?;
-    }
+    let long = [
+        "ée => row 1, column station: not a name",
+        "eee => row 1, column station: not a name",
+    ];
+    expect_rows_refused(&rt, alloc, STATIONS, bytes62, ",200,30", &long)?;
+    let wrong = [
+        " => row 1, column station: not a name",
+        "\"\" => row 1, column station: not a name",
+        "X  => row 1, column station: not a name",
+        "\" X\" => row 1, column station: not a name",
+        "X\t0 => row 1, column station: not a name",
+        "\"X\n0\" => row 1, column station: not a name",
+        "X\u{7f} => row 1, column station: not a name",
+    ];
+    expect_rows_refused(&rt, alloc, STATIONS, "", ",200,30", &wrong)?;
     Ok(())
 }
 
@@ -497,23 +441,21 @@ fn numbers_have_1_to_9_digits(rt: HostRuntime) -> Result<(), Fail> {
     for km in ["0010", "000000010", "\"10\""] {
         expect_trips_run(&rt, alloc, "08:00", "10:30", km)?;
     }
-    for (km, refused) in [
-        ("0000000010", "km: not a number"),
-        ("1000000000", "km: not a number"),
-        ("", "km: not a number"),
-        ("+10", "km: not a number"),
-        ("-10", "km: not a number"),
-        (" 10", "km: not a number"),
-        ("10 ", "km: not a number"),
-        ("10.0", "km: not a number"),
-        ("1e1", "km: not a number"),
-        ("\u{661}\u{660}", "km: not a number"),
-        ("000000000", "km: out of range"),
-        ("999999999", "km: out of range"),
-    ] {
-        let row = format!(in alloc; "T1,X,08:00,Y,09:00,{km},x")?;
-        expect_field_refused(&rt, alloc, "trips.csv", TRIPS, &row, refused)?;
-    }
+    let cases = [
+        "0000000010 => row 1, column km: not a number",
+        "1000000000 => row 1, column km: not a number",
+        " => row 1, column km: not a number",
+        "+10 => row 1, column km: not a number",
+        "-10 => row 1, column km: not a number",
+        " 10 => row 1, column km: not a number",
+        "10  => row 1, column km: not a number",
+        "10.0 => row 1, column km: not a number",
+        "1e1 => row 1, column km: not a number",
+        "\u{661}\u{660} => row 1, column km: not a number",
+        "000000000 => row 1, column km: out of range",
+        "999999999 => row 1, column km: out of range",
+    ];
+    expect_rows_refused(&rt, alloc, TRIPS, "T1,X,08:00,Y,09:00,", ",x", &cases)?;
     Ok(())
 }
 
@@ -527,9 +469,15 @@ fn times_have_hours_0_to_47(rt: HostRuntime) -> Result<(), Fail> {
         "48:00", "10:60", "100:30", "", "7:5", "007:05", "7:005", ":05", "7:", "0705", "-7:05",
         " 7:05", "7:05 ", "7:05:00", "7.05",
     ] {
-        let row = format!(in alloc; "T1,X,08:00,Y,{time},0,150")?;
-        let refused = "arrival: not a time";
-        expect_field_refused(&rt, alloc, "trips.csv", TRIPS, &row, refused)?;
+        let case = format!(in alloc; "{time} => row 1, column arrival: not a time")?;
+        expect_rows_refused(
+            &rt,
+            alloc,
+            TRIPS,
+            "T1,X,08:00,Y,",
+            ",0,150",
+            &[case.as_str()],
+        )?;
     }
     Ok(())
 }

@@ -155,6 +155,11 @@ fn a_table_may_have_4194304_bytes(rt: HostRuntime) -> Result<(), Fail> {
         ..two_trips()
     };
     expect_document(&rt, alloc, &day, 3, "refused types.csv: too long\n")?;
+    let mut folder = folder_of(&rt, alloc, &day, vec![in alloc; 0]?)?;
+    let out = MemorySink::new(alloc, 1000, 1000, Vec::new(alloc))?;
+    let unread = simulated_with(&rt, alloc, &mut folder, out)?;
+    assert!(rt; unread.written.as_slice() == b"cannot read types.csv\n".as_slice());
+    assert!(rt; unread.status == 5);
     let Some(shorter) = text.get(1..) else {
         panic!(&rt; "the text is not empty");
     };
