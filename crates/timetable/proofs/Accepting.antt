@@ -1,7 +1,8 @@
 -- Rows that are accepted one after another: what holds of each that is accepted holds of all.
-use Rattle.std.proofs.Common.{◌≡◌, ◌⊎◌, inl, inr, ℕ, suc, ◌+◌, ◌<◌, Bool, true, false, List, [], ◌∷◌, ◌++◌, length, get_or, refl, sym, ap, subst, ◌∙◌, append_assoc, append-nil, map, arith, length-append, Option, Some, None, Result, Ok, Err, cond}
+use Rattle.std.proofs.Common.{◌≡◌, ◌⊎◌, inl, inr, ℕ, zero, suc, ◌+◌, ◌<◌, Bool, true, false, List, [], ◌∷◌, ◌++◌, length, get_or, refl, sym, ap, subst, ◌∙◌, append_assoc, append-nil, map, arith, length-append, Option, Some, None, Result, Ok, Err, cond, slice_get}
 use Rattle.std.specs.List.{All, AllZip, AllPairs, Any, list_any}
 use Rattle.std.proofs.lemmas.Bool.{or_cases}
+use Rattle.std.proofs.lemmas.Option.{same_Some}
 use Rattle.std.proofs.lemmas.List.Elements.{All-push, All-head, All-tail}
 use Rattle.std.proofs.lemmas.List.Quantifiers.{all_pairs_push}
 use Rattle.timetable.specs.declared.building.refusal.InstanceRefusal.{InstanceRefusal}
@@ -58,6 +59,18 @@ accepted_map {A} {B} accept f step before (row ∷ rows) bs e =
     let (b, is_b, more) = bind_ok (accept before row) (λ b. accept_each accept (before ++ b ∷ []) rows) bs e in
     accepted_map accept f step (before ++ b ∷ []) rows bs more ∙ append_assoc before (b ∷ []) (map f rows) ∙ ap (λ (x : B). before ++ x ∷ map f rows) (sym (step before row b is_b))
 
+-- the row at a place was accepted after as many as stand before it
+pub accepted_at : {A B E : Type 0} (accept : List B → A → Result B E) (before : List B) (rows : List A) (bs : List B) → accept_each accept before rows ≡ Ok bs → (k : ℕ) (row : A) → slice_get rows k ≡ Some row
+    → (front : List B) × (b : B) × (length front ≡ length before + k) × (accept front row ≡ Ok b)
+accepted_at accept before [] bs e k row at = absurd cc
+accepted_at {A} accept before (first ∷ rows) bs e zero row at =
+    let (b, is_b, more) = bind_ok (accept before first) (λ b. accept_each accept (before ++ b ∷ []) rows) bs e in
+    (before, b, omega arith, ap (λ (x : A). accept before x) (sym (same_Some first row at)) ∙ is_b)
+accepted_at accept before (first ∷ rows) bs e (suc k) row at =
+    let (b, is_b, more) = bind_ok (accept before first) (λ b. accept_each accept (before ++ b ∷ []) rows) bs e in
+    let (front, c, count, is) = accepted_at accept (before ++ b ∷ []) rows bs more k row at in
+    (front, c, omega (arith, count, length-append before (b ∷ [])), is)
+
 zip_push : {A B : Type 0} (R : A → B → Type 0) (xs : List A) (ys : List B) (x : A) (y : B) → AllZip R xs ys → R x y → AllZip R (xs ++ x ∷ []) (ys ++ y ∷ [])
 zip_push R [] [] x y all here = (here, tt)
 zip_push R [] (b ∷ ys) x y all here = absurd all
@@ -96,6 +109,11 @@ guard_err false c r d e = inr e
 pub choice_err : {A E : Type 0} (test : Bool) (x : A) (c d : E) → cond test (Ok x) (Err c) ≡ Err d → (test ≡ false) × (c ≡ d)
 choice_err true x c d e = absurd cc
 choice_err false x c d e = (refl, cc)
+
+-- a test that failed, or one that passed and what came after it
+pub test_err : {A E : Type 0} (test : Bool) (r : Result A E) (c d : E) → cond test r (Err c) ≡ Err d → ((test ≡ false) × (c ≡ d)) ⊎ ((test ≡ true) × (r ≡ Err d))
+test_err true r c d e = inr (refl, e)
+test_err false r c d e = inl (refl, cc)
 
 pub found_err : (o : Option ℕ) (c d : InstanceRefusal) → found_or o c ≡ Err d → (o ≡ None) × (c ≡ d)
 found_err (Some n) c d e = absurd cc

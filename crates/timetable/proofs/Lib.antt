@@ -11,6 +11,7 @@ pub mod Fitting
 pub mod Admitting
 pub mod Said
 pub mod RefusedRows
+pub mod Plans
 pub mod LinksRefused
 pub mod Refused
 pub mod Carriages

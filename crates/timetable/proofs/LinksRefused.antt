@@ -1,5 +1,5 @@
 -- What the tests on the links refuse is so in the tables.
-use Rattle.std.proofs.Common.{◌≡◌, ◌≢◌, ◌⊎◌, inl, inr, ℕ, zero, suc, ◌<◌, Bool, true, false, List, [], ◌∷◌, refl, sym, ap, subst, ◌∙◌, arith, Option, Some, None, Result, Ok, Err, slice_get, cond}
+use Rattle.std.proofs.Common.{◌≡◌, ◌≢◌, ◌⊎◌, inl, inr, ℕ, zero, suc, ◌<◌, Bool, true, false, List, [], ◌∷◌, refl, sym, ap, subst, ◌∙◌, arith, Option, Some, None, Result, Ok, Err, slice_get}
 use Rattle.std.specs.Prelude.{◌||◌, ◌==◌, if◌then◌else◌}
 use Rattle.std.specs.List.{All, AllZip}
 use Rattle.std.proofs.lemmas.Bool.{and_cases, or_cases, leb-false, eqb-true, eqb-false}
@@ -27,9 +27,9 @@ use Rattle.timetable.specs.Links.{arriving_in, departing_in}
 use Rattle.timetable.specs.Lists.{of_entry, has}
 use Rattle.timetable.specs.Meaning.{IsKindOf}
 use Rattle.timetable.specs.Naming.{find_name}
-use Rattle.timetable.specs.Refusals.{IsRow, Names, IsNoTrip, FitsKind, NamesArriving, NamesDeparting, NamedBefore, UsesTwice, HasTripsThat, IsBroken}
-use Rattle.timetable.specs.Rowwise.{◌>>=◌, row_after}
-use Rattle.timetable.proofs.Accepting.{IsFirstRefused, first_refused, bind_err, guard_err, choice_err, found_err, any_front, accepted_zip}
+use Rattle.timetable.specs.Refusals.{Names, IsNoTrip, FitsKind, NamesArriving, NamesDeparting, NamedBefore, UsesTwice, HasTripsThat, IsBroken}
+use Rattle.timetable.specs.Rowwise.{◌>>=◌, row_after, IsRow}
+use Rattle.timetable.proofs.Accepting.{IsFirstRefused, first_refused, bind_err, guard_err, choice_err, test_err, found_err, any_front, accepted_zip}
 use Rattle.timetable.proofs.Days.{entry_at, entry_is}
 use Rattle.timetable.proofs.Entries.{IsTripOfRow, found_name, trip_of_row}
 use Rattle.timetable.proofs.Linking.{IsFound, kind_made, link_of_row, has_one, has_two}
@@ -324,11 +324,6 @@ no_trip tables stations types trips name made none =
     (accepted_zip (accept_trip stations types) (λ row trip. trip.name ≡ row.name) (λ before row trip e. ap (λ (t : Trip). t.name) (trip_of_row stations types before row trip e).is) [] [] tables.trips trips tt made)
     (not_found (λ t. t.name) trips name none)
 
--- a test that passed, and then one that failed
-test_err : {A E : Type 0} (test : Bool) (r : Result A E) (c d : E) → cond test r (Err c) ≡ Err d → ((test ≡ false) × (c ≡ d)) ⊎ (r ≡ Err d)
-test_err true r c d e = inr e
-test_err false r c d e = inl (refl, cc)
-
 pub links_refused : (tables : Tables) (stations : List Station) (types : List UnitType) (trips : List Trip) (d : InstanceRefusal) → trips_in stations types tables.trips ≡ Ok trips
     → links_in trips tables.links ≡ Err d → IsBroken tables d
 unfolding links_in accept_link accept_trips
@@ -352,7 +347,7 @@ links_refused tables stations types trips d made e =
             | inl again ↦ subst (IsBroken tables) again.1 (first.front, row, is_row, used_twice trips first.front first.entries all row kind is again.0)
             | inr e2 ↦ elim (test_err (each_pair (do_meet trips) kind) timed (WrongStation number) d e2) [
               | inl differ ↦ subst (IsBroken tables) differ.1 (first.front, row, is_row, apart tables stations types trips first.front row made (failing_pair trips row (do_meet trips) kind is differ.0))
-              | inr e3 ↦
+              | inr (meet, e3) ↦
                   let (late, same) = choice_err (each_pair (is_in_time trips) kind) (made_link kind) (TooEarly number) d e3 in
                   subst (IsBroken tables) same (first.front, row, is_row, early tables stations types trips first.front row made (failing_pair trips row (is_in_time trips) kind is late))
             ]

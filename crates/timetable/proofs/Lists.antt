@@ -34,7 +34,7 @@ list_of_row day before row units e =
     record { trip = trip; known = subst (λ (us : List ℕ). are_units day us ≡ true) same are; is = same }
 
 -- a trip with a name is there
-named_within : (trips : List Trip) (t : ℕ) (name : List ℕ) → is_named (slice_get trips t) name ≡ true → t < length trips
+pub named_within : (trips : List Trip) (t : ℕ) (name : List ℕ) → is_named (slice_get trips t) name ≡ true → t < length trips
 named_within trips t name e = at (slice_get trips t) refl e
   where
     at : (o : Option Trip) → slice_get trips t ≡ o → is_named o name ≡ true → t < length trips
@@ -42,7 +42,7 @@ named_within trips t name e = at (slice_get trips t) refl e
     at (Some trip) is e = slice_get_within trips t trip is
 
 -- there are no more lists than trips
-few_lists : (day : Day) (before : List (List ℕ)) (rows : List PlanRow) (lists : List (List ℕ)) → length before ≤ length day.trips
+pub few_lists : (day : Day) (before : List (List ℕ)) (rows : List PlanRow) (lists : List (List ℕ)) → length before ≤ length day.trips
     → accept_each (accept_list day) before rows ≡ Ok lists → length lists ≤ length day.trips
 few_lists day before [] lists few e = let same : length before ≡ length lists = ap length (same_ok before lists e) in omega arith
 few_lists day before (row ∷ rows) lists few e =

@@ -28,8 +28,8 @@ use Rattle.timetable.specs.Day.{Day, from_of, to_of, platform_of}
 use Rattle.timetable.specs.LinkRows.{links_in}
 use Rattle.timetable.specs.Meaning.{IsNumberOf, AreNamedApart}
 use Rattle.timetable.proofs.Said.{stations_apart, number_found}
-use Rattle.timetable.specs.Refusals.{IsRow, Repeats, IsUnserved, starts_in, IsBroken}
-use Rattle.timetable.specs.Rowwise.{◌>>=◌, row_after}
+use Rattle.timetable.specs.Refusals.{Repeats, IsUnserved, starts_in, IsBroken}
+use Rattle.timetable.specs.Rowwise.{◌>>=◌, row_after, IsRow}
 use Rattle.timetable.proofs.Accepting.{IsFirstRefused, first_refused, bind_err, guard_err, choice_err, found_err, found_ok, any_front, accepted_map, accepted_zip}
 use Rattle.timetable.proofs.Days.{entry_at, entry_is}
 use Rattle.timetable.proofs.Entries.{type_of_row, station_of_row, stock_of_row, trip_of_row}

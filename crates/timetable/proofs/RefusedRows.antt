@@ -6,8 +6,7 @@ use Rattle.std.proofs.lemmas.Bool.{ltb-false, both_ways}
 use Rattle.std.proofs.lemmas.List.Sums.{fails_before_first}
 use Rattle.std.proofs.lemmas.Slice.Eq.{bytes_eq-Decides}
 use Rattle.timetable.specs.Naming.{find_name}
-use Rattle.timetable.specs.Refusals.{IsRow}
-use Rattle.timetable.specs.Rowwise.{row_after}
+use Rattle.timetable.specs.Rowwise.{row_after, IsRow}
 use Rattle.timetable.proofs.Accepting.{IsFirstRefused, accepted_length}
 use Rattle.timetable.proofs.Days.{entry_at}
 use Rattle.timetable.proofs.Entries.{found_name}

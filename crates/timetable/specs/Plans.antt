@@ -1,6 +1,6 @@
 -- The plan that rows make of a day, or the first row that is wrong.
-use Rattle.std.specs.Prelude.{ℕ, ◌≡◌, List, [], length, Bool, false, nat_lt, if◌then◌else◌, Option, Some, None, Result, Ok, Err, slice_get}
-use Rattle.std.specs.List.{list_all}
+use Rattle.std.specs.Prelude.{ℕ, ◌≡◌, ◌≤◌, ◌<◌, List, [], ◌∷◌, length, map, Bool, false, nat_lt, if◌then◌else◌, Option, Some, None, Result, Ok, Err, slice_get}
+use Rattle.std.specs.List.{All, Any, list_all}
 use Rattle.std.specs.Str.{bytes_eq}
 use Rattle.std.specs.Global.{Vec}
 use Rattle.rail_csv.specs.declared.rows.PlanRow.{PlanRow}
@@ -8,7 +8,37 @@ use Rattle.timetable.specs.declared.day.records.Trip.{Trip}
 use Rattle.timetable.specs.declared.building.refusal.PlanRefusal.{PlanRefusal}
 use Rattle.timetable.specs.declared.building.refusal.PlanRefusal.TheVariants.{WrongTrip, UnknownUnit, MissingTrip, NoMemory}
 use Rattle.timetable.specs.Day.{Day, unit_count}
-use Rattle.timetable.specs.Rowwise.{◌>>=◌, row_after, accept_each}
+use Rattle.timetable.specs.Rowwise.{◌>>=◌, row_after, accept_each, IsFirstWrong}
+
+-- ---- what rows say
+
+-- the row names trip t of the day, counted from 0
+abbrev pub NamesTrip : Day → ℕ → PlanRow → Type 0
+NamesTrip day t row = slice_get (map (λ trip. trip.name) day.trips) t ≡ Some row.trip
+
+-- Rows that are right: in order, each names the trip of its number, and its units are units of the day. Trips may be left.
+pub record AreRunRows (day : Day) (rows : List PlanRow) : Type 0 where
+  pub trips : (t : ℕ) (row : PlanRow) → slice_get rows t ≡ Some row → NamesTrip day t row
+  pub units : All (λ row. All (λ u. u < unit_count day) row.units) rows
+
+-- The plan of the rows: all are right, each trip has one, and its units are those that the trip gets, front to rear.
+pub record IsPlanOf (day : Day) (rows : List PlanRow) (plan : List (List ℕ)) : Type 0 where
+  pub right : AreRunRows day rows
+  pub whole : length rows ≡ length day.trips
+  pub lists : plan ≡ map (λ row. row.units) rows
+
+-- what may be wrong with a row after those before it: it names another trip, or none; a unit of it is none of the day
+abbrev pub faults_of : Day → List PlanRow → PlanRow → List (Type 0)
+faults_of day before row = (¬ NamesTrip day (length before) row) ∷ Any (λ u. unit_count day ≤ u) row.units ∷ []
+
+-- what a refusal says: this row is the first that is wrong, or all rows are right and trips are left after the last
+abbrev pub IsRefusedFor : Day → List PlanRow → PlanRefusal → Type 0
+IsRefusedFor day rows (WrongTrip number) = IsFirstWrong (AreRunRows day) (faults_of day) rows number 0
+IsRefusedFor day rows (UnknownUnit number) = IsFirstWrong (AreRunRows day) (faults_of day) rows number 1
+IsRefusedFor day rows (MissingTrip number) = AreRunRows day rows × (number ≡ length rows) × (length rows < length day.trips)
+IsRefusedFor day rows NoMemory = Unit {0}
+
+-- ---- the tests, row by row
 
 -- whether there is a trip, and it has the name
 abbrev pub is_named : Option Trip → List ℕ → Bool

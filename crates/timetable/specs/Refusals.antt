@@ -1,5 +1,5 @@
 -- What a refusal says of the tables: that this row, or this sum, breaks a rule.
-use Rattle.std.specs.Prelude.{ℕ, ◌≡◌, ◌≢◌, ◌+◌, ◌≤◌, ◌<◌, ◌⊎◌, List, [], ◌∷◌, ◌++◌, length, map, false, Option, Some, None, slice_get}
+use Rattle.std.specs.Prelude.{ℕ, ◌≡◌, ◌≢◌, ◌+◌, ◌≤◌, ◌<◌, ◌⊎◌, List, [], ◌∷◌, length, map, false, Option, Some, None, slice_get}
 use Rattle.std.specs.List.{All, Any}
 use Rattle.compositions.specs.Catalogue.{catalogue_of}
 use Rattle.rail_csv.specs.declared.rows.End.{End}
@@ -20,12 +20,7 @@ use Rattle.timetable.specs.Build.{type_in, station_in}
 use Rattle.timetable.specs.Compositions.{greatest_in}
 use Rattle.timetable.specs.Day.{Day}
 use Rattle.timetable.specs.Meaning.{IsTripOf}
-
--- the row of this number, counted from 1, and the rows before it
-pub record IsRow {X : Type 0} (rows : List X) (number : ℕ) (before : List X) (row : X) : Type 0 where
-  pub after : List X
-  pub split : rows ≡ before ++ row ∷ after
-  pub place : number ≡ length before + 1
+use Rattle.timetable.specs.Rowwise.{IsRow}
 
 -- a row before this one has its name
 abbrev pub Repeats : {X : Type 0} → (X → List ℕ) → List X → ℕ → Type 0

@@ -1,9 +1,8 @@
 //! A plan of named units: which units run on each trip, front to rear.
 
-ghost use Rattle.std.specs.Prelude.{◌≡◌, ◌<◌, ◌≤◌, length, slice_get, IfOk};
-ghost use Rattle.rail_csv.specs.Rows.{ArePlanRows};
+ghost use Rattle.std.specs.Prelude.{◌≡◌, ◌<◌, ◌≤◌, length, slice_get, IfOk, IfErr};
 ghost use Rattle.timetable.specs.Links.{list_of};
-ghost use Rattle.timetable.specs.Plans.{is_named, are_units, accept_list, lists_in, plan_of, Gives, GivesRows};
+ghost use Rattle.timetable.specs.Plans.{is_named, are_units, accept_list, lists_in, plan_of, IsPlanOf, IsRefusedFor, Gives, GivesRows};
 ghost use Rattle.timetable.specs.Running.{IsPlan};
 
 use crate::building::entries::{are_same, row_after};
@@ -31,7 +30,7 @@ impl Model for NamedPlan {
 }
 
 impl NamedPlan {
-    /// The plan that rows make of a day: row k, counted from 1, is for trip k - 1.
+    /// The plan that rows make of a day: row k, counted from 1, is for trip k - 1. There is no condition on the rows.
     ///
     /// Refusals, the first wrong row first: `WrongTrip`, where the row names another trip or there is no such trip; then
     /// `UnknownUnit`, where a unit number is not below the number of units; after the last row `MissingTrip`, where trips
@@ -42,9 +41,13 @@ impl NamedPlan {
         instance: &Instance,
         rows: &[PlanRow],
     ) -> Result<NamedPlan, PlanRefusal>
-        requires { ArePlanRows rows.now }
+        // The refusal is the first test that fails, and else the plan is that of the tests.
         ensures exact { Gives result (plan_of instance.now rows.now) }
+        // The plan is that of the rows in their own words.
+        ensures meaning { IfOk result (λ plan. IsPlanOf instance.now rows.now plan) }
         ensures is_plan { IfOk result (λ plan. IsPlan instance.now plan) }
+        // A refusal says what is so in the rows.
+        ensures refusal { IfErr result (λ refusal. IsRefusedFor instance.now rows.now refusal) }
     {
         let lists = lists_of(alloc, instance, rows)?;
         if rows.len() < instance.trips() as usize {
@@ -74,7 +77,8 @@ impl NamedPlan {
 
 /// Whether there is a trip of this number, and it has the name.
 fn is_trip(instance: &Instance, trip: usize, name: &Name) -> bool
-    ensures { result ≡ is_named (slice_get instance.now.trips trip) name.now }
+    ensures value { result ≡ is_named (slice_get instance.now.trips trip) name.now }
+    ensures few { length instance.now.trips ≤ 400 }
 {
     if trip >= instance.trips() as usize {
         return false;
@@ -107,7 +111,8 @@ fn accept_list(
     row: &PlanRow,
 ) -> Result<UnitList, PlanRefusal>
     requires { length before.now ≤ 400 }
-    ensures { Gives result (accept_list instance.now before.now row.now) }
+    ensures value { Gives result (accept_list instance.now before.now row.now) }
+    ensures few { IfOk result (λ _. length before.now < 400) }
 {
     if !is_trip(instance, before.len(), &row.trip) {
         return Err(PlanRefusal::WrongTrip(row_after(before.len())));
@@ -125,8 +130,8 @@ fn lists_of(
     instance: &Instance,
     rows: &[PlanRow],
 ) -> Result<Vec<UnitList>, PlanRefusal>
-    requires { length rows.now ≤ 400 }
-    ensures { GivesRows result (lists_in instance.now rows.now) }
+    ensures value { GivesRows result (lists_in instance.now rows.now) }
+    ensures few { IfOk result (λ lists. length lists.items ≤ 400) }
 {
     let mut lists = Vec::new(alloc);
     for row in rows {
