@@ -7,7 +7,8 @@ use Rattle.std.proofs.lemmas.List.Elements.{All-push, All-head, All-tail}
 use Rattle.std.proofs.lemmas.List.Quantifiers.{all_pairs_push}
 use Rattle.timetable.specs.declared.building.refusal.InstanceRefusal.{InstanceRefusal}
 use Rattle.timetable.specs.Naming.{found_or}
-use Rattle.timetable.specs.Rowwise.{◌>>=◌, accept_each}
+use Rattle.rail_base.specs.Answers.{◌>>=◌}
+use Rattle.timetable.specs.Rowwise.{accept_each}
 
 -- a step that went well is one that gave a value, and the rest went well on it
 pub bind_ok : {A B E : Type 0} (r : Result A E) (next : A → Result B E) (y : B) → (r >>= next) ≡ Ok y → (x : A) × (r ≡ Ok x) × (next x ≡ Ok y)

@@ -25,7 +25,8 @@ use Rattle.timetable.specs.Accepted.{IsUnitType}
 use Rattle.rail_csv.specs.declared.rows.Table.TheVariants as tables
 use Rattle.timetable.specs.declared.building.refusal.InstanceRefusal.{InstanceRefusal}
 use Rattle.timetable.specs.declared.building.refusal.InstanceRefusal.TheVariants.{RepeatedName, UnknownName, RepeatedStock, ArrivalNotAfterDeparture, SameStation, NoComposition}
-use Rattle.timetable.specs.Rowwise.{◌>>=◌, row_after}
+use Rattle.rail_base.specs.Answers.{◌>>=◌}
+use Rattle.timetable.specs.Rowwise.{row_after}
 use Rattle.timetable.specs.Build.{new_stock, trip_between, has_fitting, platform_at, accept_type, types_in, type_in, accept_station, stations_in, station_in, has_stock, accept_stock, stock_in, accept_trip, accept_run, trips_in}
 use Rattle.timetable.specs.Naming.{has_name, find_name, found_or}
 use Rattle.timetable.specs.Within.{AreTypes, AreStations, IsStation, IsStockAt, IsTripAt, AreTrips}

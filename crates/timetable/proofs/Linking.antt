@@ -24,7 +24,8 @@ use Rattle.timetable.specs.Links.{arriving_in, departing_in}
 use Rattle.timetable.specs.Lists.{count_of, has}
 use Rattle.timetable.specs.Meaning.{IsKindOf}
 use Rattle.timetable.specs.Naming.{find_name}
-use Rattle.timetable.specs.Rowwise.{◌>>=◌, row_after, accept_each}
+use Rattle.rail_base.specs.Answers.{◌>>=◌}
+use Rattle.timetable.specs.Rowwise.{row_after, accept_each}
 use Rattle.timetable.proofs.Accepting.{bind_ok, guard_ok, choice_ok, found_ok, same_ok, accepted_all}
 use Rattle.timetable.proofs.Days.{entry_at}
 use Rattle.timetable.proofs.Entries.{found_name}

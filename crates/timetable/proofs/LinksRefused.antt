@@ -28,7 +28,8 @@ use Rattle.timetable.specs.Lists.{of_entry, has}
 use Rattle.timetable.specs.Meaning.{IsKindOf}
 use Rattle.timetable.specs.Naming.{find_name}
 use Rattle.timetable.specs.Refusals.{Names, IsNoTrip, FitsKind, NamesArriving, NamesDeparting, NamedBefore, UsesTwice, HasTripsThat, IsBroken}
-use Rattle.timetable.specs.Rowwise.{◌>>=◌, row_after, IsRow}
+use Rattle.rail_base.specs.Answers.{◌>>=◌}
+use Rattle.timetable.specs.Rowwise.{row_after, IsRow}
 use Rattle.timetable.proofs.Accepting.{IsFirstRefused, first_refused, bind_err, guard_err, choice_err, test_err, found_err, any_front, accepted_zip}
 use Rattle.timetable.proofs.Days.{entry_at, entry_is}
 use Rattle.timetable.proofs.Entries.{IsTripOfRow, found_name, trip_of_row}

@@ -7,12 +7,13 @@ use Rattle.std.proofs.lemmas.List.Elements.{All-weaker}
 use Rattle.std.proofs.lemmas.List.Sums.{AllPass-from_list_all}
 use Rattle.std.proofs.lemmas.Option.{slice_get-map, slice_get-get_or, same_Some}
 use Rattle.std.proofs.lemmas.Slice.Eq.{bytes_eq-Decides}
+use Rattle.rail_base.specs.Answers.{◌>>=◌, Gives}
 use Rattle.rail_csv.specs.declared.rows.PlanRow.{PlanRow}
 use Rattle.timetable.specs.declared.day.records.Trip.{Trip}
 use Rattle.timetable.specs.declared.building.refusal.PlanRefusal.{PlanRefusal}
 use Rattle.timetable.specs.declared.building.refusal.PlanRefusal.TheVariants.{WrongTrip, UnknownUnit, MissingTrip, NoMemory}
 use Rattle.timetable.specs.Day.{Day, unit_count}
-use Rattle.timetable.specs.Plans.{NamesTrip, AreRunRows, IsPlanOf, IsRefusedFor, is_named, are_units, accept_list, lists_in, plan_of, Fails, Gives}
+use Rattle.timetable.specs.Plans.{NamesTrip, AreRunRows, IsPlanOf, IsRefusedFor, is_named, are_units, accept_list, lists_in, plan_of, is_memory}
 use Rattle.timetable.specs.Rowwise.{row_after, IsRow}
 use Rattle.timetable.proofs.Accepting.{IsFirstRefused, first_refused, bind_err, guard_err, choice_err, test_err, accepted_at, accepted_map}
 use Rattle.timetable.proofs.Lists.{IsListOfRow, list_of_row, few_lists, length-lists_in}
@@ -123,12 +124,9 @@ plan_refused day rows d e = elim (bind_err (lists_in day rows) (λ plan. if nat_
 ]
 
 -- what a call answers is so
-failure_is_so : (day : Day) (rows : List PlanRow) (d : PlanRefusal) → Fails d (plan_of day rows) → IsRefusedFor day rows d
-failure_is_so day rows (WrongTrip number) e = plan_refused day rows (WrongTrip number) e
-failure_is_so day rows (UnknownUnit number) e = plan_refused day rows (UnknownUnit number) e
-failure_is_so day rows (MissingTrip number) e = plan_refused day rows (MissingTrip number) e
-failure_is_so day rows NoMemory e = tt
-
-pub plan_answer_is_so : (day : Day) (rows : List PlanRow) (answer : Result (List (List ℕ)) PlanRefusal) → Gives answer (plan_of day rows) → IfErr answer (λ d. IsRefusedFor day rows d)
+pub plan_answer_is_so : (day : Day) (rows : List PlanRow) (answer : Result (List (List ℕ)) PlanRefusal) → Gives is_memory answer (plan_of day rows) → IfErr answer (λ d. IsRefusedFor day rows d)
 plan_answer_is_so day rows (Ok plan) e = tt
-plan_answer_is_so day rows (Err d) e = failure_is_so day rows d e
+plan_answer_is_so day rows (Err (WrongTrip number)) e = plan_refused day rows (WrongTrip number) e
+plan_answer_is_so day rows (Err (UnknownUnit number)) e = plan_refused day rows (UnknownUnit number) e
+plan_answer_is_so day rows (Err (MissingTrip number)) e = plan_refused day rows (MissingTrip number) e
+plan_answer_is_so day rows (Err NoMemory) e = tt

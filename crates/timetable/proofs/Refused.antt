@@ -21,7 +21,8 @@ use Rattle.timetable.specs.declared.building.refusal.InstanceRefusal.{InstanceRe
 use Rattle.timetable.specs.declared.building.refusal.InstanceRefusal.TheVariants.{RepeatedName, UnknownName, RepeatedStock, ArrivalNotAfterDeparture, SameStation, TripUsedTwice, WrongStation, TooEarly, WrongLinkFields, NoComposition, TooManyUnits, TooManyCompositions, NoMemory}
 use Rattle.timetable.specs.declared.building.tables.Tables.{Tables}
 use Rattle.timetable.specs.Admissible.{is_admissible}
-use Rattle.timetable.specs.Build.{has_stock, new_stock, has_fitting, platform_at, accept_type, accept_station, accept_stock, accept_trip, accept_run, type_in, station_in, types_in, stations_in, stock_in, trips_in, trip_between, starts_of, most_units, most_compositions, catalogue_in, weights_in, day_of, Fails, Gives}
+use Rattle.rail_base.specs.declared.limits.TheConstants.{MOST_UNITS, MOST_COMPOSITIONS}
+use Rattle.timetable.specs.Build.{has_stock, new_stock, has_fitting, platform_at, accept_type, accept_station, accept_stock, accept_trip, accept_run, type_in, station_in, types_in, stations_in, stock_in, trips_in, trip_between, starts_of, catalogue_in, weights_in, day_of, is_memory}
 use Rattle.timetable.specs.Naming.{has_name, find_name, found_or}
 use Rattle.timetable.specs.Compositions.{greatest_in}
 use Rattle.timetable.specs.Day.{Day, from_of, to_of, platform_of}
@@ -29,7 +30,9 @@ use Rattle.timetable.specs.LinkRows.{links_in}
 use Rattle.timetable.specs.Meaning.{IsNumberOf, AreNamedApart}
 use Rattle.timetable.proofs.Said.{stations_apart, number_found}
 use Rattle.timetable.specs.Refusals.{Repeats, IsUnserved, starts_in, IsBroken}
-use Rattle.timetable.specs.Rowwise.{◌>>=◌, row_after, IsRow}
+use Rattle.rail_base.specs.Answers.{◌>>=◌, Fails, Gives}
+use Rattle.rail_base.proofs.Answers.{Fails-then}
+use Rattle.timetable.specs.Rowwise.{row_after, IsRow}
 use Rattle.timetable.proofs.Accepting.{IsFirstRefused, first_refused, bind_err, guard_err, choice_err, found_err, found_ok, any_front, accepted_map, accepted_zip}
 use Rattle.timetable.proofs.Days.{entry_at, entry_is}
 use Rattle.timetable.proofs.Entries.{type_of_row, station_of_row, stock_of_row, trip_of_row}
@@ -214,7 +217,7 @@ compositions_refused : (tables : Tables) (types : List UnitType) (stations : Lis
 unfolding catalogue_in
 compositions_refused tables types stations d are_types are_stations e =
     let compositions : List UnitType → List Station → List (List ℕ) = λ types stations. catalogue_of types (greatest_in stations) in
-    elim (guard_err (nat_lt most_compositions (length (compositions types stations))) TooManyCompositions (Ok (compositions types stations)) d e) [
+    elim (guard_err (nat_lt MOST_COMPOSITIONS (length (compositions types stations))) TooManyCompositions (Ok (compositions types stations)) d e) [
       | inl many ↦ subst (IsBroken tables) many.1
           (subst (λ (ts : List UnitType). 1000 < length (compositions ts (map station_in tables.stations))) are_types
           (subst (λ (ss : List Station). 1000 < length (compositions types ss)) are_stations (ltb-true 1000 (length (compositions types stations)) many.0)))
@@ -229,7 +232,7 @@ refusal_is_so tables d e =
     let with_links : List UnitType → List Station → List Stock → List Trip → Result Day InstanceRefusal = λ types stations stock trips. links_in trips tables.links >>= (λ links. Ok (made types stations stock trips links)) in
     let with_trips : List UnitType → List Station → List Stock → Result Day InstanceRefusal = λ types stations stock. trips_in stations types tables.trips >>= (λ trips. with_links types stations stock trips) in
     let with_catalogue : List UnitType → List Station → List Stock → Result Day InstanceRefusal = λ types stations stock. catalogue_in types stations >>= (λ catalogue. with_trips types stations stock) in
-    let with_stock : List UnitType → List Station → List Stock → Result Day InstanceRefusal = λ types stations stock. if nat_lt most_units (starts_of stock) then Err TooManyUnits else with_catalogue types stations stock in
+    let with_stock : List UnitType → List Station → List Stock → Result Day InstanceRefusal = λ types stations stock. if nat_lt MOST_UNITS (starts_of stock) then Err TooManyUnits else with_catalogue types stations stock in
     elim (bind_err (types_in tables.types) (λ types. stations_in tables.stations >>= (λ stations. stock_in stations types tables.stock >>= (λ stock. with_stock types stations stock))) d e) [
       | inl none ↦ types_refused tables d none
       | inr (types, is_types, e1) ↦ elim (bind_err (stations_in tables.stations) (λ stations. stock_in stations types tables.stock >>= (λ stock. with_stock types stations stock)) d e1) [
@@ -239,7 +242,7 @@ refusal_is_so tables d e =
             let are_stations : stations ≡ map station_in tables.stations = accepted_map accept_station station_in (λ before row s is. (station_of_row before row s is).1) [] tables.stations stations is_stations in
             elim (bind_err (stock_in stations types tables.stock) (λ stock. with_stock types stations stock) d e2) [
               | inl none ↦ stock_refused tables stations types d are_stations are_types none
-              | inr (stock, is_stock, e3) ↦ elim (guard_err (nat_lt most_units (starts_of stock)) TooManyUnits (with_catalogue types stations stock) d e3) [
+              | inr (stock, is_stock, e3) ↦ elim (guard_err (nat_lt MOST_UNITS (starts_of stock)) TooManyUnits (with_catalogue types stations stock) d e3) [
                 | inl many ↦ subst (IsBroken tables) many.1 (units_refused tables stations types stock is_stock (ltb-true 2000 (starts_of stock) many.0))
                 | inr e4 ↦ elim (bind_err (catalogue_in types stations) (λ catalogue. with_trips types stations stock) d e4) [
                   | inl many ↦ compositions_refused tables types stations d are_types are_stations many
@@ -257,7 +260,7 @@ refusal_is_so tables d e =
     ]
 
 -- what a call answers is so
-pub failure_is_so : (tables : Tables) (d : InstanceRefusal) → Fails d (day_of tables) → IsBroken tables d
+pub failure_is_so : (tables : Tables) (d : InstanceRefusal) → Fails is_memory d (day_of tables) → IsBroken tables d
 failure_is_so tables (RepeatedName table row) e = refusal_is_so tables (RepeatedName table row) e
 failure_is_so tables (UnknownName table row column) e = refusal_is_so tables (UnknownName table row column) e
 failure_is_so tables (RepeatedStock row) e = refusal_is_so tables (RepeatedStock row) e
@@ -272,31 +275,15 @@ failure_is_so tables TooManyUnits e = refusal_is_so tables TooManyUnits e
 failure_is_so tables TooManyCompositions e = refusal_is_so tables TooManyCompositions e
 failure_is_so tables NoMemory e = tt
 
-pub answer_is_so : (tables : Tables) (answer : Result Day InstanceRefusal) → Gives answer (day_of tables) → IfErr answer (λ d. IsBroken tables d)
+pub answer_is_so : (tables : Tables) (answer : Result Day InstanceRefusal) → Gives is_memory answer (day_of tables) → IfErr answer (λ d. IsBroken tables d)
 answer_is_so tables (Ok day) e = tt
 answer_is_so tables (Err d) e = failure_is_so tables d e
 
--- where a step fails, so does what goes on from it
-fails_on : {A B : Type 0} (d : InstanceRefusal) (step : Result A InstanceRefusal) (next : A → Result B InstanceRefusal) → Fails d step → Fails d (step >>= next)
-fails_on {A} (RepeatedName table row) step next e = ap (λ (r : Result A InstanceRefusal). r >>= next) e
-fails_on {A} (UnknownName table row column) step next e = ap (λ (r : Result A InstanceRefusal). r >>= next) e
-fails_on {A} (RepeatedStock row) step next e = ap (λ (r : Result A InstanceRefusal). r >>= next) e
-fails_on {A} (ArrivalNotAfterDeparture row) step next e = ap (λ (r : Result A InstanceRefusal). r >>= next) e
-fails_on {A} (SameStation row) step next e = ap (λ (r : Result A InstanceRefusal). r >>= next) e
-fails_on {A} (TripUsedTwice row) step next e = ap (λ (r : Result A InstanceRefusal). r >>= next) e
-fails_on {A} (WrongStation row) step next e = ap (λ (r : Result A InstanceRefusal). r >>= next) e
-fails_on {A} (TooEarly row) step next e = ap (λ (r : Result A InstanceRefusal). r >>= next) e
-fails_on {A} (WrongLinkFields row) step next e = ap (λ (r : Result A InstanceRefusal). r >>= next) e
-fails_on {A} (NoComposition row) step next e = ap (λ (r : Result A InstanceRefusal). r >>= next) e
-fails_on {A} TooManyUnits step next e = ap (λ (r : Result A InstanceRefusal). r >>= next) e
-fails_on {A} TooManyCompositions step next e = ap (λ (r : Result A InstanceRefusal). r >>= next) e
-fails_on NoMemory step next e = tt
-
 -- once all other tables are accepted, the day fails as its links do
 pub links_fail : (tables : Tables) (types : List UnitType) (stations : List Station) (stock : List Stock) (catalogue : List (List ℕ)) (trips : List Trip) (d : InstanceRefusal)
-    → types_in tables.types ≡ Ok types → stations_in tables.stations ≡ Ok stations → stock_in stations types tables.stock ≡ Ok stock → nat_lt most_units (starts_of stock) ≡ false
-    → catalogue_in types stations ≡ Ok catalogue → trips_in stations types tables.trips ≡ Ok trips → Fails d (links_in trips tables.links) → Fails d (day_of tables)
+    → types_in tables.types ≡ Ok types → stations_in tables.stations ≡ Ok stations → stock_in stations types tables.stock ≡ Ok stock → nat_lt MOST_UNITS (starts_of stock) ≡ false
+    → catalogue_in types stations ≡ Ok catalogue → trips_in stations types tables.trips ≡ Ok trips → Fails is_memory d (links_in trips tables.links) → Fails is_memory d (day_of tables)
 unfolding day_of
 links_fail tables types stations stock catalogue trips d e1 e2 e3 e4 e5 e6 fails =
-    rw (e1, e2, e3, e4, e5, e6) (fails_on d (links_in trips tables.links)
+    rw (e1, e2, e3, e4, e5, e6) (Fails-then is_memory d (links_in trips tables.links)
     (λ links. Ok (record { types = types; stations = stations; stock = stock; trips = trips; links = links; weights = weights_in tables.weights })) fails)

@@ -1,5 +1,6 @@
 -- What is known of every day that was accepted.
 use Rattle.std.specs.Prelude.{ℕ, ◌+◌, ◌<◌, ◌≤◌, ◌≡◌, length, List, [], ◌∷◌, All, IsTrue, Some, slice_get}
+use Rattle.rail_base.specs.declared.limits.TheConstants.{MOST_CARRIAGES, MOST_SEATS, MOST_METRES, MOST_MINUTES, MOST_KM, MOST_DEMAND, MOST_PLATFORM, MOST_REALLOCATION, MOST_TYPES, MOST_STATIONS, MOST_TRIPS, MOST_LINKS, MOST_UNITS, MOST_WEIGHT}
 use Rattle.compositions.specs.declared.types.UnitType.{UnitType}
 use Rattle.timetable.specs.Day.{Day, leaves, arrives, from_of, to_of, km_of, demand_of, home_of, type_of, unit_count, platform_of, reallocation_of}
 use Rattle.timetable.specs.Links.{arriving_in, departing_in}
@@ -9,31 +10,31 @@ use Rattle.timetable.specs.declared.day.records.LinkKind.{LinkKind}
 
 -- the numbers of a unit type are within the limits
 pub record IsUnitType (t : UnitType) : Type 0 where
-  pub carriages : t.carriages ≤ 20
-  pub seats : t.seats ≤ 2000
-  pub metres : t.metres ≤ 500
+  pub carriages : t.carriages ≤ MOST_CARRIAGES
+  pub seats : t.seats ≤ MOST_SEATS
+  pub metres : t.metres ≤ MOST_METRES
 
 -- every trip arrives after it leaves and on the second day at the latest, what it names is there, and each number is within its limit
 pub record IsDay (day : Day) : Type 0 where
   pub time : (t : ℕ) → t < length day.trips → leaves day t < arrives day t
-  pub late : (t : ℕ) → t < length day.trips → arrives day t < 2880
+  pub late : (t : ℕ) → t < length day.trips → arrives day t < MOST_MINUTES
   pub origin : (t : ℕ) → t < length day.trips → from_of day t < length day.stations
   pub goal : (t : ℕ) → t < length day.trips → to_of day t < length day.stations
-  pub km : (t : ℕ) → t < length day.trips → km_of day t ≤ 1000
-  pub demand : (t : ℕ) → t < length day.trips → demand_of day t ≤ 10000
+  pub km : (t : ℕ) → t < length day.trips → km_of day t ≤ MOST_KM
+  pub demand : (t : ℕ) → t < length day.trips → demand_of day t ≤ MOST_DEMAND
   pub home : (u : ℕ) → u < unit_count day → home_of day u < length day.stations
   pub unit_type : (u : ℕ) → u < unit_count day → type_of day u < length day.types
-  pub platform : (s : ℕ) → platform_of day s ≤ 1000
-  pub reallocation : (s : ℕ) → reallocation_of day s ≤ 600
+  pub platform : (s : ℕ) → platform_of day s ≤ MOST_PLATFORM
+  pub reallocation : (s : ℕ) → reallocation_of day s ≤ MOST_REALLOCATION
   pub unit_types : All IsUnitType day.types
-  pub type_count : length day.types ≤ 6
-  pub station_count : length day.stations ≤ 60
-  pub trip_count : length day.trips ≤ 400
-  pub link_count : length day.links ≤ 400
-  pub units : unit_count day ≤ 2000
-  pub carriage : day.weights.carriage ≤ 10000
-  pub shortage : day.weights.shortage ≤ 10000
-  pub shunting : day.weights.shunting ≤ 10000
+  pub type_count : length day.types ≤ MOST_TYPES
+  pub station_count : length day.stations ≤ MOST_STATIONS
+  pub trip_count : length day.trips ≤ MOST_TRIPS
+  pub link_count : length day.links ≤ MOST_LINKS
+  pub units : unit_count day ≤ MOST_UNITS
+  pub carriage : day.weights.carriage ≤ MOST_WEIGHT
+  pub shortage : day.weights.shortage ≤ MOST_WEIGHT
+  pub shunting : day.weights.shunting ≤ MOST_WEIGHT
 
 -- how often links name a trip on one side, as arriving or as departing
 abbrev pub times_named : (LinkKind → List ℕ) → List Link → ℕ → ℕ

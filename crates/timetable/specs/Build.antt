@@ -1,7 +1,8 @@
 -- What the tables make: the day, or the first test that fails. Rows are tested in order, each by what the rows before it gave.
-use Rattle.std.specs.Prelude.{ℕ, ◌+◌, ◌≡◌, List, [], ◌∷◌, length, Bool, ◌&&◌, ◌==◌, nat_le, nat_lt, min, if◌then◌else◌, Result, Ok, Err}
+use Rattle.std.specs.Prelude.{ℕ, ◌+◌, ◌≡◌, List, [], ◌∷◌, length, Bool, true, false, ◌&&◌, ◌==◌, nat_le, nat_lt, min, if◌then◌else◌, Result, Ok, Err}
 use Rattle.std.specs.List.{list_any}
-use Rattle.std.specs.Global.{Vec}
+use Rattle.rail_base.specs.Answers.{◌>>=◌}
+use Rattle.rail_base.specs.declared.limits.TheConstants.{MOST_UNITS, MOST_COMPOSITIONS}
 use Rattle.compositions.specs.Catalogue.{catalogue_of}
 use Rattle.compositions.specs.declared.types.UnitType.{UnitType}
 use Rattle.rail_csv.specs.declared.rows.TypeRow.{TypeRow}
@@ -22,7 +23,7 @@ use Rattle.timetable.specs.Day.{Day}
 use Rattle.timetable.specs.LinkRows.{links_in}
 use Rattle.timetable.specs.Lists.{of_entry}
 use Rattle.timetable.specs.Naming.{has_name, find_name, found_or}
-use Rattle.timetable.specs.Rowwise.{◌>>=◌, row_after, accept_each}
+use Rattle.timetable.specs.Rowwise.{row_after, accept_each}
 
 -- ---- types
 
@@ -68,18 +69,12 @@ abbrev pub starts_of : List Stock → ℕ
 starts_of [] = 0
 starts_of (row ∷ rows) = row.start + starts_of rows
 
-abbrev pub most_units : ℕ
-most_units = 2000
-
 -- ---- compositions
-
-abbrev pub most_compositions : ℕ
-most_compositions = 1000
 
 -- the compositions that fit the greatest platform
 unfoldable pub catalogue_in : List UnitType → List Station → Result (List (List ℕ)) InstanceRefusal
 catalogue_in types stations =
-    if nat_lt most_compositions (length (catalogue_of types (greatest_in stations))) then Err TooManyCompositions
+    if nat_lt MOST_COMPOSITIONS (length (catalogue_of types (greatest_in stations))) then Err TooManyCompositions
     else Ok (catalogue_of types (greatest_in stations))
 
 -- ---- trips
@@ -133,36 +128,15 @@ day_of tables = do
   types ← types_in tables.types
   stations ← stations_in tables.stations
   stock ← stock_in stations types tables.stock
-  if nat_lt most_units (starts_of stock) then Err TooManyUnits else do
+  if nat_lt MOST_UNITS (starts_of stock) then Err TooManyUnits else do
     catalogue ← catalogue_in types stations
     trips ← trips_in stations types tables.trips
     links ← links_in trips tables.links
     Ok (record { types = types; stations = stations; stock = stock; trips = trips; links = links; weights = weights_in tables.weights })
 
--- ---- what a call answers
+-- ---- what a call may answer besides
 
--- A refusal is the one that the tests give; want of memory is free.
-abbrev pub Fails : {X : Type 0} → InstanceRefusal → Result X InstanceRefusal → Type 0
-Fails (RepeatedName table row) tests = tests ≡ Err (RepeatedName table row)
-Fails (UnknownName table row column) tests = tests ≡ Err (UnknownName table row column)
-Fails (RepeatedStock row) tests = tests ≡ Err (RepeatedStock row)
-Fails (ArrivalNotAfterDeparture row) tests = tests ≡ Err (ArrivalNotAfterDeparture row)
-Fails (SameStation row) tests = tests ≡ Err (SameStation row)
-Fails (TripUsedTwice row) tests = tests ≡ Err (TripUsedTwice row)
-Fails (WrongStation row) tests = tests ≡ Err (WrongStation row)
-Fails (TooEarly row) tests = tests ≡ Err (TooEarly row)
-Fails (WrongLinkFields row) tests = tests ≡ Err (WrongLinkFields row)
-Fails (NoComposition row) tests = tests ≡ Err (NoComposition row)
-Fails TooManyUnits tests = tests ≡ Err TooManyUnits
-Fails TooManyCompositions tests = tests ≡ Err TooManyCompositions
-Fails NoMemory tests = Unit {0}
-
--- A call answers what the tests give, unless memory ran out.
-abbrev pub Gives : {X : Type 0} → Result X InstanceRefusal → Result X InstanceRefusal → Type 0
-Gives (Ok x) tests = tests ≡ Ok x
-Gives (Err e) tests = Fails e tests
-
--- The same of a call that answers a vector.
-abbrev pub GivesRows : {X : Type 0} → Result (Vec X) InstanceRefusal → Result (List X) InstanceRefusal → Type 0
-GivesRows (Ok rows) tests = tests ≡ Ok rows.items
-GivesRows (Err e) tests = Fails e tests
+-- want of memory is the one refusal that no test gives
+abbrev pub is_memory : InstanceRefusal → Bool
+is_memory NoMemory = true
+is_memory why = false

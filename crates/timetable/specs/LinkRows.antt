@@ -1,6 +1,7 @@
 -- What the rows of the links make: the links, or the first test that fails. Each row is tested by what the rows before it gave.
 use Rattle.std.specs.Prelude.{ℕ, List, [], Bool, true, false, ◌&&◌, ◌||◌, ◌==◌, nat_le, ◌<◌, if◌then◌else◌, Option, Some, None, Result, Ok, Err}
 use Rattle.std.specs.List.{list_any}
+use Rattle.rail_base.specs.Answers.{◌>>=◌}
 use Rattle.rail_csv.specs.declared.rows.End.{End}
 use Rattle.rail_csv.specs.declared.rows.End.TheVariants as at
 use Rattle.rail_csv.specs.declared.rows.KindWord.{KindWord}
@@ -16,7 +17,7 @@ use Rattle.timetable.specs.declared.building.refusal.InstanceRefusal.TheVariants
 use Rattle.timetable.specs.Links.{arriving_in, departing_in}
 use Rattle.timetable.specs.Lists.{of_entry, has}
 use Rattle.timetable.specs.Naming.{find_name, found_or}
-use Rattle.timetable.specs.Rowwise.{◌>>=◌, row_after, accept_each}
+use Rattle.timetable.specs.Rowwise.{row_after, accept_each}
 
 -- ---- the kind of a row, with the trips that it names
 

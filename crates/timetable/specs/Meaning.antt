@@ -2,6 +2,7 @@
 -- rule broken.
 use Rattle.std.specs.Prelude.{ℕ, ◌≡◌, ◌≢◌, ◌<◌, ◌≤◌, List, map, length, true, Some, None, slice_get}
 use Rattle.std.specs.List.{AllZip, AllPairs}
+use Rattle.rail_base.specs.declared.limits.TheConstants.{MOST_UNITS, MOST_COMPOSITIONS}
 use Rattle.rail_csv.specs.declared.rows.End.{End}
 use Rattle.rail_csv.specs.declared.rows.End.TheVariants as at
 use Rattle.rail_csv.specs.declared.rows.KindWord.TheVariants as words
@@ -106,8 +107,8 @@ pub record IsDayOf (tables : Tables) (day : Day) : Type 0 where
   pub station_names : AreNamedApart (λ s. s.name) day.stations
   pub trip_names : AreNamedApart (λ t. t.name) day.trips
   pub stock_rows : AllPairs IsOtherStock day.stock
-  pub units : unit_count day ≤ 2000
-  pub compositions : length (compositions_of day) ≤ 1000
+  pub units : unit_count day ≤ MOST_UNITS
+  pub compositions : length (compositions_of day) ≤ MOST_COMPOSITIONS
   -- every trip goes to another station, arrives after it leaves, and some composition may run on it
   pub elsewhere : (t : ℕ) → t < length day.trips → from_of day t ≢ to_of day t
   pub later : (t : ℕ) → t < length day.trips → leaves day t < arrives day t

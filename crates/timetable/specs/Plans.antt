@@ -1,14 +1,14 @@
 -- The plan that rows make of a day, or the first row that is wrong.
-use Rattle.std.specs.Prelude.{ℕ, ◌≡◌, ◌≤◌, ◌<◌, List, [], ◌∷◌, length, map, Bool, false, nat_lt, if◌then◌else◌, Option, Some, None, Result, Ok, Err, slice_get}
+use Rattle.std.specs.Prelude.{ℕ, ◌≡◌, ◌≤◌, ◌<◌, List, [], ◌∷◌, length, map, Bool, true, false, nat_lt, if◌then◌else◌, Option, Some, None, Result, Ok, Err, slice_get}
 use Rattle.std.specs.List.{All, Any, list_all}
 use Rattle.std.specs.Str.{bytes_eq}
-use Rattle.std.specs.Global.{Vec}
+use Rattle.rail_base.specs.Answers.{◌>>=◌}
 use Rattle.rail_csv.specs.declared.rows.PlanRow.{PlanRow}
 use Rattle.timetable.specs.declared.day.records.Trip.{Trip}
 use Rattle.timetable.specs.declared.building.refusal.PlanRefusal.{PlanRefusal}
 use Rattle.timetable.specs.declared.building.refusal.PlanRefusal.TheVariants.{WrongTrip, UnknownUnit, MissingTrip, NoMemory}
 use Rattle.timetable.specs.Day.{Day, unit_count}
-use Rattle.timetable.specs.Rowwise.{◌>>=◌, row_after, accept_each, IsFirstWrong}
+use Rattle.timetable.specs.Rowwise.{row_after, accept_each, IsFirstWrong}
 
 -- ---- what rows say
 
@@ -65,19 +65,7 @@ plan_of day rows = do
   plan ← lists_in day rows
   if nat_lt (length rows) (length day.trips) then Err (MissingTrip (length rows)) else Ok plan
 
--- A refusal is the one that the tests give; want of memory is free.
-abbrev pub Fails : {X : Type 0} → PlanRefusal → Result X PlanRefusal → Type 0
-Fails (WrongTrip row) tests = tests ≡ Err (WrongTrip row)
-Fails (UnknownUnit row) tests = tests ≡ Err (UnknownUnit row)
-Fails (MissingTrip row) tests = tests ≡ Err (MissingTrip row)
-Fails NoMemory tests = Unit {0}
-
--- A call answers what the tests give, unless memory ran out.
-abbrev pub Gives : {X : Type 0} → Result X PlanRefusal → Result X PlanRefusal → Type 0
-Gives (Ok x) tests = tests ≡ Ok x
-Gives (Err e) tests = Fails e tests
-
--- The same of a call that answers a vector.
-abbrev pub GivesRows : {X : Type 0} → Result (Vec X) PlanRefusal → Result (List X) PlanRefusal → Type 0
-GivesRows (Ok rows) tests = tests ≡ Ok rows.items
-GivesRows (Err e) tests = Fails e tests
+-- want of memory is the one refusal that no test gives
+abbrev pub is_memory : PlanRefusal → Bool
+is_memory NoMemory = true
+is_memory why = false

@@ -1,6 +1,7 @@
 -- What a refusal says of the tables: that this row, or this sum, breaks a rule.
 use Rattle.std.specs.Prelude.{ℕ, ◌≡◌, ◌≢◌, ◌+◌, ◌≤◌, ◌<◌, ◌⊎◌, List, [], ◌∷◌, length, map, false, Option, Some, None, slice_get}
 use Rattle.std.specs.List.{All, Any}
+use Rattle.rail_base.specs.declared.limits.TheConstants.{MOST_UNITS, MOST_COMPOSITIONS}
 use Rattle.compositions.specs.Catalogue.{catalogue_of}
 use Rattle.rail_csv.specs.declared.rows.End.{End}
 use Rattle.rail_csv.specs.declared.rows.End.TheVariants as at
@@ -126,6 +127,6 @@ IsBroken tables (WrongStation number) = IsLinkRowThat (HasTripsThat (λ a b. a.t
 IsBroken tables (TooEarly number) = IsLinkRowThat (HasTripsThat (λ a b. b.departure < a.arrival) tables) tables number
 IsBroken tables (WrongLinkFields number) = IsLinkRowThat (λ before row. ¬ FitsKind row.kind row.arriving2 row.departing2 row.uncouple row.couple) tables number
 IsBroken tables (NoComposition number) = IsTripRowThat (IsUnserved tables) tables number
-IsBroken tables TooManyUnits = 2000 < starts_in tables.stock
-IsBroken tables TooManyCompositions = 1000 < length (catalogue_of (map type_in tables.types) (greatest_in (map station_in tables.stations)))
+IsBroken tables TooManyUnits = MOST_UNITS < starts_in tables.stock
+IsBroken tables TooManyCompositions = MOST_COMPOSITIONS < length (catalogue_of (map type_in tables.types) (greatest_in (map station_in tables.stations)))
 IsBroken tables NoMemory = Unit {0}

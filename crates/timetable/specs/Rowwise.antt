@@ -1,11 +1,6 @@
 -- Tests on the rows of a table, in their order.
-use Rattle.std.specs.Prelude.{ℕ, zero, suc, ◌+◌, ◌≡◌, List, [], ◌∷◌, ◌++◌, length, Result, Ok, Err}
-
--- one test, and then the next where it passed
-infixl 10 ◌>>=◌
-abbrev pub ◌>>=◌ : {A B E : Type 0} → Result A E → (A → Result B E) → Result B E
-(Ok x) >>= next = next x
-(Err e) >>= next = Err e
+use Rattle.std.specs.Prelude.{ℕ, zero, suc, ◌+◌, ◌≡◌, List, [], ◌∷◌, ◌++◌, length, Result, Ok}
+use Rattle.rail_base.specs.Answers.{◌>>=◌}
 
 -- the number of the row after so many; rows are counted from 1
 abbrev pub row_after : {X : Type 0} → List X → ℕ

@@ -1,6 +1,7 @@
 -- What is known of the entries of a day that was accepted: each within its limits, and what it names is there.
 use Rattle.std.specs.Prelude.{ℕ, List, length, ◌≤◌, ◌<◌, ◌≡◌}
 use Rattle.std.specs.List.{All}
+use Rattle.rail_base.specs.declared.limits.TheConstants.{MOST_TYPES, MOST_PLATFORM, MOST_REALLOCATION, MOST_STATIONS, MOST_MINUTES, MOST_KM, MOST_DEMAND, MOST_TRIPS, MOST_WEIGHT}
 use Rattle.compositions.specs.declared.types.UnitType.{UnitType}
 use Rattle.timetable.specs.declared.day.records.Link.{Link}
 use Rattle.timetable.specs.declared.day.records.LinkKind.{LinkKind}
@@ -15,15 +16,15 @@ use Rattle.timetable.specs.Day.{Day, leaves, arrives, from_of, to_of, units_of}
 use Rattle.timetable.specs.LinkRows.{NamesBelow}
 
 pub record AreTypes (types : List UnitType) : Type 0 where
-  pub few : length types ≤ 6
+  pub few : length types ≤ MOST_TYPES
   pub each : All IsUnitType types
 
 pub record IsStation (station : Station) : Type 0 where
-  pub platform : station.platform ≤ 1000
-  pub reallocation : station.reallocation ≤ 600
+  pub platform : station.platform ≤ MOST_PLATFORM
+  pub reallocation : station.reallocation ≤ MOST_REALLOCATION
 
 pub record AreStations (stations : List Station) : Type 0 where
-  pub few : length stations ≤ 60
+  pub few : length stations ≤ MOST_STATIONS
   pub each : All IsStation stations
 
 -- the station and the type of a stock row are there
@@ -39,14 +40,14 @@ pub record IsUnitAt (stations types : ℕ) (u : unit.Unit) : Type 0 where
 -- the trip arrives after it leaves and on the second day at the latest, and its stations are there
 pub record IsTripAt (stations : ℕ) (trip : Trip) : Type 0 where
   pub time : trip.departure < trip.arrival
-  pub late : trip.arrival < 2880
+  pub late : trip.arrival < MOST_MINUTES
   pub origin : trip.from < stations
   pub goal : trip.to < stations
-  pub km : trip.km ≤ 1000
-  pub demand : trip.demand ≤ 10000
+  pub km : trip.km ≤ MOST_KM
+  pub demand : trip.demand ≤ MOST_DEMAND
 
 pub record AreTrips (stations : ℕ) (trips : List Trip) : Type 0 where
-  pub few : length trips ≤ 400
+  pub few : length trips ≤ MOST_TRIPS
   pub each : All (IsTripAt stations) trips
 
 -- each arriving trip of a link, with each departing one
@@ -62,9 +63,9 @@ pub record IsLinkAt (day : Day) (link : Link) : Type 0 where
   pub in_time : EachPair (λ a b. arrives day a ≤ leaves day b) link.kind
 
 pub record AreWeights (weights : Weights) : Type 0 where
-  pub carriage : weights.carriage ≤ 10000
-  pub shortage : weights.shortage ≤ 10000
-  pub shunting : weights.shunting ≤ 10000
+  pub carriage : weights.carriage ≤ MOST_WEIGHT
+  pub shortage : weights.shortage ≤ MOST_WEIGHT
+  pub shunting : weights.shunting ≤ MOST_WEIGHT
 
 -- all entries of a day
 pub record IsWithin (day : Day) : Type 0 where

@@ -2,7 +2,8 @@
 
 ghost use Rattle.std.specs.Prelude.{◌≡◌, ◌+◌, ◌<◌, ◌≤◌, ◌++◌, ◌∷◌, [], length, nat_lt, min, false, IfSome, IfOk};
 ghost use Rattle.std.specs.Str.{bytes_eq};
-ghost use Rattle.timetable.specs.Build.{accept_type, accept_station, has_stock, accept_stock, starts_of, most_units, platform_at, has_fitting, accept_run, accept_trip, types_in, stations_in, stock_in, trips_in, catalogue_in, Gives, GivesRows};
+ghost use Rattle.timetable.specs.Build.{accept_type, accept_station, has_stock, accept_stock, starts_of, platform_at, has_fitting, accept_run, accept_trip, types_in, stations_in, stock_in, trips_in, catalogue_in, is_memory};
+ghost use Rattle.rail_base.specs.Answers.{Gives, GivesRows};
 ghost use Rattle.compositions.specs.Catalogue.{catalogue_of};
 ghost use Rattle.timetable.specs.Compositions.{greatest_in};
 ghost use Rattle.timetable.specs.Naming.{has_name, find_name};
@@ -12,7 +13,7 @@ use crate::building::refusal::InstanceRefusal;
 use crate::building::tables::Rows;
 use crate::day::records::{Station, Stock, Trip};
 use compositions::{Catalogue, CatalogueRefusal, UnitType, UnitTypes};
-use rail_base::limits::MOST_UNITS;
+use rail_base::limits::{MOST_STATIONS, MOST_STOCK_ROWS, MOST_TRIPS, MOST_TYPES, MOST_UNITS};
 use rail_base::{Name, StationNo, TypeNo};
 use rail_csv::{StationRow, StockRow, Table, TripRow, TypeRow};
 use std::alloc::Global;
@@ -24,9 +25,9 @@ pub fn are_same(left: &Name, right: &Name) -> bool
     left.as_str() == right.as_str()
 }
 
-/// The number of the row after so many, counted from 1.
+/// The number of the row after so many, counted from 1. No table has more rows than trips may have.
 pub fn row_after(before: usize) -> u32
-    requires { before ≤ 400 }
+    requires { before ≤ MOST_TRIPS }
     ensures { result ≡ before + 1 }
 {
     before as u32 + 1
@@ -35,7 +36,7 @@ pub fn row_after(before: usize) -> u32
 /// The unit type of a row, after those of the rows before it.
 #[tactic(auto, unfolding(crate::specs::Build::accept_type))]
 fn accept_type(types: &Named<UnitType>, row: TypeRow) -> Result<UnitType, InstanceRefusal>
-    requires { length types.now ≤ 400 }
+    requires { length types.now ≤ MOST_TYPES }
     ensures value { result ≡ accept_type types.now row }
     ensures new { IfOk result (λ t. has_name (λ t. t.name) types.now t.name ≡ false) }
 {
@@ -57,8 +58,8 @@ fn accept_type(types: &Named<UnitType>, row: TypeRow) -> Result<UnitType, Instan
 /// The unit types of the rows.
 #[tactic(auto, unfolding(crate::specs::Build::types_in))]
 pub fn types_of(alloc: Global, rows: Rows<TypeRow>) -> Result<Named<UnitType>, InstanceRefusal>
-    requires { length rows ≤ 400 }
-    ensures { Gives result (types_in rows) }
+    requires { length rows ≤ MOST_TYPES }
+    ensures { Gives is_memory result (types_in rows) }
 {
     let mut types = Named::new(alloc);
     for row in rows.into_items() {
@@ -71,7 +72,7 @@ pub fn types_of(alloc: Global, rows: Rows<TypeRow>) -> Result<Named<UnitType>, I
 /// The station of a row, after those of the rows before it.
 #[tactic(auto, unfolding(crate::specs::Build::accept_station))]
 fn accept_station(stations: &Named<Station>, row: StationRow) -> Result<Station, InstanceRefusal>
-    requires { length stations.now ≤ 400 }
+    requires { length stations.now ≤ MOST_STATIONS }
     ensures value { result ≡ accept_station stations.now row }
     ensures new { IfOk result (λ s. has_name (λ s. s.name) stations.now s.name ≡ false) }
 {
@@ -91,8 +92,8 @@ fn accept_station(stations: &Named<Station>, row: StationRow) -> Result<Station,
 /// The stations of the rows.
 #[tactic(auto, unfolding(crate::specs::Build::stations_in))]
 pub fn stations_of(alloc: Global, rows: Rows<StationRow>) -> Result<Named<Station>, InstanceRefusal>
-    requires { length rows ≤ 400 }
-    ensures { Gives result (stations_in rows) }
+    requires { length rows ≤ MOST_STATIONS }
+    ensures { Gives is_memory result (stations_in rows) }
 {
     let mut stations = Named::new(alloc);
     for row in rows.into_items() {
@@ -104,7 +105,7 @@ pub fn stations_of(alloc: Global, rows: Rows<StationRow>) -> Result<Named<Statio
 
 /// The number of the station with the name.
 fn find_station(stations: &Named<Station>, name: &Name) -> Option<StationNo>
-    requires { length stations.now ≤ 400 }
+    requires { length stations.now ≤ MOST_STATIONS }
     ensures value { result ≡ find_name (λ s. s.name) stations.now name.now }
     ensures within { IfSome result (λ s. s < length stations.now) }
 {
@@ -116,7 +117,7 @@ fn find_station(stations: &Named<Station>, name: &Name) -> Option<StationNo>
 
 /// The number of the type with the name.
 fn find_type(types: &Named<UnitType>, name: &Name) -> Option<TypeNo>
-    requires { length types.now ≤ 400 }
+    requires { length types.now ≤ MOST_TYPES }
     ensures { result ≡ find_name (λ t. t.name) types.now name.now }
 {
     let Some(place) = types.find(name) else {
@@ -142,9 +143,9 @@ fn accept_stock(
     before: &[Stock],
     row: &StockRow,
 ) -> Result<Stock, InstanceRefusal>
-    requires stations { length stations.now ≤ 400 }
-    requires types { length types.now ≤ 400 }
-    requires before { length before.now ≤ 400 }
+    requires stations { length stations.now ≤ MOST_STATIONS }
+    requires types { length types.now ≤ MOST_TYPES }
+    requires before { length before.now ≤ MOST_STOCK_ROWS }
     ensures { result ≡ accept_stock stations.now types.now before.now row.now }
 {
     let number = row_after(before.len());
@@ -181,10 +182,10 @@ pub fn stock_of(
     types: &Named<UnitType>,
     rows: Rows<StockRow>,
 ) -> Result<Vec<Stock>, InstanceRefusal>
-    requires stations { length stations.now ≤ 400 }
-    requires types { length types.now ≤ 400 }
-    requires rows { length rows ≤ 400 }
-    ensures { GivesRows result (stock_in stations.now types.now rows) }
+    requires stations { length stations.now ≤ MOST_STATIONS }
+    requires types { length types.now ≤ MOST_TYPES }
+    requires rows { length rows ≤ MOST_STOCK_ROWS }
+    ensures { GivesRows is_memory result (stock_in stations.now types.now rows) }
 {
     let mut stock = Vec::new(alloc);
     for row in rows.into_items() {
@@ -196,7 +197,7 @@ pub fn stock_of(
 
 /// Whether more units stand at the stations at the start than a day may have.
 pub fn are_too_many(stock: &[Stock]) -> bool
-    ensures { result ≡ nat_lt most_units (starts_of stock.now) }
+    ensures { result ≡ nat_lt MOST_UNITS (starts_of stock.now) }
 {
     let mut units = 0;
     for row in stock {
@@ -226,7 +227,7 @@ pub fn catalogue_of(
     types: &UnitTypes,
     stations: &[Station],
 ) -> Result<Catalogue, InstanceRefusal>
-    ensures exact { Gives result (catalogue_in types.now stations.now) }
+    ensures exact { Gives is_memory result (catalogue_in types.now stations.now) }
     ensures value { IfOk result (λ catalogue. catalogue ≡ catalogue_of types.now (greatest_in stations.now)) }
 {
     match Catalogue::build(alloc, types, greatest_platform(stations)) {
@@ -287,8 +288,8 @@ fn accept_trip(
     before: &Named<Trip>,
     row: TripRow,
 ) -> Result<Trip, InstanceRefusal>
-    requires stations { length stations.now ≤ 400 }
-    requires before { length before.now ≤ 400 }
+    requires stations { length stations.now ≤ MOST_STATIONS }
+    requires before { length before.now ≤ MOST_TRIPS }
     ensures value { result ≡ accept_trip stations.now types.now before.now row }
     ensures new { IfOk result (λ t. has_name (λ t. t.name) before.now t.name ≡ false) }
 {
@@ -333,9 +334,9 @@ pub fn trips_of(
     types: &[UnitType],
     rows: Rows<TripRow>,
 ) -> Result<Named<Trip>, InstanceRefusal>
-    requires stations { length stations.now ≤ 400 }
-    requires rows { length rows ≤ 400 }
-    ensures { Gives result (trips_in stations.now types.now rows) }
+    requires stations { length stations.now ≤ MOST_STATIONS }
+    requires rows { length rows ≤ MOST_TRIPS }
+    ensures { Gives is_memory result (trips_in stations.now types.now rows) }
 {
     let mut trips = Named::new(alloc);
     for row in rows.into_items() {

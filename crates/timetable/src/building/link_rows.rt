@@ -1,7 +1,8 @@
 //! The tests on the rows of the links table.
 
 ghost use Rattle.std.specs.Prelude.{◌≡◌, ◌<◌, ◌≤◌, ◌||◌, length, IfOk, IfSome};
-ghost use Rattle.timetable.specs.Build.{GivesRows};
+ghost use Rattle.rail_base.specs.Answers.{GivesRows};
+ghost use Rattle.timetable.specs.Build.{is_memory};
 ghost use Rattle.timetable.specs.LinkRows.{trip_named, is_an_end, turn_in, join_in, split_in, kind_of, NamesBelow, names_again, do_meet, is_in_time, each_pair, accept_trips, accept_link, links_in};
 
 use crate::building::entries::row_after;
@@ -10,6 +11,7 @@ use crate::building::named::Named;
 use crate::building::refusal::InstanceRefusal;
 use crate::building::tables::Rows;
 use crate::day::records::{Link, LinkKind, Trip};
+use rail_base::limits::{MOST_LINKS, MOST_TRIPS};
 use rail_base::{Name, TripNo};
 use rail_csv::{End, KindWord, LinkRow, Table};
 use std::alloc::Global;
@@ -21,7 +23,7 @@ fn find_trip(
     column: u32,
     name: &Name,
 ) -> Result<TripNo, InstanceRefusal>
-    requires { length trips.now ≤ 400 }
+    requires { length trips.now ≤ MOST_TRIPS }
     ensures value { result ≡ trip_named trips.now row column name.now }
     ensures within { IfOk result (λ t. t < length trips.now) }
 {
@@ -48,7 +50,7 @@ fn is_an_end(end: End) -> bool
 /// The kind of a row that is a turn.
 #[tactic(auto, unfolding(crate::specs::LinkRows::turn_in))]
 fn turn_of(trips: &Named<Trip>, number: u32, row: &LinkRow) -> Result<LinkKind, InstanceRefusal>
-    requires { length trips.now ≤ 400 }
+    requires { length trips.now ≤ MOST_TRIPS }
     ensures value { result ≡ turn_in trips.now number row.now row.now.arriving2 row.now.departing2 }
     ensures within { IfOk result (λ kind. NamesBelow (length trips.now) kind) }
 {
@@ -68,7 +70,7 @@ fn turn_of(trips: &Named<Trip>, number: u32, row: &LinkRow) -> Result<LinkKind, 
 /// The kind of a row that is a join.
 #[tactic(auto, unfolding(crate::specs::LinkRows::join_in))]
 fn join_of(trips: &Named<Trip>, number: u32, row: &LinkRow) -> Result<LinkKind, InstanceRefusal>
-    requires { length trips.now ≤ 400 }
+    requires { length trips.now ≤ MOST_TRIPS }
     ensures value { result ≡ join_in trips.now number row.now row.now.arriving2 row.now.departing2 }
     ensures within { IfOk result (λ kind. NamesBelow (length trips.now) kind) }
 {
@@ -91,7 +93,7 @@ fn join_of(trips: &Named<Trip>, number: u32, row: &LinkRow) -> Result<LinkKind, 
 /// The kind of a row that is a split.
 #[tactic(auto, unfolding(crate::specs::LinkRows::split_in))]
 fn split_of(trips: &Named<Trip>, number: u32, row: &LinkRow) -> Result<LinkKind, InstanceRefusal>
-    requires { length trips.now ≤ 400 }
+    requires { length trips.now ≤ MOST_TRIPS }
     ensures value { result ≡ split_in trips.now number row.now row.now.arriving2 row.now.departing2 }
     ensures within { IfOk result (λ kind. NamesBelow (length trips.now) kind) }
 {
@@ -113,7 +115,7 @@ fn split_of(trips: &Named<Trip>, number: u32, row: &LinkRow) -> Result<LinkKind,
 
 /// The kind of a row, with the trips that its names stand for.
 fn kind_of(trips: &Named<Trip>, number: u32, row: &LinkRow) -> Result<LinkKind, InstanceRefusal>
-    requires { length trips.now ≤ 400 }
+    requires { length trips.now ≤ MOST_TRIPS }
     ensures value { result ≡ kind_of row.now.kind trips.now number row.now }
     ensures within { IfOk result (λ kind. NamesBelow (length trips.now) kind) }
 {
@@ -252,8 +254,8 @@ fn accept_trips(
 /// The link of a row, after those of the rows before it.
 #[tactic(auto, unfolding(crate::specs::LinkRows::accept_link))]
 fn accept_link(trips: &Named<Trip>, before: &Linked, row: &LinkRow) -> Result<Link, InstanceRefusal>
-    requires trips { length trips.now ≤ 400 }
-    requires before { length before.now.links ≤ 400 }
+    requires trips { length trips.now ≤ MOST_TRIPS }
+    requires before { length before.now.links ≤ MOST_LINKS }
     requires same_trips { before.now.trips ≡ length trips.now }
     ensures value { result ≡ accept_link trips.now before.now.links row.now }
     ensures named { IfOk result (λ link. NamesBelow (length trips.now) link.kind) }
@@ -274,9 +276,9 @@ pub fn links_of(
     trips: &Named<Trip>,
     rows: &[LinkRow],
 ) -> Result<Vec<Link>, InstanceRefusal>
-    requires trips { length trips.now ≤ 400 }
-    requires rows { length rows.now ≤ 400 }
-    ensures { GivesRows result (links_in trips.now rows.now) }
+    requires trips { length trips.now ≤ MOST_TRIPS }
+    requires rows { length rows.now ≤ MOST_LINKS }
+    ensures { GivesRows is_memory result (links_in trips.now rows.now) }
 {
     let mut links = Linked::new(alloc, trips.len() as u32)?;
     for row in rows {

@@ -6,7 +6,8 @@ ghost use Rattle.rail_csv.specs.Rows.{AreTypeRows, AreStationRows, AreStockRows,
 ghost use Rattle.timetable.specs.Accepted.{IsDay, AreLinks};
 ghost use Rattle.timetable.specs.Admissible.{is_admissible};
 ghost use Rattle.timetable.specs.Compositions.{compositions_of, composition_at};
-ghost use Rattle.timetable.specs.Build.{day_of, Gives, weights_in};
+ghost use Rattle.rail_base.specs.Answers.{Gives};
+ghost use Rattle.timetable.specs.Build.{day_of, is_memory, weights_in};
 ghost use Rattle.timetable.specs.Chains.{chains_of, IsChain, AreChains};
 ghost use Rattle.timetable.specs.Day.{units_of, units_in, unit_count, wanted_in, wanted_of};
 ghost use Rattle.timetable.specs.Handovers.{handovers_of, IsHandover, AreHandovers};
@@ -25,6 +26,7 @@ use crate::building::tables::Tables;
 use crate::day::chains::{Chain, linking_of};
 use crate::day::records::{Handover, Link, Station, Stock, Trip, Unit, Weights};
 use compositions::{Catalogue, UnitTypes};
+use rail_base::limits::{MOST_LINKS, MOST_STATIONS, MOST_TRIPS, MOST_UNITS};
 use rail_base::{CompNo, LinkNo, NoMemory, StationNo, TripNo, TypeNo, UnitNo};
 use rail_csv::WeightsRow;
 use std::alloc::Global;
@@ -79,7 +81,7 @@ impl Instance {
         requires links { AreLinkRows tables.links }
         requires weights { IsWeightsRow tables.weights }
         // The refusal is the first test that fails, and else the day is that of the tests.
-        ensures exact { Gives result (day_of tables) }
+        ensures exact { Gives is_memory result (day_of tables) }
         // The day is that of the tables in their own words.
         ensures meaning { IfOk result (λ instance. IsDayOf tables instance) }
         // A refusal says what is so in the tables.
@@ -120,7 +122,7 @@ impl Instance {
     /// How many stations there are.
     pub fn stations(&self) -> u32
         ensures value { result ≡ length self.now.stations }
-        ensures few { result ≤ 60 }
+        ensures few { result ≤ MOST_STATIONS }
     {
         self.stations.len() as u32
     }
@@ -128,7 +130,7 @@ impl Instance {
     /// How many trips there are.
     pub fn trips(&self) -> u32
         ensures value { result ≡ length self.now.trips }
-        ensures few { result ≤ 400 }
+        ensures few { result ≤ MOST_TRIPS }
         ensures sound { IsDay self.now }
     {
         self.trips.len() as u32
@@ -137,7 +139,7 @@ impl Instance {
     /// How many links there are.
     pub fn links(&self) -> u32
         ensures value { result ≡ length self.now.links }
-        ensures few { result ≤ 400 }
+        ensures few { result ≤ MOST_LINKS }
         ensures sound { AreLinks self.now }
     {
         self.links.len() as u32
@@ -146,7 +148,7 @@ impl Instance {
     /// How many units there are.
     pub fn units(&self) -> u32
         ensures value { result ≡ unit_count self.now }
-        ensures few { result ≤ 2000 }
+        ensures few { result ≤ MOST_UNITS }
     {
         self.units.len() as u32
     }
@@ -241,7 +243,7 @@ impl Instance {
     /// trip to its departing trip, a split from its arriving trip to its first departing trip; every trip lies in one chain.
     pub fn chains(&self) -> u32
         ensures value { result ≡ length (chains_of self.now) }
-        ensures few { result ≤ 400 }
+        ensures few { result ≤ MOST_TRIPS }
         ensures whole { AreChains self.now (chains_of self.now) }
     {
         self.chains.len() as u32
@@ -262,7 +264,7 @@ impl Instance {
     /// How many hand-overs there are: one for each join and each split.
     pub fn handovers(&self) -> u32
         ensures value { result ≡ length (handovers_of self.now) }
-        ensures few { result ≤ 400 }
+        ensures few { result ≤ MOST_LINKS }
         ensures whole { AreHandovers self.now (handovers_of self.now) }
     {
         self.handovers.len() as u32

@@ -5,6 +5,7 @@ ghost use Rattle.timetable.specs.LinkTables.{trips_on, noted, link_table};
 ghost use Rattle.timetable.specs.Lists.{has};
 
 use crate::day::records::{Link, LinkKind};
+use rail_base::limits::MOST_LINKS;
 use rail_base::{LinkNo, NoMemory, TripNo};
 use std::alloc::Global;
 
@@ -68,7 +69,7 @@ pub fn links_by_trip(
     side: Side,
     trips: u32,
 ) -> Result<Vec<Option<LinkNo>>, NoMemory>
-    requires { length links.now ≤ 400 }
+    requires { length links.now ≤ MOST_LINKS }
     ensures { IfOk result (λ table. table.items ≡ link_table (trips_on side) links.now trips) }
 {
     let mut table = vec![in alloc; None; trips as usize]?;

@@ -1,13 +1,15 @@
 //! A plan of named units: which units run on each trip, front to rear.
 
 ghost use Rattle.std.specs.Prelude.{◌≡◌, ◌<◌, ◌≤◌, length, slice_get, IfOk, IfErr};
+ghost use Rattle.rail_base.specs.Answers.{Gives, GivesRows};
 ghost use Rattle.timetable.specs.Links.{list_of};
-ghost use Rattle.timetable.specs.Plans.{is_named, are_units, accept_list, lists_in, plan_of, IsPlanOf, IsRefusedFor, Gives, GivesRows};
+ghost use Rattle.timetable.specs.Plans.{is_named, are_units, accept_list, lists_in, plan_of, IsPlanOf, IsRefusedFor, is_memory};
 ghost use Rattle.timetable.specs.Running.{IsPlan};
 
 use crate::building::entries::{are_same, row_after};
 use crate::building::refusal::PlanRefusal;
 use crate::day::instance::Instance;
+use rail_base::limits::{MOST_COMPOSITION, MOST_TRIPS};
 use rail_base::{Name, NoMemory, TripNo, UnitNo};
 use rail_csv::{PlanRow, UnitList};
 use std::alloc::Global;
@@ -26,7 +28,9 @@ impl Model for NamedPlan {
 
     ghost view = { λ a. a.lists.items };
 
-    ghost invariant = { λ a. length a.lists.items ≤ 400 };
+    ghost use Rattle.rail_base.specs.declared.limits.TheConstants.{MOST_TRIPS};
+
+    ghost invariant = { λ a. length a.lists.items ≤ MOST_TRIPS };
 }
 
 impl NamedPlan {
@@ -42,7 +46,7 @@ impl NamedPlan {
         rows: &[PlanRow],
     ) -> Result<NamedPlan, PlanRefusal>
         // The refusal is the first test that fails, and else the plan is that of the tests.
-        ensures exact { Gives result (plan_of instance.now rows.now) }
+        ensures exact { Gives is_memory result (plan_of instance.now rows.now) }
         // The plan is that of the rows in their own words.
         ensures meaning { IfOk result (λ plan. IsPlanOf instance.now rows.now plan) }
         ensures is_plan { IfOk result (λ plan. IsPlan instance.now plan) }
@@ -61,7 +65,7 @@ impl NamedPlan {
     pub fn units(&self, trip: TripNo) -> &[UnitNo]
         requires { trip < length self.now }
         ensures value { result.now ≡ list_of self.now trip }
-        ensures few { length result.now ≤ 6 }
+        ensures few { length result.now ≤ MOST_COMPOSITION }
     {
         self.lists[trip.place()].items()
     }
@@ -69,7 +73,7 @@ impl NamedPlan {
     /// For how many trips there is a list.
     pub fn trips(&self) -> u32
         ensures value { result ≡ length self.now }
-        ensures few { result ≤ 400 }
+        ensures few { result ≤ MOST_TRIPS }
     {
         self.lists.len() as u32
     }
@@ -78,7 +82,7 @@ impl NamedPlan {
 /// Whether there is a trip of this number, and it has the name.
 fn is_trip(instance: &Instance, trip: usize, name: &Name) -> bool
     ensures value { result ≡ is_named (slice_get instance.now.trips trip) name.now }
-    ensures few { length instance.now.trips ≤ 400 }
+    ensures few { length instance.now.trips ≤ MOST_TRIPS }
 {
     if trip >= instance.trips() as usize {
         return false;
@@ -110,9 +114,9 @@ fn accept_list(
     before: &[UnitList],
     row: &PlanRow,
 ) -> Result<UnitList, PlanRefusal>
-    requires { length before.now ≤ 400 }
-    ensures value { Gives result (accept_list instance.now before.now row.now) }
-    ensures few { IfOk result (λ _. length before.now < 400) }
+    requires { length before.now ≤ MOST_TRIPS }
+    ensures value { Gives is_memory result (accept_list instance.now before.now row.now) }
+    ensures few { IfOk result (λ _. length before.now < MOST_TRIPS) }
 {
     if !is_trip(instance, before.len(), &row.trip) {
         return Err(PlanRefusal::WrongTrip(row_after(before.len())));
@@ -130,8 +134,8 @@ fn lists_of(
     instance: &Instance,
     rows: &[PlanRow],
 ) -> Result<Vec<UnitList>, PlanRefusal>
-    ensures value { GivesRows result (lists_in instance.now rows.now) }
-    ensures few { IfOk result (λ lists. length lists.items ≤ 400) }
+    ensures value { GivesRows is_memory result (lists_in instance.now rows.now) }
+    ensures few { IfOk result (λ lists. length lists.items ≤ MOST_TRIPS) }
 {
     let mut lists = Vec::new(alloc);
     for row in rows {

@@ -12,7 +12,9 @@ use Rattle.timetable.specs.declared.day.records.Station.{Station}
 use Rattle.timetable.specs.declared.day.records.Stock.{Stock}
 use Rattle.timetable.specs.declared.building.tables.Tables.{Tables}
 use Rattle.timetable.specs.declared.building.refusal.InstanceRefusal.{InstanceRefusal}
-use Rattle.timetable.specs.Build.{starts_of, most_units, catalogue_in, trips_in, day_of, Fails, Gives}
+use Rattle.rail_base.specs.Answers.{Fails, Gives}
+use Rattle.rail_base.specs.declared.limits.TheConstants.{MOST_UNITS}
+use Rattle.timetable.specs.Build.{starts_of, catalogue_in, trips_in, day_of, is_memory}
 use Rattle.timetable.specs.Chains.{chains_below, chains_of}
 use Rattle.timetable.specs.Compositions.{greatest_in}
 use Rattle.timetable.specs.Day.{Day, units_of}
@@ -142,14 +144,14 @@ returns-in_err-links-clause-refusal c =
     let d : InstanceRefusal = c.in_err-links.field-0.0 in
     let rows : Tables = c.args.tables in
     let types : c.new-types.result ≡ c.in_ok-types.types = c.new-types.ensures ∙ c.into_entries.ensures in
-    let few : nat_lt most_units (starts_of c.in_ok-stock.stock.items) ≡ false = sym (c.are_too_many.ensures ∙ ap (λ (stock : List Stock). nat_lt most_units (starts_of stock)) c.deref.ensures.value) ∙ c.if-are_too_many.false in
+    let few : nat_lt MOST_UNITS (starts_of c.in_ok-stock.stock.items) ≡ false = sym (c.are_too_many.ensures ∙ ap (λ (stock : List Stock). nat_lt MOST_UNITS (starts_of stock)) c.deref.ensures.value) ∙ c.if-are_too_many.false in
     let catalogue : catalogue_in c.in_ok-types.types c.in_ok-stations.stations ≡ Ok c.in_ok-catalogue.catalogue = sym (λ i. catalogue_in (types i) (c.entries.ensures i)) ∙ c.in_ok-catalogue.ensures.exact in
     let trips : trips_in c.in_ok-stations.stations c.in_ok-types.types rows.trips ≡ Ok c.in_ok-trips.trips = sym (ap (λ (types : List UnitType). trips_in c.in_ok-stations.stations types rows.trips) (c.items.ensures ∙ types)) ∙ c.in_ok-trips.ensures in
-    let links : Fails d (links_in c.in_ok-trips.trips rows.links) = subst (λ (links : List LinkRow). Fails d (links_in c.in_ok-trips.trips links)) c.items-2.ensures c.in_err-links.ensures in
-    let fails : Fails d (day_of rows) = links_fail rows c.in_ok-types.types c.in_ok-stations.stations c.in_ok-stock.stock.items c.in_ok-catalogue.catalogue c.in_ok-trips.trips d
+    let links : Fails is_memory d (links_in c.in_ok-trips.trips rows.links) = subst (λ (links : List LinkRow). Fails is_memory d (links_in c.in_ok-trips.trips links)) c.items-2.ensures c.in_err-links.ensures in
+    let fails : Fails is_memory d (day_of rows) = links_fail rows c.in_ok-types.types c.in_ok-stations.stations c.in_ok-stock.stock.items c.in_ok-catalogue.catalogue c.in_ok-trips.trips d
     c.in_ok-types.ensures c.in_ok-stations.ensures c.in_ok-stock.ensures few catalogue trips links in
     let is : c.from_residual-in_err-links.result ≡ Err d = search rules in
-    answer_is_so rows c.from_residual-in_err-links.result (subst (λ (answer : Result Day InstanceRefusal). Gives answer (day_of rows)) (sym is) fails)
+    answer_is_so rows c.from_residual-in_err-links.result (subst (λ (answer : Result Day InstanceRefusal). Gives is_memory answer (day_of rows)) (sym is) fails)
 
 pub returns-then-are_too_many-clause-refusal : goal.returns-then-are_too_many-clause-refusal
 unfolding day_of
