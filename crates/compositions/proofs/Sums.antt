@@ -6,9 +6,10 @@ use Rattle.std.proofs.lemmas.List.{take_more}
 use Rattle.std.proofs.lemmas.List.Elements.{All-get_or}
 use Rattle.std.proofs.lemmas.List.Sums.{AllPass-from_list_all, count_by-le-length}
 use Rattle.std.proofs.lemmas.Bool.{ltb-true, leb-true, and_parts}
+use Rattle.rail_base.specs.declared.limits.TheConstants.{MOST_CARRIAGES, MOST_FIRST_SEATS, MOST_METRES, MOST_SEATS}
 use Rattle.compositions.specs.declared.types.UnitType.{UnitType}
 use Rattle.compositions.specs.declared.composition.Measure.{Measure}
-use Rattle.compositions.specs.declared.composition.Measure.TheVariants.{Carriages, Seats, Metres}
+use Rattle.compositions.specs.declared.composition.Measure.TheVariants.{Carriages, Seats, FirstSeats, Metres}
 use Rattle.compositions.specs.Composition.{of_type, sum_over}
 use Rattle.compositions.specs.Measure.{measure_of}
 use Rattle.compositions.specs.UnitTypes.{is_up_to, is_within_limits}
@@ -37,13 +38,21 @@ up_to : (limit n : ℕ) → is_up_to limit n ≡ true → n ≤ limit
 up_to limit n h = leb-true n limit (and_parts _ _ h).1
 
 -- a measure of a type within the limits
-pub measure_le : (m : Measure) (t : UnitType) → is_within_limits t ≡ true → measure_of m t ≤ 2000
-measure_le Carriages t h = omega (arith, up_to 20 t.carriages (and_parts _ _ (and_parts _ _ h).0).0)
-measure_le Seats t h = omega (arith, up_to 2000 t.seats (and_parts _ _ (and_parts _ _ h).0).1)
-measure_le Metres t h = omega (arith, up_to 500 t.metres (and_parts _ _ h).1)
+pub measure_le : (m : Measure) (t : UnitType) → is_within_limits t ≡ true → measure_of m t ≤ MOST_SEATS
+measure_le m t h =
+    let (rest, first) = and_parts _ _ h in
+    let (others, metres) = and_parts _ _ rest in
+    let (carriages, seats) = and_parts _ _ others in
+    at_most m (up_to MOST_CARRIAGES t.carriages carriages) (up_to MOST_SEATS t.seats seats) (leb-true t.first MOST_FIRST_SEATS first) (up_to MOST_METRES t.metres metres)
+  where
+    at_most : (m : Measure) → t.carriages ≤ MOST_CARRIAGES → t.seats ≤ MOST_SEATS → t.first ≤ MOST_FIRST_SEATS → t.metres ≤ MOST_METRES → measure_of m t ≤ MOST_SEATS
+    at_most Carriages carriages seats first metres = omega arith
+    at_most Seats carriages seats first metres = omega arith
+    at_most FirstSeats carriages seats first metres = omega arith
+    at_most Metres carriages seats first metres = omega arith
 
 -- the facts that a sum over the units rests on
-pub ruleset sums = (sum_over_more, is_type_at, measure_le)
+pub ruleset sums = (sum_over_more, is_type_at)
 
 -- a composition has at most six units of a type
 pub few_count : (p : ℕ → Bool) (ms : List ℕ) (n : ℕ) → n ≡ count_by p ms → length ms ≤ 6 → n ≤ 6

@@ -20,6 +20,9 @@ metres_of = sum_over (λ t. t.metres)
 abbrev pub seats_of : List UnitType → List ℕ → ℕ
 seats_of = sum_over (λ t. t.seats)
 
+abbrev pub first_seats_of : List UnitType → List ℕ → ℕ
+first_seats_of = sum_over (λ t. t.first)
+
 abbrev pub carriages_of : List UnitType → List ℕ → ℕ
 carriages_of = sum_over (λ t. t.carriages)
 

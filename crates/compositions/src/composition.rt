@@ -4,12 +4,13 @@ ghost use Rattle.std.specs.Prelude.{[], ◌∷◌, ◌≡◌, ◌<◌, ◌≤◌
 ghost use Rattle.std.specs.List.{list_all};
 ghost use Rattle.std.specs.Str.{bytes_eq};
 ghost use Rattle.compositions.specs.Catalogue.{comes_before};
-ghost use Rattle.compositions.specs.Composition.{metres_of, seats_of, carriages_of, family_of, is_one_family, are_types, fits_in, sum_over};
+ghost use Rattle.compositions.specs.Composition.{metres_of, seats_of, first_seats_of, carriages_of, family_of, is_one_family, are_types, fits_in, sum_over};
 ghost use Rattle.compositions.specs.Measure.{measure_of};
+ghost use Rattle.compositions.specs.UnitTypes.{is_within_limits};
 
 use crate::types::{UnitType, UnitTypes};
 use arrayvec::ArrayVec;
-use rail_base::limits::MOST_COMPOSITION;
+use rail_base::limits::{MOST_COMPOSITION, MOST_SEATS};
 use rail_base::{Name, TypeNo};
 use std::marker::Model;
 
@@ -166,12 +167,20 @@ impl Composition {
         Measure::Metres.total(types, self.units())
     }
 
-    /// The seats of all units; each type number is below `types.len()`.
+    /// The seats of second class of all units; each type number is below `types.len()`.
     pub fn seats(&self, types: &UnitTypes) -> u32
         requires { IsTrue (are_types types.now self.now) }
         ensures { result ≡ seats_of types.now self.now }
     {
         Measure::Seats.total(types, self.units())
+    }
+
+    /// The seats of first class of all units; each type number is below `types.len()`.
+    pub fn first_seats(&self, types: &UnitTypes) -> u32
+        requires { IsTrue (are_types types.now self.now) }
+        ensures { result ≡ first_seats_of types.now self.now }
+    {
+        Measure::FirstSeats.total(types, self.units())
     }
 
     /// The carriages of all units; each type number is below `types.len()`.
@@ -222,17 +231,22 @@ impl Composition {
 enum Measure {
     Carriages,
     Seats,
+    FirstSeats,
     Metres,
 }
 
 impl Measure {
-    /// The measure of one unit of a type.
+    /// The measure of one unit of a type. No measure has a higher limit than seats have.
+    #[tactic(auto, using(crate::proofs::Sums::measure_le))]
     fn of(self, unit_type: &UnitType) -> u32
-        ensures { result ≡ measure_of self unit_type.now }
+        requires { IsTrue (is_within_limits unit_type.now) }
+        ensures value { result ≡ measure_of self unit_type.now }
+        ensures few { result ≤ MOST_SEATS }
     {
         match self {
             Measure::Carriages => unit_type.carriages,
             Measure::Seats => unit_type.seats,
+            Measure::FirstSeats => unit_type.first,
             Measure::Metres => unit_type.metres,
         }
     }

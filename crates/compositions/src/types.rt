@@ -15,12 +15,14 @@ pub struct UnitType {
     pub name: Name,
     /// Carriages of one unit, from 1 to 20.
     pub carriages: u32,
-    /// Seats of one unit, from 1 to 2,000.
+    /// Seats of second class of one unit, from 1 to 2,000.
     pub seats: u32,
     /// Metres of one unit, from 1 to 500.
     pub metres: u32,
     /// The name of its family: units of one family can be coupled.
     pub family: Name,
+    /// Seats of first class of one unit, from 0 to 2,000.
+    pub first: u32,
 }
 
 /// The unit types of a day, at most six. A contract sees the list of them.

@@ -1,6 +1,6 @@
 -- The rows of an accepted table are within the ranges of their columns, and no more than the limit.
 use Rattle.std.proofs.Common.{◌≡◌, ℕ, ◌+◌, ◌*◌, ◌≤◌, ◌<◌, Bool, true, false, cond, ltb, leb, eqb, ◌&&◌, List, [], ◌∷◌, length, Option, Some, None, Result, Ok, Err, refl, subst, arith}
-use Rattle.std.specs.Prelude.{IfOk, IfSome}
+use Rattle.std.specs.Prelude.{IfOk, IfSome, codes}
 use Rattle.std.specs.Global.{Vec}
 use Rattle.std.specs.List.{All, AllByRecursion, list_all}
 use Rattle.std.specs.Str.{is_utf8}
@@ -9,6 +9,7 @@ use Rattle.std.proofs.lemmas.Bool.Decides.{nat_tests}
 use Rattle.std.proofs.lemmas.List.Elements.{All-from_recursion}
 use Rattle.rail_base.specs.Answers.{◌>>=◌, Gives, GivesRows}
 use Rattle.rail_base.specs.Names.{is_name}
+use Rattle.rail_base.specs.declared.limits.TheConstants.{MOST_TYPES, MOST_STATIONS, MOST_STOCK_ROWS, MOST_TRIPS, MOST_LINKS, MOST_WEIGHT_ROWS, MOST_PLAN_ROWS, MOST_CARRIAGES, MOST_SEATS, MOST_FIRST_SEATS, MOST_METRES, MOST_PLATFORM, MOST_REALLOCATION, MOST_STOCK, MOST_MINUTES, MOST_KM, MOST_DEMAND, MOST_FIRST_DEMAND, MOST_WEIGHT, MOST_COMPOSITION, MOST_UNITS}
 use Rattle.rail_csv.specs.declared.refusal.TableRefusal.{TableRefusal}
 use Rattle.rail_csv.specs.declared.rows.TypeRow.{TypeRow}
 use Rattle.rail_csv.specs.declared.rows.StationRow.{StationRow}
@@ -18,7 +19,7 @@ use Rattle.rail_csv.specs.declared.rows.LinkRow.{LinkRow}
 use Rattle.rail_csv.specs.declared.rows.WeightsRow.{WeightsRow}
 use Rattle.rail_csv.specs.declared.rows.PlanRow.{PlanRow}
 use Rattle.rail_csv.specs.Fields.{is_number, number_of, is_time, time_of, has_time_form, hour_text, minute_text, pieces_of, numbers_of, is_unit}
-use Rattle.rail_csv.specs.Columns.{field, number_column, time_column, name_column, optional_name_column, kind_column, answer_column, end_column, units_column}
+use Rattle.rail_csv.specs.Columns.{field, field_or, number_column, time_column, name_column, optional_name_column, kind_column, answer_column, end_column, units_column}
 use Rattle.rail_csv.specs.Tables.{Columns, is_header, is_memory, row_of, rows_from, rows_under, records_of, table_of, the_row, type_header, type_columns, types_of, station_header, station_columns, stations_of, stock_header, stock_columns, stock_of, trip_header, trip_columns, trips_of, link_header, link_columns, links_of, weight_header, weight_columns, weights_of, plan_header, plan_columns, plan_of}
 use Rattle.rail_csv.specs.Rows.{IsName, IsWithin, IsMinute, AreRows, IsTypeRow, IsStationRow, IsStockRow, IsTripRow, IsLinkRow, IsWeightsRow, IsPlanRow}
 
@@ -81,7 +82,7 @@ optional_name_meets row column [] name e = subst (λ (o : Option (List ℕ)). If
 optional_name_meets row column (byte ∷ text) name e =
     step e IsName (name_meets row column (byte ∷ text)) (λ found found_is e1. subst (λ (o : Option (List ℕ)). IfSome o (λ n. IsName n)) (same (Some found) name e1) found_is)
 
-below_day : (form : Bool) (hour minute : ℕ) → (form && leb hour 47 && leb minute 59) ≡ true → 60 * hour + minute < 2880
+below_day : (form : Bool) (hour minute : ℕ) → (form && leb hour 47 && leb minute 59) ≡ true → 60 * hour + minute < MOST_MINUTES
 below_day form hour minute h = grind (arith, nat_tests)
 
 time_meets : (row column : ℕ) (text : List ℕ) (minute : ℕ) → time_column row column text ≡ Ok minute → IsMinute minute
@@ -92,26 +93,26 @@ time_meets row column text minute e =
 
 -- at most six units, each with a number that a unit may have
 abbrev pub AreUnits : List ℕ → Type 0
-AreUnits units = (length units ≤ 6) × All (λ unit. unit < 2000) units
+AreUnits units = (length units ≤ MOST_COMPOSITION) × All (λ unit. unit < MOST_UNITS) units
 
-unit_is : (unit : ℕ) → is_unit unit ≡ true → unit < 2000
+unit_is : (unit : ℕ) → is_unit unit ≡ true → unit < MOST_UNITS
 unit_is unit h = grind (arith, nat_tests)
 
-units_are : (units : List ℕ) → list_all is_unit units ≡ true → AllByRecursion (λ unit. unit < 2000) units
+units_are : (units : List ℕ) → list_all is_unit units ≡ true → AllByRecursion (λ unit. unit < MOST_UNITS) units
 units_are [] h = tt
 units_are (unit ∷ units) h =
     let parts = both (is_unit unit) (list_all is_unit units) h in
     (unit_is unit parts.0, units_are units parts.1)
 
-six : (n : ℕ) → leb n 6 ≡ true → n ≤ 6
-six n h = grind (arith, nat_tests)
+few_units : (n : ℕ) → leb n MOST_COMPOSITION ≡ true → n ≤ MOST_COMPOSITION
+few_units n h = grind (arith, nat_tests)
 
 units_meet : (row column : ℕ) (text units : List ℕ) → units_column row column text ≡ Ok units → AreUnits units
 unfolding units_column
 units_meet row column text units e =
-    let k = inner (list_all is_number (pieces_of text)) (leb (length (numbers_of text)) 6 && list_all is_unit (numbers_of text)) (numbers_of text) units _ _ e in
-    let parts = both (leb (length (numbers_of text)) 6) (list_all is_unit (numbers_of text)) k.0 in
-    subst AreUnits k.1 (six (length (numbers_of text)) parts.0, All-from_recursion (λ unit. unit < 2000) (numbers_of text) (units_are (numbers_of text) parts.1))
+    let k = inner (list_all is_number (pieces_of text)) (leb (length (numbers_of text)) MOST_COMPOSITION && list_all is_unit (numbers_of text)) (numbers_of text) units _ _ e in
+    let parts = both (leb (length (numbers_of text)) MOST_COMPOSITION) (list_all is_unit (numbers_of text)) k.0 in
+    subst AreUnits k.1 (few_units (length (numbers_of text)) parts.0, All-from_recursion (λ unit. unit < MOST_UNITS) (numbers_of text) (units_are (numbers_of text) parts.1))
 
 -- ---- the columns of each table
 
@@ -122,18 +123,19 @@ type_meets : (row : ℕ) (fields : List (List ℕ)) (r : TypeRow) → type_colum
 unfolding type_columns
 type_meets row fields r e =
     step e IsName (name_meets row 0 (field fields 0)) (λ name name_is e1.
-    step e1 (IsWithin 1 20) (number_meets 1 20 row 1 (field fields 1)) (λ carriages carriages_is e2.
-    step e2 (IsWithin 1 2000) (number_meets 1 2000 row 2 (field fields 2)) (λ seats seats_is e3.
-    step e3 (IsWithin 1 500) (number_meets 1 500 row 3 (field fields 3)) (λ metres metres_is e4.
+    step e1 (IsWithin 1 MOST_CARRIAGES) (number_meets 1 MOST_CARRIAGES row 1 (field fields 1)) (λ carriages carriages_is e2.
+    step e2 (IsWithin 1 MOST_SEATS) (number_meets 1 MOST_SEATS row 2 (field fields 2)) (λ seats seats_is e3.
+    step e3 (IsWithin 1 MOST_METRES) (number_meets 1 MOST_METRES row 3 (field fields 3)) (λ metres metres_is e4.
     step e4 IsName (name_meets row 4 (field fields 4)) (λ family family_is e5.
-    subst IsTypeRow (same (record { name = name; carriages = carriages; seats = seats; metres = metres; family = family }) r e5) (record { name = name_is; carriages = carriages_is; seats = seats_is; metres = metres_is; family = family_is }))))))
+    step e5 (IsWithin 0 MOST_FIRST_SEATS) (number_meets 0 MOST_FIRST_SEATS row 5 (field_or (codes "0") fields 5)) (λ first first_is e6.
+    subst IsTypeRow (same (record { name = name; carriages = carriages; seats = seats; metres = metres; family = family; first = first }) r e6) (record { name = name_is; carriages = carriages_is; seats = seats_is; metres = metres_is; family = family_is; first = first_is })))))))
 
 station_meets : (row : ℕ) (fields : List (List ℕ)) (r : StationRow) → station_columns row fields ≡ Ok r → IsStationRow r
 unfolding station_columns
 station_meets row fields r e =
     step e IsName (name_meets row 0 (field fields 0)) (λ name name_is e1.
-    step e1 (IsWithin 1 1000) (number_meets 1 1000 row 1 (field fields 1)) (λ platform platform_is e2.
-    step e2 (IsWithin 0 600) (number_meets 0 600 row 2 (field fields 2)) (λ reallocation reallocation_is e3.
+    step e1 (IsWithin 1 MOST_PLATFORM) (number_meets 1 MOST_PLATFORM row 1 (field fields 1)) (λ platform platform_is e2.
+    step e2 (IsWithin 0 MOST_REALLOCATION) (number_meets 0 MOST_REALLOCATION row 2 (field fields 2)) (λ reallocation reallocation_is e3.
     subst IsStationRow (same (record { name = name; platform = platform; reallocation = reallocation }) r e3) (record { name = name_is; platform = platform_is; reallocation = reallocation_is }))))
 
 stock_meets : (row : ℕ) (fields : List (List ℕ)) (r : StockRow) → stock_columns row fields ≡ Ok r → IsStockRow r
@@ -141,8 +143,8 @@ unfolding stock_columns
 stock_meets row fields r e =
     step e IsName (name_meets row 0 (field fields 0)) (λ station station_is e1.
     step e1 IsName (name_meets row 1 (field fields 1)) (λ unit_type unit_type_is e2.
-    step e2 (IsWithin 0 2000) (number_meets 0 2000 row 2 (field fields 2)) (λ start start_is e3.
-    step e3 (IsWithin 0 2000) (number_meets 0 2000 row 3 (field fields 3)) (λ end end_is e4.
+    step e2 (IsWithin 0 MOST_STOCK) (number_meets 0 MOST_STOCK row 2 (field fields 2)) (λ start start_is e3.
+    step e3 (IsWithin 0 MOST_STOCK) (number_meets 0 MOST_STOCK row 3 (field fields 3)) (λ end end_is e4.
     subst IsStockRow (same (record { station = station; unit_type = unit_type; start = start; end = end }) r e4) (record { station = station_is; unit_type = unit_type_is; start = start_is; end = end_is })))))
 
 trip_meets : (row : ℕ) (fields : List (List ℕ)) (r : TripRow) → trip_columns row fields ≡ Ok r → IsTripRow r
@@ -153,9 +155,10 @@ trip_meets row fields r e =
     step e2 IsMinute (time_meets row 2 (field fields 2)) (λ departure departure_is e3.
     step e3 IsName (name_meets row 3 (field fields 3)) (λ to to_is e4.
     step e4 IsMinute (time_meets row 4 (field fields 4)) (λ arrival arrival_is e5.
-    step e5 (IsWithin 1 1000) (number_meets 1 1000 row 5 (field fields 5)) (λ km km_is e6.
-    step e6 (IsWithin 0 10000) (number_meets 0 10000 row 6 (field fields 6)) (λ demand demand_is e7.
-    subst IsTripRow (same (record { name = name; from = from; departure = departure; to = to; arrival = arrival; km = km; demand = demand }) r e7) (record { name = name_is; from = from_is; departure = departure_is; to = to_is; arrival = arrival_is; km = km_is; demand = demand_is }))))))))
+    step e5 (IsWithin 1 MOST_KM) (number_meets 1 MOST_KM row 5 (field fields 5)) (λ km km_is e6.
+    step e6 (IsWithin 0 MOST_DEMAND) (number_meets 0 MOST_DEMAND row 6 (field fields 6)) (λ demand demand_is e7.
+    step e7 (IsWithin 0 MOST_FIRST_DEMAND) (number_meets 0 MOST_FIRST_DEMAND row 7 (field_or (codes "0") fields 7)) (λ first first_is e8.
+    subst IsTripRow (same (record { name = name; from = from; departure = departure; to = to; arrival = arrival; km = km; demand = demand; first = first }) r e8) (record { name = name_is; from = from_is; departure = departure_is; to = to_is; arrival = arrival_is; km = km_is; demand = demand_is; first = first_is })))))))))
 
 link_meets : (row : ℕ) (fields : List (List ℕ)) (r : LinkRow) → link_columns row fields ≡ Ok r → IsLinkRow r
 unfolding link_columns
@@ -173,9 +176,9 @@ link_meets row fields r e =
 weight_meets : (row : ℕ) (fields : List (List ℕ)) (r : WeightsRow) → weight_columns row fields ≡ Ok r → IsWeightsRow r
 unfolding weight_columns
 weight_meets row fields r e =
-    step e (IsWithin 0 10000) (number_meets 0 10000 row 0 (field fields 0)) (λ carriage carriage_is e1.
-    step e1 (IsWithin 0 10000) (number_meets 0 10000 row 1 (field fields 1)) (λ shortage shortage_is e2.
-    step e2 (IsWithin 0 10000) (number_meets 0 10000 row 2 (field fields 2)) (λ shunting shunting_is e3.
+    step e (IsWithin 0 MOST_WEIGHT) (number_meets 0 MOST_WEIGHT row 0 (field fields 0)) (λ carriage carriage_is e1.
+    step e1 (IsWithin 0 MOST_WEIGHT) (number_meets 0 MOST_WEIGHT row 1 (field fields 1)) (λ shortage shortage_is e2.
+    step e2 (IsWithin 0 MOST_WEIGHT) (number_meets 0 MOST_WEIGHT row 2 (field fields 2)) (λ shunting shunting_is e3.
     subst IsWeightsRow (same (record { carriage = carriage; shortage = shortage; shunting = shunting }) r e3) (record { carriage = carriage_is; shortage = shortage_is; shunting = shunting_is }))))
 
 plan_meets : (row : ℕ) (fields : List (List ℕ)) (r : PlanRow) → plan_columns row fields ≡ Ok r → IsPlanRow r
@@ -187,67 +190,69 @@ plan_meets row fields r e =
 
 -- ---- the rows of a table
 
-row_read : {Row : Type 0} (header : List (List ℕ)) (columns : Columns Row) (row : ℕ) (fields : List (List ℕ)) (r : Row) → row_of header columns row fields ≡ Ok r → columns row fields ≡ Ok r
+row_read : {Row : Type 0} (width : ℕ) (columns : Columns Row) (row : ℕ) (fields : List (List ℕ)) (r : Row) → row_of width columns row fields ≡ Ok r → columns row fields ≡ Ok r
 unfolding row_of
-row_read header columns row fields r e = in_both (eqb (length fields) (length header)) (list_all is_utf8 fields) (columns row fields) r _ _ e
+row_read width columns row fields r e = in_both (eqb (length fields) width) (list_all is_utf8 fields) (columns row fields) r _ _ e
 
-rows_read : {Row : Type 0} (IsRow : Row → Type 0) (header : List (List ℕ)) (limit : ℕ) (columns : Columns Row) → ((row : ℕ) (fields : List (List ℕ)) (r : Row) → columns row fields ≡ Ok r → IsRow r)
-    → (records : List (List (List ℕ))) (row : ℕ) (rows : List Row) → row ≤ limit + 1 → rows_from header limit columns row records ≡ Ok rows → (length rows + row ≤ limit + 1) × AllByRecursion IsRow rows
+rows_read : {Row : Type 0} (IsRow : Row → Type 0) (width limit : ℕ) (columns : Columns Row) → ((row : ℕ) (fields : List (List ℕ)) (r : Row) → columns row fields ≡ Ok r → IsRow r)
+    → (records : List (List (List ℕ))) (row : ℕ) (rows : List Row) → row ≤ limit + 1 → rows_from width limit columns row records ≡ Ok rows → (length rows + row ≤ limit + 1) × AllByRecursion IsRow rows
 unfolding rows_from
-rows_read IsRow header limit columns meets [] row rows le e =
+rows_read IsRow width limit columns meets [] row rows le e =
     subst (λ (rs : List _). (length rs + row ≤ limit + 1) × AllByRecursion IsRow rs) (same [] rows e) (omega arith, tt)
-rows_read IsRow header limit columns meets (fields ∷ others) row rows le e =
+rows_read IsRow width limit columns meets (fields ∷ others) row rows le e =
     let k = went_on (ltb limit row) _ rows _ e in
     let below : row ≤ limit = ltb-false limit row k.0 in
-    step k.1 IsRow (λ r read. meets row fields r (row_read header columns row fields r read)) (λ first first_is e1.
-    step e1 (λ rest. (length rest + (row + 1) ≤ limit + 1) × AllByRecursion IsRow rest) (λ rest read. rows_read IsRow header limit columns meets others (row + 1) rest (omega arith) read) (λ rest rest_is e2.
+    step k.1 IsRow (λ r read. meets row fields r (row_read width columns row fields r read)) (λ first first_is e1.
+    step e1 (λ rest. (length rest + (row + 1) ≤ limit + 1) × AllByRecursion IsRow rest) (λ rest read. rows_read IsRow width limit columns meets others (row + 1) rest (omega arith) read) (λ rest rest_is e2.
     subst (λ (rs : List _). (length rs + row ≤ limit + 1) × AllByRecursion IsRow rs) (same (first ∷ rest) rows e2) (omega (arith, rest_is.0), (first_is, rest_is.1))))
 
 -- the rows of an accepted table
-pub table_read : {Row : Type 0} (IsRow : Row → Type 0) (header : List (List ℕ)) (limit : ℕ) (columns : Columns Row) → ((row : ℕ) (fields : List (List ℕ)) (r : Row) → columns row fields ≡ Ok r → IsRow r)
-    → (records : List (List (List ℕ))) (rows : List Row) → rows_under header limit columns records ≡ Ok rows → AreRows limit IsRow rows
+pub table_read : {Row : Type 0} (IsRow : Row → Type 0) (words : List (List ℕ)) (fewest limit : ℕ) (columns : Columns Row) → ((row : ℕ) (fields : List (List ℕ)) (r : Row) → columns row fields ≡ Ok r → IsRow r)
+    → (records : List (List (List ℕ))) (rows : List Row) → rows_under words fewest limit columns records ≡ Ok rows → AreRows limit IsRow rows
 unfolding rows_under
-table_read IsRow header limit columns meets [] rows e = absurd cc
-table_read IsRow header limit columns meets (first ∷ others) rows e =
-    let k = taken (is_header header first) _ rows _ e in
-    let read = rows_read IsRow header limit columns meets others 1 rows (omega arith) k in
+table_read IsRow words fewest limit columns meets [] rows e = absurd cc
+table_read IsRow words fewest limit columns meets (first ∷ others) rows e =
+    let k = taken (is_header words fewest first) _ rows _ e in
+    let read = rows_read IsRow (length first) limit columns meets others 1 rows (omega arith) k in
     record { few = omega (arith, read.0); each = All-from_recursion IsRow rows read.1 }
 
-table_rows : {Row : Type 0} (IsRow : Row → Type 0) (header : List (List ℕ)) (limit : ℕ) (columns : Columns Row) → ((row : ℕ) (fields : List (List ℕ)) (r : Row) → columns row fields ≡ Ok r → IsRow r)
-    → (records : List (List (List ℕ))) (rows : List Row) → rows_under header limit columns records ≡ Ok rows → AllByRecursion IsRow rows
+table_rows : {Row : Type 0} (IsRow : Row → Type 0) (words : List (List ℕ)) (fewest limit : ℕ) (columns : Columns Row) → ((row : ℕ) (fields : List (List ℕ)) (r : Row) → columns row fields ≡ Ok r → IsRow r)
+    → (records : List (List (List ℕ))) (rows : List Row) → rows_under words fewest limit columns records ≡ Ok rows → AllByRecursion IsRow rows
 unfolding rows_under
-table_rows IsRow header limit columns meets [] rows e = absurd cc
-table_rows IsRow header limit columns meets (first ∷ others) rows e =
-    (rows_read IsRow header limit columns meets others 1 rows (omega arith) (taken (is_header header first) _ rows _ e)).1
+table_rows IsRow words fewest limit columns meets [] rows e = absurd cc
+table_rows IsRow words fewest limit columns meets (first ∷ others) rows e =
+    (rows_read IsRow (length first) limit columns meets others 1 rows (omega arith) (taken (is_header words fewest first) _ rows _ e)).1
 
 accepted : {Row : Type 0} (IsRow : Row → Type 0) (limit : ℕ) (result : Result (Vec Row) TableRefusal) (read : Result (List Row) TableRefusal) → ((rows : List Row) → read ≡ Ok rows → AreRows limit IsRow rows)
     → GivesRows is_memory result read → IfOk result (λ v. AreRows limit IsRow v.items)
 accepted IsRow limit (Ok v) read meets given = meets v.items given
 accepted IsRow limit (Err e) read meets given = tt
 
-pub types_are : (result : Result (Vec TypeRow) TableRefusal) (bytes : List ℕ) → GivesRows is_memory result (types_of bytes) → IfOk result (λ v. AreRows 6 IsTypeRow v.items)
+-- each reader's rows are within the ranges of its columns
+
+pub types_are : (result : Result (Vec TypeRow) TableRefusal) (bytes : List ℕ) → GivesRows is_memory result (types_of bytes) → IfOk result (λ v. AreRows MOST_TYPES IsTypeRow v.items)
 unfolding types_of table_of
-types_are result bytes given = accepted IsTypeRow 6 result (types_of bytes) (λ rows e. table_read IsTypeRow type_header 6 type_columns type_meets (records_of bytes) rows e) given
+types_are result bytes given = accepted IsTypeRow MOST_TYPES result (types_of bytes) (λ rows e. table_read IsTypeRow type_header 5 MOST_TYPES type_columns type_meets (records_of bytes) rows e) given
 
-pub stations_are : (result : Result (Vec StationRow) TableRefusal) (bytes : List ℕ) → GivesRows is_memory result (stations_of bytes) → IfOk result (λ v. AreRows 60 IsStationRow v.items)
+pub stations_are : (result : Result (Vec StationRow) TableRefusal) (bytes : List ℕ) → GivesRows is_memory result (stations_of bytes) → IfOk result (λ v. AreRows MOST_STATIONS IsStationRow v.items)
 unfolding stations_of table_of
-stations_are result bytes given = accepted IsStationRow 60 result (stations_of bytes) (λ rows e. table_read IsStationRow station_header 60 station_columns station_meets (records_of bytes) rows e) given
+stations_are result bytes given = accepted IsStationRow MOST_STATIONS result (stations_of bytes) (λ rows e. table_read IsStationRow station_header 3 MOST_STATIONS station_columns station_meets (records_of bytes) rows e) given
 
-pub stock_are : (result : Result (Vec StockRow) TableRefusal) (bytes : List ℕ) → GivesRows is_memory result (stock_of bytes) → IfOk result (λ v. AreRows 360 IsStockRow v.items)
+pub stock_are : (result : Result (Vec StockRow) TableRefusal) (bytes : List ℕ) → GivesRows is_memory result (stock_of bytes) → IfOk result (λ v. AreRows MOST_STOCK_ROWS IsStockRow v.items)
 unfolding stock_of table_of
-stock_are result bytes given = accepted IsStockRow 360 result (stock_of bytes) (λ rows e. table_read IsStockRow stock_header 360 stock_columns stock_meets (records_of bytes) rows e) given
+stock_are result bytes given = accepted IsStockRow MOST_STOCK_ROWS result (stock_of bytes) (λ rows e. table_read IsStockRow stock_header 4 MOST_STOCK_ROWS stock_columns stock_meets (records_of bytes) rows e) given
 
-pub trips_are : (result : Result (Vec TripRow) TableRefusal) (bytes : List ℕ) → GivesRows is_memory result (trips_of bytes) → IfOk result (λ v. AreRows 400 IsTripRow v.items)
+pub trips_are : (result : Result (Vec TripRow) TableRefusal) (bytes : List ℕ) → GivesRows is_memory result (trips_of bytes) → IfOk result (λ v. AreRows MOST_TRIPS IsTripRow v.items)
 unfolding trips_of table_of
-trips_are result bytes given = accepted IsTripRow 400 result (trips_of bytes) (λ rows e. table_read IsTripRow trip_header 400 trip_columns trip_meets (records_of bytes) rows e) given
+trips_are result bytes given = accepted IsTripRow MOST_TRIPS result (trips_of bytes) (λ rows e. table_read IsTripRow trip_header 7 MOST_TRIPS trip_columns trip_meets (records_of bytes) rows e) given
 
-pub links_are : (result : Result (Vec LinkRow) TableRefusal) (bytes : List ℕ) → GivesRows is_memory result (links_of bytes) → IfOk result (λ v. AreRows 400 IsLinkRow v.items)
+pub links_are : (result : Result (Vec LinkRow) TableRefusal) (bytes : List ℕ) → GivesRows is_memory result (links_of bytes) → IfOk result (λ v. AreRows MOST_LINKS IsLinkRow v.items)
 unfolding links_of table_of
-links_are result bytes given = accepted IsLinkRow 400 result (links_of bytes) (λ rows e. table_read IsLinkRow link_header 400 link_columns link_meets (records_of bytes) rows e) given
+links_are result bytes given = accepted IsLinkRow MOST_LINKS result (links_of bytes) (λ rows e. table_read IsLinkRow link_header 8 MOST_LINKS link_columns link_meets (records_of bytes) rows e) given
 
-pub plan_are : (result : Result (Vec PlanRow) TableRefusal) (bytes : List ℕ) → GivesRows is_memory result (plan_of bytes) → IfOk result (λ v. AreRows 400 IsPlanRow v.items)
+pub plan_are : (result : Result (Vec PlanRow) TableRefusal) (bytes : List ℕ) → GivesRows is_memory result (plan_of bytes) → IfOk result (λ v. AreRows MOST_PLAN_ROWS IsPlanRow v.items)
 unfolding plan_of table_of
-plan_are result bytes given = accepted IsPlanRow 400 result (plan_of bytes) (λ rows e. table_read IsPlanRow plan_header 400 plan_columns plan_meets (records_of bytes) rows e) given
+plan_are result bytes given = accepted IsPlanRow MOST_PLAN_ROWS result (plan_of bytes) (λ rows e. table_read IsPlanRow plan_header 2 MOST_PLAN_ROWS plan_columns plan_meets (records_of bytes) rows e) given
 
 the_row_meets : (rows : List WeightsRow) (row : WeightsRow) → AllByRecursion IsWeightsRow rows → the_row rows ≡ Ok row → IsWeightsRow row
 the_row_meets [] row each e = absurd cc
@@ -256,7 +261,7 @@ the_row_meets (first ∷ others) row each e = subst IsWeightsRow (same first row
 weights_read : (bytes : List ℕ) (row : WeightsRow) → weights_of bytes ≡ Ok row → IsWeightsRow row
 unfolding weights_of table_of
 weights_read bytes row e =
-    step e (λ rows. AllByRecursion IsWeightsRow rows) (λ rows read. table_rows IsWeightsRow weight_header 1 weight_columns weight_meets (records_of bytes) rows read) (λ rows each e1. the_row_meets rows row each e1)
+    step e (λ rows. AllByRecursion IsWeightsRow rows) (λ rows read. table_rows IsWeightsRow weight_header 3 MOST_WEIGHT_ROWS weight_columns weight_meets (records_of bytes) rows read) (λ rows each e1. the_row_meets rows row each e1)
 
 pub weights_are : (result : Result WeightsRow TableRefusal) (bytes : List ℕ) → Gives is_memory result (weights_of bytes) → IfOk result (λ row. IsWeightsRow row)
 weights_are (Ok row) bytes given = weights_read bytes row given

@@ -13,9 +13,13 @@ use Rattle.rail_csv.specs.declared.rows.End.{End}
 use Rattle.rail_csv.specs.declared.rows.End.TheVariants as ends
 use Rattle.rail_csv.specs.Fields.{is_number, number_of, is_time, time_of, pieces_of, numbers_of, is_unit}
 
--- the field of a column
+-- the field of a column, and where the row's version has no such column, what stands for it
+abbrev pub field_or : List ℕ → List (List ℕ) → ℕ → List ℕ
+field_or missing fields column = slice_index_or fields column missing
+
+-- the field of a column that every version has
 abbrev pub field : List (List ℕ) → ℕ → List ℕ
-field fields column = slice_index_or fields column []
+field fields column = field_or [] fields column
 
 -- a number from low to high
 unfoldable pub number_column : ℕ → ℕ → ℕ → ℕ → List ℕ → Result ℕ TableRefusal

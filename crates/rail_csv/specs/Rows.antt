@@ -2,7 +2,7 @@
 use Rattle.std.specs.Prelude.{ℕ, List, length, ◌≤◌, ◌<◌, IsTrue, IfSome}
 use Rattle.std.specs.List.{All}
 use Rattle.rail_base.specs.Names.{is_name}
-use Rattle.rail_base.specs.declared.limits.TheConstants.{MOST_TYPES, MOST_STATIONS, MOST_STOCK_ROWS, MOST_TRIPS, MOST_LINKS, MOST_PLAN_ROWS, MOST_CARRIAGES, MOST_SEATS, MOST_METRES, MOST_PLATFORM, MOST_REALLOCATION, MOST_STOCK, MOST_MINUTES, MOST_KM, MOST_DEMAND, MOST_WEIGHT, MOST_COMPOSITION, MOST_UNITS}
+use Rattle.rail_base.specs.declared.limits.TheConstants.{MOST_TYPES, MOST_STATIONS, MOST_STOCK_ROWS, MOST_TRIPS, MOST_LINKS, MOST_PLAN_ROWS, MOST_CARRIAGES, MOST_SEATS, MOST_FIRST_SEATS, MOST_METRES, MOST_PLATFORM, MOST_REALLOCATION, MOST_STOCK, MOST_MINUTES, MOST_KM, MOST_DEMAND, MOST_FIRST_DEMAND, MOST_WEIGHT, MOST_COMPOSITION, MOST_UNITS}
 use Rattle.rail_csv.specs.declared.rows.TypeRow.{TypeRow}
 use Rattle.rail_csv.specs.declared.rows.StationRow.{StationRow}
 use Rattle.rail_csv.specs.declared.rows.StockRow.{StockRow}
@@ -27,6 +27,7 @@ pub record IsTypeRow (row : TypeRow) : Type 0 where
   pub seats : IsWithin 1 MOST_SEATS row.seats
   pub metres : IsWithin 1 MOST_METRES row.metres
   pub family : IsName row.family
+  pub first : IsWithin 0 MOST_FIRST_SEATS row.first
 
 pub record IsStationRow (row : StationRow) : Type 0 where
   pub name : IsName row.name
@@ -47,6 +48,7 @@ pub record IsTripRow (row : TripRow) : Type 0 where
   pub arrival : IsMinute row.arrival
   pub km : IsWithin 1 MOST_KM row.km
   pub demand : IsWithin 0 MOST_DEMAND row.demand
+  pub first : IsWithin 0 MOST_FIRST_DEMAND row.first
 
 pub record IsLinkRow (row : LinkRow) : Type 0 where
   pub arriving : IsName row.arriving

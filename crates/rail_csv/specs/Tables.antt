@@ -1,5 +1,5 @@
 -- What a table is read as: its rows, or the first thing that is wrong in it.
-use Rattle.std.specs.Prelude.{ℕ, ◌+◌, List, [], ◌∷◌, length, Bool, true, false, ◌==◌, nat_lt, Result, Ok, Err, if◌then◌else◌, codes}
+use Rattle.std.specs.Prelude.{ℕ, ◌+◌, List, [], ◌∷◌, length, take, nat_le, Bool, true, false, ◌&&◌, ◌==◌, nat_lt, Result, Ok, Err, if◌then◌else◌, codes}
 use Rattle.std.specs.List.{list_all}
 use Rattle.std.specs.Str.{bytes_eq, is_utf8}
 use Rattle.std.specs.Cmp.Lexicographic.{pointwise}
@@ -14,8 +14,8 @@ use Rattle.rail_csv.specs.declared.rows.LinkRow.{LinkRow}
 use Rattle.rail_csv.specs.declared.rows.WeightsRow.{WeightsRow}
 use Rattle.rail_csv.specs.declared.rows.PlanRow.{PlanRow}
 use Rattle.rail_base.specs.Answers.{◌>>=◌}
-use Rattle.rail_base.specs.declared.limits.TheConstants.{MOST_TYPES, MOST_STATIONS, MOST_STOCK_ROWS, MOST_TRIPS, MOST_LINKS, MOST_WEIGHT_ROWS, MOST_PLAN_ROWS, MOST_CARRIAGES, MOST_SEATS, MOST_METRES, MOST_PLATFORM, MOST_REALLOCATION, MOST_STOCK, MOST_KM, MOST_DEMAND, MOST_WEIGHT}
-use Rattle.rail_csv.specs.Columns.{field, number_column, time_column, name_column, optional_name_column, kind_column, answer_column, end_column, units_column}
+use Rattle.rail_base.specs.declared.limits.TheConstants.{MOST_TYPES, MOST_STATIONS, MOST_STOCK_ROWS, MOST_TRIPS, MOST_LINKS, MOST_WEIGHT_ROWS, MOST_PLAN_ROWS, MOST_CARRIAGES, MOST_SEATS, MOST_FIRST_SEATS, MOST_METRES, MOST_PLATFORM, MOST_REALLOCATION, MOST_STOCK, MOST_KM, MOST_DEMAND, MOST_FIRST_DEMAND, MOST_WEIGHT}
+use Rattle.rail_csv.specs.Columns.{field, field_or, number_column, time_column, name_column, optional_name_column, kind_column, answer_column, end_column, units_column}
 
 -- ---- every table
 
@@ -27,43 +27,45 @@ Columns Row = ℕ → List (List ℕ) → Result Row TableRefusal
 abbrev pub records_of : List ℕ → List (List (List ℕ))
 records_of bytes = records default_config (strip_bom bytes)
 
-abbrev pub is_header : List (List ℕ) → List (List ℕ) → Bool
-is_header header fields = pointwise bytes_eq fields header
+-- The header of a version of a table: a later version has more columns at the end, so of the words of all columns a
+-- header has a front, with those of the first version at least.
+abbrev pub is_header : List (List ℕ) → ℕ → List (List ℕ) → Bool
+is_header words fewest fields = nat_le fewest (length fields) && pointwise bytes_eq fields (take (length fields) words)
 
--- a row: as many fields as columns, all of them UTF-8, and then each column
-unfoldable pub row_of : {Row : Type 0} → List (List ℕ) → Columns Row → ℕ → List (List ℕ) → Result Row TableRefusal
-row_of header columns row fields =
-    if length fields == length header
+-- a row: as many fields as its version has columns, all of them UTF-8, and then each column
+unfoldable pub row_of : {Row : Type 0} → ℕ → Columns Row → ℕ → List (List ℕ) → Result Row TableRefusal
+row_of width columns row fields =
+    if length fields == width
     then (if list_all is_utf8 fields then columns row fields else Err (NotUtf8 row))
     else Err (FieldCount row (length fields))
 
 -- the rows from this one on, in order; one past the limit is too many
-unfoldable pub rows_from : {Row : Type 0} → List (List ℕ) → ℕ → Columns Row → ℕ → List (List (List ℕ)) → Result (List Row) TableRefusal
-rows_from header limit columns row [] = Ok []
-rows_from header limit columns row (fields ∷ others) = if nat_lt limit row then Err TooManyRows else do
-  first ← row_of header columns row fields
-  rest ← rows_from header limit columns (row + 1) others
+unfoldable pub rows_from : {Row : Type 0} → ℕ → ℕ → Columns Row → ℕ → List (List (List ℕ)) → Result (List Row) TableRefusal
+rows_from width limit columns row [] = Ok []
+rows_from width limit columns row (fields ∷ others) = if nat_lt limit row then Err TooManyRows else do
+  first ← row_of width columns row fields
+  rest ← rows_from width limit columns (row + 1) others
   Ok (first ∷ rest)
 
--- the rows under the header, counted from 1
-unfoldable pub rows_under : {Row : Type 0} → List (List ℕ) → ℕ → Columns Row → List (List (List ℕ)) → Result (List Row) TableRefusal
-rows_under header limit columns [] = Err WrongHeader
-rows_under header limit columns (first ∷ others) =
-    if is_header header first then rows_from header limit columns 1 others else Err WrongHeader
+-- the rows under the header, counted from 1, in the version that the header tells
+unfoldable pub rows_under : {Row : Type 0} → List (List ℕ) → ℕ → ℕ → Columns Row → List (List (List ℕ)) → Result (List Row) TableRefusal
+rows_under words fewest limit columns [] = Err WrongHeader
+rows_under words fewest limit columns (first ∷ others) =
+    if is_header words fewest first then rows_from (length first) limit columns 1 others else Err WrongHeader
 
--- the rows of a table
-unfoldable pub table_of : {Row : Type 0} → List (List ℕ) → ℕ → Columns Row → List ℕ → Result (List Row) TableRefusal
-table_of header limit columns bytes = rows_under header limit columns (records_of bytes)
+-- the rows of a table: the words of all its columns, how many of them its first version has, and the most rows
+unfoldable pub table_of : {Row : Type 0} → List (List ℕ) → ℕ → ℕ → Columns Row → List ℕ → Result (List Row) TableRefusal
+table_of words fewest limit columns bytes = rows_under words fewest limit columns (records_of bytes)
 
 -- the refusal that is free
 abbrev pub is_memory : TableRefusal → Bool
 is_memory NoMemory = true
 is_memory why = false
 
--- ---- the seven tables
+-- ---- the seven tables, each with the words of its columns; those that the first version lacks are said where they are read
 
 abbrev pub type_header : List (List ℕ)
-type_header = codes "type" ∷ codes "carriages" ∷ codes "seats" ∷ codes "metres" ∷ codes "family" ∷ []
+type_header = codes "type" ∷ codes "carriages" ∷ codes "seats" ∷ codes "metres" ∷ codes "family" ∷ codes "first" ∷ []
 
 unfoldable pub type_columns : Columns TypeRow
 type_columns row fields = do
@@ -72,10 +74,11 @@ type_columns row fields = do
   seats ← number_column 1 MOST_SEATS row 2 (field fields 2)
   metres ← number_column 1 MOST_METRES row 3 (field fields 3)
   family ← name_column row 4 (field fields 4)
-  Ok (record { name = name; carriages = carriages; seats = seats; metres = metres; family = family })
+  first ← number_column 0 MOST_FIRST_SEATS row 5 (field_or (codes "0") fields 5)
+  Ok (record { name = name; carriages = carriages; seats = seats; metres = metres; family = family; first = first })
 
 unfoldable pub types_of : List ℕ → Result (List TypeRow) TableRefusal
-types_of bytes = table_of type_header MOST_TYPES type_columns bytes
+types_of bytes = table_of type_header 5 MOST_TYPES type_columns bytes
 
 abbrev pub station_header : List (List ℕ)
 station_header = codes "station" ∷ codes "platform" ∷ codes "reallocation" ∷ []
@@ -88,7 +91,7 @@ station_columns row fields = do
   Ok (record { name = name; platform = platform; reallocation = reallocation })
 
 unfoldable pub stations_of : List ℕ → Result (List StationRow) TableRefusal
-stations_of bytes = table_of station_header MOST_STATIONS station_columns bytes
+stations_of bytes = table_of station_header 3 MOST_STATIONS station_columns bytes
 
 abbrev pub stock_header : List (List ℕ)
 stock_header = codes "station" ∷ codes "type" ∷ codes "start" ∷ codes "end" ∷ []
@@ -102,10 +105,10 @@ stock_columns row fields = do
   Ok (record { station = station; unit_type = unit_type; start = start; end = end })
 
 unfoldable pub stock_of : List ℕ → Result (List StockRow) TableRefusal
-stock_of bytes = table_of stock_header MOST_STOCK_ROWS stock_columns bytes
+stock_of bytes = table_of stock_header 4 MOST_STOCK_ROWS stock_columns bytes
 
 abbrev pub trip_header : List (List ℕ)
-trip_header = codes "trip" ∷ codes "from" ∷ codes "departure" ∷ codes "to" ∷ codes "arrival" ∷ codes "km" ∷ codes "demand" ∷ []
+trip_header = codes "trip" ∷ codes "from" ∷ codes "departure" ∷ codes "to" ∷ codes "arrival" ∷ codes "km" ∷ codes "demand" ∷ codes "first" ∷ []
 
 unfoldable pub trip_columns : Columns TripRow
 trip_columns row fields = do
@@ -116,10 +119,11 @@ trip_columns row fields = do
   arrival ← time_column row 4 (field fields 4)
   km ← number_column 1 MOST_KM row 5 (field fields 5)
   demand ← number_column 0 MOST_DEMAND row 6 (field fields 6)
-  Ok (record { name = name; from = from; departure = departure; to = to; arrival = arrival; km = km; demand = demand })
+  first ← number_column 0 MOST_FIRST_DEMAND row 7 (field_or (codes "0") fields 7)
+  Ok (record { name = name; from = from; departure = departure; to = to; arrival = arrival; km = km; demand = demand; first = first })
 
 unfoldable pub trips_of : List ℕ → Result (List TripRow) TableRefusal
-trips_of bytes = table_of trip_header MOST_TRIPS trip_columns bytes
+trips_of bytes = table_of trip_header 7 MOST_TRIPS trip_columns bytes
 
 abbrev pub link_header : List (List ℕ)
 link_header = codes "kind" ∷ codes "arriving" ∷ codes "arriving2" ∷ codes "departing" ∷ codes "departing2" ∷ codes "reverse" ∷ codes "uncouple" ∷ codes "couple" ∷ []
@@ -137,7 +141,7 @@ link_columns row fields = do
   Ok (record { kind = kind; arriving = arriving; arriving2 = arriving2; departing = departing; departing2 = departing2; reverse = reverse; uncouple = uncouple; couple = couple })
 
 unfoldable pub links_of : List ℕ → Result (List LinkRow) TableRefusal
-links_of bytes = table_of link_header MOST_LINKS link_columns bytes
+links_of bytes = table_of link_header 8 MOST_LINKS link_columns bytes
 
 abbrev pub weight_header : List (List ℕ)
 weight_header = codes "carriage" ∷ codes "shortage" ∷ codes "shunting" ∷ []
@@ -156,7 +160,7 @@ the_row (row ∷ others) = Ok row
 
 unfoldable pub weights_of : List ℕ → Result WeightsRow TableRefusal
 weights_of bytes = do
-  rows ← table_of weight_header MOST_WEIGHT_ROWS weight_columns bytes
+  rows ← table_of weight_header 3 MOST_WEIGHT_ROWS weight_columns bytes
   the_row rows
 
 abbrev pub plan_header : List (List ℕ)
@@ -169,4 +173,4 @@ plan_columns row fields = do
   Ok (record { trip = trip; units = units })
 
 unfoldable pub plan_of : List ℕ → Result (List PlanRow) TableRefusal
-plan_of bytes = table_of plan_header MOST_PLAN_ROWS plan_columns bytes
+plan_of bytes = table_of plan_header 2 MOST_PLAN_ROWS plan_columns bytes

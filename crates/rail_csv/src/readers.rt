@@ -14,63 +14,74 @@ use rail_base::limits::{
 };
 use std::alloc::Global;
 
-/// Reads the types table: its rows, or the first thing that is wrong. Its columns are `type,carriages,seats,metres,family`, and it has at
-/// most 6 rows. The bytes are at most 4,194,304.
+/// Reads the types table, of at most `MOST_TYPES` rows: its rows, or the first thing that is wrong. Its columns are
+/// `type,carriages,seats,metres,family`, and `first` in its second version; a row of the first version has 0 there. The
+/// bytes are at most `MOST_TABLE_BYTES`.
 #[tactic(auto, unfolding(crate::specs::Tables::types_of))]
 pub fn types(alloc: Global, bytes: &[u8]) -> Result<Vec<TypeRow>, TableRefusal>
     requires { length bytes.now ≤ MOST_TABLE_BYTES }
     ensures exact { GivesRows is_memory result (types_of bytes.now) }
     ensures rows { IfOk result (λ v. AreTypeRows v.items) }
 {
-    let header = ["type", "carriages", "seats", "metres", "family"];
-    read_table(alloc, &header, MOST_TYPES as u32, bytes)
+    let words = ["type", "carriages", "seats", "metres", "family", "first"];
+    read_table(alloc, &words, 5, MOST_TYPES as u32, bytes)
 }
 
-/// Reads the stations table: its rows, or the first thing that is wrong. Its columns are `station,platform,reallocation`, and it has at
-/// most 60 rows. The bytes are at most 4,194,304.
+/// Reads the stations table, of at most `MOST_STATIONS` rows: its rows, or the first thing that is wrong. Its columns
+/// are `station,platform,reallocation`. The bytes are at most `MOST_TABLE_BYTES`.
 #[tactic(auto, unfolding(crate::specs::Tables::stations_of))]
 pub fn stations(alloc: Global, bytes: &[u8]) -> Result<Vec<StationRow>, TableRefusal>
     requires { length bytes.now ≤ MOST_TABLE_BYTES }
     ensures exact { GivesRows is_memory result (stations_of bytes.now) }
     ensures rows { IfOk result (λ v. AreStationRows v.items) }
 {
-    let header = ["station", "platform", "reallocation"];
-    read_table(alloc, &header, MOST_STATIONS as u32, bytes)
+    let words = ["station", "platform", "reallocation"];
+    read_table(alloc, &words, 3, MOST_STATIONS as u32, bytes)
 }
 
-/// Reads the stock table: its rows, or the first thing that is wrong. Its columns are `station,type,start,end`, and it has at
-/// most 360 rows. The bytes are at most 4,194,304.
+/// Reads the stock table, of at most `MOST_STOCK_ROWS` rows: its rows, or the first thing that is wrong. Its columns are
+/// `station,type,start,end`. The bytes are at most `MOST_TABLE_BYTES`.
 #[tactic(auto, unfolding(crate::specs::Tables::stock_of))]
 pub fn stock(alloc: Global, bytes: &[u8]) -> Result<Vec<StockRow>, TableRefusal>
     requires { length bytes.now ≤ MOST_TABLE_BYTES }
     ensures exact { GivesRows is_memory result (stock_of bytes.now) }
     ensures rows { IfOk result (λ v. AreStockRows v.items) }
 {
-    let header = ["station", "type", "start", "end"];
-    read_table(alloc, &header, MOST_STOCK_ROWS as u32, bytes)
+    let words = ["station", "type", "start", "end"];
+    read_table(alloc, &words, 4, MOST_STOCK_ROWS as u32, bytes)
 }
 
-/// Reads the trips table: its rows, or the first thing that is wrong. Its columns are `trip,from,departure,to,arrival,km,demand`, and it has at
-/// most 400 rows. The bytes are at most 4,194,304.
+/// Reads the trips table, of at most `MOST_TRIPS` rows: its rows, or the first thing that is wrong. Its columns are
+/// `trip,from,departure,to,arrival,km,demand`, and `first` in its second version; a row of the first version has 0
+/// there. The bytes are at most `MOST_TABLE_BYTES`.
 #[tactic(auto, unfolding(crate::specs::Tables::trips_of))]
 pub fn trips(alloc: Global, bytes: &[u8]) -> Result<Vec<TripRow>, TableRefusal>
     requires { length bytes.now ≤ MOST_TABLE_BYTES }
     ensures exact { GivesRows is_memory result (trips_of bytes.now) }
     ensures rows { IfOk result (λ v. AreTripRows v.items) }
 {
-    let header = ["trip", "from", "departure", "to", "arrival", "km", "demand"];
-    read_table(alloc, &header, MOST_TRIPS as u32, bytes)
+    let words = [
+        "trip",
+        "from",
+        "departure",
+        "to",
+        "arrival",
+        "km",
+        "demand",
+        "first",
+    ];
+    read_table(alloc, &words, 7, MOST_TRIPS as u32, bytes)
 }
 
-/// Reads the links table: its rows, or the first thing that is wrong. Its columns are `kind,arriving,arriving2,departing,departing2,reverse,uncouple,couple`, and it has at
-/// most 400 rows. The bytes are at most 4,194,304.
+/// Reads the links table, of at most `MOST_LINKS` rows: its rows, or the first thing that is wrong. Its columns are
+/// `kind,arriving,arriving2,departing,departing2,reverse,uncouple,couple`. The bytes are at most `MOST_TABLE_BYTES`.
 #[tactic(auto, unfolding(crate::specs::Tables::links_of))]
 pub fn links(alloc: Global, bytes: &[u8]) -> Result<Vec<LinkRow>, TableRefusal>
     requires { length bytes.now ≤ MOST_TABLE_BYTES }
     ensures exact { GivesRows is_memory result (links_of bytes.now) }
     ensures rows { IfOk result (λ v. AreLinkRows v.items) }
 {
-    let header = [
+    let words = [
         "kind",
         "arriving",
         "arriving2",
@@ -80,11 +91,11 @@ pub fn links(alloc: Global, bytes: &[u8]) -> Result<Vec<LinkRow>, TableRefusal>
         "uncouple",
         "couple",
     ];
-    read_table(alloc, &header, MOST_LINKS as u32, bytes)
+    read_table(alloc, &words, 8, MOST_LINKS as u32, bytes)
 }
 
-/// Reads the weights table: its one row, or the first thing that is wrong. Its columns are `carriage,shortage,shunting`. The bytes
-/// are at most 4,194,304.
+/// Reads the weights table: its one row, or the first thing that is wrong. Its columns are `carriage,shortage,shunting`.
+/// The bytes are at most `MOST_TABLE_BYTES`.
 pub fn weights(alloc: Global, bytes: &[u8]) -> Result<WeightsRow, TableRefusal>
     requires { length bytes.now ≤ MOST_TABLE_BYTES }
     ensures exact { Gives is_memory result (weights_of bytes.now) }
@@ -99,22 +110,22 @@ fn the_weights(alloc: Global, bytes: &[u8]) -> Result<WeightsRow, TableRefusal>
     requires { length bytes.now ≤ MOST_TABLE_BYTES }
     ensures { Gives is_memory result (weights_of bytes.now) }
 {
-    let header = ["carriage", "shortage", "shunting"];
-    let rows: Vec<WeightsRow> = read_table(alloc, &header, MOST_WEIGHT_ROWS as u32, bytes)?;
+    let words = ["carriage", "shortage", "shunting"];
+    let rows: Vec<WeightsRow> = read_table(alloc, &words, 3, MOST_WEIGHT_ROWS as u32, bytes)?;
     match rows.as_slice() {
         [] => Err(TableRefusal::NoRow),
         [row, ..] => Ok(*row),
     }
 }
 
-/// Reads the plan table: its rows, or the first thing that is wrong. Its columns are `trip,units`, and it has at
-/// most 400 rows. The bytes are at most 4,194,304.
+/// Reads the plan table, of at most `MOST_PLAN_ROWS` rows: its rows, or the first thing that is wrong. Its columns are
+/// `trip,units`. The bytes are at most `MOST_TABLE_BYTES`.
 #[tactic(auto, unfolding(crate::specs::Tables::plan_of))]
 pub fn plan(alloc: Global, bytes: &[u8]) -> Result<Vec<PlanRow>, TableRefusal>
     requires { length bytes.now ≤ MOST_TABLE_BYTES }
     ensures exact { GivesRows is_memory result (plan_of bytes.now) }
     ensures rows { IfOk result (λ v. ArePlanRows v.items) }
 {
-    let header = ["trip", "units"];
-    read_table(alloc, &header, MOST_PLAN_ROWS as u32, bytes)
+    let words = ["trip", "units"];
+    read_table(alloc, &words, 2, MOST_PLAN_ROWS as u32, bytes)
 }

@@ -3,7 +3,7 @@
 ghost use Rattle.std.specs.Prelude.{◌≡◌, ◌≤◌, ◌<◌, ◌^◌, length, map, Ok, IfOk, IfErr};
 ghost use Rattle.csv.specs.Records.{fields_of};
 ghost use Rattle.rail_base.specs.Answers.{Gives, GivesRows};
-ghost use Rattle.rail_csv.specs.Columns.{field};
+ghost use Rattle.rail_csv.specs.Columns.{field, field_or};
 ghost use Rattle.rail_csv.specs.Tables.{Columns, is_header, is_memory, records_of, row_of, rows_from, table_of};
 ghost use Rattle.rail_csv.specs.Records.{ReadsOn, records_left};
 ghost use Rattle.rail_csv.specs.declared.refusal.TableRefusal.TheVariants.{NoMemory};
@@ -23,17 +23,24 @@ pub trait TableRow: Drop {
         ensures { Gives is_memory result (columns row (fields_of fields.now)) };
 }
 
-/// The field of a column, counted from 0; an empty text where there is none.
-pub fn field(fields: &StringRecord, column: usize) -> &str
-    ensures { result.now ≡ field (fields_of fields.now) column }
+/// The field of a column, counted from 0; what is said for a missing one where the row's version has no such column.
+pub fn field_or<'a>(missing: &'a str, fields: &'a StringRecord, column: usize) -> &'a str
+    ensures { result.now ≡ field_or missing.now (fields_of fields.now) column }
 {
     match fields.get(column) {
         Some(text) => text,
-        None => "",
+        None => missing,
     }
 }
 
-/// The bytes of a field, likewise.
+/// The field of a column that every version has.
+pub fn field(fields: &StringRecord, column: usize) -> &str
+    ensures { result.now ≡ field (fields_of fields.now) column }
+{
+    field_or("", fields, column)
+}
+
+/// The bytes of a field; none where there is no such column.
 fn field_bytes(found: &ByteRecord, column: usize) -> &[u8]
     ensures { result.now ≡ field (fields_of found.now) column }
 {
@@ -43,33 +50,38 @@ fn field_bytes(found: &ByteRecord, column: usize) -> &[u8]
     }
 }
 
-/// Whether a record is the header: as many fields, and each the word of its column.
-fn is_header(found: &ByteRecord, header: &[&str]) -> bool
-    ensures { result ≡ is_header (map (λ word. word.now) header.now) (fields_of found.now) }
+/// Whether a record is the header of a version: a front of the words of all columns, with `fewest` of them at least.
+fn is_header(words: &[&str], fewest: usize, found: &ByteRecord) -> bool
+    ensures { result ≡ is_header (map (λ word. word.now) words.now) fewest (fields_of found.now) }
 {
-    if found.len() != header.len() {
+    let width = found.len();
+    if width < fewest {
         return false;
     }
-    for column in 0..header.len() {
-        if field_bytes(found, column) != header[column].as_bytes() {
+    if width > words.len() {
+        return false;
+    }
+    for column in 0..width {
+        if field_bytes(found, column) != words[column].as_bytes() {
             return false;
         }
     }
     true
 }
 
-/// Reads the row of a record: the number of fields first, then whether all are UTF-8, then the columns.
+/// Reads the row of a record: the number of fields first, then whether all are UTF-8, then the columns. `width` is how
+/// many columns its version has.
 #[tactic(auto, unfolding(crate::specs::Tables::row_of))]
 fn read_row<T: TableRow>(
     alloc: Global,
-    header: &[&str],
+    width: usize,
     row: u32,
     found: ByteRecord,
 ) -> Result<T, TableRefusal>
     requires { length (fields_of found) < 2 ^ 32 }
-    ensures { Gives is_memory result (row_of (map (λ word. word.now) header.now) T.columns row (fields_of found)) }
+    ensures { Gives is_memory result (row_of width T.columns row (fields_of found)) }
 {
-    if found.len() != header.len() {
+    if found.len() != width {
         return Err(TableRefusal::FieldCount {
             row,
             found: found.len() as u32,
@@ -105,16 +117,17 @@ fn records_in(alloc: Global, bytes: &[u8]) -> ByteRecordsIntoIter<&[u8]>
         .into_byte_records()
 }
 
-/// Reads the rows under a header, at most `limit`. No more records are read than it takes to know the answer.
+/// Reads the rows under a header of so many columns, at most `limit`. No more records are read than it takes to know the
+/// answer.
 fn read_rows<T: TableRow>(
     alloc: Global,
-    header: &[&str],
+    width: usize,
     limit: u32,
     records: ByteRecordsIntoIter<&[u8]>,
 ) -> Result<Vec<T>, TableRefusal>
     requires reads { ReadsOn records }
     requires limit { limit ≤ MOST_TABLE_BYTES }
-    ensures { GivesRows is_memory result (rows_from (map (λ word. word.now) header.now) limit T.columns 1 (records_left records.entry)) }
+    ensures { GivesRows is_memory result (rows_from width limit T.columns 1 (records_left records.entry)) }
 {
     let mut rows: Vec<T> = Vec::new(alloc);
     for turn in records {
@@ -123,32 +136,34 @@ fn read_rows<T: TableRow>(
             return Err(TableRefusal::TooManyRows);
         }
         let number = rows.len() as u32 + 1;
-        let row = read_row(alloc, header, number, found)?;
+        let row = read_row(alloc, width, number, found)?;
         rows.push(row)?;
     }
     Ok(rows)
 }
 
-/// Reads a table with this header and at most `limit` rows. A byte order mark at the front is dropped once, and empty
-/// lines are no records. There can't be more rows than bytes, so no limit needs to be over the one on bytes.
+/// Reads a table: the words of its columns, how many of them its first version has, and the most rows. Its header tells
+/// its version. A byte order mark at the front is dropped once, and empty lines are no records. There can't be more rows
+/// than bytes, so no limit needs to be over the one on bytes.
 #[tactic(auto, unfolding(crate::specs::Tables::table_of))]
 pub fn read_table<T: TableRow>(
     alloc: Global,
-    header: &[&str],
+    words: &[&str],
+    fewest: usize,
     limit: u32,
     bytes: &[u8],
 ) -> Result<Vec<T>, TableRefusal>
     requires small { length bytes.now ≤ MOST_TABLE_BYTES }
     requires limit { limit ≤ MOST_TABLE_BYTES }
-    ensures { GivesRows is_memory result (table_of (map (λ word. word.now) header.now) limit T.columns bytes.now) }
+    ensures { GivesRows is_memory result (table_of (map (λ word. word.now) words.now) fewest limit T.columns bytes.now) }
 {
     let mut records = records_in(alloc, bytes);
     let Some(turn) = records.next() else {
         return Err(TableRefusal::WrongHeader);
     };
     let first = taken(turn)?;
-    if !is_header(&first, header) {
+    if !is_header(words, fewest, &first) {
         return Err(TableRefusal::WrongHeader);
     }
-    read_rows(alloc, header, limit, records)
+    read_rows(alloc, first.len(), limit, records)
 }

@@ -11,10 +11,10 @@ pub enum TableRefusal {
     /// A field of this row is not UTF-8.
     #[error("row {0} is not UTF-8")]
     NotUtf8(u32),
-    /// The first record is absent, or its fields are not the columns of the table.
+    /// The first record is absent, or its fields are the columns of no version of the table.
     #[error("wrong header")]
     WrongHeader,
-    /// The row has another number of fields than the table has columns.
+    /// The row has another number of fields than the table's version has columns.
     #[error("row {row} has {found} fields")]
     FieldCount {
         /// The row.

@@ -13,12 +13,14 @@ pub struct TypeRow {
     pub name: Name,
     /// Carriages of one unit, 1 to 20.
     pub carriages: u32,
-    /// Seats of one unit, 1 to 2,000.
+    /// Seats of second class of one unit, 1 to 2,000.
     pub seats: u32,
     /// Length of one unit in metres, 1 to 500.
     pub metres: u32,
     /// The family of the type: only units of one family run coupled.
     pub family: Name,
+    /// Seats of first class of one unit, 0 to 2,000; 0 in a table of the first version.
+    pub first: u32,
 }
 
 /// A row of the stations table.
@@ -60,8 +62,10 @@ pub struct TripRow {
     pub arrival: Minute,
     /// Length in kilometres, 1 to 1,000.
     pub km: u32,
-    /// Seats that are wanted, 0 to 10,000.
+    /// Seats of second class that are wanted, 0 to 10,000.
     pub demand: u32,
+    /// Seats of first class that are wanted, 0 to 10,000; 0 in a table of the first version.
+    pub first: u32,
 }
 
 /// How a link leads from arriving to departing trips.

@@ -3,13 +3,13 @@
 ghost use Rattle.std.specs.Prelude.{◌≡◌};
 
 use crate::columns;
-use crate::reading::{TableRow, field};
+use crate::reading::{TableRow, field, field_or};
 use crate::refusal::TableRefusal;
 use crate::rows::{LinkRow, PlanRow, StationRow, StockRow, TripRow, TypeRow, WeightsRow};
 use csv::StringRecord;
 use rail_base::limits::{
-    MOST_CARRIAGES, MOST_DEMAND, MOST_KM, MOST_METRES, MOST_PLATFORM, MOST_REALLOCATION,
-    MOST_SEATS, MOST_STOCK, MOST_WEIGHT,
+    MOST_CARRIAGES, MOST_DEMAND, MOST_FIRST_DEMAND, MOST_FIRST_SEATS, MOST_KM, MOST_METRES,
+    MOST_PLATFORM, MOST_REALLOCATION, MOST_SEATS, MOST_STOCK, MOST_WEIGHT,
 };
 use std::alloc::Global;
 
@@ -25,12 +25,14 @@ impl TableRow for TypeRow {
         let seats = columns::number(field(fields, 2), 1, MOST_SEATS, row, 2)?;
         let metres = columns::number(field(fields, 3), 1, MOST_METRES, row, 3)?;
         let family = columns::name(alloc, field(fields, 4), row, 4)?;
+        let first = columns::number(field_or("0", fields, 5), 0, MOST_FIRST_SEATS, row, 5)?;
         Ok(TypeRow {
             name,
             carriages,
             seats,
             metres,
             family,
+            first,
         })
     }
 }
@@ -87,6 +89,7 @@ impl TableRow for TripRow {
         let arrival = columns::time(field(fields, 4), row, 4)?;
         let km = columns::number(field(fields, 5), 1, MOST_KM, row, 5)?;
         let demand = columns::number(field(fields, 6), 0, MOST_DEMAND, row, 6)?;
+        let first = columns::number(field_or("0", fields, 7), 0, MOST_FIRST_DEMAND, row, 7)?;
         Ok(TripRow {
             name,
             from,
@@ -95,6 +98,7 @@ impl TableRow for TripRow {
             arrival,
             km,
             demand,
+            first,
         })
     }
 }

@@ -23,6 +23,7 @@ fn regional(alloc: Global, name: &str, metres: u32) -> Result<UnitType, NoMemory
         seats: 200,
         metres,
         family: Name::copy(alloc, "regional")?,
+        first: 20,
     })
 }
 
@@ -76,6 +77,7 @@ fn measures(rt: HostRuntime) {
     };
     assert!(rt; pair.metres(&types) == 140);
     assert!(rt; pair.seats(&types) == 400);
+    assert!(rt; pair.first_seats(&types) == 40);
     assert!(rt; pair.carriages(&types) == 6);
     assert!(rt; pair.one_family(&types));
     assert!(rt; pair.fits(&types, 140));

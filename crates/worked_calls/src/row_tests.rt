@@ -1,6 +1,10 @@
 //! The readers of the tables: how CSV may be written, and which refusal is the first.
 
+ghost use Rattle.std.specs.Prelude.{◌≤◌, length};
+
+use rail_base::limits::MOST_TABLE_BYTES;
 use rail_csv::{End, KindWord, TableRefusal, links, plan, stations, stock, trips, types, weights};
+use std::alloc::Global;
 use std::test::Fail;
 
 #[test]
@@ -98,6 +102,66 @@ fn unit_lists(rt: HostRuntime) -> Result<(), Fail> {
     );
     assert_eq!(rt; plan(rt.alloc(), b"trip,units\nT,1  2\n").err(), bad_number);
     Ok(())
+}
+
+/// Whether each row of the types table has these seats of first class.
+fn types_have_first(alloc: Global, text: &[u8], first: u32) -> Result<bool, TableRefusal>
+    requires { length text.now ≤ MOST_TABLE_BYTES }
+{
+    Ok(types(alloc, text)?.iter().all(|row| row.first == first))
+}
+
+/// Whether each row of the trips table has this demand of first class.
+fn trips_have_first(alloc: Global, text: &[u8], first: u32) -> Result<bool, TableRefusal>
+    requires { length text.now ≤ MOST_TABLE_BYTES }
+{
+    Ok(trips(alloc, text)?.iter().all(|row| row.first == first))
+}
+
+#[test]
+fn types_in_two_versions(rt: HostRuntime) -> Result<(), Fail> {
+    let alloc = rt.alloc();
+    let older = b"type,carriages,seats,metres,family\nA,3,200,80,r\n";
+    assert!(rt; types_have_first(alloc, older, 0)?);
+    let newer = b"type,carriages,seats,metres,family,first\nA,3,200,80,r,40\nB,3,200,80,r,040\n";
+    assert!(rt; types_have_first(alloc, newer, 40)?);
+    let many = b"type,carriages,seats,metres,family,first\nA,3,200,80,r,2001\n";
+    let out_of_range = TableRefusal::OutOfRange { row: 1, column: 5 };
+    assert_eq!(rt; types(alloc, many).err(), Some(out_of_range));
+    Ok(())
+}
+
+#[test]
+fn trips_in_two_versions(rt: HostRuntime) -> Result<(), Fail> {
+    let alloc = rt.alloc();
+    let older = b"trip,from,departure,to,arrival,km,demand\nT,X,7:05,Y,8:05,40,464\n";
+    assert!(rt; trips_have_first(alloc, older, 0)?);
+    let newer = b"trip,from,departure,to,arrival,km,demand,first\nT,X,7:05,Y,8:05,40,464,10000\n";
+    assert!(rt; trips_have_first(alloc, newer, 10_000)?);
+    let word = b"trip,from,departure,to,arrival,km,demand,first\nT,X,7:05,Y,8:05,40,464,\n";
+    let bad_number = TableRefusal::BadNumber { row: 1, column: 7 };
+    assert_eq!(rt; trips(alloc, word).err(), Some(bad_number));
+    Ok(())
+}
+
+#[test]
+fn rows_of_the_other_version(rt: HostRuntime) {
+    let alloc = rt.alloc();
+    let long = b"type,carriages,seats,metres,family\nA,3,200,80,r\nB,3,200,80,r,40\n";
+    let six = TableRefusal::FieldCount { row: 2, found: 6 };
+    assert_eq!(rt; types(alloc, long).err(), Some(six));
+    let short = b"type,carriages,seats,metres,family,first\nA,3,200,80,r\n";
+    let five = TableRefusal::FieldCount { row: 1, found: 5 };
+    assert_eq!(rt; types(alloc, short).err(), Some(five));
+    let third = b"type,carriages,seats,metres,family,first,second\n";
+    assert_eq!(rt; types(alloc, third).err(), Some(TableRefusal::WrongHeader));
+    let cut = b"type,carriages,seats,metres\n";
+    assert_eq!(rt; types(alloc, cut).err(), Some(TableRefusal::WrongHeader));
+    let one_version = b"station,platform,reallocation,first\n";
+    assert_eq!(rt;
+        stations(alloc, one_version).err(),
+        Some(TableRefusal::WrongHeader)
+    );
 }
 
 #[test]

@@ -5,7 +5,6 @@ use Rattle.csv.specs.Records.{fields_of}
 use Rattle.rail_csv.specs.Tables.{is_memory, row_of, rows_from}
 use Rattle.rail_base.specs.Answers.{Fails}
 use Rattle.rail_csv.specs.Records.{records_left}
-use Rattle.rail_csv.proofs.Headers.{words}
 use Rattle.rail_csv.proofs.Records.{took, ended}
 use Rattle.rail_csv.proofs.Turns.{goes_on, fails, too_many, is_done}
 use Rattle.rail_csv.proofs.reading.read_rows.Goals as goal
@@ -15,7 +14,7 @@ returns-then-len-limit g c =
     let inv = c.loop-turn.invariant in
     let step = rw (c.in-Some.is, c.in_ok-found.ensures.ok) at ((c.next.ensures.steps inv.reads.turns inv.reads.trim).0 inv.reads.ready) in
     let t = took c.loop-turn.turn-iterator c.next.new.self c.in_ok-found.found inv.reads step in
-    too_many (words c.args.header.now) c.args.limit g.T.TableRow.columns c.loop-turn.rows.items (records_left c.loop-turn.turn-iterator) (fields_of c.in_ok-found.found) (records_left c.next.new.self) (rows_from (words c.args.header.now) c.args.limit g.T.TableRow.columns 1 (records_left c.args.records)) (omega (arith, c.len.ensures)) t.first inv.total
+    too_many c.args.width c.args.limit g.T.TableRow.columns c.loop-turn.rows.items (records_left c.loop-turn.turn-iterator) (fields_of c.in_ok-found.found) (records_left c.next.new.self) (rows_from c.args.width c.args.limit g.T.TableRow.columns 1 (records_left c.args.records)) (omega (arith, c.len.ensures)) t.first inv.total
 
 pub read_row-requires : goal.read_row-requires
 read_row-requires g c =
@@ -30,8 +29,8 @@ returns-in_err-row g c =
     let t = took c.loop-turn.turn-iterator c.next.new.self c.in_ok-found.found inv.reads step in
     let p = err_from_is_err_and c.from_residual-in_err-row.result c.from_residual-in_err-row.ensures.1 in
     let len_is : c.len-in-loop-turn.result ≡ length c.loop-turn.rows.items = omega (arith, c.len-in-loop-turn.ensures) in
-    let failed = subst (λ (n : ℕ). Fails is_memory c.in_err-row.field-0.0 (row_of (words c.args.header.now) g.T.TableRow.columns (n + 1) (fields_of c.in_ok-found.found))) len_is c.in_err-row.ensures in
-    rw (p.1, p.2) (fails (words c.args.header.now) c.args.limit g.T.TableRow.columns c.loop-turn.rows.items (records_left c.loop-turn.turn-iterator) (fields_of c.in_ok-found.found) (records_left c.next.new.self) c.in_err-row.field-0.0 (rows_from (words c.args.header.now) c.args.limit g.T.TableRow.columns 1 (records_left c.args.records)) (omega (arith, inv.few, c.len.ensures)) t.first failed inv.total)
+    let failed = subst (λ (n : ℕ). Fails is_memory c.in_err-row.field-0.0 (row_of c.args.width g.T.TableRow.columns (n + 1) (fields_of c.in_ok-found.found))) len_is c.in_err-row.ensures in
+    rw (p.1, p.2) (fails c.args.width c.args.limit g.T.TableRow.columns c.loop-turn.rows.items (records_left c.loop-turn.turn-iterator) (fields_of c.in_ok-found.found) (records_left c.next.new.self) c.in_err-row.field-0.0 (rows_from c.args.width c.args.limit g.T.TableRow.columns 1 (records_left c.args.records)) (omega (arith, inv.few, c.len.ensures)) t.first failed inv.total)
 
 pub loop-turn-preserved : goal.loop-turn-preserved
 loop-turn-preserved g c =
@@ -40,8 +39,8 @@ loop-turn-preserved g c =
     let t = took c.loop-turn.turn-iterator c.next.new.self c.in_ok-found.found inv.reads step in
     let room : length c.loop-turn.rows.items < c.args.limit = omega (arith, inv.few, c.len.ensures) in
     let len_is : c.len-in-loop-turn.result ≡ length c.loop-turn.rows.items = omega (arith, c.len-in-loop-turn.ensures) in
-    let read = subst (λ (n : ℕ). row_of (words c.args.header.now) g.T.TableRow.columns (n + 1) (fields_of c.in_ok-found.found) ≡ Ok c.in_ok-row.row) len_is c.in_ok-row.ensures in
-    let more = goes_on (words c.args.header.now) c.args.limit g.T.TableRow.columns c.loop-turn.rows.items (records_left c.loop-turn.turn-iterator) (fields_of c.in_ok-found.found) (records_left c.next.new.self) c.in_ok-row.row (rows_from (words c.args.header.now) c.args.limit g.T.TableRow.columns 1 (records_left c.args.records)) room t.first read inv.total in
+    let read = subst (λ (n : ℕ). row_of c.args.width g.T.TableRow.columns (n + 1) (fields_of c.in_ok-found.found) ≡ Ok c.in_ok-row.row) len_is c.in_ok-row.ensures in
+    let more = goes_on c.args.width c.args.limit g.T.TableRow.columns c.loop-turn.rows.items (records_left c.loop-turn.turn-iterator) (fields_of c.in_ok-found.found) (records_left c.next.new.self) c.in_ok-row.row (rows_from c.args.width c.args.limit g.T.TableRow.columns 1 (records_left c.args.records)) room t.first read inv.total in
     let items = c.in_ok-push.ensures.items in
     record {
       reads = t.next;
@@ -53,4 +52,4 @@ pub returns : goal.returns
 returns g c =
     let inv = c.loop-turn.invariant in
     let step = rw c.in-None.is at ((c.next.ensures.steps inv.reads.turns inv.reads.trim).0 inv.reads.ready) in
-    is_done (words c.args.header.now) c.args.limit g.T.TableRow.columns c.loop-turn.rows.items (records_left c.loop-turn.turn-iterator) (rows_from (words c.args.header.now) c.args.limit g.T.TableRow.columns 1 (records_left c.args.records)) (ended c.loop-turn.turn-iterator c.next.new.self c.next.new.self.left inv.reads step) inv.total
+    is_done c.args.width c.args.limit g.T.TableRow.columns c.loop-turn.rows.items (records_left c.loop-turn.turn-iterator) (rows_from c.args.width c.args.limit g.T.TableRow.columns 1 (records_left c.args.records)) (ended c.loop-turn.turn-iterator c.next.new.self c.next.new.self.left inv.reads step) inv.total

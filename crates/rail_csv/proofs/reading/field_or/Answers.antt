@@ -1,0 +1,9 @@
+use Rattle.csv.specs.Records.{fields_of}
+use Rattle.rail_csv.proofs.Headers.{field_found, field_lost}
+use Rattle.rail_csv.proofs.reading.field_or.Goals as goal
+
+pub returns-in-Some : goal.returns-in-Some
+returns-in-Some c = field_found c.args.missing.now (fields_of c.args.fields.now) c.args.column c.in-Some.text.now c.in-Some.ensures.value
+
+pub returns-in-None : goal.returns-in-None
+returns-in-None c = field_lost c.args.missing.now (fields_of c.args.fields.now) c.args.column c.in-None.ensures.value
