@@ -22,7 +22,7 @@ use Rattle.rail_base.specs.Answers.{◌>>=◌}
 use Rattle.rail_base.specs.declared.limits.TheConstants.{MOST_UNITS, MOST_COMPOSITIONS}
 use Rattle.timetable.specs.Build.{starts_of, catalogue_in, types_in, stations_in, stock_in, trips_in, weights_in, day_of}
 use Rattle.timetable.specs.Compositions.{greatest_in}
-use Rattle.timetable.specs.Day.{Day, units_in, units_of, leaves, arrives, from_of, to_of, km_of, demand_of, home_of, type_of, platform_of, reallocation_of}
+use Rattle.timetable.specs.Day.{Day, units_in, units_of, leaves, arrives, from_of, to_of, km_of, demand_of, first_demand_of, home_of, type_of, platform_of, reallocation_of}
 use Rattle.timetable.specs.LinkRows.{accept_link, links_in}
 use Rattle.timetable.specs.Lists.{of_entry}
 use Rattle.timetable.specs.Within.{AreTypes, IsStation, AreStations, IsStockAt, IsUnitAt, IsTripAt, AreTrips, AreWeights}
@@ -64,7 +64,7 @@ units_within stations types (row ∷ rows) all =
 -- a day of accepted entries
 is_day : (day : Day) → AreTypes day.types → AreStations day.stations → All (IsStockAt (length day.stations) (length day.types)) day.stock → starts_of day.stock ≤ 2000
     → AreTrips (length day.stations) day.trips → length day.links ≤ 400 → AreWeights day.weights → IsDay day
-unfolding leaves arrives from_of to_of km_of demand_of home_of type_of platform_of reallocation_of units_of
+unfolding leaves arrives from_of to_of km_of demand_of first_demand_of home_of type_of platform_of reallocation_of units_of
 is_day day types stations stock few trips links weights =
     let trip_at = λ (t : ℕ) (below : t < length day.trips). entry_at (IsTripAt (length day.stations)) day.trips t below trips.each in
     let unit_at = λ (u : ℕ) (below : u < length (units_in day.stock)). entry_at (IsUnitAt (length day.stations) (length day.types)) (units_in day.stock) u below (units_within (length day.stations) (length day.types) day.stock stock) in
@@ -76,6 +76,7 @@ is_day day types stations stock few trips links weights =
       origin = λ t below. let (trip, is, at) = trip_at t below in rw (entry_is (λ trip. trip.from) day.trips t 0 trip is) at.origin;
       goal = λ t below. let (trip, is, at) = trip_at t below in rw (entry_is (λ trip. trip.to) day.trips t 0 trip is) at.goal;
       km = λ t below. let (trip, is, at) = trip_at t below in rw (entry_is (λ trip. trip.km) day.trips t 0 trip is) at.km;
+      first_demand = λ t below. let (trip, is, at) = trip_at t below in rw (entry_is (λ trip. trip.first) day.trips t 0 trip is) at.first;
       demand = λ t below. let (trip, is, at) = trip_at t below in rw (entry_is (λ trip. trip.demand) day.trips t 0 trip is) at.demand;
       home = λ u below. let (found, is, at) = unit_at u below in rw (entry_is (λ (u : unit.Unit). u.home) (units_in day.stock) u 0 found is) at.home;
       unit_type = λ u below. let (found, is, at) = unit_at u below in rw (entry_is (λ (u : unit.Unit). u.unit_type) (units_in day.stock) u 0 found is) at.unit_type;

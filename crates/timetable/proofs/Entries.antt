@@ -40,7 +40,7 @@ type_of_row before row t e =
     (new, same_ok _ t is)
 
 type_within : (row : TypeRow) (t : UnitType) → IsTypeRow row → type_in row ≡ t → IsUnitType t
-type_within row t is_row e = subst IsUnitType e (record { carriages = is_row.carriages.1; seats = is_row.seats.1; metres = is_row.metres.1 })
+type_within row t is_row e = subst IsUnitType e (record { carriages = is_row.carriages.1; seats = is_row.seats.1; metres = is_row.metres.1; first = is_row.first.1 })
 
 pub are_types : (rows : List TypeRow) (types : List UnitType) → AreTypeRows rows → types_in rows ≡ Ok types → AreTypes types
 unfolding types_in
@@ -54,9 +54,11 @@ type_limits : (row : TypeRow) (t : UnitType) → IsTypeRow row → type_in row �
 type_limits row t is_row e =
     let at : (low high n : ℕ) → IsWithin low high n → (nat_le low n && nat_le n high) ≡ true = λ low high n within. and_from (nat_le low n) (nat_le n high) (le-leb low n within.0) (le-leb n high within.1) in
     subst (λ (t : UnitType). is_within_limits t ≡ true) e
+    (and_from (is_up_to 20 row.carriages && is_up_to 2000 row.seats && is_up_to 500 row.metres) (nat_le row.first 2000)
     (and_from (is_up_to 20 row.carriages && is_up_to 2000 row.seats) (is_up_to 500 row.metres)
     (and_from (is_up_to 20 row.carriages) (is_up_to 2000 row.seats) (at 1 20 row.carriages is_row.carriages) (at 1 2000 row.seats is_row.seats))
     (at 1 500 row.metres is_row.metres))
+    (le-leb row.first 2000 is_row.first.1))
 
 pub types_within_limits : (rows : List TypeRow) (types : List UnitType) → AreTypeRows rows → types_in rows ≡ Ok types → list_all is_within_limits types ≡ true
 unfolding types_in
@@ -186,6 +188,7 @@ trip_within stations types before row trip is_row is = record {
   goal = (found_name (λ s. s.name) stations row.to trip.to is.to).0;
   km = subst (λ (t : Trip). t.km ≤ 1000) (sym is.is) is_row.km.1;
   demand = subst (λ (t : Trip). t.demand ≤ 10000) (sym is.is) is_row.demand.1;
+  first = subst (λ (t : Trip). t.first ≤ 10000) (sym is.is) is_row.first.1;
 }
 
 pub are_trips : (stations : List Station) (types : List UnitType) (rows : List TripRow) (trips : List Trip) → AreTripRows rows → trips_in stations types rows ≡ Ok trips → AreTrips (length stations) trips

@@ -86,6 +86,7 @@ trip_said day before row trip e =
       arrival = ap (λ (t : Trip). t.arrival) is.is;
       km = ap (λ (t : Trip). t.km) is.is;
       demand = ap (λ (t : Trip). t.demand) is.is;
+      first = ap (λ (t : Trip). t.first) is.is;
     }
 
 -- every trip passed the tests on its stations and times

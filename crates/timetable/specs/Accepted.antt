@@ -1,8 +1,8 @@
 -- What is known of every day that was accepted.
 use Rattle.std.specs.Prelude.{ℕ, ◌+◌, ◌<◌, ◌≤◌, ◌≡◌, length, List, [], ◌∷◌, All, IsTrue, Some, slice_get}
-use Rattle.rail_base.specs.declared.limits.TheConstants.{MOST_CARRIAGES, MOST_SEATS, MOST_METRES, MOST_MINUTES, MOST_KM, MOST_DEMAND, MOST_PLATFORM, MOST_REALLOCATION, MOST_TYPES, MOST_STATIONS, MOST_TRIPS, MOST_LINKS, MOST_UNITS, MOST_WEIGHT}
+use Rattle.rail_base.specs.declared.limits.TheConstants.{MOST_CARRIAGES, MOST_SEATS, MOST_FIRST_SEATS, MOST_METRES, MOST_MINUTES, MOST_KM, MOST_DEMAND, MOST_FIRST_DEMAND, MOST_PLATFORM, MOST_REALLOCATION, MOST_TYPES, MOST_STATIONS, MOST_TRIPS, MOST_LINKS, MOST_UNITS, MOST_WEIGHT}
 use Rattle.compositions.specs.declared.types.UnitType.{UnitType}
-use Rattle.timetable.specs.Day.{Day, leaves, arrives, from_of, to_of, km_of, demand_of, home_of, type_of, unit_count, platform_of, reallocation_of}
+use Rattle.timetable.specs.Day.{Day, leaves, arrives, from_of, to_of, km_of, demand_of, first_demand_of, home_of, type_of, unit_count, platform_of, reallocation_of}
 use Rattle.timetable.specs.Links.{arriving_in, departing_in}
 use Rattle.timetable.specs.Lists.{count_of, has}
 use Rattle.timetable.specs.declared.day.records.Link.{Link}
@@ -13,6 +13,7 @@ pub record IsUnitType (t : UnitType) : Type 0 where
   pub carriages : t.carriages ≤ MOST_CARRIAGES
   pub seats : t.seats ≤ MOST_SEATS
   pub metres : t.metres ≤ MOST_METRES
+  pub first : t.first ≤ MOST_FIRST_SEATS
 
 -- every trip arrives after it leaves and on the second day at the latest, what it names is there, and each number is within its limit
 pub record IsDay (day : Day) : Type 0 where
@@ -22,6 +23,7 @@ pub record IsDay (day : Day) : Type 0 where
   pub goal : (t : ℕ) → t < length day.trips → to_of day t < length day.stations
   pub km : (t : ℕ) → t < length day.trips → km_of day t ≤ MOST_KM
   pub demand : (t : ℕ) → t < length day.trips → demand_of day t ≤ MOST_DEMAND
+  pub first_demand : (t : ℕ) → t < length day.trips → first_demand_of day t ≤ MOST_FIRST_DEMAND
   pub home : (u : ℕ) → u < unit_count day → home_of day u < length day.stations
   pub unit_type : (u : ℕ) → u < unit_count day → type_of day u < length day.types
   pub platform : (s : ℕ) → platform_of day s ≤ MOST_PLATFORM

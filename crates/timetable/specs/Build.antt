@@ -29,7 +29,7 @@ use Rattle.timetable.specs.Rowwise.{row_after, accept_each}
 
 -- the type that a row describes
 abbrev pub type_in : TypeRow → UnitType
-type_in row = record { name = row.name; carriages = row.carriages; seats = row.seats; metres = row.metres; family = row.family }
+type_in row = record { name = row.name; carriages = row.carriages; seats = row.seats; metres = row.metres; family = row.family; first = row.first }
 
 unfoldable pub accept_type : List UnitType → TypeRow → Result UnitType InstanceRefusal
 accept_type before row =
@@ -97,7 +97,7 @@ accept_run stations types row trip =
 
 -- the trip of a row between two stations
 abbrev pub trip_between : TripRow → ℕ → ℕ → Trip
-trip_between row from to = record { name = row.name; from = from; departure = row.departure; to = to; arrival = row.arrival; km = row.km; demand = row.demand }
+trip_between row from to = record { name = row.name; from = from; departure = row.departure; to = to; arrival = row.arrival; km = row.km; demand = row.demand; first = row.first }
 
 unfoldable pub accept_trip : List Station → List UnitType → List Trip → TripRow → Result Trip InstanceRefusal
 accept_trip stations types before row = if has_name (λ t. t.name) before row.name then Err (RepeatedName tables.Trips (row_after before)) else do

@@ -1,17 +1,22 @@
 -- What a plan costs. It depends on the types of its lists alone.
 use Rattle.std.specs.Prelude.{ℕ, ◌+◌, ◌-◌, ◌*◌, List, map, length, ◌==◌, if◌then◌else◌, option_map, unwrap_or, slice_get}
-use Rattle.compositions.specs.Composition.{carriages_of, seats_of}
+use Rattle.compositions.specs.Composition.{carriages_of, seats_of, first_seats_of}
 use Rattle.timetable.specs.declared.day.records.LinkKind.{LinkKind}
 use Rattle.timetable.specs.declared.day.records.LinkKind.TheVariants.{Turn, Join, Split}
-use Rattle.timetable.specs.Day.{Day, km_of, demand_of, types_of}
+use Rattle.timetable.specs.Day.{Day, km_of, demand_of, first_demand_of, types_of}
 use Rattle.timetable.specs.Links.{list_of}
 use Rattle.timetable.specs.Lists.{sum_below}
 
--- a trip with this composition: its carriages, and the seats that are missing (none where there are enough), for its kilometres
+-- the seats that are missing on a trip with this composition, of first and of second class: none of a class that has enough,
+-- whatever the other class has to spare
+unfoldable pub missing_seats : Day → ℕ → List ℕ → ℕ
+missing_seats day t types = (first_demand_of day t - first_seats_of day.types types) + (demand_of day t - seats_of day.types types)
+
+-- a trip with this composition: its carriages, and the seats that are missing, for its kilometres
 unfoldable pub trip_cost : Day → ℕ → List ℕ → ℕ
 trip_cost day t types =
     day.weights.carriage * carriages_of day.types types * km_of day t
-    + day.weights.shortage * (demand_of day t - seats_of day.types types) * km_of day t
+    + day.weights.shortage * missing_seats day t types * km_of day t
 
 -- a turn that couples or uncouples costs the weight of shunting once
 abbrev pub kind_cost : Day → LinkKind → List (List ℕ) → ℕ

@@ -34,8 +34,12 @@ to_of day t = of_entry (λ trip. trip.to) day.trips t 0
 unfoldable pub km_of : Day → ℕ → ℕ
 km_of day t = of_entry (λ trip. trip.km) day.trips t 0
 
+-- the seats wanted on a trip: of second class, and of first class
 unfoldable pub demand_of : Day → ℕ → ℕ
 demand_of day t = of_entry (λ trip. trip.demand) day.trips t 0
+
+unfoldable pub first_demand_of : Day → ℕ → ℕ
+first_demand_of day t = of_entry (λ trip. trip.first) day.trips t 0
 
 -- the metres of a station's platform, and the minutes until a unit given there is ready
 unfoldable pub platform_of : Day → ℕ → ℕ

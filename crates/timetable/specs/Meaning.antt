@@ -41,6 +41,7 @@ pub record IsTripOf (day : Day) (row : TripRow) (trip : Trip) : Type 0 where
   pub arrival : trip.arrival ≡ row.arrival
   pub km : trip.km ≡ row.km
   pub demand : trip.demand ≡ row.demand
+  pub first : trip.first ≡ row.first
 
 -- a turn names one trip on either side, and its ends
 pub record IsTurnOf (IsTrip : List ℕ → ℕ → Type 0) (row : LinkRow) (a b : ℕ) (uncouple couple : End) : Type 0 where

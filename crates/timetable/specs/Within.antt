@@ -1,7 +1,7 @@
 -- What is known of the entries of a day that was accepted: each within its limits, and what it names is there.
 use Rattle.std.specs.Prelude.{ℕ, List, length, ◌≤◌, ◌<◌, ◌≡◌}
 use Rattle.std.specs.List.{All}
-use Rattle.rail_base.specs.declared.limits.TheConstants.{MOST_TYPES, MOST_PLATFORM, MOST_REALLOCATION, MOST_STATIONS, MOST_MINUTES, MOST_KM, MOST_DEMAND, MOST_TRIPS, MOST_WEIGHT}
+use Rattle.rail_base.specs.declared.limits.TheConstants.{MOST_TYPES, MOST_PLATFORM, MOST_REALLOCATION, MOST_STATIONS, MOST_MINUTES, MOST_KM, MOST_DEMAND, MOST_FIRST_DEMAND, MOST_TRIPS, MOST_WEIGHT}
 use Rattle.compositions.specs.declared.types.UnitType.{UnitType}
 use Rattle.timetable.specs.declared.day.records.Link.{Link}
 use Rattle.timetable.specs.declared.day.records.LinkKind.{LinkKind}
@@ -45,6 +45,7 @@ pub record IsTripAt (stations : ℕ) (trip : Trip) : Type 0 where
   pub goal : trip.to < stations
   pub km : trip.km ≤ MOST_KM
   pub demand : trip.demand ≤ MOST_DEMAND
+  pub first : trip.first ≤ MOST_FIRST_DEMAND
 
 pub record AreTrips (stations : ℕ) (trips : List Trip) : Type 0 where
   pub few : length trips ≤ MOST_TRIPS

@@ -52,6 +52,7 @@ fn accept_type(types: &Named<UnitType>, row: TypeRow) -> Result<UnitType, Instan
         seats: row.seats,
         metres: row.metres,
         family: row.family,
+        first: row.first,
     })
 }
 
@@ -322,6 +323,7 @@ fn accept_trip(
         arrival: row.arrival,
         km: row.km,
         demand: row.demand,
+        first: row.first,
     };
     accept_run(stations.entries(), types, number, trip)
 }

@@ -42,8 +42,10 @@ pub struct Trip {
     pub arrival: Minute,
     /// Its length, in kilometres.
     pub km: u32,
-    /// How many seats are wanted.
+    /// How many seats of second class are wanted.
     pub demand: u32,
+    /// How many seats of first class are wanted.
+    pub first: u32,
 }
 
 /// A link from trips that arrive to trips that leave with the same units.
