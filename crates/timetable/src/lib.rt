@@ -11,6 +11,3 @@ pub use day::picks::Picks;
 pub use day::plan::NamedPlan;
 pub use day::records::{Handover, Link, LinkKind, Station, Stock, Trip, Unit, Weights};
 pub use day::rule::{Parts, turn_parts, turned};
-
-#[cfg(test)]
-mod tests;
