@@ -1,3 +1,4 @@
+pub mod ByTrip
 pub mod Counting
 pub mod Differing
 pub mod End

@@ -8,7 +8,12 @@ use Rattle.day_simulator.specs.declared.events.DayEvent.{DayEvent}
 use Rattle.day_simulator.specs.declared.events.StepFault.{StepFault}
 use Rattle.day_simulator.specs.declared.events.StepFault.TheVariants.{NotNow}
 use Rattle.day_simulator.specs.Finish.{simulation}
-use Rattle.day_simulator.specs.Orders.{IsOrder, RunsInOrder}
+use Rattle.day_simulator.specs.Orders.{IsOrder, RisesByTrip, RunsInOrder}
+use Rattle.day_simulator.specs.Steps.{fixed_order}
+
+-- The fixed order is an order of the day. At each moment, its events come by rising trip number.
+abbrev pub IsInFixedOrder : Type 0
+IsInFixedOrder = (day : Day) → IsOrder day (fixed_order day) × RisesByTrip day (fixed_order day)
 
 -- In every order of its events, the day goes through to its end exactly where the plan runs, and always ends alike.
 abbrev pub InEveryOrder : Type 0

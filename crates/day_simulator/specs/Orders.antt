@@ -7,7 +7,7 @@ use Rattle.timetable.specs.Cost.{plan_cost}
 use Rattle.day_simulator.specs.declared.events.DayEvent.{DayEvent}
 use Rattle.day_simulator.specs.declared.events.DayEvent.TheVariants.{Depart, Arrive}
 use Rattle.day_simulator.specs.declared.events.Place.TheVariants.{Yard}
-use Rattle.day_simulator.specs.State.{State, start_of, place_of, moment_of}
+use Rattle.day_simulator.specs.State.{State, start_of, place_of, moment_of, trip_of}
 use Rattle.day_simulator.specs.Steps.{steps}
 use Rattle.day_simulator.specs.Finish.{finish_of}
 
@@ -41,6 +41,16 @@ pub record IsOrder (day : Day) (events : List DayEvent) : Type 0 where
   pub none_departs_beyond : (t : ℕ) → length day.trips ≤ t → departures t events ≡ 0
   pub none_arrives_beyond : (t : ℕ) → length day.trips ≤ t → arrivals t events ≡ 0
   pub never_falls : NeverFalls day events
+
+-- each of these events that comes at the moment of event e is of a later trip
+abbrev pub LaterTrips : Day → DayEvent → List DayEvent → Type 0
+LaterTrips day e [] = Unit {0}
+LaterTrips day e (f ∷ fs) = (moment_of day f ≡ moment_of day e → trip_of e < trip_of f) × LaterTrips day e fs
+
+-- at each moment the trips rise
+abbrev pub RisesByTrip : Day → List DayEvent → Type 0
+RisesByTrip day [] = Unit {0}
+RisesByTrip day (e ∷ es) = LaterTrips day e es × RisesByTrip day es
 
 -- when a unit is ready that was ready at a minute and then runs on these trips, each of which gives it to the yard
 abbrev pub ready_after : Day → ℕ → List ℕ → ℕ
