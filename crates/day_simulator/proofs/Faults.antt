@@ -12,7 +12,7 @@ use Rattle.day_simulator.specs.declared.events.DayEvent.TheVariants.{Depart, Arr
 use Rattle.day_simulator.specs.declared.events.StepFault.{StepFault}
 use Rattle.day_simulator.specs.declared.events.StepFault.TheVariants.{NotNow, NoUnits, NotAdmissible, LinkBroken, NotInYard}
 use Rattle.day_simulator.specs.State.{State, stage_of, is_waiting, is_under_way, has_arrived, moment_of}
-use Rattle.day_simulator.specs.Steps.{is_now, feeders, broken_into, broken_out, first_missing, fault_of}
+use Rattle.day_simulator.specs.Steps.{is_now, feeders, broken_into, broken_out, train_fault, fault_of}
 
 -- an event that is not now has that fault
 pub not_now : (day : Day) (plan : List (List ℕ)) (state : State) (e : DayEvent) → is_now day state e ≡ false → Some (NotNow e) ≡ fault_of day plan state e
@@ -50,42 +50,10 @@ module _ (day : Day) (state : State) where
   arrival_in_time t l = ap (λ (b : Bool). b && is_under_way (stage_of state.stages t)) (le-leb state.moment (moment_of day (Arrive t)) l)
 
 module _ (day : Day) (plan : List (List ℕ)) (state : State) (t : ℕ) where
-  abbrev pub yard_faults : Option StepFault
-  yard_faults = option_map (λ u. NotInYard u t) (first_missing day t state.places (taken day plan t))
-
-  abbrev pub link_faults : Option StepFault
-  link_faults = unwrap_or (option_map (λ l. Some (LinkBroken l)) (broken_into day plan t)) yard_faults
-
-  abbrev pub composition_faults : Option StepFault
-  composition_faults = cond (not (is_admissible day t (types_of day (list_of plan t)))) (Some (NotAdmissible t)) link_faults
-
-  abbrev unit_faults : Option StepFault
-  unit_faults = cond (eqb (length (list_of plan t)) 0) (Some (NoUnits t)) composition_faults
-
   -- the faults of a departure that is now
-  pub departure_now : is_now day state (Depart t) ≡ true → unit_faults ≡ fault_of day plan state (Depart t)
+  pub departure_now : is_now day state (Depart t) ≡ true → train_fault day plan state.places t ≡ fault_of day plan state (Depart t)
   unfolding fault_of
-  departure_now now = sym (ap (λ (b : Bool). cond (not b) (Some (NotNow (Depart t))) unit_faults) now)
-
-  pub departure_without_units : is_now day state (Depart t) ≡ true → length (list_of plan t) ≡ 0 → Some (NoUnits t) ≡ fault_of day plan state (Depart t)
-  departure_without_units now none = sym (ap (λ (b : Bool). cond b (Some (NoUnits t)) composition_faults) (eq-eqb (length (list_of plan t)) 0 none)) ∙ departure_now now
-
-  pub departure_with_units : is_now day state (Depart t) ≡ true → length (list_of plan t) ≢ 0 → composition_faults ≡ fault_of day plan state (Depart t)
-  departure_with_units now some = sym (ap (λ (b : Bool). cond b (Some (NoUnits t)) composition_faults) (ne_eqb (length (list_of plan t)) 0 some)) ∙ departure_now now
-
-  pub departure_not_admissible : composition_faults ≡ fault_of day plan state (Depart t) → is_admissible day t (types_of day (list_of plan t)) ≡ false
-      → Some (NotAdmissible t) ≡ fault_of day plan state (Depart t)
-  departure_not_admissible before bad = sym (ap (λ (b : Bool). cond (not b) (Some (NotAdmissible t)) link_faults) bad) ∙ before
-
-  pub departure_admissible : composition_faults ≡ fault_of day plan state (Depart t) → is_admissible day t (types_of day (list_of plan t)) ≡ true
-      → link_faults ≡ fault_of day plan state (Depart t)
-  departure_admissible before good = sym (ap (λ (b : Bool). cond (not b) (Some (NotAdmissible t)) link_faults) good) ∙ before
-
-  pub departure_broken : link_faults ≡ fault_of day plan state (Depart t) → (l : ℕ) → broken_into day plan t ≡ Some l → Some (LinkBroken l) ≡ fault_of day plan state (Depart t)
-  departure_broken before l breaks = sym (ap (λ (o : Option ℕ). unwrap_or (option_map (λ l. Some (LinkBroken l)) o) yard_faults) breaks) ∙ before
-
-  pub departure_from_yard : link_faults ≡ fault_of day plan state (Depart t) → broken_into day plan t ≡ None → yard_faults ≡ fault_of day plan state (Depart t)
-  departure_from_yard before holds = sym (ap (λ (o : Option ℕ). unwrap_or (option_map (λ l. Some (LinkBroken l)) o) yard_faults) holds) ∙ before
+  departure_now now = sym (ap (λ (b : Bool). cond (not b) (Some (NotNow (Depart t))) (train_fault day plan state.places t)) now)
 
   -- the faults of an arrival that is now
   pub arrival_now : is_now day state (Arrive t) ≡ true → option_map (λ l. LinkBroken l) (broken_out day plan t) ≡ fault_of day plan state (Arrive t)

@@ -23,7 +23,7 @@ use Rattle.day_simulator.proofs.Order.{one_other}
 use Rattle.day_simulator.proofs.Lawful.{Lawful, lawful_order}
 use Rattle.day_simulator.proofs.Timely.{Timely, timely_now_depart, timely_now_arrive, timely_depart, timely_arrive, timely_start}
 use Rattle.day_simulator.proofs.Places.{HavePlaces, length-put_all, put_in, put_out, Served, served_from_none}
-use Rattle.day_simulator.proofs.Hands.{HandsOver, kept_arrives}
+use Rattle.day_simulator.proofs.Accounts.{AreAccounted, kept_arrives}
 use Rattle.day_simulator.proofs.Moves.{is_trip, Fits, DistinctSoFar, Boarding, fits_board, fits_pass_depart, fits_give, fits_keep, fits_pass_arrive, boarding_of, boards_once}
 
 pub record Going (day : Day) (plan : List (List ℕ)) (state : State) (es : List DayEvent) : Type 0 where
@@ -84,15 +84,15 @@ have_places day plan t n us is_plan same le = record {
   within = λ v c. let l = le v in let lt = is_plan.units t v (le-leb 1 (count_of v (list_of plan t)) (omega arith)) in omega arith;
 }
 
-module _ (day : Day) (plan : List (List ℕ)) (is_day : IsDay day) (is_plan : IsPlan day plan) (hands : HandsOver day plan) where
+module _ (day : Day) (plan : List (List ℕ)) (is_day : IsDay day) (is_plan : IsPlan day plan) (accounted : AreAccounted day plan) where
   pub taken_within : (t u : ℕ) → count_of u (taken day plan t) ≤ count_of u (list_of plan t)
-  taken_within t u = let total = (hands.takes t).total u in omega arith
+  taken_within t u = let total = (accounted.takes t).total u in omega arith
 
   pub given_within : (t u : ℕ) → count_of u (given day plan t) ≤ count_of u (list_of plan t)
-  given_within t u = let total = (hands.gives t).total u in omega arith
+  given_within t u = let total = (accounted.gives t).total u in omega arith
 
   pub now_depart : (state : State) (t : ℕ) (es : List DayEvent) → Going day plan state (Depart t ∷ es) → is_now day state (Depart t) ≡ true
-  now_depart state t es g = timely_now_depart day is_day hands.before state t es (timely_of day plan state (Depart t ∷ es) g)
+  now_depart state t es g = timely_now_depart day is_day accounted.before state t es (timely_of day plan state (Depart t ∷ es) g)
 
   pub now_arrive : (state : State) (t : ℕ) (es : List DayEvent) → Going day plan state (Arrive t ∷ es) → is_now day state (Arrive t) ≡ true
   now_arrive state t es g = timely_now_arrive day is_day state t es (timely_of day plan state (Arrive t ∷ es) g)
@@ -130,14 +130,14 @@ module _ (day : Day) (plan : List (List ℕ)) (is_day : IsDay day) (is_plan : Is
 
   pub boarding : (state : State) (t : ℕ) (es : List DayEvent) (u : ℕ) → Going day plan state (Depart t ∷ es) → Departs day plan state t → 1 ≤ count_of u (list_of plan t) → Boarding day plan u t (place_of state.places u)
   boarding state t es u g h c =
-      boarding_of day plan is_day is_plan hands u t (place_of state.places u) es g.lawful c
+      boarding_of day plan is_day is_plan accounted u t (place_of state.places u) es g.lawful c
       (λ k. (served_of state t es g h).ready.ready u k)
       (g.fits u (is_plan.units t u (le-leb 1 (count_of u (list_of plan t)) c)))
 
   pub distinct_here : (state : State) (t : ℕ) (es : List DayEvent) → Going day plan state (Depart t ∷ es) → Departs day plan state t → IsDistinct (list_of plan t)
   distinct_here state t es g h u =
       ⊎_elim (λ (c : 0 < count_of u (list_of plan t)).
-      boards_once day plan is_day is_plan hands u t (place_of state.places u) es g.lawful g.so_far ((served_of state t es g h).distinct u)
+      boards_once day plan is_day is_plan accounted u t (place_of state.places u) es g.lawful g.so_far ((served_of state t es g h).distinct u)
       (λ k. (served_of state t es g h).ready.ready u k)
       (g.fits u (is_plan.units t u (le-leb 1 (count_of u (list_of plan t)) (omega arith)))))
       (λ (c : count_of u (list_of plan t) ≤ 0). omega arith) (cases_lt 0 (count_of u (list_of plan t)))
@@ -158,11 +158,11 @@ module _ (day : Day) (plan : List (List ℕ)) (is_day : IsDay day) (is_plan : Is
             (λ (c : 0 < count_of u (list_of plan t)).
             let mine : 1 ≤ count_of u (list_of plan t) = omega arith in
             subst (λ p. Fits day plan u p es) (sym (place_aboard state t g.places u mine))
-            (fits_board day plan is_day is_plan hands u t (place_of state.places u) es g.lawful g.so_far mine (g.fits u lt) (boarding state t es u g h mine)))
+            (fits_board day plan is_day is_plan accounted u t (place_of state.places u) es g.lawful g.so_far mine (g.fits u lt) (boarding state t es u g h mine)))
             (λ (c : count_of u (list_of plan t) ≤ 0).
             let none : count_of u (list_of plan t) ≡ 0 = omega arith in
             subst (λ p. Fits day plan u p es) (sym (place_stays state t g.places u none))
-            (fits_pass_depart day plan is_day is_plan hands u t (place_of state.places u) es none (g.fits u lt)))
+            (fits_pass_depart day plan is_day is_plan accounted u t (place_of state.places u) es none (g.fits u lt)))
             (cases_lt 0 (count_of u (list_of plan t)));
         so_far = record {
           distinct = λ a none. ⊎_elim (λ (e : t ≡ a). subst (λ x. IsDistinct (list_of plan x)) e (distinct_here state t es g h))
@@ -189,16 +189,16 @@ module _ (day : Day) (plan : List (List ℕ)) (is_day : IsDay day) (is_plan : Is
             (λ (d : 0 < count_of u (given day plan t)).
             let gives : 1 ≤ count_of u (given day plan t) = omega arith in
             subst (λ p. Fits day plan u p es) (sym (place_given state t g.places u gives))
-            (fits_give day plan is_day is_plan hands u t _ _ (place_of state.places u) es g.lawful g.so_far mine gives (g.fits u lt)))
+            (fits_give day plan is_day is_plan accounted u t _ _ (place_of state.places u) es g.lawful g.so_far mine gives (g.fits u lt)))
             (λ (d : count_of u (given day plan t) ≤ 0).
             let none : count_of u (given day plan t) ≡ 0 = omega arith in
             subst (λ p. Fits day plan u p es) (sym (place_kept state t g.places u mine none))
-            (fits_keep day plan is_day is_plan hands u t (place_of state.places u) es g.lawful mine none (g.fits u lt)))
+            (fits_keep day plan is_day is_plan accounted u t (place_of state.places u) es g.lawful mine none (g.fits u lt)))
             (cases_lt 0 (count_of u (given day plan t))))
             (λ (c : count_of u (list_of plan t) ≤ 0).
             let none : count_of u (list_of plan t) ≡ 0 = omega arith in
             subst (λ p. Fits day plan u p es) (sym (place_remains state t g.places u none))
-            (fits_pass_arrive day plan is_day is_plan hands u t (place_of state.places u) es none (g.fits u lt)))
+            (fits_pass_arrive day plan is_day is_plan accounted u t (place_of state.places u) es none (g.fits u lt)))
             (cases_lt 0 (count_of u (list_of plan t)));
         so_far = record { distinct = g.so_far.distinct };
       }
@@ -213,9 +213,9 @@ pub start_place : (day : Day) (u : ℕ) → u < unit_count day → place_of (sta
 unfolding start_of place_of home_of
 start_place day u lt = home_place (units_of day) u lt
 
-pub going_start : (day : Day) (plan : List (List ℕ)) (es : List DayEvent) → IsOrder day es → IsPlan day plan → HandsOver day plan → Going day plan (start_of day) es
+pub going_start : (day : Day) (plan : List (List ℕ)) (es : List DayEvent) → IsOrder day es → IsPlan day plan → AreAccounted day plan → Going day plan (start_of day) es
 unfolding start_of
-going_start day plan es order is_plan hands =
+going_start day plan es order is_plan accounted =
     let timely = timely_start day es order in record {
       lawful = timely.lawful;
       moment = timely.moment;
@@ -227,7 +227,7 @@ going_start day plan es order is_plan hands =
       fits = λ u lt. subst (λ p. Fits day plan u p es) (sym (start_place day u lt)) (record {
         under_way = λ t c d a. (let one = order.departs_once t (in_day t a) in absurd (omega arith));
         pending = λ a b k gone yet.
-            let le = kept_arrives day plan hands u a b in
+            let le = kept_arrives day plan accounted u a b in
             let trip = is_trip day plan u a is_plan (omega arith) in
             let one = order.arrives_once a trip in
             absurd (omega arith);

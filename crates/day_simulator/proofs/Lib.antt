@@ -7,7 +7,7 @@ pub mod Faults
 pub mod FixedOrder
 pub mod Timely
 pub mod Going
-pub mod Hands
+pub mod Accounts
 pub mod Lawful
 pub mod Legs
 pub mod LinkKinds

@@ -1,4 +1,4 @@
--- The links that lead into a trip and on from it: their trips are of the day, and so are the units that they hand over.
+-- The links that lead into a trip and on from it: their trips are of the day, and so are the units that these give and take.
 use Rattle.std.proofs.Common.{◌≡◌, ℕ, ◌<◌, ◌≤◌, List, length, Bool, Option, Some, None, refl, arith}
 use Rattle.std.specs.Prelude.{option_map, unwrap_or, IfSome}
 use Rattle.std.proofs.lemmas.Bool.{le-leb, leb-true}

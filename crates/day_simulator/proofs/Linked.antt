@@ -10,7 +10,7 @@ use Rattle.timetable.specs.Links.{list_of, link_holds, kind_holds, arriving_in, 
 use Rattle.day_simulator.specs.Steps.{feeders, is_tested_at, broken, broken_into, broken_out}
 use Rattle.timetable.proofs.NamedTrips.{IsNamed, named_or_not, named_here, named_twice}
 use Rattle.day_simulator.proofs.LinkKinds.{kept_names, kept_zero, kind_gives, kind_takes, KindGives, KindTakes}
-use Rattle.day_simulator.proofs.Hands.{HandsOver, Gives, Takes}
+use Rattle.day_simulator.proofs.Accounts.{AreAccounted, Gives, Takes}
 
 pub record LinksHold (day : Day) (plan : List (List ℕ)) : Type 0 where
   pub holds : (l : ℕ) (link : Link) → slice_get day.links l ≡ Some link → link_holds link plan ≡ true
@@ -208,7 +208,7 @@ module _ (day : Day) (plan : List (List ℕ)) (links : AreLinks day) where
       })
       (named_or_not departing_in day.links b)
 
-  pub linked_hands : LinksHold day plan → HandsOver day plan
+  pub linked_hands : LinksHold day plan → AreAccounted day plan
   linked_hands h = record {
     before = feeds_in_time;
     into = none_into h;

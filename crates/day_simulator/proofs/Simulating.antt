@@ -12,7 +12,8 @@ use Rattle.timetable.specs.Cost.{plan_cost}
 use Rattle.timetable.specs.Lists.{below}
 use Rattle.day_simulator.specs.declared.events.DayEvent.{DayEvent}
 use Rattle.day_simulator.specs.declared.events.StepFault.{StepFault}
-use Rattle.day_simulator.specs.Progressing.{Progress, MakesSteps, Finishes, IsCost}
+use Rattle.day_simulator.specs.Calls.{MakesSteps, Finishes, IsCost}
+use Rattle.day_simulator.specs.Machine.{Machine}
 use Rattle.day_simulator.specs.State.{State, start_of}
 use Rattle.day_simulator.specs.State.{trip_of}
 use Rattle.day_simulator.specs.Steps.{steps, fixed_order, insert_event, sorted_events, events_by_trip}
@@ -60,7 +61,7 @@ same_fault : (f g : StepFault) → ◌≡◌ {A = Result Money StepFault} (Err f
 same_fault f g h = cc
 
 -- the steps that stop
-pub stopped : (old : Progress) (es : List DayEvent) (f : StepFault) (new : Progress) → MakesSteps old es (Err f) new → steps old.day old.plan old.state es ≡ Err f
+pub stopped : (old : Machine) (es : List DayEvent) (f : StepFault) (new : Machine) → MakesSteps old es (Err f) new → steps old.day old.plan old.state es ≡ Err f
 stopped old es f new = by_cases (steps old.day old.plan old.state es)
   where
     by_cases : (r : Result State StepFault) → MatchResult r (λ state. (◌≡◌ {A = Result (Unit {0}) StepFault} (Err f) (Ok tt)) × (new ≡ record old { state = state })) (λ g. ◌≡◌ {A = Result (Unit {0}) StepFault} (Err f) (Err g)) → r ≡ Err f
@@ -68,7 +69,7 @@ stopped old es f new = by_cases (steps old.day old.plan old.state es)
     by_cases (Err g) h = ap Err (sym (same_error f g h))
 
 -- the steps that all go through
-pub went : (old : Progress) (es : List DayEvent) (new : Progress) → MakesSteps old es (Ok tt) new → (state : State) × (steps old.day old.plan old.state es ≡ Ok state) × (new ≡ record old { state = state })
+pub went : (old : Machine) (es : List DayEvent) (new : Machine) → MakesSteps old es (Ok tt) new → (state : State) × (steps old.day old.plan old.state es ≡ Ok state) × (new ≡ record old { state = state })
 went old es new = by_cases (steps old.day old.plan old.state es)
   where
     by_cases : (r : Result State StepFault) → MatchResult r (λ state. (◌≡◌ {A = Result (Unit {0}) StepFault} (Ok tt) (Ok tt)) × (new ≡ record old { state = state })) (λ g. ◌≡◌ {A = Result (Unit {0}) StepFault} (Ok tt) (Err g)) → (state : State) × (r ≡ Ok state) × (new ≡ record old { state = state })
@@ -76,14 +77,14 @@ went old es new = by_cases (steps old.day old.plan old.state es)
     by_cases (Err g) h = absurd (not_both (sym h))
 
 -- the end that is well, and the one that isn't
-pub ended_well : (now : Progress) (money : Money) → Finishes now (Ok money) → (cost : ℕ) × (finish_of now.day now.plan now.state ≡ Ok cost) × IsCost cost money
+pub ended_well : (now : Machine) (money : Money) → Finishes now (Ok money) → (cost : ℕ) × (finish_of now.day now.plan now.state ≡ Ok cost) × IsCost cost money
 ended_well now money = by_cases (finish_of now.day now.plan now.state)
   where
     by_cases : (r : Result ℕ StepFault) → MatchResult r (λ cost. IsCost cost money) (λ f. ◌≡◌ {A = Result Money StepFault} (Ok money) (Err f)) → (cost : ℕ) × (r ≡ Ok cost) × IsCost cost money
     by_cases (Ok cost) h = (cost, refl, h)
     by_cases (Err f) h = absurd (not_money h)
 
-pub ended_badly : (now : Progress) (f : StepFault) → Finishes now (Err f) → finish_of now.day now.plan now.state ≡ Err f
+pub ended_badly : (now : Machine) (f : StepFault) → Finishes now (Err f) → finish_of now.day now.plan now.state ≡ Err f
 ended_badly now f = by_cases (finish_of now.day now.plan now.state)
   where
     by_cases : (r : Result ℕ StepFault) → MatchResult r (λ cost. ⊥) (λ g. ◌≡◌ {A = Result Money StepFault} (Err f) (Err g)) → r ≡ Err f
@@ -91,34 +92,34 @@ ended_badly now f = by_cases (finish_of now.day now.plan now.state)
     by_cases (Err g) h = ap Err (sym (same_fault f g h))
 
 -- the same steps, seen from equal beginnings
-pub steps_of : (old old' : Progress) (es es' : List DayEvent) (r r' : Result (Unit {0}) StepFault) (new : Progress) → old ≡ old' → es ≡ es' → r ≡ r' → MakesSteps old es r new → MakesSteps old' es' r' new
+pub steps_of : (old old' : Machine) (es es' : List DayEvent) (r r' : Result (Unit {0}) StepFault) (new : Machine) → old ≡ old' → es ≡ es' → r ≡ r' → MakesSteps old es r new → MakesSteps old' es' r' new
 steps_of old old' es es' r r' new a b c made =
     subst (λ (x : Result (Unit {0}) StepFault). MakesSteps old' es' x new) c
-    (subst (λ (x : List DayEvent). MakesSteps old' x r new) b (subst (λ (x : Progress). MakesSteps x es r new) a made))
+    (subst (λ (x : List DayEvent). MakesSteps old' x r new) b (subst (λ (x : Machine). MakesSteps x es r new) a made))
 
-pub finishes_as : (now : Progress) (r r' : Result Money StepFault) → r ≡ r' → Finishes now r → Finishes now r'
+pub finishes_as : (now : Machine) (r r' : Result Money StepFault) → r ≡ r' → Finishes now r → Finishes now r'
 finishes_as now r r' e ends = subst (Finishes now) e ends
 
 module _ (day : Day) (plan : List (List ℕ)) where
   -- the day at its start
-  abbrev pub beginning : Progress
+  abbrev pub beginning : Machine
   beginning = record { day = day; plan = plan; state = start_of day }
 
-  pub simulation_stops : (f : StepFault) (new : Progress) → MakesSteps beginning (fixed_order day) (Err f) new → simulation day plan ≡ Err f
+  pub simulation_stops : (f : StepFault) (new : Machine) → MakesSteps beginning (fixed_order day) (Err f) new → simulation day plan ≡ Err f
   unfolding simulation
   simulation_stops f new made = ap (finish_after day plan) (stopped beginning (fixed_order day) f new made)
 
-  pub simulation_ends_badly : (f : StepFault) (new : Progress) → MakesSteps beginning (fixed_order day) (Ok tt) new → Finishes new (Err f) → simulation day plan ≡ Err f
+  pub simulation_ends_badly : (f : StepFault) (new : Machine) → MakesSteps beginning (fixed_order day) (Ok tt) new → Finishes new (Err f) → simulation day plan ≡ Err f
   unfolding simulation
   simulation_ends_badly f new made ends =
       let w = went beginning (fixed_order day) new made in
-      ap (finish_after day plan) w.1 ∙ ended_badly (record beginning { state = w.0 }) f (subst (λ (p : Progress). Finishes p (Err f)) w.2 ends)
+      ap (finish_after day plan) w.1 ∙ ended_badly (record beginning { state = w.0 }) f (subst (λ (p : Machine). Finishes p (Err f)) w.2 ends)
 
-  pub simulation_ends_well : (money : Money) (new : Progress) → MakesSteps beginning (fixed_order day) (Ok tt) new → Finishes new (Ok money) → (cost : ℕ) × (simulation day plan ≡ Ok cost) × IsCost cost money
+  pub simulation_ends_well : (money : Money) (new : Machine) → MakesSteps beginning (fixed_order day) (Ok tt) new → Finishes new (Ok money) → (cost : ℕ) × (simulation day plan ≡ Ok cost) × IsCost cost money
   unfolding simulation
   simulation_ends_well money new made ends =
       let w = went beginning (fixed_order day) new made in
-      let e = ended_well (record beginning { state = w.0 }) money (subst (λ (p : Progress). Finishes p (Ok money)) w.2 ends) in
+      let e = ended_well (record beginning { state = w.0 }) money (subst (λ (p : Machine). Finishes p (Ok money)) w.2 ends) in
       (e.0, ap (finish_after day plan) w.1 ∙ e.1, e.2)
 
   -- a plan that costs something by the machine runs, and costs that

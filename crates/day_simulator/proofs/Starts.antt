@@ -1,5 +1,5 @@
 -- How a day starts: a place for each unit, and a stage for each trip.
-use Rattle.std.proofs.Common.{◌≡◌, ℕ, zero, suc, ◌+◌, ◌<◌, List, [], ◌∷◌, ◌++◌, length, take, map, Some, refl, ap, ◌∙◌, arith, slice_get}
+use Rattle.std.proofs.Common.{◌≡◌, ℕ, zero, suc, ◌+◌, ◌<◌, List, [], ◌∷◌, ◌++◌, length, take, map, replicate, Some, refl, ap, ◌∙◌, arith, slice_get}
 use Rattle.std.proofs.lemmas.List.{take_more, map-append}
 use Rattle.std.proofs.lemmas.Option.{get_or_from_slice_get, slice_get_within}
 
@@ -9,10 +9,7 @@ map-more f xs k x e =
     let there : take (k + 1) xs ≡ take k xs ++ x ∷ [] = take_more xs k x (slice_get_within xs k x e) ∙ ap (λ y. take k xs ++ y ∷ []) (get_or_from_slice_get xs k x x e) in
     rw there (map-append f (take k xs) (x ∷ []))
 
--- one more of the same
-pub map-same-more : {X Y : Type 0} (y : Y) (xs : List X) (k : ℕ) → k < length xs → map (λ (x : X). y) (take (k + 1) xs) ≡ map (λ (x : X). y) (take k xs) ++ y ∷ []
-map-same-more y [] k l = absurd (omega arith)
-map-same-more y (x ∷ xs) zero l = refl
-map-same-more y (x ∷ xs) (suc k) l =
-    let next : suc k + 1 ≡ suc (k + 1) = omega arith in
-    rw next (ap (λ ys. y ∷ ys) (map-same-more y xs k (omega arith)))
+-- as many of the same as there are entries
+pub map-same : {X Y : Type 0} (y : Y) (xs : List X) → replicate (length xs) y ≡ map (λ (x : X). y) xs
+map-same y [] = refl
+map-same y (x ∷ xs) = ap (λ ys. y ∷ ys) (map-same y xs)

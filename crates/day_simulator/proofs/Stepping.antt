@@ -10,7 +10,8 @@ use Rattle.day_simulator.specs.declared.events.Place.TheVariants.{Aboard, Yard, 
 use Rattle.day_simulator.specs.declared.events.Stage.{Stage}
 use Rattle.day_simulator.specs.declared.events.Stage.TheVariants as stage
 use Rattle.day_simulator.specs.declared.events.StepFault.{StepFault}
-use Rattle.day_simulator.specs.Progressing.{Progress, MakesStep}
+use Rattle.day_simulator.specs.Calls.{MakesStep}
+use Rattle.day_simulator.specs.Machine.{Machine}
 use Rattle.day_simulator.specs.State.{State, moment_of, put_all}
 use Rattle.day_simulator.specs.Steps.{fault_of, after}
 use Rattle.std.specs.Vec.{with_items}
@@ -19,15 +20,15 @@ use Rattle.std.proofs.lemmas.List.{with_items_is}
 use Rattle.day_simulator.proofs.PutPlaces.{length-put_all}
 
 -- a step where this is the fault, if there is one
-abbrev StepWith : Progress → DayEvent → Result (Unit {0}) StepFault → Progress → Option StepFault → Type 0
+abbrev StepWith : Machine → DayEvent → Result (Unit {0}) StepFault → Machine → Option StepFault → Type 0
 StepWith old e result new o = MatchOption o ((result ≡ Ok tt) × (new ≡ record old { state = after old.day old.plan old.state e })) (λ fault. (result ≡ Err fault) × (new ≡ old))
 
 -- a step that has a fault
-pub step_fails : (old : Progress) (e : DayEvent) (fault : StepFault) → Some fault ≡ fault_of old.day old.plan old.state e → MakesStep old e (Err fault) old
+pub step_fails : (old : Machine) (e : DayEvent) (fault : StepFault) → Some fault ≡ fault_of old.day old.plan old.state e → MakesStep old e (Err fault) old
 step_fails old e fault is = subst (StepWith old e (Err fault) old) is (refl, refl)
 
 -- a step that has none
-pub step_goes : (old new : Progress) (e : DayEvent) → None ≡ fault_of old.day old.plan old.state e → new ≡ record old { state = after old.day old.plan old.state e } → MakesStep old e (Ok tt) new
+pub step_goes : (old new : Machine) (e : DayEvent) → None ≡ fault_of old.day old.plan old.state e → new ≡ record old { state = after old.day old.plan old.state e } → MakesStep old e (Ok tt) new
 step_goes old new e is now = subst (StepWith old e (Ok tt) new) is (refl, now)
 
 -- units that were put to a place through a borrow of the places

@@ -20,8 +20,8 @@ use Rattle.day_simulator.proofs.Order.{one_same, one_other}
 use Rattle.day_simulator.proofs.Lawful.{left_arrive}
 use Rattle.day_simulator.proofs.Legs.{legs}
 use Rattle.day_simulator.proofs.Places.{none_from_served}
-use Rattle.day_simulator.proofs.Hands.{HandsOver}
-use Rattle.day_simulator.proofs.Moves.{Fits, Chain, arrives_aboard, ready_from_boards, chain_give, chain_give_back, chain_keep, chain_keep_back}
+use Rattle.day_simulator.proofs.Accounts.{AreAccounted}
+use Rattle.day_simulator.proofs.Moves.{Fits, BoardsAll, arrives_aboard, ready_from_boards, boards_all_give, boards_all_give_back, boards_all_keep, boards_all_keep_back}
 use Rattle.day_simulator.proofs.Going.{Going, Departs, departs_from_none, none_from_departs, none_from_arrives, taken_within, now_depart, now_arrive, place_aboard, place_stays, place_given, place_kept, place_remains, boarding, distinct_here, going_depart, going_arrive}
 
 -- whether a trip has a unit
@@ -51,7 +51,7 @@ end_of day place ts = Yard (ends_at day (station_of day place) ts) (ready_after 
 -- the lists of the trips still to depart may run, and each unit can board its trips still to depart
 pub record Good (day : Day) (plan : List (List ℕ)) (state : State) (es : List DayEvent) : Type 0 where
   pub lists : (t : ℕ) → 1 ≤ departures t es → MayRun day t (list_of plan t)
-  pub chains : (u : ℕ) → u < unit_count day → Chain day plan u (place_of state.places u) (to_board plan u es)
+  pub boardings : (u : ℕ) → u < unit_count day → BoardsAll day plan u (place_of state.places u) (to_board plan u es)
 
 -- every trip has arrived, and each unit is in the yard where its trips end
 pub record Ended (day : Day) (plan : List (List ℕ)) (state : State) (es : List DayEvent) (final : State) : Type 0 where
@@ -77,8 +77,8 @@ pub no_fault : (fault : Option StepFault) (rest : Result State StepFault) (final
 no_fault None rest final e = (refl, e)
 no_fault (Some f) rest final e = absurd (cc)
 
-module _ (day : Day) (plan : List (List ℕ)) (is_day : IsDay day) (is_plan : IsPlan day plan) (hands : HandsOver day plan) where
-  -- where the lists and the chains are right, a departure has no fault
+module _ (day : Day) (plan : List (List ℕ)) (is_day : IsDay day) (is_plan : IsPlan day plan) (accounted : AreAccounted day plan) where
+  -- where the lists and the boardings are right, a departure has no fault
   departs_from_good : (state : State) (t : ℕ) (es : List DayEvent) → Going day plan state (Depart t ∷ es) → Good day plan state (Depart t ∷ es) → Departs day plan state t
   departs_from_good state t es g good =
       let o = one_same t t refl in
@@ -86,50 +86,50 @@ module _ (day : Day) (plan : List (List ℕ)) (is_day : IsDay day) (is_plan : Is
       record {
         admissible = may.admissible;
         none_missing = none_from_served day t state.places (taken day plan t) (record {
-          distinct = λ v. let le = taken_within day plan is_day is_plan hands t v in let d = may.distinct v in omega arith;
+          distinct = λ v. let le = taken_within day plan is_day is_plan accounted t v in let d = may.distinct v in omega arith;
           ready = record { ready = λ v c. ready v c may };
         });
       }
     where
       ready : (v : ℕ) → 1 ≤ count_of v (taken day plan t) → MayRun day t (list_of plan t) → is_ready (from_of day t) (leaves day t) (place_of state.places v) ≡ true
       ready v c may =
-          let le = taken_within day plan is_day is_plan hands t v in
+          let le = taken_within day plan is_day is_plan accounted t v in
           let mine : 1 ≤ count_of v (list_of plan t) = omega arith in
           let lt = is_plan.units t v (le-leb 1 (count_of v (list_of plan t)) mine) in
-          let chain = subst (λ l. Chain day plan v (place_of state.places v) l) (board_mine plan v t es mine) (good.chains v lt) in
-          ready_from_boards day plan is_day is_plan hands v t (place_of state.places v) es g.lawful (may.distinct v) c (g.fits v lt) chain.0
+          let boarding_all = subst (λ l. BoardsAll day plan v (place_of state.places v) l) (board_mine plan v t es mine) (good.boardings v lt) in
+          ready_from_boards day plan is_day is_plan accounted v t (place_of state.places v) es g.lawful (may.distinct v) c (g.fits v lt) boarding_all.0
 
   good_departed : (state : State) (t : ℕ) (es : List DayEvent) → Going day plan state (Depart t ∷ es) → Good day plan state (Depart t ∷ es) → Good day plan (after day plan state (Depart t)) es
   good_departed state t es g good = record {
     lists = λ s c. good.lists s (omega arith);
-    chains = λ u lt. ⊎_elim
+    boardings = λ u lt. ⊎_elim
         (λ (c : 1 ≤ count_of u (list_of plan t)).
-        let chain = subst (λ l. Chain day plan u (place_of state.places u) l) (board_mine plan u t es c) (good.chains u lt) in
-        subst (λ p. Chain day plan u p (to_board plan u es)) (sym (place_aboard day plan is_day is_plan hands state t g.places u c)) chain.1)
+        let boarding_all = subst (λ l. BoardsAll day plan u (place_of state.places u) l) (board_mine plan u t es c) (good.boardings u lt) in
+        subst (λ p. BoardsAll day plan u p (to_board plan u es)) (sym (place_aboard day plan is_day is_plan accounted state t g.places u c)) boarding_all.1)
         (λ (c : count_of u (list_of plan t) ≡ 0).
-        let chain = subst (λ l. Chain day plan u (place_of state.places u) l) (board_other plan u t es c) (good.chains u lt) in
-        subst (λ p. Chain day plan u p (to_board plan u es)) (sym (place_stays day plan is_day is_plan hands state t g.places u c)) chain)
+        let boarding_all = subst (λ l. BoardsAll day plan u (place_of state.places u) l) (board_other plan u t es c) (good.boardings u lt) in
+        subst (λ p. BoardsAll day plan u p (to_board plan u es)) (sym (place_stays day plan is_day is_plan accounted state t g.places u c)) boarding_all)
         (there_or_not (count_of u (list_of plan t)));
   }
 
   good_arrived : (state : State) (t : ℕ) (es : List DayEvent) → Going day plan state (Arrive t ∷ es) → Good day plan state (Arrive t ∷ es) → Good day plan (after day plan state (Arrive t)) es
   good_arrived state t es g good = record {
     lists = good.lists;
-    chains = λ u lt. ⊎_elim
+    boardings = λ u lt. ⊎_elim
         (λ (c : 1 ≤ count_of u (list_of plan t)).
-        let at = arrives_aboard day plan is_day is_plan hands u t (place_of state.places u) es g.lawful c (g.fits u lt) in
-        let chain = subst (λ p. Chain day plan u p (to_board plan u es)) at (good.chains u lt) in
+        let at = arrives_aboard day plan is_day is_plan accounted u t (place_of state.places u) es g.lawful c (g.fits u lt) in
+        let boarding_all = subst (λ p. BoardsAll day plan u p (to_board plan u es)) at (good.boardings u lt) in
         let once = g.so_far.distinct t (left_arrive day t es is_day g.lawful).departs u in
         ⊎_elim
         (λ (d : 1 ≤ count_of u (given day plan t)).
-        subst (λ p. Chain day plan u p (to_board plan u es)) (sym (place_given day plan is_day is_plan hands state t g.places u d))
-        (chain_give day plan is_day is_plan hands u t (to_board plan u es) once d chain))
+        subst (λ p. BoardsAll day plan u p (to_board plan u es)) (sym (place_given day plan is_day is_plan accounted state t g.places u d))
+        (boards_all_give day plan is_day is_plan accounted u t (to_board plan u es) once d boarding_all))
         (λ (d : count_of u (given day plan t) ≡ 0).
-        subst (λ p. Chain day plan u p (to_board plan u es)) (sym (place_kept day plan is_day is_plan hands state t g.places u c d))
-        (chain_keep day plan is_day is_plan hands u t (to_board plan u es) d chain))
+        subst (λ p. BoardsAll day plan u p (to_board plan u es)) (sym (place_kept day plan is_day is_plan accounted state t g.places u c d))
+        (boards_all_keep day plan is_day is_plan accounted u t (to_board plan u es) d boarding_all))
         (there_or_not (count_of u (given day plan t))))
         (λ (c : count_of u (list_of plan t) ≡ 0).
-        subst (λ p. Chain day plan u p (to_board plan u es)) (sym (place_remains day plan is_day is_plan hands state t g.places u c)) (good.chains u lt))
+        subst (λ p. BoardsAll day plan u p (to_board plan u es)) (sym (place_remains day plan is_day is_plan accounted state t g.places u c)) (good.boardings u lt))
         (there_or_not (count_of u (list_of plan t)));
   }
 
@@ -137,12 +137,12 @@ module _ (day : Day) (plan : List (List ℕ)) (is_day : IsDay day) (is_plan : Is
   run_forward [] state g good = (state, refl)
   run_forward (Depart t ∷ es) state g good =
       let d = departs_from_good state t es g good in
-      let none = none_from_departs day plan state t (now_depart day plan is_day is_plan hands state t es g) (hands.into t) d in
-      let rest = run_forward es (after day plan state (Depart t)) (going_depart day plan is_day is_plan hands state t es g d) (good_departed state t es g good) in
+      let none = none_from_departs day plan state t (now_depart day plan is_day is_plan accounted state t es g) (accounted.into t) d in
+      let rest = run_forward es (after day plan state (Depart t)) (going_depart day plan is_day is_plan accounted state t es g d) (good_departed state t es g good) in
       (rest.0, ap (λ f. unless_fault f (steps day plan (after day plan state (Depart t)) es)) none ∙ rest.1)
   run_forward (Arrive t ∷ es) state g good =
-      let none = none_from_arrives day plan state t (now_arrive day plan is_day is_plan hands state t es g) (hands.out t) in
-      let rest = run_forward es (after day plan state (Arrive t)) (going_arrive day plan is_day is_plan hands state t es g) (good_arrived state t es g good) in
+      let none = none_from_arrives day plan state t (now_arrive day plan is_day is_plan accounted state t es g) (accounted.out t) in
+      let rest = run_forward es (after day plan state (Arrive t)) (going_arrive day plan is_day is_plan accounted state t es g) (good_arrived state t es g good) in
       (rest.0, ap (λ f. unless_fault f (steps day plan (after day plan state (Arrive t)) es)) none ∙ rest.1)
 
   -- the other way round
@@ -150,26 +150,26 @@ module _ (day : Day) (plan : List (List ℕ)) (is_day : IsDay day) (is_plan : Is
   ran_depart state t es final g d ran = record {
     good = record {
       lists = λ s c. ⊎_elim
-          (λ (e : t ≡ s). subst (λ x. MayRun day x (list_of plan x)) e (record { distinct = distinct_here day plan is_day is_plan hands state t es g d; admissible = d.admissible }))
+          (λ (e : t ≡ s). subst (λ x. MayRun day x (list_of plan x)) e (record { distinct = distinct_here day plan is_day is_plan accounted state t es g d; admissible = d.admissible }))
           (λ (ne : t ≢ s). let o = one_other t s ne in ran.good.lists s (omega arith)) (cases_eq t s);
-      chains = λ u lt. ⊎_elim
+      boardings = λ u lt. ⊎_elim
           (λ (c : 1 ≤ count_of u (list_of plan t)).
-          let b = boarding day plan is_day is_plan hands state t es u g d c in
-          let chain = subst (λ p. Chain day plan u p (to_board plan u es)) (place_aboard day plan is_day is_plan hands state t g.places u c) (ran.good.chains u lt) in
-          subst (λ l. Chain day plan u (place_of state.places u) l) (sym (board_mine plan u t es c)) (b.boards, chain))
+          let b = boarding day plan is_day is_plan accounted state t es u g d c in
+          let boarding_all = subst (λ p. BoardsAll day plan u p (to_board plan u es)) (place_aboard day plan is_day is_plan accounted state t g.places u c) (ran.good.boardings u lt) in
+          subst (λ l. BoardsAll day plan u (place_of state.places u) l) (sym (board_mine plan u t es c)) (b.boards, boarding_all))
           (λ (c : count_of u (list_of plan t) ≡ 0).
-          let chain = subst (λ p. Chain day plan u p (to_board plan u es)) (place_stays day plan is_day is_plan hands state t g.places u c) (ran.good.chains u lt) in
-          subst (λ l. Chain day plan u (place_of state.places u) l) (sym (board_other plan u t es c)) chain)
+          let boarding_all = subst (λ p. BoardsAll day plan u p (to_board plan u es)) (place_stays day plan is_day is_plan accounted state t g.places u c) (ran.good.boardings u lt) in
+          subst (λ l. BoardsAll day plan u (place_of state.places u) l) (sym (board_other plan u t es c)) boarding_all)
           (there_or_not (count_of u (list_of plan t)));
     };
     ended = record {
       arrived = ran.ended.arrived;
       yards = λ u lt. ran.ended.yards u lt ∙ ⊎_elim
           (λ (c : 1 ≤ count_of u (list_of plan t)).
-          ap (λ p. end_of day p (to_board plan u es)) (place_aboard day plan is_day is_plan hands state t g.places u c)
+          ap (λ p. end_of day p (to_board plan u es)) (place_aboard day plan is_day is_plan accounted state t g.places u c)
           ∙ ap (λ l. end_of day (place_of state.places u) l) (sym (board_mine plan u t es c)))
           (λ (c : count_of u (list_of plan t) ≡ 0).
-          ap (λ p. end_of day p (to_board plan u es)) (place_stays day plan is_day is_plan hands state t g.places u c)
+          ap (λ p. end_of day p (to_board plan u es)) (place_stays day plan is_day is_plan accounted state t g.places u c)
           ∙ ap (λ l. end_of day (place_of state.places u) l) (sym (board_other plan u t es c)))
           (there_or_not (count_of u (list_of plan t)));
     };
@@ -179,35 +179,35 @@ module _ (day : Day) (plan : List (List ℕ)) (is_day : IsDay day) (is_plan : Is
   ran_arrive state t es final g ran = record {
     good = record {
       lists = ran.good.lists;
-      chains = λ u lt. ⊎_elim
+      boardings = λ u lt. ⊎_elim
           (λ (c : 1 ≤ count_of u (list_of plan t)).
-          let at = arrives_aboard day plan is_day is_plan hands u t (place_of state.places u) es g.lawful c (g.fits u lt) in
-          subst (λ p. Chain day plan u p (to_board plan u es)) (sym at) (⊎_elim
+          let at = arrives_aboard day plan is_day is_plan accounted u t (place_of state.places u) es g.lawful c (g.fits u lt) in
+          subst (λ p. BoardsAll day plan u p (to_board plan u es)) (sym at) (⊎_elim
           (λ (d : 1 ≤ count_of u (given day plan t)).
-          chain_give_back day plan is_day is_plan hands u t (to_board plan u es) d
-          (subst (λ p. Chain day plan u p (to_board plan u es)) (place_given day plan is_day is_plan hands state t g.places u d) (ran.good.chains u lt)))
+          boards_all_give_back day plan is_day is_plan accounted u t (to_board plan u es) d
+          (subst (λ p. BoardsAll day plan u p (to_board plan u es)) (place_given day plan is_day is_plan accounted state t g.places u d) (ran.good.boardings u lt)))
           (λ (d : count_of u (given day plan t) ≡ 0).
-          chain_keep_back day plan is_day is_plan hands u t (to_board plan u es)
-          (subst (λ p. Chain day plan u p (to_board plan u es)) (place_kept day plan is_day is_plan hands state t g.places u c d) (ran.good.chains u lt)))
+          boards_all_keep_back day plan is_day is_plan accounted u t (to_board plan u es)
+          (subst (λ p. BoardsAll day plan u p (to_board plan u es)) (place_kept day plan is_day is_plan accounted state t g.places u c d) (ran.good.boardings u lt)))
           (there_or_not (count_of u (given day plan t)))))
           (λ (c : count_of u (list_of plan t) ≡ 0).
-          subst (λ p. Chain day plan u p (to_board plan u es)) (place_remains day plan is_day is_plan hands state t g.places u c) (ran.good.chains u lt))
+          subst (λ p. BoardsAll day plan u p (to_board plan u es)) (place_remains day plan is_day is_plan accounted state t g.places u c) (ran.good.boardings u lt))
           (there_or_not (count_of u (list_of plan t)));
     };
     ended = record {
       arrived = ran.ended.arrived;
       yards = λ u lt. ran.ended.yards u lt ∙ ⊎_elim
           (λ (c : 1 ≤ count_of u (list_of plan t)).
-          let at = arrives_aboard day plan is_day is_plan hands u t (place_of state.places u) es g.lawful c (g.fits u lt) in
+          let at = arrives_aboard day plan is_day is_plan accounted u t (place_of state.places u) es g.lawful c (g.fits u lt) in
           ⊎_elim
           (λ (d : 1 ≤ count_of u (given day plan t)).
-          ap (λ p. end_of day p (to_board plan u es)) (place_given day plan is_day is_plan hands state t g.places u d)
+          ap (λ p. end_of day p (to_board plan u es)) (place_given day plan is_day is_plan accounted state t g.places u d)
           ∙ ap (λ p. end_of day p (to_board plan u es)) (sym at))
           (λ (d : count_of u (given day plan t) ≡ 0).
-          ap (λ p. end_of day p (to_board plan u es)) (place_kept day plan is_day is_plan hands state t g.places u c d)
+          ap (λ p. end_of day p (to_board plan u es)) (place_kept day plan is_day is_plan accounted state t g.places u c d)
           ∙ ap (λ p. end_of day p (to_board plan u es)) (sym at))
           (there_or_not (count_of u (given day plan t))))
-          (λ (c : count_of u (list_of plan t) ≡ 0). ap (λ p. end_of day p (to_board plan u es)) (place_remains day plan is_day is_plan hands state t g.places u c))
+          (λ (c : count_of u (list_of plan t) ≡ 0). ap (λ p. end_of day p (to_board plan u es)) (place_remains day plan is_day is_plan accounted state t g.places u c))
           (there_or_not (count_of u (list_of plan t)));
     };
   }
@@ -221,13 +221,13 @@ module _ (day : Day) (plan : List (List ℕ)) (is_day : IsDay day) (is_plan : Is
   run_backward [] state final g e =
       let same : state ≡ final = cc in
       subst (λ s. Ran day plan state [] s) same (record {
-        good = record { lists = λ t c. absurd (omega arith); chains = λ u lt. tt };
+        good = record { lists = λ t c. absurd (omega arith); boardings = λ u lt. tt };
         ended = record { arrived = λ t. g.arrived t refl; yards = λ u lt. in_yard u (place_of state.places u) (g.fits u lt) };
       })
   run_backward (Depart t ∷ es) state final g e =
       let both = no_fault (fault_of day plan state (Depart t)) (steps day plan (after day plan state (Depart t)) es) final e in
-      let d = departs_from_none day plan state t (hands.into t) both.0 in
-      ran_depart state t es final g d (run_backward es (after day plan state (Depart t)) final (going_depart day plan is_day is_plan hands state t es g d) both.1)
+      let d = departs_from_none day plan state t (accounted.into t) both.0 in
+      ran_depart state t es final g d (run_backward es (after day plan state (Depart t)) final (going_depart day plan is_day is_plan accounted state t es g d) both.1)
   run_backward (Arrive t ∷ es) state final g e =
       let both = no_fault (fault_of day plan state (Arrive t)) (steps day plan (after day plan state (Arrive t)) es) final e in
-      ran_arrive state t es final g (run_backward es (after day plan state (Arrive t)) final (going_arrive day plan is_day is_plan hands state t es g) both.1)
+      ran_arrive state t es final g (run_backward es (after day plan state (Arrive t)) final (going_arrive day plan is_day is_plan accounted state t es g) both.1)

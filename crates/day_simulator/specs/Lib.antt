@@ -1,8 +1,9 @@
 pub mod State
 pub mod Steps
 pub mod Finish
-pub mod Progressing
-pub mod Progress
+pub mod Machine
+pub mod Fields
+pub mod Calls
 pub mod Orders
 pub mod Laws
 pub use Rattle.timetable.specs.Day

@@ -50,14 +50,19 @@ first_missing day t places [] = None
 first_missing day t places (u ∷ us) =
     if is_ready (from_of day t) (leaves day t) (place_of places u) then first_missing day t (slice_set places u (Aboard t)) us else Some u
 
+-- the first fault of the train that a trip leaves with, if it has one
+abbrev pub train_fault : Day → List (List ℕ) → List Place → ℕ → Option StepFault
+train_fault day plan places t =
+    if length (list_of plan t) == 0 then Some (NoUnits t)
+    else if not (is_admissible day t (types_of day (list_of plan t))) then Some (NotAdmissible t)
+    else unwrap_or (option_map (λ l. Some (LinkBroken l)) (broken_into day plan t))
+    (option_map (λ u. NotInYard u t) (first_missing day t places (taken day plan t)))
+
 -- the first fault of an event, if it has one
 unfoldable pub fault_of : Day → List (List ℕ) → State → DayEvent → Option StepFault
 fault_of day plan state (Depart t) =
     if not (is_now day state (Depart t)) then Some (NotNow (Depart t))
-    else if length (list_of plan t) == 0 then Some (NoUnits t)
-    else if not (is_admissible day t (types_of day (list_of plan t))) then Some (NotAdmissible t)
-    else unwrap_or (option_map (λ l. Some (LinkBroken l)) (broken_into day plan t))
-    (option_map (λ u. NotInYard u t) (first_missing day t state.places (taken day plan t)))
+    else train_fault day plan state.places t
 fault_of day plan state (Arrive t) =
     if not (is_now day state (Arrive t)) then Some (NotNow (Arrive t))
     else option_map (λ l. LinkBroken l) (broken_out day plan t)

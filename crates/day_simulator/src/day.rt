@@ -1,12 +1,12 @@
 //! The day as it goes from event to event.
 
-ghost use Rattle.std.specs.Prelude.{◌≡◌, ◌<◌, length, map, slice_get, Some, IfOk};
+ghost use Rattle.std.specs.Prelude.{◌≡◌, ◌<◌, length, map, slice_get, replicate, Some, IfOk};
 ghost use Rattle.timetable.specs.Day.{units_of, unit_count};
 ghost use Rattle.timetable.specs.Running.{IsPlan};
 ghost use Rattle.day_simulator.specs.State.{start_of, is_waiting, is_under_way};
 ghost use Rattle.day_simulator.specs.State.{trip_of};
-ghost use Rattle.day_simulator.specs.Steps.{fault_of, is_now, fixed_order};
-ghost use Rattle.day_simulator.specs.Progressing.{MakesStep, Finishes};
+ghost use Rattle.day_simulator.specs.Steps.{fault_of, train_fault, is_now, fixed_order};
+ghost use Rattle.day_simulator.specs.Calls.{MakesStep, Finishes};
 ghost use Rattle.day_simulator.specs.Finish.{first_not_made, first_differing};
 ghost use Rattle.timetable.specs.Lists.{below};
 ghost use Rattle.day_simulator.specs.declared.events.DayEvent.TheVariants.{Depart, Arrive};
@@ -37,15 +37,15 @@ pub struct Day<'a> {
 }
 
 impl<'a> Model for Day<'a> {
-    ghost use Rattle.day_simulator.specs.Progressing.{Progress};
+    ghost use Rattle.day_simulator.specs.Machine.{Machine};
 
-    ghost Value = { Progress };
+    ghost Value = { Machine };
 
-    ghost use Rattle.day_simulator.specs.Progress.{progress_in, IsInProgress};
+    ghost use Rattle.day_simulator.specs.Fields.{machine_in, AreFields};
 
-    ghost view = { progress_in };
+    ghost view = { machine_in };
 
-    ghost invariant = { IsInProgress };
+    ghost invariant = { AreFields };
 }
 
 impl<'a> Day<'a> {
@@ -58,10 +58,9 @@ impl<'a> Day<'a> {
         requires { IsPlan instance.now plan.now }
         ensures { IfOk result (λ day. day ≡ record { day = instance.now; plan = plan.now; state = start_of instance.now }) }
     {
-        let _known = instance.trips();
         let order = fixed_order(alloc, instance)?;
         let places = places_at_home(alloc, instance)?;
-        let stages = stages_of_waiting(alloc, instance)?;
+        let stages = stages_of_waiting(alloc, instance.trips())?;
         Ok(Day {
             instance,
             plan,
@@ -145,26 +144,7 @@ impl<'a> Day<'a> {
         if !self.is_now(DayEvent::Depart(trip)) {
             return Some(StepFault::NotNow(DayEvent::Depart(trip)));
         }
-        let units = self.plan.units(trip);
-        if units.is_empty() {
-            return Some(StepFault::NoUnits(trip));
-        }
-        if !is_admissible(self.instance, trip, units) {
-            return Some(StepFault::NotAdmissible(trip));
-        }
-        if let Some(link) = broken_into(self.instance, self.plan, trip) {
-            return Some(StepFault::LinkBroken(link));
-        }
-        let taken = self.plan.taken(self.instance, trip);
-        match first_missing(
-            self.instance,
-            trip,
-            self.places.as_slice(),
-            taken.as_slice(),
-        ) {
-            Some(unit) => Some(StepFault::NotInYard { unit, trip }),
-            None => None,
-        }
+        train_fault(self.instance, self.plan, self.places.as_slice(), trip)
     }
 
     fn depart(&mut self, trip: TripNo) -> Result<(), StepFault>
@@ -212,6 +192,36 @@ impl<'a> Day<'a> {
     }
 }
 
+/// What is wrong with the train that a trip leaves with, if anything is: it has no units, it may not run on the trip, it does
+/// not keep the rule of the join into the trip, or a unit that the trip takes is not in the yard and ready.
+fn train_fault(
+    instance: &Instance,
+    plan: &NamedPlan,
+    places: &[Place],
+    trip: TripNo,
+) -> Option<StepFault>
+    requires trip { trip < length instance.now.trips }
+    requires plan { IsPlan instance.now plan.now }
+    requires places { length places.now ≡ unit_count instance.now }
+    ensures { result ≡ train_fault instance.now plan.now places.now trip }
+{
+    let units = plan.units(trip);
+    if units.is_empty() {
+        return Some(StepFault::NoUnits(trip));
+    }
+    if !is_admissible(instance, trip, units) {
+        return Some(StepFault::NotAdmissible(trip));
+    }
+    if let Some(link) = broken_into(instance, plan, trip) {
+        return Some(StepFault::LinkBroken(link));
+    }
+    let taken = plan.taken(instance, trip);
+    match first_missing(instance, trip, places, taken.as_slice()) {
+        Some(unit) => Some(StepFault::NotInYard { unit, trip }),
+        None => None,
+    }
+}
+
 /// Whether a trip has not left.
 fn is_waiting(stage: Stage) -> bool
     ensures { result ≡ is_waiting stage }
@@ -238,13 +248,9 @@ fn places_at_home(alloc: Global, instance: &Instance) -> Result<Vec<Place>, NoMe
     Ok(places)
 }
 
-/// Each trip waiting.
-fn stages_of_waiting(alloc: Global, instance: &Instance) -> Result<Vec<Stage>, NoMemory>
-    ensures { IfOk result (λ stages. stages.items ≡ map (λ trip. stage.Waiting) instance.now.trips) }
+/// So many trips waiting.
+fn stages_of_waiting(alloc: Global, trips: u32) -> Result<Vec<Stage>, NoMemory>
+    ensures { IfOk result (λ stages. stages.items ≡ replicate trips stage.Waiting) }
 {
-    let mut stages = Vec::new(alloc);
-    for _number in 0..instance.trips() {
-        stages.push(Stage::Waiting)?;
-    }
-    Ok(stages)
+    Ok(vec![in alloc; Stage::Waiting; trips as usize]?)
 }

@@ -5,7 +5,7 @@ ghost use Rattle.std.specs.List.{All};
 ghost use Rattle.timetable.specs.Running.{IsPlan, Runs};
 ghost use Rattle.timetable.specs.Cost.{plan_cost};
 ghost use Rattle.day_simulator.specs.State.{trip_of};
-ghost use Rattle.day_simulator.specs.Progressing.{IsCost, MakesSteps, Simulates};
+ghost use Rattle.day_simulator.specs.Calls.{IsCost, MakesSteps, Simulates};
 ghost use Rattle.day_simulator.specs.Laws.{IsInTurn};
 
 use crate::day::Day;

@@ -3,8 +3,9 @@ use Rattle.day_simulator.specs.declared.events.DayEvent.TheVariants.{Arrive}
 use Rattle.day_simulator.specs.declared.events.StepFault.TheVariants.{NotNow, LinkBroken}
 use Rattle.timetable.specs.Links.{list_of, given}
 use Rattle.timetable.specs.Lists.{has}
-use Rattle.day_simulator.specs.Progressing.{Progress, MakesStep}
-use Rattle.day_simulator.specs.Progress.{progress_in}
+use Rattle.day_simulator.specs.Calls.{MakesStep}
+use Rattle.day_simulator.specs.Machine.{Machine}
+use Rattle.day_simulator.specs.Fields.{machine_in}
 use Rattle.day_simulator.specs.Steps.{is_now, fault_of}
 use Rattle.day_simulator.proofs.Faults.{not_now, arrival_now}
 use Rattle.day_simulator.proofs.LinkTrips.{given_known}
@@ -27,17 +28,17 @@ returns-then-not-is_now c =
 
 pub returns-in-Some : goal.returns-in-Some
 returns-in-Some c =
-    let p = progress_in c.self.inside in
+    let p = machine_in c.self.inside in
     let t = c.args.trip in
     let e = Arrive t in
-    let now : is_now p.day p.state e ≡ true = subst (λ (q : Progress). is_now q.day q.state e ≡ true) (sym c.self.view_is) (sym c.is_now.ensures ∙ c.if-not-is_now.false) in
+    let now : is_now p.day p.state e ≡ true = subst (λ (q : Machine). is_now q.day q.state e ≡ true) (sym c.self.view_is) (sym c.is_now.ensures ∙ c.if-not-is_now.false) in
     let breaks : Some (LinkBroken c.in-Some.link) ≡ fault_of p.day p.plan p.state e =
     ap (option_map (λ l. LinkBroken l)) (sym c.in-Some.is ∙ c.broken_out.ensures) ∙ arrival_now p.day p.plan p.state t now in
-    subst (λ (q : Progress). MakesStep q e (Err (LinkBroken c.in-Some.link)) q) c.self.view_is (step_fails p e (LinkBroken c.in-Some.link) breaks)
+    subst (λ (q : Machine). MakesStep q e (Err (LinkBroken c.in-Some.link)) q) c.self.view_is (step_fails p e (LinkBroken c.in-Some.link) breaks)
 
 pub put_all-requires-2 : goal.put_all-requires-2
 put_all-requires-2 c = λ u h.
-    let p = progress_in c.self.inside in
+    let p = machine_in c.self.inside in
     let t = c.args.trip in
     let us = c.units.result.now in
     let listed = subst (λ (vs : List ℕ). IsTrue (has u vs)) (c.as_slice.ensures.value ∙ c.given-given.ensures) h in
@@ -48,13 +49,13 @@ put_all-requires-2 c = λ u h.
 
 pub returns : goal.returns
 returns c =
-    let p = progress_in c.self.inside in
+    let p = machine_in c.self.inside in
     let t = c.args.trip in
     let e = Arrive t in
     let us = c.units.result.now in
     let vs = c.as_slice.result.now in
     let yard = Yard c.goal-station.result (c.arrival.result + c.reallocation.result) in
-    let now : is_now p.day p.state e ≡ true = subst (λ (q : Progress). is_now q.day q.state e ≡ true) (sym c.self.view_is) (sym c.is_now.ensures ∙ c.if-not-is_now.false) in
+    let now : is_now p.day p.state e ≡ true = subst (λ (q : Machine). is_now q.day q.state e ≡ true) (sym c.self.view_is) (sym c.is_now.ensures ∙ c.if-not-is_now.false) in
     let none : None ≡ fault_of p.day p.plan p.state e =
     ap (option_map (λ l. LinkBroken l)) (sym c.in_default.is ∙ c.broken_out.ensures) ∙ arrival_now p.day p.plan p.state t now in
     let put = c.put_all.ensures ∙ ap (λ (ps : List Place). put_all ps us (Standing t)) c.deref_mut.ensures.value in
@@ -62,10 +63,10 @@ returns c =
     let put_again = c.put_all-2.ensures ∙ ap (λ (ps : List Place). put_all ps vs yard) c.deref_mut-2.ensures.value in
     let given_back = put_in (with_items c.self.inside.places c.put_all.new.places) vs yard c.put_all-2.new.places put_again ∙ ap (λ (ps : List Place). put_all ps vs yard) standing in
     let listed = ap (λ (ws : List ℕ). put_all (put_all p.state.places ws (Standing t)) vs yard) c.units.ensures.value in
-    let handed = ap (λ (ws : List ℕ). put_all (put_all p.state.places (list_of p.plan t) (Standing t)) ws yard) (c.as_slice.ensures.value ∙ c.given-given.ensures) in
+    let passed_on = ap (λ (ws : List ℕ). put_all (put_all p.state.places (list_of p.plan t) (Standing t)) ws yard) (c.as_slice.ensures.value ∙ c.given-given.ensures) in
     let ready : yard ≡ Yard (to_of p.day t) (arrives p.day t + reallocation_of p.day (to_of p.day t)) =
     rw (c.reallocation.ensures.minutes, c.arrival.ensures.minute, c.goal-station.ensures.station) refl in
     let placed = ap (λ (y : Place). put_all (put_all p.state.places (list_of p.plan t) (Standing t)) (given p.day p.plan t) y) ready in
     let stages = ap (λ (k : ℕ). slice_set p.state.stages k stage.Arrived) c.place.ensures.number in
-    let after = arrived p.day p.plan p.state t _ _ _ (given_back ∙ listed ∙ handed ∙ placed) stages c.moment_of-moment.ensures in
+    let after = arrived p.day p.plan p.state t _ _ _ (given_back ∙ listed ∙ passed_on ∙ placed) stages c.moment_of-moment.ensures in
     rw (← c.self.view_is) (step_goes p _ e none (ap (λ (s : State). record p { state = s }) after))

@@ -1,7 +1,7 @@
 use Rattle.std.proofs.Common.{◌≡◌, ℕ, List, sym, ap, ◌∙◌, subst}
 use Rattle.day_simulator.specs.declared.events.DayEvent.TheVariants.{Depart}
-use Rattle.day_simulator.specs.Progressing.{Progress}
-use Rattle.day_simulator.specs.Progress.{progress_in}
+use Rattle.day_simulator.specs.Machine.{Machine}
+use Rattle.day_simulator.specs.Fields.{machine_in}
 use Rattle.day_simulator.specs.Steps.{fault_of}
 use Rattle.day_simulator.proofs.Stepping.{step_goes, departed, put_in}
 use Rattle.std.specs.Prelude.{slice_set}
@@ -14,12 +14,12 @@ use Rattle.day_simulator.proofs.day.Day.depart.Goals as goal
 
 pub returns : goal.returns
 returns c =
-    let p = progress_in c.self.inside in
+    let p = machine_in c.self.inside in
     let t = c.args.trip in
     let e = Depart t in
     let inside = c.self.inside in
     let none : None ≡ fault_of p.day p.plan p.state e =
-    subst (λ (q : Progress). None ≡ fault_of q.day q.plan q.state e) (sym c.self.view_is) (sym c.in_default.is ∙ c.departure_fault.ensures) in
+    subst (λ (q : Machine). None ≡ fault_of q.day q.plan q.state e) (sym c.self.view_is) (sym c.in_default.is ∙ c.departure_fault.ensures) in
     let us = c.units-units.result.now in
     let put = c.put_all.ensures ∙ ap (λ (ps : List Place). put_all ps us (Aboard t)) c.deref_mut.ensures.value in
     let places = put_in inside.places us (Aboard t) c.put_all.new.places put ∙ ap (λ (vs : List ℕ). put_all p.state.places vs (Aboard t)) c.units-units.ensures.value in

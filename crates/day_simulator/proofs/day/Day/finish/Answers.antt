@@ -1,6 +1,6 @@
 use Rattle.std.proofs.Common.{sym, ◌∙◌, pos, ap}
 use Rattle.day_simulator.proofs.Ending.{ends_missing, ends_differing, ends_well}
-use Rattle.day_simulator.specs.Progressing.{Progress}
+use Rattle.day_simulator.specs.Machine.{Machine}
 use Rattle.timetable.specs.Cost.{plan_cost}
 use Rattle.day_simulator.proofs.day.Day.finish.Goals as goal
 
@@ -13,4 +13,4 @@ returns-in-Some-first_imbalance c =
 
 pub returns : goal.returns
 returns c = ends_well c.args.self.now _ (sym c.in_default.is ∙ c.first_missing_event.ensures) (sym c.in_default-first_imbalance.is ∙ c.first_imbalance.ensures)
-    (c.plan_cost.ensures ∙ ap (λ (q : Progress). pos (plan_cost q.day q.plan)) c.self.view_is)
+    (c.plan_cost.ensures ∙ ap (λ (q : Machine). pos (plan_cost q.day q.plan)) c.self.view_is)

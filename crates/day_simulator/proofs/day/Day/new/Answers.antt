@@ -1,7 +1,15 @@
-use Rattle.std.proofs.Common.{refl}
+use Rattle.std.proofs.Common.{◌≡◌, ℕ, ◌∙◌, ap, refl, replicate, map, List}
+use Rattle.timetable.specs.declared.day.records.Trip.{Trip}
 use Rattle.day_simulator.specs.State.{start_of}
+use Rattle.day_simulator.specs.declared.events.Stage.{Stage}
+use Rattle.day_simulator.specs.declared.events.Stage.TheVariants as stage
+use Rattle.day_simulator.proofs.Starts.{map-same}
 use Rattle.day_simulator.proofs.day.Day.new.Goals as goal
 
 pub returns : goal.returns
 unfolding start_of
-returns c = rw (c.in_ok-places.ensures, c.in_ok-stages.ensures) refl
+returns c =
+    let trips = c.args.instance.now.trips in
+    let stages : c.in_ok-stages.stages.items ≡ map (λ (trip : Trip). stage.Waiting) trips =
+    c.in_ok-stages.ensures ∙ ap (λ (n : ℕ). replicate n stage.Waiting) c.trips.ensures.value ∙ map-same stage.Waiting trips in
+    rw (c.in_ok-places.ensures, stages) refl

@@ -1,4 +1,4 @@
--- A day in progress, and its steps.
+-- What the calls of a day tell: a step, the end of the day, and the whole day.
 use Rattle.std.specs.Prelude.{ℕ, ◌≡◌, List, Result, Ok, Err, MatchOption, MatchResult, IsOkAnd, pos}
 use Rattle.timetable.specs.Day.{Day}
 use Rattle.day_simulator.specs.declared.events.DayEvent.{DayEvent}
@@ -8,17 +8,11 @@ use Rattle.day_simulator.specs.declared.whole_day.Ran.{Ran}
 use Rattle.day_simulator.specs.declared.whole_day.SimulateRefusal.{SimulateRefusal}
 use Rattle.day_simulator.specs.declared.whole_day.SimulateRefusal.TheVariants.{Stops, NoMemory}
 use Rattle.day_simulator.specs.Finish.{finish_of, simulation}
-use Rattle.day_simulator.specs.State.{State}
+use Rattle.day_simulator.specs.Machine.{Machine}
 use Rattle.day_simulator.specs.Steps.{fault_of, after, steps}
 
--- a day, the plan that it follows, and the state that it has come to
-pub record Progress : Type 0 where
-  pub day : Day
-  pub plan : List (List ℕ)
-  pub state : State
-
 -- one step: it goes through to the state after the event, or it tells the first fault and all is as before
-abbrev pub MakesStep : Progress → DayEvent → Result (Unit {0}) StepFault → Progress → Type 0
+abbrev pub MakesStep : Machine → DayEvent → Result (Unit {0}) StepFault → Machine → Type 0
 MakesStep old event result new = MatchOption (fault_of old.day old.plan old.state event)
     ((result ≡ Ok tt) × (new ≡ record old { state = after old.day old.plan old.state event }))
     (λ fault. (result ≡ Err fault) × (new ≡ old))
@@ -28,11 +22,11 @@ abbrev pub IsCost : ℕ → Money → Type 0
 IsCost cost money = money.0 ≡ pos cost
 
 -- the end of the day: it tells the cost where all is as it should be, and else the first fault
-abbrev pub Finishes : Progress → Result Money StepFault → Type 0
+abbrev pub Finishes : Machine → Result Money StepFault → Type 0
 Finishes now result = MatchResult (finish_of now.day now.plan now.state) (λ cost. IsOkAnd result (λ money. IsCost cost money)) (λ fault. result ≡ Err fault)
 
 -- steps one after another: all go through, or the first fault is told
-abbrev pub MakesSteps : Progress → List DayEvent → Result (Unit {0}) StepFault → Progress → Type 0
+abbrev pub MakesSteps : Machine → List DayEvent → Result (Unit {0}) StepFault → Machine → Type 0
 MakesSteps old events result new = MatchResult (steps old.day old.plan old.state events)
     (λ state. (result ≡ Ok tt) × (new ≡ record old { state = state }))
     (λ fault. result ≡ Err fault)
