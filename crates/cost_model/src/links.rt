@@ -4,11 +4,12 @@ ghost use Rattle.std.specs.Prelude.{◌≡◌, ◌<◌, ◌≤◌, List, ℕ, le
 ghost use Rattle.timetable.specs.Cost.{link_cost};
 ghost use Rattle.cost_model.specs.Leading.{LeadsBetween};
 
+use rail_base::limits::MOST_WEIGHT;
 use rail_base::{LinkNo, TypeNo};
 use timetable::{Instance, LinkKind};
 
 /// The most that a link costs: the most weight.
-pub const MOST_LINK_COST: u64 = 10_000;
+pub const MOST_LINK_COST: u64 = MOST_WEIGHT as u64;
 
 /// What a link costs that leads from a train of units of these types to one of those: the weight of shunting for a turn
 /// that couples or uncouples, whatever the number of units, and nothing for every other link. The link is below `links`;

@@ -6,21 +6,23 @@ ghost use Rattle.timetable.specs.Cost.{trip_cost};
 ghost use Rattle.cost_model.specs.Sums.{carriages_on, missing_on};
 
 use compositions::Composition;
-use rail_base::limits::MOST_COMPOSITION;
+use rail_base::limits::{MOST_CARRIAGES, MOST_COMPOSITION, MOST_DEMAND, MOST_KM, MOST_WEIGHT};
 use rail_base::{TripNo, TypeNo};
 use timetable::Instance;
 
-/// The most that the carriages of a trip cost: the most weight, for the most carriages of the most units, for the most
-/// kilometres.
-pub const MOST_CARRIAGE_COST: u64 = 10_000 * 20 * MOST_COMPOSITION as u64 * 1_000;
+/// The most carriages that a trip has: those of the most units.
+const MOST_TRIP_CARRIAGES: u32 = MOST_CARRIAGES * MOST_COMPOSITION as u32;
+/// The most that the carriages of a trip cost: the most weight, for the most carriages, for the most kilometres.
+pub const MOST_CARRIAGE_COST: u64 =
+    MOST_WEIGHT as u64 * MOST_TRIP_CARRIAGES as u64 * MOST_KM as u64;
 /// The most that the missing seats of a trip cost: the most weight, for the most demand, for the most kilometres.
-pub const MOST_SHORTAGE_COST: u64 = 10_000 * 10_000 * 1_000;
+pub const MOST_SHORTAGE_COST: u64 = MOST_WEIGHT as u64 * MOST_DEMAND as u64 * MOST_KM as u64;
 /// The most that a trip costs.
 pub const MOST_TRIP_COST: u64 = MOST_CARRIAGE_COST + MOST_SHORTAGE_COST;
 
 /// What a trip costs with units of these types: the weight of a carriage for each of its carriages and kilometres, and the
 /// weight of a missing seat for each seat that is wanted beyond its seats, and each kilometre. The trip is below `trips`;
-/// the types, at most six, are of the day, and need not fit the platforms. It takes no memory.
+/// the types, at most six, are those of the day, and need not fit the platforms. It takes no memory.
 #[tactic(auto, unfolding(timetable::specs::Cost::trip_cost))]
 pub fn trip_cost(instance: &Instance, trip: TripNo, types: &[TypeNo]) -> u64
     requires trip { trip < length instance.now.trips }
@@ -66,7 +68,7 @@ fn carriages_of(instance: &Instance, types: &[TypeNo]) -> u32
     requires few { length types.now ≤ MOST_COMPOSITION }
     requires known { IsTrue (are_types instance.now.types types.now) }
     ensures value { result ≡ carriages_of instance.now.types types.now }
-    ensures few { result ≤ 120 }
+    ensures few { result ≤ MOST_TRIP_CARRIAGES }
 {
     match Composition::of(types) {
         Some(composition) => composition.carriages(instance.types()),

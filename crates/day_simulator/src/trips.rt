@@ -7,6 +7,7 @@ ghost use Rattle.cost_model.specs.Units.{AreUnits};
 
 use compositions::Composition;
 use cost_model::types_of;
+use rail_base::limits::{MOST_COMPOSITION, MOST_MINUTES, MOST_REALLOCATION};
 use rail_base::{StationNo, TripNo, UnitNo};
 use timetable::Instance;
 
@@ -14,7 +15,7 @@ use timetable::Instance;
 #[tactic(auto, unfolding(timetable::specs::Day::leaves))]
 pub(crate) fn departure(instance: &Instance, trip: TripNo) -> u32
     ensures minute { result ≡ leaves instance.now trip }
-    ensures range { result < 2880 }
+    ensures range { result < MOST_MINUTES }
 {
     if trip.0 >= instance.trips() {
         return 0;
@@ -26,7 +27,7 @@ pub(crate) fn departure(instance: &Instance, trip: TripNo) -> u32
 #[tactic(auto, unfolding(timetable::specs::Day::arrives))]
 pub(crate) fn arrival(instance: &Instance, trip: TripNo) -> u32
     ensures minute { result ≡ arrives instance.now trip }
-    ensures range { result < 2880 }
+    ensures range { result < MOST_MINUTES }
 {
     if trip.0 >= instance.trips() {
         return 1;
@@ -59,7 +60,7 @@ pub(crate) fn goal(instance: &Instance, trip: TripNo) -> StationNo
 pub(crate) fn reallocation(instance: &Instance, station: StationNo) -> u32
     requires { station < length instance.now.stations }
     ensures minutes { result ≡ reallocation_of instance.now station }
-    ensures range { result ≤ 600 }
+    ensures range { result ≤ MOST_REALLOCATION }
 {
     instance.station(station).reallocation
 }
@@ -80,7 +81,7 @@ fn longest(instance: &Instance, trip: TripNo) -> u32
 pub(crate) fn is_admissible(instance: &Instance, trip: TripNo, units: &[UnitNo]) -> bool
     requires trip { trip < length instance.now.trips }
     requires known { AreUnits instance.now units.now }
-    requires few { length units.now ≤ 6 }
+    requires few { length units.now ≤ MOST_COMPOSITION }
     ensures { result ≡ is_admissible instance.now trip (types_of instance.now units.now) }
 {
     let types = types_of(instance, units);
