@@ -1,8 +1,8 @@
 -- The three parts of the cost of compositions, one for each trip, each the list of its types.
-use Rattle.std.specs.Prelude.{ℕ, ◌≡◌, ◌+◌, ◌-◌, ◌*◌, List, length}
-use Rattle.compositions.specs.Composition.{carriages_of, seats_of}
-use Rattle.timetable.specs.Cost.{link_cost, cost_of}
-use Rattle.timetable.specs.Day.{Day, km_of, demand_of}
+use Rattle.std.specs.Prelude.{ℕ, ◌≡◌, ◌+◌, ◌*◌, List, length}
+use Rattle.compositions.specs.Composition.{carriages_of}
+use Rattle.timetable.specs.Cost.{missing_seats, link_cost, cost_of}
+use Rattle.timetable.specs.Day.{Day, km_of}
 use Rattle.timetable.specs.Links.{list_of}
 use Rattle.timetable.specs.Lists.{sum_below}
 
@@ -10,9 +10,9 @@ use Rattle.timetable.specs.Lists.{sum_below}
 abbrev pub carriages_on : Day → ℕ → List ℕ → ℕ
 carriages_on day t types = day.weights.carriage * carriages_of day.types types * km_of day t
 
--- the seats that are missing on a trip with this composition (none where there are enough), for its kilometres
+-- the seats of both classes that are missing on a trip with this composition, for its kilometres
 abbrev pub missing_on : Day → ℕ → List ℕ → ℕ
-missing_on day t types = day.weights.shortage * (demand_of day t - seats_of day.types types) * km_of day t
+missing_on day t types = day.weights.shortage * missing_seats day t types * km_of day t
 
 -- all trips' carriages
 unfoldable pub carriage_of : Day → List (List ℕ) → ℕ

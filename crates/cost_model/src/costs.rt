@@ -18,7 +18,7 @@ use timetable::{Instance, NamedPlan, Picks};
 pub struct CostParts {
     /// The carriages of all trips, each for the kilometres of its trip, at the weight of a carriage.
     pub carriage: Money,
-    /// The missing seats of all trips, each for the kilometres of its trip, at the weight of a seat.
+    /// The missing seats of all trips, of both classes, each for the kilometres of its trip, at the weight of a seat.
     pub shortage: Money,
     /// The turns that couple or uncouple units, each at the weight of shunting.
     pub shunting: Money,

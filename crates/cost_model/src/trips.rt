@@ -1,27 +1,32 @@
 //! What a trip costs with units of these types: its carriages and its missing seats, for its kilometres.
 
 ghost use Rattle.std.specs.Prelude.{◌≡◌, ◌<◌, ◌≤◌, length, IsTrue};
-ghost use Rattle.compositions.specs.Composition.{are_types, carriages_of, seats_of};
-ghost use Rattle.timetable.specs.Cost.{trip_cost};
+ghost use Rattle.compositions.specs.Composition.{are_types, carriages_of, first_seats_of, seats_of};
+ghost use Rattle.timetable.specs.Cost.{missing_seats, trip_cost};
 ghost use Rattle.cost_model.specs.Sums.{carriages_on, missing_on};
 
 use compositions::Composition;
-use rail_base::limits::{MOST_CARRIAGES, MOST_COMPOSITION, MOST_DEMAND, MOST_KM, MOST_WEIGHT};
+use rail_base::limits::{
+    MOST_CARRIAGES, MOST_COMPOSITION, MOST_DEMAND, MOST_FIRST_DEMAND, MOST_KM, MOST_WEIGHT,
+};
 use rail_base::{TripNo, TypeNo};
 use timetable::Instance;
 
 /// The most carriages that a trip has: those of the most units.
 const MOST_TRIP_CARRIAGES: u32 = MOST_CARRIAGES * MOST_COMPOSITION as u32;
 /// The most that the carriages of a trip cost: the most weight, for the most carriages, for the most kilometres.
-pub const MOST_CARRIAGE_COST: u64 =
-    MOST_WEIGHT as u64 * MOST_TRIP_CARRIAGES as u64 * MOST_KM as u64;
-/// The most that the missing seats of a trip cost: the most weight, for the most demand, for the most kilometres.
-pub const MOST_SHORTAGE_COST: u64 = MOST_WEIGHT as u64 * MOST_DEMAND as u64 * MOST_KM as u64;
+pub const MOST_CARRIAGE_COST: u64 = MOST_WEIGHT as u64
+    * MOST_TRIP_CARRIAGES as u64
+    * MOST_KM as u64;
+/// The most seats that are missing on a trip: the most demand of both classes.
+const MOST_MISSING_SEATS: u32 = MOST_FIRST_DEMAND + MOST_DEMAND;
+/// The most that the missing seats of a trip cost: the most weight, for the most missing seats, for the most kilometres.
+pub const MOST_SHORTAGE_COST: u64 = MOST_WEIGHT as u64 * MOST_MISSING_SEATS as u64 * MOST_KM as u64;
 /// The most that a trip costs.
 pub const MOST_TRIP_COST: u64 = MOST_CARRIAGE_COST + MOST_SHORTAGE_COST;
 
 /// What a trip costs with units of these types: the weight of a carriage for each of its carriages and kilometres, and the
-/// weight of a missing seat for each seat that is wanted beyond its seats, and each kilometre. The trip is below `trips`;
+/// weight of a missing seat for each seat that is missing, in first and in second class, and each kilometre. The trip is below `trips`;
 /// the types, at most six, are those of the day, and need not fit the platforms. It takes no memory.
 #[tactic(auto, unfolding(timetable::specs::Cost::trip_cost))]
 pub fn trip_cost(instance: &Instance, trip: TripNo, types: &[TypeNo]) -> u64
@@ -49,7 +54,7 @@ pub(crate) fn carriage_cost(instance: &Instance, trip: TripNo, types: &[TypeNo])
 }
 
 /// What the missing seats of a trip cost.
-#[tactic(auto, unfolding(timetable::specs::Day::km_of, timetable::specs::Day::demand_of))]
+#[tactic(auto, unfolding(timetable::specs::Day::km_of))]
 pub(crate) fn shortage_cost(instance: &Instance, trip: TripNo, types: &[TypeNo]) -> u64
     requires trip { trip < length instance.now.trips }
     requires few { length types.now ≤ MOST_COMPOSITION }
@@ -57,10 +62,24 @@ pub(crate) fn shortage_cost(instance: &Instance, trip: TripNo, types: &[TypeNo])
     ensures cost { result ≡ missing_on instance.now trip types.now }
     ensures range { result ≤ MOST_SHORTAGE_COST }
 {
-    let seats = seats_of(instance, types);
+    let missing = missing_seats(instance, trip, types);
     let weight = instance.weights().shortage;
+    u64::from(weight) * u64::from(missing) * u64::from(instance.trip(trip).km)
+}
+
+/// The seats that are missing on a trip, of both classes: in each as many as are wanted beyond its seats. What one class has
+/// to spare does not help the other.
+#[tactic(auto, unfolding(timetable::specs::Cost::missing_seats, timetable::specs::Day::demand_of, timetable::specs::Day::first_demand_of))]
+fn missing_seats(instance: &Instance, trip: TripNo, types: &[TypeNo]) -> u32
+    requires trip { trip < length instance.now.trips }
+    requires few { length types.now ≤ MOST_COMPOSITION }
+    requires known { IsTrue (are_types instance.now.types types.now) }
+    ensures value { result ≡ missing_seats instance.now trip types.now }
+    ensures few { result ≤ MOST_MISSING_SEATS }
+{
+    let seats = seats_of(instance, types);
     let trip = instance.trip(trip);
-    u64::from(weight) * u64::from(trip.demand.saturating_sub(seats)) * u64::from(trip.km)
+    trip.first.saturating_sub(seats.first) + trip.demand.saturating_sub(seats.second)
 }
 
 /// The carriages of units of these types.
@@ -76,14 +95,28 @@ fn carriages_of(instance: &Instance, types: &[TypeNo]) -> u32
     }
 }
 
+/// The seats of a train, by class.
+#[derive(Clone, Copy)]
+struct Seats {
+    first: u32,
+    second: u32,
+}
+
 /// The seats of units of these types.
-fn seats_of(instance: &Instance, types: &[TypeNo]) -> u32
+fn seats_of(instance: &Instance, types: &[TypeNo]) -> Seats
     requires few { length types.now ≤ MOST_COMPOSITION }
     requires known { IsTrue (are_types instance.now.types types.now) }
-    ensures value { result ≡ seats_of instance.now.types types.now }
+    ensures first { result.first ≡ first_seats_of instance.now.types types.now }
+    ensures second { result.second ≡ seats_of instance.now.types types.now }
 {
     match Composition::of(types) {
-        Some(composition) => composition.seats(instance.types()),
-        None => 0,
+        Some(composition) => Seats {
+            first: composition.first_seats(instance.types()),
+            second: composition.seats(instance.types()),
+        },
+        None => Seats {
+            first: 0,
+            second: 0,
+        },
     }
 }
