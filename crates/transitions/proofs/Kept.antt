@@ -87,11 +87,11 @@ module _ (day : Day) (second from to : ℕ) (front whole : List ℕ) (stands : L
   )
 
 -- a list that is turned twice is the same
-turned_twice : (r : Bool) (ms : List ℕ) → turned r (turned r ms) ≡ ms
+pub turned_twice : (r : Bool) (ms : List ℕ) → turned r (turned r ms) ≡ ms
 turned_twice true ms = reverse-reverse ms
 turned_twice false ms = refl
 
-length-turned : (r : Bool) (ms : List ℕ) → length (turned r ms) ≡ length ms
+pub length-turned : (r : Bool) (ms : List ℕ) → length (turned r ms) ≡ length ms
 length-turned true ms = length-reverse ms
 length-turned false ms = refl
 

@@ -1,6 +1,12 @@
 pub mod Rests
 pub mod Numbers
+pub mod Pairing
+pub mod Stepping
 pub mod Kept
+pub mod Reaching
+pub mod Rising
+pub mod Rows
+pub mod Looking
 pub mod Listing
 pub mod Finding
 pub mod Links

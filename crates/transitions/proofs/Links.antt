@@ -9,7 +9,7 @@ use Rattle.timetable.specs.Compositions.{compositions_of}
 use Rattle.timetable.specs.Day.{Day}
 use Rattle.transitions.specs.declared.edge.Edge.{Edge}
 use Rattle.transitions.specs.Edges.{MayRun, IsKindEdge, AreEdges, AreGraphs}
-use Rattle.transitions.specs.Between.{AreEdgesUpTo}
+use Rattle.transitions.specs.Between.{AreEdgesBy}
 use Rattle.timetable.specs.Chains.{leads_from}
 
 -- the compositions of an edge are in the catalogue
@@ -30,16 +30,16 @@ from_runs day (Join a1 a2 b) r x e = e.first
 from_runs day (Split a b1 b2) r x e = e.arriving
 
 -- the edges that the kind allows are those of the link
-pub all_edges : (day : Day) (l : ℕ) (link : Link) (edges : List Edge) → slice_get day.links l ≡ Some link → AreEdgesUpTo (IsKindEdge day link.kind link.reverse) (length (compositions_of day)) 0 edges → AreEdges day l edges
+pub all_edges : (day : Day) (l : ℕ) (link : Link) (edges : List Edge) → slice_get day.links l ≡ Some link → AreEdgesBy (IsKindEdge day link.kind link.reverse) edges → AreEdges day l edges
 all_edges day l link edges at so = record {
   in_order = so.in_order;
   exact = λ x. (
-    λ there. record { link = link; at = at; kind = ((so.exact x).0 there).0 },
+    λ there. record { link = link; at = at; kind = (so.exact x).0 there },
     λ edge.
         let same_some : Some edge.link ≡ Some link = sym edge.at ∙ at in
         let same : edge.link ≡ link = cc in
         let kind : IsKindEdge day link.kind link.reverse x = subst (λ (k : Link). IsKindEdge day k.kind k.reverse x) same edge.kind in
-        (so.exact x).1 (kind, inl (from_listed day link.kind link.reverse x kind)),
+        (so.exact x).1 kind,
   );
 }
 

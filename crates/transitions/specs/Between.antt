@@ -14,10 +14,10 @@ pub record IsBetween (from to : ℕ) (edge : Edge) : Type 0 where
 abbrev pub IsUpTo : ℕ → ℕ → Edge → Type 0
 IsUpTo from to edge = (edge.from < from) ⊎ ((edge.from ≡ from) × (edge.to < to))
 
--- the edges that a rule allows and that come before those between from and to, in order
-pub record AreEdgesUpTo (Allows : Edge → Type 0) (from to : ℕ) (edges : List Edge) : Type 0 where
+-- these and no other edges are allowed by a rule
+pub record AreEdgesBy (Allows : Edge → Type 0) (edges : List Edge) : Type 0 where
   pub in_order : AreInOrder edges
-  pub exact : (edge : Edge) → Contains edges edge ↔ (Allows edge × IsUpTo from to edge)
+  pub exact : (edge : Edge) → Contains edges edge ↔ Allows edge
 
 -- how the edge stands to two compositions in the order of edges: before them, between them or after them
 abbrev pub order_to : ℕ → ℕ → Edge → Ordering

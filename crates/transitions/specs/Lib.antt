@@ -1,4 +1,5 @@
 pub mod Turns
 pub mod Edges
 pub mod Between
+pub mod Pairs
 pub mod Laws

@@ -1,15 +1,15 @@
 //! The edges of all links of a day.
 
-ghost use Rattle.std.specs.Prelude.{ℕ, List, ◌≡◌, ◌<◌, ◌≤◌, ◌+◌, ◌↔◌, Some, None, length, slice_get, option_map, IfOk, OnOk, Contains};
-ghost use Rattle.timetable.specs.Compositions.{compositions_of};
-ghost use Rattle.timetable.specs.LinkRows.{NamesBelow};
+ghost use Rattle.std.specs.Prelude.{ℕ, List, ◌≡◌, ◌<◌, ◌≤◌, ◌+◌, ◌↔◌, Some, None, length, slice_get, option_map, IfOk, All, AllPairs, Contains};
+ghost use Rattle.transitions.specs.Pairs.{AreAdmitted, IsKnown, HaveEdges, IsBeforePair};
 ghost use Rattle.transitions.specs.declared.edge.Edge.{Edge};
 ghost use Rattle.transitions.specs.declared.edge.Shunt.{Shunt};
 ghost use Rattle.transitions.specs.Edges.{IsKindEdge, AreInOrder, AreEdges, AreGraphs, IsFound, IsAllowed};
-ghost use Rattle.transitions.specs.Between.{IsBetween, AreEdgesUpTo, order_to};
+ghost use Rattle.transitions.specs.Between.{IsBetween, AreEdgesBy, order_to};
 
-use crate::allowed::{edge_between, may_arrive};
+use crate::allowed::{Admitted, admitted_on, edge_between};
 use crate::edge::{Edge, Shunt};
+use crate::pairs::{Pair, pairs_of};
 use rail_base::{CompNo, LinkNo, NoMemory};
 use std::alloc::Global;
 use std::cmp::Ordering;
@@ -50,9 +50,9 @@ impl Model for Graphs {
 }
 
 impl Graphs {
-    /// The edges of all links of a day. For each link it looks once at each pair of a composition that may run on the first
-    /// arriving trip and one of the catalogue. An edge takes 20 bytes, and a list that grows may have room for as many edges
-    /// again. The error is want of memory.
+    /// The edges of all links of a day. For each link it looks at pairs of which one composition is the other or some of its
+    /// units, one or two for each unit of each composition, and not at all pairs. An edge takes 20 bytes, and the list of a link
+    /// gives back the room that it does not need. The error is want of memory.
     pub fn build(alloc: Global, instance: &Instance) -> Result<Graphs, NoMemory>
         ensures { IfOk result (λ graphs. AreGraphs instance.now graphs) }
     {
@@ -136,43 +136,33 @@ fn edges_of(alloc: Global, instance: &Instance, link: LinkNo) -> Result<EdgeList
     requires { link < length instance.now.links }
     ensures { IfOk result (λ edges. AreEdges instance.now link edges) }
 {
-    let _known = instance.links();
     let link = instance.link(link);
-    let edges = edges_from_all(alloc, instance, link)?;
+    let admitted = admitted_on(alloc, instance, link.kind)?;
+    let pairs = pairs_of(alloc, instance, link, &admitted)?;
+    let mut edges = edges_between(alloc, instance, link, &admitted, &pairs)?;
+    edges.shrink_to_fit();
     Ok(EdgeList { edges })
 }
 
-/// The edges that a link allows from any composition.
-fn edges_from_all(alloc: Global, instance: &Instance, link: &Link) -> Result<Vec<Edge>, NoMemory>
-    requires { NamesBelow (length instance.now.trips) link.now.kind }
-    ensures { IfOk result (λ edges. AreEdgesUpTo (IsKindEdge instance.now link.now.kind link.now.reverse) (length (compositions_of instance.now)) 0 edges.items) }
-{
-    let mut edges = Vec::new(alloc);
-    for from in 0..instance.catalogue().len() {
-        push_edges(&mut edges, instance, link, CompNo(from))?;
-    }
-    Ok(edges)
-}
-
-/// Adds the edges that a link allows from a composition, behind those from lower ones.
-fn push_edges(
-    edges: &mut Vec<Edge>,
+/// The edges that a link allows between the compositions of pairs, among which are those of each of its edges.
+fn edges_between(
+    alloc: Global,
     instance: &Instance,
     link: &Link,
-    from: CompNo,
-) -> Result<(), NoMemory>
-    requires trips { NamesBelow (length instance.now.trips) link.now.kind }
-    requires from { from < length (compositions_of instance.now) }
-    requires before { AreEdgesUpTo (IsKindEdge instance.now link.now.kind link.now.reverse) from 0 edges.old.items }
-    ensures { OnOk result (AreEdgesUpTo (IsKindEdge instance.now link.now.kind link.now.reverse) (from + 1) 0 edges.new.items) }
+    admitted: &Admitted,
+    pairs: &[Pair],
+) -> Result<Vec<Edge>, NoMemory>
+    requires admitted { AreAdmitted instance.now link.now.kind admitted.now }
+    requires known { All (IsKnown instance.now) pairs.now }
+    requires edges { HaveEdges instance.now link.now.kind link.now.reverse pairs.now }
+    requires in_order { AllPairs IsBeforePair pairs.now }
+    ensures { IfOk result (λ edges. AreEdgesBy (IsKindEdge instance.now link.now.kind link.now.reverse) edges.items) }
 {
-    if !may_arrive(instance, link, from) {
-        return Ok(());
-    }
-    for to in 0..instance.catalogue().len() {
-        if let Some(edge) = edge_between(instance, link, from, CompNo(to)) {
+    let mut edges = Vec::new(alloc);
+    for pair in pairs {
+        if let Some(edge) = edge_between(instance, link, admitted, pair) {
             edges.push(edge)?;
         }
     }
-    Ok(())
+    Ok(edges)
 }

@@ -5,6 +5,7 @@ mod allowed;
 pub mod edge;
 pub mod graphs;
 pub mod laws;
+mod pairs;
 mod turns;
 
 pub use edge::{Edge, Shunt};

@@ -1,5 +1,4 @@
 -- The whole begins with the front, or it does not.
-use Rattle.std.proofs.Common.{◌≡◌, ℕ, List, ◌++◌}
 use Rattle.transitions.proofs.Rests.{rest_found, rest_missing}
 use Rattle.transitions.proofs.turns.rest_after.Goals as goal
 
