@@ -61,6 +61,7 @@ fn write_outcome<K: Sink>(alloc: Global, outcome: &Outcome, out: &mut K) -> u8
 ///
 /// Each "exactly where" yields to statuses 5, 6 and 7. What is said of the files holds where the folder tells what it
 /// holds, and what is said of the document where the sink tells what was written.
+#[tactic(auto, using(crate::proofs::Statuses::unread_rose))]
 pub fn railplan<F: Folder, K: Sink>(alloc: Global, words: &Words, folder: &mut F, out: &mut K) -> u8
     // The statuses of words and files, where no read and no write failed and memory didn't run out.
     ensures runs { (files : Files) → F.holds folder.old ≡ Some files → IsUndisturbed result → (result ≡ 0) ↔ RunsIn words.now files }
