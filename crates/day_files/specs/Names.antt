@@ -15,7 +15,7 @@ file_name Links = codes "links.csv"
 file_name Weights = codes "weights.csv"
 file_name Plan = codes "plan.csv"
 
--- the header of a table
+-- the header of the last version of a table
 abbrev pub header_of : Table → List (List ℕ)
 header_of Types = type_header
 header_of Stations = station_header

@@ -31,16 +31,28 @@ pub(crate) fn path_of(alloc: Global, dir: &str, table: Table) -> Result<String, 
     Ok(format!(in alloc; "{dir}/{name}")?)
 }
 
-/// The header word of a column, counted from 0; an empty text where the table has no such column.
+/// The header word of a column, counted from 0, in the last version of the table; an empty text where it has no such column.
 pub(crate) fn column_name(table: Table, column: usize) -> &'static str
     ensures { result.now ≡ column_name table column }
 {
     match table {
-        Table::Types => word_at(&["type", "carriages", "seats", "metres", "family"], column),
+        Table::Types => word_at(
+            &["type", "carriages", "seats", "metres", "family", "first"],
+            column,
+        ),
         Table::Stations => word_at(&["station", "platform", "reallocation"], column),
         Table::Stock => word_at(&["station", "type", "start", "end"], column),
         Table::Trips => word_at(
-            &["trip", "from", "departure", "to", "arrival", "km", "demand"],
+            &[
+                "trip",
+                "from",
+                "departure",
+                "to",
+                "arrival",
+                "km",
+                "demand",
+                "first",
+            ],
             column,
         ),
         Table::Links => word_at(

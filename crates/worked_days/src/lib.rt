@@ -2,6 +2,8 @@
 #![tactic(auto)]
 
 #[cfg(test)]
+mod class_tests;
+#[cfg(test)]
 mod day;
 #[cfg(test)]
 mod failure_tests;
