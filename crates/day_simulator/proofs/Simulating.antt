@@ -18,7 +18,7 @@ use Rattle.day_simulator.specs.State.{State, start_of}
 use Rattle.day_simulator.specs.State.{trip_of}
 use Rattle.day_simulator.specs.Steps.{steps, fixed_order, insert_event, sorted_events, events_by_trip}
 use Rattle.day_simulator.specs.Finish.{finish_of, finish_after, simulation}
-use Rattle.day_simulator.proofs.Theorem.{with_links}
+use Rattle.day_simulator.proofs.Theorem.{run_in_fixed_order}
 
 -- the events of a day are of its trips
 known_insert : (day : Day) (n : ℕ) (e : DayEvent) (es : List DayEvent) → trip_of e < n → AllByRecursion (λ f. trip_of f < n) es → AllByRecursion (λ f. trip_of f < n) (insert_event day e es)
@@ -125,11 +125,11 @@ module _ (day : Day) (plan : List (List ℕ)) where
   -- a plan that costs something by the machine runs, and costs that
   pub runs_at_cost : IsDay day → AreLinks day → IsPlan day plan → (cost : ℕ) (money : Money) → simulation day plan ≡ Ok cost → IsCost cost money → Runs day plan × IsCost (plan_cost day plan) money
   runs_at_cost sound links is_plan cost money ran is =
-      let law = (with_links day plan sound links is_plan).1 cost ran in
+      let law = (run_in_fixed_order day plan sound links is_plan).1 cost ran in
       (law.0, is ∙ ap pos law.1)
 
   -- one that stops doesn't run
   pub never_runs : IsDay day → AreLinks day → IsPlan day plan → (f : StepFault) → simulation day plan ≡ Err f → Runs day plan → ⊥
   never_runs sound links is_plan f stops runs =
-      let both : ◌≡◌ {A = Result ℕ StepFault} (Ok (plan_cost day plan)) (Err f) = sym ((with_links day plan sound links is_plan).0 runs) ∙ stops in
+      let both : ◌≡◌ {A = Result ℕ StepFault} (Ok (plan_cost day plan)) (Err f) = sym ((run_in_fixed_order day plan sound links is_plan).0 runs) ∙ stops in
       cc

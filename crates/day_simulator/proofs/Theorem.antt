@@ -17,7 +17,7 @@ use Rattle.day_simulator.specs.State.{State, start_of, place_of}
 use Rattle.day_simulator.specs.Steps.{steps, fixed_order}
 use Rattle.day_simulator.specs.Finish.{finish_of, finish_after, simulation, ended, first_not_made, first_differing}
 use Rattle.day_simulator.specs.Orders.{departures, IsOrder, last_ready, EndsAsPlanned}
-use Rattle.day_simulator.specs.Laws.{InEveryOrder, WithLinks, WithoutLinks}
+use Rattle.day_simulator.specs.Laws.{InEveryOrder, RunInFixedOrder}
 use Rattle.day_simulator.proofs.Lawful.{fixed_is_order}
 use Rattle.day_simulator.proofs.Legs.{legs_fixed, leads}
 use Rattle.day_simulator.proofs.Order.{one_same}
@@ -190,9 +190,9 @@ in_every_order day plan es is_day links is_plan order = record {
   runs = λ final cost e f. (run_and_cost day plan is_day links is_plan es order final cost e f).0;
 }
 
-pub with_links : WithLinks
+pub run_in_fixed_order : RunInFixedOrder
 unfolding simulation
-with_links day plan is_day links is_plan = (
+run_in_fixed_order day plan is_day links is_plan = (
   λ runs.
       let end = planned day plan is_day links is_plan (fixed_order day) (fixed_is_order day) runs in
       ap (finish_after day plan) end.made ∙ end.cost,
@@ -200,19 +200,3 @@ with_links day plan is_day links is_plan = (
       let final = after_ok day plan (steps day plan (start_of day) (fixed_order day)) cost e in
       run_and_cost day plan is_day links is_plan (fixed_order day) (fixed_is_order day) final.0 cost final.1 final.2,
 )
-
--- where there is no link, links are as they should be
-no_links : (day : Day) → day.links ≡ [] → AreLinks day
-no_links day none = record {
-  arriving_once = λ t. (let e = ap (λ ls. times_named arriving_in ls t) none in omega arith);
-  departing_once = λ t. (let e = ap (λ ls. times_named departing_in ls t) none in omega arith);
-  arriving = λ l t link at named. absurd (no_link l link at);
-  departing = λ l t link at named. absurd (no_link l link at);
-  in_time = λ l a b link at x y. absurd (no_link l link at);
-}
-  where
-    no_link : (l : ℕ) (link : Link) → slice_get day.links l ≡ Some link → ⊥
-    no_link l link e = let e' : None ≡ Some link = subst (λ ls. slice_get ls l ≡ Some link) none e in (cc)
-
-pub without_links : WithoutLinks
-without_links day plan is_day is_plan none = with_links day plan is_day (no_links day none) is_plan

@@ -24,13 +24,8 @@ abbrev pub RunsExactly : Day → List (List ℕ) → Type 0
 RunsExactly day plan = (Runs day plan → simulation day plan ≡ Ok (plan_cost day plan))
     × ((cost : ℕ) → simulation day plan ≡ Ok cost → Runs day plan × (cost ≡ plan_cost day plan))
 
--- on every day, whatever its links
-abbrev pub WithLinks : Type 0
-WithLinks = (day : Day) (plan : List (List ℕ)) → IsDay day → AreLinks day → IsPlan day plan → RunsExactly day plan
-
--- on a day without links
-abbrev pub WithoutLinks : Type 0
-WithoutLinks = (day : Day) (plan : List (List ℕ)) → IsDay day → IsPlan day plan → day.links ≡ [] → RunsExactly day plan
+abbrev pub RunInFixedOrder : Type 0
+RunInFixedOrder = (day : Day) (plan : List (List ℕ)) → IsDay day → AreLinks day → IsPlan day plan → RunsExactly day plan
 
 -- the fault is none of the turn of an event
 abbrev pub IsInTurn : StepFault → Type 0

@@ -2,7 +2,7 @@
 //!
 //! Each law is the contract of a function that does nothing: it holds of every day and every plan.
 
-ghost use Rattle.day_simulator.specs.Laws.{IsInFixedOrder, InEveryOrder, WithLinks, WithoutLinks, InTurn};
+ghost use Rattle.day_simulator.specs.Laws.{IsInFixedOrder, InEveryOrder, RunInFixedOrder, InTurn};
 
 /// The fixed order, in which a whole day is stepped, is an order of the day: each trip departs once and arrives once, minutes
 /// never fall, and in each minute arrivals come before departures. Arrivals of one minute come by rising trip number, and so
@@ -19,12 +19,7 @@ pub fn runs_in_every_order()
 
 /// In the fixed order, the day goes through to its end exactly where the plan runs, and then costs what the plan costs.
 pub fn runs_exactly()
-    ensures law { WithLinks }
-{}
-
-/// The same on a day without links, of which nothing needs to be known about links.
-pub fn runs_exactly_without_links()
-    ensures law { WithoutLinks }
+    ensures law { RunInFixedOrder }
 {}
 
 /// In the fixed order no event is out of turn, and none is missing at the end: a plan stops for a cause of its own.
