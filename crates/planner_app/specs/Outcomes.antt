@@ -10,7 +10,7 @@ use Rattle.day_files.specs.declared.inputs.Inputs.{Inputs}
 use Rattle.day_files.specs.Inputs.{inputs_in}
 use Rattle.day_files.specs.Order.{Reaches}
 use Rattle.day_files.specs.Answers.{IsCaused}
-use Rattle.day_simulator.specs.Progressing.{IsCost}
+use Rattle.day_simulator.specs.Calls.{IsCost}
 use Rattle.day_simulator.specs.Finish.{simulation}
 use Rattle.day_simulator.specs.Laws.{IsInTurn}
 use Rattle.planner_app.specs.declared.outcome.Outcome.{Outcome}
