@@ -62,7 +62,7 @@ abbrev pub is_memory : TableRefusal → Bool
 is_memory NoMemory = true
 is_memory why = false
 
--- ---- the seven tables, each with the words of its columns; those that the first version lacks are said where they are read
+-- ---- the seven tables, each with the words of all its columns; a column that the first version lacks is read by `field_or`
 
 abbrev pub type_header : List (List ℕ)
 type_header = codes "type" ∷ codes "carriages" ∷ codes "seats" ∷ codes "metres" ∷ codes "family" ∷ codes "first" ∷ []

@@ -2,6 +2,7 @@
 
 ghost use Rattle.std.specs.Prelude.{◌≤◌, length};
 
+use rail_base::Name;
 use rail_base::limits::MOST_TABLE_BYTES;
 use rail_csv::{End, KindWord, TableRefusal, links, plan, stations, stock, trips, types, weights};
 use std::alloc::Global;
@@ -12,6 +13,8 @@ fn quoted_comma_and_crlf(rt: HostRuntime) -> Result<(), Fail> {
     let text = b"type,carriages,seats,metres,family\r\n\"A, long\",3,200,80,regional\r\n";
     for row in &types(rt.alloc(), text)? {
         assert!(rt; row.name.as_str() == "A, long");
+        let copy = Name::copy(rt.alloc(), row.name.as_str())?;
+        assert!(rt; copy.is(&row.name));
         assert_eq!(rt; (row.carriages, row.seats, row.metres), (3, 200, 80));
         assert!(rt; row.family.as_str() == "regional");
     }
