@@ -11,4 +11,5 @@ pub mod Listing
 pub mod Finding
 pub mod Links
 pub mod Following
+pub mod ByRule
 pub mod Searching

@@ -1,5 +1,5 @@
 -- A plan that runs follows an edge of each link.
-use Rattle.std.specs.Prelude.{ℕ, ◌≡◌, List, Bool, Some, option_map, slice_get}
+use Rattle.std.specs.Prelude.{ℕ, ◌≡◌, ◌↔◌, IsTrue, List, Bool, Some, option_map, slice_get}
 use Rattle.timetable.specs.declared.day.records.Link.{Link}
 use Rattle.timetable.specs.declared.day.records.LinkKind.{LinkKind}
 use Rattle.timetable.specs.declared.day.records.LinkKind.TheVariants.{Turn, Join, Split}
@@ -8,12 +8,12 @@ use Rattle.timetable.specs.Chains.{leads_from, leads_to}
 use Rattle.timetable.specs.Compositions.{composition_at}
 use Rattle.timetable.specs.Day.{Day, types_of}
 use Rattle.timetable.specs.Handovers.{second_of}
-use Rattle.timetable.specs.Links.{list_of, turned, turn_of}
+use Rattle.timetable.specs.Links.{list_of, turned, turn_of, link_holds}
 use Rattle.timetable.specs.Running.{Runs}
 use Rattle.transitions.specs.declared.edge.Edge.{Edge}
 use Rattle.transitions.specs.declared.edge.Shunt.{Shunt}
 use Rattle.transitions.specs.declared.edge.Shunt.TheVariants.{Keep}
-use Rattle.transitions.specs.Edges.{IsEdge, AreGraphs, IsFound}
+use Rattle.transitions.specs.Edges.{MayRun, IsEdge, AreGraphs, IsFound}
 use Rattle.transitions.specs.Turns.{shunt_of}
 
 -- what is done to the train: a turn uncouples the units that the plan gives there, or couples those that it takes
@@ -39,3 +39,21 @@ TypesFollow = (day : Day) (plan : List (List ℕ)) → AreLinks day → Runs day
 -- Each edge of a link is found between its compositions.
 abbrev pub EdgesFound : Type 0
 EdgesFound = (day : Day) (graphs : List (List Edge)) → AreGraphs day graphs → (l : ℕ) (edge : Edge) → IsEdge day l edge → IsFound graphs l edge.from edge.to edge
+
+-- lists of types, one a trip, have the edge's compositions on the trips of the link
+pub record AreOn (day : Day) (lists : List (List ℕ)) (link : Link) (edge : Edge) : Type 0 where
+  pub arriving : list_of lists (leads_from link.kind) ≡ composition_at day edge.from
+  pub departing : list_of lists (leads_to link.kind) ≡ composition_at day edge.to
+  pub second : option_map (list_of lists) (second_of link.kind) ≡ option_map (composition_at day) edge.part
+
+-- the edge's compositions may run on the trips of the link
+pub record MayRunAll (day : Day) (link : Link) (edge : Edge) : Type 0 where
+  pub arriving : MayRun day (leads_from link.kind) edge.from
+  pub departing : MayRun day (leads_to link.kind) edge.to
+  pub second : (t part : ℕ) → second_of link.kind ≡ Some t → edge.part ≡ Some part → MayRun day t part
+
+-- An edge is allowed by a link, with some shunt, exactly where its compositions may run on the link's trips and the link's rule
+-- holds of their types.
+abbrev pub EdgesByRule : Type 0
+EdgesByRule = (day : Day) (l : ℕ) (link : Link) (edge : Edge) (lists : List (List ℕ)) → slice_get day.links l ≡ Some link → AreOn day lists link edge
+    → (MayRunAll day link edge × IsTrue (link_holds link lists)) ↔ ((shunt : Shunt) × IsEdge day l (record edge { shunt = shunt }))

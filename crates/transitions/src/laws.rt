@@ -2,7 +2,7 @@
 //!
 //! Each law is the contract of a function that does nothing.
 
-ghost use Rattle.transitions.specs.Laws.{TypesFollow, EdgesFound};
+ghost use Rattle.transitions.specs.Laws.{TypesFollow, EdgesFound, EdgesByRule};
 
 /// At each link the types of a plan that runs follow an edge that the link allows, with the shunt that the plan does there
 /// and the second train's composition as its part.
@@ -13,4 +13,9 @@ pub fn types_follow_edges()
 /// Each edge that a link allows is found between its two compositions.
 pub fn edges_are_found()
     ensures law { EdgesFound }
+{}
+
+/// A link allows an edge between compositions exactly where they may run on its trips and its rule holds of their types.
+pub fn edges_are_by_rule()
+    ensures law { EdgesByRule }
 {}
