@@ -10,6 +10,3 @@ mod turns;
 
 pub use edge::{Edge, Shunt};
 pub use graphs::Graphs;
-
-#[cfg(test)]
-mod tests;

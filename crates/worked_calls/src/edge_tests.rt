@@ -1,1 +1,186 @@
-//! Edges of links.
+//! Edges of the links of days with one type of unit or two, by hand.
+
+ghost use Rattle.std.specs.Prelude.{◌≤◌, length};
+
+use rail_base::{CompNo, LinkNo};
+use rail_csv::{links, stations, stock, trips, types, weights};
+use std::test::Fail;
+use timetable::{Instance, Rows, Tables};
+use transitions::{Edge, Graphs, Shunt};
+
+const ONE_TYPE: &[u8] = b"type,carriages,seats,metres,family\nA,3,200,80,regional\n";
+
+const TWO_TYPES: &[u8] =
+    b"type,carriages,seats,metres,family\nA,3,200,80,regional\nB,3,200,80,regional\n";
+
+/// The platforms fit two units.
+const STATIONS: &[u8] = b"station,platform,reallocation\nX,200,30\nY,200,30\n";
+
+/// The platforms fit three units.
+const LONG_STATIONS: &[u8] = b"station,platform,reallocation\nX,250,30\nY,250,30\n";
+
+const TURN: &[u8] =
+    b"kind,arriving,arriving2,departing,departing2,reverse,uncouple,couple\nturn,T1,,T3,,yes,rear,none\n";
+
+const FRONT_TURN: &[u8] =
+    b"kind,arriving,arriving2,departing,departing2,reverse,uncouple,couple\nturn,T1,,T3,,no,front,front\n";
+
+const JOIN: &[u8] =
+    b"kind,arriving,arriving2,departing,departing2,reverse,uncouple,couple\njoin,T1,T2,T3,,yes,none,none\n";
+
+const SPLIT: &[u8] =
+    b"kind,arriving,arriving2,departing,departing2,reverse,uncouple,couple\nsplit,T1,,T3,T4,no,none,none\n";
+
+/// A day on which T1 and T2 arrive before T3 and T4 leave.
+fn day_of(
+    rt: &HostRuntime,
+    type_text: &[u8],
+    station_text: &[u8],
+    link_text: &[u8],
+) -> Result<Instance, Fail>
+    requires types { length type_text.now ≤ 4194304 }
+    requires stations { length station_text.now ≤ 4194304 }
+    requires links { length link_text.now ≤ 4194304 }
+{
+    let trip_text =
+        b"trip,from,departure,to,arrival,km,demand\nT1,X,08:00,Y,09:00,10,0\nT2,X,08:30,Y,09:30,10,0\nT3,Y,09:40,X,10:40,10,0\nT4,Y,09:50,X,10:50,10,0\n";
+    let tables = Tables {
+        types: Rows::of(types(rt.alloc(), type_text)?),
+        stations: Rows::of(stations(rt.alloc(), station_text)?),
+        stock: Rows::of(stock(rt.alloc(), b"station,type,start,end\nX,A,2,2\n")?),
+        trips: Rows::of(trips(rt.alloc(), trip_text)?),
+        links: Rows::of(links(rt.alloc(), link_text)?),
+        weights: weights(rt.alloc(), b"carriage,shortage,shunting\n1,1,100\n")?,
+    };
+    Ok(Instance::build(rt.alloc(), tables)?)
+}
+
+/// An edge of a turn.
+fn turn(from: u32, to: u32, shunt: Shunt) -> Edge {
+    Edge {
+        from: CompNo(from),
+        to: CompNo(to),
+        shunt,
+        part: None,
+    }
+}
+
+/// An edge of a join or a split.
+fn kept(from: u32, to: u32, part: u32) -> Edge {
+    Edge {
+        from: CompNo(from),
+        to: CompNo(to),
+        shunt: Shunt::Keep,
+        part: Some(CompNo(part)),
+    }
+}
+
+// The compositions are A and AA.
+#[test]
+fn edges_of_a_turn(rt: HostRuntime) -> Result<(), Fail> {
+    let day = day_of(&rt, ONE_TYPE, STATIONS, TURN)?;
+    let graphs = Graphs::build(rt.alloc(), &day)?;
+    if day.links() == 1 {
+        let edges = [
+            turn(0, 0, Shunt::Keep),
+            turn(1, 0, Shunt::Uncouple { units: 1 }),
+            turn(1, 1, Shunt::Keep),
+        ];
+        assert!(rt; graphs.edges(LinkNo(0)) == edges.as_slice());
+        return Ok(());
+    }
+    panic!(rt; "one link")
+}
+
+// The compositions are A, B, AA, AB, BA and BB. AB turns round into BA, whose rear unit is A.
+#[test]
+fn shunts_of_a_turn(rt: HostRuntime) -> Result<(), Fail> {
+    let day = day_of(&rt, TWO_TYPES, STATIONS, TURN)?;
+    let graphs = Graphs::build(rt.alloc(), &day)?;
+    if day.links() == 1 {
+        let uncoupled = Some(Shunt::Uncouple { units: 1 });
+        assert_eq!(rt; graphs.allowed(LinkNo(0), CompNo(3), CompNo(1)), uncoupled);
+        assert_eq!(rt;
+            graphs.allowed(LinkNo(0), CompNo(3), CompNo(4)),
+            Some(Shunt::Keep)
+        );
+        assert_eq!(rt; graphs.allowed(LinkNo(0), CompNo(3), CompNo(0)), None);
+        return Ok(());
+    }
+    panic!(rt; "one link")
+}
+
+// A unit goes from the front or comes to it: A becomes AA or BA, and AB becomes B.
+#[test]
+fn edges_of_a_turn_at_the_front(rt: HostRuntime) -> Result<(), Fail> {
+    let day = day_of(&rt, TWO_TYPES, STATIONS, FRONT_TURN)?;
+    let graphs = Graphs::build(rt.alloc(), &day)?;
+    if day.links() == 1 {
+        let edges = [
+            turn(0, 0, Shunt::Keep),
+            turn(0, 2, Shunt::Couple { units: 1 }),
+            turn(0, 4, Shunt::Couple { units: 1 }),
+            turn(1, 1, Shunt::Keep),
+            turn(1, 3, Shunt::Couple { units: 1 }),
+            turn(1, 5, Shunt::Couple { units: 1 }),
+            turn(2, 0, Shunt::Uncouple { units: 1 }),
+            turn(2, 2, Shunt::Keep),
+            turn(3, 1, Shunt::Uncouple { units: 1 }),
+            turn(3, 3, Shunt::Keep),
+            turn(4, 0, Shunt::Uncouple { units: 1 }),
+            turn(4, 4, Shunt::Keep),
+            turn(5, 1, Shunt::Uncouple { units: 1 }),
+            turn(5, 5, Shunt::Keep),
+        ];
+        assert!(rt; graphs.edges(LinkNo(0)) == edges.as_slice());
+        return Ok(());
+    }
+    panic!(rt; "one link")
+}
+
+// Composition 7 is AAB: A and then AB, which arrives as BA, composition 4, and turns round.
+#[test]
+fn part_of_a_join(rt: HostRuntime) -> Result<(), Fail> {
+    let day = day_of(&rt, TWO_TYPES, LONG_STATIONS, JOIN)?;
+    let graphs = Graphs::build(rt.alloc(), &day)?;
+    if day.links() == 1 {
+        let edge = graphs.find(LinkNo(0), CompNo(0), CompNo(7));
+        assert_eq!(rt; edge, Some(kept(0, 7, 4)));
+        assert_eq!(rt; graphs.find(LinkNo(0), CompNo(1), CompNo(7)), None);
+        return Ok(());
+    }
+    panic!(rt; "one link")
+}
+
+// The first train arrives as AB and turns round into BA: with A behind it the train is BAA, composition 10, and not ABA, which
+// is composition 8.
+#[test]
+fn reversed_join(rt: HostRuntime) -> Result<(), Fail> {
+    let day = day_of(&rt, TWO_TYPES, LONG_STATIONS, JOIN)?;
+    let graphs = Graphs::build(rt.alloc(), &day)?;
+    if day.links() == 1 {
+        assert_eq!(rt;
+            graphs.find(LinkNo(0), CompNo(3), CompNo(10)),
+            Some(kept(3, 10, 0))
+        );
+        assert_eq!(rt; graphs.find(LinkNo(0), CompNo(3), CompNo(8)), None);
+        assert_eq!(rt;
+            graphs.find(LinkNo(0), CompNo(4), CompNo(8)),
+            Some(kept(4, 8, 0))
+        );
+        return Ok(());
+    }
+    panic!(rt; "one link")
+}
+
+// AA is split into A and A.
+#[test]
+fn edges_of_a_split(rt: HostRuntime) -> Result<(), Fail> {
+    let day = day_of(&rt, ONE_TYPE, STATIONS, SPLIT)?;
+    let graphs = Graphs::build(rt.alloc(), &day)?;
+    if day.links() == 1 {
+        assert!(rt; graphs.edges(LinkNo(0)) == [kept(1, 0, 0)].as_slice());
+        return Ok(());
+    }
+    panic!(rt; "one link")
+}
