@@ -1,5 +1,5 @@
 -- Rows that are accepted one after another: what holds of each that is accepted holds of all.
-use Rattle.std.proofs.Common.{◌≡◌, ◌⊎◌, inl, inr, ℕ, zero, suc, ◌+◌, ◌<◌, Bool, true, false, List, [], ◌∷◌, ◌++◌, length, get_or, refl, sym, ap, subst, ◌∙◌, append_assoc, append-nil, map, arith, length-append, Option, Some, None, Result, Ok, Err, cond, slice_get}
+use Rattle.std.proofs.Common.{◌≡◌, inl, inr, ℕ, zero, suc, ◌+◌, ◌<◌, Bool, true, false, List, [], ◌∷◌, ◌++◌, length, get_or, refl, sym, ap, subst, ◌∙◌, append_assoc, append-nil, map, arith, length-append, Option, Some, None, Result, Ok, Err, cond, slice_get}
 use Rattle.std.specs.List.{All, AllZip, AllPairs, Any, list_any}
 use Rattle.std.proofs.lemmas.Bool.{or_cases}
 use Rattle.std.proofs.lemmas.Option.{same_Some}
@@ -72,7 +72,7 @@ accepted_at accept before (first ∷ rows) bs e (suc k) row at =
     let (front, c, count, is) = accepted_at accept (before ++ b ∷ []) rows bs more k row at in
     (front, c, omega (arith, count, length-append before (b ∷ [])), is)
 
-zip_push : {A B : Type 0} (R : A → B → Type 0) (xs : List A) (ys : List B) (x : A) (y : B) → AllZip R xs ys → R x y → AllZip R (xs ++ x ∷ []) (ys ++ y ∷ [])
+pub zip_push : {A B : Type 0} (R : A → B → Type 0) (xs : List A) (ys : List B) (x : A) (y : B) → AllZip R xs ys → R x y → AllZip R (xs ++ x ∷ []) (ys ++ y ∷ [])
 zip_push R [] [] x y all here = (here, tt)
 zip_push R [] (b ∷ ys) x y all here = absurd all
 zip_push R (a ∷ xs) [] x y all here = absurd all
@@ -95,58 +95,6 @@ accepted_pairs accept R step before [] bs so_far e = subst (λ (ys : List _). Al
 accepted_pairs accept R step before (row ∷ rows) bs so_far e =
     let (b, is_b, more) = bind_ok (accept before row) (λ b. accept_each accept (before ++ b ∷ []) rows) bs e in
     accepted_pairs accept R step (before ++ b ∷ []) rows bs (all_pairs_push R before b so_far (step before row b is_b)) more
-
--- a step that failed: the first, or the next on what the first gave
-pub bind_err : {A B E : Type 0} (r : Result A E) (next : A → Result B E) (d : E) → (r >>= next) ≡ Err d → (r ≡ Err d) ⊎ ((x : A) × (r ≡ Ok x) × (next x ≡ Err d))
-bind_err (Ok x) next d e = inr (x, refl, e)
-bind_err (Err c) next d e = let same : c ≡ d = cc in inl cc
-
--- a test that failed, or a later one
-pub guard_err : {A E : Type 0} (test : Bool) (c : E) (r : Result A E) (d : E) → cond test (Err c) r ≡ Err d → ((test ≡ true) × (c ≡ d)) ⊎ (r ≡ Err d)
-guard_err true c r d e = inl (refl, cc)
-guard_err false c r d e = inr e
-
--- a choice of a value or a refusal that failed
-pub choice_err : {A E : Type 0} (test : Bool) (x : A) (c d : E) → cond test (Ok x) (Err c) ≡ Err d → (test ≡ false) × (c ≡ d)
-choice_err true x c d e = absurd cc
-choice_err false x c d e = (refl, cc)
-
--- a test that failed, or one that passed and what came after it
-pub test_err : {A E : Type 0} (test : Bool) (r : Result A E) (c d : E) → cond test r (Err c) ≡ Err d → ((test ≡ false) × (c ≡ d)) ⊎ ((test ≡ true) × (r ≡ Err d))
-test_err true r c d e = inr (refl, e)
-test_err false r c d e = inl (refl, cc)
-
-pub found_err : (o : Option ℕ) (c d : InstanceRefusal) → found_or o c ≡ Err d → (o ≡ None) × (c ≡ d)
-found_err (Some n) c d e = absurd cc
-found_err None c d e = (refl, cc)
-
--- the row that was refused, the rows before it, and what they gave
-pub record IsFirstRefused {A B E : Type 0} (accept : List B → A → Result B E) (before : List B) (rows : List A) (d : E) : Type 0 where
-  pub front : List A
-  pub row : A
-  pub back : List A
-  pub entries : List B
-  pub split : rows ≡ front ++ row ∷ back
-  pub accepted : accept_each accept before front ≡ Ok entries
-  pub refused : accept entries row ≡ Err d
-
-pub first_refused : {A B E : Type 0} (accept : List B → A → Result B E) (before : List B) (rows : List A) (d : E) → accept_each accept before rows ≡ Err d → IsFirstRefused accept before rows d
-first_refused accept before [] d e = absurd cc
-first_refused {A} {B} accept before (row ∷ rows) d e = elim (bind_err (accept before row) (λ b. accept_each accept (before ++ b ∷ []) rows) d e) [
-  | inl here ↦ record { front = []; row = row; back = rows; entries = before; split = refl; accepted = refl; refused = here }
-  | inr later ↦
-      let (b, is_b, more) = later in
-      let rest : IsFirstRefused accept (before ++ b ∷ []) rows d = first_refused accept (before ++ b ∷ []) rows d more in
-      record {
-        front = row ∷ rest.front;
-        row = rest.row;
-        back = rest.back;
-        entries = rest.entries;
-        split = ap (λ (xs : List A). row ∷ xs) rest.split;
-        accepted = ap (λ (r : Result B _). r >>= (λ b. accept_each accept (before ++ b ∷ []) rest.front)) is_b ∙ rest.accepted;
-        refused = rest.refused;
-      }
-]
 
 -- an entry that passes a test comes from a row before
 pub any_front : {A B : Type 0} (R : A → B → Type 0) (p : B → Bool) (P : A → Type 0) → ((a : A) (b : B) → R a b → p b ≡ true → P a)

@@ -1,4 +1,5 @@
 pub mod Accepting
+pub mod Tests
 pub mod Names
 pub mod Entries
 pub mod Days
@@ -10,7 +11,7 @@ pub mod Lists
 pub mod Fitting
 pub mod Admitting
 pub mod Said
-pub mod RefusedRows
+pub mod RowNames
 pub mod Plans
 pub mod LinksRefused
 pub mod Refused

@@ -1,10 +1,9 @@
--- What the tests on the links refuse is so in the tables.
-use Rattle.std.proofs.Common.{◌≡◌, ◌≢◌, ◌⊎◌, inl, inr, ℕ, zero, suc, ◌<◌, Bool, true, false, List, [], ◌∷◌, refl, sym, ap, subst, ◌∙◌, arith, Option, Some, None, Result, Ok, Err, slice_get}
-use Rattle.std.specs.Prelude.{◌||◌, ◌==◌, if◌then◌else◌}
-use Rattle.std.specs.List.{All, AllZip}
-use Rattle.std.proofs.lemmas.Bool.{and_cases, or_cases, leb-false, eqb-true, eqb-false}
-use Rattle.std.proofs.lemmas.List.Elements.{All-head, All-tail}
-use Rattle.std.proofs.lemmas.Option.{slice_get_within, same_Some, get_or_from_slice_get}
+-- The tests on the links fail where their words say so, and in their order.
+use Rattle.std.proofs.Common.{◌≡◌, ◌≢◌, inl, inr, ℕ, ◌<◌, ◌≤◌, Bool, true, false, List, [], ◌∷◌, refl, sym, ap, subst, ◌∙◌, arith, Option, Some, None, Ok, slice_get}
+use Rattle.std.specs.Prelude.{◌||◌, ◌==◌}
+use Rattle.std.specs.List.{AllZip}
+use Rattle.std.proofs.lemmas.Bool.{and_cases, or_cases, or_parts, leb-true, leb-false, eqb-true, eqb-false, both_ways}
+use Rattle.std.proofs.lemmas.Option.{same_Some, get_or_from_slice_get}
 use Rattle.compositions.specs.declared.types.UnitType.{UnitType}
 use Rattle.rail_csv.specs.declared.rows.End.{End}
 use Rattle.rail_csv.specs.declared.rows.End.TheVariants as at
@@ -19,51 +18,37 @@ use Rattle.timetable.specs.declared.day.records.LinkKind.TheVariants.{Turn, Join
 use Rattle.timetable.specs.declared.day.records.Station.{Station}
 use Rattle.timetable.specs.declared.day.records.Trip.{Trip}
 use Rattle.timetable.specs.declared.building.refusal.InstanceRefusal.{InstanceRefusal}
-use Rattle.timetable.specs.declared.building.refusal.InstanceRefusal.TheVariants.{UnknownName, TripUsedTwice, WrongStation, TooEarly, WrongLinkFields}
+use Rattle.timetable.specs.declared.building.refusal.InstanceRefusal.TheVariants.{UnknownName, WrongLinkFields}
 use Rattle.timetable.specs.declared.building.tables.Tables.{Tables}
 use Rattle.timetable.specs.Build.{accept_trip, trips_in}
-use Rattle.timetable.specs.LinkRows.{trip_named, is_an_end, turn_in, join_in, split_in, kind_of, is_arriving, is_departing, names_again, do_meet, is_in_time, each_pair, accept_trips, accept_link, links_in}
+use Rattle.timetable.specs.LinkRows.{is_an_end, turn_in, join_in, split_in, kind_of, is_arriving, is_departing, names_again, do_meet, is_in_time, each_pair, accept_trips, accept_link, links_in}
 use Rattle.timetable.specs.Links.{arriving_in, departing_in}
 use Rattle.timetable.specs.Lists.{of_entry, has}
 use Rattle.timetable.specs.Meaning.{IsKindOf}
 use Rattle.timetable.specs.Naming.{find_name}
-use Rattle.timetable.specs.Refusals.{Names, IsNoTrip, FitsKind, NamesArriving, NamesDeparting, NamedBefore, UsesTwice, HasTripsThat, IsBroken}
-use Rattle.rail_base.specs.Answers.{◌>>=◌}
-use Rattle.timetable.specs.Rowwise.{row_after, IsRow}
-use Rattle.timetable.proofs.Accepting.{IsFirstRefused, first_refused, bind_err, guard_err, choice_err, test_err, found_err, any_front, accepted_zip}
+use Rattle.timetable.specs.Refusals.{IsNoTrip, FitsKind, NamesArriving, NamesDeparting, NamedBefore, UsesTwice, HasTripsThat, kind_tests, meeting_tests, link_tests}
+use Rattle.timetable.specs.Tests.{Test, ◌when◌, row_tests}
+use Rattle.timetable.specs.Rowwise.{row_after}
+use Rattle.timetable.proofs.Accepting.{any_front, accepted_zip}
 use Rattle.timetable.proofs.Days.{entry_at, entry_is}
 use Rattle.timetable.proofs.Entries.{IsTripOfRow, found_name, trip_of_row}
-use Rattle.timetable.proofs.Linking.{IsFound, kind_made, link_of_row, has_one, has_two}
-use Rattle.timetable.proofs.RefusedRows.{refused_row, not_found, same_name}
+use Rattle.timetable.proofs.Linking.{IsFound, kind_made, link_of_row, has_one, has_two, pair_passes}
+use Rattle.timetable.proofs.LinkNames.{has_itself, has_first, has_second}
+use Rattle.timetable.proofs.RowNames.{same_name, zip_at, zip_entry, AreNamed, no_row, some_row, row_number}
+use Rattle.timetable.proofs.Said.{trips_apart}
+use Rattle.timetable.proofs.Tests.{Outcome, outcome_passed, outcome_guard, outcome_choice, outcome_found, outcome_then, outcome_each, outcome_ok, outcome_err, any_entries}
 
 -- ---- fields that fit no kind, and names that are unknown
 
--- the row's fields do not fit its kind, or one of its names is no trip's
-abbrev KindRefused : List Trip → ℕ → LinkRow → KindWord → Option (List ℕ) → Option (List ℕ) → InstanceRefusal → Type 0
-KindRefused trips number row word second second_out d =
-    ((WrongLinkFields number ≡ d) × (FitsKind word second second_out row.uncouple row.couple → ⊥))
-    ⊎ ((column : ℕ) × (name : List ℕ) × Names row column name × (find_name (λ t. t.name) trips name ≡ None) × (UnknownName names.Links number column ≡ d))
-
-same_err : (c d : InstanceRefusal) → ◌≡◌ {A = Result LinkKind InstanceRefusal} (Err c) (Err d) → c ≡ d
-same_err c d e = cc
-
--- a name that is unknown
-unknown : (trips : List Trip) (number column : ℕ) (name : List ℕ) (d : InstanceRefusal) → trip_named trips number column name ≡ Err d
-    → (find_name (λ t. t.name) trips name ≡ None) × (UnknownName names.Links number column ≡ d)
-unknown trips number column name d e = found_err (find_name (λ t. t.name) trips name) (UnknownName names.Links number column) d e
-
-turn_refused : (trips : List Trip) (number : ℕ) (row : LinkRow) (second second_out : Option (List ℕ)) (d : InstanceRefusal) → turn_in trips number row second second_out ≡ Err d
-    → KindRefused trips number row words.Turn second second_out d
-unfolding turn_in
-turn_refused trips number row None None d e = elim (bind_err (trip_named trips number 1 row.arriving) (λ a. trip_named trips number 3 row.departing >>= (λ b. Ok (Turn a b row.uncouple row.couple))) d e) [
-  | inl none ↦ let (is, same) = unknown trips number 1 row.arriving d none in inr (1, row.arriving, inl (refl, refl), is, same)
-  | inr (a, is_a, e1) ↦ elim (bind_err (trip_named trips number 3 row.departing) (λ b. Ok (Turn a b row.uncouple row.couple)) d e1) [
-    | inl none ↦ let (is, same) = unknown trips number 3 row.departing d none in inr (3, row.departing, inr (inr (inl (refl, refl))), is, same)
-    | inr (b, is_b, e2) ↦ absurd cc
-  ]
-]
-turn_refused trips number row (Some name) second_out d e = inl (same_err (WrongLinkFields number) d e, λ fits. fits)
-turn_refused trips number row None (Some name) d e = inl (same_err (WrongLinkFields number) d e, λ fits. fits)
+-- the tests on a row of this kind with these second names
+abbrev tests_of : Tables → ℕ → LinkRow → KindWord → Option (List ℕ) → Option (List ℕ) → List (Test InstanceRefusal)
+tests_of tables number row word second second_out =
+    WrongLinkFields number when (¬ FitsKind word second second_out row.uncouple row.couple)
+    ∷ UnknownName names.Links number 1 when IsNoTrip tables (Some row.arriving)
+    ∷ UnknownName names.Links number 2 when IsNoTrip tables second
+    ∷ UnknownName names.Links number 3 when IsNoTrip tables (Some row.departing)
+    ∷ UnknownName names.Links number 4 when IsNoTrip tables second_out
+    ∷ []
 
 join_unfit : (name : List ℕ) (uncouple couple : End) → (is_an_end uncouple || is_an_end couple) ≡ true → FitsKind words.Join (Some name) None uncouple couple → ⊥
 join_unfit name at.None at.None end fits = absurd cc
@@ -79,53 +64,58 @@ split_unfit name at.None at.Rear end fits = fits
 split_unfit name at.Front couple end fits = fits
 split_unfit name at.Rear couple end fits = fits
 
-join_refused : (trips : List Trip) (number : ℕ) (row : LinkRow) (second second_out : Option (List ℕ)) (d : InstanceRefusal) → row.arriving2 ≡ second → join_in trips number row second second_out ≡ Err d
-    → KindRefused trips number row words.Join second second_out d
-unfolding join_in
-join_refused trips number row (Some name) None d some e =
-    let last : ℕ → ℕ → Result LinkKind InstanceRefusal = λ a1 a2. trip_named trips number 3 row.departing >>= (λ b. Ok (Join a1 a2 b)) in
-    elim (guard_err (is_an_end row.uncouple || is_an_end row.couple) (WrongLinkFields number) (trip_named trips number 1 row.arriving >>= (λ a1. trip_named trips number 2 name >>= (λ a2. last a1 a2))) d e) [
-      | inl ends ↦ inl (ends.1, join_unfit name row.uncouple row.couple ends.0)
-      | inr e0 ↦ elim (bind_err (trip_named trips number 1 row.arriving) (λ a1. trip_named trips number 2 name >>= (λ a2. last a1 a2)) d e0) [
-        | inl none ↦ let (is, same) = unknown trips number 1 row.arriving d none in inr (1, row.arriving, inl (refl, refl), is, same)
-        | inr (a1, is_a1, e1) ↦ elim (bind_err (trip_named trips number 2 name) (λ a2. last a1 a2) d e1) [
-          | inl none ↦ let (is, same) = unknown trips number 2 name d none in inr (2, name, inr (inl (refl, some)), is, same)
-          | inr (a2, is_a2, e2) ↦ elim (bind_err (trip_named trips number 3 row.departing) (λ b. Ok (Join a1 a2 b)) d e2) [
-            | inl none ↦ let (is, same) = unknown trips number 3 row.departing d none in inr (3, row.departing, inr (inr (inl (refl, refl))), is, same)
-            | inr (b, is_b, e3) ↦ absurd cc
-          ]
-        ]
-      ]
-    ]
-join_refused trips number row None second_out d none e = inl (same_err (WrongLinkFields number) d e, λ fits. fits)
-join_refused trips number row (Some name) (Some other) d some e = inl (same_err (WrongLinkFields number) d e, λ fits. fits)
+join_fit : (name : List ℕ) (uncouple couple : End) → (is_an_end uncouple || is_an_end couple) ≡ false → FitsKind words.Join (Some name) None uncouple couple
+join_fit name at.None at.None none = tt
+join_fit name at.None at.Front none = absurd cc
+join_fit name at.None at.Rear none = absurd cc
+join_fit name at.Front couple none = absurd cc
+join_fit name at.Rear couple none = absurd cc
 
-split_refused : (trips : List Trip) (number : ℕ) (row : LinkRow) (second second_out : Option (List ℕ)) (d : InstanceRefusal) → row.departing2 ≡ second_out → split_in trips number row second second_out ≡ Err d
-    → KindRefused trips number row words.Split second second_out d
-unfolding split_in
-split_refused trips number row None (Some name) d some e =
-    let last : ℕ → ℕ → Result LinkKind InstanceRefusal = λ a b1. trip_named trips number 4 name >>= (λ b2. Ok (Split a b1 b2)) in
-    elim (guard_err (is_an_end row.uncouple || is_an_end row.couple) (WrongLinkFields number) (trip_named trips number 1 row.arriving >>= (λ a. trip_named trips number 3 row.departing >>= (λ b1. last a b1))) d e) [
-      | inl ends ↦ inl (ends.1, split_unfit name row.uncouple row.couple ends.0)
-      | inr e0 ↦ elim (bind_err (trip_named trips number 1 row.arriving) (λ a. trip_named trips number 3 row.departing >>= (λ b1. last a b1)) d e0) [
-        | inl none ↦ let (is, same) = unknown trips number 1 row.arriving d none in inr (1, row.arriving, inl (refl, refl), is, same)
-        | inr (a, is_a, e1) ↦ elim (bind_err (trip_named trips number 3 row.departing) (λ b1. last a b1) d e1) [
-          | inl none ↦ let (is, same) = unknown trips number 3 row.departing d none in inr (3, row.departing, inr (inr (inl (refl, refl))), is, same)
-          | inr (b1, is_b1, e2) ↦ elim (bind_err (trip_named trips number 4 name) (λ b2. Ok (Split a b1 b2)) d e2) [
-            | inl none ↦ let (is, same) = unknown trips number 4 name d none in inr (4, name, inr (inr (inr (refl, some))), is, same)
-            | inr (b2, is_b2, e3) ↦ absurd cc
-          ]
-        ]
-      ]
-    ]
-split_refused trips number row (Some name) second_out d some e = inl (same_err (WrongLinkFields number) d e, λ fits. fits)
-split_refused trips number row None None d none e = inl (same_err (WrongLinkFields number) d e, λ fits. fits)
+split_fit : (name : List ℕ) (uncouple couple : End) → (is_an_end uncouple || is_an_end couple) ≡ false → FitsKind words.Split None (Some name) uncouple couple
+split_fit name at.None at.None none = tt
+split_fit name at.None at.Front none = absurd cc
+split_fit name at.None at.Rear none = absurd cc
+split_fit name at.Front couple none = absurd cc
+split_fit name at.Rear couple none = absurd cc
 
-kind_refused : (trips : List Trip) (number : ℕ) (row : LinkRow) (word : KindWord) (d : InstanceRefusal) → kind_of word trips number row ≡ Err d
-    → KindRefused trips number row word row.arriving2 row.departing2 d
-kind_refused trips number row words.Turn d e = turn_refused trips number row row.arriving2 row.departing2 d e
-kind_refused trips number row words.Join d e = join_refused trips number row row.arriving2 row.departing2 d refl e
-kind_refused trips number row words.Split d e = split_refused trips number row row.arriving2 row.departing2 d refl e
+module _ (tables : Tables) (trips : List Trip) (named : AreNamed (λ row. row.name) (λ t. t.name) tables.trips trips) (number : ℕ) (row : LinkRow) where
+  no_trip : (name : List ℕ) → find_name (λ t. t.name) trips name ≡ None → IsNoTrip tables (Some name)
+  no_trip name none = no_row (λ row. row.name) (λ t. t.name) tables.trips trips named name none
+
+  some_trip : (name : List ℕ) (n : ℕ) → find_name (λ t. t.name) trips name ≡ Some n → ¬ IsNoTrip tables (Some name)
+  some_trip name n is = some_row (λ row. row.name) (λ t. t.name) tables.trips trips named name n is
+
+  turn_outcome : (second second_out : Option (List ℕ)) → Outcome (tests_of tables number row words.Turn second second_out) (turn_in trips number row second second_out)
+  unfolding turn_in
+  turn_outcome None None = outcome_passed _ _ _ (λ unfit. unfit tt)
+      (outcome_found _ _ (find_name (λ t. t.name) trips row.arriving) _ (no_trip row.arriving) (some_trip row.arriving) (λ a is_a. outcome_passed _ _ _ (λ none. none)
+      (outcome_found _ _ (find_name (λ t. t.name) trips row.departing) _ (no_trip row.departing) (some_trip row.departing) (λ b is_b. outcome_passed _ [] (Ok (Turn a b row.uncouple row.couple)) (λ none. none) (outcome_ok _ _)))))
+  turn_outcome (Some name) second_out = outcome_err _ _ _ (λ fits. fits)
+  turn_outcome None (Some name) = outcome_err _ _ _ (λ fits. fits)
+
+  join_outcome : (second second_out : Option (List ℕ)) → Outcome (tests_of tables number row words.Join second second_out) (join_in trips number row second second_out)
+  unfolding join_in
+  join_outcome (Some name) None = outcome_guard _ _ (is_an_end row.uncouple || is_an_end row.couple) _ (join_unfit name row.uncouple row.couple) (λ none unfit. unfit (join_fit name row.uncouple row.couple none))
+      (λ none. outcome_found _ _ (find_name (λ t. t.name) trips row.arriving) _ (no_trip row.arriving) (some_trip row.arriving)
+      (λ a1 is_a1. outcome_found _ _ (find_name (λ t. t.name) trips name) _ (no_trip name) (some_trip name)
+      (λ a2 is_a2. outcome_found _ _ (find_name (λ t. t.name) trips row.departing) _ (no_trip row.departing) (some_trip row.departing)
+      (λ b is_b. outcome_passed _ [] (Ok (Join a1 a2 b)) (λ none. none) (outcome_ok _ _)))))
+  join_outcome None second_out = outcome_err _ _ _ (λ fits. fits)
+  join_outcome (Some name) (Some other) = outcome_err _ _ _ (λ fits. fits)
+
+  split_outcome : (second second_out : Option (List ℕ)) → Outcome (tests_of tables number row words.Split second second_out) (split_in trips number row second second_out)
+  unfolding split_in
+  split_outcome None (Some name) = outcome_guard _ _ (is_an_end row.uncouple || is_an_end row.couple) _ (split_unfit name row.uncouple row.couple) (λ none unfit. unfit (split_fit name row.uncouple row.couple none))
+      (λ none. outcome_found _ _ (find_name (λ t. t.name) trips row.arriving) _ (no_trip row.arriving) (some_trip row.arriving)
+      (λ a is_a. outcome_passed _ _ _ (λ none. none) (outcome_found _ _ (find_name (λ t. t.name) trips row.departing) _ (no_trip row.departing) (some_trip row.departing)
+      (λ b1 is_b1. outcome_found _ _ (find_name (λ t. t.name) trips name) _ (no_trip name) (some_trip name) (λ b2 is_b2. outcome_ok _ _)))))
+  split_outcome (Some name) second_out = outcome_err _ _ _ (λ fits. fits)
+  split_outcome None None = outcome_err _ _ _ (λ fits. fits)
+
+  kind_outcome : (word : KindWord) → Outcome (tests_of tables number row word row.arriving2 row.departing2) (kind_of word trips number row)
+  kind_outcome words.Turn = turn_outcome row.arriving2 row.departing2
+  kind_outcome words.Join = join_outcome row.arriving2 row.departing2
+  kind_outcome words.Split = split_outcome row.arriving2 row.departing2
 
 -- ---- trips that are used twice
 
@@ -194,6 +184,99 @@ used_twice trips front entries all row (Split a b1 b2) is again = elim (or_cases
   ]
 ]
 
+-- ---- trips that are new
+
+-- the number of a trip that a row names
+arriving_number : (trips : List Trip) (row : LinkRow) (kind : LinkKind) → IsKindOf (IsFound trips) row kind → (name : List ℕ) → NamesArriving row name → (t : ℕ) × IsFound trips name t × (has t (arriving_in kind) ≡ true)
+arriving_number trips row (Turn a b uncouple couple) is name (inl same) = (a, subst (λ (n : List ℕ). IsFound trips n a) same is.arriving, has_itself a)
+arriving_number trips row (Turn a b uncouple couple) is name (inr second) = let none : None ≡ Some name = sym is.no_arriving2 ∙ second in absurd cc
+arriving_number trips row (Join a1 a2 b) is name (inl same) = (a1, subst (λ (n : List ℕ). IsFound trips n a1) same is.arriving, has_first a1 a2)
+arriving_number trips row (Join a1 a2 b) is name (inr second) = (a2, subst (λ (n : List ℕ). IsFound trips n a2) (same_Some is.name name (sym is.named ∙ second)) is.arriving2, has_second a1 a2)
+arriving_number trips row (Split a b1 b2) is name (inl same) = (a, subst (λ (n : List ℕ). IsFound trips n a) same is.arriving, has_itself a)
+arriving_number trips row (Split a b1 b2) is name (inr second) = let none : None ≡ Some name = sym is.no_arriving2 ∙ second in absurd cc
+
+departing_number : (trips : List Trip) (row : LinkRow) (kind : LinkKind) → IsKindOf (IsFound trips) row kind → (name : List ℕ) → NamesDeparting row name → (t : ℕ) × IsFound trips name t × (has t (departing_in kind) ≡ true)
+departing_number trips row (Turn a b uncouple couple) is name (inl same) = (b, subst (λ (n : List ℕ). IsFound trips n b) same is.departing, has_itself b)
+departing_number trips row (Turn a b uncouple couple) is name (inr second) = let none : None ≡ Some name = sym is.no_departing2 ∙ second in absurd cc
+departing_number trips row (Join a1 a2 b) is name (inl same) = (b, subst (λ (n : List ℕ). IsFound trips n b) same is.departing, has_itself b)
+departing_number trips row (Join a1 a2 b) is name (inr second) = let none : None ≡ Some name = sym is.no_departing2 ∙ second in absurd cc
+departing_number trips row (Split a b1 b2) is name (inl same) = (b1, subst (λ (n : List ℕ). IsFound trips n b1) same is.departing, has_first b1 b2)
+departing_number trips row (Split a b1 b2) is name (inr second) = (b2, subst (λ (n : List ℕ). IsFound trips n b2) (same_Some is.name name (sym is.named ∙ second)) is.departing2, has_second b1 b2)
+
+-- the trips of a kind that names none again are new, and differ
+record AreNew (before : List Link) (kind : LinkKind) : Type 0 where
+  arriving : (t : ℕ) → has t (arriving_in kind) ≡ true → is_arriving before t ≡ false
+  departing : (t : ℕ) → has t (departing_in kind) ≡ true → is_departing before t ≡ false
+
+are_new : (before : List Link) (kind : LinkKind) → names_again before kind ≡ false → AreNew before kind
+are_new before (Turn a b uncouple couple) none =
+    let (new_a, new_b) = or_parts (is_arriving before a) (is_departing before b) none in
+    record {
+      arriving = λ t here. subst (λ (t : ℕ). is_arriving before t ≡ false) (sym (has_one t a here)) new_a;
+      departing = λ t here. subst (λ (t : ℕ). is_departing before t ≡ false) (sym (has_one t b here)) new_b;
+    }
+are_new before (Join a1 a2 b) none =
+    let (rest, new_b) = or_parts (a1 == a2 || is_arriving before a1 || is_arriving before a2) (is_departing before b) none in
+    let (rest2, new_a2) = or_parts (a1 == a2 || is_arriving before a1) (is_arriving before a2) rest in
+    let (differ, new_a1) = or_parts (a1 == a2) (is_arriving before a1) rest2 in
+    record {
+      arriving = λ t here. elim (has_two t a1 a2 here) [
+        | inl is ↦ subst (λ (t : ℕ). is_arriving before t ≡ false) (sym is) new_a1
+        | inr is ↦ subst (λ (t : ℕ). is_arriving before t ≡ false) (sym is) new_a2
+      ];
+      departing = λ t here. subst (λ (t : ℕ). is_departing before t ≡ false) (sym (has_one t b here)) new_b;
+    }
+are_new before (Split a b1 b2) none =
+    let (rest, new_b2) = or_parts (b1 == b2 || is_arriving before a || is_departing before b1) (is_departing before b2) none in
+    let (rest2, new_b1) = or_parts (b1 == b2 || is_arriving before a) (is_departing before b1) rest in
+    let (differ, new_a) = or_parts (b1 == b2) (is_arriving before a) rest2 in
+    record {
+      arriving = λ t here. subst (λ (t : ℕ). is_arriving before t ≡ false) (sym (has_one t a here)) new_a;
+      departing = λ t here. elim (has_two t b1 b2 here) [
+        | inl is ↦ subst (λ (t : ℕ). is_departing before t ≡ false) (sym is) new_b1
+        | inr is ↦ subst (λ (t : ℕ). is_departing before t ≡ false) (sym is) new_b2
+      ];
+    }
+
+-- two trips of a side that are one
+arriving_apart : (trips : List Trip) (before : List Link) (row : LinkRow) (kind : LinkKind) → IsKindOf (IsFound trips) row kind → names_again before kind ≡ false → row.arriving2 ≡ Some row.arriving → ⊥
+arriving_apart trips before row (Turn a b uncouple couple) is none twice = let never : None ≡ Some row.arriving = sym is.no_arriving2 ∙ twice in absurd cc
+arriving_apart trips before row (Join a1 a2 b) is none twice =
+    let (rest, new_b) = or_parts (a1 == a2 || is_arriving before a1 || is_arriving before a2) (is_departing before b) none in
+    let (rest2, new_a2) = or_parts (a1 == a2 || is_arriving before a1) (is_arriving before a2) rest in
+    let (differ, new_a1) = or_parts (a1 == a2) (is_arriving before a1) rest2 in
+    let one : row.arriving ≡ is.name = same_Some row.arriving is.name (sym twice ∙ is.named) in
+    eqb-false a1 a2 differ (same_Some a1 a2 (sym is.arriving ∙ ap (find_name (λ t. t.name) trips) one ∙ is.arriving2))
+arriving_apart trips before row (Split a b1 b2) is none twice = let never : None ≡ Some row.arriving = sym is.no_arriving2 ∙ twice in absurd cc
+
+departing_apart : (trips : List Trip) (before : List Link) (row : LinkRow) (kind : LinkKind) → IsKindOf (IsFound trips) row kind → names_again before kind ≡ false → row.departing2 ≡ Some row.departing → ⊥
+departing_apart trips before row (Turn a b uncouple couple) is none twice = let never : None ≡ Some row.departing = sym is.no_departing2 ∙ twice in absurd cc
+departing_apart trips before row (Join a1 a2 b) is none twice = let never : None ≡ Some row.departing = sym is.no_departing2 ∙ twice in absurd cc
+departing_apart trips before row (Split a b1 b2) is none twice =
+    let (rest, new_b2) = or_parts (b1 == b2 || is_arriving before a || is_departing before b1) (is_departing before b2) none in
+    let (rest2, new_b1) = or_parts (b1 == b2 || is_arriving before a) (is_departing before b1) rest in
+    let (differ, new_a) = or_parts (b1 == b2) (is_arriving before a) rest2 in
+    let one : row.departing ≡ is.name = same_Some row.departing is.name (sym twice ∙ is.named) in
+    eqb-false b1 b2 differ (same_Some b1 b2 (sym is.departing ∙ ap (find_name (λ t. t.name) trips) one ∙ is.departing2))
+
+not_used_twice : (trips : List Trip) (front : List LinkRow) (entries : List Link) → AreOf trips front entries → (row : LinkRow) (kind : LinkKind) → IsKindOf (IsFound trips) row kind → names_again entries kind ≡ false → ¬ UsesTwice front row
+not_used_twice trips front entries all row kind is none (inl twice) = arriving_apart trips entries row kind is none twice
+not_used_twice trips front entries all row kind is none (inr (inl twice)) = departing_apart trips entries row kind is none twice
+not_used_twice trips front entries all row kind is none (inr (inr (inl (name, names, some)))) =
+    let (t, found, here) = arriving_number trips row kind is name names in
+    both_ways (is_arriving entries t) ((are_new entries kind none).arriving t here)
+    (any_entries (λ row link. IsKindOf (IsFound trips) row link.kind) (λ link. has t (arriving_in link.kind)) (λ earlier. NamesArriving earlier name)
+    (λ earlier link of_row named.
+    let (s, found_s, has_s) = arriving_number trips earlier link.kind of_row name named in
+    subst (λ (k : ℕ). has k (arriving_in link.kind) ≡ true) (same_Some s t (sym found_s ∙ found)) has_s) front entries all some)
+not_used_twice trips front entries all row kind is none (inr (inr (inr (name, names, some)))) =
+    let (t, found, here) = departing_number trips row kind is name names in
+    both_ways (is_departing entries t) ((are_new entries kind none).departing t here)
+    (any_entries (λ row link. IsKindOf (IsFound trips) row link.kind) (λ link. has t (departing_in link.kind)) (λ earlier. NamesDeparting earlier name)
+    (λ earlier link of_row named.
+    let (s, found_s, has_s) = departing_number trips earlier link.kind of_row name named in
+    subst (λ (k : ℕ). has k (departing_in link.kind) ≡ true) (same_Some s t (sym found_s ∙ found)) has_s) front entries all some)
+
 -- ---- trips that do not meet, or not in time
 
 -- an arriving and a departing trip that fail a test
@@ -227,13 +310,6 @@ record IsTripFrom (stations : List Station) (row : TripRow) (trip : Trip) : Type
   pub departure : trip.departure ≡ row.departure
   pub arrival : trip.arrival ≡ row.arrival
 
-zip_at : {A B : Type 0} (R : A → B → Type 0) (xs : List A) (ys : List B) (k : ℕ) (y : B) → AllZip R xs ys → slice_get ys k ≡ Some y → (x : A) × (slice_get xs k ≡ Some x) × R x y
-zip_at R [] [] k y all at = let below : k < 0 = slice_get_within [] k y at in absurd (omega arith)
-zip_at R [] (b ∷ ys) k y all at = absurd all
-zip_at R (a ∷ xs) [] k y all at = absurd all
-zip_at {A} {B} R (a ∷ xs) (b ∷ ys) zero y all at = (a, refl, subst (λ (z : B). R a z) (same_Some b y at) all.0)
-zip_at R (a ∷ xs) (b ∷ ys) (suc k) y all at = zip_at R xs ys k y all.1 at
-
 -- the trip of a name, and its row
 record FoundTrip (stations : List Station) (rows : List TripRow) (trips : List Trip) (name : List ℕ) (t : ℕ) : Type 0 where
   pub row : TripRow
@@ -243,10 +319,9 @@ record FoundTrip (stations : List Station) (rows : List TripRow) (trips : List T
   pub is : IsTripFrom stations row trip
   pub named : row.name ≡ name
 
-found_trip : (stations : List Station) (types : List UnitType) (rows : List TripRow) (trips : List Trip) (name : List ℕ) (t : ℕ) → trips_in stations types rows ≡ Ok trips → IsFound trips name t → FoundTrip stations rows trips name t
+trips_from : (stations : List Station) (types : List UnitType) (rows : List TripRow) (trips : List Trip) → trips_in stations types rows ≡ Ok trips → AllZip (IsTripFrom stations) rows trips
 unfolding trips_in
-found_trip stations types rows trips name t made found =
-    let all : AllZip (IsTripFrom stations) rows trips = accepted_zip (accept_trip stations types) (IsTripFrom stations)
+trips_from stations types rows trips made = accepted_zip (accept_trip stations types) (IsTripFrom stations)
     (λ before row trip e.
     let of_row : IsTripOfRow stations types before row trip = trip_of_row stations types before row trip e in
     record {
@@ -256,10 +331,18 @@ found_trip stations types rows trips name t made found =
       departure = ap (λ (t : Trip). t.departure) of_row.is;
       arrival = ap (λ (t : Trip). t.arrival) of_row.is;
     })
-    [] [] rows trips tt made in
+    [] [] rows trips tt made
+
+trips_named : (stations : List Station) (types : List UnitType) (rows : List TripRow) (trips : List Trip) → trips_in stations types rows ≡ Ok trips → AreNamed (λ row. row.name) (λ t. t.name) rows trips
+unfolding trips_in
+trips_named stations types rows trips made = accepted_zip (accept_trip stations types) (λ row t. row.name ≡ t.name)
+    (λ before row trip e. ap (λ (t : Trip). t.name) (sym (trip_of_row stations types before row trip e).is)) [] [] rows trips tt made
+
+found_trip : (stations : List Station) (types : List UnitType) (rows : List TripRow) (trips : List Trip) (name : List ℕ) (t : ℕ) → trips_in stations types rows ≡ Ok trips → IsFound trips name t → FoundTrip stations rows trips name t
+found_trip stations types rows trips name t made found =
     let (below, named) = found_name (λ t. t.name) trips name t found in
     let (trip, at, _) = entry_at (λ _. Unit {0}) trips t below (λ k d b. tt) in
-    let (row, row_at, is) = zip_at (IsTripFrom stations) rows trips t trip all at in
+    let (row, row_at, is) = zip_at (IsTripFrom stations) rows trips t trip (trips_from stations types rows trips made) at in
     record {
       row = row;
       trip = trip;
@@ -269,9 +352,17 @@ found_trip stations types rows trips name t made found =
       named = sym is.name ∙ ap (λ (t : Trip). t.name) (sym (get_or_from_slice_get trips t trip trip at)) ∙ named trip;
     }
 
-apart : (tables : Tables) (stations : List Station) (types : List UnitType) (trips : List Trip) (front : List LinkRow) (row : LinkRow) → trips_in stations types tables.trips ≡ Ok trips
-    → FailingPair trips row (do_meet trips) → HasTripsThat (λ a b. a.to ≢ b.from) tables front row
-apart tables stations types trips front row made pair =
+-- the trip of a row whose name was found
+trip_of : (stations : List Station) (types : List UnitType) (rows : List TripRow) (trips : List Trip) (i t : ℕ) (row : TripRow) → trips_in stations types rows ≡ Ok trips → slice_get rows i ≡ Some row → IsFound trips row.name t
+    → (trip : Trip) × (slice_get trips t ≡ Some trip) × IsTripFrom stations row trip
+trip_of stations types rows trips i t row made at found =
+    let same : i ≡ t = row_number (λ row. row.name) (λ t. t.name) rows trips (trips_named stations types rows trips made) i t row (trips_apart stations types rows trips made) at found in
+    let (trip, there, is) = zip_entry (IsTripFrom stations) rows trips i row (trips_from stations types rows trips made) at in
+    (trip, ap (slice_get trips) (sym same) ∙ there, is)
+
+apart : (tables : Tables) (stations : List Station) (types : List UnitType) (trips : List Trip) (row : LinkRow) → trips_in stations types tables.trips ≡ Ok trips
+    → FailingPair trips row (do_meet trips) → HasTripsThat (λ a b. a.to ≢ b.from) tables row
+apart tables stations types trips row made pair =
     let a = found_trip stations types tables.trips trips pair.name pair.a made pair.found in
     let b = found_trip stations types tables.trips trips pair.name_out pair.b made pair.found_out in
     let to : of_entry (λ trip. trip.to) trips pair.a 0 ≡ a.trip.to = entry_is (λ trip. trip.to) trips pair.a 0 a.trip a.trip_at in
@@ -289,9 +380,9 @@ apart tables stations types trips front row made pair =
           eqb-false (of_entry (λ trip. trip.to) trips pair.a 0) (of_entry (λ trip. trip.from) trips pair.b 0) pair.fails (to ∙ one ∙ sym from),
     )
 
-early : (tables : Tables) (stations : List Station) (types : List UnitType) (trips : List Trip) (front : List LinkRow) (row : LinkRow) → trips_in stations types tables.trips ≡ Ok trips
-    → FailingPair trips row (is_in_time trips) → HasTripsThat (λ a b. b.departure < a.arrival) tables front row
-early tables stations types trips front row made pair =
+early : (tables : Tables) (stations : List Station) (types : List UnitType) (trips : List Trip) (row : LinkRow) → trips_in stations types tables.trips ≡ Ok trips
+    → FailingPair trips row (is_in_time trips) → HasTripsThat (λ a b. b.departure < a.arrival) tables row
+early tables stations types trips row made pair =
     let a = found_trip stations types tables.trips trips pair.name pair.a made pair.found in
     let b = found_trip stations types tables.trips trips pair.name_out pair.b made pair.found_out in
     let arrival : of_entry (λ trip. trip.arrival) trips pair.a 1 ≡ a.row.arrival = entry_is (λ trip. trip.arrival) trips pair.a 1 a.trip a.trip_at ∙ a.is.arrival in
@@ -309,48 +400,48 @@ early tables stations types trips front row made pair =
       omega (arith, before, arrival, departure),
     )
 
+-- trips of which every pair passes
+meets : (tables : Tables) (stations : List Station) (types : List UnitType) (trips : List Trip) (row : LinkRow) (kind : LinkKind) → trips_in stations types tables.trips ≡ Ok trips → IsKindOf (IsFound trips) row kind
+    → each_pair (do_meet trips) kind ≡ true → ¬ HasTripsThat (λ a b. a.to ≢ b.from) tables row
+meets tables stations types trips row kind made is pass (i, j, a, b, at_a, at_b, arrives, departs, differ) =
+    let (s, found_s, has_s) = arriving_number trips row kind is a.name arrives in
+    let (t, found_t, has_t) = departing_number trips row kind is b.name departs in
+    let (trip_a, there_a, is_a) = trip_of stations types tables.trips trips i s a made at_a found_s in
+    let (trip_b, there_b, is_b) = trip_of stations types tables.trips trips j t b made at_b found_t in
+    let same : of_entry (λ trip. trip.to) trips s 0 ≡ of_entry (λ trip. trip.from) trips t 0 = eqb-true _ _ (pair_passes (do_meet trips) kind pass s t has_s has_t) in
+    let one : trip_a.to ≡ trip_b.from = sym (entry_is (λ trip. trip.to) trips s 0 trip_a there_a) ∙ same ∙ entry_is (λ trip. trip.from) trips t 0 trip_b there_b in
+    differ (same_name (λ s. s.name) stations a.to b.from trip_b.from (is_a.to ∙ ap Some one) is_b.from)
+
+in_time : (tables : Tables) (stations : List Station) (types : List UnitType) (trips : List Trip) (row : LinkRow) (kind : LinkKind) → trips_in stations types tables.trips ≡ Ok trips → IsKindOf (IsFound trips) row kind
+    → each_pair (is_in_time trips) kind ≡ true → ¬ HasTripsThat (λ a b. b.departure < a.arrival) tables row
+in_time tables stations types trips row kind made is pass (i, j, a, b, at_a, at_b, arrives, departs, early) =
+    let (s, found_s, has_s) = arriving_number trips row kind is a.name arrives in
+    let (t, found_t, has_t) = departing_number trips row kind is b.name departs in
+    let (trip_a, there_a, is_a) = trip_of stations types tables.trips trips i s a made at_a found_s in
+    let (trip_b, there_b, is_b) = trip_of stations types tables.trips trips j t b made at_b found_t in
+    let after : of_entry (λ trip. trip.arrival) trips s 1 ≤ of_entry (λ trip. trip.departure) trips t 0 = leb-true _ _ (pair_passes (is_in_time trips) kind pass s t has_s has_t) in
+    let arrival : of_entry (λ trip. trip.arrival) trips s 1 ≡ a.arrival = entry_is (λ trip. trip.arrival) trips s 1 trip_a there_a ∙ is_a.arrival in
+    let departure : of_entry (λ trip. trip.departure) trips t 0 ≡ b.departure = entry_is (λ trip. trip.departure) trips t 0 trip_b there_b ∙ is_b.departure in
+    absurd (omega arith)
+
 -- ---- all rows
 
-zip_all : {A B : Type 0} (R : A → B → Type 0) (P : B → Type 0) (Q : A → Type 0) → ((a : A) (b : B) → R a b → P b → Q a) → (xs : List A) (ys : List B) → AllZip R xs ys → All P ys → All Q xs
-zip_all R P Q step [] ys all every k d below = absurd (omega arith)
-zip_all R P Q step (a ∷ xs) [] all every k d below = absurd all
-zip_all R P Q step (a ∷ xs) (b ∷ ys) all every zero d below = step a b all.0 (All-head P b ys every)
-zip_all R P Q step (a ∷ xs) (b ∷ ys) all every (suc k) d below = zip_all R P Q step xs ys all.1 (All-tail P b ys every) k d (omega arith)
-
--- a name that is no trip's is no row's
-no_trip : (tables : Tables) (stations : List Station) (types : List UnitType) (trips : List Trip) (name : List ℕ) → trips_in stations types tables.trips ≡ Ok trips → find_name (λ t. t.name) trips name ≡ None → IsNoTrip tables name
-unfolding trips_in
-no_trip tables stations types trips name made none =
-    zip_all (λ row trip. trip.name ≡ row.name) (λ trip. trip.name ≢ name) (λ row. row.name ≢ name) (λ row trip same other is. other (same ∙ is)) tables.trips trips
-    (accepted_zip (accept_trip stations types) (λ row trip. trip.name ≡ row.name) (λ before row trip e. ap (λ (t : Trip). t.name) (trip_of_row stations types before row trip e).is) [] [] tables.trips trips tt made)
-    (not_found (λ t. t.name) trips name none)
-
-pub links_refused : (tables : Tables) (stations : List Station) (types : List UnitType) (trips : List Trip) (d : InstanceRefusal) → trips_in stations types tables.trips ≡ Ok trips
-    → links_in trips tables.links ≡ Err d → IsBroken tables d
+pub links_outcome : (tables : Tables) (stations : List Station) (types : List UnitType) (trips : List Trip) → trips_in stations types tables.trips ≡ Ok trips → Outcome (row_tests (link_tests tables) [] tables.links) (links_in trips tables.links)
 unfolding links_in accept_link accept_trips
-links_refused tables stations types trips d made e =
-    let first : IsFirstRefused (accept_link trips) [] tables.links d = first_refused (accept_link trips) [] tables.links d e in
-    let row : LinkRow = first.row in
-    let number : ℕ = row_after first.entries in
-    let is_row : IsRow tables.links number first.front row = refused_row (accept_link trips) tables.links d first in
-    let all : AreOf trips first.front first.entries = accepted_zip (accept_link trips) (λ row link. IsKindOf (IsFound trips) row link.kind)
-    (λ before row link is. (link_of_row trips before row link is).kind) [] [] first.front first.entries tt first.accepted in
-    let made_link : LinkKind → Link = λ kind. record { kind = kind; reverse = row.reverse } in
-    elim (bind_err (kind_of row.kind trips number row) (λ kind. accept_trips trips first.entries number (made_link kind)) d first.refused) [
-      | inl unfit ↦ elim (kind_refused trips number row row.kind d unfit) [
-        | inl fields ↦ subst (IsBroken tables) fields.0 (first.front, row, is_row, fields.1)
-        | inr (column, name, names, none, same) ↦ subst (IsBroken tables) same (first.front, row, is_row, (name, names, no_trip tables stations types trips name made none))
-      ]
-      | inr (kind, is_kind, e1) ↦
-          let is : IsKindOf (IsFound trips) row kind = kind_made trips number row row.kind kind refl is_kind in
-          let timed : Result Link InstanceRefusal = if each_pair (is_in_time trips) kind then Ok (made_link kind) else Err (TooEarly number) in
-          elim (guard_err (names_again first.entries kind) (TripUsedTwice number) (if each_pair (do_meet trips) kind then timed else Err (WrongStation number)) d e1) [
-            | inl again ↦ subst (IsBroken tables) again.1 (first.front, row, is_row, used_twice trips first.front first.entries all row kind is again.0)
-            | inr e2 ↦ elim (test_err (each_pair (do_meet trips) kind) timed (WrongStation number) d e2) [
-              | inl differ ↦ subst (IsBroken tables) differ.1 (first.front, row, is_row, apart tables stations types trips first.front row made (failing_pair trips row (do_meet trips) kind is differ.0))
-              | inr (meet, e3) ↦
-                  let (late, same) = choice_err (each_pair (is_in_time trips) kind) (made_link kind) (TooEarly number) d e3 in
-                  subst (IsBroken tables) same (first.front, row, is_row, early tables stations types trips first.front row made (failing_pair trips row (is_in_time trips) kind is late))
-            ]
-          ]
-    ]
+links_outcome tables stations types trips made =
+    let named : AreNamed (λ row. row.name) (λ t. t.name) tables.trips trips = trips_named stations types tables.trips trips made in
+    outcome_each (accept_link trips) (link_tests tables) (λ row link. IsKindOf (IsFound trips) row link.kind) (λ before row link is. (link_of_row trips before row link is).kind)
+    (λ front entries row all. outcome_then (kind_tests tables (row_after entries) row) (meeting_tests tables (row_after entries) front row) (kind_of row.kind trips (row_after entries) row) _
+    (kind_outcome tables trips named (row_after entries) row row.kind)
+    (λ kind is_kind.
+    let is : IsKindOf (IsFound trips) row kind = kind_made trips (row_after entries) row row.kind kind refl is_kind in
+    let link : Link = record { kind = kind; reverse = row.reverse } in
+    outcome_guard _ _ (names_again entries kind) _ (used_twice trips front entries all row kind is) (not_used_twice trips front entries all row kind is)
+    (λ new. outcome_choice _ _ (each_pair (do_meet trips) kind) _
+    (λ fails. apart tables stations types trips row made (failing_pair trips row (do_meet trips) kind is fails))
+    (meets tables stations types trips row kind made is)
+    (λ meet. outcome_choice _ [] (each_pair (is_in_time trips) kind) (Ok link)
+    (λ fails. early tables stations types trips row made (failing_pair trips row (is_in_time trips) kind is fails))
+    (in_time tables stations types trips row kind made is)
+    (λ _. outcome_ok _ _)))))
+    [] [] tables.links tt

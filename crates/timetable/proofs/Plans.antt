@@ -1,23 +1,23 @@
 -- What rows say where they make a plan, and where they are refused.
-use Rattle.std.proofs.Common.{◌≡◌, inl, inr, ℕ, suc, ◌<◌, ◌≤◌, true, false, List, [], ◌∷◌, map, length, get_or, refl, sym, ap, subst, ◌∙◌, arith, Option, Some, None, Result, Ok, Err, slice_get}
-use Rattle.std.specs.Prelude.{nat_lt, option_map, IfErr, if◌then◌else◌}
+use Rattle.std.proofs.Common.{◌≡◌, inl, inr, ℕ, suc, ◌<◌, ◌≤◌, Bool, true, false, List, [], ◌∷◌, map, length, get_or, refl, sym, ap, subst, ◌∙◌, arith, Option, Some, None, Result, Ok, Err, slice_get}
+use Rattle.std.specs.Prelude.{nat_lt, option_map, IfErr}
 use Rattle.std.specs.List.{All, Any, list_all}
 use Rattle.std.proofs.lemmas.Bool.{and_cases, ltb-true, ltb-false, both_ways}
 use Rattle.std.proofs.lemmas.List.Elements.{All-weaker}
 use Rattle.std.proofs.lemmas.List.Sums.{AllPass-from_list_all}
 use Rattle.std.proofs.lemmas.Option.{slice_get-map, slice_get-get_or, same_Some}
 use Rattle.std.proofs.lemmas.Slice.Eq.{bytes_eq-Decides}
-use Rattle.rail_base.specs.Answers.{◌>>=◌, Gives}
+use Rattle.rail_base.specs.Answers.{Unless, Gives}
+use Rattle.rail_base.proofs.Answers.{Unless-then}
 use Rattle.rail_csv.specs.declared.rows.PlanRow.{PlanRow}
 use Rattle.timetable.specs.declared.day.records.Trip.{Trip}
 use Rattle.timetable.specs.declared.building.refusal.PlanRefusal.{PlanRefusal}
-use Rattle.timetable.specs.declared.building.refusal.PlanRefusal.TheVariants.{WrongTrip, UnknownUnit, MissingTrip, NoMemory}
 use Rattle.timetable.specs.Day.{Day, unit_count}
-use Rattle.timetable.specs.Plans.{NamesTrip, AreRunRows, IsPlanOf, IsRefusedFor, is_named, are_units, accept_list, lists_in, plan_of, is_memory}
-use Rattle.timetable.specs.Rowwise.{row_after, IsRow}
-use Rattle.timetable.proofs.Accepting.{IsFirstRefused, first_refused, bind_err, guard_err, choice_err, test_err, accepted_at, accepted_map}
+use Rattle.timetable.specs.Plans.{NamesTrip, AreRunRows, IsPlanOf, run_tests, plan_tests, is_named, are_units, accept_list, lists_in, plan_of, is_memory}
+use Rattle.timetable.specs.Tests.{NoneFailed, IsFirstFailed, row_tests}
+use Rattle.timetable.proofs.Accepting.{accepted_at, accepted_map}
 use Rattle.timetable.proofs.Lists.{IsListOfRow, list_of_row, few_lists, length-lists_in}
-use Rattle.timetable.proofs.RefusedRows.{refused_row}
+use Rattle.timetable.proofs.Tests.{Outcome, outcome_guard, outcome_choice, outcome_then, outcome_each, outcome_ok, all_passed, first_of_failed, length-zip}
 
 -- ---- the trip of a row
 
@@ -78,55 +78,38 @@ plan_is_said day rows plan e all =
       lists = accepted_map (accept_list day) (λ row. row.units) (λ before row units is. (list_of_row day before row units is).is) [] rows plan e;
     }
 
--- ---- rows that are refused
+-- ---- the tests
 
-row_refused : (day : Day) (rows : List PlanRow) (d : PlanRefusal) → lists_in day rows ≡ Err d → IsRefusedFor day rows d
+rows_outcome : (day : Day) (rows : List PlanRow) → Outcome (row_tests (run_tests day) [] rows) (lists_in day rows)
 unfolding lists_in accept_list
-row_refused day rows d e =
-    let first : IsFirstRefused (accept_list day) [] rows d = first_refused (accept_list day) [] rows d e in
-    let row : PlanRow = first.row in
-    let number : ℕ = row_after first.entries in
-    let is_row : IsRow rows number first.front row = refused_row (accept_list day) rows d first in
-    let right : AreRunRows day first.front = right_rows day first.front first.entries first.accepted in
-    let same : length first.entries ≡ length first.front = length-lists_in day first.front first.entries first.accepted in
-    let known : Result (List ℕ) PlanRefusal = if are_units day row.units then Ok row.units else Err (UnknownUnit number) in
-    elim (test_err (is_named (slice_get day.trips (length first.entries)) row.trip) known (WrongTrip number) d first.refused) [
-      | inl other ↦ subst (IsRefusedFor day rows) other.1 (record {
-        before = first.front;
-        row = row;
-        is_row = is_row;
-        right = right;
-        fault = λ named. both_ways (is_named (slice_get day.trips (length first.entries)) row.trip) other.0
-            (is_then_named day.trips (length first.entries) row.trip (subst (λ (t : ℕ). NamesTrip day t row) (sym same) named));
-      })
-      | inr (named, e1) ↦
-          let (none, is) = choice_err (are_units day row.units) row.units (UnknownUnit number) d e1 in
-          subst (IsRefusedFor day rows) is (record {
-            before = first.front;
-            row = row;
-            is_row = is_row;
-            right = right;
-            fault = (
-              λ other. other (subst (λ (t : ℕ). NamesTrip day t row) same (named_is day.trips (length first.entries) row.trip named)),
-              some_unknown (unit_count day) row.units none,
-            );
-          })
-    ]
+rows_outcome day rows = outcome_each (accept_list day) (run_tests day) (λ row units. row.units ≡ units) (λ before row units is. (list_of_row day before row units is).is)
+    (λ front entries row all.
+    let same : length entries ≡ length front = length-zip (λ row units. row.units ≡ units) front entries all in
+    let named : Bool = is_named (slice_get day.trips (length entries)) row.trip in
+    outcome_choice _ _ named _
+    (λ other is. both_ways named other (is_then_named day.trips (length entries) row.trip (subst (λ (t : ℕ). NamesTrip day t row) (sym same) is)))
+    (λ is not. not (subst (λ (t : ℕ). NamesTrip day t row) same (named_is day.trips (length entries) row.trip is)))
+    (λ is. outcome_choice _ [] (are_units day row.units) (Ok row.units) (some_unknown (unit_count day) row.units)
+    (λ known (k, u, below, at, past).
+    let within : get_or row.units k u < unit_count day = all_known (unit_count day) row.units known k u below in
+    absurd (omega arith))
+    (λ _. outcome_ok _ _)))
+    [] [] rows tt
 
-plan_refused : (day : Day) (rows : List PlanRow) (d : PlanRefusal) → plan_of day rows ≡ Err d → IsRefusedFor day rows d
+plan_outcome : (day : Day) (rows : List PlanRow) → Outcome (plan_tests day rows) (plan_of day rows)
 unfolding plan_of
-plan_refused day rows d e = elim (bind_err (lists_in day rows) (λ plan. if nat_lt (length rows) (length day.trips) then Err (MissingTrip (length rows)) else Ok plan) d e) [
-  | inl none ↦ row_refused day rows d none
-  | inr (lists, is, e1) ↦ elim (guard_err (nat_lt (length rows) (length day.trips)) (MissingTrip (length rows)) (Ok lists) d e1) [
-    | inl left ↦ subst (IsRefusedFor day rows) left.1 (right_rows day rows lists is, refl, ltb-true (length rows) (length day.trips) left.0)
-    | inr never ↦ absurd cc
-  ]
-]
+plan_outcome day rows = outcome_then (row_tests (run_tests day) [] rows) _ (lists_in day rows) _ (rows_outcome day rows)
+    (λ plan is. outcome_guard _ [] (nat_lt (length rows) (length day.trips)) (Ok plan) (ltb-true (length rows) (length day.trips))
+    (λ all left. let none : length day.trips ≤ length rows = ltb-false (length rows) (length day.trips) all in absurd (omega arith))
+    (λ _. outcome_ok _ _))
+
+pub none_failed : (day : Day) (rows : List PlanRow) (plan : List (List ℕ)) → plan_of day rows ≡ Ok plan → NoneFailed (plan_tests day rows)
+none_failed day rows plan e = all_passed (plan_tests day rows) plan (subst (Outcome (plan_tests day rows)) e (plan_outcome day rows))
+
+pub first_failed : (day : Day) (rows : List PlanRow) (d : PlanRefusal) → plan_of day rows ≡ Err d → IsFirstFailed (plan_tests day rows) d
+first_failed day rows d e = first_of_failed _ (plan_tests day rows) d (subst (Outcome (plan_tests day rows)) e (plan_outcome day rows))
 
 -- what a call answers is so
-pub plan_answer_is_so : (day : Day) (rows : List PlanRow) (answer : Result (List (List ℕ)) PlanRefusal) → Gives is_memory answer (plan_of day rows) → IfErr answer (λ d. IsRefusedFor day rows d)
-plan_answer_is_so day rows (Ok plan) e = tt
-plan_answer_is_so day rows (Err (WrongTrip number)) e = plan_refused day rows (WrongTrip number) e
-plan_answer_is_so day rows (Err (UnknownUnit number)) e = plan_refused day rows (UnknownUnit number) e
-plan_answer_is_so day rows (Err (MissingTrip number)) e = plan_refused day rows (MissingTrip number) e
-plan_answer_is_so day rows (Err NoMemory) e = tt
+pub answer_is_so : (day : Day) (rows : List PlanRow) (answer : Result (List (List ℕ)) PlanRefusal) → Gives is_memory answer (plan_of day rows) → IfErr answer (λ d. Unless (is_memory d) (IsFirstFailed (plan_tests day rows) d))
+answer_is_so day rows (Ok plan) e = tt
+answer_is_so day rows (Err d) e = Unless-then (is_memory d) (plan_of day rows ≡ Err d) (IsFirstFailed (plan_tests day rows) d) (first_failed day rows d) e

@@ -1,116 +1,82 @@
--- What the tests refuse is so in the tables.
-use Rattle.std.proofs.Common.{◌≡◌, ◌≢◌, inl, inr, ℕ, ◌<◌, Bool, true, false, List, [], ◌∷◌, map, length, get_or, refl, sym, ap, subst, ◌∙◌, arith, Option, Some, Result, Ok, Err}
-use Rattle.std.specs.Prelude.{◌==◌, ◌&&◌, option_map, min, IfErr, nat_le, nat_lt, if◌then◌else◌}
-use Rattle.std.specs.List.{All, AllZip}
-use Rattle.std.specs.Str.{bytes_eq}
-use Rattle.std.proofs.lemmas.Bool.{and_parts, eqb-true, leb-true, ltb-true, cases_order}
-use Rattle.std.proofs.lemmas.Option.{slice_get_within, slice_get-map, slice_get-get_or, same_Some}
-use Rattle.std.proofs.lemmas.List.{length-map}
-use Rattle.std.proofs.lemmas.Slice.Eq.{bytes_eq-Decides}
+-- The tests of day_of fail where their words say so, and in their order.
+use Rattle.std.proofs.Common.{◌≡◌, ℕ, ◌<◌, ◌≤◌, Bool, true, false, List, [], ◌∷◌, map, length, refl, sym, ap, subst, ◌∙◌, arith, Some, Result, Ok, Err, slice_get}
+use Rattle.std.specs.Prelude.{◌==◌, ◌&&◌, min, IfErr, nat_le, nat_lt}
+use Rattle.std.specs.List.{AllZip}
+use Rattle.std.proofs.lemmas.Bool.{and_parts, and_from, eqb-true, eqb-false, eq-eqb, leb-true, leb-false, ltb-true, ltb-false, both_ways}
+use Rattle.std.proofs.lemmas.Option.{same_Some, get_or_from_slice_get}
+use Rattle.rail_base.specs.Answers.{Unless, Fails, Gives}
+use Rattle.rail_base.proofs.Answers.{Unless-then, Fails-then}
+use Rattle.rail_base.specs.declared.limits.TheConstants.{MOST_UNITS, MOST_COMPOSITIONS}
 use Rattle.compositions.specs.Catalogue.{catalogue_of}
 use Rattle.compositions.specs.Composition.{fits_in}
 use Rattle.compositions.specs.declared.types.UnitType.{UnitType}
+use Rattle.rail_csv.specs.declared.rows.StationRow.{StationRow}
 use Rattle.rail_csv.specs.declared.rows.StockRow.{StockRow}
-use Rattle.rail_csv.specs.declared.rows.TripRow.{TripRow}
-use Rattle.rail_csv.specs.declared.rows.Table.TheVariants as names
-use Rattle.timetable.specs.declared.day.records.Link.{Link}
+use Rattle.rail_csv.specs.declared.rows.TypeRow.{TypeRow}
 use Rattle.timetable.specs.declared.day.records.Station.{Station}
 use Rattle.timetable.specs.declared.day.records.Stock.{Stock}
 use Rattle.timetable.specs.declared.day.records.Trip.{Trip}
 use Rattle.timetable.specs.declared.building.refusal.InstanceRefusal.{InstanceRefusal}
-use Rattle.timetable.specs.declared.building.refusal.InstanceRefusal.TheVariants.{RepeatedName, UnknownName, RepeatedStock, ArrivalNotAfterDeparture, SameStation, TripUsedTwice, WrongStation, TooEarly, WrongLinkFields, NoComposition, TooManyUnits, TooManyCompositions, NoMemory}
+use Rattle.timetable.specs.declared.building.refusal.InstanceRefusal.TheVariants.{TooManyCompositions}
 use Rattle.timetable.specs.declared.building.tables.Tables.{Tables}
-use Rattle.timetable.specs.Admissible.{is_admissible}
-use Rattle.rail_base.specs.declared.limits.TheConstants.{MOST_UNITS, MOST_COMPOSITIONS}
-use Rattle.timetable.specs.Build.{has_stock, new_stock, has_fitting, platform_at, accept_type, accept_station, accept_stock, accept_trip, accept_run, type_in, station_in, types_in, stations_in, stock_in, trips_in, trip_between, starts_of, catalogue_in, weights_in, day_of, is_memory}
-use Rattle.timetable.specs.Naming.{has_name, find_name, found_or}
+use Rattle.timetable.specs.Build.{has_stock, new_stock, has_fitting, platform_at, accept_type, accept_station, accept_stock, accept_trip, accept_run, type_in, station_in, types_in, stations_in, stock_in, trips_in, trip_between, starts_of, catalogue_in, is_memory, weights_in, day_of}
 use Rattle.timetable.specs.Compositions.{greatest_in}
-use Rattle.timetable.specs.Day.{Day, from_of, to_of, platform_of}
+use Rattle.timetable.specs.Day.{Day}
 use Rattle.timetable.specs.LinkRows.{links_in}
-use Rattle.timetable.specs.Meaning.{IsNumberOf, AreNamedApart}
-use Rattle.timetable.proofs.Said.{stations_apart, number_found}
-use Rattle.timetable.specs.Refusals.{Repeats, IsUnserved, starts_in, IsBroken}
-use Rattle.rail_base.specs.Answers.{◌>>=◌, Fails, Gives}
-use Rattle.rail_base.proofs.Answers.{Fails-then}
-use Rattle.timetable.specs.Rowwise.{row_after, IsRow}
-use Rattle.timetable.proofs.Accepting.{IsFirstRefused, first_refused, bind_err, guard_err, choice_err, found_err, found_ok, any_front, accepted_map, accepted_zip}
+use Rattle.timetable.specs.Meaning.{AreNamedApart}
+use Rattle.timetable.specs.Naming.{has_name, find_name}
+use Rattle.timetable.specs.Refusals.{type_tests, station_tests, stock_tests, starts_in, compositions_in, IsUnserved, trip_tests, link_tests, day_tests}
+use Rattle.timetable.specs.Tests.{◌when◌, NoneFailed, IsFirstFailed, row_tests}
+use Rattle.timetable.proofs.Accepting.{any_front, accepted_map, accepted_zip}
 use Rattle.timetable.proofs.Days.{entry_at, entry_is}
-use Rattle.timetable.proofs.Entries.{type_of_row, station_of_row, stock_of_row, trip_of_row}
-use Rattle.timetable.proofs.Fitting.{nothing_admitted}
-use Rattle.timetable.proofs.LinksRefused.{links_refused}
-use Rattle.timetable.proofs.RefusedRows.{refused_row, not_found, same_name}
+use Rattle.timetable.proofs.Entries.{found_name, type_of_row, station_of_row, stock_of_row, trip_of_row}
+use Rattle.timetable.proofs.Fitting.{fitting_admits, nothing_admitted}
+use Rattle.timetable.proofs.LinksRefused.{links_outcome}
+use Rattle.timetable.proofs.RowNames.{same_name, zip_at, AreNamed, name_repeated, name_new, no_row, some_row, row_number}
+use Rattle.timetable.proofs.Said.{stations_apart}
+use Rattle.timetable.proofs.Tests.{Outcome, outcome_guard, outcome_choice, outcome_found, outcome_then, outcome_made, outcome_each, outcome_ok, all_passed, first_of_failed, any_entries}
 
--- a name that an entry has is that of a row before
-repeated : {A B E : Type 0} (accept : List B → A → Result B E) (row_name : A → List ℕ) (name_of : B → List ℕ) → ((before : List B) (row : A) (b : B) → accept before row ≡ Ok b → row_name row ≡ name_of b)
-    → (rows : List A) (d : E) (first : IsFirstRefused accept [] rows d) → has_name name_of first.entries (row_name first.row) ≡ true → Repeats row_name rows (row_after first.entries)
-repeated accept row_name name_of step rows d first some = (
-  first.front,
-  first.row,
-  refused_row accept rows d first,
-  any_front (λ a b. row_name a ≡ name_of b) (λ entry. bytes_eq (name_of entry) (row_name first.row)) (λ a. row_name a ≡ row_name first.row)
-      (λ a b same here. same ∙ (bytes_eq-Decides (name_of b) (row_name first.row)).0 here)
-      first.front first.entries (accepted_zip accept (λ a b. row_name a ≡ name_of b) step [] [] first.front first.entries tt first.accepted) some,
-)
-
-types_refused : (tables : Tables) (d : InstanceRefusal) → types_in tables.types ≡ Err d → IsBroken tables d
+types_outcome : (tables : Tables) → Outcome (row_tests type_tests [] tables.types) (types_in tables.types)
 unfolding types_in accept_type
-types_refused tables d e =
-    let first : IsFirstRefused accept_type [] tables.types d = first_refused accept_type [] tables.types d e in
-    elim (guard_err (has_name (λ t. t.name) first.entries first.row.name) (RepeatedName names.Types (row_after first.entries)) (Ok (type_in first.row)) d first.refused) [
-      | inl here ↦ subst (IsBroken tables) here.1 (repeated accept_type (λ row. row.name) (λ t. t.name) (λ before row t is. ap (λ (t : UnitType). t.name) (type_of_row before row t is).1) tables.types d first here.0)
-      | inr never ↦ absurd cc
-    ]
+types_outcome tables = outcome_each accept_type type_tests (λ row t. row.name ≡ t.name) (λ before row t is. ap (λ (t : UnitType). t.name) (type_of_row before row t is).1)
+    (λ front entries row all. outcome_guard _ [] (has_name (λ t. t.name) entries row.name) (Ok (type_in row))
+    (name_repeated (λ row. row.name) (λ t. t.name) front entries all row.name) (name_new (λ row. row.name) (λ t. t.name) front entries all row.name) (λ _. outcome_ok _ _))
+    [] [] tables.types tt
 
-stations_refused : (tables : Tables) (d : InstanceRefusal) → stations_in tables.stations ≡ Err d → IsBroken tables d
+stations_outcome : (tables : Tables) → Outcome (row_tests station_tests [] tables.stations) (stations_in tables.stations)
 unfolding stations_in accept_station
-stations_refused tables d e =
-    let first : IsFirstRefused accept_station [] tables.stations d = first_refused accept_station [] tables.stations d e in
-    elim (guard_err (has_name (λ s. s.name) first.entries first.row.name) (RepeatedName names.Stations (row_after first.entries)) (Ok (station_in first.row)) d first.refused) [
-      | inl here ↦ subst (IsBroken tables) here.1 (repeated accept_station (λ row. row.name) (λ s. s.name) (λ before row s is. ap (λ (s : Station). s.name) (station_of_row before row s is).1) tables.stations d first here.0)
-      | inr never ↦ absurd cc
-    ]
+stations_outcome tables = outcome_each accept_station station_tests (λ row s. row.name ≡ s.name) (λ before row s is. ap (λ (s : Station). s.name) (station_of_row before row s is).1)
+    (λ front entries row all. outcome_guard _ [] (has_name (λ s. s.name) entries row.name) (Ok (station_in row))
+    (name_repeated (λ row. row.name) (λ s. s.name) front entries all row.name) (name_new (λ row. row.name) (λ s. s.name) front entries all row.name) (λ _. outcome_ok _ _))
+    [] [] tables.stations tt
 
--- what a stock row is refused for
-stock_refused : (tables : Tables) (stations : List Station) (types : List UnitType) (d : InstanceRefusal) → stations ≡ map station_in tables.stations → types ≡ map type_in tables.types
-    → stock_in stations types tables.stock ≡ Err d → IsBroken tables d
+-- ---- stock
+
+stock_outcome : (tables : Tables) (stations : List Station) (types : List UnitType) → AreNamed (λ row. row.name) (λ s. s.name) tables.stations stations → AreNamed (λ row. row.name) (λ t. t.name) tables.types types
+    → Outcome (row_tests (stock_tests tables) [] tables.stock) (stock_in stations types tables.stock)
 unfolding stock_in accept_stock
-stock_refused tables stations types d are_stations are_types e =
-    let first : IsFirstRefused (accept_stock stations types) [] tables.stock d = first_refused (accept_stock stations types) [] tables.stock d e in
-    let row : StockRow = first.row in
-    let number : ℕ = row_after first.entries in
-    let is_row : IsRow tables.stock number first.front row = refused_row (accept_stock stations types) tables.stock d first in
-    let at : Option ℕ = find_name (λ s. s.name) stations row.station in
-    let of : Option ℕ = find_name (λ t. t.name) types row.unit_type in
-    elim (bind_err (found_or at (UnknownName names.Stock number 0)) (λ s. found_or of (UnknownName names.Stock number 1) >>= (λ m. new_stock first.entries row s m)) d first.refused) [
-      | inl unknown ↦
-          let (none, same) = found_err at (UnknownName names.Stock number 0) d unknown in
-          subst (IsBroken tables) same (first.front, row, is_row, inl (refl, subst (λ (xs : List Station). All (λ s. s.name ≢ row.station) xs) are_stations (not_found (λ s. s.name) stations row.station none)))
-      | inr (s, is_s, e1) ↦ elim (bind_err (found_or of (UnknownName names.Stock number 1)) (λ m. new_stock first.entries row s m) d e1) [
-        | inl unknown ↦
-            let (none, same) = found_err of (UnknownName names.Stock number 1) d unknown in
-            subst (IsBroken tables) same (first.front, row, is_row, inr (refl, subst (λ (xs : List UnitType). All (λ t. t.name ≢ row.unit_type) xs) are_types (not_found (λ t. t.name) types row.unit_type none)))
-        | inr (m, is_m, e2) ↦ elim (guard_err (has_stock first.entries s m) (RepeatedStock number) (Ok (record { station = s; unit_type = m; start = row.start; end = row.end })) d e2) [
-          | inl here ↦ subst (IsBroken tables) here.1 (
-            first.front,
-            row,
-            is_row,
-            any_front (λ r b. (find_name (λ s. s.name) stations r.station ≡ Some b.station) × (find_name (λ t. t.name) types r.unit_type ≡ Some b.unit_type))
-                (λ b. (b.station == s) && (b.unit_type == m)) (λ r. (r.station ≡ row.station) × (r.unit_type ≡ row.unit_type))
-                (λ r b found pass.
-                let (at_s, of_m) = and_parts (b.station == s) (b.unit_type == m) pass in (
-                  same_name (λ s. s.name) stations r.station row.station s (found.0 ∙ ap Some (eqb-true b.station s at_s)) (found_ok at (UnknownName names.Stock number 0) s is_s),
-                  same_name (λ t. t.name) types r.unit_type row.unit_type m (found.1 ∙ ap Some (eqb-true b.unit_type m of_m)) (found_ok of (UnknownName names.Stock number 1) m is_m),
-                ))
-                first.front first.entries
-                (accepted_zip (accept_stock stations types) (λ r b. (find_name (λ s. s.name) stations r.station ≡ Some b.station) × (find_name (λ t. t.name) types r.unit_type ≡ Some b.unit_type))
-                (λ before r b is. ((stock_of_row stations types before r b is).station, (stock_of_row stations types before r b is).unit_type))
-                [] [] first.front first.entries tt first.accepted)
-                here.0,
-          )
-          | inr never ↦ absurd cc
-        ]
-      ]
-    ]
+stock_outcome tables stations types named_stations named_types =
+    let IsOf : StockRow → Stock → Type 0 = λ r b. (find_name (λ s. s.name) stations r.station ≡ Some b.station) × (find_name (λ t. t.name) types r.unit_type ≡ Some b.unit_type) in
+    outcome_each (accept_stock stations types) (stock_tests tables) IsOf (λ before row b is. ((stock_of_row stations types before row b is).station, (stock_of_row stations types before row b is).unit_type))
+    (λ front entries row all. outcome_found _ _ (find_name (λ s. s.name) stations row.station) _
+    (no_row (λ row. row.name) (λ s. s.name) tables.stations stations named_stations row.station) (some_row (λ row. row.name) (λ s. s.name) tables.stations stations named_stations row.station)
+    (λ s is_s. outcome_found _ _ (find_name (λ t. t.name) types row.unit_type) (λ m. new_stock entries row s m)
+    (no_row (λ row. row.name) (λ t. t.name) tables.types types named_types row.unit_type) (some_row (λ row. row.name) (λ t. t.name) tables.types types named_types row.unit_type)
+    (λ m is_m. outcome_guard _ [] (has_stock entries s m) (Ok (record { station = s; unit_type = m; start = row.start; end = row.end }))
+    (any_front IsOf (λ b. (b.station == s) && (b.unit_type == m)) (λ r. (r.station ≡ row.station) × (r.unit_type ≡ row.unit_type))
+    (λ r b found pass.
+    let (at_s, of_m) = and_parts (b.station == s) (b.unit_type == m) pass in (
+      same_name (λ s. s.name) stations r.station row.station s (found.0 ∙ ap Some (eqb-true b.station s at_s)) is_s,
+      same_name (λ t. t.name) types r.unit_type row.unit_type m (found.1 ∙ ap Some (eqb-true b.unit_type m of_m)) is_m,
+    )) front entries all)
+    (λ none some. both_ways (has_stock entries s m) none
+    (any_entries IsOf (λ b. (b.station == s) && (b.unit_type == m)) (λ r. (r.station ≡ row.station) × (r.unit_type ≡ row.unit_type))
+    (λ r b found same. and_from (b.station == s) (b.unit_type == m)
+    (eq-eqb b.station s (same_Some b.station s (sym found.0 ∙ ap (find_name (λ s. s.name) stations) same.0 ∙ is_s)))
+    (eq-eqb b.unit_type m (same_Some b.unit_type m (sym found.1 ∙ ap (find_name (λ t. t.name) types) same.1 ∙ is_m))))
+    front entries all some))
+    (λ _. outcome_ok _ _))))
+    [] [] tables.stock tt
 
 -- the stock's units are those of its rows
 starts_said : (rows : List StockRow) (stock : List Stock) → AllZip (λ row stock. stock.start ≡ row.start) rows stock → starts_of stock ≡ starts_in rows
@@ -119,165 +85,143 @@ starts_said [] (b ∷ bs) all = absurd all
 starts_said (r ∷ rs) [] all = absurd all
 starts_said (r ∷ rs) (b ∷ bs) all = let here : b.start ≡ r.start = all.0 in omega (arith, starts_said rs bs all.1)
 
-units_refused : (tables : Tables) (stations : List Station) (types : List UnitType) (stock : List Stock) → stock_in stations types tables.stock ≡ Ok stock → 2000 < starts_of stock → 2000 < starts_in tables.stock
+units_said : (stations : List Station) (types : List UnitType) (rows : List StockRow) (stock : List Stock) → stock_in stations types rows ≡ Ok stock → starts_of stock ≡ starts_in rows
 unfolding stock_in
-units_refused tables stations types stock e many =
-    let same : starts_of stock ≡ starts_in tables.stock = starts_said tables.stock stock (accepted_zip (accept_stock stations types) (λ row stock. stock.start ≡ row.start)
-    (λ before row b is. (stock_of_row stations types before row b is).start) [] [] tables.stock stock tt e) in
-    omega arith
+units_said stations types rows stock e = starts_said rows stock (accepted_zip (accept_stock stations types) (λ row stock. stock.start ≡ row.start)
+    (λ before row b is. (stock_of_row stations types before row b is).start) [] [] rows stock tt e)
 
--- a number of a name is a place where it stands
-number_at : {X : Type 0} (name_of : X → List ℕ) (entries : List X) (name : List ℕ) (i : ℕ) → IsNumberOf name_of entries name i → (i < length entries) × ((d : X) → name_of (get_or entries i d) ≡ name)
-number_at name_of entries name i is =
-    let below : i < length entries = (let h : i < length (map name_of entries) = slice_get_within (map name_of entries) i name is in omega (arith, length-map entries name_of)) in
-    (below, λ d. same_Some (name_of (get_or entries i d)) name (sym (slice_get-map name_of entries i ∙ ap (option_map name_of) (slice_get-get_or entries i d below)) ∙ is))
+-- ---- trips
 
--- two numbers of one name are one, where names are apart
-same_number : {X : Type 0} (name_of : X → List ℕ) (entries : List X) (name : List ℕ) (i j : ℕ) → AreNamedApart name_of entries → IsNumberOf name_of entries name i → IsNumberOf name_of entries name j → i ≡ j
-same_number {X} name_of entries name i j apart is_i is_j =
-    let (below_i, at_i) = number_at name_of entries name i is_i in
-    let (below_j, at_j) = number_at name_of entries name j is_j in
-    let (x, _, _) = entry_at (λ _. Unit {0}) entries i below_i (λ k d b. tt) in
-    elim (cases_order i j) [
-      | inl same ↦ same
-      | inr differ ↦ elim differ [
-        | inl before ↦ absurd (apart i j x before below_j (at_i x ∙ sym (at_j x)))
-        | inr after ↦ absurd (apart j i x after below_i (at_j x ∙ sym (at_i x)))
-      ]
-    ]
+-- the row of a station that was found, with its platform
+found_station : (tables : Tables) (stations : List Station) (name : List ℕ) (n : ℕ) → AllZip (λ row s. station_in row ≡ s) tables.stations stations → find_name (λ s. s.name) stations name ≡ Some n
+    → (row : StationRow) × (slice_get tables.stations n ≡ Some row) × (row.name ≡ name) × (platform_at stations n ≡ row.platform)
+found_station tables stations name n zip is =
+    let (below, at) = found_name (λ s. s.name) stations name n is in
+    let (s, there, _) = entry_at (λ _. Unit {0}) stations n below (λ k d b. tt) in
+    let (row, here, same) = zip_at (λ row s. station_in row ≡ s) tables.stations stations n s zip there in (
+      row,
+      here,
+      ap (λ (s : Station). s.name) (same ∙ sym (get_or_from_slice_get stations n s s there)) ∙ at s,
+      entry_is (λ s. s.platform) stations n 0 s there ∙ ap (λ (s : Station). s.platform) (sym same),
+    )
 
 -- no composition may run between two platforms that no type fits
-unserved : (tables : Tables) (stations : List Station) (row : TripRow) (a b : ℕ) → stations_in tables.stations ≡ Ok stations → stations ≡ map station_in tables.stations
-    → find_name (λ s. s.name) stations row.from ≡ Some a → find_name (λ s. s.name) stations row.to ≡ Some b
-    → has_fitting (map type_in tables.types) (min (platform_at stations a) (platform_at stations b)) ≡ false → IsUnserved tables row
-unfolding is_admissible platform_of from_of to_of
-unserved tables stations row a b made are_stations is_a is_b none day t trip types same at is ms =
-    let longest : List Station → ℕ → ℕ → ℕ = λ xs a b. min (platform_at xs a) (platform_at xs b) in
-    let apart : AreNamedApart (λ s. s.name) stations = stations_apart tables.stations stations made in
-    let one : day.stations ≡ stations = same ∙ sym are_stations in
-    let from : trip.from ≡ a = same_number (λ s. s.name) stations row.from trip.from a apart (subst (λ (xs : List Station). IsNumberOf (λ s. s.name) xs row.from trip.from) one is.from) (number_found (λ s. s.name) stations row.from a is_a) in
-    let to : trip.to ≡ b = same_number (λ s. s.name) stations row.to trip.to b apart (subst (λ (xs : List Station). IsNumberOf (λ s. s.name) xs row.to trip.to) one is.to) (number_found (λ s. s.name) stations row.to b is_b) in
-    let leaves_from : from_of day t ≡ a = entry_is (λ trip. trip.from) day.trips t 0 trip at ∙ from in
-    let goes_to : to_of day t ≡ b = entry_is (λ trip. trip.to) day.trips t 0 trip at ∙ to in
-    let metres : longest day.stations (from_of day t) (to_of day t) ≡ longest stations a b =
-    ap (λ (xs : List Station). longest xs (from_of day t) (to_of day t)) one ∙ ap (λ (x : ℕ). longest stations x (to_of day t)) leaves_from ∙ ap (λ (y : ℕ). longest stations a y) goes_to in
-    subst (λ (ts : List UnitType). fits_in ts (longest day.stations (from_of day t) (to_of day t)) ms ≡ false) (sym types)
-    (subst (λ (n : ℕ). fits_in (map type_in tables.types) n ms ≡ false) (sym metres) (nothing_admitted (map type_in tables.types) (longest stations a b) none ms))
+unserved : (tables : Tables) (stations : List Station) (from to : List ℕ) (a b : ℕ) → AllZip (λ row s. station_in row ≡ s) tables.stations stations → find_name (λ s. s.name) stations from ≡ Some a → find_name (λ s. s.name) stations to ≡ Some b
+    → has_fitting (map type_in tables.types) (min (platform_at stations a) (platform_at stations b)) ≡ false → IsUnserved tables from to
+unserved tables stations from to a b zip is_a is_b none =
+    let (here, at_a, named_a, platform_a) = found_station tables stations from a zip is_a in
+    let (there, at_b, named_b, platform_b) = found_station tables stations to b zip is_b in
+    record {
+      origin = a;
+      goal = b;
+      here = here;
+      there = there;
+      at_origin = at_a;
+      at_goal = at_b;
+      named_origin = named_a;
+      named_goal = named_b;
+      unfit = λ ms. subst (λ (n : ℕ). fits_in (map type_in tables.types) n ms ≡ false) (ap (λ (n : ℕ). min n (platform_at stations b)) platform_a ∙ ap (λ (n : ℕ). min here.platform n) platform_b)
+          (nothing_admitted (map type_in tables.types) (min (platform_at stations a) (platform_at stations b)) none ms);
+    }
 
-trips_refused : (tables : Tables) (stations : List Station) (types : List UnitType) (d : InstanceRefusal) → stations_in tables.stations ≡ Ok stations → stations ≡ map station_in tables.stations → types ≡ map type_in tables.types
-    → trips_in stations types tables.trips ≡ Err d → IsBroken tables d
+-- one unit of a type that fits may run
+served : (tables : Tables) (stations : List Station) (from to : List ℕ) (a b : ℕ) → AllZip (λ row s. station_in row ≡ s) tables.stations stations → AreNamed (λ row. row.name) (λ s. s.name) tables.stations stations → AreNamedApart (λ s. s.name) stations
+    → find_name (λ s. s.name) stations from ≡ Some a → find_name (λ s. s.name) stations to ≡ Some b
+    → has_fitting (map type_in tables.types) (min (platform_at stations a) (platform_at stations b)) ≡ true → ¬ IsUnserved tables from to
+served tables stations from to a b zip named apart is_a is_b some un =
+    let types : List UnitType = map type_in tables.types in
+    let longest : ℕ = min (platform_at stations a) (platform_at stations b) in
+    let origin : un.origin ≡ a = row_number (λ row. row.name) (λ s. s.name) tables.stations stations named un.origin a un.here apart un.at_origin (ap (find_name (λ s. s.name) stations) un.named_origin ∙ is_a) in
+    let goal : un.goal ≡ b = row_number (λ row. row.name) (λ s. s.name) tables.stations stations named un.goal b un.there apart un.at_goal (ap (find_name (λ s. s.name) stations) un.named_goal ∙ is_b) in
+    let (here, at_a, _, platform_a) = found_station tables stations from a zip is_a in
+    let (there, at_b, _, platform_b) = found_station tables stations to b zip is_b in
+    let one_a : un.here ≡ here = same_Some un.here here (sym un.at_origin ∙ ap (slice_get tables.stations) origin ∙ at_a) in
+    let one_b : un.there ≡ there = same_Some un.there there (sym un.at_goal ∙ ap (slice_get tables.stations) goal ∙ at_b) in
+    let metres_a : un.here.platform ≡ platform_at stations a = ap (λ (row : StationRow). row.platform) one_a ∙ sym platform_a in
+    let metres_b : un.there.platform ≡ platform_at stations b = ap (λ (row : StationRow). row.platform) one_b ∙ sym platform_b in
+    let same : min un.here.platform un.there.platform ≡ longest = ap (λ (n : ℕ). min n un.there.platform) metres_a ∙ ap (λ (n : ℕ). min (platform_at stations a) n) metres_b in
+    let (ms, fits) = fitting_admits types longest some in
+    both_ways (fits_in types longest ms) (subst (λ (n : ℕ). fits_in types n ms ≡ false) same (un.unfit ms)) fits
+
+trips_outcome : (tables : Tables) (stations : List Station) (types : List UnitType) → stations_in tables.stations ≡ Ok stations → AllZip (λ row s. station_in row ≡ s) tables.stations stations → AreNamed (λ row. row.name) (λ s. s.name) tables.stations stations
+    → types ≡ map type_in tables.types → Outcome (row_tests (trip_tests tables) [] tables.trips) (trips_in stations types tables.trips)
 unfolding trips_in accept_trip accept_run
-trips_refused tables stations types d made are_stations are_types e =
-    let first : IsFirstRefused (accept_trip stations types) [] tables.trips d = first_refused (accept_trip stations types) [] tables.trips d e in
-    let row : TripRow = first.row in
-    let number : ℕ = row_after first.entries in
-    let is_row : IsRow tables.trips number first.front row = refused_row (accept_trip stations types) tables.trips d first in
-    let from : Option ℕ = find_name (λ s. s.name) stations row.from in
-    let to : Option ℕ = find_name (λ s. s.name) stations row.to in
-    let run : ℕ → ℕ → Result Trip InstanceRefusal = λ a b. accept_run stations types number (trip_between row a b) in
-    let served : ℕ → ℕ → Bool = λ a b. has_fitting types (min (platform_at stations a) (platform_at stations b)) in
-    let rest : ℕ → ℕ → Result Trip InstanceRefusal = λ a b. if served a b then Ok (trip_between row a b) else Err (NoComposition number) in
-    elim (guard_err (has_name (λ t. t.name) first.entries row.name) (RepeatedName names.Trips number) (found_or from (UnknownName names.Trips number 1) >>= (λ a. found_or to (UnknownName names.Trips number 3) >>= (λ b. run a b))) d first.refused) [
-      | inl here ↦ subst (IsBroken tables) here.1 (repeated (accept_trip stations types) (λ row. row.name) (λ t. t.name) (λ before row t is. ap (λ (t : Trip). t.name) (sym (trip_of_row stations types before row t is).is)) tables.trips d first here.0)
-      | inr e1 ↦ elim (bind_err (found_or from (UnknownName names.Trips number 1)) (λ a. found_or to (UnknownName names.Trips number 3) >>= (λ b. run a b)) d e1) [
-        | inl unknown ↦
-            let (none, same) = found_err from (UnknownName names.Trips number 1) d unknown in
-            subst (IsBroken tables) same (first.front, row, is_row, inl (refl, subst (λ (xs : List Station). All (λ s. s.name ≢ row.from) xs) are_stations (not_found (λ s. s.name) stations row.from none)))
-        | inr (a, is_a, e2) ↦ elim (bind_err (found_or to (UnknownName names.Trips number 3)) (λ b. run a b) d e2) [
-          | inl unknown ↦
-              let (none, same) = found_err to (UnknownName names.Trips number 3) d unknown in
-              subst (IsBroken tables) same (first.front, row, is_row, inr (refl, subst (λ (xs : List Station). All (λ s. s.name ≢ row.to) xs) are_stations (not_found (λ s. s.name) stations row.to none)))
-          | inr (b, is_b, e3) ↦ elim (guard_err (a == b) (SameStation number) (if nat_le row.arrival row.departure then Err (ArrivalNotAfterDeparture number) else rest a b) d e3) [
-            | inl here ↦
-                let found_b : to ≡ Some b = found_ok to (UnknownName names.Trips number 3) b is_b in
-                subst (IsBroken tables) here.1 (
-                  first.front,
-                  row,
-                  is_row,
-                  same_name (λ s. s.name) stations row.from row.to b (found_ok from (UnknownName names.Trips number 1) a is_a ∙ ap Some (eqb-true a b here.0)) found_b,
-                )
-            | inr e4 ↦ elim (guard_err (nat_le row.arrival row.departure) (ArrivalNotAfterDeparture number) (rest a b) d e4) [
-              | inl here ↦ subst (IsBroken tables) here.1 (first.front, row, is_row, leb-true row.arrival row.departure here.0)
-              | inr e5 ↦
-                  let (none, same) = choice_err (served a b) (trip_between row a b) (NoComposition number) d e5 in
-                  subst (IsBroken tables) same (
-                    first.front,
-                    row,
-                    is_row,
-                    unserved tables stations row a b made are_stations (found_ok from (UnknownName names.Trips number 1) a is_a) (found_ok to (UnknownName names.Trips number 3) b is_b)
-                        (subst (λ (ts : List UnitType). has_fitting ts (min (platform_at stations a) (platform_at stations b)) ≡ false) are_types none),
-                  )
-            ]
-          ]
-        ]
-      ]
-    ]
+trips_outcome tables stations types made zip named are_types =
+    let apart : AreNamedApart (λ s. s.name) stations = stations_apart tables.stations stations made in
+    let fits : List UnitType → ℕ → ℕ → Bool = λ types a b. has_fitting types (min (platform_at stations a) (platform_at stations b)) in
+    outcome_each (accept_trip stations types) (trip_tests tables) (λ row t. row.name ≡ t.name) (λ before row t is. ap (λ (t : Trip). t.name) (sym (trip_of_row stations types before row t is).is))
+    (λ front entries row all. outcome_guard _ _ (has_name (λ t. t.name) entries row.name) _
+    (name_repeated (λ row. row.name) (λ t. t.name) front entries all row.name) (name_new (λ row. row.name) (λ t. t.name) front entries all row.name)
+    (λ new. outcome_found _ _ (find_name (λ s. s.name) stations row.from) _
+    (no_row (λ row. row.name) (λ s. s.name) tables.stations stations named row.from) (some_row (λ row. row.name) (λ s. s.name) tables.stations stations named row.from)
+    (λ a is_a. outcome_found _ _ (find_name (λ s. s.name) stations row.to) _
+    (no_row (λ row. row.name) (λ s. s.name) tables.stations stations named row.to) (some_row (λ row. row.name) (λ s. s.name) tables.stations stations named row.to)
+    (λ b is_b. outcome_guard _ _ (a == b) _
+    (λ same. same_name (λ s. s.name) stations row.from row.to b (is_a ∙ ap Some (eqb-true a b same)) is_b)
+    (λ differ same. eqb-false a b differ (same_Some a b (sym is_a ∙ ap (find_name (λ s. s.name) stations) same ∙ is_b)))
+    (λ differ. outcome_guard _ _ (nat_le row.arrival row.departure) _ (leb-true row.arrival row.departure)
+    (λ later late. let after : row.departure < row.arrival = leb-false row.arrival row.departure later in absurd (omega arith))
+    (λ later. outcome_choice _ [] (fits types a b) (Ok (trip_between row a b))
+    (λ none. unserved tables stations row.from row.to a b zip is_a is_b (subst (λ (ts : List UnitType). fits ts a b ≡ false) are_types none))
+    (λ some. served tables stations row.from row.to a b zip named apart is_a is_b (subst (λ (ts : List UnitType). fits ts a b ≡ true) are_types some))
+    (λ _. outcome_ok _ _)))))))
+    [] [] tables.trips tt
 
-compositions_refused : (tables : Tables) (types : List UnitType) (stations : List Station) (d : InstanceRefusal) → types ≡ map type_in tables.types → stations ≡ map station_in tables.stations → catalogue_in types stations ≡ Err d → IsBroken tables d
+-- ---- all tests
+
+compositions_outcome : (tables : Tables) (types : List UnitType) (stations : List Station) → types ≡ map type_in tables.types → stations ≡ map station_in tables.stations
+    → Outcome (TooManyCompositions when (MOST_COMPOSITIONS < length (compositions_in tables)) ∷ []) (catalogue_in types stations)
 unfolding catalogue_in
-compositions_refused tables types stations d are_types are_stations e =
-    let compositions : List UnitType → List Station → List (List ℕ) = λ types stations. catalogue_of types (greatest_in stations) in
-    elim (guard_err (nat_lt MOST_COMPOSITIONS (length (compositions types stations))) TooManyCompositions (Ok (compositions types stations)) d e) [
-      | inl many ↦ subst (IsBroken tables) many.1
-          (subst (λ (ts : List UnitType). 1000 < length (compositions ts (map station_in tables.stations))) are_types
-          (subst (λ (ss : List Station). 1000 < length (compositions types ss)) are_stations (ltb-true 1000 (length (compositions types stations)) many.0)))
-      | inr never ↦ absurd cc
-    ]
+compositions_outcome tables types stations are_types are_stations =
+    let count : List UnitType → List Station → ℕ = λ types stations. length (catalogue_of types (greatest_in stations)) in
+    let same : count types stations ≡ length (compositions_in tables) = ap (λ (ts : List UnitType). count ts stations) are_types ∙ ap (count (map type_in tables.types)) are_stations in
+    outcome_guard _ [] (nat_lt MOST_COMPOSITIONS (count types stations)) (Ok (catalogue_of types (greatest_in stations)))
+    (λ many. subst (λ (n : ℕ). MOST_COMPOSITIONS < n) same (ltb-true MOST_COMPOSITIONS (count types stations) many))
+    (λ few many. let within : count types stations ≤ MOST_COMPOSITIONS = ltb-false MOST_COMPOSITIONS (count types stations) few in absurd (omega arith))
+    (λ _. outcome_ok _ _)
 
--- the test that fails first says what is so
-pub refusal_is_so : (tables : Tables) (d : InstanceRefusal) → day_of tables ≡ Err d → IsBroken tables d
-unfolding day_of types_in stations_in
-refusal_is_so tables d e =
-    let made : List UnitType → List Station → List Stock → List Trip → List Link → Day = λ types stations stock trips links. record { types = types; stations = stations; stock = stock; trips = trips; links = links; weights = weights_in tables.weights } in
-    let with_links : List UnitType → List Station → List Stock → List Trip → Result Day InstanceRefusal = λ types stations stock trips. links_in trips tables.links >>= (λ links. Ok (made types stations stock trips links)) in
-    let with_trips : List UnitType → List Station → List Stock → Result Day InstanceRefusal = λ types stations stock. trips_in stations types tables.trips >>= (λ trips. with_links types stations stock trips) in
-    let with_catalogue : List UnitType → List Station → List Stock → Result Day InstanceRefusal = λ types stations stock. catalogue_in types stations >>= (λ catalogue. with_trips types stations stock) in
-    let with_stock : List UnitType → List Station → List Stock → Result Day InstanceRefusal = λ types stations stock. if nat_lt MOST_UNITS (starts_of stock) then Err TooManyUnits else with_catalogue types stations stock in
-    elim (bind_err (types_in tables.types) (λ types. stations_in tables.stations >>= (λ stations. stock_in stations types tables.stock >>= (λ stock. with_stock types stations stock))) d e) [
-      | inl none ↦ types_refused tables d none
-      | inr (types, is_types, e1) ↦ elim (bind_err (stations_in tables.stations) (λ stations. stock_in stations types tables.stock >>= (λ stock. with_stock types stations stock)) d e1) [
-        | inl none ↦ stations_refused tables d none
-        | inr (stations, is_stations, e2) ↦
-            let are_types : types ≡ map type_in tables.types = accepted_map accept_type type_in (λ before row t is. (type_of_row before row t is).1) [] tables.types types is_types in
-            let are_stations : stations ≡ map station_in tables.stations = accepted_map accept_station station_in (λ before row s is. (station_of_row before row s is).1) [] tables.stations stations is_stations in
-            elim (bind_err (stock_in stations types tables.stock) (λ stock. with_stock types stations stock) d e2) [
-              | inl none ↦ stock_refused tables stations types d are_stations are_types none
-              | inr (stock, is_stock, e3) ↦ elim (guard_err (nat_lt MOST_UNITS (starts_of stock)) TooManyUnits (with_catalogue types stations stock) d e3) [
-                | inl many ↦ subst (IsBroken tables) many.1 (units_refused tables stations types stock is_stock (ltb-true 2000 (starts_of stock) many.0))
-                | inr e4 ↦ elim (bind_err (catalogue_in types stations) (λ catalogue. with_trips types stations stock) d e4) [
-                  | inl many ↦ compositions_refused tables types stations d are_types are_stations many
-                  | inr (catalogue, is_catalogue, e5) ↦ elim (bind_err (trips_in stations types tables.trips) (λ trips. with_links types stations stock trips) d e5) [
-                    | inl none ↦ trips_refused tables stations types d is_stations are_stations are_types none
-                    | inr (trips, is_trips, e6) ↦ elim (bind_err (links_in trips tables.links) (λ links. Ok (made types stations stock trips links)) d e6) [
-                      | inl none ↦ links_refused tables stations types trips d is_trips none
-                      | inr (links, is_links, e7) ↦ absurd cc
-                    ]
-                  ]
-                ]
-              ]
-            ]
-      ]
-    ]
+types_of_rows : (rows : List TypeRow) (types : List UnitType) → types_in rows ≡ Ok types → (types ≡ map type_in rows) × AreNamed (λ row. row.name) (λ t. t.name) rows types
+unfolding types_in
+types_of_rows rows types e = (
+  accepted_map accept_type type_in (λ before row t is. (type_of_row before row t is).1) [] rows types e,
+  accepted_zip accept_type (λ row t. row.name ≡ t.name) (λ before row t is. ap (λ (t : UnitType). t.name) (type_of_row before row t is).1) [] [] rows types tt e,
+)
+
+stations_of_rows : (rows : List StationRow) (stations : List Station) → stations_in rows ≡ Ok stations
+    → (stations ≡ map station_in rows) × AllZip (λ row s. station_in row ≡ s) rows stations × AreNamed (λ row. row.name) (λ s. s.name) rows stations
+unfolding stations_in
+stations_of_rows rows stations e = (
+  accepted_map accept_station station_in (λ before row s is. (station_of_row before row s is).1) [] rows stations e,
+  accepted_zip accept_station (λ row s. station_in row ≡ s) (λ before row s is. (station_of_row before row s is).1) [] [] rows stations tt e,
+  accepted_zip accept_station (λ row s. row.name ≡ s.name) (λ before row s is. ap (λ (s : Station). s.name) (station_of_row before row s is).1) [] [] rows stations tt e,
+)
+
+day_outcome : (tables : Tables) → Outcome (day_tests tables) (day_of tables)
+unfolding day_of
+day_outcome tables =
+    outcome_then (row_tests type_tests [] tables.types) _ (types_in tables.types) _ (types_outcome tables) (λ types is_types.
+    outcome_then (row_tests station_tests [] tables.stations) _ (stations_in tables.stations) _ (stations_outcome tables) (λ stations is_stations.
+    let (are_types, named_types) = types_of_rows tables.types types is_types in
+    let (are_stations, zip, named_stations) = stations_of_rows tables.stations stations is_stations in
+    outcome_then (row_tests (stock_tests tables) [] tables.stock) _ (stock_in stations types tables.stock) _ (stock_outcome tables stations types named_stations named_types) (λ stock is_stock.
+    let units : starts_of stock ≡ starts_in tables.stock = units_said stations types tables.stock stock is_stock in
+    outcome_guard _ _ (nat_lt MOST_UNITS (starts_of stock)) _
+    (λ many. subst (λ (n : ℕ). MOST_UNITS < n) units (ltb-true MOST_UNITS (starts_of stock) many))
+    (λ few many. let within : starts_of stock ≤ MOST_UNITS = ltb-false MOST_UNITS (starts_of stock) few in absurd (omega arith))
+    (λ few. outcome_then (TooManyCompositions when (MOST_COMPOSITIONS < length (compositions_in tables)) ∷ []) _ (catalogue_in types stations) _ (compositions_outcome tables types stations are_types are_stations) (λ catalogue is_catalogue.
+    outcome_then (row_tests (trip_tests tables) [] tables.trips) _ (trips_in stations types tables.trips) _ (trips_outcome tables stations types is_stations zip named_stations are_types) (λ trips is_trips.
+    outcome_made (row_tests (link_tests tables) [] tables.links) (links_in trips tables.links) _ (links_outcome tables stations types trips is_trips)))))))
+
+pub none_failed : (tables : Tables) (day : Day) → day_of tables ≡ Ok day → NoneFailed (day_tests tables)
+none_failed tables day e = all_passed (day_tests tables) day (subst (Outcome (day_tests tables)) e (day_outcome tables))
+
+pub first_failed : (tables : Tables) (d : InstanceRefusal) → day_of tables ≡ Err d → IsFirstFailed (day_tests tables) d
+first_failed tables d e = first_of_failed _ (day_tests tables) d (subst (Outcome (day_tests tables)) e (day_outcome tables))
 
 -- what a call answers is so
-pub failure_is_so : (tables : Tables) (d : InstanceRefusal) → Fails is_memory d (day_of tables) → IsBroken tables d
-failure_is_so tables (RepeatedName table row) e = refusal_is_so tables (RepeatedName table row) e
-failure_is_so tables (UnknownName table row column) e = refusal_is_so tables (UnknownName table row column) e
-failure_is_so tables (RepeatedStock row) e = refusal_is_so tables (RepeatedStock row) e
-failure_is_so tables (ArrivalNotAfterDeparture row) e = refusal_is_so tables (ArrivalNotAfterDeparture row) e
-failure_is_so tables (SameStation row) e = refusal_is_so tables (SameStation row) e
-failure_is_so tables (TripUsedTwice row) e = refusal_is_so tables (TripUsedTwice row) e
-failure_is_so tables (WrongStation row) e = refusal_is_so tables (WrongStation row) e
-failure_is_so tables (TooEarly row) e = refusal_is_so tables (TooEarly row) e
-failure_is_so tables (WrongLinkFields row) e = refusal_is_so tables (WrongLinkFields row) e
-failure_is_so tables (NoComposition row) e = refusal_is_so tables (NoComposition row) e
-failure_is_so tables TooManyUnits e = refusal_is_so tables TooManyUnits e
-failure_is_so tables TooManyCompositions e = refusal_is_so tables TooManyCompositions e
-failure_is_so tables NoMemory e = tt
-
-pub answer_is_so : (tables : Tables) (answer : Result Day InstanceRefusal) → Gives is_memory answer (day_of tables) → IfErr answer (λ d. IsBroken tables d)
+pub answer_is_so : (tables : Tables) (answer : Result Day InstanceRefusal) → Gives is_memory answer (day_of tables) → IfErr answer (λ d. Unless (is_memory d) (IsFirstFailed (day_tests tables) d))
 answer_is_so tables (Ok day) e = tt
-answer_is_so tables (Err d) e = failure_is_so tables d e
+answer_is_so tables (Err d) e = Unless-then (is_memory d) (day_of tables ≡ Err d) (IsFirstFailed (day_tests tables) d) (first_failed tables d) e
 
 -- once all other tables are accepted, the day fails as its links do
 pub links_fail : (tables : Tables) (types : List UnitType) (stations : List Station) (stock : List Stock) (catalogue : List (List ℕ)) (trips : List Trip) (d : InstanceRefusal)

@@ -65,6 +65,15 @@ stations_apart rows stations e = accepted_pairs accept_station (λ a b. a.name �
     (λ before row s is k d below. subst (λ (s : Station). (get_or before k d).name ≢ s.name) (station_of_row before row s is).1 (new_name (λ s. s.name) before row.name (station_of_row before row s is).0 k d below))
     [] rows stations (none_apart (λ a b. a.name ≢ b.name)) e
 
+-- and so have trips
+pub trips_apart : (stations : List Station) (types : List UnitType) (rows : List TripRow) (trips : List Trip) → trips_in stations types rows ≡ Ok trips → AreNamedApart (λ t. t.name) trips
+unfolding trips_in
+trips_apart stations types rows trips e = accepted_pairs (accept_trip stations types) (λ a b. a.name ≢ b.name)
+    (λ before row t is k d below.
+    let of_row : IsTripOfRow stations types before row t = trip_of_row stations types before row t is in
+    subst (λ (t : Trip). (get_or before k d).name ≢ t.name) (sym of_row.is) (new_name (λ t. t.name) before row.name of_row.new k d below))
+    [] rows trips (none_apart (λ a b. a.name ≢ b.name)) e
+
 stock_said : (day : Day) (before : List Stock) (row : StockRow) (stock : Stock) → accept_stock day.stations day.types before row ≡ Ok stock → IsStockOf day row stock
 stock_said day before row stock e =
     let is = stock_of_row day.stations day.types before row stock e in
@@ -165,11 +174,7 @@ is_day_of tables day e =
           (λ before row t is k d below. subst (λ (t : UnitType). (get_or before k d).name ≢ t.name) (type_of_row before row t is).1 (new_name (λ t. t.name) before row.name (type_of_row before row t is).0 k d below))
           [] tables.types day.types (none_apart (λ a b. a.name ≢ b.name)) made.types;
       station_names = stations_apart tables.stations day.stations made.stations;
-      trip_names = accepted_pairs (accept_trip day.stations day.types) (λ a b. a.name ≢ b.name)
-          (λ before row t is k d below.
-          let of_row : IsTripOfRow day.stations day.types before row t = trip_of_row day.stations day.types before row t is in
-          subst (λ (t : Trip). (get_or before k d).name ≢ t.name) (sym of_row.is) (new_name (λ t. t.name) before row.name of_row.new k d below))
-          [] tables.trips day.trips (none_apart (λ a b. a.name ≢ b.name)) made.trips;
+      trip_names = trips_apart day.stations day.types tables.trips day.trips made.trips;
       stock_rows = accepted_pairs (accept_stock day.stations day.types) IsOtherStock
           (λ before row stock is k d below.
           let of_row : IsStockOfRow day.stations day.types before row stock = stock_of_row day.stations day.types before row stock is in

@@ -14,6 +14,7 @@ pub mod Chains
 pub mod Handovers
 -- which tables make a day, and which rows make a plan
 pub mod Rowwise
+pub mod Tests
 pub mod Naming
 pub mod LinkRows
 pub mod Build

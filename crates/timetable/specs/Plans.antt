@@ -1,5 +1,5 @@
 -- The plan that rows make of a day, or the first row that is wrong.
-use Rattle.std.specs.Prelude.{ℕ, ◌≡◌, ◌≤◌, ◌<◌, List, [], ◌∷◌, length, map, Bool, true, false, nat_lt, if◌then◌else◌, Option, Some, None, Result, Ok, Err, slice_get}
+use Rattle.std.specs.Prelude.{ℕ, ◌≡◌, ◌≤◌, ◌<◌, List, [], ◌∷◌, ◌++◌, length, map, Bool, true, false, nat_lt, if◌then◌else◌, Option, Some, None, Result, Ok, Err, slice_get}
 use Rattle.std.specs.List.{All, Any, list_all}
 use Rattle.std.specs.Str.{bytes_eq}
 use Rattle.rail_base.specs.Answers.{◌>>=◌}
@@ -8,7 +8,8 @@ use Rattle.timetable.specs.declared.day.records.Trip.{Trip}
 use Rattle.timetable.specs.declared.building.refusal.PlanRefusal.{PlanRefusal}
 use Rattle.timetable.specs.declared.building.refusal.PlanRefusal.TheVariants.{WrongTrip, UnknownUnit, MissingTrip, NoMemory}
 use Rattle.timetable.specs.Day.{Day, unit_count}
-use Rattle.timetable.specs.Rowwise.{row_after, accept_each, IsFirstWrong}
+use Rattle.timetable.specs.Rowwise.{row_after, accept_each}
+use Rattle.timetable.specs.Tests.{Test, ◌when◌, row_tests}
 
 -- ---- what rows say
 
@@ -27,16 +28,16 @@ pub record IsPlanOf (day : Day) (rows : List PlanRow) (plan : List (List ℕ)) :
   pub whole : length rows ≡ length day.trips
   pub lists : plan ≡ map (λ row. row.units) rows
 
--- what may be wrong with a row after those before it: it names another trip, or none; a unit of it is none of the day
-abbrev pub faults_of : Day → List PlanRow → PlanRow → List (Type 0)
-faults_of day before row = (¬ NamesTrip day (length before) row) ∷ Any (λ u. unit_count day ≤ u) row.units ∷ []
+-- the tests on a row: it names its trip, and only units of the day
+abbrev pub run_tests : Day → ℕ → List PlanRow → PlanRow → List (Test PlanRefusal)
+run_tests day number before row =
+    WrongTrip number when (¬ NamesTrip day (length before) row)
+    ∷ UnknownUnit number when Any (λ u. unit_count day ≤ u) row.units
+    ∷ []
 
--- what a refusal says: this row is the first that is wrong, or all rows are right and trips are left after the last
-abbrev pub IsRefusedFor : Day → List PlanRow → PlanRefusal → Type 0
-IsRefusedFor day rows (WrongTrip number) = IsFirstWrong (AreRunRows day) (faults_of day) rows number 0
-IsRefusedFor day rows (UnknownUnit number) = IsFirstWrong (AreRunRows day) (faults_of day) rows number 1
-IsRefusedFor day rows (MissingTrip number) = AreRunRows day rows × (number ≡ length rows) × (length rows < length day.trips)
-IsRefusedFor day rows NoMemory = Unit {0}
+-- the tests on all rows in order, and then that no trip is left
+abbrev pub plan_tests : Day → List PlanRow → List (Test PlanRefusal)
+plan_tests day rows = row_tests (run_tests day) [] rows ++ MissingTrip (length rows) when (length rows < length day.trips) ∷ []
 
 -- ---- the tests, row by row
 

@@ -1,93 +1,99 @@
--- What a refusal says of the tables: that this row, or this sum, breaks a rule.
-use Rattle.std.specs.Prelude.{ℕ, ◌≡◌, ◌≢◌, ◌+◌, ◌≤◌, ◌<◌, ◌⊎◌, List, [], ◌∷◌, length, map, false, Option, Some, None, slice_get}
+-- The tests that tables undergo, in their order. A refusal is that of the first that fails.
+use Rattle.std.specs.Prelude.{ℕ, ◌≡◌, ◌≢◌, ◌+◌, ◌≤◌, ◌<◌, ◌⊎◌, List, [], ◌∷◌, ◌++◌, length, map, min, false, Option, Some, None, slice_get}
 use Rattle.std.specs.List.{All, Any}
 use Rattle.rail_base.specs.declared.limits.TheConstants.{MOST_UNITS, MOST_COMPOSITIONS}
 use Rattle.compositions.specs.Catalogue.{catalogue_of}
+use Rattle.compositions.specs.Composition.{fits_in}
 use Rattle.rail_csv.specs.declared.rows.End.{End}
 use Rattle.rail_csv.specs.declared.rows.End.TheVariants as at
 use Rattle.rail_csv.specs.declared.rows.KindWord.{KindWord}
 use Rattle.rail_csv.specs.declared.rows.KindWord.TheVariants as words
 use Rattle.rail_csv.specs.declared.rows.LinkRow.{LinkRow}
+use Rattle.rail_csv.specs.declared.rows.StationRow.{StationRow}
 use Rattle.rail_csv.specs.declared.rows.StockRow.{StockRow}
 use Rattle.rail_csv.specs.declared.rows.TripRow.{TripRow}
-use Rattle.rail_csv.specs.declared.rows.Table.{Table}
+use Rattle.rail_csv.specs.declared.rows.TypeRow.{TypeRow}
 use Rattle.rail_csv.specs.declared.rows.Table.TheVariants as names
-use Rattle.timetable.specs.declared.day.records.Trip.{Trip}
 use Rattle.timetable.specs.declared.building.refusal.InstanceRefusal.{InstanceRefusal}
-use Rattle.timetable.specs.declared.building.refusal.InstanceRefusal.TheVariants.{RepeatedName, UnknownName, RepeatedStock, ArrivalNotAfterDeparture, SameStation, TripUsedTwice, WrongStation, TooEarly, WrongLinkFields, NoComposition, TooManyUnits, TooManyCompositions, NoMemory}
+use Rattle.timetable.specs.declared.building.refusal.InstanceRefusal.TheVariants.{RepeatedName, UnknownName, RepeatedStock, ArrivalNotAfterDeparture, SameStation, TripUsedTwice, WrongStation, TooEarly, WrongLinkFields, NoComposition, TooManyUnits, TooManyCompositions}
 use Rattle.timetable.specs.declared.building.tables.Tables.{Tables}
-use Rattle.timetable.specs.Admissible.{is_admissible}
 use Rattle.timetable.specs.Build.{type_in, station_in}
 use Rattle.timetable.specs.Compositions.{greatest_in}
-use Rattle.timetable.specs.Day.{Day}
-use Rattle.timetable.specs.Meaning.{IsTripOf}
-use Rattle.timetable.specs.Rowwise.{IsRow}
+use Rattle.timetable.specs.Tests.{Test, ◌when◌, row_tests}
 
--- a row before this one has its name
-abbrev pub Repeats : {X : Type 0} → (X → List ℕ) → List X → ℕ → Type 0
-Repeats {X} name_of rows number = (before : List X) × (row : X) × IsRow rows number before row × Any (λ earlier. name_of earlier ≡ name_of row) before
+-- one of these rows has the name, or none
+abbrev pub HasName : {X : Type 0} → (X → List ℕ) → List X → List ℕ → Type 0
+HasName name_of rows name = Any (λ row. name_of row ≡ name) rows
 
-abbrev pub RepeatsIn : Tables → Table → ℕ → Type 0
-RepeatsIn tables names.Types number = Repeats (λ row. row.name) tables.types number
-RepeatsIn tables names.Stations number = Repeats (λ row. row.name) tables.stations number
-RepeatsIn tables names.Trips number = Repeats (λ row. row.name) tables.trips number
-RepeatsIn tables _ number = ⊥
+abbrev pub HasNoName : {X : Type 0} → (X → List ℕ) → List X → List ℕ → Type 0
+HasNoName name_of rows name = All (λ row. name_of row ≢ name) rows
+
+-- ---- types and stations
+
+abbrev pub type_tests : ℕ → List TypeRow → TypeRow → List (Test InstanceRefusal)
+type_tests number before row = RepeatedName names.Types number when HasName (λ row. row.name) before row.name ∷ []
+
+abbrev pub station_tests : ℕ → List StationRow → StationRow → List (Test InstanceRefusal)
+station_tests number before row = RepeatedName names.Stations number when HasName (λ row. row.name) before row.name ∷ []
 
 -- no station, no type has the name
 abbrev pub IsNoStation : Tables → List ℕ → Type 0
-IsNoStation tables name = All (λ station. station.name ≢ name) (map station_in tables.stations)
+IsNoStation tables name = HasNoName (λ row. row.name) tables.stations name
 
 abbrev pub IsNoType : Tables → List ℕ → Type 0
-IsNoType tables name = All (λ unit_type. unit_type.name ≢ name) (map type_in tables.types)
+IsNoType tables name = HasNoName (λ row. row.name) tables.types name
 
--- columns 0 and 1 of a stock row name its station and its type
-abbrev pub IsUnknownInStock : Tables → StockRow → ℕ → Type 0
-IsUnknownInStock tables row column = ((column ≡ 0) × IsNoStation tables row.station) ⊎ ((column ≡ 1) × IsNoType tables row.unit_type)
+-- ---- stock
 
--- columns 1 and 3 of a trip row name its two stations
-abbrev pub IsUnknownInTrips : Tables → TripRow → ℕ → Type 0
-IsUnknownInTrips tables row column = ((column ≡ 1) × IsNoStation tables row.from) ⊎ ((column ≡ 3) × IsNoStation tables row.to)
-
--- no trip has the name
-abbrev pub IsNoTrip : Tables → List ℕ → Type 0
-IsNoTrip tables name = All (λ trip. trip.name ≢ name) tables.trips
-
--- columns 1 to 4 of a link row name its trips: 1 and 2 those that arrive, 3 and 4 those that depart; 2 and 4 may be empty
-abbrev pub Names : LinkRow → ℕ → List ℕ → Type 0
-Names row column name = ((column ≡ 1) × (row.arriving ≡ name)) ⊎ ((column ≡ 2) × (row.arriving2 ≡ Some name))
-    ⊎ ((column ≡ 3) × (row.departing ≡ name)) ⊎ ((column ≡ 4) × (row.departing2 ≡ Some name))
-
-abbrev pub IsUnknownInLinks : Tables → LinkRow → ℕ → Type 0
-IsUnknownInLinks tables row column = (name : List ℕ) × Names row column name × IsNoTrip tables name
-
-abbrev pub IsUnknownIn : Tables → Table → ℕ → ℕ → Type 0
-IsUnknownIn tables names.Stock number column = (before : List StockRow) × (row : StockRow) × IsRow tables.stock number before row × IsUnknownInStock tables row column
-IsUnknownIn tables names.Trips number column = (before : List TripRow) × (row : TripRow) × IsRow tables.trips number before row × IsUnknownInTrips tables row column
-IsUnknownIn tables names.Links number column = (before : List LinkRow) × (row : LinkRow) × IsRow tables.links number before row × IsUnknownInLinks tables row column
-IsUnknownIn tables _ number column = ⊥
-
--- a stock row before this one has its station and its type
-abbrev pub RepeatsStock : Tables → ℕ → Type 0
-RepeatsStock tables number = (before : List StockRow) × (row : StockRow) × IsRow tables.stock number before row
-    × Any (λ earlier. (earlier.station ≡ row.station) × (earlier.unit_type ≡ row.unit_type)) before
-
--- the trip row of this number
-abbrev pub IsTripRowThat : (TripRow → Type 0) → Tables → ℕ → Type 0
-IsTripRowThat P tables number = (before : List TripRow) × (row : TripRow) × IsRow tables.trips number before row × P row
-
--- on whatever day has these types and these stations, no list of types may run on the trip of the row
-abbrev pub IsUnserved : Tables → TripRow → Type 0
-IsUnserved tables row = (day : Day) (t : ℕ) (trip : Trip) → day.types ≡ map type_in tables.types → day.stations ≡ map station_in tables.stations
-    → slice_get day.trips t ≡ Some trip → IsTripOf day row trip → (types : List ℕ) → is_admissible day t types ≡ false
+-- columns 0 and 1 name the station and the type, and no row before names both
+abbrev pub stock_tests : Tables → ℕ → List StockRow → StockRow → List (Test InstanceRefusal)
+stock_tests tables number before row =
+    UnknownName names.Stock number 0 when IsNoStation tables row.station
+    ∷ UnknownName names.Stock number 1 when IsNoType tables row.unit_type
+    ∷ RepeatedStock number when Any (λ earlier. (earlier.station ≡ row.station) × (earlier.unit_type ≡ row.unit_type)) before
+    ∷ []
 
 -- the units at the start of the day
 abbrev pub starts_in : List StockRow → ℕ
 starts_in [] = 0
 starts_in (row ∷ rows) = row.start + starts_in rows
 
--- the link row of this number, and the rows before it
-abbrev pub IsLinkRowThat : (List LinkRow → LinkRow → Type 0) → Tables → ℕ → Type 0
-IsLinkRowThat P tables number = (before : List LinkRow) × (row : LinkRow) × IsRow tables.links number before row × P before row
+-- the compositions that fit the greatest platform
+abbrev pub compositions_in : Tables → List (List ℕ)
+compositions_in tables = catalogue_of (map type_in tables.types) (greatest_in (map station_in tables.stations))
+
+abbrev pub count_tests : Tables → List (Test InstanceRefusal)
+count_tests tables =
+    TooManyUnits when (MOST_UNITS < starts_in tables.stock)
+    ∷ TooManyCompositions when (MOST_COMPOSITIONS < length (compositions_in tables))
+    ∷ []
+
+-- ---- trips
+
+-- two stations have these names, and the shorter of their platforms is longer than no composition
+pub record IsUnserved (tables : Tables) (from to : List ℕ) : Type 0 where
+  pub origin : ℕ
+  pub goal : ℕ
+  pub here : StationRow
+  pub there : StationRow
+  pub at_origin : slice_get tables.stations origin ≡ Some here
+  pub at_goal : slice_get tables.stations goal ≡ Some there
+  pub named_origin : here.name ≡ from
+  pub named_goal : there.name ≡ to
+  pub unfit : (types : List ℕ) → fits_in (map type_in tables.types) (min here.platform there.platform) types ≡ false
+
+-- columns 1 and 3 name the stations
+abbrev pub trip_tests : Tables → ℕ → List TripRow → TripRow → List (Test InstanceRefusal)
+trip_tests tables number before row =
+    RepeatedName names.Trips number when HasName (λ row. row.name) before row.name
+    ∷ UnknownName names.Trips number 1 when IsNoStation tables row.from
+    ∷ UnknownName names.Trips number 3 when IsNoStation tables row.to
+    ∷ SameStation number when (row.from ≡ row.to)
+    ∷ ArrivalNotAfterDeparture number when (row.arrival ≤ row.departure)
+    ∷ NoComposition number when IsUnserved tables row.from row.to
+    ∷ []
+
+-- ---- links
 
 -- the fields of a link row fit its kind: a turn has no second names, a join and a split have one, and no ends
 abbrev pub FitsKind : KindWord → Option (List ℕ) → Option (List ℕ) → End → End → Type 0
@@ -95,6 +101,11 @@ FitsKind words.Turn None None uncouple couple = Unit {0}
 FitsKind words.Join (Some name) None at.None at.None = Unit {0}
 FitsKind words.Split None (Some name) at.None at.None = Unit {0}
 FitsKind _ _ _ _ _ = ⊥
+
+-- no trip has the name, where there is a name
+abbrev pub IsNoTrip : Tables → Option (List ℕ) → Type 0
+IsNoTrip tables None = ⊥
+IsNoTrip tables (Some name) = HasNoName (λ row. row.name) tables.trips name
 
 -- the row names a trip as arriving, or as departing
 abbrev pub NamesArriving : LinkRow → List ℕ → Type 0
@@ -112,21 +123,36 @@ abbrev pub UsesTwice : List LinkRow → LinkRow → Type 0
 UsesTwice before row = (row.arriving2 ≡ Some row.arriving) ⊎ (row.departing2 ≡ Some row.departing) ⊎ NamedBefore NamesArriving before row ⊎ NamedBefore NamesDeparting before row
 
 -- an arriving and a departing trip of the row, of which something is so
-abbrev pub HasTripsThat : (TripRow → TripRow → Type 0) → Tables → List LinkRow → LinkRow → Type 0
-HasTripsThat P tables before row = (i j : ℕ) × (a b : TripRow) × (slice_get tables.trips i ≡ Some a) × (slice_get tables.trips j ≡ Some b) × NamesArriving row a.name × NamesDeparting row b.name × P a b
+abbrev pub HasTripsThat : (TripRow → TripRow → Type 0) → Tables → LinkRow → Type 0
+HasTripsThat P tables row = (i j : ℕ) × (a b : TripRow) × (slice_get tables.trips i ≡ Some a) × (slice_get tables.trips j ≡ Some b) × NamesArriving row a.name × NamesDeparting row b.name × P a b
 
--- what the refusal says of the tables
-abbrev pub IsBroken : Tables → InstanceRefusal → Type 0
-IsBroken tables (RepeatedName table number) = RepeatsIn tables table number
-IsBroken tables (UnknownName table number column) = IsUnknownIn tables table number column
-IsBroken tables (RepeatedStock number) = RepeatsStock tables number
-IsBroken tables (ArrivalNotAfterDeparture number) = IsTripRowThat (λ row. row.arrival ≤ row.departure) tables number
-IsBroken tables (SameStation number) = IsTripRowThat (λ row. row.from ≡ row.to) tables number
-IsBroken tables (TripUsedTwice number) = IsLinkRowThat UsesTwice tables number
-IsBroken tables (WrongStation number) = IsLinkRowThat (HasTripsThat (λ a b. a.to ≢ b.from) tables) tables number
-IsBroken tables (TooEarly number) = IsLinkRowThat (HasTripsThat (λ a b. b.departure < a.arrival) tables) tables number
-IsBroken tables (WrongLinkFields number) = IsLinkRowThat (λ before row. ¬ FitsKind row.kind row.arriving2 row.departing2 row.uncouple row.couple) tables number
-IsBroken tables (NoComposition number) = IsTripRowThat (IsUnserved tables) tables number
-IsBroken tables TooManyUnits = MOST_UNITS < starts_in tables.stock
-IsBroken tables TooManyCompositions = MOST_COMPOSITIONS < length (catalogue_of (map type_in tables.types) (greatest_in (map station_in tables.stations)))
-IsBroken tables NoMemory = Unit {0}
+-- columns 1 to 4 name the trips: 1 and 2 those that arrive, 3 and 4 those that depart
+abbrev pub kind_tests : Tables → ℕ → LinkRow → List (Test InstanceRefusal)
+kind_tests tables number row =
+    WrongLinkFields number when (¬ FitsKind row.kind row.arriving2 row.departing2 row.uncouple row.couple)
+    ∷ UnknownName names.Links number 1 when IsNoTrip tables (Some row.arriving)
+    ∷ UnknownName names.Links number 2 when IsNoTrip tables row.arriving2
+    ∷ UnknownName names.Links number 3 when IsNoTrip tables (Some row.departing)
+    ∷ UnknownName names.Links number 4 when IsNoTrip tables row.departing2
+    ∷ []
+
+-- the trips are new on their sides, meet at one station, and none departs before one that it goes on from arrives
+abbrev pub meeting_tests : Tables → ℕ → List LinkRow → LinkRow → List (Test InstanceRefusal)
+meeting_tests tables number before row =
+    TripUsedTwice number when UsesTwice before row
+    ∷ WrongStation number when HasTripsThat (λ a b. a.to ≢ b.from) tables row
+    ∷ TooEarly number when HasTripsThat (λ a b. b.departure < a.arrival) tables row
+    ∷ []
+
+abbrev pub link_tests : Tables → ℕ → List LinkRow → LinkRow → List (Test InstanceRefusal)
+link_tests tables number before row = kind_tests tables number row ++ meeting_tests tables number before row
+
+-- ---- all tests, one table after another, and the rows of each in order
+abbrev pub day_tests : Tables → List (Test InstanceRefusal)
+day_tests tables =
+    row_tests type_tests [] tables.types
+    ++ (row_tests station_tests [] tables.stations
+    ++ (row_tests (stock_tests tables) [] tables.stock
+    ++ (count_tests tables
+    ++ (row_tests (trip_tests tables) [] tables.trips
+    ++ row_tests (link_tests tables) [] tables.links))))

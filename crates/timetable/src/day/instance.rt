@@ -6,15 +6,16 @@ ghost use Rattle.rail_csv.specs.Rows.{AreTypeRows, AreStationRows, AreStockRows,
 ghost use Rattle.timetable.specs.Accepted.{IsDay, AreLinks};
 ghost use Rattle.timetable.specs.Admissible.{is_admissible};
 ghost use Rattle.timetable.specs.Compositions.{compositions_of, composition_at};
-ghost use Rattle.rail_base.specs.Answers.{Gives};
+ghost use Rattle.rail_base.specs.Answers.{Unless, Gives};
 ghost use Rattle.timetable.specs.Build.{day_of, is_memory, weights_in};
 ghost use Rattle.timetable.specs.Chains.{chains_of, IsChain, AreChains};
 ghost use Rattle.timetable.specs.Day.{units_of, units_in, unit_count, wanted_in, wanted_of};
 ghost use Rattle.timetable.specs.Handovers.{handovers_of, IsHandover, AreHandovers};
 ghost use Rattle.timetable.specs.Links.{incoming, outgoing};
 ghost use Rattle.timetable.specs.Meaning.{IsDayOf};
-ghost use Rattle.timetable.specs.Refusals.{IsBroken};
+ghost use Rattle.timetable.specs.Refusals.{day_tests};
 ghost use Rattle.timetable.specs.Starts.{start_in, start_of};
+ghost use Rattle.timetable.specs.Tests.{NoneFailed, IsFirstFailed};
 ghost use Rattle.timetable.specs.Within.{AreTypes, IsStation, IsUnitAt, IsTripAt, IsLinkAt, AreWeights};
 
 use crate::building::entries::{
@@ -84,8 +85,9 @@ impl Instance {
         ensures exact { Gives is_memory result (day_of tables) }
         // The day is that of the tables in their own words.
         ensures meaning { IfOk result (λ instance. IsDayOf tables instance) }
-        // A refusal says what is so in the tables.
-        ensures refusal { IfErr result (λ refusal. IsBroken tables refusal) }
+        // Of the tests in their order none failed, and else a refusal is that of the first that did.
+        ensures passed { IfOk result (λ _. NoneFailed (day_tests tables)) }
+        ensures refusal { IfErr result (λ refusal. Unless (is_memory refusal) (IsFirstFailed (day_tests tables) refusal)) }
         ensures limits { IfOk result (λ instance. IsDay instance) }
     {
         let types = types_of(alloc, tables.types)?;

@@ -1,9 +1,10 @@
 //! A plan of named units: which units run on each trip, front to rear.
 
 ghost use Rattle.std.specs.Prelude.{◌≡◌, ◌<◌, ◌≤◌, length, slice_get, IfOk, IfErr};
-ghost use Rattle.rail_base.specs.Answers.{Gives, GivesRows};
+ghost use Rattle.rail_base.specs.Answers.{Unless, Gives, GivesRows};
 ghost use Rattle.timetable.specs.Links.{list_of};
-ghost use Rattle.timetable.specs.Plans.{is_named, are_units, accept_list, lists_in, plan_of, IsPlanOf, IsRefusedFor, is_memory};
+ghost use Rattle.timetable.specs.Plans.{is_named, are_units, accept_list, lists_in, plan_of, IsPlanOf, plan_tests, is_memory};
+ghost use Rattle.timetable.specs.Tests.{NoneFailed, IsFirstFailed};
 ghost use Rattle.timetable.specs.Running.{IsPlan};
 
 use crate::building::entries::{are_same, row_after};
@@ -50,8 +51,9 @@ impl NamedPlan {
         // The plan is that of the rows in their own words.
         ensures meaning { IfOk result (λ plan. IsPlanOf instance.now rows.now plan) }
         ensures is_plan { IfOk result (λ plan. IsPlan instance.now plan) }
-        // A refusal says what is so in the rows.
-        ensures refusal { IfErr result (λ refusal. IsRefusedFor instance.now rows.now refusal) }
+        // Of the tests in their order none failed, and else a refusal is that of the first that did.
+        ensures passed { IfOk result (λ _. NoneFailed (plan_tests instance.now rows.now)) }
+        ensures refusal { IfErr result (λ refusal. Unless (is_memory refusal) (IsFirstFailed (plan_tests instance.now rows.now) refusal)) }
     {
         let lists = lists_of(alloc, instance, rows)?;
         if rows.len() < instance.trips() as usize {

@@ -1,5 +1,5 @@
 -- The whole begins with the first list, and what is behind it is the second; or it does not.
-use Rattle.std.proofs.Common.{sym, ◌∙◌}
+use Rattle.std.proofs.Common.{◌∙◌}
 use Rattle.timetable.proofs.Joining.{begins, begins_otherwise}
 use Rattle.timetable.proofs.day.rule.is_joined.Goals as goal
 

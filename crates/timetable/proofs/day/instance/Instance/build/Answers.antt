@@ -29,7 +29,7 @@ use Rattle.timetable.proofs.LinkTables.{table_of}
 use Rattle.timetable.proofs.Leading.{next_known}
 use Rattle.timetable.proofs.Said.{is_day_of}
 use Rattle.timetable.proofs.Within.{entries_within}
-use Rattle.timetable.proofs.Refused.{answer_is_so, refusal_is_so, links_fail}
+use Rattle.timetable.proofs.Refused.{answer_is_so, none_failed, first_failed, links_fail}
 use Rattle.timetable.specs.declared.building.refusal.InstanceRefusal.TheVariants.{TooManyUnits}
 use Rattle.timetable.proofs.day.instance.Instance.build.Goals as goal
 
@@ -111,6 +111,13 @@ returns-clause-meaning c =
     let made : day_of c.args.tables ≡ Ok day = search rules in
     is_day_of c.args.tables day made
 
+pub returns-clause-passed : goal.returns-clause-passed
+unfolding day_of
+returns-clause-passed c =
+    let day : Day = record { types = c.new-types.result; stations = c.into_entries-stations.result.items; stock = c.in_ok-stock.stock.items; trips = c.into_entries-trips.result.items; links = c.in_ok-links.links.items; weights = c.weights_of.result } in
+    let made : day_of c.args.tables ≡ Ok day = search rules in
+    none_failed c.args.tables day made
+
 pub returns-clause-limits : goal.returns-clause-limits
 unfolding day_of
 returns-clause-limits c =
@@ -155,4 +162,4 @@ returns-in_err-links-clause-refusal c =
 
 pub returns-then-are_too_many-clause-refusal : goal.returns-then-are_too_many-clause-refusal
 unfolding day_of
-returns-then-are_too_many-clause-refusal c = refusal_is_so c.args.tables TooManyUnits (search rules)
+returns-then-are_too_many-clause-refusal c = first_failed c.args.tables TooManyUnits (search rules)
