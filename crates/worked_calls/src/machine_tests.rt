@@ -126,8 +126,8 @@ fn step(day: &mut Day<'_>, event: DayEvent) -> Result<(), StepFault>
     day.step(event)
 }
 
-/// Steps a day of four trips, of which the last two leave in the minute in which the first two arrive. The four events of that
-/// minute come in this order. It answers what the day cost.
+/// Steps a day of four trips, of which the last two leave in the minute in which the first two arrive. The four events of
+/// that minute come in this order. It answers what the day cost.
 fn step_all(
     day: &mut Day<'_>,
     first_in: TripNo,
@@ -192,24 +192,6 @@ fn end_of(
     })
 }
 
-/// Whether a day of four trips ends so in each order of the minute in which the first two arrive and the last two leave.
-fn always_ends(alloc: Global, instance: &Instance, plan: &NamedPlan, end: End) -> Result<bool, Fail>
-    requires plan { IsPlan instance.now plan.now }
-    requires trips { length instance.now.trips ≡ 4 }
-    requires units { 2 ≤ unit_count instance.now }
-{
-    if end_of(alloc, instance, plan, (0, 1), (2, 3))? != end {
-        return Ok(false);
-    }
-    if end_of(alloc, instance, plan, (1, 0), (2, 3))? != end {
-        return Ok(false);
-    }
-    if end_of(alloc, instance, plan, (0, 1), (3, 2))? != end {
-        return Ok(false);
-    }
-    Ok(end_of(alloc, instance, plan, (1, 0), (3, 2))? == end)
-}
-
 /// In the yard of a station, ready from a minute on.
 fn yard(station: u32, ready: u32) -> Place {
     Place::Yard {
@@ -245,7 +227,10 @@ fn four_events_of_one_minute(rt: HostRuntime) -> Result<(), Fail> {
         second: yard(0, 630),
         cost: Money(120),
     };
-    assert!(rt; always_ends(alloc, &instance, &plan, end)?);
+    assert!(rt; end_of(alloc, &instance, &plan, (0, 1), (2, 3))? == end);
+    assert!(rt; end_of(alloc, &instance, &plan, (1, 0), (2, 3))? == end);
+    assert!(rt; end_of(alloc, &instance, &plan, (0, 1), (3, 2))? == end);
+    assert!(rt; end_of(alloc, &instance, &plan, (1, 0), (3, 2))? == end);
     Ok(())
 }
 
@@ -280,7 +265,10 @@ fn a_unit_uncoupled_and_coupled_in_one_minute(rt: HostRuntime) -> Result<(), Fai
         second: yard(2, 620),
         cost: Money(380),
     };
-    assert!(rt; always_ends(alloc, &instance, &plan, end)?);
+    assert!(rt; end_of(alloc, &instance, &plan, (0, 1), (2, 3))? == end);
+    assert!(rt; end_of(alloc, &instance, &plan, (1, 0), (2, 3))? == end);
+    assert!(rt; end_of(alloc, &instance, &plan, (0, 1), (3, 2))? == end);
+    assert!(rt; end_of(alloc, &instance, &plan, (1, 0), (3, 2))? == end);
     Ok(())
 }
 
@@ -321,14 +309,6 @@ fn step_by_step(rt: HostRuntime) -> Result<(), Fail> {
     Ok(())
 }
 
-/// Whether an event is refused as out of turn.
-fn is_not_now(day: &mut Day<'_>, event: DayEvent) -> bool
-    requires { trip_of event < length day.old.day.trips }
-    ensures { day.new.day ≡ day.old.day }
-{
-    step(day, event) == Err(StepFault::NotNow(event))
-}
-
 /// A trip there and a trip back with its train, in the minute in which another leaves.
 fn day_of_three_trips(alloc: Global) -> Result<Instance, Fail> {
     day_of(
@@ -353,18 +333,33 @@ fn events_out_of_turn(rt: HostRuntime) -> Result<(), Fail> {
     let plan = plan_of(alloc, &instance, b"trip,units\nT1,0\nT2,0\nT3,1\n")?;
     let mut day = Day::new(alloc, &instance, &plan)?;
     // It has not left.
-    assert!(rt; is_not_now(&mut day, DayEvent::Arrive(TripNo(0))));
+    assert!(rt;
+        step(&mut day, DayEvent::Arrive(TripNo(0)))
+            == Err(StepFault::NotNow(DayEvent::Arrive(TripNo(0))))
+    );
     assert!(rt; step(&mut day, DayEvent::Depart(TripNo(0))) == Ok(()));
     // It has left.
-    assert!(rt; is_not_now(&mut day, DayEvent::Depart(TripNo(0))));
+    assert!(rt;
+        step(&mut day, DayEvent::Depart(TripNo(0)))
+            == Err(StepFault::NotNow(DayEvent::Depart(TripNo(0))))
+    );
     // The trip whose train it goes on with has not arrived.
-    assert!(rt; is_not_now(&mut day, DayEvent::Depart(TripNo(1))));
+    assert!(rt;
+        step(&mut day, DayEvent::Depart(TripNo(1)))
+            == Err(StepFault::NotNow(DayEvent::Depart(TripNo(1))))
+    );
     assert!(rt; step(&mut day, DayEvent::Depart(TripNo(2))) == Ok(()));
     // A departure of its minute was made.
-    assert!(rt; is_not_now(&mut day, DayEvent::Arrive(TripNo(0))));
+    assert!(rt;
+        step(&mut day, DayEvent::Arrive(TripNo(0)))
+            == Err(StepFault::NotNow(DayEvent::Arrive(TripNo(0))))
+    );
     assert!(rt; step(&mut day, DayEvent::Arrive(TripNo(2))) == Ok(()));
     // Its minute has passed.
-    assert!(rt; is_not_now(&mut day, DayEvent::Depart(TripNo(1))));
+    assert!(rt;
+        step(&mut day, DayEvent::Depart(TripNo(1)))
+            == Err(StepFault::NotNow(DayEvent::Depart(TripNo(1))))
+    );
     Ok(())
 }
 
