@@ -29,9 +29,11 @@ const STOCK: File = File {
     header: "station,type,start,end",
 };
 
+const TRIPS_HEADER: &str = "trip,from,departure,to,arrival,km,demand";
+
 const TRIPS: File = File {
     name: "trips.csv",
-    header: "trip,from,departure,to,arrival,km,demand",
+    header: TRIPS_HEADER,
 };
 
 const LINKS: File = File {
@@ -110,8 +112,7 @@ fn expect_trips_run(
 ) -> Result<(), NoMemory> {
     let first = format!(in alloc; "T1,X,{departure},Y,09:00,{km},150")?;
     let second = format!(in alloc; "T2,Y,09:30,X,{arrival},{km},150")?;
-    let header = TRIPS.header;
-    let trips = format!(in alloc; "{header}\n{first}\n{second}\n")?;
+    let trips = format!(in alloc; "{TRIPS_HEADER}\n{first}\n{second}\n")?;
     let day = Day {
         trips: Some(trips.as_str()),
         ..two_trips()
