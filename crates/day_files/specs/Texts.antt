@@ -11,7 +11,7 @@ use Rattle.timetable.specs.declared.building.refusal.PlanRefusal.{PlanRefusal}
 use Rattle.timetable.specs.declared.building.refusal.PlanRefusal.TheVariants as plan
 use Rattle.day_files.specs.declared.errors.Refusal.{Refusal}
 use Rattle.day_files.specs.declared.errors.Refusal.TheVariants.{TooLong, WrongTable, NoDay, NoPlan}
-use Rattle.day_files.specs.Names.{column_name}
+use Rattle.rail_csv.specs.Tables.{column_name}
 
 -- a text that begins with its row
 abbrev pub at_row : ℕ → List ℕ → List ℕ

@@ -76,7 +76,7 @@ fn plan_of(alloc: Global, instance: &Instance, rows: &[PlanRow]) -> Result<Named
 /// `weights.csv`, read in this order. The first file that is refused or cannot be read ends the reading, and the rules of
 /// the day come after the six files.
 ///
-/// - `CannotRead`: a read of that file failed, and each file before it is accepted.
+/// - `CannotRead`: the count of failed reads rose, a read of that file may fail, and each file before it is accepted.
 /// - `Refused`: a file is refused, and it is the first; or the tables make no day.
 /// - `NoMemory`: want of memory.
 #[tactic(auto, unfolding(crate::specs::Inputs::day_in))]
@@ -92,7 +92,7 @@ pub fn day_in<F: Folder>(alloc: Global, folder: &mut F, dir: &str) -> Result<Ins
 /// The day and the plan of a folder: the day of its six tables, and then the plan of it that `plan.csv` makes. The first
 /// file that is refused or cannot be read ends the reading.
 ///
-/// - `CannotRead`: a read of that file failed, and each file before it is accepted; where it is that of the plan, the
+/// - `CannotRead`: the count of failed reads rose, a read of that file may fail, and each file before it is accepted; where it is that of the plan, the
 ///   tables make a day.
 /// - `Refused`: a file is refused, and it is the first; or the tables make no day, or the rows of the plan no plan of it.
 /// - `NoMemory`: want of memory.

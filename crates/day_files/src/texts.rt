@@ -3,9 +3,8 @@
 ghost use Rattle.std.specs.Prelude.{◌≡◌, IfOk, string_bytes};
 ghost use Rattle.day_files.specs.Texts.{at_column, at_row, instance_file, instance_text, plan_text, table_text};
 
-use crate::names::column_name;
 use rail_base::NoMemory;
-use rail_csv::{Table, TableRefusal};
+use rail_csv::{Table, TableRefusal, column_name};
 use std::alloc::Global;
 use timetable::{InstanceRefusal, PlanRefusal};
 

@@ -13,6 +13,8 @@ use Rattle.rail_csv.specs.declared.rows.TripRow.{TripRow}
 use Rattle.rail_csv.specs.declared.rows.LinkRow.{LinkRow}
 use Rattle.rail_csv.specs.declared.rows.WeightsRow.{WeightsRow}
 use Rattle.rail_csv.specs.declared.rows.PlanRow.{PlanRow}
+use Rattle.rail_csv.specs.declared.rows.Table.{Table}
+use Rattle.rail_csv.specs.declared.rows.Table.TheVariants.{Types, Stations, Stock, Trips, Links, Weights, Plan}
 use Rattle.rail_base.specs.Answers.{◌>>=◌}
 use Rattle.rail_base.specs.declared.limits.TheConstants.{MOST_TYPES, MOST_STATIONS, MOST_STOCK_ROWS, MOST_TRIPS, MOST_LINKS, MOST_WEIGHT_ROWS, MOST_PLAN_ROWS, MOST_CARRIAGES, MOST_SEATS, MOST_FIRST_SEATS, MOST_METRES, MOST_PLATFORM, MOST_REALLOCATION, MOST_STOCK, MOST_KM, MOST_DEMAND, MOST_FIRST_DEMAND, MOST_WEIGHT}
 use Rattle.rail_csv.specs.Columns.{field, field_or, number_column, time_column, name_column, optional_name_column, kind_column, answer_column, end_column, units_column}
@@ -165,6 +167,22 @@ weights_of bytes = do
 
 abbrev pub plan_header : List (List ℕ)
 plan_header = codes "trip" ∷ codes "units" ∷ []
+
+-- ---- the columns of any table
+
+-- the header of the last version of a table
+abbrev pub header_of : Table → List (List ℕ)
+header_of Types = type_header
+header_of Stations = station_header
+header_of Stock = stock_header
+header_of Trips = trip_header
+header_of Links = link_header
+header_of Weights = weight_header
+header_of Plan = plan_header
+
+-- the header word of a column, counted from 0; nothing where the table has no such column
+abbrev pub column_name : Table → ℕ → List ℕ
+column_name table column = field (header_of table) column
 
 unfoldable pub plan_columns : Columns PlanRow
 plan_columns row fields = do

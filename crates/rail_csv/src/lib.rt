@@ -2,6 +2,7 @@
 #![tactic(auto)]
 
 mod columns;
+pub mod header_words;
 pub mod law;
 mod readers;
 mod reading;
@@ -9,6 +10,7 @@ pub mod refusal;
 pub mod rows;
 mod table_rows;
 
+pub use header_words::{column_name, header};
 pub use readers::{links, plan, stations, stock, trips, types, weights};
 pub use refusal::TableRefusal;
 pub use rows::{

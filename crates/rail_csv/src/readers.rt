@@ -5,9 +5,10 @@ ghost use Rattle.rail_base.specs.Answers.{Gives, GivesRows};
 ghost use Rattle.rail_csv.specs.Rows.{AreLinkRows, ArePlanRows, AreStationRows, AreStockRows, AreTripRows, AreTypeRows, IsWeightsRow};
 ghost use Rattle.rail_csv.specs.Tables.{is_memory, links_of, plan_of, stations_of, stock_of, trips_of, types_of, weights_of};
 
+use crate::header_words::header;
 use crate::reading::read_table;
 use crate::refusal::TableRefusal;
-use crate::rows::{LinkRow, PlanRow, StationRow, StockRow, TripRow, TypeRow, WeightsRow};
+use crate::rows::{LinkRow, PlanRow, StationRow, StockRow, Table, TripRow, TypeRow, WeightsRow};
 use rail_base::limits::{
     MOST_LINKS, MOST_PLAN_ROWS, MOST_STATIONS, MOST_STOCK_ROWS, MOST_TABLE_BYTES, MOST_TRIPS,
     MOST_TYPES, MOST_WEIGHT_ROWS,
@@ -23,8 +24,7 @@ pub fn types(alloc: Global, bytes: &[u8]) -> Result<Vec<TypeRow>, TableRefusal>
     ensures exact { GivesRows is_memory result (types_of bytes.now) }
     ensures rows { IfOk result (λ v. AreTypeRows v.items) }
 {
-    let words = ["type", "carriages", "seats", "metres", "family", "first"];
-    read_table(alloc, &words, 5, MOST_TYPES as u32, bytes)
+    read_table(alloc, header(Table::Types), 5, MOST_TYPES as u32, bytes)
 }
 
 /// Reads the stations table, of at most `MOST_STATIONS` rows: its rows, or the first thing that is wrong. Its columns
@@ -35,8 +35,13 @@ pub fn stations(alloc: Global, bytes: &[u8]) -> Result<Vec<StationRow>, TableRef
     ensures exact { GivesRows is_memory result (stations_of bytes.now) }
     ensures rows { IfOk result (λ v. AreStationRows v.items) }
 {
-    let words = ["station", "platform", "reallocation"];
-    read_table(alloc, &words, 3, MOST_STATIONS as u32, bytes)
+    read_table(
+        alloc,
+        header(Table::Stations),
+        3,
+        MOST_STATIONS as u32,
+        bytes,
+    )
 }
 
 /// Reads the stock table, of at most `MOST_STOCK_ROWS` rows: its rows, or the first thing that is wrong. Its columns are
@@ -47,8 +52,13 @@ pub fn stock(alloc: Global, bytes: &[u8]) -> Result<Vec<StockRow>, TableRefusal>
     ensures exact { GivesRows is_memory result (stock_of bytes.now) }
     ensures rows { IfOk result (λ v. AreStockRows v.items) }
 {
-    let words = ["station", "type", "start", "end"];
-    read_table(alloc, &words, 4, MOST_STOCK_ROWS as u32, bytes)
+    read_table(
+        alloc,
+        header(Table::Stock),
+        4,
+        MOST_STOCK_ROWS as u32,
+        bytes,
+    )
 }
 
 /// Reads the trips table, of at most `MOST_TRIPS` rows: its rows, or the first thing that is wrong. Its columns are
@@ -60,17 +70,7 @@ pub fn trips(alloc: Global, bytes: &[u8]) -> Result<Vec<TripRow>, TableRefusal>
     ensures exact { GivesRows is_memory result (trips_of bytes.now) }
     ensures rows { IfOk result (λ v. AreTripRows v.items) }
 {
-    let words = [
-        "trip",
-        "from",
-        "departure",
-        "to",
-        "arrival",
-        "km",
-        "demand",
-        "first",
-    ];
-    read_table(alloc, &words, 7, MOST_TRIPS as u32, bytes)
+    read_table(alloc, header(Table::Trips), 7, MOST_TRIPS as u32, bytes)
 }
 
 /// Reads the links table, of at most `MOST_LINKS` rows: its rows, or the first thing that is wrong. Its columns are
@@ -81,17 +81,7 @@ pub fn links(alloc: Global, bytes: &[u8]) -> Result<Vec<LinkRow>, TableRefusal>
     ensures exact { GivesRows is_memory result (links_of bytes.now) }
     ensures rows { IfOk result (λ v. AreLinkRows v.items) }
 {
-    let words = [
-        "kind",
-        "arriving",
-        "arriving2",
-        "departing",
-        "departing2",
-        "reverse",
-        "uncouple",
-        "couple",
-    ];
-    read_table(alloc, &words, 8, MOST_LINKS as u32, bytes)
+    read_table(alloc, header(Table::Links), 8, MOST_LINKS as u32, bytes)
 }
 
 /// Reads the weights table: its one row, or the first thing that is wrong. Its columns are `carriage,shortage,shunting`.
@@ -110,8 +100,13 @@ fn the_weights(alloc: Global, bytes: &[u8]) -> Result<WeightsRow, TableRefusal>
     requires { length bytes.now ≤ MOST_TABLE_BYTES }
     ensures { Gives is_memory result (weights_of bytes.now) }
 {
-    let words = ["carriage", "shortage", "shunting"];
-    let rows: Vec<WeightsRow> = read_table(alloc, &words, 3, MOST_WEIGHT_ROWS as u32, bytes)?;
+    let rows: Vec<WeightsRow> = read_table(
+        alloc,
+        header(Table::Weights),
+        3,
+        MOST_WEIGHT_ROWS as u32,
+        bytes,
+    )?;
     match rows.as_slice() {
         [] => Err(TableRefusal::NoRow),
         [row, ..] => Ok(*row),
@@ -126,6 +121,5 @@ pub fn plan(alloc: Global, bytes: &[u8]) -> Result<Vec<PlanRow>, TableRefusal>
     ensures exact { GivesRows is_memory result (plan_of bytes.now) }
     ensures rows { IfOk result (λ v. ArePlanRows v.items) }
 {
-    let words = ["trip", "units"];
-    read_table(alloc, &words, 2, MOST_PLAN_ROWS as u32, bytes)
+    read_table(alloc, header(Table::Plan), 2, MOST_PLAN_ROWS as u32, bytes)
 }

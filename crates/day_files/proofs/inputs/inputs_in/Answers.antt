@@ -1,7 +1,4 @@
 use Rattle.std.proofs.Common.{◌∙◌, rules}
-use Rattle.day_files.specs.Order.{Reaches}
-use Rattle.day_files.specs.Answers.{Reads}
-use Rattle.day_files.specs.Inputs.{inputs_in}
 use Rattle.day_files.proofs.Reached.{plan_ended}
 use Rattle.day_files.proofs.inputs.inputs_in.Goals as goal
 
