@@ -1,4 +1,4 @@
 pub mod Adding
 pub mod Leading
 pub mod Picking
-pub mod ListedUnits
+pub mod ByLength

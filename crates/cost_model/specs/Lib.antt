@@ -1,7 +1,7 @@
-pub mod Units
 pub mod Picking
 pub mod Leading
 pub mod Sums
+pub mod WithoutExchange
 pub use Rattle.timetable.specs.Day
 pub use Rattle.timetable.specs.Cost
 pub use Rattle.timetable.specs.Compositions

@@ -6,9 +6,7 @@ pub mod laws;
 pub mod links;
 mod lists;
 pub mod trips;
-pub mod units;
 
 pub use costs::{CostParts, cost, parts, plan_cost};
 pub use links::link_cost;
 pub use trips::trip_cost;
-pub use units::types_of;

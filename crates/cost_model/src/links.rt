@@ -1,19 +1,19 @@
 //! What a link costs: the shunting of a turn.
 
-ghost use Rattle.std.specs.Prelude.{◌≡◌, ◌<◌, ◌≤◌, List, ℕ, length};
+ghost use Rattle.std.specs.Prelude.{◌≡◌, ◌<◌, ◌≤◌, ◌&&◌, ◌==◌, not, unwrap_or, List, ℕ, length};
 ghost use Rattle.timetable.specs.Cost.{link_cost};
 ghost use Rattle.cost_model.specs.Leading.{LeadsBetween};
 
-use rail_base::limits::MOST_WEIGHT;
+use rail_base::limits::{MOST_COMPOSITION, MOST_WEIGHT};
 use rail_base::{LinkNo, TypeNo};
-use timetable::{Instance, LinkKind};
+use timetable::{Instance, LinkKind, turned};
 
 /// The most that a link costs: the most weight.
 pub const MOST_LINK_COST: u64 = MOST_WEIGHT as u64;
 
-/// What a link costs that leads from a train of units of these types to one of those: the weight of shunting for a turn
-/// that couples or uncouples, whatever the number of units, and nothing for every other link. The link is below `links`;
-/// the trains need not follow its rule. It takes no memory.
+/// What a link costs that leads from a train of units of these types, at most six, to one of those: the weight of shunting
+/// for a turn that does not keep all units of both, once, whether it uncouples, couples or does both, and nothing for every
+/// other link. The link is below `links`; the trains need not follow its rule. It takes no memory.
 #[tactic(auto, unfolding(timetable::specs::Cost::link_cost))]
 pub fn link_cost(
     instance: &Instance,
@@ -21,19 +21,31 @@ pub fn link_cost(
     arriving: &[TypeNo],
     departing: &[TypeNo],
 ) -> u64
-    requires { link < length instance.now.links }
+    requires link { link < length instance.now.links }
+    requires few { length arriving.now ≤ MOST_COMPOSITION }
     // Whatever the types on the other trips are.
     ensures cost { (lists : List (List ℕ)) → LeadsBetween instance.now link lists arriving.now departing.now → result ≡ link_cost instance.now link lists }
     ensures range { result ≤ MOST_LINK_COST }
 {
-    match instance.link(link).kind {
+    let link = instance.link(link);
+    match link.kind {
         LinkKind::Turn { .. } => {
-            if arriving.len() == departing.len() {
-                0
-            } else {
+            let arriving = turned(link.reverse, arriving);
+            let kept = link.kind.kept(arriving.as_slice(), departing);
+            if is_shunted(kept, arriving.len(), departing.len()) {
                 u64::from(instance.weights().shunting)
+            } else {
+                0
             }
         }
         LinkKind::Join { .. } | LinkKind::Split { .. } => 0,
     }
+}
+
+/// Whether a turn that keeps so many units has others, of so many that arrive or of so many that depart.
+fn is_shunted(kept: Option<usize>, arriving: usize, departing: usize) -> bool
+    ensures { result ≡ not ((unwrap_or kept 0 == arriving) && (unwrap_or kept 0 == departing)) }
+{
+    let kept = kept.unwrap_or(0);
+    !(kept == arriving && kept == departing)
 }

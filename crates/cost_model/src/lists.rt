@@ -7,7 +7,6 @@ ghost use Rattle.timetable.specs.Links.{list_of};
 ghost use Rattle.timetable.specs.Running.{IsPlan};
 ghost use Rattle.cost_model.specs.Picking.{ArePicks, picked};
 
-use crate::units::types_of;
 use arrayvec::ArrayVec;
 use compositions::Composition;
 use rail_base::limits::MOST_COMPOSITION;
@@ -46,7 +45,7 @@ impl TypeLists for NamedPlan {
     ghost lists = { λ plan day. map (types_of day) plan };
 
     fn types_on(&self, instance: &Instance, trip: TripNo) -> ArrayVec<TypeNo, MOST_COMPOSITION> {
-        types_of(instance, self.units(trip))
+        self.types(instance, trip)
     }
 }
 

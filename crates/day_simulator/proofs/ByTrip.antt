@@ -1,7 +1,7 @@
 -- In the fixed order the trips of one moment rise.
-use Rattle.std.proofs.Common.{◌≡◌, ℕ, zero, suc, ◌<◌, List, [], ◌∷◌, ◌++◌, length, leb, arith, sym}
+use Rattle.std.proofs.Common.{◌≡◌, ℕ, zero, suc, ◌<◌, List, [], ◌∷◌, ◌++◌, length, leb, arith}
 use Rattle.std.proofs.lemmas.Bool.{cond_both, leb-false}
-use Rattle.timetable.specs.Day.{Day, leaves, arrives}
+use Rattle.timetable.specs.Day.{Day}
 use Rattle.timetable.specs.Lists.{below}
 use Rattle.day_simulator.specs.declared.events.DayEvent.{DayEvent}
 use Rattle.day_simulator.specs.declared.events.DayEvent.TheVariants.{Depart, Arrive}

@@ -1,18 +1,15 @@
 -- When an event is now, and what its fault is, from the tests one after another.
-use Rattle.std.proofs.Common.{◌≡◌, ℕ, ◌<◌, ◌≤◌, ◌≢◌, List, length, Option, Some, None, Bool, true, false, not, ◌&&◌, cond, refl, sym, ap, ◌∙◌, unwrap_or, eqb, leb, eq-eqb, ne_eqb, arith}
+use Rattle.std.proofs.Common.{◌≡◌, ℕ, ◌<◌, ◌≤◌, List, Some, Bool, true, false, not, ◌&&◌, cond, refl, sym, ap, ◌∙◌, leb, arith}
 use Rattle.std.specs.Prelude.{option_map}
 use Rattle.std.specs.List.{list_all}
 use Rattle.std.proofs.lemmas.Bool.{le-leb}
 use Rattle.std.proofs.lemmas.Bool.Decides.{nat_tests}
-use Rattle.timetable.specs.Day.{Day, types_of}
-use Rattle.timetable.specs.Admissible.{is_admissible}
-use Rattle.timetable.specs.Links.{list_of, taken}
+use Rattle.timetable.specs.Day.{Day}
 use Rattle.day_simulator.specs.declared.events.DayEvent.{DayEvent}
 use Rattle.day_simulator.specs.declared.events.DayEvent.TheVariants.{Depart, Arrive}
-use Rattle.day_simulator.specs.declared.events.StepFault.{StepFault}
-use Rattle.day_simulator.specs.declared.events.StepFault.TheVariants.{NotNow, NoUnits, NotAdmissible, LinkBroken, NotInYard}
+use Rattle.day_simulator.specs.declared.events.StepFault.TheVariants.{NotNow, LinkBroken}
 use Rattle.day_simulator.specs.State.{State, stage_of, is_waiting, is_under_way, has_arrived, moment_of}
-use Rattle.day_simulator.specs.Steps.{is_now, feeders, broken_into, broken_out, train_fault, fault_of}
+use Rattle.day_simulator.specs.Steps.{is_now, feeders, broken_out, train_fault, fault_of}
 
 -- an event that is not now has that fault
 pub not_now : (day : Day) (plan : List (List ℕ)) (state : State) (e : DayEvent) → is_now day state e ≡ false → Some (NotNow e) ≡ fault_of day plan state e

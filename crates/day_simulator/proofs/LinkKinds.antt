@@ -24,27 +24,27 @@ some_kept : (u : ℕ) (t : Bool) (xs : List ℕ) → 1 ≤ count_of u (cond t xs
 some_kept u true xs c = refl
 some_kept u false xs c = absurd (omega arith)
 
-pub kept_names : (u : ℕ) (kind : LinkKind) (r : Bool) (plan : List (List ℕ)) (a b : ℕ) → 1 ≤ count_of u (kept_by kind r plan a b) → Names kind a b
-kept_names u (Turn x y uncouple couple) r plan a b c =
-    let both = and_parts (eqb a x) (eqb b y) (some_kept u (eqb a x && eqb b y) (turn_of uncouple couple (turned r (list_of plan x)) (list_of plan y)).kept c) in
+pub kept_names : (type_of : ℕ → ℕ) (u : ℕ) (kind : LinkKind) (r : Bool) (plan : List (List ℕ)) (a b : ℕ) → 1 ≤ count_of u (kept_by type_of kind r plan a b) → Names kind a b
+kept_names type_of u (Turn x y uncouple couple exchange) r plan a b c =
+    let both = and_parts (eqb a x) (eqb b y) (some_kept u (eqb a x && eqb b y) (turn_of type_of uncouple couple exchange (turned r (list_of plan x)) (list_of plan y)).kept c) in
     record { arriving = alone a x (eqb-true a x both.0); departing = alone b y (eqb-true b y both.1) }
-kept_names u (Join x1 x2 y) r plan a b c =
+kept_names type_of u (Join x1 x2 y) r plan a b c =
     let both = and_parts (has a (x1 ∷ x2 ∷ [])) (eqb b y) (some_kept u (has a (x1 ∷ x2 ∷ []) && eqb b y) (turned r (list_of plan a)) c) in
     record { arriving = leb-true 1 (count_of a (x1 ∷ x2 ∷ [])) both.0; departing = alone b y (eqb-true b y both.1) }
-kept_names u (Split x y1 y2) r plan a b c =
+kept_names type_of u (Split x y1 y2) r plan a b c =
     let both = and_parts (eqb a x) (has b (y1 ∷ y2 ∷ [])) (some_kept u (eqb a x && has b (y1 ∷ y2 ∷ [])) (list_of plan b) c) in
     record { arriving = alone a x (eqb-true a x both.0); departing = leb-true 1 (count_of b (y1 ∷ y2 ∷ [])) both.1 }
 
-pub kept_zero : (u : ℕ) (kind : LinkKind) (r : Bool) (plan : List (List ℕ)) (a b : ℕ) → (count_of a (arriving_in kind) ≡ 0) ⊎ (count_of b (departing_in kind) ≡ 0) → count_of u (kept_by kind r plan a b) ≡ 0
-kept_zero u kind r plan a b none =
+pub kept_zero : (type_of : ℕ → ℕ) (u : ℕ) (kind : LinkKind) (r : Bool) (plan : List (List ℕ)) (a b : ℕ) → (count_of a (arriving_in kind) ≡ 0) ⊎ (count_of b (departing_in kind) ≡ 0) → count_of u (kept_by type_of kind r plan a b) ≡ 0
+kept_zero type_of u kind r plan a b none =
     ⊎_elim
-    (λ (c : 0 < count_of u (kept_by kind r plan a b)).
-    let names = kept_names u kind r plan a b (omega arith) in
+    (λ (c : 0 < count_of u (kept_by type_of kind r plan a b)).
+    let names = kept_names type_of u kind r plan a b (omega arith) in
     let x = names.arriving in
     let y = names.departing in
     ⊎_elim (λ (z : count_of a (arriving_in kind) ≡ 0). absurd (omega arith)) (λ (z : count_of b (departing_in kind) ≡ 0). absurd (omega arith)) none)
-    (λ (c : count_of u (kept_by kind r plan a b) ≤ 0). omega arith)
-    (cases_lt 0 (count_of u (kept_by kind r plan a b)))
+    (λ (c : count_of u (kept_by type_of kind r plan a b) ≤ 0). omega arith)
+    (cases_lt 0 (count_of u (kept_by type_of kind r plan a b)))
 
 -- a trip that is named once
 not_alone : (x y : ℕ) → x ≢ y → count_of x (y ∷ []) ≡ 0
@@ -57,50 +57,50 @@ two_apart : (x y : ℕ) → count_of x (x ∷ y ∷ []) ≤ 1 → x ≢ y
 two_apart x y once e = let o = one_same x x refl in let o' = one_same y x (sym e) in absurd (omega arith)
 
 -- what arrives by a link is given, or kept for two trips at most
-pub record KindGives (kind : LinkKind) (r : Bool) (plan : List (List ℕ)) (a : ℕ) : Type 0 where
+pub record KindGives (type_of : ℕ → ℕ) (kind : LinkKind) (r : Bool) (plan : List (List ℕ)) (a : ℕ) : Type 0 where
   pub first : ℕ
   pub second : ℕ
   pub apart : first ≢ second
-  pub total : (u : ℕ) → count_of u (list_of plan a) ≡ count_of u (given_by kind r plan) + count_of u (kept_by kind r plan a first) + count_of u (kept_by kind r plan a second)
-  pub others : (u b : ℕ) → b ≢ first → b ≢ second → count_of u (kept_by kind r plan a b) ≡ 0
+  pub total : (u : ℕ) → count_of u (list_of plan a) ≡ count_of u (given_by type_of kind r plan) + count_of u (kept_by type_of kind r plan a first) + count_of u (kept_by type_of kind r plan a second)
+  pub others : (u b : ℕ) → b ≢ first → b ≢ second → count_of u (kept_by type_of kind r plan a b) ≡ 0
 
 -- what departs by a link is taken, or was kept from two trips at most
-pub record KindTakes (kind : LinkKind) (r : Bool) (plan : List (List ℕ)) (b : ℕ) : Type 0 where
+pub record KindTakes (type_of : ℕ → ℕ) (kind : LinkKind) (r : Bool) (plan : List (List ℕ)) (b : ℕ) : Type 0 where
   pub first : ℕ
   pub second : ℕ
   pub apart : first ≢ second
-  pub total : (u : ℕ) → count_of u (list_of plan b) ≡ count_of u (taken_by kind r plan) + count_of u (kept_by kind r plan first b) + count_of u (kept_by kind r plan second b)
-  pub others : (u a : ℕ) → a ≢ first → a ≢ second → count_of u (kept_by kind r plan a b) ≡ 0
+  pub total : (u : ℕ) → count_of u (list_of plan b) ≡ count_of u (taken_by type_of kind r plan) + count_of u (kept_by type_of kind r plan first b) + count_of u (kept_by type_of kind r plan second b)
+  pub others : (u a : ℕ) → a ≢ first → a ≢ second → count_of u (kept_by type_of kind r plan a b) ≡ 0
 
-pub kind_gives : (kind : LinkKind) (r : Bool) (plan : List (List ℕ)) (a : ℕ) → kind_holds kind r plan ≡ true → ((t : ℕ) → count_of t (departing_in kind) ≤ 1) → 1 ≤ count_of a (arriving_in kind) → KindGives kind r plan a
-kind_gives (Turn x y uncouple couple) r plan a holds once named =
-    subst (λ z. KindGives (Turn x y uncouple couple) r plan z) (same_alone a x named) (record {
+pub kind_gives : (type_of : ℕ → ℕ) (kind : LinkKind) (r : Bool) (plan : List (List ℕ)) (a : ℕ) → kind_holds type_of kind r plan ≡ true → ((t : ℕ) → count_of t (departing_in kind) ≤ 1) → 1 ≤ count_of a (arriving_in kind) → KindGives type_of kind r plan a
+kind_gives type_of (Turn x y uncouple couple exchange) r plan a holds once named =
+    subst (λ z. KindGives type_of (Turn x y uncouple couple exchange) r plan z) (same_alone a x named) (record {
       first = y;
       second = suc y;
       apart = λ e. absurd (omega arith);
       total = λ u.
-          let shares = (turn_shares uncouple couple (turned r (list_of plan x)) (list_of plan y)).arrives u in
+          let shares = (turn_shares type_of uncouple couple exchange (turned r (list_of plan x)) (list_of plan y)).arrives u in
           let turns = count_of-turned u r (list_of plan x) in
-          let kept : count_of u (kept_by (Turn x y uncouple couple) r plan x y) ≡ count_of u (turn_of uncouple couple (turned r (list_of plan x)) (list_of plan y)).kept =
-          ap (count_of u) (cond-true (eqb x x && eqb y y) (turn_of uncouple couple (turned r (list_of plan x)) (list_of plan y)).kept [] (and_from _ _ (eq-eqb x x refl) (eq-eqb y y refl))) in
-          let none = kept_zero u (Turn x y uncouple couple) r plan x (suc y) (inr (not_alone (suc y) y (λ e. absurd (omega arith)))) in
+          let kept : count_of u (kept_by type_of (Turn x y uncouple couple exchange) r plan x y) ≡ count_of u (turn_of type_of uncouple couple exchange (turned r (list_of plan x)) (list_of plan y)).kept =
+          ap (count_of u) (cond-true (eqb x x && eqb y y) (turn_of type_of uncouple couple exchange (turned r (list_of plan x)) (list_of plan y)).kept [] (and_from _ _ (eq-eqb x x refl) (eq-eqb y y refl))) in
+          let none = kept_zero type_of u (Turn x y uncouple couple exchange) r plan x (suc y) (inr (not_alone (suc y) y (λ e. absurd (omega arith)))) in
           omega arith;
-      others = λ u b ne ne'. kept_zero u (Turn x y uncouple couple) r plan x b (inr (not_alone b y ne));
+      others = λ u b ne ne'. kept_zero type_of u (Turn x y uncouple couple exchange) r plan x b (inr (not_alone b y ne));
     })
-kind_gives (Join x1 x2 y) r plan a holds once named = record {
+kind_gives type_of (Join x1 x2 y) r plan a holds once named = record {
   first = y;
   second = suc y;
   apart = λ e. absurd (omega arith);
   total = λ u.
       let turns = count_of-turned u r (list_of plan a) in
-      let kept : count_of u (kept_by (Join x1 x2 y) r plan a y) ≡ count_of u (turned r (list_of plan a)) =
+      let kept : count_of u (kept_by type_of (Join x1 x2 y) r plan a y) ≡ count_of u (turned r (list_of plan a)) =
       ap (count_of u) (cond-true (has a (x1 ∷ x2 ∷ []) && eqb y y) (turned r (list_of plan a)) [] (and_from _ _ (le-leb 1 (count_of a (x1 ∷ x2 ∷ [])) named) (eq-eqb y y refl))) in
-      let none = kept_zero u (Join x1 x2 y) r plan a (suc y) (inr (not_alone (suc y) y (λ e. absurd (omega arith)))) in
+      let none = kept_zero type_of u (Join x1 x2 y) r plan a (suc y) (inr (not_alone (suc y) y (λ e. absurd (omega arith)))) in
       omega arith;
-  others = λ u b ne ne'. kept_zero u (Join x1 x2 y) r plan a b (inr (not_alone b y ne));
+  others = λ u b ne ne'. kept_zero type_of u (Join x1 x2 y) r plan a b (inr (not_alone b y ne));
 }
-kind_gives (Split x y1 y2) r plan a holds once named =
-    subst (λ z. KindGives (Split x y1 y2) r plan z) (same_alone a x named) (record {
+kind_gives type_of (Split x y1 y2) r plan a holds once named =
+    subst (λ z. KindGives type_of (Split x y1 y2) r plan z) (same_alone a x named) (record {
       first = y1;
       second = y2;
       apart = two_apart y1 y2 (once y1);
@@ -109,30 +109,30 @@ kind_gives (Split x y1 y2) r plan a holds once named =
           let parts = split_counts u (turned r (list_of plan x)) (list_of plan y1) (list_of plan y2) holds in
           let one' = one_same y1 y1 refl in
           let two' = one_same y2 y2 refl in
-          let kept : count_of u (kept_by (Split x y1 y2) r plan x y1) ≡ count_of u (list_of plan y1) =
+          let kept : count_of u (kept_by type_of (Split x y1 y2) r plan x y1) ≡ count_of u (list_of plan y1) =
           ap (count_of u) (cond-true (eqb x x && has y1 (y1 ∷ y2 ∷ [])) (list_of plan y1) [] (and_from _ _ (eq-eqb x x refl) (le-leb 1 (count_of y1 (y1 ∷ y2 ∷ [])) (omega arith)))) in
-          let kept' : count_of u (kept_by (Split x y1 y2) r plan x y2) ≡ count_of u (list_of plan y2) =
+          let kept' : count_of u (kept_by type_of (Split x y1 y2) r plan x y2) ≡ count_of u (list_of plan y2) =
           ap (count_of u) (cond-true (eqb x x && has y2 (y1 ∷ y2 ∷ [])) (list_of plan y2) [] (and_from _ _ (eq-eqb x x refl) (le-leb 1 (count_of y2 (y1 ∷ y2 ∷ [])) (omega arith)))) in
           omega arith;
-      others = λ u b ne ne'. kept_zero u (Split x y1 y2) r plan x b (inr (not_both b y1 y2 ne ne'));
+      others = λ u b ne ne'. kept_zero type_of u (Split x y1 y2) r plan x b (inr (not_both b y1 y2 ne ne'));
     })
 
-pub kind_takes : (kind : LinkKind) (r : Bool) (plan : List (List ℕ)) (b : ℕ) → kind_holds kind r plan ≡ true → ((t : ℕ) → count_of t (arriving_in kind) ≤ 1) → 1 ≤ count_of b (departing_in kind) → KindTakes kind r plan b
-kind_takes (Turn x y uncouple couple) r plan b holds once named =
-    subst (λ z. KindTakes (Turn x y uncouple couple) r plan z) (same_alone b y named) (record {
+pub kind_takes : (type_of : ℕ → ℕ) (kind : LinkKind) (r : Bool) (plan : List (List ℕ)) (b : ℕ) → kind_holds type_of kind r plan ≡ true → ((t : ℕ) → count_of t (arriving_in kind) ≤ 1) → 1 ≤ count_of b (departing_in kind) → KindTakes type_of kind r plan b
+kind_takes type_of (Turn x y uncouple couple exchange) r plan b holds once named =
+    subst (λ z. KindTakes type_of (Turn x y uncouple couple exchange) r plan z) (same_alone b y named) (record {
       first = x;
       second = suc x;
       apart = λ e. absurd (omega arith);
       total = λ u.
-          let shares = (turn_shares uncouple couple (turned r (list_of plan x)) (list_of plan y)).departs u in
-          let kept : count_of u (kept_by (Turn x y uncouple couple) r plan x y) ≡ count_of u (turn_of uncouple couple (turned r (list_of plan x)) (list_of plan y)).kept =
-          ap (count_of u) (cond-true (eqb x x && eqb y y) (turn_of uncouple couple (turned r (list_of plan x)) (list_of plan y)).kept [] (and_from _ _ (eq-eqb x x refl) (eq-eqb y y refl))) in
-          let none = kept_zero u (Turn x y uncouple couple) r plan (suc x) y (inl (not_alone (suc x) x (λ e. absurd (omega arith)))) in
+          let shares = (turn_shares type_of uncouple couple exchange (turned r (list_of plan x)) (list_of plan y)).departs u in
+          let kept : count_of u (kept_by type_of (Turn x y uncouple couple exchange) r plan x y) ≡ count_of u (turn_of type_of uncouple couple exchange (turned r (list_of plan x)) (list_of plan y)).kept =
+          ap (count_of u) (cond-true (eqb x x && eqb y y) (turn_of type_of uncouple couple exchange (turned r (list_of plan x)) (list_of plan y)).kept [] (and_from _ _ (eq-eqb x x refl) (eq-eqb y y refl))) in
+          let none = kept_zero type_of u (Turn x y uncouple couple exchange) r plan (suc x) y (inl (not_alone (suc x) x (λ e. absurd (omega arith)))) in
           omega arith;
-      others = λ u a ne ne'. kept_zero u (Turn x y uncouple couple) r plan a y (inl (not_alone a x ne));
+      others = λ u a ne ne'. kept_zero type_of u (Turn x y uncouple couple exchange) r plan a y (inl (not_alone a x ne));
     })
-kind_takes (Join x1 x2 y) r plan b holds once named =
-    subst (λ z. KindTakes (Join x1 x2 y) r plan z) (same_alone b y named) (record {
+kind_takes type_of (Join x1 x2 y) r plan b holds once named =
+    subst (λ z. KindTakes type_of (Join x1 x2 y) r plan z) (same_alone b y named) (record {
       first = x1;
       second = x2;
       apart = two_apart x1 x2 (once x1);
@@ -142,21 +142,21 @@ kind_takes (Join x1 x2 y) r plan b holds once named =
           let parts = join_counts u (turned r (list_of plan x1)) (turned r (list_of plan x2)) (list_of plan y) holds in
           let one' = one_same x1 x1 refl in
           let two' = one_same x2 x2 refl in
-          let kept : count_of u (kept_by (Join x1 x2 y) r plan x1 y) ≡ count_of u (turned r (list_of plan x1)) =
+          let kept : count_of u (kept_by type_of (Join x1 x2 y) r plan x1 y) ≡ count_of u (turned r (list_of plan x1)) =
           ap (count_of u) (cond-true (has x1 (x1 ∷ x2 ∷ []) && eqb y y) (turned r (list_of plan x1)) [] (and_from _ _ (le-leb 1 (count_of x1 (x1 ∷ x2 ∷ [])) (omega arith)) (eq-eqb y y refl))) in
-          let kept' : count_of u (kept_by (Join x1 x2 y) r plan x2 y) ≡ count_of u (turned r (list_of plan x2)) =
+          let kept' : count_of u (kept_by type_of (Join x1 x2 y) r plan x2 y) ≡ count_of u (turned r (list_of plan x2)) =
           ap (count_of u) (cond-true (has x2 (x1 ∷ x2 ∷ []) && eqb y y) (turned r (list_of plan x2)) [] (and_from _ _ (le-leb 1 (count_of x2 (x1 ∷ x2 ∷ [])) (omega arith)) (eq-eqb y y refl))) in
           omega arith;
-      others = λ u a ne ne'. kept_zero u (Join x1 x2 y) r plan a y (inl (not_both a x1 x2 ne ne'));
+      others = λ u a ne ne'. kept_zero type_of u (Join x1 x2 y) r plan a y (inl (not_both a x1 x2 ne ne'));
     })
-kind_takes (Split x y1 y2) r plan b holds once named = record {
+kind_takes type_of (Split x y1 y2) r plan b holds once named = record {
   first = x;
   second = suc x;
   apart = λ e. absurd (omega arith);
   total = λ u.
-      let kept : count_of u (kept_by (Split x y1 y2) r plan x b) ≡ count_of u (list_of plan b) =
+      let kept : count_of u (kept_by type_of (Split x y1 y2) r plan x b) ≡ count_of u (list_of plan b) =
       ap (count_of u) (cond-true (eqb x x && has b (y1 ∷ y2 ∷ [])) (list_of plan b) [] (and_from _ _ (eq-eqb x x refl) (le-leb 1 (count_of b (y1 ∷ y2 ∷ [])) named))) in
-      let none = kept_zero u (Split x y1 y2) r plan (suc x) b (inl (not_alone (suc x) x (λ e. absurd (omega arith)))) in
+      let none = kept_zero type_of u (Split x y1 y2) r plan (suc x) b (inl (not_alone (suc x) x (λ e. absurd (omega arith)))) in
       omega arith;
-  others = λ u a ne ne'. kept_zero u (Split x y1 y2) r plan a b (inl (not_alone a x ne));
+  others = λ u a ne ne'. kept_zero type_of u (Split x y1 y2) r plan a b (inl (not_alone a x ne));
 }

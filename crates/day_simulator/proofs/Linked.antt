@@ -2,18 +2,18 @@
 use Rattle.std.proofs.Common.{◌≡◌, ℕ, ◌≤◌, List, [], Bool, true, false, Option, Some, None, ap, ◌∙◌, subst, arith, ◌≢◌, ⊎_elim, inl, inr}
 use Rattle.std.specs.Prelude.{if◌then◌else◌, ◌&&◌, not, slice_get, unwrap_or, option_map, option_and_then}
 use Rattle.std.proofs.lemmas.Bool.{cases_Bool, cases_eq, le-leb, and_right, and_from, cond-true, cond-false}
-use Rattle.timetable.specs.Day.{Day, leaves, arrives}
+use Rattle.timetable.specs.Day.{Day, leaves, arrives, type_of}
 use Rattle.timetable.specs.Lists.{count_of}
 use Rattle.timetable.specs.Accepted.{AreLinks}
 use Rattle.timetable.specs.declared.day.records.Link.{Link}
-use Rattle.timetable.specs.Links.{list_of, link_holds, kind_holds, arriving_in, departing_in, incoming, outgoing, link_into, link_out, kept_by, given_by, taken_by, kept, given, taken}
+use Rattle.timetable.specs.Links.{list_of, link_holds, kind_holds, arriving_in, departing_in, incoming, outgoing, link_into, link_out, kept_by, given_by, taken_by, kept, given, taken, kept_with, given_with, taken_with}
 use Rattle.day_simulator.specs.Steps.{feeders, is_tested_at, broken, broken_into, broken_out}
 use Rattle.timetable.proofs.NamedTrips.{IsNamed, named_or_not, named_here, named_twice}
 use Rattle.day_simulator.proofs.LinkKinds.{kept_names, kept_zero, kind_gives, kind_takes, KindGives, KindTakes}
 use Rattle.day_simulator.proofs.Accounts.{AreAccounted, Gives, Takes}
 
 pub record LinksHold (day : Day) (plan : List (List ℕ)) : Type 0 where
-  pub holds : (l : ℕ) (link : Link) → slice_get day.links l ≡ Some link → link_holds link plan ≡ true
+  pub holds : (l : ℕ) (link : Link) → slice_get day.links l ≡ Some link → link_holds (type_of day) link plan ≡ true
 
 -- the link that leads on from a trip
 out_is : (day : Day) (t : ℕ) (link : Link) → IsNamed arriving_in day.links t link → link_out day t ≡ Some link
@@ -24,37 +24,37 @@ into_is : (day : Day) (t : ℕ) (link : Link) → IsNamed departing_in day.links
 unfolding incoming
 into_is day t link n = ap (option_and_then (slice_get day.links)) n.found ∙ n.at
 
-kept_at : (day : Day) (plan : List (List ℕ)) (a b : ℕ) (o : Option Link) → link_out day a ≡ o → kept day plan a b ≡ unwrap_or (option_map (λ link. kept_by link.kind link.reverse plan a b) o) []
-unfolding kept
-kept_at day plan a b o e = ap (λ o. unwrap_or (option_map (λ link. kept_by link.kind link.reverse plan a b) o) []) e
+kept_at : (day : Day) (plan : List (List ℕ)) (a b : ℕ) (o : Option Link) → link_out day a ≡ o → kept day plan a b ≡ unwrap_or (option_map (λ link. kept_by (type_of day) link.kind link.reverse plan a b) o) []
+unfolding kept_with
+kept_at day plan a b o e = ap (λ o. unwrap_or (option_map (λ link. kept_by (type_of day) link.kind link.reverse plan a b) o) []) e
 
-given_at : (day : Day) (plan : List (List ℕ)) (t : ℕ) (o : Option Link) → link_out day t ≡ o → given day plan t ≡ unwrap_or (option_map (λ link. given_by link.kind link.reverse plan) o) (list_of plan t)
-unfolding given
-given_at day plan t o e = ap (λ o. unwrap_or (option_map (λ link. given_by link.kind link.reverse plan) o) (list_of plan t)) e
+given_at : (day : Day) (plan : List (List ℕ)) (t : ℕ) (o : Option Link) → link_out day t ≡ o → given day plan t ≡ unwrap_or (option_map (λ link. given_by (type_of day) link.kind link.reverse plan) o) (list_of plan t)
+unfolding given_with
+given_at day plan t o e = ap (λ o. unwrap_or (option_map (λ link. given_by (type_of day) link.kind link.reverse plan) o) (list_of plan t)) e
 
-taken_at : (day : Day) (plan : List (List ℕ)) (t : ℕ) (o : Option Link) → link_into day t ≡ o → taken day plan t ≡ unwrap_or (option_map (λ link. taken_by link.kind link.reverse plan) o) (list_of plan t)
-unfolding taken
-taken_at day plan t o e = ap (λ o. unwrap_or (option_map (λ link. taken_by link.kind link.reverse plan) o) (list_of plan t)) e
+taken_at : (day : Day) (plan : List (List ℕ)) (t : ℕ) (o : Option Link) → link_into day t ≡ o → taken day plan t ≡ unwrap_or (option_map (λ link. taken_by (type_of day) link.kind link.reverse plan) o) (list_of plan t)
+unfolding taken_with
+taken_at day plan t o e = ap (λ o. unwrap_or (option_map (λ link. taken_by (type_of day) link.kind link.reverse plan) o) (list_of plan t)) e
 
-rule_of : (link : Link) (plan : List (List ℕ)) → link_holds link plan ≡ true → kind_holds link.kind link.reverse plan ≡ true
+rule_of : (day : Day) (link : Link) (plan : List (List ℕ)) → link_holds (type_of day) link plan ≡ true → kind_holds (type_of day) link.kind link.reverse plan ≡ true
 unfolding link_holds
-rule_of link plan h = h
+rule_of day link plan h = h
 
-none_broken : (day : Day) (plan : List (List ℕ)) (departure : Bool) (l : ℕ) (link : Link) → slice_get day.links l ≡ Some link → link_holds link plan ≡ true → broken day plan departure (Some l) ≡ None
+none_broken : (day : Day) (plan : List (List ℕ)) (departure : Bool) (l : ℕ) (link : Link) → slice_get day.links l ≡ Some link → link_holds (type_of day) link plan ≡ true → broken day plan departure (Some l) ≡ None
 none_broken day plan departure l link at holds =
-    ap (λ o. option_and_then (λ (link : Link). if is_tested_at departure link.kind && not (link_holds link plan) then Some l else None) o) at
-    ∙ cond-false (is_tested_at departure link.kind && not (link_holds link plan)) (Some l) None (and_right (is_tested_at departure link.kind) (not (link_holds link plan)) (ap not holds))
+    ap (λ o. option_and_then (λ (link : Link). if is_tested_at departure link.kind && not (link_holds (type_of day) link plan) then Some l else None) o) at
+    ∙ cond-false (is_tested_at departure link.kind && not (link_holds (type_of day) link plan)) (Some l) None (and_right (is_tested_at departure link.kind) (not (link_holds (type_of day) link plan)) (ap not holds))
 
 -- a link that is tested here and not broken holds
-pub holds_from_none : (day : Day) (plan : List (List ℕ)) (departure : Bool) (l : ℕ) (link : Link) → slice_get day.links l ≡ Some link → is_tested_at departure link.kind ≡ true → broken day plan departure (Some l) ≡ None → link_holds link plan ≡ true
+pub holds_from_none : (day : Day) (plan : List (List ℕ)) (departure : Bool) (l : ℕ) (link : Link) → slice_get day.links l ≡ Some link → is_tested_at departure link.kind ≡ true → broken day plan departure (Some l) ≡ None → link_holds (type_of day) link plan ≡ true
 holds_from_none day plan departure l link at tested none =
-    ⊎_elim (λ (is : link_holds link plan ≡ true). is)
-    (λ (isnt : link_holds link plan ≡ false).
+    ⊎_elim (λ (is : link_holds (type_of day) link plan ≡ true). is)
+    (λ (isnt : link_holds (type_of day) link plan ≡ false).
     let found : broken day plan departure (Some l) ≡ Some l =
-    ap (λ o. option_and_then (λ (link : Link). if is_tested_at departure link.kind && not (link_holds link plan) then Some l else None) o) at
-    ∙ cond-true (is_tested_at departure link.kind && not (link_holds link plan)) (Some l) None (and_from (is_tested_at departure link.kind) (not (link_holds link plan)) tested (ap not isnt)) in
+    ap (λ o. option_and_then (λ (link : Link). if is_tested_at departure link.kind && not (link_holds (type_of day) link plan) then Some l else None) o) at
+    ∙ cond-true (is_tested_at departure link.kind && not (link_holds (type_of day) link plan)) (Some l) None (and_from (is_tested_at departure link.kind) (not (link_holds (type_of day) link plan)) tested (ap not isnt)) in
     absurd (cc))
-    (cases_Bool (link_holds link plan))
+    (cases_Bool (link_holds (type_of day) link plan))
 
 module _ (day : Day) (plan : List (List ℕ)) (links : AreLinks day) where
   kept_in_time : (u a b : ℕ) → 1 ≤ count_of u (kept day plan a b) → arrives day a ≤ leaves day b
@@ -62,8 +62,8 @@ module _ (day : Day) (plan : List (List ℕ)) (links : AreLinks day) where
   kept_in_time u a b c = ⊎_elim
       (λ (h : (link : Link) × IsNamed arriving_in day.links a link).
       let same = kept_at day plan a b (Some h.0) (out_is day a h.0 h.1) in
-      let c' : 1 ≤ count_of u (kept_by (h.0).kind (h.0).reverse plan a b) = subst (λ l. 1 ≤ count_of u l) same c in
-      let names = kept_names u (h.0).kind (h.0).reverse plan a b c' in
+      let c' : 1 ≤ count_of u (kept_by (type_of day) (h.0).kind (h.0).reverse plan a b) = subst (λ l. 1 ≤ count_of u l) same c in
+      let names = kept_names (type_of day) u (h.0).kind (h.0).reverse plan a b c' in
       links.in_time (h.1).number a b h.0 (h.1).at (le-leb 1 (count_of a (arriving_in (h.0).kind)) names.arriving) (le-leb 1 (count_of b (departing_in (h.0).kind)) names.departing))
       (λ none.
       let same : kept day plan a b ≡ [] = kept_at day plan a b None (ap (option_and_then (slice_get day.links)) none.0) in
@@ -103,8 +103,8 @@ module _ (day : Day) (plan : List (List ℕ)) (links : AreLinks day) where
   gives_of h a = ⊎_elim
       (λ (n : (link : Link) × IsNamed arriving_in day.links a link).
       let is = out_is day a n.0 (n.1) in
-      let k : KindGives (n.0).kind (n.0).reverse plan a =
-      kind_gives (n.0).kind (n.0).reverse plan a (rule_of n.0 plan (h.holds (n.1).number n.0 (n.1).at))
+      let k : KindGives (type_of day) (n.0).kind (n.0).reverse plan a =
+      kind_gives (type_of day) (n.0).kind (n.0).reverse plan a (rule_of day n.0 plan (h.holds (n.1).number n.0 (n.1).at))
       (λ t. let le = named_here departing_in day.links t (n.1).number n.0 (n.1).at in let once = links.departing_once t in omega arith) (n.1).named in
       record {
         first = k.first;
@@ -134,7 +134,7 @@ module _ (day : Day) (plan : List (List ℕ)) (links : AreLinks day) where
       (named_or_not arriving_in day.links a)
 
   -- what is kept for a trip, by the link that leads into it
-  kept_into : (u a b : ℕ) (link : Link) → IsNamed departing_in day.links b link → count_of u (kept day plan a b) ≡ count_of u (kept_by link.kind link.reverse plan a b)
+  kept_into : (u a b : ℕ) (link : Link) → IsNamed departing_in day.links b link → count_of u (kept day plan a b) ≡ count_of u (kept_by (type_of day) link.kind link.reverse plan a b)
   unfolding outgoing
   kept_into u a b link n = ⊎_elim
       (λ (m : (other : Link) × IsNamed arriving_in day.links a other).
@@ -144,22 +144,22 @@ module _ (day : Day) (plan : List (List ℕ)) (links : AreLinks day) where
       let there : slice_get day.links n.number ≡ Some m.0 = subst (λ l. slice_get day.links l ≡ Some m.0) e (m.1).at in
       let here = n.at in
       let same : m.0 ≡ link = cc in
-      ap (λ (x : Link). count_of u (kept_by x.kind x.reverse plan a b)) same)
+      ap (λ (x : Link). count_of u (kept_by (type_of day) x.kind x.reverse plan a b)) same)
       (λ (ne : (m.1).number ≢ n.number).
       let once = links.departing_once b in
       let two = named_twice departing_in day.links b n.number (m.1).number link m.0 ne n.at (m.1).at in
       let named = n.named in
-      let x = kept_zero u (m.0).kind (m.0).reverse plan a b (inr (omega arith)) in
+      let x = kept_zero (type_of day) u (m.0).kind (m.0).reverse plan a b (inr (omega arith)) in
       let once' = links.arriving_once a in
       let two' = named_twice arriving_in day.links a n.number (m.1).number link m.0 ne n.at (m.1).at in
       let named' = (m.1).named in
-      let y = kept_zero u link.kind link.reverse plan a b (inl (omega arith)) in
+      let y = kept_zero (type_of day) u link.kind link.reverse plan a b (inl (omega arith)) in
       omega arith)
       (cases_eq (m.1).number n.number))
       (λ none.
       let is : link_out day a ≡ None = ap (option_and_then (slice_get day.links)) none.0 in
       let x : count_of u (kept day plan a b) ≡ 0 = ap (count_of u) (kept_at day plan a b None is) in
-      let y = kept_zero u link.kind link.reverse plan a b (inl (none.1 n.number link n.at)) in
+      let y = kept_zero (type_of day) u link.kind link.reverse plan a b (inl (none.1 n.number link n.at)) in
       omega arith)
       (named_or_not arriving_in day.links a)
 
@@ -169,7 +169,7 @@ module _ (day : Day) (plan : List (List ℕ)) (links : AreLinks day) where
   kept_into_none u a b nowhere = ⊎_elim
       (λ (m : (other : Link) × IsNamed arriving_in day.links a other).
       ap (count_of u) (kept_at day plan a b (Some m.0) (out_is day a m.0 m.1))
-      ∙ kept_zero u (m.0).kind (m.0).reverse plan a b (inr (nowhere (m.1).number m.0 (m.1).at)))
+      ∙ kept_zero (type_of day) u (m.0).kind (m.0).reverse plan a b (inr (nowhere (m.1).number m.0 (m.1).at)))
       (λ none. ap (count_of u) (kept_at day plan a b None (ap (option_and_then (slice_get day.links)) none.0)))
       (named_or_not arriving_in day.links a)
 
@@ -178,8 +178,8 @@ module _ (day : Day) (plan : List (List ℕ)) (links : AreLinks day) where
   takes_of h b = ⊎_elim
       (λ (n : (link : Link) × IsNamed departing_in day.links b link).
       let is = into_is day b n.0 (n.1) in
-      let k : KindTakes (n.0).kind (n.0).reverse plan b =
-      kind_takes (n.0).kind (n.0).reverse plan b (rule_of n.0 plan (h.holds (n.1).number n.0 (n.1).at))
+      let k : KindTakes (type_of day) (n.0).kind (n.0).reverse plan b =
+      kind_takes (type_of day) (n.0).kind (n.0).reverse plan b (rule_of day n.0 plan (h.holds (n.1).number n.0 (n.1).at))
       (λ t. let le = named_here arriving_in day.links t (n.1).number n.0 (n.1).at in let once = links.arriving_once t in omega arith) (n.1).named in
       record {
         first = k.first;

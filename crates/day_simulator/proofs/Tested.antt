@@ -2,7 +2,7 @@
 use Rattle.std.proofs.Common.{◌≡◌, ℕ, ◌≤◌, List, [], ◌∷◌, length, Bool, true, false, cond, eqb, Option, Some, None, Ok, refl, sym, ap, ◌∙◌, subst, arith, ◌≢◌, ⊎_elim}
 use Rattle.std.specs.Prelude.{not, slice_get, unwrap_or, option_map}
 use Rattle.std.proofs.lemmas.Bool.{cases_eq, le-leb}
-use Rattle.timetable.specs.Day.{Day, types_of}
+use Rattle.timetable.specs.Day.{Day, type_of, types_of}
 use Rattle.timetable.specs.Lists.{count_of}
 use Rattle.timetable.specs.Accepted.{AreLinks}
 use Rattle.timetable.specs.Admissible.{is_admissible}
@@ -71,7 +71,7 @@ tested day plan (Arrive s ∷ es) state final e =
 
 module _ (day : Day) (plan : List (List ℕ)) (links : AreLinks day) (es : List DayEvent) (order : IsOrder day es) where
   -- a rule that is tested where a trip departs
-  by_departure : (l t : ℕ) (link : Link) → Tested day plan es → slice_get day.links l ≡ Some link → 1 ≤ count_of t (departing_in link.kind) → is_tested_at true link.kind ≡ true → link_holds link plan ≡ true
+  by_departure : (l t : ℕ) (link : Link) → Tested day plan es → slice_get day.links l ≡ Some link → 1 ≤ count_of t (departing_in link.kind) → is_tested_at true link.kind ≡ true → link_holds (type_of day) link plan ≡ true
   unfolding broken_into incoming
   by_departure l t link done at named here =
       let trip = links.departing l t link at (le-leb 1 (count_of t (departing_in link.kind)) named) in
@@ -81,7 +81,7 @@ module _ (day : Day) (plan : List (List ℕ)) (links : AreLinks day) (es : List 
       holds_from_none day plan true l link at here (ap (broken day plan true) (sym found) ∙ none)
 
   -- a rule that is tested where a trip arrives
-  by_arrival : (l t : ℕ) (link : Link) → Tested day plan es → slice_get day.links l ≡ Some link → 1 ≤ count_of t (arriving_in link.kind) → is_tested_at false link.kind ≡ true → link_holds link plan ≡ true
+  by_arrival : (l t : ℕ) (link : Link) → Tested day plan es → slice_get day.links l ≡ Some link → 1 ≤ count_of t (arriving_in link.kind) → is_tested_at false link.kind ≡ true → link_holds (type_of day) link plan ≡ true
   unfolding broken_out outgoing
   by_arrival l t link done at named here =
       let trip = links.arriving l t link at (le-leb 1 (count_of t (arriving_in link.kind)) named) in
@@ -95,8 +95,8 @@ module _ (day : Day) (plan : List (List ℕ)) (links : AreLinks day) (es : List 
     holds = λ l link at. by_kind l link at link.kind refl (tested day plan es (start_of day) final e);
   }
     where
-      by_kind : (l : ℕ) (link : Link) → slice_get day.links l ≡ Some link → (kind : LinkKind) → link.kind ≡ kind → Tested day plan es → link_holds link plan ≡ true
-      by_kind l link at (Turn x y uncouple couple) e done =
+      by_kind : (l : ℕ) (link : Link) → slice_get day.links l ≡ Some link → (kind : LinkKind) → link.kind ≡ kind → Tested day plan es → link_holds (type_of day) link plan ≡ true
+      by_kind l link at (Turn x y uncouple couple exchange) e done =
           let o = one_same x x refl in
           by_arrival l x link done at (subst (λ k. 1 ≤ count_of x (arriving_in k)) (sym e) (omega arith)) (subst (λ k. is_tested_at false k ≡ true) (sym e) refl)
       by_kind l link at (Join x1 x2 y) e done =

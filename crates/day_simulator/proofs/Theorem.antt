@@ -2,10 +2,10 @@
 use Rattle.std.proofs.Common.{◌≡◌, ℕ, ◌<◌, ◌≤◌, List, [], ◌∷◌, length, true, Some, None, Result, Ok, Err, refl, sym, ap, ◌∙◌, subst, arith, ⊎_elim, inl, inr}
 use Rattle.std.specs.Prelude.{slice_get}
 use Rattle.std.proofs.lemmas.Bool.{cases_lt, leb-true, le-leb}
-use Rattle.timetable.specs.Day.{Day, leaves, home_of, unit_count}
+use Rattle.timetable.specs.Day.{Day, leaves, home_of, unit_count, type_of}
 use Rattle.timetable.specs.Lists.{count_of, below}
-use Rattle.timetable.specs.Accepted.{IsDay, AreLinks, times_named}
-use Rattle.timetable.specs.Links.{list_of, link_holds, arriving_in, departing_in, kept, taken}
+use Rattle.timetable.specs.Accepted.{IsDay, AreLinks}
+use Rattle.timetable.specs.Links.{list_of, link_holds, kept, taken}
 use Rattle.timetable.specs.declared.day.records.Link.{Link}
 use Rattle.timetable.specs.Duties.{duty, last_place}
 use Rattle.timetable.specs.Running.{IsPlan, Runs, MayFollow, EachFollows, BeginsAt}
@@ -157,7 +157,7 @@ module _ (day : Day) (plan : List (List ℕ)) (is_day : IsDay day) (is_plan : Is
               ∙ ap (λ o. ended None o (plan_cost day plan)) none;
         }
 
-    pub ends_then_runs : ((l : ℕ) (link : Link) → slice_get day.links l ≡ Some link → link_holds link plan ≡ true) → (final : State) (cost : ℕ) → steps day plan (start_of day) es ≡ Ok final → finish_of day plan final ≡ Ok cost → Runs day plan × (cost ≡ plan_cost day plan)
+    pub ends_then_runs : ((l : ℕ) (link : Link) → slice_get day.links l ≡ Some link → link_holds (type_of day) link plan ≡ true) → (final : State) (cost : ℕ) → steps day plan (start_of day) es ≡ Ok final → finish_of day plan final ≡ Ok cost → Runs day plan × (cost ≡ plan_cost day plan)
     unfolding finish_of
     ends_then_runs links final cost e f =
         let going = going_start day plan es order is_plan accounted in

@@ -1,5 +1,5 @@
 -- The machine and the conditions on a plan say the same.
-use Rattle.std.specs.Prelude.{ℕ, ◌≡◌, List, [], Ok, Err}
+use Rattle.std.specs.Prelude.{ℕ, ◌≡◌, List, Ok, Err}
 use Rattle.timetable.specs.Day.{Day}
 use Rattle.timetable.specs.Accepted.{IsDay, AreLinks}
 use Rattle.timetable.specs.Running.{IsPlan, Runs}

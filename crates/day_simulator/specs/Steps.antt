@@ -3,7 +3,7 @@ use Rattle.std.specs.Prelude.{ℕ, ◌+◌, List, [], ◌∷◌, Bool, true, fal
 use Rattle.std.specs.List.{list_all}
 use Rattle.timetable.specs.declared.day.records.LinkKind.{LinkKind}
 use Rattle.timetable.specs.declared.day.records.LinkKind.TheVariants.{Turn, Join, Split}
-use Rattle.timetable.specs.Day.{Day, leaves, arrives, from_of, to_of, types_of, reallocation_of}
+use Rattle.timetable.specs.Day.{Day, leaves, arrives, from_of, to_of, type_of, types_of, reallocation_of}
 use Rattle.timetable.specs.Admissible.{is_admissible}
 use Rattle.timetable.specs.Links.{list_of, incoming, outgoing, link_into, link_holds, arriving_in, given, taken}
 use Rattle.timetable.specs.Lists.{below}
@@ -28,14 +28,14 @@ is_now day state (Arrive t) = nat_le state.moment (moment_of day (Arrive t)) && 
 
 -- a join is tested where its trip leaves, a turn and a split where their trip arrives
 abbrev pub is_tested_at : Bool → LinkKind → Bool
-is_tested_at departure (Turn a b uncouple couple) = not departure
+is_tested_at departure (Turn a b uncouple couple exchange) = not departure
 is_tested_at departure (Join a1 a2 b) = departure
 is_tested_at departure (Split a b1 b2) = not departure
 
 -- the number of a link, where its rule is tested here and is broken
 abbrev pub broken : Day → List (List ℕ) → Bool → Option ℕ → Option ℕ
 broken day plan departure number = option_and_then (λ l. option_and_then
-    (λ link. if is_tested_at departure link.kind && not (link_holds link plan) then Some l else None)
+    (λ link. if is_tested_at departure link.kind && not (link_holds (type_of day) link plan) then Some l else None)
     (slice_get day.links l)) number
 
 unfoldable pub broken_into : Day → List (List ℕ) → ℕ → Option ℕ

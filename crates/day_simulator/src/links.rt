@@ -36,7 +36,7 @@ fn broken(
 {
     let number = number?;
     let link = instance.link(number);
-    if is_tested_at(departure, link.kind) && !link.holds(plan) {
+    if is_tested_at(departure, link.kind) && !link.holds(instance, plan) {
         Some(number)
     } else {
         None

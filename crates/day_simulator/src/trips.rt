@@ -3,10 +3,9 @@
 ghost use Rattle.std.specs.Prelude.{◌≡◌, ◌<◌, ◌≤◌, length};
 ghost use Rattle.timetable.specs.Day.{leaves, arrives, from_of, to_of, reallocation_of, types_of};
 ghost use Rattle.timetable.specs.Admissible.{is_admissible, longest_of};
-ghost use Rattle.cost_model.specs.Units.{AreUnits};
+ghost use Rattle.timetable.specs.Running.{AreUnits};
 
 use compositions::Composition;
-use cost_model::types_of;
 use rail_base::limits::{MOST_COMPOSITION, MOST_MINUTES, MOST_REALLOCATION};
 use rail_base::{StationNo, TripNo, UnitNo};
 use timetable::Instance;
@@ -84,7 +83,7 @@ pub(crate) fn is_admissible(instance: &Instance, trip: TripNo, units: &[UnitNo])
     requires few { length units.now ≤ MOST_COMPOSITION }
     ensures { result ≡ is_admissible instance.now trip (types_of instance.now units.now) }
 {
-    let types = types_of(instance, units);
+    let types = instance.types_of(units);
     match Composition::of(types.as_slice()) {
         Some(composition) => composition.fits(instance.types(), longest(instance, trip)),
         None => false,

@@ -3,7 +3,7 @@
 ghost use Rattle.std.specs.Prelude.{◌≡◌, ◌<◌, ℕ, length, IsTrue, slice_set};
 ghost use Rattle.timetable.specs.Day.{unit_count};
 ghost use Rattle.timetable.specs.Lists.{has};
-ghost use Rattle.cost_model.specs.Units.{AreUnits};
+ghost use Rattle.timetable.specs.Running.{AreUnits};
 ghost use Rattle.day_simulator.specs.State.{is_ready, put_all};
 ghost use Rattle.day_simulator.specs.Steps.{first_missing};
 

@@ -171,7 +171,8 @@ link_meets row fields r e =
     step e5 (λ _. Unit {0}) (anything (answer_column row 5 (field fields 5))) (λ reverse reverse_is e6.
     step e6 (λ _. Unit {0}) (anything (end_column row 6 (field fields 6))) (λ uncouple uncouple_is e7.
     step e7 (λ _. Unit {0}) (anything (end_column row 7 (field fields 7))) (λ couple couple_is e8.
-    subst IsLinkRow (same (record { kind = kind; arriving = arriving; arriving2 = arriving2; departing = departing; departing2 = departing2; reverse = reverse; uncouple = uncouple; couple = couple }) r e8) (record { arriving = arriving_is; arriving2 = arriving2_is; departing = departing_is; departing2 = departing2_is })))))))))
+    step e8 (λ _. Unit {0}) (anything (answer_column row 8 (field_or (codes "no") fields 8))) (λ exchange exchange_is e9.
+    subst IsLinkRow (same (record { kind = kind; arriving = arriving; arriving2 = arriving2; departing = departing; departing2 = departing2; reverse = reverse; uncouple = uncouple; couple = couple; exchange = exchange }) r e9) (record { arriving = arriving_is; arriving2 = arriving2_is; departing = departing_is; departing2 = departing2_is }))))))))))
 
 weight_meets : (row : ℕ) (fields : List (List ℕ)) (r : WeightsRow) → weight_columns row fields ≡ Ok r → IsWeightsRow r
 unfolding weight_columns

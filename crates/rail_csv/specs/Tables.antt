@@ -128,7 +128,7 @@ unfoldable pub trips_of : List ℕ → Result (List TripRow) TableRefusal
 trips_of bytes = table_of trip_header 7 MOST_TRIPS trip_columns bytes
 
 abbrev pub link_header : List (List ℕ)
-link_header = codes "kind" ∷ codes "arriving" ∷ codes "arriving2" ∷ codes "departing" ∷ codes "departing2" ∷ codes "reverse" ∷ codes "uncouple" ∷ codes "couple" ∷ []
+link_header = codes "kind" ∷ codes "arriving" ∷ codes "arriving2" ∷ codes "departing" ∷ codes "departing2" ∷ codes "reverse" ∷ codes "uncouple" ∷ codes "couple" ∷ codes "exchange" ∷ []
 
 unfoldable pub link_columns : Columns LinkRow
 link_columns row fields = do
@@ -140,7 +140,8 @@ link_columns row fields = do
   reverse ← answer_column row 5 (field fields 5)
   uncouple ← end_column row 6 (field fields 6)
   couple ← end_column row 7 (field fields 7)
-  Ok (record { kind = kind; arriving = arriving; arriving2 = arriving2; departing = departing; departing2 = departing2; reverse = reverse; uncouple = uncouple; couple = couple })
+  exchange ← answer_column row 8 (field_or (codes "no") fields 8)
+  Ok (record { kind = kind; arriving = arriving; arriving2 = arriving2; departing = departing; departing2 = departing2; reverse = reverse; uncouple = uncouple; couple = couple; exchange = exchange })
 
 unfoldable pub links_of : List ℕ → Result (List LinkRow) TableRefusal
 links_of bytes = table_of link_header 8 MOST_LINKS link_columns bytes

@@ -33,6 +33,7 @@ pub fn header(table: Table) -> &'static [&'static str]
             "reverse",
             "uncouple",
             "couple",
+            "exchange",
         ],
         Table::Weights => &["carriage", "shortage", "shunting"],
         Table::Plan => &["trip", "units"],

@@ -74,7 +74,8 @@ pub fn trips(alloc: Global, bytes: &[u8]) -> Result<Vec<TripRow>, TableRefusal>
 }
 
 /// Reads the links table, of at most `MOST_LINKS` rows: its rows, or the first thing that is wrong. Its columns are
-/// `kind,arriving,arriving2,departing,departing2,reverse,uncouple,couple`. The bytes are at most `MOST_TABLE_BYTES`.
+/// `kind,arriving,arriving2,departing,departing2,reverse,uncouple,couple`, and `exchange` in its second version; a row of
+/// the first version has `no` there. The bytes are at most `MOST_TABLE_BYTES`.
 #[tactic(auto, unfolding(crate::specs::Tables::links_of))]
 pub fn links(alloc: Global, bytes: &[u8]) -> Result<Vec<LinkRow>, TableRefusal>
     requires { length bytes.now ≤ MOST_TABLE_BYTES }

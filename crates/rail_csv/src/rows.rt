@@ -109,6 +109,8 @@ pub struct LinkRow {
     pub uncouple: End,
     /// Where units may be coupled.
     pub couple: End,
+    /// Whether a turn may uncouple units at one end and couple others at another; `false` in a table of the first version.
+    pub exchange: bool,
 }
 
 /// The row of the weights table, each weight 0 to 10,000.

@@ -118,6 +118,7 @@ impl TableRow for LinkRow {
         let reverse = columns::answer(field(fields, 5), row, 5)?;
         let uncouple = columns::end(field(fields, 6), row, 6)?;
         let couple = columns::end(field(fields, 7), row, 7)?;
+        let exchange = columns::answer(field_or("no", fields, 8), row, 8)?;
         Ok(LinkRow {
             kind,
             arriving,
@@ -127,6 +128,7 @@ impl TableRow for LinkRow {
             reverse,
             uncouple,
             couple,
+            exchange,
         })
     }
 }

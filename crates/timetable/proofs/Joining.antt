@@ -4,7 +4,7 @@ use Rattle.std.proofs.lemmas.Bool.Decides.{same_from_decides, Decides-like}
 use Rattle.std.proofs.lemmas.List.{take-append-drop}
 use Rattle.std.proofs.lemmas.Slice.Eq.{bytes_eq-Decides}
 use Rattle.std.proofs.Math.Seq.{take-append_seam, drop-append_seam}
-use Rattle.timetable.specs.Links.{same}
+use Rattle.timetable.specs.Turns.{same}
 
 module _ (first second whole : List ℕ) where
   -- where the whole begins with the first list, what is behind it decides

@@ -21,12 +21,12 @@ use Rattle.timetable.proofs.NamedTrips.{place_is}
 
 -- a link leads from an arriving trip of its own to a departing one
 from_arrives : (kind : LinkKind) → 1 ≤ count_of (leads_from kind) (arriving_in kind)
-from_arrives (Turn a b uncouple couple) = grind (arith, nat_tests)
+from_arrives (Turn a b uncouple couple exchange) = grind (arith, nat_tests)
 from_arrives (Join a1 a2 b) = grind (arith, nat_tests)
 from_arrives (Split a b1 b2) = grind (arith, nat_tests)
 
 to_departs : (kind : LinkKind) → 1 ≤ count_of (leads_to kind) (departing_in kind)
-to_departs (Turn a b uncouple couple) = grind (arith, nat_tests)
+to_departs (Turn a b uncouple couple exchange) = grind (arith, nat_tests)
 to_departs (Join a1 a2 b) = grind (arith, nat_tests)
 to_departs (Split a b1 b2) = grind (arith, nat_tests)
 

@@ -26,3 +26,7 @@ pub mod Leading
 pub mod WholeChains
 pub mod SameChains
 pub mod Handovers
+pub mod Turning
+pub mod PlainTurns
+pub mod ListedUnits
+pub mod TurnOn

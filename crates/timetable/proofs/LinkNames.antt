@@ -28,6 +28,6 @@ names_below day links l link at =
   where
     of_kind : (kind : LinkKind) → ((t : ℕ) → IsTrue (has t (arriving_in kind)) → t < length day.trips) → ((t : ℕ) → IsTrue (has t (departing_in kind)) → t < length day.trips)
         → NamesBelow (length day.trips) kind
-    of_kind (Turn a b uncouple couple) arrive depart = (arrive a (has_itself a), depart b (has_itself b))
+    of_kind (Turn a b uncouple couple exchange) arrive depart = (arrive a (has_itself a), depart b (has_itself b))
     of_kind (Join a1 a2 b) arrive depart = (arrive a1 (has_first a1 a2), arrive a2 (has_second a1 a2), depart b (has_itself b))
     of_kind (Split a b1 b2) arrive depart = (arrive a (has_itself a), depart b1 (has_first b1 b2), depart b2 (has_second b1 b2))

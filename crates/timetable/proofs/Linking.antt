@@ -19,7 +19,7 @@ use Rattle.timetable.specs.declared.building.refusal.InstanceRefusal.{InstanceRe
 use Rattle.timetable.specs.declared.building.refusal.InstanceRefusal.TheVariants.{UnknownName, TripUsedTwice, WrongStation, TooEarly, WrongLinkFields}
 use Rattle.timetable.specs.Accepted.{AreLinks, DoMeet, times_named}
 use Rattle.timetable.specs.Day.{Day, leaves, arrives, from_of, to_of}
-use Rattle.timetable.specs.LinkRows.{trip_named, is_an_end, turn_in, join_in, split_in, kind_of, NamesBelow, is_arriving, is_departing, names_again, do_meet, is_in_time, each_pair, accept_trips, accept_link, links_in}
+use Rattle.timetable.specs.LinkRows.{trip_named, is_an_end, lacks_an_end, does_shunt, turn_in, join_in, split_in, kind_of, NamesBelow, is_arriving, is_departing, names_again, do_meet, is_in_time, each_pair, accept_trips, accept_link, links_in}
 use Rattle.timetable.specs.Links.{arriving_in, departing_in}
 use Rattle.timetable.specs.Lists.{count_of, has}
 use Rattle.timetable.specs.Meaning.{IsKindOf}
@@ -44,13 +44,25 @@ no_end at.None e = refl
 no_end at.Front e = absurd cc
 no_end at.Rear e = absurd cc
 
+-- an exchange has two ends
+pub two_ends : (uncouple couple : End) (exchange : Bool) → lacks_an_end uncouple couple exchange ≡ false → exchange ≡ true → (uncouple ≢ at.None) × (couple ≢ at.None)
+two_ends uncouple couple false none is = absurd (cc)
+two_ends at.None couple true none is = absurd (cc)
+two_ends at.Front at.None true none is = absurd (cc)
+two_ends at.Rear at.None true none is = absurd (cc)
+two_ends at.Front at.Front true none is = (λ e. cc, λ e. cc)
+two_ends at.Front at.Rear true none is = (λ e. cc, λ e. cc)
+two_ends at.Rear at.Front true none is = (λ e. cc, λ e. cc)
+two_ends at.Rear at.Rear true none is = (λ e. cc, λ e. cc)
+
 turn_made : (trips : List Trip) (number : ℕ) (row : LinkRow) (second second_out : Option (List ℕ)) (kind : LinkKind) → row.kind ≡ words.Turn → row.arriving2 ≡ second → row.departing2 ≡ second_out
     → turn_in trips number row second second_out ≡ Ok kind → IsKindOf (IsFound trips) row kind
 unfolding turn_in
 turn_made trips number row None None kind word none none_out e =
-    let (a, is_a, e1) = bind_ok (trip_named trips number 1 row.arriving) (λ a. trip_named trips number 3 row.departing >>= (λ b. Ok (Turn a b row.uncouple row.couple))) kind e in
-    let (b, is_b, e2) = bind_ok (trip_named trips number 3 row.departing) (λ b. Ok (Turn a b row.uncouple row.couple)) kind e1 in
-    subst (IsKindOf (IsFound trips) row) {x = Turn a b row.uncouple row.couple} (same_ok (Turn a b row.uncouple row.couple) kind e2) (record {
+    let (no_lack, e0) = guard_ok (lacks_an_end row.uncouple row.couple row.exchange) (WrongLinkFields number) (trip_named trips number 1 row.arriving >>= (λ a. trip_named trips number 3 row.departing >>= (λ b. Ok (Turn a b row.uncouple row.couple row.exchange)))) kind e in
+    let (a, is_a, e1) = bind_ok (trip_named trips number 1 row.arriving) (λ a. trip_named trips number 3 row.departing >>= (λ b. Ok (Turn a b row.uncouple row.couple row.exchange))) kind e0 in
+    let (b, is_b, e2) = bind_ok (trip_named trips number 3 row.departing) (λ b. Ok (Turn a b row.uncouple row.couple row.exchange)) kind e1 in
+    subst (IsKindOf (IsFound trips) row) {x = Turn a b row.uncouple row.couple row.exchange} (same_ok (Turn a b row.uncouple row.couple row.exchange) kind e2) (record {
       kind = word;
       arriving = found trips number 1 row.arriving a is_a;
       no_arriving2 = none;
@@ -58,6 +70,8 @@ turn_made trips number row None None kind word none none_out e =
       no_departing2 = none_out;
       uncoupling = refl;
       coupling = refl;
+      exchanging = refl;
+      two_ends = two_ends row.uncouple row.couple row.exchange no_lack;
     })
 turn_made trips number row (Some name) second_out kind word some any e = absurd cc
 turn_made trips number row None (Some name) kind word none some e = absurd cc
@@ -67,7 +81,8 @@ join_made : (trips : List Trip) (number : ℕ) (row : LinkRow) (second second_ou
 unfolding join_in
 join_made trips number row (Some name) None kind word some none_out e =
     let last : ℕ → ℕ → Result LinkKind InstanceRefusal = λ a1 a2. trip_named trips number 3 row.departing >>= (λ b. Ok (Join a1 a2 b)) in
-    let (no_ends, e0) = guard_ok (is_an_end row.uncouple || is_an_end row.couple) (WrongLinkFields number) (trip_named trips number 1 row.arriving >>= (λ a1. trip_named trips number 2 name >>= (λ a2. last a1 a2))) kind e in
+    let (no_shunt, e0) = guard_ok (does_shunt row.uncouple row.couple row.exchange) (WrongLinkFields number) (trip_named trips number 1 row.arriving >>= (λ a1. trip_named trips number 2 name >>= (λ a2. last a1 a2))) kind e in
+    let (no_ends, no_exchange) = or_parts (is_an_end row.uncouple || is_an_end row.couple) row.exchange no_shunt in
     let (no_uncoupling, no_coupling) = or_parts (is_an_end row.uncouple) (is_an_end row.couple) no_ends in
     let (a1, is_a1, e1) = bind_ok (trip_named trips number 1 row.arriving) (λ a1. trip_named trips number 2 name >>= (λ a2. last a1 a2)) kind e0 in
     let (a2, is_a2, e2) = bind_ok (trip_named trips number 2 name) (λ a2. last a1 a2) kind e1 in
@@ -82,6 +97,7 @@ join_made trips number row (Some name) None kind word some none_out e =
       no_departing2 = none_out;
       no_uncoupling = no_end row.uncouple no_uncoupling;
       no_coupling = no_end row.couple no_coupling;
+      no_exchange = no_exchange;
     })
 join_made trips number row None second_out kind word none any e = absurd cc
 join_made trips number row (Some name) (Some other) kind word some some_out e = absurd cc
@@ -91,7 +107,8 @@ split_made : (trips : List Trip) (number : ℕ) (row : LinkRow) (second second_o
 unfolding split_in
 split_made trips number row None (Some name) kind word none some e =
     let last : ℕ → ℕ → Result LinkKind InstanceRefusal = λ a b1. trip_named trips number 4 name >>= (λ b2. Ok (Split a b1 b2)) in
-    let (no_ends, e0) = guard_ok (is_an_end row.uncouple || is_an_end row.couple) (WrongLinkFields number) (trip_named trips number 1 row.arriving >>= (λ a. trip_named trips number 3 row.departing >>= (λ b1. last a b1))) kind e in
+    let (no_shunt, e0) = guard_ok (does_shunt row.uncouple row.couple row.exchange) (WrongLinkFields number) (trip_named trips number 1 row.arriving >>= (λ a. trip_named trips number 3 row.departing >>= (λ b1. last a b1))) kind e in
+    let (no_ends, no_exchange) = or_parts (is_an_end row.uncouple || is_an_end row.couple) row.exchange no_shunt in
     let (no_uncoupling, no_coupling) = or_parts (is_an_end row.uncouple) (is_an_end row.couple) no_ends in
     let (a, is_a, e1) = bind_ok (trip_named trips number 1 row.arriving) (λ a. trip_named trips number 3 row.departing >>= (λ b1. last a b1)) kind e0 in
     let (b1, is_b1, e2) = bind_ok (trip_named trips number 3 row.departing) (λ b1. last a b1) kind e1 in
@@ -106,6 +123,7 @@ split_made trips number row None (Some name) kind word none some e =
       departing2 = found trips number 4 name b2 is_b2;
       no_uncoupling = no_end row.uncouple no_uncoupling;
       no_coupling = no_end row.couple no_coupling;
+      no_exchange = no_exchange;
     })
 split_made trips number row (Some name) second_out kind word some any e = absurd cc
 split_made trips number row None None kind word none none_out e = absurd cc
@@ -117,7 +135,7 @@ kind_made trips number row words.Split kind is e = split_made trips number row r
 
 -- the trips of a kind that was made are there
 below : (trips : List Trip) (row : LinkRow) (kind : LinkKind) → IsKindOf (IsFound trips) row kind → NamesBelow (length trips) kind
-below trips row (Turn a b uncouple couple) is = ((found_name (λ t. t.name) trips row.arriving a is.arriving).0, (found_name (λ t. t.name) trips row.departing b is.departing).0)
+below trips row (Turn a b uncouple couple exchange) is = ((found_name (λ t. t.name) trips row.arriving a is.arriving).0, (found_name (λ t. t.name) trips row.departing b is.departing).0)
 below trips row (Join a1 a2 b) is = (
   (found_name (λ t. t.name) trips row.arriving a1 is.arriving).0,
   (found_name (λ t. t.name) trips is.name a2 is.arriving2).0,
@@ -177,7 +195,7 @@ has_two t a b here = elim (cases_eq a t) [
 
 -- each pair of trips passes
 pub pair_passes : (test : ℕ → ℕ → Bool) (kind : LinkKind) → each_pair test kind ≡ true → (a b : ℕ) → has a (arriving_in kind) ≡ true → has b (departing_in kind) ≡ true → test a b ≡ true
-pair_passes test (Turn a b uncouple couple) all x y here there =
+pair_passes test (Turn a b uncouple couple exchange) all x y here there =
     subst (λ (x : ℕ). test x y ≡ true) (sym (has_one x a here)) (subst (λ (y : ℕ). test a y ≡ true) (sym (has_one y b there)) all)
 pair_passes test (Join a1 a2 b) all x y here there =
     let (first, second) = and_parts (test a1 b) (test a2 b) all in
@@ -194,7 +212,7 @@ pair_passes test (Split a b1 b2) all x y here there =
 
 -- the trips that a kind names are below its bound
 arriving_below : (n : ℕ) (kind : LinkKind) → NamesBelow n kind → (t : ℕ) → has t (arriving_in kind) ≡ true → t < n
-arriving_below n (Turn a b uncouple couple) within t here = subst (λ (t : ℕ). t < n) (sym (has_one t a here)) within.0
+arriving_below n (Turn a b uncouple couple exchange) within t here = subst (λ (t : ℕ). t < n) (sym (has_one t a here)) within.0
 arriving_below n (Join a1 a2 b) within t here = elim (has_two t a1 a2 here) [
   | inl is ↦ subst (λ (t : ℕ). t < n) (sym is) within.0
   | inr is ↦ subst (λ (t : ℕ). t < n) (sym is) within.1
@@ -202,7 +220,7 @@ arriving_below n (Join a1 a2 b) within t here = elim (has_two t a1 a2 here) [
 arriving_below n (Split a b1 b2) within t here = subst (λ (t : ℕ). t < n) (sym (has_one t a here)) within.0
 
 departing_below : (n : ℕ) (kind : LinkKind) → NamesBelow n kind → (t : ℕ) → has t (departing_in kind) ≡ true → t < n
-departing_below n (Turn a b uncouple couple) within t here = subst (λ (t : ℕ). t < n) (sym (has_one t b here)) within.1
+departing_below n (Turn a b uncouple couple exchange) within t here = subst (λ (t : ℕ). t < n) (sym (has_one t b here)) within.1
 departing_below n (Join a1 a2 b) within t here = subst (λ (t : ℕ). t < n) (sym (has_one t b here)) within.2
 departing_below n (Split a b1 b2) within t here = elim (has_two t b1 b2 here) [
   | inl is ↦ subst (λ (t : ℕ). t < n) (sym is) within.1
@@ -253,7 +271,7 @@ pub record IsOnce (links : List Link) : Type 0 where
 
 kind_once : (before : List Link) (kind : LinkKind) (t : ℕ) → IsOnce before → names_again before kind ≡ false
     → (times_named arriving_in before t + count_of t (arriving_in kind) ≤ 1) × (times_named departing_in before t + count_of t (departing_in kind) ≤ 1)
-kind_once before (Turn a b uncouple couple) t once new =
+kind_once before (Turn a b uncouple couple exchange) t once new =
     let (new_a, new_b) = or_parts (is_arriving before a) (is_departing before b) new in
     (one_more arriving_in before a t new_a (once.arriving t), one_more departing_in before b t new_b (once.departing t))
 kind_once before (Join a1 a2 b) t once new =

@@ -21,7 +21,7 @@ use Rattle.timetable.specs.declared.building.refusal.InstanceRefusal.{InstanceRe
 use Rattle.timetable.specs.declared.building.refusal.InstanceRefusal.TheVariants.{UnknownName, WrongLinkFields}
 use Rattle.timetable.specs.declared.building.tables.Tables.{Tables}
 use Rattle.timetable.specs.Build.{accept_trip, trips_in}
-use Rattle.timetable.specs.LinkRows.{is_an_end, turn_in, join_in, split_in, kind_of, is_arriving, is_departing, names_again, do_meet, is_in_time, each_pair, accept_trips, accept_link, links_in}
+use Rattle.timetable.specs.LinkRows.{lacks_an_end, does_shunt, turn_in, join_in, split_in, kind_of, is_arriving, is_departing, names_again, do_meet, is_in_time, each_pair, accept_trips, accept_link, links_in}
 use Rattle.timetable.specs.Links.{arriving_in, departing_in}
 use Rattle.timetable.specs.Lists.{of_entry, has}
 use Rattle.timetable.specs.Meaning.{IsKindOf}
@@ -32,7 +32,7 @@ use Rattle.timetable.specs.Rowwise.{row_after}
 use Rattle.timetable.proofs.Accepting.{any_front, accepted_zip}
 use Rattle.timetable.proofs.Days.{entry_at, entry_is}
 use Rattle.timetable.proofs.Entries.{IsTripOfRow, found_name, trip_of_row}
-use Rattle.timetable.proofs.Linking.{IsFound, kind_made, link_of_row, has_one, has_two, pair_passes}
+use Rattle.timetable.proofs.Linking.{IsFound, two_ends, kind_made, link_of_row, has_one, has_two, pair_passes}
 use Rattle.timetable.proofs.LinkNames.{has_itself, has_first, has_second}
 use Rattle.timetable.proofs.RowNames.{same_name, zip_at, zip_entry, AreNamed, no_row, some_row, row_number}
 use Rattle.timetable.proofs.Said.{trips_apart}
@@ -43,40 +43,58 @@ use Rattle.timetable.proofs.Tests.{Outcome, outcome_passed, outcome_guard, outco
 -- the tests on a row of this kind with these second names
 abbrev tests_of : Tables → ℕ → LinkRow → KindWord → Option (List ℕ) → Option (List ℕ) → List (Test InstanceRefusal)
 tests_of tables number row word second second_out =
-    WrongLinkFields number when (¬ FitsKind word second second_out row.uncouple row.couple)
+    WrongLinkFields number when (¬ FitsKind word second second_out row.uncouple row.couple row.exchange)
     ∷ UnknownName names.Links number 1 when IsNoTrip tables (Some row.arriving)
     ∷ UnknownName names.Links number 2 when IsNoTrip tables second
     ∷ UnknownName names.Links number 3 when IsNoTrip tables (Some row.departing)
     ∷ UnknownName names.Links number 4 when IsNoTrip tables second_out
     ∷ []
 
-join_unfit : (name : List ℕ) (uncouple couple : End) → (is_an_end uncouple || is_an_end couple) ≡ true → FitsKind words.Join (Some name) None uncouple couple → ⊥
-join_unfit name at.None at.None end fits = absurd cc
-join_unfit name at.None at.Front end fits = fits
-join_unfit name at.None at.Rear end fits = fits
-join_unfit name at.Front couple end fits = fits
-join_unfit name at.Rear couple end fits = fits
+turn_unfit : (uncouple couple : End) (exchange : Bool) → lacks_an_end uncouple couple exchange ≡ true → FitsKind words.Turn None None uncouple couple exchange → ⊥
+turn_unfit uncouple couple false lacks fits = absurd cc
+turn_unfit at.None couple true lacks fits = fits.0 refl
+turn_unfit at.Front at.None true lacks fits = fits.1 refl
+turn_unfit at.Rear at.None true lacks fits = fits.1 refl
+turn_unfit at.Front at.Front true lacks fits = absurd cc
+turn_unfit at.Front at.Rear true lacks fits = absurd cc
+turn_unfit at.Rear at.Front true lacks fits = absurd cc
+turn_unfit at.Rear at.Rear true lacks fits = absurd cc
 
-split_unfit : (name : List ℕ) (uncouple couple : End) → (is_an_end uncouple || is_an_end couple) ≡ true → FitsKind words.Split None (Some name) uncouple couple → ⊥
-split_unfit name at.None at.None end fits = absurd cc
-split_unfit name at.None at.Front end fits = fits
-split_unfit name at.None at.Rear end fits = fits
-split_unfit name at.Front couple end fits = fits
-split_unfit name at.Rear couple end fits = fits
+turn_fit : (uncouple couple : End) (exchange : Bool) → lacks_an_end uncouple couple exchange ≡ false → FitsKind words.Turn None None uncouple couple exchange
+turn_fit uncouple couple false none = tt
+turn_fit uncouple couple true none = two_ends uncouple couple true none refl
 
-join_fit : (name : List ℕ) (uncouple couple : End) → (is_an_end uncouple || is_an_end couple) ≡ false → FitsKind words.Join (Some name) None uncouple couple
-join_fit name at.None at.None none = tt
-join_fit name at.None at.Front none = absurd cc
-join_fit name at.None at.Rear none = absurd cc
-join_fit name at.Front couple none = absurd cc
-join_fit name at.Rear couple none = absurd cc
+join_unfit : (name : List ℕ) (uncouple couple : End) (exchange : Bool) → does_shunt uncouple couple exchange ≡ true → FitsKind words.Join (Some name) None uncouple couple exchange → ⊥
+join_unfit name at.None at.None false shunts fits = absurd cc
+join_unfit name at.None at.None true shunts fits = fits
+join_unfit name at.None at.Front exchange shunts fits = fits
+join_unfit name at.None at.Rear exchange shunts fits = fits
+join_unfit name at.Front couple exchange shunts fits = fits
+join_unfit name at.Rear couple exchange shunts fits = fits
 
-split_fit : (name : List ℕ) (uncouple couple : End) → (is_an_end uncouple || is_an_end couple) ≡ false → FitsKind words.Split None (Some name) uncouple couple
-split_fit name at.None at.None none = tt
-split_fit name at.None at.Front none = absurd cc
-split_fit name at.None at.Rear none = absurd cc
-split_fit name at.Front couple none = absurd cc
-split_fit name at.Rear couple none = absurd cc
+join_fit : (name : List ℕ) (uncouple couple : End) (exchange : Bool) → does_shunt uncouple couple exchange ≡ false → FitsKind words.Join (Some name) None uncouple couple exchange
+join_fit name at.None at.None false none = tt
+join_fit name at.None at.None true none = absurd cc
+join_fit name at.None at.Front exchange none = absurd cc
+join_fit name at.None at.Rear exchange none = absurd cc
+join_fit name at.Front couple exchange none = absurd cc
+join_fit name at.Rear couple exchange none = absurd cc
+
+split_unfit : (name : List ℕ) (uncouple couple : End) (exchange : Bool) → does_shunt uncouple couple exchange ≡ true → FitsKind words.Split None (Some name) uncouple couple exchange → ⊥
+split_unfit name at.None at.None false shunts fits = absurd cc
+split_unfit name at.None at.None true shunts fits = fits
+split_unfit name at.None at.Front exchange shunts fits = fits
+split_unfit name at.None at.Rear exchange shunts fits = fits
+split_unfit name at.Front couple exchange shunts fits = fits
+split_unfit name at.Rear couple exchange shunts fits = fits
+
+split_fit : (name : List ℕ) (uncouple couple : End) (exchange : Bool) → does_shunt uncouple couple exchange ≡ false → FitsKind words.Split None (Some name) uncouple couple exchange
+split_fit name at.None at.None false none = tt
+split_fit name at.None at.None true none = absurd cc
+split_fit name at.None at.Front exchange none = absurd cc
+split_fit name at.None at.Rear exchange none = absurd cc
+split_fit name at.Front couple exchange none = absurd cc
+split_fit name at.Rear couple exchange none = absurd cc
 
 module _ (tables : Tables) (trips : List Trip) (named : AreNamed (λ row. row.name) (λ t. t.name) tables.trips trips) (number : ℕ) (row : LinkRow) where
   no_trip : (name : List ℕ) → find_name (λ t. t.name) trips name ≡ None → IsNoTrip tables (Some name)
@@ -87,15 +105,15 @@ module _ (tables : Tables) (trips : List Trip) (named : AreNamed (λ row. row.na
 
   turn_outcome : (second second_out : Option (List ℕ)) → Outcome (tests_of tables number row words.Turn second second_out) (turn_in trips number row second second_out)
   unfolding turn_in
-  turn_outcome None None = outcome_passed _ _ _ (λ unfit. unfit tt)
-      (outcome_found _ _ (find_name (λ t. t.name) trips row.arriving) _ (no_trip row.arriving) (some_trip row.arriving) (λ a is_a. outcome_passed _ _ _ (λ none. none)
-      (outcome_found _ _ (find_name (λ t. t.name) trips row.departing) _ (no_trip row.departing) (some_trip row.departing) (λ b is_b. outcome_passed _ [] (Ok (Turn a b row.uncouple row.couple)) (λ none. none) (outcome_ok _ _)))))
+  turn_outcome None None = outcome_guard _ _ (lacks_an_end row.uncouple row.couple row.exchange) _ (turn_unfit row.uncouple row.couple row.exchange) (λ none unfit. unfit (turn_fit row.uncouple row.couple row.exchange none))
+      (λ none. outcome_found _ _ (find_name (λ t. t.name) trips row.arriving) _ (no_trip row.arriving) (some_trip row.arriving) (λ a is_a. outcome_passed _ _ _ (λ none. none)
+      (outcome_found _ _ (find_name (λ t. t.name) trips row.departing) _ (no_trip row.departing) (some_trip row.departing) (λ b is_b. outcome_passed _ [] (Ok (Turn a b row.uncouple row.couple row.exchange)) (λ none. none) (outcome_ok _ _)))))
   turn_outcome (Some name) second_out = outcome_err _ _ _ (λ fits. fits)
   turn_outcome None (Some name) = outcome_err _ _ _ (λ fits. fits)
 
   join_outcome : (second second_out : Option (List ℕ)) → Outcome (tests_of tables number row words.Join second second_out) (join_in trips number row second second_out)
   unfolding join_in
-  join_outcome (Some name) None = outcome_guard _ _ (is_an_end row.uncouple || is_an_end row.couple) _ (join_unfit name row.uncouple row.couple) (λ none unfit. unfit (join_fit name row.uncouple row.couple none))
+  join_outcome (Some name) None = outcome_guard _ _ (does_shunt row.uncouple row.couple row.exchange) _ (join_unfit name row.uncouple row.couple row.exchange) (λ none unfit. unfit (join_fit name row.uncouple row.couple row.exchange none))
       (λ none. outcome_found _ _ (find_name (λ t. t.name) trips row.arriving) _ (no_trip row.arriving) (some_trip row.arriving)
       (λ a1 is_a1. outcome_found _ _ (find_name (λ t. t.name) trips name) _ (no_trip name) (some_trip name)
       (λ a2 is_a2. outcome_found _ _ (find_name (λ t. t.name) trips row.departing) _ (no_trip row.departing) (some_trip row.departing)
@@ -105,7 +123,7 @@ module _ (tables : Tables) (trips : List Trip) (named : AreNamed (λ row. row.na
 
   split_outcome : (second second_out : Option (List ℕ)) → Outcome (tests_of tables number row words.Split second second_out) (split_in trips number row second second_out)
   unfolding split_in
-  split_outcome None (Some name) = outcome_guard _ _ (is_an_end row.uncouple || is_an_end row.couple) _ (split_unfit name row.uncouple row.couple) (λ none unfit. unfit (split_fit name row.uncouple row.couple none))
+  split_outcome None (Some name) = outcome_guard _ _ (does_shunt row.uncouple row.couple row.exchange) _ (split_unfit name row.uncouple row.couple row.exchange) (λ none unfit. unfit (split_fit name row.uncouple row.couple row.exchange none))
       (λ none. outcome_found _ _ (find_name (λ t. t.name) trips row.arriving) _ (no_trip row.arriving) (some_trip row.arriving)
       (λ a is_a. outcome_passed _ _ _ (λ none. none) (outcome_found _ _ (find_name (λ t. t.name) trips row.departing) _ (no_trip row.departing) (some_trip row.departing)
       (λ b1 is_b1. outcome_found _ _ (find_name (λ t. t.name) trips name) _ (no_trip name) (some_trip name) (λ b2 is_b2. outcome_ok _ _)))))
@@ -121,7 +139,7 @@ module _ (tables : Tables) (trips : List Trip) (named : AreNamed (λ row. row.na
 
 -- the row of a link names its trips
 arriving_named : (trips : List Trip) (row : LinkRow) (kind : LinkKind) → IsKindOf (IsFound trips) row kind → (t : ℕ) → has t (arriving_in kind) ≡ true → (name : List ℕ) → IsFound trips name t → NamesArriving row name
-arriving_named trips row (Turn a b uncouple couple) is t here name found = inl (same_name (λ t. t.name) trips row.arriving name t (is.arriving ∙ ap Some (sym (has_one t a here))) found)
+arriving_named trips row (Turn a b uncouple couple exchange) is t here name found = inl (same_name (λ t. t.name) trips row.arriving name t (is.arriving ∙ ap Some (sym (has_one t a here))) found)
 arriving_named trips row (Join a1 a2 b) is t here name found = elim (has_two t a1 a2 here) [
   | inl same ↦ inl (same_name (λ t. t.name) trips row.arriving name t (is.arriving ∙ ap Some (sym same)) found)
   | inr same ↦ inr (is.named ∙ ap Some (same_name (λ t. t.name) trips is.name name t (is.arriving2 ∙ ap Some (sym same)) found))
@@ -129,7 +147,7 @@ arriving_named trips row (Join a1 a2 b) is t here name found = elim (has_two t a
 arriving_named trips row (Split a b1 b2) is t here name found = inl (same_name (λ t. t.name) trips row.arriving name t (is.arriving ∙ ap Some (sym (has_one t a here))) found)
 
 departing_named : (trips : List Trip) (row : LinkRow) (kind : LinkKind) → IsKindOf (IsFound trips) row kind → (t : ℕ) → has t (departing_in kind) ≡ true → (name : List ℕ) → IsFound trips name t → NamesDeparting row name
-departing_named trips row (Turn a b uncouple couple) is t here name found = inl (same_name (λ t. t.name) trips row.departing name t (is.departing ∙ ap Some (sym (has_one t b here))) found)
+departing_named trips row (Turn a b uncouple couple exchange) is t here name found = inl (same_name (λ t. t.name) trips row.departing name t (is.departing ∙ ap Some (sym (has_one t b here))) found)
 departing_named trips row (Join a1 a2 b) is t here name found = inl (same_name (λ t. t.name) trips row.departing name t (is.departing ∙ ap Some (sym (has_one t b here))) found)
 departing_named trips row (Split a b1 b2) is t here name found = elim (has_two t b1 b2 here) [
   | inl same ↦ inl (same_name (λ t. t.name) trips row.departing name t (is.departing ∙ ap Some (sym same)) found)
@@ -159,7 +177,7 @@ departing_before trips front entries all row name t names found some = (
 )
 
 used_twice : (trips : List Trip) (front : List LinkRow) (entries : List Link) → AreOf trips front entries → (row : LinkRow) (kind : LinkKind) → IsKindOf (IsFound trips) row kind → names_again entries kind ≡ true → UsesTwice front row
-used_twice trips front entries all row (Turn a b uncouple couple) is again = elim (or_cases (is_arriving entries a) (is_departing entries b) again) [
+used_twice trips front entries all row (Turn a b uncouple couple exchange) is again = elim (or_cases (is_arriving entries a) (is_departing entries b) again) [
   | inl here ↦ inr (inr (inl (arriving_before trips front entries all row row.arriving a (inl refl) is.arriving here)))
   | inr here ↦ inr (inr (inr (departing_before trips front entries all row row.departing b (inl refl) is.departing here)))
 ]
@@ -188,16 +206,16 @@ used_twice trips front entries all row (Split a b1 b2) is again = elim (or_cases
 
 -- the number of a trip that a row names
 arriving_number : (trips : List Trip) (row : LinkRow) (kind : LinkKind) → IsKindOf (IsFound trips) row kind → (name : List ℕ) → NamesArriving row name → (t : ℕ) × IsFound trips name t × (has t (arriving_in kind) ≡ true)
-arriving_number trips row (Turn a b uncouple couple) is name (inl same) = (a, subst (λ (n : List ℕ). IsFound trips n a) same is.arriving, has_itself a)
-arriving_number trips row (Turn a b uncouple couple) is name (inr second) = let none : None ≡ Some name = sym is.no_arriving2 ∙ second in absurd cc
+arriving_number trips row (Turn a b uncouple couple exchange) is name (inl same) = (a, subst (λ (n : List ℕ). IsFound trips n a) same is.arriving, has_itself a)
+arriving_number trips row (Turn a b uncouple couple exchange) is name (inr second) = let none : None ≡ Some name = sym is.no_arriving2 ∙ second in absurd cc
 arriving_number trips row (Join a1 a2 b) is name (inl same) = (a1, subst (λ (n : List ℕ). IsFound trips n a1) same is.arriving, has_first a1 a2)
 arriving_number trips row (Join a1 a2 b) is name (inr second) = (a2, subst (λ (n : List ℕ). IsFound trips n a2) (same_Some is.name name (sym is.named ∙ second)) is.arriving2, has_second a1 a2)
 arriving_number trips row (Split a b1 b2) is name (inl same) = (a, subst (λ (n : List ℕ). IsFound trips n a) same is.arriving, has_itself a)
 arriving_number trips row (Split a b1 b2) is name (inr second) = let none : None ≡ Some name = sym is.no_arriving2 ∙ second in absurd cc
 
 departing_number : (trips : List Trip) (row : LinkRow) (kind : LinkKind) → IsKindOf (IsFound trips) row kind → (name : List ℕ) → NamesDeparting row name → (t : ℕ) × IsFound trips name t × (has t (departing_in kind) ≡ true)
-departing_number trips row (Turn a b uncouple couple) is name (inl same) = (b, subst (λ (n : List ℕ). IsFound trips n b) same is.departing, has_itself b)
-departing_number trips row (Turn a b uncouple couple) is name (inr second) = let none : None ≡ Some name = sym is.no_departing2 ∙ second in absurd cc
+departing_number trips row (Turn a b uncouple couple exchange) is name (inl same) = (b, subst (λ (n : List ℕ). IsFound trips n b) same is.departing, has_itself b)
+departing_number trips row (Turn a b uncouple couple exchange) is name (inr second) = let none : None ≡ Some name = sym is.no_departing2 ∙ second in absurd cc
 departing_number trips row (Join a1 a2 b) is name (inl same) = (b, subst (λ (n : List ℕ). IsFound trips n b) same is.departing, has_itself b)
 departing_number trips row (Join a1 a2 b) is name (inr second) = let none : None ≡ Some name = sym is.no_departing2 ∙ second in absurd cc
 departing_number trips row (Split a b1 b2) is name (inl same) = (b1, subst (λ (n : List ℕ). IsFound trips n b1) same is.departing, has_first b1 b2)
@@ -209,7 +227,7 @@ record AreNew (before : List Link) (kind : LinkKind) : Type 0 where
   departing : (t : ℕ) → has t (departing_in kind) ≡ true → is_departing before t ≡ false
 
 are_new : (before : List Link) (kind : LinkKind) → names_again before kind ≡ false → AreNew before kind
-are_new before (Turn a b uncouple couple) none =
+are_new before (Turn a b uncouple couple exchange) none =
     let (new_a, new_b) = or_parts (is_arriving before a) (is_departing before b) none in
     record {
       arriving = λ t here. subst (λ (t : ℕ). is_arriving before t ≡ false) (sym (has_one t a here)) new_a;
@@ -240,7 +258,7 @@ are_new before (Split a b1 b2) none =
 
 -- two trips of a side that are one
 arriving_apart : (trips : List Trip) (before : List Link) (row : LinkRow) (kind : LinkKind) → IsKindOf (IsFound trips) row kind → names_again before kind ≡ false → row.arriving2 ≡ Some row.arriving → ⊥
-arriving_apart trips before row (Turn a b uncouple couple) is none twice = let never : None ≡ Some row.arriving = sym is.no_arriving2 ∙ twice in absurd cc
+arriving_apart trips before row (Turn a b uncouple couple exchange) is none twice = let never : None ≡ Some row.arriving = sym is.no_arriving2 ∙ twice in absurd cc
 arriving_apart trips before row (Join a1 a2 b) is none twice =
     let (rest, new_b) = or_parts (a1 == a2 || is_arriving before a1 || is_arriving before a2) (is_departing before b) none in
     let (rest2, new_a2) = or_parts (a1 == a2 || is_arriving before a1) (is_arriving before a2) rest in
@@ -250,7 +268,7 @@ arriving_apart trips before row (Join a1 a2 b) is none twice =
 arriving_apart trips before row (Split a b1 b2) is none twice = let never : None ≡ Some row.arriving = sym is.no_arriving2 ∙ twice in absurd cc
 
 departing_apart : (trips : List Trip) (before : List Link) (row : LinkRow) (kind : LinkKind) → IsKindOf (IsFound trips) row kind → names_again before kind ≡ false → row.departing2 ≡ Some row.departing → ⊥
-departing_apart trips before row (Turn a b uncouple couple) is none twice = let never : None ≡ Some row.departing = sym is.no_departing2 ∙ twice in absurd cc
+departing_apart trips before row (Turn a b uncouple couple exchange) is none twice = let never : None ≡ Some row.departing = sym is.no_departing2 ∙ twice in absurd cc
 departing_apart trips before row (Join a1 a2 b) is none twice = let never : None ≡ Some row.departing = sym is.no_departing2 ∙ twice in absurd cc
 departing_apart trips before row (Split a b1 b2) is none twice =
     let (rest, new_b2) = or_parts (b1 == b2 || is_arriving before a || is_departing before b1) (is_departing before b2) none in
@@ -292,7 +310,7 @@ record FailingPair (trips : List Trip) (row : LinkRow) (test : ℕ → ℕ → B
   pub fails : test a b ≡ false
 
 failing_pair : (trips : List Trip) (row : LinkRow) (test : ℕ → ℕ → Bool) (kind : LinkKind) → IsKindOf (IsFound trips) row kind → each_pair test kind ≡ false → FailingPair trips row test
-failing_pair trips row test (Turn a b uncouple couple) is fails = record { a = a; b = b; name = row.arriving; name_out = row.departing; arriving = inl refl; departing = inl refl; found = is.arriving; found_out = is.departing; fails = fails }
+failing_pair trips row test (Turn a b uncouple couple exchange) is fails = record { a = a; b = b; name = row.arriving; name_out = row.departing; arriving = inl refl; departing = inl refl; found = is.arriving; found_out = is.departing; fails = fails }
 failing_pair trips row test (Join a1 a2 b) is fails = elim (and_cases (test a1 b) (test a2 b) fails) [
   | inl first ↦ record { a = a1; b = b; name = row.arriving; name_out = row.departing; arriving = inl refl; departing = inl refl; found = is.arriving; found_out = is.departing; fails = first }
   | inr second ↦ record { a = a2; b = b; name = is.name; name_out = row.departing; arriving = inr is.named; departing = inl refl; found = is.arriving2; found_out = is.departing; fails = second }

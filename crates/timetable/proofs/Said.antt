@@ -120,7 +120,7 @@ trip_served day t trip at passes =
 
 -- the kind that was found is that of the names
 kind_said : (trips : List Trip) (row : LinkRow) (kind : LinkKind) → IsKindOf (IsFound trips) row kind → IsKindOf (IsNumberOf (λ t. t.name) trips) row kind
-kind_said trips row (Turn a b uncouple couple) is = record {
+kind_said trips row (Turn a b uncouple couple exchange) is = record {
   kind = is.kind;
   arriving = number_found (λ t. t.name) trips row.arriving a is.arriving;
   no_arriving2 = is.no_arriving2;
@@ -128,6 +128,8 @@ kind_said trips row (Turn a b uncouple couple) is = record {
   no_departing2 = is.no_departing2;
   uncoupling = is.uncoupling;
   coupling = is.coupling;
+  exchanging = is.exchanging;
+  two_ends = is.two_ends;
 }
 kind_said trips row (Join a1 a2 b) is = record {
   kind = is.kind;
@@ -139,6 +141,7 @@ kind_said trips row (Join a1 a2 b) is = record {
   no_departing2 = is.no_departing2;
   no_uncoupling = is.no_uncoupling;
   no_coupling = is.no_coupling;
+  no_exchange = is.no_exchange;
 }
 kind_said trips row (Split a b1 b2) is = record {
   kind = is.kind;
@@ -150,6 +153,7 @@ kind_said trips row (Split a b1 b2) is = record {
   departing2 = number_found (λ t. t.name) trips is.name b2 is.departing2;
   no_uncoupling = is.no_uncoupling;
   no_coupling = is.no_coupling;
+  no_exchange = is.no_exchange;
 }
 
 link_said : (day : Day) (before : List Link) (row : LinkRow) (link : Link) → accept_link day.trips before row ≡ Ok link → IsLinkOf day row link

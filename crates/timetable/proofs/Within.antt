@@ -28,7 +28,7 @@ use Rattle.timetable.proofs.LinkNames.{has_itself, has_first, has_second, names_
 
 -- what holds of every arriving and departing trip holds of each pair
 each_pair_of : (P : ℕ → ℕ → Type 0) (kind : LinkKind) → ((a b : ℕ) → IsTrue (has a (arriving_in kind)) → IsTrue (has b (departing_in kind)) → P a b) → EachPair P kind
-each_pair_of P (Turn a b uncouple couple) every = every a b (has_itself a) (has_itself b)
+each_pair_of P (Turn a b uncouple couple exchange) every = every a b (has_itself a) (has_itself b)
 each_pair_of P (Join a1 a2 b) every = (every a1 b (has_first a1 a2) (has_itself b), every a2 b (has_second a1 a2) (has_itself b))
 each_pair_of P (Split a b1 b2) every = (every a b1 (has_itself a) (has_first b1 b2), every a b2 (has_itself a) (has_second b1 b2))
 
@@ -83,7 +83,7 @@ chains_within day chains are i d below k e inside =
 
 -- the second trip of a link is there
 second_below : (n : ℕ) (kind : LinkKind) (t : ℕ) → NamesBelow n kind → second_of kind ≡ Some t → t < n
-second_below n (Turn a b uncouple couple) t within is = absurd cc
+second_below n (Turn a b uncouple couple exchange) t within is = absurd cc
 second_below n (Join a1 a2 b) t within is = subst (λ (k : ℕ). k < n) (same_Some a2 t is) within.1
 second_below n (Split a b1 b2) t within is = subst (λ (k : ℕ). k < n) (same_Some b2 t is) within.2
 

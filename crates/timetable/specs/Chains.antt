@@ -13,12 +13,12 @@ use Rattle.timetable.specs.Running.{EachFollows}
 -- A turn leads a chain from its arriving to its departing trip, a join from its first arriving trip to its departing trip, and
 -- a split from its arriving trip to its first departing trip.
 abbrev pub leads_from : LinkKind → ℕ
-leads_from (Turn a b uncouple couple) = a
+leads_from (Turn a b uncouple couple exchange) = a
 leads_from (Join a1 a2 b) = a1
 leads_from (Split a b1 b2) = a
 
 abbrev pub leads_to : LinkKind → ℕ
-leads_to (Turn a b uncouple couple) = b
+leads_to (Turn a b uncouple couple exchange) = b
 leads_to (Join a1 a2 b) = b
 leads_to (Split a b1 b2) = b1
 

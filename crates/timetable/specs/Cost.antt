@@ -1,11 +1,13 @@
 -- What a plan costs. It depends on the types of its lists alone.
-use Rattle.std.specs.Prelude.{ℕ, ◌+◌, ◌-◌, ◌*◌, List, map, length, ◌==◌, if◌then◌else◌, option_map, unwrap_or, slice_get}
+use Rattle.std.specs.Prelude.{ℕ, ◌+◌, ◌-◌, ◌*◌, List, map, length, Bool, not, ◌&&◌, ◌==◌, if◌then◌else◌, option_map, unwrap_or, slice_get}
+use Rattle.rail_csv.specs.declared.rows.End.{End}
 use Rattle.compositions.specs.Composition.{carriages_of, seats_of, first_seats_of}
 use Rattle.timetable.specs.declared.day.records.LinkKind.{LinkKind}
 use Rattle.timetable.specs.declared.day.records.LinkKind.TheVariants.{Turn, Join, Split}
 use Rattle.timetable.specs.Day.{Day, km_of, demand_of, first_demand_of, types_of}
-use Rattle.timetable.specs.Links.{list_of}
+use Rattle.timetable.specs.Links.{list_of, turned}
 use Rattle.timetable.specs.Lists.{sum_below}
+use Rattle.timetable.specs.Turns.{kept_count}
 
 -- the seats that are missing on a trip with this composition, of first and of second class: none of a class that has enough,
 -- whatever the other class has to spare
@@ -18,14 +20,20 @@ trip_cost day t types =
     day.weights.carriage * carriages_of day.types types * km_of day t
     + day.weights.shortage * missing_seats day t types * km_of day t
 
--- a turn that couples or uncouples costs the weight of shunting once
-abbrev pub kind_cost : Day → LinkKind → List (List ℕ) → ℕ
-kind_cost day (Turn a b uncouple couple) lists = if length (list_of lists a) == length (list_of lists b) then 0 else day.weights.shunting
-kind_cost day (Join a1 a2 b) lists = 0
-kind_cost day (Split a b1 b2) lists = 0
+-- whether a place of the arriving or of the departing list of a turn is outside the kept places; the arriving list is the one
+-- after a reversal
+abbrev pub is_shunted : End → End → List ℕ → List ℕ → Bool
+is_shunted uncouple couple arriving departing =
+    not ((kept_count uncouple couple arriving departing == length arriving) && (kept_count uncouple couple arriving departing == length departing))
+
+-- a turn that takes units off or puts units on costs the weight of shunting once
+abbrev pub kind_cost : Day → LinkKind → Bool → List (List ℕ) → ℕ
+kind_cost day (Turn a b uncouple couple exchange) r lists = if is_shunted uncouple couple (turned r (list_of lists a)) (list_of lists b) then day.weights.shunting else 0
+kind_cost day (Join a1 a2 b) r lists = 0
+kind_cost day (Split a b1 b2) r lists = 0
 
 unfoldable pub link_cost : Day → ℕ → List (List ℕ) → ℕ
-link_cost day l lists = unwrap_or (option_map (λ link. kind_cost day link.kind lists) (slice_get day.links l)) 0
+link_cost day l lists = unwrap_or (option_map (λ link. kind_cost day link.kind link.reverse lists) (slice_get day.links l)) 0
 
 -- the cost of compositions, one for each trip, each the list of its types
 unfoldable pub cost_of : Day → List (List ℕ) → ℕ

@@ -9,7 +9,7 @@ use Rattle.timetable.specs.Day.{Day}
 
 -- the second arriving trip of a join, and the second departing trip of a split; a turn has no second trip
 abbrev pub second_of : LinkKind → Option ℕ
-second_of (Turn a b uncouple couple) = None
+second_of (Turn a b uncouple couple exchange) = None
 second_of (Join a1 a2 b) = Some a2
 second_of (Split a b1 b2) = Some b2
 

@@ -5,6 +5,8 @@ pub mod Starts
 pub mod Admissible
 pub mod Compositions
 -- which plans of it run, and what they cost
+pub mod Turns
+pub mod TurnsWithoutExchange
 pub mod Links
 pub mod Duties
 pub mod Running

@@ -1,5 +1,5 @@
 -- What the rows of the links make: the links, or the first test that fails. Each row is tested by what the rows before it gave.
-use Rattle.std.specs.Prelude.{ℕ, List, [], Bool, true, false, ◌&&◌, ◌||◌, ◌==◌, nat_le, ◌<◌, if◌then◌else◌, Option, Some, None, Result, Ok, Err}
+use Rattle.std.specs.Prelude.{ℕ, List, [], Bool, true, false, not, ◌&&◌, ◌||◌, ◌==◌, nat_le, ◌<◌, if◌then◌else◌, Option, Some, None, Result, Ok, Err}
 use Rattle.std.specs.List.{list_any}
 use Rattle.rail_base.specs.Answers.{◌>>=◌}
 use Rattle.rail_csv.specs.declared.rows.End.{End}
@@ -31,26 +31,34 @@ is_an_end at.None = false
 is_an_end at.Front = true
 is_an_end at.Rear = true
 
--- a turn names one trip on either side
+-- units are exchanged, and not at an end each
+abbrev pub lacks_an_end : End → End → Bool → Bool
+lacks_an_end uncouple couple exchange = exchange && not (is_an_end uncouple && is_an_end couple)
+
+-- units are uncoupled, coupled or exchanged
+abbrev pub does_shunt : End → End → Bool → Bool
+does_shunt uncouple couple exchange = is_an_end uncouple || is_an_end couple || exchange
+
+-- a turn names one trip on either side, and two ends where it exchanges units
 unfoldable pub turn_in : List Trip → ℕ → LinkRow → Option (List ℕ) → Option (List ℕ) → Result LinkKind InstanceRefusal
-turn_in trips number row None None = do
+turn_in trips number row None None = if lacks_an_end row.uncouple row.couple row.exchange then Err (WrongLinkFields number) else do
   arriving ← trip_named trips number 1 row.arriving
   departing ← trip_named trips number 3 row.departing
-  Ok (Turn arriving departing row.uncouple row.couple)
+  Ok (Turn arriving departing row.uncouple row.couple row.exchange)
 turn_in trips number row _ _ = Err (WrongLinkFields number)
 
--- a join names two arriving trips and one departing trip, and no end
+-- a join names two arriving trips and one departing trip, no end and no exchange
 unfoldable pub join_in : List Trip → ℕ → LinkRow → Option (List ℕ) → Option (List ℕ) → Result LinkKind InstanceRefusal
-join_in trips number row (Some name) None = if is_an_end row.uncouple || is_an_end row.couple then Err (WrongLinkFields number) else do
+join_in trips number row (Some name) None = if does_shunt row.uncouple row.couple row.exchange then Err (WrongLinkFields number) else do
   first ← trip_named trips number 1 row.arriving
   second ← trip_named trips number 2 name
   departing ← trip_named trips number 3 row.departing
   Ok (Join first second departing)
 join_in trips number row _ _ = Err (WrongLinkFields number)
 
--- a split names one arriving trip and two departing trips, and no end
+-- a split names one arriving trip and two departing trips, no end and no exchange
 unfoldable pub split_in : List Trip → ℕ → LinkRow → Option (List ℕ) → Option (List ℕ) → Result LinkKind InstanceRefusal
-split_in trips number row None (Some name) = if is_an_end row.uncouple || is_an_end row.couple then Err (WrongLinkFields number) else do
+split_in trips number row None (Some name) = if does_shunt row.uncouple row.couple row.exchange then Err (WrongLinkFields number) else do
   arriving ← trip_named trips number 1 row.arriving
   first ← trip_named trips number 3 row.departing
   second ← trip_named trips number 4 name
@@ -64,7 +72,7 @@ kind_of words.Split trips number row = split_in trips number row row.arriving2 r
 
 -- every trip that the kind names is below a bound
 abbrev pub NamesBelow : ℕ → LinkKind → Type 0
-NamesBelow bound (Turn a b uncouple couple) = (a < bound) × (b < bound)
+NamesBelow bound (Turn a b uncouple couple exchange) = (a < bound) × (b < bound)
 NamesBelow bound (Join a1 a2 b) = (a1 < bound) × (a2 < bound) × (b < bound)
 NamesBelow bound (Split a b1 b2) = (a < bound) × (b1 < bound) × (b2 < bound)
 
@@ -79,7 +87,7 @@ is_departing links t = list_any (λ link. has t (departing_in link.kind)) links
 
 -- a trip is named as arriving, or as departing, that this kind or an earlier link has already named so
 abbrev pub names_again : List Link → LinkKind → Bool
-names_again before (Turn a b uncouple couple) = is_arriving before a || is_departing before b
+names_again before (Turn a b uncouple couple exchange) = is_arriving before a || is_departing before b
 names_again before (Join a1 a2 b) = a1 == a2 || is_arriving before a1 || is_arriving before a2 || is_departing before b
 names_again before (Split a b1 b2) = b1 == b2 || is_arriving before a || is_departing before b1 || is_departing before b2
 
@@ -93,7 +101,7 @@ is_in_time trips a b = nat_le (of_entry (λ trip. trip.arrival) trips a 1) (of_e
 
 -- each arriving trip passes the test with each departing one
 abbrev pub each_pair : (ℕ → ℕ → Bool) → LinkKind → Bool
-each_pair test (Turn a b uncouple couple) = test a b
+each_pair test (Turn a b uncouple couple exchange) = test a b
 each_pair test (Join a1 a2 b) = test a1 b && test a2 b
 each_pair test (Split a b1 b2) = test a b1 && test a b2
 

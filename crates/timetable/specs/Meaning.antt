@@ -1,6 +1,6 @@
 -- What it means that a day is the day of tables, in the tables' own words: the rows in order, with what they name, and no
 -- rule broken.
-use Rattle.std.specs.Prelude.{ℕ, ◌≡◌, ◌≢◌, ◌<◌, ◌≤◌, List, map, length, true, Some, None, slice_get}
+use Rattle.std.specs.Prelude.{ℕ, ◌≡◌, ◌≢◌, ◌<◌, ◌≤◌, List, map, length, Bool, true, false, Some, None, slice_get}
 use Rattle.std.specs.List.{AllZip, AllPairs}
 use Rattle.rail_base.specs.declared.limits.TheConstants.{MOST_UNITS, MOST_COMPOSITIONS}
 use Rattle.rail_csv.specs.declared.rows.End.{End}
@@ -43,8 +43,8 @@ pub record IsTripOf (day : Day) (row : TripRow) (trip : Trip) : Type 0 where
   pub demand : trip.demand ≡ row.demand
   pub first : trip.first ≡ row.first
 
--- a turn names one trip on either side, and its ends
-pub record IsTurnOf (IsTrip : List ℕ → ℕ → Type 0) (row : LinkRow) (a b : ℕ) (uncouple couple : End) : Type 0 where
+-- a turn names one trip on either side, and its ends: two of them where it exchanges units
+pub record IsTurnOf (IsTrip : List ℕ → ℕ → Type 0) (row : LinkRow) (a b : ℕ) (uncouple couple : End) (exchange : Bool) : Type 0 where
   pub kind : row.kind ≡ words.Turn
   pub arriving : IsTrip row.arriving a
   pub no_arriving2 : row.arriving2 ≡ None
@@ -52,8 +52,10 @@ pub record IsTurnOf (IsTrip : List ℕ → ℕ → Type 0) (row : LinkRow) (a b 
   pub no_departing2 : row.departing2 ≡ None
   pub uncoupling : uncouple ≡ row.uncouple
   pub coupling : couple ≡ row.couple
+  pub exchanging : exchange ≡ row.exchange
+  pub two_ends : row.exchange ≡ true → (row.uncouple ≢ at.None) × (row.couple ≢ at.None)
 
--- a join names two arriving trips and one departing trip, and no end
+-- a join names two arriving trips and one departing trip, no end and no exchange
 pub record IsJoinOf (IsTrip : List ℕ → ℕ → Type 0) (row : LinkRow) (a1 a2 b : ℕ) : Type 0 where
   pub kind : row.kind ≡ words.Join
   pub arriving : IsTrip row.arriving a1
@@ -64,8 +66,9 @@ pub record IsJoinOf (IsTrip : List ℕ → ℕ → Type 0) (row : LinkRow) (a1 a
   pub no_departing2 : row.departing2 ≡ None
   pub no_uncoupling : row.uncouple ≡ at.None
   pub no_coupling : row.couple ≡ at.None
+  pub no_exchange : row.exchange ≡ false
 
--- a split names one arriving trip and two departing trips, and no end
+-- a split names one arriving trip and two departing trips, no end and no exchange
 pub record IsSplitOf (IsTrip : List ℕ → ℕ → Type 0) (row : LinkRow) (a b1 b2 : ℕ) : Type 0 where
   pub kind : row.kind ≡ words.Split
   pub arriving : IsTrip row.arriving a
@@ -76,9 +79,10 @@ pub record IsSplitOf (IsTrip : List ℕ → ℕ → Type 0) (row : LinkRow) (a b
   pub departing2 : IsTrip name b2
   pub no_uncoupling : row.uncouple ≡ at.None
   pub no_coupling : row.couple ≡ at.None
+  pub no_exchange : row.exchange ≡ false
 
 abbrev pub IsKindOf : (List ℕ → ℕ → Type 0) → LinkRow → LinkKind → Type 0
-IsKindOf IsTrip row (Turn a b uncouple couple) = IsTurnOf IsTrip row a b uncouple couple
+IsKindOf IsTrip row (Turn a b uncouple couple exchange) = IsTurnOf IsTrip row a b uncouple couple exchange
 IsKindOf IsTrip row (Join a1 a2 b) = IsJoinOf IsTrip row a1 a2 b
 IsKindOf IsTrip row (Split a b1 b2) = IsSplitOf IsTrip row a b1 b2
 

@@ -1,5 +1,5 @@
 -- The tests that tables undergo, in their order. A refusal is that of the first that fails.
-use Rattle.std.specs.Prelude.{ℕ, ◌≡◌, ◌≢◌, ◌+◌, ◌≤◌, ◌<◌, ◌⊎◌, List, [], ◌∷◌, ◌++◌, length, map, min, false, Option, Some, None, slice_get}
+use Rattle.std.specs.Prelude.{ℕ, ◌≡◌, ◌≢◌, ◌+◌, ◌≤◌, ◌<◌, ◌⊎◌, List, [], ◌∷◌, ◌++◌, length, map, min, Bool, true, false, Option, Some, None, slice_get}
 use Rattle.std.specs.List.{All, Any}
 use Rattle.rail_base.specs.declared.limits.TheConstants.{MOST_UNITS, MOST_COMPOSITIONS}
 use Rattle.compositions.specs.Catalogue.{catalogue_of}
@@ -70,7 +70,7 @@ count_tests tables =
 
 -- ---- trips
 
--- two stations have these names, and the shorter of their platforms is longer than no composition
+-- two stations have these names, and no composition fits the shorter of their platforms
 pub record IsUnserved (tables : Tables) (from to : List ℕ) : Type 0 where
   pub origin : ℕ
   pub goal : ℕ
@@ -95,12 +95,14 @@ trip_tests tables number before row =
 
 -- ---- links
 
--- the fields of a link row fit its kind: a turn has no second names, a join and a split have one, and no ends
-abbrev pub FitsKind : KindWord → Option (List ℕ) → Option (List ℕ) → End → End → Type 0
-FitsKind words.Turn None None uncouple couple = Unit {0}
-FitsKind words.Join (Some name) None at.None at.None = Unit {0}
-FitsKind words.Split None (Some name) at.None at.None = Unit {0}
-FitsKind _ _ _ _ _ = ⊥
+-- the fields of a link row fit its kind: a turn has no second names, and two ends where units are exchanged; a join and a split
+-- have one second name, no ends and no exchange
+abbrev pub FitsKind : KindWord → Option (List ℕ) → Option (List ℕ) → End → End → Bool → Type 0
+FitsKind words.Turn None None uncouple couple false = Unit {0}
+FitsKind words.Turn None None uncouple couple true = (uncouple ≢ at.None) × (couple ≢ at.None)
+FitsKind words.Join (Some name) None at.None at.None false = Unit {0}
+FitsKind words.Split None (Some name) at.None at.None false = Unit {0}
+FitsKind _ _ _ _ _ _ = ⊥
 
 -- no trip has the name, where there is a name
 abbrev pub IsNoTrip : Tables → Option (List ℕ) → Type 0
@@ -129,7 +131,7 @@ HasTripsThat P tables row = (i j : ℕ) × (a b : TripRow) × (slice_get tables.
 -- columns 1 to 4 name the trips: 1 and 2 those that arrive, 3 and 4 those that depart
 abbrev pub kind_tests : Tables → ℕ → LinkRow → List (Test InstanceRefusal)
 kind_tests tables number row =
-    WrongLinkFields number when (¬ FitsKind row.kind row.arriving2 row.departing2 row.uncouple row.couple)
+    WrongLinkFields number when (¬ FitsKind row.kind row.arriving2 row.departing2 row.uncouple row.couple row.exchange)
     ∷ UnknownName names.Links number 1 when IsNoTrip tables (Some row.arriving)
     ∷ UnknownName names.Links number 2 when IsNoTrip tables row.arriving2
     ∷ UnknownName names.Links number 3 when IsNoTrip tables (Some row.departing)

@@ -7,6 +7,10 @@ use Rattle.timetable.specs.Links.{list_of, link_holds, kept, given, taken}
 use Rattle.timetable.specs.Duties.{duty, last_place}
 use Rattle.timetable.specs.Lists.{has, IsDistinct, count_below}
 
+-- units of the day
+abbrev pub AreUnits : Day → List ℕ → Type 0
+AreUnits day us = (u : ℕ) → IsTrue (has u us) → u < unit_count day
+
 -- a plan gives each trip a list of units of the day
 pub record IsPlan (day : Day) (plan : List (List ℕ)) : Type 0 where
   pub trips : length plan ≡ length day.trips
@@ -50,7 +54,7 @@ pub record Runs (day : Day) (plan : List (List ℕ)) : Type 0 where
   -- each trip has a list that may run on it
   pub lists : (t : ℕ) → t < length day.trips → MayRun day t (list_of plan t)
   -- each link's rule holds
-  pub links : (l : ℕ) (link : Link) → slice_get day.links l ≡ Some link → link_holds link plan ≡ true
+  pub links : (l : ℕ) (link : Link) → slice_get day.links l ≡ Some link → link_holds (type_of day) link plan ≡ true
   -- each unit begins the day at home
   pub homes : (u : ℕ) → u < unit_count day → BeginsAt day (home_of day u) (duty day plan u)
   -- each unit can go from one trip of its duty to the next

@@ -53,7 +53,7 @@ pub record AreTrips (stations : ℕ) (trips : List Trip) : Type 0 where
 
 -- each arriving trip of a link, with each departing one
 abbrev pub EachPair : (ℕ → ℕ → Type 0) → LinkKind → Type 0
-EachPair P (Turn a b uncouple couple) = P a b
+EachPair P (Turn a b uncouple couple exchange) = P a b
 EachPair P (Join a1 a2 b) = P a1 b × P a2 b
 EachPair P (Split a b1 b2) = P a b1 × P a b2
 

@@ -7,3 +7,4 @@ pub mod picks;
 pub mod plan;
 pub mod records;
 pub mod rule;
+pub mod turns;

@@ -10,4 +10,5 @@ pub use day::instance::Instance;
 pub use day::picks::Picks;
 pub use day::plan::NamedPlan;
 pub use day::records::{Handover, Link, LinkKind, Station, Stock, Trip, Unit, Weights};
-pub use day::rule::{Parts, turn_parts, turned};
+pub use day::rule::turned;
+pub use day::turns::{MOST_EXCHANGED, may_shunt};

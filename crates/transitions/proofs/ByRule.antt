@@ -1,20 +1,19 @@
 -- An edge is allowed exactly where its compositions may run and the rule holds of their types.
-use Rattle.std.proofs.Common.{◌≡◌, ℕ, List, Bool, true, Option, Some, None, refl, sym, ap, subst, ◌∙◌, slice_get}
-use Rattle.std.specs.Prelude.{◌↔◌, option_map, is_some}
+use Rattle.std.proofs.Common.{◌≡◌, ℕ, List, Bool, true, Option, Some, None, refl, sym, ap, subst, ◌∙◌}
+use Rattle.std.specs.Prelude.{option_map, is_some}
 use Rattle.std.proofs.lemmas.Bool.{false≢true}
 use Rattle.rail_csv.specs.declared.rows.End.{End}
 use Rattle.timetable.specs.declared.day.records.Link.{Link}
 use Rattle.timetable.specs.declared.day.records.LinkKind.{LinkKind}
 use Rattle.timetable.specs.declared.day.records.LinkKind.TheVariants.{Turn, Join, Split}
-use Rattle.timetable.specs.Chains.{leads_from, leads_to}
 use Rattle.timetable.specs.Compositions.{composition_at}
 use Rattle.timetable.specs.Day.{Day}
-use Rattle.timetable.specs.Handovers.{second_of}
-use Rattle.timetable.specs.Links.{Parts, list_of, turned, turn_parts, join_holds, split_holds, kind_holds, link_holds}
+use Rattle.timetable.specs.Links.{itself, list_of, turned, join_holds, split_holds, kind_holds, link_holds}
+use Rattle.timetable.specs.Turns.{Parts, turn_parts}
 use Rattle.transitions.specs.declared.edge.Edge.{Edge}
 use Rattle.transitions.specs.declared.edge.Shunt.{Shunt}
 use Rattle.transitions.specs.declared.edge.Shunt.TheVariants.{Keep}
-use Rattle.transitions.specs.Edges.{MayRun, IsKindEdge, IsEdge}
+use Rattle.transitions.specs.Edges.{MayRun, IsKindEdge}
 use Rattle.transitions.specs.Laws.{AreOn, MayRunAll, EdgesByRule}
 use Rattle.transitions.specs.Turns.{shunt_of, turn_shunt}
 
@@ -22,27 +21,27 @@ abbrev some_shunt : Edge → Shunt → Edge
 some_shunt edge shunt = record edge { shunt = shunt }
 
 -- a turn has a shunt exactly where it has parts
-has_shunt : (o : Option (Parts ℕ)) → is_some o ≡ true → (shunt : Shunt) × (option_map shunt_of o ≡ Some shunt)
+has_shunt : (o : Option Parts) → is_some o ≡ true → (shunt : Shunt) × (option_map shunt_of o ≡ Some shunt)
 has_shunt None h = absurd (false≢true h)
 has_shunt (Some parts) h = (shunt_of parts, refl)
 
-has_parts : (o : Option (Parts ℕ)) (shunt : Shunt) → option_map shunt_of o ≡ Some shunt → is_some o ≡ true
+has_parts : (o : Option Parts) (shunt : Shunt) → option_map shunt_of o ≡ Some shunt → is_some o ≡ true
 has_parts None shunt e = absurd cc
 has_parts (Some parts) shunt e = refl
 
-turn_by_rule : (uncouple couple : End) (arriving arriving' departing departing' : List ℕ) → arriving ≡ arriving' → departing ≡ departing'
-    → is_some (turn_parts uncouple couple arriving departing) ≡ true → (shunt : Shunt) × (turn_shunt uncouple couple arriving' departing' ≡ Some shunt)
+turn_by_rule : (uncouple couple : End) (exchange : Bool) (arriving arriving' departing departing' : List ℕ) → arriving ≡ arriving' → departing ≡ departing'
+    → is_some (turn_parts itself uncouple couple exchange arriving departing) ≡ true → (shunt : Shunt) × (turn_shunt uncouple couple exchange arriving' departing' ≡ Some shunt)
 unfolding turn_shunt
-turn_by_rule uncouple couple arriving arriving' departing departing' e e' holds =
-    has_shunt (turn_parts uncouple couple arriving' departing')
-    (sym (ap (λ (us : List ℕ). is_some (turn_parts uncouple couple us departing)) e ∙ ap (λ (us : List ℕ). is_some (turn_parts uncouple couple arriving' us)) e') ∙ holds)
+turn_by_rule uncouple couple exchange arriving arriving' departing departing' e e' holds =
+    has_shunt (turn_parts itself uncouple couple exchange arriving' departing')
+    (sym (ap (λ (us : List ℕ). is_some (turn_parts itself uncouple couple exchange us departing)) e ∙ ap (λ (us : List ℕ). is_some (turn_parts itself uncouple couple exchange arriving' us)) e') ∙ holds)
 
-rule_of_turn : (uncouple couple : End) (arriving arriving' departing departing' : List ℕ) → arriving ≡ arriving' → departing ≡ departing' → (shunt : Shunt)
-    → turn_shunt uncouple couple arriving' departing' ≡ Some shunt → is_some (turn_parts uncouple couple arriving departing) ≡ true
+rule_of_turn : (uncouple couple : End) (exchange : Bool) (arriving arriving' departing departing' : List ℕ) → arriving ≡ arriving' → departing ≡ departing' → (shunt : Shunt)
+    → turn_shunt uncouple couple exchange arriving' departing' ≡ Some shunt → is_some (turn_parts itself uncouple couple exchange arriving departing) ≡ true
 unfolding turn_shunt
-rule_of_turn uncouple couple arriving arriving' departing departing' e e' shunt rule =
-    ap (λ (us : List ℕ). is_some (turn_parts uncouple couple us departing)) e ∙ ap (λ (us : List ℕ). is_some (turn_parts uncouple couple arriving' us)) e'
-    ∙ has_parts (turn_parts uncouple couple arriving' departing') shunt rule
+rule_of_turn uncouple couple exchange arriving arriving' departing departing' e e' shunt rule =
+    ap (λ (us : List ℕ). is_some (turn_parts itself uncouple couple exchange us departing)) e ∙ ap (λ (us : List ℕ). is_some (turn_parts itself uncouple couple exchange arriving' us)) e'
+    ∙ has_parts (turn_parts itself uncouple couple exchange arriving' departing') shunt rule
 
 -- the part of a link with a second trip
 part_is : (f g : ℕ → List ℕ) (t : ℕ) (o : Option ℕ) → Some (f t) ≡ option_map g o → (part : ℕ) × (o ≡ Some part) × (f t ≡ g part)
@@ -54,11 +53,11 @@ no_part g None e = refl
 no_part g (Some part) e = absurd cc
 
 module _ (day : Day) (r : Bool) (edge : Edge) (lists : List (List ℕ)) where
-  kind_edge : (kind : LinkKind) → AreOn day lists (record { kind = kind; reverse = r }) edge → MayRunAll day (record { kind = kind; reverse = r }) edge → kind_holds kind r lists ≡ true
+  kind_edge : (kind : LinkKind) → AreOn day lists (record { kind = kind; reverse = r }) edge → MayRunAll day (record { kind = kind; reverse = r }) edge → kind_holds itself kind r lists ≡ true
       → (shunt : Shunt) × IsKindEdge day kind r (some_shunt edge shunt)
   unfolding join_holds split_holds
-  kind_edge (Turn a b uncouple couple) on runs holds =
-      let found = turn_by_rule uncouple couple (turned r (list_of lists a)) (turned r (composition_at day edge.from)) (list_of lists b) (composition_at day edge.to) (ap (turned r) on.arriving) on.departing holds in
+  kind_edge (Turn a b uncouple couple exchange) on runs holds =
+      let found = turn_by_rule uncouple couple exchange (turned r (list_of lists a)) (turned r (composition_at day edge.from)) (list_of lists b) (composition_at day edge.to) (ap (turned r) on.arriving) on.departing holds in
       (found.0, record { arriving = runs.arriving; departing = runs.departing; rule = found.1; no_part = no_part (composition_at day) edge.part on.second })
   kind_edge (Join a1 a2 b) on runs holds =
       let part = part_is (list_of lists) (composition_at day) a2 edge.part on.second in (
@@ -99,11 +98,11 @@ module _ (day : Day) (r : Bool) (edge : Edge) (lists : List (List ℕ)) where
   second_lists t part on is = let some : Some (list_of lists t) ≡ Some (composition_at day part) = on ∙ ap (option_map (composition_at day)) is in cc
 
   edge_kind : (kind : LinkKind) (shunt : Shunt) → AreOn day lists (record { kind = kind; reverse = r }) edge → IsKindEdge day kind r (some_shunt edge shunt)
-      → MayRunAll day (record { kind = kind; reverse = r }) edge × (kind_holds kind r lists ≡ true)
+      → MayRunAll day (record { kind = kind; reverse = r }) edge × (kind_holds itself kind r lists ≡ true)
   unfolding join_holds split_holds
-  edge_kind (Turn a b uncouple couple) shunt on e = (
+  edge_kind (Turn a b uncouple couple exchange) shunt on e = (
     record { arriving = e.arriving; departing = e.departing; second = λ t part same is. absurd cc },
-    rule_of_turn uncouple couple (turned r (list_of lists a)) (turned r (composition_at day edge.from)) (list_of lists b) (composition_at day edge.to) (ap (turned r) on.arriving) on.departing shunt e.rule,
+    rule_of_turn uncouple couple exchange (turned r (list_of lists a)) (turned r (composition_at day edge.from)) (list_of lists b) (composition_at day edge.to) (ap (turned r) on.arriving) on.departing shunt e.rule,
   )
   edge_kind (Join a1 a2 b) shunt on e = (
     record { arriving = e.first; departing = e.departing; second = λ t part same is. second_runs a2 t e.part part same e.is_part is e.second },

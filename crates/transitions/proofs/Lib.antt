@@ -1,7 +1,11 @@
 pub mod Rests
 pub mod Numbers
+pub mod Listed
+pub mod Shunting
+pub mod PartsFit
 pub mod Pairing
 pub mod Stepping
+pub mod Exchanging
 pub mod Kept
 pub mod Reaching
 pub mod Rising

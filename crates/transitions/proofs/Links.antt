@@ -14,18 +14,18 @@ use Rattle.timetable.specs.Chains.{leads_from}
 
 -- the compositions of an edge are in the catalogue
 pub from_listed : (day : Day) (kind : LinkKind) (r : Bool) (x : Edge) → IsKindEdge day kind r x → x.from < length (compositions_of day)
-from_listed day (Turn a b uncouple couple) r x e = e.arriving.listed
+from_listed day (Turn a b uncouple couple exchange) r x e = e.arriving.listed
 from_listed day (Join a1 a2 b) r x e = e.first.listed
 from_listed day (Split a b1 b2) r x e = e.arriving.listed
 
 pub to_listed : (day : Day) (kind : LinkKind) (r : Bool) (x : Edge) → IsKindEdge day kind r x → x.to < length (compositions_of day)
-to_listed day (Turn a b uncouple couple) r x e = e.departing.listed
+to_listed day (Turn a b uncouple couple exchange) r x e = e.departing.listed
 to_listed day (Join a1 a2 b) r x e = e.departing.listed
 to_listed day (Split a b1 b2) r x e = e.first.listed
 
 -- the first composition of an edge may run on the first arriving trip
 pub from_runs : (day : Day) (kind : LinkKind) (r : Bool) (x : Edge) → IsKindEdge day kind r x → MayRun day (leads_from kind) x.from
-from_runs day (Turn a b uncouple couple) r x e = e.arriving
+from_runs day (Turn a b uncouple couple exchange) r x e = e.arriving
 from_runs day (Join a1 a2 b) r x e = e.first
 from_runs day (Split a b1 b2) r x e = e.arriving
 

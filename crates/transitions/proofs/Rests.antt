@@ -5,7 +5,7 @@ use Rattle.std.proofs.lemmas.Bool.{cases_lt}
 use Rattle.std.proofs.lemmas.List.{take-append-drop}
 use Rattle.std.proofs.lemmas.Slice.Eq.{bytes_eq-Decides}
 use Rattle.std.proofs.Math.Seq.{take-append_seam, drop-append_seam}
-use Rattle.timetable.specs.Links.{same}
+use Rattle.timetable.specs.Turns.{same}
 
 -- the composition of a list of one to six types
 of_types : (o : Option (List ℕ)) (xs : List ℕ) → 1 ≤ length xs → length xs ≤ 6 → (IsNone o → (length xs < 1) ⊎ (6 < length xs)) → IfSome o (λ ys. ys ≡ xs) → o ≡ Some xs

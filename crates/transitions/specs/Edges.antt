@@ -19,11 +19,12 @@ pub record MayRun (day : Day) (t comp : ℕ) : Type 0 where
   pub admissible : IsTrue (is_admissible day t (composition_at day comp))
 
 -- A turn of trip a into trip b: the types that depart are those that arrive, or what is left of them after units were
--- uncoupled at the one end, or they with units coupled at the other end; the shunt says which, and how many units.
-pub record IsTurnEdge (day : Day) (reversed : Bool) (a b : ℕ) (uncouple couple : End) (edge : Edge) : Type 0 where
+-- uncoupled at the one end, or they with units coupled at the other end; or, with exchange, what is left of them with units
+-- coupled. The shunt says which, and how many units.
+pub record IsTurnEdge (day : Day) (reversed : Bool) (a b : ℕ) (uncouple couple : End) (exchange : Bool) (edge : Edge) : Type 0 where
   pub arriving : MayRun day a edge.from
   pub departing : MayRun day b edge.to
-  pub rule : turn_shunt uncouple couple (turned reversed (composition_at day edge.from)) (composition_at day edge.to) ≡ Some edge.shunt
+  pub rule : turn_shunt uncouple couple exchange (turned reversed (composition_at day edge.from)) (composition_at day edge.to) ≡ Some edge.shunt
   pub no_part : edge.part ≡ None
 
 -- A join of trips a1 and a2 into trip b: the types that depart are those of the first train and then those of the second,
@@ -49,7 +50,7 @@ pub record IsSplitEdge (day : Day) (reversed : Bool) (a b1 b2 : ℕ) (edge : Edg
   pub kept : edge.shunt ≡ Keep
 
 abbrev pub IsKindEdge : Day → LinkKind → Bool → Edge → Type 0
-IsKindEdge day (Turn a b uncouple couple) reversed edge = IsTurnEdge day reversed a b uncouple couple edge
+IsKindEdge day (Turn a b uncouple couple exchange) reversed edge = IsTurnEdge day reversed a b uncouple couple exchange edge
 IsKindEdge day (Join a1 a2 b) reversed edge = IsJoinEdge day reversed a1 a2 b edge
 IsKindEdge day (Split a b1 b2) reversed edge = IsSplitEdge day reversed a b1 b2 edge
 

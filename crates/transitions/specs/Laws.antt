@@ -6,9 +6,9 @@ use Rattle.timetable.specs.declared.day.records.LinkKind.TheVariants.{Turn, Join
 use Rattle.timetable.specs.Accepted.{AreLinks}
 use Rattle.timetable.specs.Chains.{leads_from, leads_to}
 use Rattle.timetable.specs.Compositions.{composition_at}
-use Rattle.timetable.specs.Day.{Day, types_of}
+use Rattle.timetable.specs.Day.{Day, type_of, types_of}
 use Rattle.timetable.specs.Handovers.{second_of}
-use Rattle.timetable.specs.Links.{list_of, turned, turn_of, link_holds}
+use Rattle.timetable.specs.Links.{list_of, itself, turned, turn_of, link_holds}
 use Rattle.timetable.specs.Running.{Runs}
 use Rattle.transitions.specs.declared.edge.Edge.{Edge}
 use Rattle.transitions.specs.declared.edge.Shunt.{Shunt}
@@ -16,11 +16,11 @@ use Rattle.transitions.specs.declared.edge.Shunt.TheVariants.{Keep}
 use Rattle.transitions.specs.Edges.{MayRun, IsEdge, AreGraphs, IsFound}
 use Rattle.transitions.specs.Turns.{shunt_of}
 
--- what is done to the train: a turn uncouples the units that the plan gives there, or couples those that it takes
-abbrev pub shunt_by : LinkKind → Bool → List (List ℕ) → Shunt
-shunt_by (Turn a b uncouple couple) reversed plan = shunt_of (turn_of uncouple couple (turned reversed (list_of plan a)) (list_of plan b))
-shunt_by (Join a1 a2 b) reversed plan = Keep
-shunt_by (Split a b1 b2) reversed plan = Keep
+-- what is done to the train: a turn uncouples the units that the plan gives there, and couples those that it takes
+abbrev pub shunt_by : Day → LinkKind → Bool → List (List ℕ) → Shunt
+shunt_by day (Turn a b uncouple couple exchange) reversed plan = shunt_of (turn_of (type_of day) uncouple couple exchange (turned reversed (list_of plan a)) (list_of plan b))
+shunt_by day (Join a1 a2 b) reversed plan = Keep
+shunt_by day (Split a b1 b2) reversed plan = Keep
 
 -- An edge of the link goes from the types of the plan's arriving units to those of its departing units. Its part is the
 -- types of the second train, and its shunt is what the plan does.
@@ -30,7 +30,7 @@ pub record FollowsEdge (day : Day) (plan : List (List ℕ)) (l : ℕ) (link : Li
   pub origin : composition_at day edge.from ≡ types_of day (list_of plan (leads_from link.kind))
   pub goal : composition_at day edge.to ≡ types_of day (list_of plan (leads_to link.kind))
   pub part : option_map (composition_at day) edge.part ≡ option_map (λ t. types_of day (list_of plan t)) (second_of link.kind)
-  pub shunt : edge.shunt ≡ shunt_by link.kind link.reverse plan
+  pub shunt : edge.shunt ≡ shunt_by day link.kind link.reverse plan
 
 -- A plan that runs follows an edge of each link of its day.
 abbrev pub TypesFollow : Type 0
@@ -56,4 +56,4 @@ pub record MayRunAll (day : Day) (link : Link) (edge : Edge) : Type 0 where
 -- holds of their types.
 abbrev pub EdgesByRule : Type 0
 EdgesByRule = (day : Day) (l : ℕ) (link : Link) (edge : Edge) (lists : List (List ℕ)) → slice_get day.links l ≡ Some link → AreOn day lists link edge
-    → (MayRunAll day link edge × IsTrue (link_holds link lists)) ↔ ((shunt : Shunt) × IsEdge day l (record edge { shunt = shunt }))
+    → (MayRunAll day link edge × IsTrue (link_holds itself link lists)) ↔ ((shunt : Shunt) × IsEdge day l (record edge { shunt = shunt }))

@@ -1,6 +1,8 @@
 //! The edge that a link allows from one composition to another.
 
-ghost use Rattle.std.specs.Prelude.{ℕ, List, ◌≡◌, ◌<◌, ◌↔◌, IsTrue, Some, length, IfOk};
+ghost use Rattle.std.specs.Prelude.{ℕ, List, ◌≡◌, ◌<◌, ◌↔◌, Bool, IsTrue, Some, length, IfOk};
+ghost use Rattle.rail_csv.specs.declared.rows.End.{End};
+ghost use Rattle.timetable.specs.declared.day.records.LinkKind.TheVariants.{Turn};
 ghost use Rattle.timetable.specs.Day.{Day};
 ghost use Rattle.timetable.specs.Compositions.{compositions_of, composition_at};
 ghost use Rattle.timetable.specs.LinkRows.{NamesBelow};
@@ -15,7 +17,6 @@ use crate::pairs::Pair;
 use crate::turns::{rest_after, turn_shunt, turned};
 use compositions::Composition;
 use rail_base::{CompNo, NoMemory, TripNo};
-use rail_csv::End;
 use std::alloc::Global;
 use timetable::{Instance, Link, LinkKind};
 
@@ -88,33 +89,22 @@ pub(crate) fn edge_between(
     let (from, to) = (pair.from, pair.to);
     let second = admitted.second.as_slice();
     match link.kind {
-        LinkKind::Turn {
-            uncouple,
-            couple,
-            ..
-        } => turn_edge(instance, link.reverse, uncouple, couple, from, to),
+        LinkKind::Turn { .. } => turn_edge(instance, link, from, to),
         LinkKind::Join { .. } => join_edge(instance, link.reverse, second, from, to),
         LinkKind::Split { .. } => split_edge(instance, link.reverse, second, from, to),
     }
 }
 
 /// The edge of a turn from one composition to another, which may run on its trips.
-fn turn_edge(
-    instance: &Instance,
-    reversed: bool,
-    uncouple: End,
-    couple: End,
-    from: CompNo,
-    to: CompNo,
-) -> Option<Edge>
+fn turn_edge(instance: &Instance, link: &Link, from: CompNo, to: CompNo) -> Option<Edge>
     requires from { from < length (compositions_of instance.now) }
     requires to { to < length (compositions_of instance.now) }
-    ensures { (a b : ℕ) → MayRun instance.now a from → MayRun instance.now b to → (edge : Edge) → (result ≡ Some edge) ↔ (IsTurnEdge instance.now reversed a b uncouple couple edge × IsBetween from to edge) }
+    ensures { (a b : ℕ) (uncouple couple : End) (exchange : Bool) → link.now.kind ≡ Turn a b uncouple couple exchange → MayRun instance.now a from → MayRun instance.now b to → (edge : Edge) → (result ≡ Some edge) ↔ (IsTurnEdge instance.now link.now.reverse a b uncouple couple exchange edge × IsBetween from to edge) }
 {
     let catalogue = instance.catalogue();
-    let arriving = turned(reversed, catalogue.get(from));
+    let arriving = turned(link.reverse, catalogue.get(from));
     let departing = catalogue.get(to);
-    let shunt = turn_shunt(uncouple, couple, arriving.units(), departing.units())?;
+    let shunt = turn_shunt(link.kind, arriving.units(), departing.units())?;
     Some(Edge {
         from,
         to,

@@ -11,6 +11,8 @@ pub enum Shunt {
     Uncouple { units: u8 },
     /// So many units are coupled, which were taken from the yard.
     Couple { units: u8 },
+    /// So many units are uncoupled and given to the yard, and so many others are coupled, which were taken from it.
+    Exchange { uncouple: u8, couple: u8 },
 }
 
 /// A step that a link allows from one composition of the day's catalogue to another. It takes 20 bytes.

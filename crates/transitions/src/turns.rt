@@ -3,48 +3,43 @@
 ghost use Rattle.std.specs.Prelude.{◌≡◌, ◌≤◌, ◌<◌, ◌++◌, ◌↔◌, length, List, ℕ};
 ghost use Rattle.std.specs.Prelude.{Some};
 ghost use Rattle.timetable.specs.Links.{turned};
-ghost use Rattle.transitions.specs.Turns.{shunt_of, turn_shunt};
+ghost use Rattle.transitions.specs.Turns.{shunt_by_units, turn_shunt_of};
 
 use crate::edge::Shunt;
 use compositions::Composition;
 use rail_base::TypeNo;
-use rail_csv::End;
-use timetable::{Parts, turn_parts};
+use rail_base::limits::MOST_COMPOSITION;
+use timetable::{LinkKind, may_shunt};
 
-/// The shunt of a turn between two lists of at most six types each, or nothing where the rule of the turn is broken. The
-/// arriving list is the one after a reversal.
-#[tactic(auto, unfolding(crate::specs::Turns::turn_shunt))]
-pub(crate) fn turn_shunt(
-    uncouple: End,
-    couple: End,
-    arriving: &[TypeNo],
-    departing: &[TypeNo],
-) -> Option<Shunt>
-    requires arriving { length arriving.now ≤ 6 }
-    requires departing { length departing.now ≤ 6 }
-    ensures { result ≡ turn_shunt uncouple couple arriving.now departing.now }
+/// The shunt of a turn between two lists of at most six types each, or nothing where the rule of the turn is broken, and at a
+/// join or a split. The arriving list is the one after a reversal.
+pub(crate) fn turn_shunt(kind: LinkKind, arriving: &[TypeNo], departing: &[TypeNo]) -> Option<Shunt>
+    requires arriving { length arriving.now ≤ MOST_COMPOSITION }
+    requires departing { length departing.now ≤ MOST_COMPOSITION }
+    ensures { result ≡ turn_shunt_of kind arriving.now departing.now }
 {
-    let parts = turn_parts(uncouple, couple, arriving, departing)?;
-    Some(shunt_of(&parts))
+    let LinkKind::Turn { exchange, .. } = kind else {
+        return None;
+    };
+    let kept = kind.kept(arriving, departing)?;
+    let given = arriving.len() - kept;
+    let taken = departing.len() - kept;
+    if !may_shunt(exchange, given, taken) {
+        return None;
+    }
+    Some(shunt_by_units(given as u8, taken as u8))
 }
 
-/// What is done to a train whose parts these are, at most six types each.
-fn shunt_of(parts: &Parts<TypeNo>) -> Shunt
-    requires given { length parts.now.given ≤ 6 }
-    requires taken { length parts.now.taken ≤ 6 }
-    ensures { result ≡ shunt_of parts.now }
+/// What is done to a train where so many units are given to the yard and so many are taken from it.
+fn shunt_by_units(given: u8, taken: u8) -> Shunt
+    ensures { result ≡ shunt_by_units given taken }
 {
-    if !parts.given.is_empty() {
-        return Shunt::Uncouple {
-            units: parts.given.len() as u8,
-        };
+    match (given, taken) {
+        (0, 0) => Shunt::Keep,
+        (0, units) => Shunt::Couple { units },
+        (units, 0) => Shunt::Uncouple { units },
+        (uncouple, couple) => Shunt::Exchange { uncouple, couple },
     }
-    if !parts.taken.is_empty() {
-        return Shunt::Couple {
-            units: parts.taken.len() as u8,
-        };
-    }
-    Shunt::Keep
 }
 
 /// A composition as it stands after the train has turned round, or not.

@@ -13,17 +13,35 @@ const ONE_TYPE: &[u8] = b"type,carriages,seats,metres,family\nA,3,200,80,regiona
 const TWO_TYPES: &[u8] =
     b"type,carriages,seats,metres,family\nA,3,200,80,regional\nB,3,200,80,regional\n";
 
+const SHORT_TYPE: &[u8] =
+    b"type,carriages,seats,metres,family\nA,3,200,80,regional\nB,2,100,60,regional\n";
+
+/// The platforms fit a unit of each type, and not two of A.
+const SHORT_STATIONS: &[u8] = b"station,platform,reallocation\nX,140,30\nY,140,30\n";
+
 /// The platforms fit two units.
 const STATIONS: &[u8] = b"station,platform,reallocation\nX,200,30\nY,200,30\n";
 
 /// The platforms fit three units.
 const LONG_STATIONS: &[u8] = b"station,platform,reallocation\nX,250,30\nY,250,30\n";
 
+/// The platforms fit four units.
+const LONGEST_STATIONS: &[u8] = b"station,platform,reallocation\nX,320,30\nY,320,30\n";
+
 const TURN: &[u8] =
     b"kind,arriving,arriving2,departing,departing2,reverse,uncouple,couple\nturn,T1,,T3,,yes,rear,none\n";
 
 const FRONT_TURN: &[u8] =
     b"kind,arriving,arriving2,departing,departing2,reverse,uncouple,couple\nturn,T1,,T3,,no,front,front\n";
+
+const EXCHANGE: &[u8] =
+    b"kind,arriving,arriving2,departing,departing2,reverse,uncouple,couple,exchange\nturn,T1,,T3,,yes,rear,rear,yes\n";
+
+const NO_EXCHANGE: &[u8] =
+    b"kind,arriving,arriving2,departing,departing2,reverse,uncouple,couple,exchange\nturn,T1,,T3,,yes,rear,rear,no\n";
+
+const FRONT_EXCHANGE: &[u8] =
+    b"kind,arriving,arriving2,departing,departing2,reverse,uncouple,couple,exchange\nturn,T1,,T3,,no,front,rear,yes\n";
 
 const JOIN: &[u8] =
     b"kind,arriving,arriving2,departing,departing2,reverse,uncouple,couple\njoin,T1,T2,T3,,yes,none,none\n";
@@ -133,6 +151,103 @@ fn edges_of_a_turn_at_the_front(rt: HostRuntime) -> Result<(), Fail> {
             turn(5, 5, Shunt::Keep),
         ];
         assert!(rt; graphs.edges(LinkNo(0)) == edges.as_slice());
+        return Ok(());
+    }
+    panic!(rt; "one link")
+}
+
+// The compositions are A, B, AB, BA and BB. AB turns round into BA, whose B stays when A goes and another B comes.
+#[test]
+fn edges_of_an_exchange(rt: HostRuntime) -> Result<(), Fail> {
+    let day = day_of(&rt, SHORT_TYPE, SHORT_STATIONS, EXCHANGE)?;
+    let graphs = Graphs::build(rt.alloc(), &day)?;
+    if day.links() == 1 {
+        let exchanged = Shunt::Exchange {
+            uncouple: 1,
+            couple: 1,
+        };
+        let edges = [
+            turn(0, 0, Shunt::Keep),
+            turn(0, 2, Shunt::Couple { units: 1 }),
+            turn(1, 1, Shunt::Keep),
+            turn(1, 3, Shunt::Couple { units: 1 }),
+            turn(1, 4, Shunt::Couple { units: 1 }),
+            turn(2, 1, Shunt::Uncouple { units: 1 }),
+            turn(2, 3, Shunt::Keep),
+            turn(2, 4, exchanged),
+            turn(3, 0, Shunt::Uncouple { units: 1 }),
+            turn(3, 2, Shunt::Keep),
+            turn(4, 1, Shunt::Uncouple { units: 1 }),
+            turn(4, 3, exchanged),
+            turn(4, 4, Shunt::Keep),
+        ];
+        assert!(rt; graphs.edges(LinkNo(0)) == edges.as_slice());
+        return Ok(());
+    }
+    panic!(rt; "one link")
+}
+
+// The same turn, which may not exchange units.
+#[test]
+fn turn_without_exchange(rt: HostRuntime) -> Result<(), Fail> {
+    let day = day_of(&rt, SHORT_TYPE, SHORT_STATIONS, NO_EXCHANGE)?;
+    let graphs = Graphs::build(rt.alloc(), &day)?;
+    if day.links() == 1 {
+        assert_eq!(rt; graphs.edges(LinkNo(0)).len(), 11);
+        assert_eq!(rt; graphs.allowed(LinkNo(0), CompNo(2), CompNo(4)), None);
+        assert_eq!(rt; graphs.allowed(LinkNo(0), CompNo(4), CompNo(3)), None);
+        return Ok(());
+    }
+    panic!(rt; "one link")
+}
+
+// A goes from the front of AB, and comes to its rear.
+#[test]
+fn exchange_at_both_ends(rt: HostRuntime) -> Result<(), Fail> {
+    let day = day_of(&rt, SHORT_TYPE, SHORT_STATIONS, FRONT_EXCHANGE)?;
+    let graphs = Graphs::build(rt.alloc(), &day)?;
+    if day.links() == 1 {
+        assert_eq!(rt;
+            graphs.allowed(LinkNo(0), CompNo(2), CompNo(3)),
+            Some(Shunt::Exchange {
+                uncouple: 1,
+                couple: 1,
+            })
+        );
+        assert_eq!(rt;
+            graphs.allowed(LinkNo(0), CompNo(2), CompNo(2)),
+            Some(Shunt::Keep)
+        );
+        return Ok(());
+    }
+    panic!(rt; "one link")
+}
+
+// AAB turns round into BAA, and B stays as BB leaves: two units for one. AAAB, composition 15, would give three for one.
+#[test]
+fn units_of_an_exchange(rt: HostRuntime) -> Result<(), Fail> {
+    let day = day_of(&rt, TWO_TYPES, LONGEST_STATIONS, EXCHANGE)?;
+    let graphs = Graphs::build(rt.alloc(), &day)?;
+    if day.links() == 1 {
+        assert_eq!(rt;
+            graphs.allowed(LinkNo(0), CompNo(7), CompNo(5)),
+            Some(Shunt::Exchange {
+                uncouple: 2,
+                couple: 1,
+            })
+        );
+        assert_eq!(rt;
+            graphs.allowed(LinkNo(0), CompNo(9), CompNo(10)),
+            Some(Shunt::Exchange {
+                uncouple: 2,
+                couple: 2,
+            })
+        );
+        assert_eq!(rt; graphs.allowed(LinkNo(0), CompNo(15), CompNo(5)), None);
+        assert_eq!(rt;
+            graphs.allowed(LinkNo(0), CompNo(15), CompNo(1)),
+            Some(Shunt::Uncouple { units: 3 })
+        );
         return Ok(());
     }
     panic!(rt; "one link")

@@ -71,6 +71,22 @@ fn link_words(rt: HostRuntime) -> Result<(), Fail> {
 }
 
 #[test]
+fn links_in_two_versions(rt: HostRuntime) -> Result<(), Fail> {
+    let alloc = rt.alloc();
+    let older =
+        b"kind,arriving,arriving2,departing,departing2,reverse,uncouple,couple\nturn,a,,b,,no,rear,front\n";
+    assert!(rt; links(alloc, older)?.iter().all(|row| !row.exchange));
+    let newer =
+        b"kind,arriving,arriving2,departing,departing2,reverse,uncouple,couple,exchange\nturn,a,,b,,no,rear,front,yes\n";
+    assert!(rt; links(alloc, newer)?.iter().all(|row| row.exchange));
+    let number =
+        b"kind,arriving,arriving2,departing,departing2,reverse,uncouple,couple,exchange\nturn,a,,b,,no,rear,front,1\n";
+    let bad_word = TableRefusal::BadWord { row: 1, column: 8 };
+    assert_eq!(rt; links(alloc, number).err(), Some(bad_word));
+    Ok(())
+}
+
+#[test]
 fn weight_rows(rt: HostRuntime) -> Result<(), Fail> {
     let row = weights(rt.alloc(), b"carriage,shortage,shunting\n1,2,60\n")?;
     assert_eq!(rt; (row.carriage, row.shortage, row.shunting), (1, 2, 60));

@@ -6,6 +6,8 @@ mod class_tests;
 #[cfg(test)]
 mod day;
 #[cfg(test)]
+mod exchange_tests;
+#[cfg(test)]
 mod failure_tests;
 #[cfg(test)]
 mod link_tests;

@@ -1,9 +1,9 @@
 //! The tests on the rows of the links table.
 
-ghost use Rattle.std.specs.Prelude.{◌≡◌, ◌<◌, ◌≤◌, ◌||◌, length, IfOk, IfSome};
+ghost use Rattle.std.specs.Prelude.{◌≡◌, ◌<◌, ◌≤◌, ◌&&◌, ◌||◌, length, IfOk, IfSome};
 ghost use Rattle.rail_base.specs.Answers.{GivesRows};
 ghost use Rattle.timetable.specs.Build.{is_memory};
-ghost use Rattle.timetable.specs.LinkRows.{trip_named, is_an_end, turn_in, join_in, split_in, kind_of, NamesBelow, names_again, do_meet, is_in_time, each_pair, accept_trips, accept_link, links_in};
+ghost use Rattle.timetable.specs.LinkRows.{trip_named, is_an_end, lacks_an_end, does_shunt, turn_in, join_in, split_in, kind_of, NamesBelow, names_again, do_meet, is_in_time, each_pair, accept_trips, accept_link, links_in};
 
 use crate::building::entries::row_after;
 use crate::building::linked::Linked;
@@ -47,6 +47,20 @@ fn is_an_end(end: End) -> bool
     }
 }
 
+/// Whether units are exchanged, and not at an end each.
+fn lacks_an_end(row: &LinkRow) -> bool
+    ensures { result ≡ lacks_an_end row.now.uncouple row.now.couple row.now.exchange }
+{
+    row.exchange && !(is_an_end(row.uncouple) && is_an_end(row.couple))
+}
+
+/// Whether units are uncoupled, coupled or exchanged.
+fn does_shunt(row: &LinkRow) -> bool
+    ensures { result ≡ does_shunt row.now.uncouple row.now.couple row.now.exchange }
+{
+    is_an_end(row.uncouple) || is_an_end(row.couple) || row.exchange
+}
+
 /// The kind of a row that is a turn.
 #[tactic(auto, unfolding(crate::specs::LinkRows::turn_in))]
 fn turn_of(trips: &Named<Trip>, number: u32, row: &LinkRow) -> Result<LinkKind, InstanceRefusal>
@@ -57,6 +71,9 @@ fn turn_of(trips: &Named<Trip>, number: u32, row: &LinkRow) -> Result<LinkKind, 
     let (None, None) = (&row.arriving2, &row.departing2) else {
         return Err(InstanceRefusal::WrongLinkFields(number));
     };
+    if lacks_an_end(row) {
+        return Err(InstanceRefusal::WrongLinkFields(number));
+    }
     let arriving = find_trip(trips, number, 1, &row.arriving)?;
     let departing = find_trip(trips, number, 3, &row.departing)?;
     Ok(LinkKind::Turn {
@@ -64,6 +81,7 @@ fn turn_of(trips: &Named<Trip>, number: u32, row: &LinkRow) -> Result<LinkKind, 
         departing,
         uncouple: row.uncouple,
         couple: row.couple,
+        exchange: row.exchange,
     })
 }
 
@@ -77,7 +95,7 @@ fn join_of(trips: &Named<Trip>, number: u32, row: &LinkRow) -> Result<LinkKind, 
     let (Some(name), None) = (&row.arriving2, &row.departing2) else {
         return Err(InstanceRefusal::WrongLinkFields(number));
     };
-    if is_an_end(row.uncouple) || is_an_end(row.couple) {
+    if does_shunt(row) {
         return Err(InstanceRefusal::WrongLinkFields(number));
     }
     let first = find_trip(trips, number, 1, &row.arriving)?;
@@ -100,7 +118,7 @@ fn split_of(trips: &Named<Trip>, number: u32, row: &LinkRow) -> Result<LinkKind,
     let (None, Some(name)) = (&row.arriving2, &row.departing2) else {
         return Err(InstanceRefusal::WrongLinkFields(number));
     };
-    if is_an_end(row.uncouple) || is_an_end(row.couple) {
+    if does_shunt(row) {
         return Err(InstanceRefusal::WrongLinkFields(number));
     }
     let arriving = find_trip(trips, number, 1, &row.arriving)?;

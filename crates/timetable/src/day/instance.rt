@@ -16,6 +16,7 @@ ghost use Rattle.timetable.specs.Meaning.{IsDayOf};
 ghost use Rattle.timetable.specs.Refusals.{day_tests};
 ghost use Rattle.timetable.specs.Starts.{start_in, start_of};
 ghost use Rattle.timetable.specs.Tests.{NoneFailed, IsFirstFailed};
+ghost use Rattle.timetable.specs.Turns.{kept_of, IsKept};
 ghost use Rattle.timetable.specs.Within.{AreTypes, IsStation, IsUnitAt, IsTripAt, IsLinkAt, AreWeights};
 
 use crate::building::entries::{
@@ -27,7 +28,7 @@ use crate::building::tables::Tables;
 use crate::day::chains::{Chain, linking_of};
 use crate::day::records::{Handover, Link, Station, Stock, Trip, Unit, Weights};
 use compositions::{Catalogue, UnitTypes};
-use rail_base::limits::{MOST_LINKS, MOST_STATIONS, MOST_TRIPS, MOST_UNITS};
+use rail_base::limits::{MOST_COMPOSITION, MOST_LINKS, MOST_STATIONS, MOST_TRIPS, MOST_UNITS};
 use rail_base::{CompNo, LinkNo, NoMemory, StationNo, TripNo, TypeNo, UnitNo};
 use rail_csv::WeightsRow;
 use std::alloc::Global;
@@ -241,6 +242,19 @@ impl Instance {
         self.outgoing[trip.place()]
     }
 
+    /// How many units the turn of this number keeps, by the types of the arriving list after a reversal and of the departing
+    /// list, at most six each: the length of the longest list of types that fits both of its ends, and nothing where none fits, or
+    /// where the link is no turn. The link is below `links`.
+    pub fn kept(&self, link: LinkNo, arriving: &[TypeNo], departing: &[TypeNo]) -> Option<u32>
+        requires link { link < length self.now.links }
+        requires arriving { length arriving.now ≤ MOST_COMPOSITION }
+        requires departing { length departing.now ≤ MOST_COMPOSITION }
+        ensures number { IfSome (slice_get self.now.links link) (λ link. result ≡ kept_of link.kind arriving.now departing.now) }
+        ensures meaning { IfSome (slice_get self.now.links link) (λ link. IsKept link.kind arriving.now departing.now result) }
+    {
+        as_number(self.link(link).kind.kept(arriving, departing))
+    }
+
     /// How many chains there are. A turn leads a chain from its arriving to its departing trip, a join from its first arriving
     /// trip to its departing trip, a split from its arriving trip to its first departing trip; every trip lies in one chain.
     pub fn chains(&self) -> u32
@@ -306,6 +320,17 @@ impl Instance {
         ensures { result ≡ wanted_of self.now station unit_type }
     {
         wanted_in(&self.stock, station, unit_type)
+    }
+}
+
+/// The same number, if there is one.
+fn as_number(kept: Option<usize>) -> Option<u32>
+    requires { IfSome kept (λ n. n ≤ MOST_COMPOSITION) }
+    ensures { result ≡ kept }
+{
+    match kept {
+        Some(kept) => Some(kept as u32),
+        None => None,
     }
 }
 

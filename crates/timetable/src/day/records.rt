@@ -66,6 +66,8 @@ pub enum LinkKind {
         departing: TripNo,
         uncouple: End,
         couple: End,
+        /// Whether one or two units may be uncoupled and one or two coupled at once.
+        exchange: bool,
     },
     /// Two trains go on as one, the first in front.
     Join {

@@ -1,20 +1,24 @@
 //! The rule of a link: which trips it leads on from and to, which compositions or units may go on by it, and which units stay
 //! in the train, go to the yard and come from it.
 
-ghost use Rattle.std.specs.Prelude.{◌≡◌, ◌<◌, ◌≤◌, ◌++◌, length, IfSome};
+ghost use Rattle.std.specs.Prelude.{◌≡◌, ◌<◌, ◌≤◌, ◌++◌, length, IfSome, IsTrue, option_and_then};
+ghost use Rattle.compositions.specs.Composition.{are_types};
+ghost use Rattle.timetable.specs.Day.{type_of, types_of};
 ghost use Rattle.timetable.specs.Chains.{leads_from, leads_to};
 ghost use Rattle.timetable.specs.Handovers.{second_of};
 ghost use Rattle.timetable.specs.LinkRows.{NamesBelow};
-ghost use Rattle.timetable.specs.Links.{same, is_left_by, beyond, turn_parts_by, turn_of, turned, link_holds, given_by, taken_by, link_out, link_into, given, taken};
-ghost use Rattle.timetable.specs.Running.{IsPlan};
+ghost use Rattle.timetable.specs.Links.{list_of, turned, link_holds, given_by, taken_by, link_out, link_into, given, taken};
+ghost use Rattle.timetable.specs.Running.{IsPlan, AreUnits};
+ghost use Rattle.timetable.specs.Turns.{same, kept_of, parts_at};
 
 use crate::day::instance::Instance;
 use crate::day::plan::NamedPlan;
 use crate::day::records::{Link, LinkKind};
+use crate::day::turns::{Parts, kept_length, parts_at};
 use arrayvec::ArrayVec;
-use rail_base::{TripNo, UnitNo};
+use rail_base::limits::MOST_COMPOSITION;
+use rail_base::{TripNo, TypeNo, UnitNo};
 use rail_csv::End;
-use std::marker::Model;
 
 impl LinkKind {
     /// The trip that a link leads a chain from: its first arriving trip, the train in front.
@@ -49,94 +53,26 @@ impl LinkKind {
             LinkKind::Split { second, .. } => Some(second),
         }
     }
-}
 
-/// What becomes of the units, or types, of an arriving and a departing list. A contract sees the three lists.
-#[derive(Drop)]
-pub struct Parts<'a, T> {
-    /// Those that stay in the train.
-    pub kept: &'a [T],
-    /// Those that are given to the yard.
-    pub given: &'a [T],
-    /// Those that are taken from the yard, front to rear.
-    pub taken: &'a [T],
-}
-
-impl<'a, T> Model for Parts<'a, T> {
-    ghost use Rattle.timetable.specs.Links.{Parts};
-
-    ghost Value = { Parts T };
-
-    ghost view = { λ a. record { kept = a.kept.now; given = a.given.now; taken = a.taken.now } };
-}
-
-/// What a turn does with two lists of units, or of types, or nothing where its rule is broken. The arriving list is the one
-/// after a reversal.
-#[tactic(auto, unfolding(crate::specs::Links::turn_parts_by))]
-pub fn turn_parts<'a, T: PartialEq>(
-    uncouple: End,
-    couple: End,
-    arriving: &'a [T],
-    departing: &'a [T],
-) -> Option<Parts<'a, T>>
-    ensures parts { result ≡ turn_parts_by T.eq uncouple couple arriving.now departing.now }
-    ensures few_given { IfSome result (λ parts. length parts.given ≤ length arriving.now) }
-    ensures few_taken { IfSome result (λ parts. length parts.taken ≤ length departing.now) }
-{
-    if arriving == departing {
-        return Some(Parts {
-            kept: arriving,
-            given: &[],
-            taken: &[],
-        });
-    }
-    if is_left_of(uncouple, arriving, departing) {
-        return Some(Parts {
-            kept: departing,
-            given: beyond(uncouple, arriving, departing.len()),
-            taken: &[],
-        });
-    }
-    if is_left_of(couple, departing, arriving) {
-        return Some(Parts {
-            kept: arriving,
-            given: &[],
-            taken: beyond(couple, departing, arriving.len()),
-        });
-    }
-    None
-}
-
-/// Whether the part is what is left of the whole after one or more units went at this end, and at least one stays.
-fn is_left_of<T: PartialEq>(end: End, whole: &[T], part: &[T]) -> bool
-    ensures { result ≡ is_left_by T.eq end whole.now part.now }
-{
-    if part.is_empty() || part.len() >= whole.len() {
-        return false;
-    }
-    match end {
-        End::None => false,
-        End::Rear => &whole[..part.len()] == part,
-        End::Front => &whole[whole.len() - part.len()..] == part,
-    }
-}
-
-/// The units at this end, beyond so many that stay.
-fn beyond<'a, T>(end: End, whole: &'a [T], stay: usize) -> &'a [T]
-    requires { stay ≤ length whole.now }
-    ensures units { result.now ≡ beyond end whole.now stay }
-    ensures few { length result.now ≤ length whole.now }
-{
-    match end {
-        End::None => &[],
-        End::Rear => &whole[stay..],
-        End::Front => &whole[..whole.len() - stay],
+    /// How many units a turn keeps, by the types of the arriving list after a reversal and of the departing list: the length of
+    /// the longest list of types that fits both of its ends. Nothing where no list fits, and at a join or a split.
+    pub fn kept(&self, arriving: &[TypeNo], departing: &[TypeNo]) -> Option<usize>
+        ensures number { result ≡ kept_of self.now arriving.now departing.now }
+        ensures arriving { IfSome result (λ n. n ≤ length arriving.now) }
+        ensures departing { IfSome result (λ n. n ≤ length departing.now) }
+    {
+        match *self {
+            LinkKind::Turn {
+                uncouple, couple, ..
+            } => kept_length(uncouple, couple, arriving, departing),
+            LinkKind::Join { .. } | LinkKind::Split { .. } => None,
+        }
     }
 }
 
 /// The same entries in the same order.
-fn copy_of<T: Copy + Default + Drop>(list: &[T]) -> ArrayVec<T, 6>
-    requires { length list.now ≤ 6 }
+fn copy_of<T: Copy + Default + Drop>(list: &[T]) -> ArrayVec<T, MOST_COMPOSITION>
+    requires { length list.now ≤ MOST_COMPOSITION }
     ensures { result.items ≡ list.now }
 {
     let mut copy = ArrayVec::new();
@@ -147,8 +83,8 @@ fn copy_of<T: Copy + Default + Drop>(list: &[T]) -> ArrayVec<T, 6>
 }
 
 /// An arriving list as it stands after the train has turned round, or not.
-pub fn turned<T: Copy + Default + Drop>(reversed: bool, list: &[T]) -> ArrayVec<T, 6>
-    requires { length list.now ≤ 6 }
+pub fn turned<T: Copy + Default + Drop>(reversed: bool, list: &[T]) -> ArrayVec<T, MOST_COMPOSITION>
+    requires { length list.now ≤ MOST_COMPOSITION }
     ensures { result.items ≡ turned reversed list.now }
 {
     let mut list = copy_of(list);
@@ -156,27 +92,6 @@ pub fn turned<T: Copy + Default + Drop>(reversed: bool, list: &[T]) -> ArrayVec<
         list.reverse();
     }
     list
-}
-
-/// What a turn does with two lists of units. Where its rule is broken, nothing is kept.
-fn turn_of<'a>(
-    uncouple: End,
-    couple: End,
-    arriving: &'a [UnitNo],
-    departing: &'a [UnitNo],
-) -> Parts<'a, UnitNo>
-    ensures parts { result ≡ turn_of uncouple couple arriving.now departing.now }
-    ensures few_given { length result.given ≤ length arriving.now }
-    ensures few_taken { length result.taken ≤ length departing.now }
-{
-    match turn_parts(uncouple, couple, arriving, departing) {
-        Some(parts) => parts,
-        None => Parts {
-            kept: &[],
-            given: arriving,
-            taken: departing,
-        },
-    }
 }
 
 /// Whether the whole is the first list and then the second.
@@ -193,17 +108,51 @@ fn is_joined(first: &[UnitNo], second: &[UnitNo], whole: &[UnitNo]) -> bool
 #[derive(Drop)]
 struct YardUnits {
     /// The units that the arriving trip gives to the yard.
-    given: ArrayVec<UnitNo, 6>,
+    given: ArrayVec<UnitNo, MOST_COMPOSITION>,
     /// The units that the departing trip takes from the yard, front to rear.
-    taken: ArrayVec<UnitNo, 6>,
+    taken: ArrayVec<UnitNo, MOST_COMPOSITION>,
+}
+
+/// What becomes of units at a turn that keeps this many by their types, or nothing where its rule is broken.
+fn turn_parts<'a>(
+    uncouple: End,
+    couple: End,
+    exchange: bool,
+    kept: Option<usize>,
+    arriving: &'a [UnitNo],
+    departing: &'a [UnitNo],
+) -> Option<Parts<'a>>
+    requires arriving { IfSome kept (λ n. n ≤ length arriving.now) }
+    requires departing { IfSome kept (λ n. n ≤ length departing.now) }
+    ensures parts { result ≡ option_and_then (parts_at uncouple couple exchange arriving.now departing.now) kept }
+    ensures few_given { IfSome result (λ parts. length parts.given ≤ length arriving.now) }
+    ensures few_taken { IfSome result (λ parts. length parts.taken ≤ length departing.now) }
+{
+    let stay = kept?;
+    parts_at(uncouple, couple, exchange, arriving, departing, stay)
 }
 
 impl Link {
-    /// Whether a plan keeps the link's rule. The link's trips are among those of the plan.
+    /// How many units a plan keeps in the train at a turn, by their types. The link's trips are trips of the plan's day.
+    fn kept_on(&self, instance: &Instance, plan: &NamedPlan) -> Option<usize>
+        requires trips { NamesBelow (length instance.now.trips) self.now.kind }
+        requires plan { IsPlan instance.now plan.now }
+        ensures number { result ≡ kept_of self.now.kind (types_of instance.now (turned self.now.reverse (list_of plan.now (leads_from self.now.kind)))) (types_of instance.now (list_of plan.now (leads_to self.now.kind))) }
+        ensures arriving { IfSome result (λ n. n ≤ length (list_of plan.now (leads_from self.now.kind))) }
+        ensures departing { IfSome result (λ n. n ≤ length (list_of plan.now (leads_to self.now.kind))) }
+    {
+        let arriving = plan.types(instance, self.kind.leads_from());
+        let arriving = turned(self.reverse, arriving.as_slice());
+        let departing = plan.types(instance, self.kind.leads_to());
+        self.kind.kept(arriving.as_slice(), departing.as_slice())
+    }
+
+    /// Whether a plan keeps the link's rule. The link's trips are trips of the plan's day.
     #[tactic(auto, unfolding(crate::specs::Links::link_holds, crate::specs::Links::join_holds, crate::specs::Links::split_holds))]
-    pub fn holds(&self, plan: &NamedPlan) -> bool
-        requires { NamesBelow (length plan.now) self.now.kind }
-        ensures { result ≡ link_holds self.now plan.now }
+    pub fn holds(&self, instance: &Instance, plan: &NamedPlan) -> bool
+        requires trips { NamesBelow (length instance.now.trips) self.now.kind }
+        requires plan { IsPlan instance.now plan.now }
+        ensures { result ≡ link_holds (type_of instance.now) self.now plan.now }
     {
         match self.kind {
             LinkKind::Turn {
@@ -211,10 +160,12 @@ impl Link {
                 departing,
                 uncouple,
                 couple,
+                exchange,
             } => {
+                let kept = self.kept_on(instance, plan);
                 let arriving = turned(self.reverse, plan.units(arriving));
                 let departing = plan.units(departing);
-                turn_parts(uncouple, couple, arriving.as_slice(), departing).is_some()
+                turn_parts(uncouple, couple, exchange, kept, arriving.as_slice(), departing).is_some()
             }
             LinkKind::Join {
                 first,
@@ -240,11 +191,12 @@ impl Link {
         }
     }
 
-    /// What the link gives to the yard and takes from it: nothing at a join or a split.
-    fn yard_units(&self, plan: &NamedPlan) -> YardUnits
-        requires { NamesBelow (length plan.now) self.now.kind }
-        ensures given { result.given.items ≡ given_by self.now.kind self.now.reverse plan.now }
-        ensures taken { result.taken.items ≡ taken_by self.now.kind self.now.reverse plan.now }
+    /// What the link gives to the yard and takes from it: nothing at a join or a split, and all where the rule of a turn is broken.
+    fn yard_units(&self, instance: &Instance, plan: &NamedPlan) -> YardUnits
+        requires trips { NamesBelow (length instance.now.trips) self.now.kind }
+        requires plan { IsPlan instance.now plan.now }
+        ensures given { result.given.items ≡ given_by (type_of instance.now) self.now.kind self.now.reverse plan.now }
+        ensures taken { result.taken.items ≡ taken_by (type_of instance.now) self.now.kind self.now.reverse plan.now }
     {
         match self.kind {
             LinkKind::Turn {
@@ -252,13 +204,20 @@ impl Link {
                 departing,
                 uncouple,
                 couple,
+                exchange,
             } => {
+                let kept = self.kept_on(instance, plan);
                 let arriving = turned(self.reverse, plan.units(arriving));
                 let departing = plan.units(departing);
-                let parts = turn_of(uncouple, couple, arriving.as_slice(), departing);
-                YardUnits {
-                    given: copy_of(parts.given),
-                    taken: copy_of(parts.taken),
+                match turn_parts(uncouple, couple, exchange, kept, arriving.as_slice(), departing) {
+                    Some(parts) => YardUnits {
+                        given: copy_of(parts.given),
+                        taken: copy_of(parts.taken),
+                    },
+                    None => YardUnits {
+                        given: copy_of(arriving.as_slice()),
+                        taken: copy_of(departing),
+                    },
                 }
             }
             LinkKind::Join { .. } | LinkKind::Split { .. } => YardUnits {
@@ -270,6 +229,20 @@ impl Link {
 }
 
 impl Instance {
+    /// The types of units of the day, front to rear: at most six. It takes no memory.
+    pub fn types_of(&self, units: &[UnitNo]) -> ArrayVec<TypeNo, MOST_COMPOSITION>
+        requires known { AreUnits self.now units.now }
+        requires few { length units.now ≤ MOST_COMPOSITION }
+        ensures types { result.items ≡ types_of self.now units.now }
+        ensures known { IsTrue (are_types self.now.types result.items) }
+    {
+        let mut types = ArrayVec::new();
+        for unit in units {
+            types.push(self.unit(*unit).unit_type);
+        }
+        types
+    }
+
     /// The link that leads on from a trip, which is below `trips`, if any does.
     pub fn link_out(&self, trip: TripNo) -> Option<Link>
         requires { trip < length self.now.trips }
@@ -292,30 +265,40 @@ impl Instance {
 }
 
 impl NamedPlan {
-    /// The units that a trip of the plan's day gives to the yard where it arrives, front to rear: those that a turn uncouples,
-    /// all of them where no link leads on, and none at a join or a split.
-    #[tactic(auto, unfolding(crate::specs::Links::given))]
-    pub fn given(&self, instance: &Instance, trip: TripNo) -> ArrayVec<UnitNo, 6>
+    /// The types of the units of a trip of the plan's day, front to rear: at most six. It takes no memory.
+    pub fn types(&self, instance: &Instance, trip: TripNo) -> ArrayVec<TypeNo, MOST_COMPOSITION>
+        requires trip { trip < length instance.now.trips }
+        requires plan { IsPlan instance.now self.now }
+        ensures types { result.items ≡ types_of instance.now (list_of self.now trip) }
+        ensures known { IsTrue (are_types instance.now.types result.items) }
+    {
+        instance.types_of(self.units(trip))
+    }
+
+    /// The units that a trip of the plan's day gives to the yard where it arrives, front to rear after a reversal: those that a
+    /// turn uncouples, all of them where no link leads on or the rule of the turn is broken, and none at a join or a split.
+    #[tactic(auto, unfolding(crate::specs::Links::given_with))]
+    pub fn given(&self, instance: &Instance, trip: TripNo) -> ArrayVec<UnitNo, MOST_COMPOSITION>
         requires trip { trip < length instance.now.trips }
         requires plan { IsPlan instance.now self.now }
         ensures { result.items ≡ given instance.now self.now trip }
     {
         match instance.link_out(trip) {
-            Some(link) => link.yard_units(self).given,
+            Some(link) => link.yard_units(instance, self).given,
             None => copy_of(self.units(trip)),
         }
     }
 
     /// The units that a trip of the plan's day takes from the yard where it leaves, front to rear: those that a turn couples,
-    /// all of them where no link leads into it, and none at a join or a split.
-    #[tactic(auto, unfolding(crate::specs::Links::taken))]
-    pub fn taken(&self, instance: &Instance, trip: TripNo) -> ArrayVec<UnitNo, 6>
+    /// all of them where no link leads into it or the rule of the turn is broken, and none at a join or a split.
+    #[tactic(auto, unfolding(crate::specs::Links::taken_with))]
+    pub fn taken(&self, instance: &Instance, trip: TripNo) -> ArrayVec<UnitNo, MOST_COMPOSITION>
         requires trip { trip < length instance.now.trips }
         requires plan { IsPlan instance.now self.now }
         ensures { result.items ≡ taken instance.now self.now trip }
     {
         match instance.link_into(trip) {
-            Some(link) => link.yard_units(self).taken,
+            Some(link) => link.yard_units(instance, self).taken,
             None => copy_of(self.units(trip)),
         }
     }

@@ -1,7 +1,6 @@
-use Rattle.std.proofs.Common.{◌≡◌, ◌∙◌, sym, ap, subst, refl, Option, ℕ}
+use Rattle.std.proofs.Common.{◌∙◌, sym, ap, subst, refl}
 use Rattle.std.specs.Prelude.{option_map}
-use Rattle.timetable.specs.Links.{taken}
-use Rattle.cost_model.specs.Units.{AreUnits}
+use Rattle.timetable.specs.Running.{AreUnits}
 use Rattle.day_simulator.specs.declared.events.StepFault.TheVariants.{NotInYard}
 use Rattle.day_simulator.specs.Steps.{first_missing}
 use Rattle.day_simulator.proofs.LinkTrips.{taken_known}

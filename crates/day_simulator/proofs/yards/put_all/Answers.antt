@@ -1,5 +1,5 @@
 use Rattle.std.proofs.Common.{arith}
-use Rattle.cost_model.proofs.ListedUnits.{has_at}
+use Rattle.timetable.proofs.ListedUnits.{has_at}
 use Rattle.day_simulator.proofs.yards.put_all.Goals as goal
 
 pub put-requires : goal.put-requires

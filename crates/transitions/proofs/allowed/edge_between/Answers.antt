@@ -20,7 +20,7 @@ returns-in-Turn c = λ edge.
     let arriving = (c.may_run.ensures c.args.instance.now (leads_from c.args.link.now.kind) (c.deref.ensures.value ∙ c.requires.admitted.arriving)).0 c.if-not-may_run.false in
     let departing = (c.may_run-else-not-may_run.ensures c.args.instance.now (leads_to c.args.link.now.kind) (c.deref-else-not-may_run.ensures.value ∙ c.requires.admitted.departing)).0 c.if-not-may_run-2.false in
     subst (λ (k : LinkKind). (c.turn_edge.result ≡ Some edge) ↔ (IsKindEdge c.args.instance.now k c.args.link.now.reverse edge × IsBetween c.args.pair.now.from c.args.pair.now.to edge)) (sym c.in-Turn.is)
-    (c.turn_edge.ensures c.in-Turn.arriving c.in-Turn.departing
+    (c.turn_edge.ensures c.in-Turn.arriving c.in-Turn.departing c.in-Turn.uncouple c.in-Turn.couple c.in-Turn.exchange c.in-Turn.is
     (subst (λ (k : LinkKind). MayRun c.args.instance.now (leads_from k) c.args.pair.now.from) c.in-Turn.is arriving)
     (subst (λ (k : LinkKind). MayRun c.args.instance.now (leads_to k) c.args.pair.now.to) c.in-Turn.is departing) edge)
 

@@ -2,8 +2,9 @@
 use Rattle.std.proofs.Common.{◌≡◌, ℕ, ◌+◌, List, [], ◌∷◌, ◌++◌, sym, ap, subst, ◌∙◌}
 use Rattle.timetable.specs.Compositions.{composition_at}
 use Rattle.timetable.specs.Links.{turned}
+use Rattle.timetable.specs.Turns.{staying}
 use Rattle.transitions.specs.declared.pairs.Pair.{Pair}
-use Rattle.transitions.specs.Pairs.{left_at, IsFront, Grown}
+use Rattle.transitions.specs.Pairs.{IsFront, Grown}
 use Rattle.transitions.proofs.Numbers.{read_number}
 use Rattle.transitions.proofs.Stepping.{IsFound, front_none, front_more}
 use Rattle.transitions.proofs.pairs.add_fronts.Goals as goal
@@ -11,9 +12,9 @@ use Rattle.transitions.proofs.pairs.add_fronts.Goals.{in-Some+in_ok-push, in_def
 
 pub loop-units-preserved : goal.loop-units-preserved
 loop-units-preserved c =
-    let types : c.turned-arriving.result ≡ turned c.args.reversed (left_at c.args.end (composition_at c.args.instance.now c.args.to) (c.loop-units.units + 1)) =
-    c.turned-arriving.ensures ∙ ap (turned c.args.reversed) (c.left_at.ensures ∙ ap (λ (ms : List ℕ). left_at c.args.end ms (c.loop-units.units + 1)) (read_number c.args.instance.now c.catalogue.result.now c.args.to c.get-departing.result.now c.catalogue.ensures c.get-departing.ensures)) in
-    let found : IsFound c.args.instance.now (turned c.args.reversed (left_at c.args.end (composition_at c.args.instance.now c.args.to) (c.loop-units.units + 1))) c.number_of.result =
+    let types : c.turned-arriving.result ≡ turned c.args.reversed (staying c.args.end (composition_at c.args.instance.now c.args.to) (c.loop-units.units + 1)) =
+    c.turned-arriving.ensures ∙ ap (turned c.args.reversed) (c.left_at.ensures ∙ ap (λ (ms : List ℕ). staying c.args.end ms (c.loop-units.units + 1)) (read_number c.args.instance.now c.catalogue.result.now c.args.to c.get-departing.result.now c.catalogue.ensures c.get-departing.ensures)) in
+    let found : IsFound c.args.instance.now (turned c.args.reversed (staying c.args.end (composition_at c.args.instance.now c.args.to) (c.loop-units.units + 1))) c.number_of.result =
     subst (λ (ms : List ℕ). IsFound c.args.instance.now ms c.number_of.result) types c.number_of.ensures in
     elim c.match-number_of.branch [
       | in-Some+in_ok-push w ↦

@@ -8,29 +8,26 @@ use Rattle.rail_csv.specs.declared.rows.End.{End}
 use Rattle.timetable.specs.Chains.{leads_from, leads_to}
 use Rattle.timetable.specs.Compositions.{composition_at}
 use Rattle.transitions.specs.declared.pairs.Pair.{Pair}
-use Rattle.transitions.specs.Pairs.{IsKnown, IsFront, IsLeft, Grown, IsBeforePair}
+use Rattle.transitions.specs.Pairs.{IsKnown, IsLeft, Grown, IsBeforePair}
 use Rattle.transitions.proofs.Links.{from_listed, to_listed}
-use Rattle.transitions.proofs.Reaching.{IsFrontOn, IsLeftOn, reaches}
+use Rattle.transitions.proofs.Reaching.{IsMadeOn, IsLeftOn, reaches}
 use Rattle.transitions.proofs.Rising.{are_equal, in_order, all_there}
-use Rattle.transitions.proofs.Rows.{front_row, no_front_row, left_row, no_left_row}
+use Rattle.transitions.proofs.Rows.{made_row, no_made_row, left_row, no_left_row}
 use Rattle.transitions.proofs.pairs.pairs_of.Goals as goal
-use Rattle.transitions.proofs.pairs.pairs_of.Goals.{then-may_run+in_ok-add_fronts, else-may_run, then-may_run-2+in_ok-add_lefts, else-may_run-2}
+use Rattle.transitions.proofs.pairs.pairs_of.Goals.{then-may_run+in_ok-add_made, else-may_run, then-may_run-2+in_ok-add_lefts, else-may_run-2}
 
 pub loop-to-preserved : goal.loop-to-preserved
 loop-to-preserved c =
     let told = c.may_run.ensures c.args.instance.now (leads_to c.args.link.now.kind) (c.deref.ensures.value ∙ c.requires.departing) in
     elim c.if-may_run.branch [
-      | then-may_run+in_ok-add_fronts w ↦
-          let items : c.if-may_run.pairs.items ≡ w.add_fronts.new.pairs.items = cc w.pairs-is in
-          let row =
-          subst (λ (e : End). Grown c.args.instance.now c.loop-to.pairs.items w.add_fronts.new.pairs.items (λ pair. (pair.to ≡ c.loop-to.to) × IsFront c.args.instance.now c.args.link.now.reverse e (length (composition_at c.args.instance.now c.loop-to.to)) pair))
-          c.coupled_at-couple.ensures (w.in_ok-add_fronts.ensures) in
-          subst (λ (pairs : List Pair). Grown c.args.instance.now [] pairs (λ (pair : Pair). (pair.to < c.loop-to.to + 1) × IsFrontOn c.args.instance.now c.args.link.now.kind c.args.link.now.reverse pair)) (sym items)
-          (front_row c.args.instance.now c.args.link.now.kind c.args.link.now.reverse c.loop-to.pairs.items c.loop-to.to w.add_fronts.new.pairs.items c.loop-to.invariant row)
+      | then-may_run+in_ok-add_made w ↦
+          let items : c.if-may_run.pairs.items ≡ w.add_made.new.pairs.items = cc w.pairs-is in
+          subst (λ (pairs : List Pair). Grown c.args.instance.now [] pairs (λ (pair : Pair). (pair.to < c.loop-to.to + 1) × IsMadeOn c.args.instance.now c.args.link.now.kind c.args.link.now.reverse c.uncoupled_parts-few.result pair)) (sym items)
+          (made_row c.args.instance.now c.args.link.now.kind c.args.link.now.reverse c.uncoupled_parts-few.result c.loop-to.pairs.items c.loop-to.to w.add_made.new.pairs.items c.loop-to.invariant (w.in_ok-add_made.ensures))
       | else-may_run w ↦
           let items : c.if-may_run.pairs.items ≡ c.loop-to.pairs.items = cc w.pairs-is in
-          subst (λ (pairs : List Pair). Grown c.args.instance.now [] pairs (λ (pair : Pair). (pair.to < c.loop-to.to + 1) × IsFrontOn c.args.instance.now c.args.link.now.kind c.args.link.now.reverse pair)) (sym items)
-          (no_front_row c.args.instance.now c.args.link.now.kind c.args.link.now.reverse c.loop-to.pairs.items c.loop-to.to c.loop-to.invariant (iff_false told w.if-may_run.false))
+          subst (λ (pairs : List Pair). Grown c.args.instance.now [] pairs (λ (pair : Pair). (pair.to < c.loop-to.to + 1) × IsMadeOn c.args.instance.now c.args.link.now.kind c.args.link.now.reverse c.uncoupled_parts-few.result pair)) (sym items)
+          (no_made_row c.args.instance.now c.args.link.now.kind c.args.link.now.reverse c.uncoupled_parts-few.result c.loop-to.pairs.items c.loop-to.to c.loop-to.invariant (iff_false told w.if-may_run.false))
     ]
 
 pub loop-from-preserved : goal.loop-from-preserved
@@ -42,12 +39,12 @@ loop-from-preserved c =
           let row =
           subst (λ (e : End). Grown c.args.instance.now c.loop-from.pairs.items w.add_lefts.new.pairs.items (λ pair. (pair.from ≡ c.loop-from.from) × IsLeft c.args.instance.now c.args.link.now.reverse e (length (composition_at c.args.instance.now c.loop-from.from)) pair))
           c.uncoupled_at-uncouple.ensures (w.in_ok-add_lefts.ensures) in
-          subst (λ (pairs : List Pair). Grown c.args.instance.now [] pairs (λ (pair : Pair). IsFrontOn c.args.instance.now c.args.link.now.kind c.args.link.now.reverse pair ⊎ ((pair.from < c.loop-from.from + 1) × IsLeftOn c.args.instance.now c.args.link.now.kind c.args.link.now.reverse pair))) (sym items)
-          (left_row c.args.instance.now c.args.link.now.kind c.args.link.now.reverse c.loop-from.pairs.items c.loop-from.from w.add_lefts.new.pairs.items c.loop-from.invariant row)
+          subst (λ (pairs : List Pair). Grown c.args.instance.now [] pairs (λ (pair : Pair). IsMadeOn c.args.instance.now c.args.link.now.kind c.args.link.now.reverse c.uncoupled_parts-few.result pair ⊎ ((pair.from < c.loop-from.from + 1) × IsLeftOn c.args.instance.now c.args.link.now.kind c.args.link.now.reverse pair))) (sym items)
+          (left_row c.args.instance.now c.args.link.now.kind c.args.link.now.reverse c.uncoupled_parts-few.result c.loop-from.pairs.items c.loop-from.from w.add_lefts.new.pairs.items c.loop-from.invariant row)
       | else-may_run-2 w ↦
           let items : c.if-may_run-2.pairs.items ≡ c.loop-from.pairs.items = cc w.pairs-is in
-          subst (λ (pairs : List Pair). Grown c.args.instance.now [] pairs (λ (pair : Pair). IsFrontOn c.args.instance.now c.args.link.now.kind c.args.link.now.reverse pair ⊎ ((pair.from < c.loop-from.from + 1) × IsLeftOn c.args.instance.now c.args.link.now.kind c.args.link.now.reverse pair))) (sym items)
-          (no_left_row c.args.instance.now c.args.link.now.kind c.args.link.now.reverse c.loop-from.pairs.items c.loop-from.from c.loop-from.invariant (iff_false told w.if-may_run-2.false))
+          subst (λ (pairs : List Pair). Grown c.args.instance.now [] pairs (λ (pair : Pair). IsMadeOn c.args.instance.now c.args.link.now.kind c.args.link.now.reverse c.uncoupled_parts-few.result pair ⊎ ((pair.from < c.loop-from.from + 1) × IsLeftOn c.args.instance.now c.args.link.now.kind c.args.link.now.reverse pair))) (sym items)
+          (no_left_row c.args.instance.now c.args.link.now.kind c.args.link.now.reverse c.uncoupled_parts-few.result c.loop-from.pairs.items c.loop-from.from c.loop-from.invariant (iff_false told w.if-may_run-2.false))
     ]
 
 pub returns-clause-edges : goal.returns-clause-edges
@@ -57,7 +54,7 @@ returns-clause-edges c = λ edge allowed.
     let sorted =
     Contains-permutation c.loop-from.pairs.items c.sort_unstable.new.self.items (record { from = edge.from; to = edge.to }) c.sort_unstable.ensures.permutation
     (c.loop-from.invariant.adds (record { from = edge.from; to = edge.to }) (record { from = from_below; to = to_below })
-    (elim (reaches c.args.instance.now c.args.link.now.kind c.args.link.now.reverse edge allowed) [ inl front ↦ inl front | inr left ↦ inr (omega (arith, from_below, c.len-from-end.ensures.value, ap length c.catalogue-2.ensures, c.loop-from-test.false), left) ])) in
+    (elim (reaches c.args.instance.now c.args.link.now.kind c.args.link.now.reverse c.uncoupled_parts-few.result c.uncoupled_parts-few.ensures edge allowed) [ inl made ↦ inl made | inr left ↦ inr (omega (arith, from_below, c.len-from-end.ensures.value, ap length c.catalogue-2.ensures, c.loop-from-test.false), left) ])) in
     subst (λ (pairs : List Pair). Contains pairs (record { from = edge.from; to = edge.to })) (sym (dedup_is are_equal c.sort_unstable.new.self.items c.dedup.new.self.items c.dedup.ensures.filtered))
     (all_there c.sort_unstable.new.self.items (record { from = edge.from; to = edge.to }) sorted)
 

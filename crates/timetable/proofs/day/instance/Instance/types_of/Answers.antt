@@ -1,15 +1,15 @@
 use Rattle.std.proofs.Common.{◌≡◌, ◌∙◌, ap, sym, suc, ◌++◌, ◌∷◌, [], length, true, ltb, List, ℕ, refl}
 use Rattle.std.proofs.lemmas.Bool.{le-leb, and_from}
 use Rattle.std.proofs.lemmas.List.Folds.{list_all-append}
-use Rattle.cost_model.proofs.ListedUnits.{unit_at, types_more}
-use Rattle.cost_model.proofs.units.types_of.Goals as goal
+use Rattle.timetable.proofs.ListedUnits.{unit_at, types_more}
+use Rattle.timetable.proofs.day.instance.Instance.types_of.Goals as goal
 
 pub unit-requires : goal.unit-requires
-unit-requires c = unit_at c.args.instance.now c.args.units.now c.loop-unit.unit-index c.unit-item.result c.requires.known c.loop-unit-test.true c.unit-item.is
+unit-requires c = unit_at c.args.self.now c.args.units.now c.loop-unit.unit-index c.unit-item.result c.requires.known c.loop-unit-test.true c.unit-item.is
 
 pub loop-unit-preserved : goal.loop-unit-preserved
 loop-unit-preserved c =
-    let day = c.args.instance.now in
+    let day = c.args.self.now in
     let types = c.loop-unit.types.items in
     let next = c.unit.result.unit_type in
     let more = types_more day c.args.units.now c.loop-unit.unit-index c.unit-item.result c.unit.result c.loop-unit-test.true c.unit-item.is c.unit.ensures.value in

@@ -4,13 +4,12 @@ use Rattle.std.specs.Prelude.{option_map}
 use Rattle.std.proofs.lemmas.Bool.Decides.{nat_tests}
 use Rattle.std.proofs.lemmas.Bool.{le-leb, leb-true, and_from}
 use Rattle.compositions.specs.Composition.{are_types}
-use Rattle.timetable.specs.Accepted.{IsDay}
 use Rattle.std.proofs.lemmas.List.{take_more, map-append}
 use Rattle.timetable.specs.declared.day.records.Unit as unit
 use Rattle.timetable.specs.Links.{list_of}
 use Rattle.timetable.specs.Lists.{count_of, has}
 use Rattle.timetable.specs.Day.{Day, units_of, type_of, types_of, unit_count}
-use Rattle.cost_model.specs.Units.{AreUnits}
+use Rattle.timetable.specs.Running.{AreUnits}
 
 count_at : (us : List ℕ) (k d : ℕ) → k < length us → 1 ≤ count_of (get_or us k d) us
 count_at [] k d h = absurd (omega arith)

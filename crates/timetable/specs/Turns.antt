@@ -1,0 +1,117 @@
+-- The rule of a turn: which units stay in the train. A turn may uncouple units at one end and couple others at one end. Which
+-- places of the two lists stay is read off the types; that the same units stand there is the rule.
+use Rattle.std.specs.Prelude.{ℕ, zero, suc, ◌-◌, ◌≡◌, ◌≤◌, List, [], ◌++◌, length, take, drop, map, Bool, ◌&&◌, ◌||◌, ◌==◌, if◌then◌else◌, nat_le, Option, Some, None, option_and_then, unwrap_or, MatchOption}
+use Rattle.std.specs.Str.{bytes_eq}
+use Rattle.rail_csv.specs.declared.rows.End.{End}
+use Rattle.rail_csv.specs.declared.rows.End.TheVariants as at
+use Rattle.timetable.specs.declared.day.records.LinkKind.{LinkKind}
+use Rattle.timetable.specs.declared.day.records.LinkKind.TheVariants.{Turn, Join, Split}
+
+-- ---- what a turn keeps
+
+-- the part is what a list is without some of it at this end: the front of it where its rear may go, the rear of it where its
+-- front may, and all of it where neither may
+abbrev pub IsWithout : End → List ℕ → List ℕ → Type 0
+IsWithout at.None whole part = part ≡ whole
+IsWithout at.Rear whole part = (gone : List ℕ) × (part ++ gone ≡ whole)
+IsWithout at.Front whole part = (gone : List ℕ) × (gone ++ part ≡ whole)
+
+-- A list of types fits a turn from arriving to departing types: it is not empty, it is what is left of the arriving types after
+-- the uncoupling end lost none or more, and the departing types are it with none or more at the coupling end.
+pub record Fits (uncouple couple : End) (arriving departing types : List ℕ) : Type 0 where
+  pub some : 1 ≤ length types
+  pub uncoupled : IsWithout uncouple arriving types
+  pub coupled : IsWithout couple departing types
+
+-- the kept list of a turn: the longest list of types that fits
+pub record IsKeptList (uncouple couple : End) (arriving departing types : List ℕ) : Type 0 where
+  pub fits : Fits uncouple couple arriving departing types
+  pub longest : (other : List ℕ) → Fits uncouple couple arriving departing other → length other ≤ length types
+
+-- ---- the same by numbers: how many stay
+
+-- two lists are one
+abbrev pub same : List ℕ → List ℕ → Bool
+same = bytes_eq
+
+-- so many may stay of so many, when units go at this end
+abbrev pub may_stay : End → ℕ → ℕ → Bool
+may_stay at.None whole n = n == whole
+may_stay at.Rear whole n = nat_le n whole
+may_stay at.Front whole n = nat_le n whole
+
+-- what stays of a list, when all but so many go at this end
+abbrev pub staying : {X : Type 0} → End → List X → ℕ → List X
+staying at.None whole n = whole
+staying at.Rear whole n = take n whole
+staying at.Front whole n = drop (length whole - n) whole
+
+-- what goes
+abbrev pub beyond : {X : Type 0} → End → List X → ℕ → List X
+beyond at.None whole n = []
+beyond at.Rear whole n = drop n whole
+beyond at.Front whole n = take (length whole - n) whole
+
+-- whether a list of so many types fits
+abbrev pub fits_at : End → End → List ℕ → List ℕ → ℕ → Bool
+fits_at uncouple couple arriving departing n =
+    may_stay uncouple (length arriving) n && may_stay couple (length departing) n && same (staying uncouple arriving n) (staying couple departing n)
+
+-- the greatest number from a bound down to 1 that passes a test
+abbrev pub greatest : (ℕ → Bool) → ℕ → Option ℕ
+greatest test zero = None
+greatest test (suc n) = if test (suc n) then Some (suc n) else greatest test n
+
+-- how many units a turn keeps, by types: the length of the kept list, and nothing where no list fits
+unfoldable pub kept_length : End → End → List ℕ → List ℕ → Option ℕ
+kept_length uncouple couple arriving departing = greatest (fits_at uncouple couple arriving departing) (length arriving)
+
+-- the same, and none where no list fits
+abbrev pub kept_count : End → End → List ℕ → List ℕ → ℕ
+kept_count uncouple couple arriving departing = unwrap_or (kept_length uncouple couple arriving departing) 0
+
+-- the same of a link, by its ends; a join and a split keep no such list
+abbrev pub kept_of : LinkKind → List ℕ → List ℕ → Option ℕ
+kept_of (Turn a b uncouple couple exchange) arriving departing = kept_length uncouple couple arriving departing
+kept_of (Join a1 a2 b) arriving departing = None
+kept_of (Split a b1 b2) arriving departing = None
+
+-- so many are kept: as long is the kept list, or nothing where no list fits
+abbrev pub IsKeptCount : End → End → List ℕ → List ℕ → Option ℕ → Type 0
+IsKeptCount uncouple couple arriving departing kept =
+    MatchOption kept ((types : List ℕ) → ¬ Fits uncouple couple arriving departing types)
+    (λ n. (types : List ℕ) × IsKeptList uncouple couple arriving departing types × (length types ≡ n))
+
+abbrev pub IsKept : LinkKind → List ℕ → List ℕ → Option ℕ → Type 0
+IsKept (Turn a b uncouple couple exchange) arriving departing kept = IsKeptCount uncouple couple arriving departing kept
+IsKept (Join a1 a2 b) arriving departing kept = kept ≡ None
+IsKept (Split a b1 b2) arriving departing kept = kept ≡ None
+
+-- ---- the rule
+
+-- a hand-over of units at a turn: what stays in the train, what is given to the yard, what is taken from it
+pub record Parts : Type 0 where
+  pub kept : List ℕ
+  pub given : List ℕ
+  pub taken : List ℕ
+
+-- how many units a turn with exchange may uncouple, and how many it may couple
+abbrev pub most_exchanged : ℕ
+most_exchanged = 2
+
+-- a turn may take so many off and put so many on: nothing on one of the two sides, or, with exchange, few on both
+abbrev pub may_shunt : Bool → ℕ → ℕ → Bool
+may_shunt exchange off on = off == 0 || on == 0 || (exchange && nat_le off most_exchanged && nat_le on most_exchanged)
+
+-- the parts of a turn that keeps so many: none where other units stand at the kept places, or where too many are shunted
+abbrev pub parts_at : End → End → Bool → List ℕ → List ℕ → ℕ → Option Parts
+parts_at uncouple couple exchange arriving departing n =
+    if same (staying uncouple arriving n) (staying couple departing n) && may_shunt exchange (length arriving - n) (length departing - n)
+    then Some (record { kept = staying uncouple arriving n; given = beyond uncouple arriving n; taken = beyond couple departing n })
+    else None
+
+-- The parts of a turn, of units whose types are told by a function (of types, by the one that changes nothing), or nothing where
+-- its rule is broken. The arriving list is the one after a reversal.
+unfoldable pub turn_parts : (ℕ → ℕ) → End → End → Bool → List ℕ → List ℕ → Option Parts
+turn_parts type_of uncouple couple exchange arriving departing =
+    option_and_then (parts_at uncouple couple exchange arriving departing) (kept_length uncouple couple (map type_of arriving) (map type_of departing))

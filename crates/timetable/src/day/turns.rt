@@ -1,0 +1,146 @@
+//! What a turn keeps of an arriving train, by the types of its units, and which units it gives to the yard and takes from it.
+
+ghost use Rattle.std.specs.Prelude.{◌≡◌, ◌≤◌, ◌-◌, length, map, IfSome, IsTrue};
+ghost use Rattle.timetable.specs.Turns.{may_stay, staying, beyond, fits_at, greatest, kept_length, may_shunt, parts_at};
+
+use rail_base::{TypeNo, UnitNo};
+use rail_csv::End;
+use std::marker::Model;
+
+/// How many units a turn may uncouple, and how many it may couple, where it does both.
+pub const MOST_EXCHANGED: usize = 2;
+
+/// How many units a turn keeps, by the types of the arriving list after a reversal and of the departing list: the length of
+/// the longest list of types that is left of the arriving list after none or more were uncoupled at the one end, and that becomes the
+/// departing list when none or more are coupled at the other. Nothing where no list of one type or more is so.
+#[tactic(auto, unfolding(crate::specs::Turns::kept_length))]
+pub(crate) fn kept_length(
+    uncouple: End,
+    couple: End,
+    arriving: &[TypeNo],
+    departing: &[TypeNo],
+) -> Option<usize>
+    ensures number { result ≡ kept_length uncouple couple arriving.now departing.now }
+    ensures arriving { IfSome result (λ n. n ≤ length arriving.now) }
+    ensures departing { IfSome result (λ n. n ≤ length departing.now) }
+{
+    let mut stay = arriving.len();
+    while stay > 0 {
+        if fits_at(uncouple, couple, arriving, departing, stay) {
+            return Some(stay);
+        }
+        stay -= 1;
+    }
+    None
+}
+
+/// Whether a list of so many types fits a turn.
+fn fits_at(
+    uncouple: End,
+    couple: End,
+    arriving: &[TypeNo],
+    departing: &[TypeNo],
+    stay: usize,
+) -> bool
+    ensures { result ≡ fits_at uncouple couple arriving.now departing.now stay }
+{
+    if !may_stay(uncouple, arriving.len(), stay) {
+        return false;
+    }
+    if !may_stay(couple, departing.len(), stay) {
+        return false;
+    }
+    staying(uncouple, arriving, stay) == staying(couple, departing, stay)
+}
+
+/// Whether so many may stay of so many when units go at this end.
+fn may_stay(end: End, whole: usize, stay: usize) -> bool
+    ensures number { result ≡ may_stay end whole stay }
+    ensures within { IsTrue result → stay ≤ whole }
+{
+    match end {
+        End::None => stay == whole,
+        End::Front | End::Rear => stay <= whole,
+    }
+}
+
+/// What stays of a list when all but so many go at this end.
+fn staying<T>(end: End, whole: &[T], stay: usize) -> &[T]
+    requires { stay ≤ length whole.now }
+    ensures { result.now ≡ staying end whole.now stay }
+{
+    match end {
+        End::None => whole,
+        End::Rear => &whole[..stay],
+        End::Front => &whole[whole.len() - stay..],
+    }
+}
+
+/// What goes of a list at this end when so many stay.
+fn beyond<T>(end: End, whole: &[T], stay: usize) -> &[T]
+    requires { stay ≤ length whole.now }
+    ensures units { result.now ≡ beyond end whole.now stay }
+    ensures few { length result.now ≤ length whole.now }
+{
+    match end {
+        End::None => &[],
+        End::Rear => &whole[stay..],
+        End::Front => &whole[..whole.len() - stay],
+    }
+}
+
+/// Whether a turn may take so many units off and put so many on: it does one of the two, or, with exchange, few of both.
+pub fn may_shunt(exchange: bool, off: usize, on: usize) -> bool
+    ensures { result ≡ may_shunt exchange off on }
+{
+    off == 0 || on == 0 || (exchange && off <= MOST_EXCHANGED && on <= MOST_EXCHANGED)
+}
+
+/// What becomes of the units of an arriving and a departing list. A contract sees the three lists.
+#[derive(Drop)]
+pub(crate) struct Parts<'a> {
+    /// The units that stay in the train.
+    pub(crate) kept: &'a [UnitNo],
+    /// The units that are given to the yard.
+    pub(crate) given: &'a [UnitNo],
+    /// The units that are taken from the yard, front to rear.
+    pub(crate) taken: &'a [UnitNo],
+}
+
+impl<'a> Model for Parts<'a> {
+    ghost use Rattle.timetable.specs.Turns.{Parts};
+
+    ghost Value = { Parts };
+
+    ghost view = { λ a. record { kept = a.kept.now; given = a.given.now; taken = a.taken.now } };
+}
+
+/// What becomes of units at a turn that keeps so many, or nothing where other units stand at the kept places or where more are
+/// shunted than may be. The arriving list is the one after a reversal.
+pub(crate) fn parts_at<'a>(
+    uncouple: End,
+    couple: End,
+    exchange: bool,
+    arriving: &'a [UnitNo],
+    departing: &'a [UnitNo],
+    stay: usize,
+) -> Option<Parts<'a>>
+    requires arriving { stay ≤ length arriving.now }
+    requires departing { stay ≤ length departing.now }
+    ensures parts { result ≡ parts_at uncouple couple exchange arriving.now departing.now stay }
+    ensures few_given { IfSome result (λ parts. length parts.given ≤ length arriving.now) }
+    ensures few_taken { IfSome result (λ parts. length parts.taken ≤ length departing.now) }
+{
+    let kept = staying(uncouple, arriving, stay);
+    if kept != staying(couple, departing, stay) {
+        return None;
+    }
+    if !may_shunt(exchange, arriving.len() - stay, departing.len() - stay) {
+        return None;
+    }
+    Some(Parts {
+        kept,
+        given: beyond(uncouple, arriving, stay),
+        taken: beyond(couple, departing, stay),
+    })
+}

@@ -1,0 +1,92 @@
+//! Turns that uncouple units at one end and couple others at one end: days whose links are of the second version.
+
+use crate::day::{Day, base_day, expect_document, two_types};
+use std::test::Fail;
+
+/// The day of a turn that turns round and exchanges a unit of the one type for one of the other at the rear.
+fn exchange_at_the_rear() -> Day<'static> {
+    Day {
+        stock: Some("station,type,start,end\nX,A,1,0\nX,B,1,2\nY,A,0,1\nY,B,1,0\n"),
+        trips: Some(
+            "trip,from,departure,to,arrival,km,demand\nT1,X,08:00,Y,09:00,10,300\nT2,Y,09:10,X,10:10,10,200\n",
+        ),
+        links: Some(
+            "kind,arriving,arriving2,departing,departing2,reverse,uncouple,couple,exchange\nturn,T1,,T2,,yes,rear,rear,yes\n",
+        ),
+        plan: Some("trip,units\nT1,0 1\nT2,1 2\n"),
+        ..two_types()
+    }
+}
+
+/// The day of a turn that uncouples a unit in front and couples the same unit at the rear, once it is ready.
+fn taken_again(trips: &str) -> Day {
+    Day {
+        stock: Some("station,type,start,end\nX,A,1,1\nX,B,1,1\n"),
+        trips: Some(trips),
+        links: Some(
+            "kind,arriving,arriving2,departing,departing2,reverse,uncouple,couple,exchange\nturn,T1,,T2,,no,front,rear,yes\n",
+        ),
+        plan: Some("trip,units\nT1,0 1\nT2,1 0\n"),
+        ..two_types()
+    }
+}
+
+#[test]
+fn a_turn_exchanges_units(rt: HostRuntime) -> Result<(), Fail> {
+    let alloc = rt.alloc();
+    expect_document(&rt, alloc, &exchange_at_the_rear(), 0, "runs 190\n")?;
+    let without = Day {
+        links: Some(
+            "kind,arriving,arriving2,departing,departing2,reverse,uncouple,couple,exchange\nturn,T1,,T2,,yes,rear,rear,no\n",
+        ),
+        ..exchange_at_the_rear()
+    };
+    expect_document(&rt, alloc, &without, 1, "stops: link 0 is broken\n")?;
+    Ok(())
+}
+
+#[test]
+fn a_unit_is_given_and_taken_again(rt: HostRuntime) -> Result<(), Fail> {
+    let alloc = rt.alloc();
+    let ready = taken_again(
+        "trip,from,departure,to,arrival,km,demand\nT1,X,08:00,Y,09:00,10,300\nT2,Y,09:30,X,10:30,10,150\n",
+    );
+    expect_document(&rt, alloc, &ready, 0, "runs 200\n")?;
+    let a_minute_early = taken_again(
+        "trip,from,departure,to,arrival,km,demand\nT1,X,08:00,Y,09:00,10,300\nT2,Y,09:29,X,10:30,10,150\n",
+    );
+    let stops = "stops: unit 0 is not ready for trip 1\n";
+    expect_document(&rt, alloc, &a_minute_early, 1, stops)?;
+    Ok(())
+}
+
+#[test]
+fn an_exchange_has_two_ends(rt: HostRuntime) -> Result<(), Fail> {
+    let alloc = rt.alloc();
+    let cases = [
+        (
+            "kind,arriving,arriving2,departing,departing2,reverse,uncouple,couple,exchange\nturn,T1,,T2,,yes,none,rear,yes\n",
+            "refused links.csv: row 1: fields do not fit the kind\n",
+        ),
+        (
+            "kind,arriving,arriving2,departing,departing2,reverse,uncouple,couple,exchange\nturn,T1,,T2,,yes,rear,none,yes\n",
+            "refused links.csv: row 1: fields do not fit the kind\n",
+        ),
+        (
+            "kind,arriving,arriving2,departing,departing2,reverse,uncouple,couple,exchange\nturn,T1,,T2,,yes,rear,rear,perhaps\n",
+            "refused links.csv: row 1, column exchange: not a word of this column\n",
+        ),
+        (
+            "kind,arriving,arriving2,departing,departing2,reverse,uncouple,couple,exchange\nturn,T1,,T2,,yes,rear,none\n",
+            "refused links.csv: row 1 has 8 fields\n",
+        ),
+    ];
+    for (links, line) in cases {
+        let day = Day {
+            links: Some(links),
+            ..base_day()
+        };
+        expect_document(&rt, alloc, &day, 3, line)?;
+    }
+    Ok(())
+}
