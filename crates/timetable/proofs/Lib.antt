@@ -26,6 +26,7 @@ pub mod Leading
 pub mod WholeChains
 pub mod SameChains
 pub mod Handovers
+pub mod Deciding
 pub mod Turning
 pub mod PlainTurns
 pub mod ListedUnits

@@ -26,6 +26,8 @@ pub mod Refusals
 -- what is known of accepted days and entries
 pub mod Accepted
 pub mod Within
+-- what is so of every day, table and plan
+pub mod Laws
 -- the inside of an instance, and of the building of one
 pub mod LinkTables
 pub mod Holding

@@ -3,6 +3,7 @@
 
 pub mod building;
 pub mod day;
+pub mod laws;
 
 pub use building::refusal::{InstanceRefusal, PlanRefusal};
 pub use building::tables::{Rows, Tables};

@@ -1,0 +1,31 @@
+-- Which tables make a day and which rows make a plan, decided by tests in their order; and that a day's chains are no others.
+use Rattle.std.specs.Prelude.{ℕ, ◌≡◌, ◌↔◌, List, Result, Ok, Err, IsOk}
+use Rattle.rail_csv.specs.declared.rows.PlanRow.{PlanRow}
+use Rattle.timetable.specs.declared.building.tables.Tables.{Tables}
+use Rattle.timetable.specs.Accepted.{AreLinks}
+use Rattle.timetable.specs.Build.{day_of}
+use Rattle.timetable.specs.Chains.{AreChains}
+use Rattle.timetable.specs.Day.{Day}
+use Rattle.timetable.specs.Meaning.{IsDayOf}
+use Rattle.timetable.specs.Plans.{plan_of, plan_tests, IsPlanOf}
+use Rattle.timetable.specs.Refusals.{day_tests}
+use Rattle.timetable.specs.Tests.{Test, NoneFailed, IsFirstFailed}
+
+-- something is made exactly where no test failed, and is refused exactly for the first that did
+pub record IsDecided {X E : Type 0} (made : Result X E) (tests : List (Test E)) : Type 0 where
+  pub passed : IsOk made ↔ NoneFailed tests
+  pub refused : (refusal : E) → (made ≡ Err refusal) ↔ IsFirstFailed tests refusal
+
+-- the day that tables make
+pub record DaysAreMade : Type 0 where
+  pub decided : (tables : Tables) → IsDecided (day_of tables) (day_tests tables)
+  pub meaning : (tables : Tables) (day : Day) → day_of tables ≡ Ok day → IsDayOf tables day
+
+-- the plan of a day that rows make
+pub record PlansAreMade : Type 0 where
+  pub decided : (day : Day) (rows : List PlanRow) → IsDecided (plan_of day rows) (plan_tests day rows)
+  pub meaning : (day : Day) (rows : List PlanRow) (plan : List (List ℕ)) → plan_of day rows ≡ Ok plan → IsPlanOf day rows plan
+
+-- two lists that are the chains of a day are one
+abbrev pub ChainsAreOne : Type 0
+ChainsAreOne = (day : Day) (some others : List (List ℕ)) → AreLinks day → AreChains day some → AreChains day others → some ≡ others
