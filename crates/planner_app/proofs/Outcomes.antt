@@ -17,6 +17,7 @@ pub no_inputs : {F : Type 0} (holds : F → Option Files) (may_fail : F → List
     → IsCaused may_fail faults taken dir before after error → IsOutcome holds may_fail faults taken words before after (NoInputs error)
 no_inputs holds may_fail faults taken words before after dir named error told caused = record {
   told = λ files tells. says error files (told files tells);
+  sound = tt;
   usage = (λ e. absurd cc, λ none. absurd (never none));
   caused = λ other e. (dir, named, subst (λ w. IsCaused may_fail faults taken dir before after w) (same other e) caused);
 }

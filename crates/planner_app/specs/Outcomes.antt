@@ -45,12 +45,20 @@ Says words files (NoInputs (Refused why)) = RefusedFor words files why
 Says words files (NoInputs (CannotRead table)) = (dir : List ℕ) × (folder_of words ≡ Some dir) × Reaches files dir table
 Says words files (NoInputs NoMemory) = ⊤
 
+-- what an outcome says whatever the files are: a cost is never negative, and a plan stops for a cause of its own
+abbrev pub IsSound : Outcome → Type 0
+IsSound (Runs money) = (cost : ℕ) × IsCost cost money
+IsSound (Stops fault) = IsInTurn fault
+IsSound Usage = ⊤
+IsSound (NoInputs error) = ⊤
+
 -- An outcome of a run, from a folder before it to the same folder after it. Where the folder tells what it holds, the outcome is
--- what the files say. Whether or not it tells, the words alone decide whether they are understood, and what an error is caused
--- by is seen in the counts of the folder.
+-- what the files say. Whether or not it tells, a cost and a fault are such as a day can have, the words alone decide whether they are
+-- understood, and what an error is caused by is seen in the counts of the folder.
 pub record IsOutcome {F : Type 0} (holds : F → Option Files) (may_fail : F → List ℕ → Bool) (faults taken : F → ℕ)
     (words : List (List ℕ)) (before after : F) (outcome : Outcome) : Type 0 where
   pub told : (files : Files) → holds before ≡ Some files → Says words files outcome
+  pub sound : IsSound outcome
   pub usage : (outcome ≡ Usage) ↔ (folder_of words ≡ None)
   pub caused : (error : ReadError) → outcome ≡ NoInputs error
       → (dir : List ℕ) × (folder_of words ≡ Some dir) × IsCaused may_fail faults taken dir before after error

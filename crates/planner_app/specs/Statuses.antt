@@ -24,7 +24,7 @@ StopsIn words files = (inputs : Inputs) × Accepted words files inputs × ¬ (Pl
 abbrev pub IsRefusedIn : List (List ℕ) → Files → Type 0
 IsRefusedIn words files = (why : Refusal) × RefusedFor words files why
 
--- no read and no write failed, and memory didn't run out
+-- the status says of no read and no write that it failed, and not that memory ran out
 abbrev pub IsUndisturbed : ℕ → Type 0
 IsUndisturbed status = (status ≢ 5) × (status ≢ 6) × (status ≢ 7)
 

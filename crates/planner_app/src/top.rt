@@ -55,15 +55,15 @@ fn write_outcome<K: Sink>(alloc: Global, outcome: &Outcome, out: &mut K) -> u8
 /// | 1 | exactly where the files are accepted and the plan doesn't run | `stops:` and the first fault of the day |
 /// | 2 | exactly where the words are no such command | `usage` |
 /// | 3 | exactly where a file is refused | `refused`, the first such file and why |
-/// | 5 | only where a read failed in this call | `cannot read` and the file, one that is reached and may fail |
-/// | 6 | only where a write failed in this call | a front of the document, and not all of it |
+/// | 5 | only where the count of failed reads rose in this call | `cannot read` and the file, one that is reached and may fail |
+/// | 6 | only where the count of failed writes rose in this call | a front of the document, and not all of it |
 /// | 7 | want of memory | nothing was written |
 ///
 /// Each "exactly where" yields to statuses 5, 6 and 7. What is said of the files holds where the folder tells what it
 /// holds, and what is said of the document where the sink tells what was written.
 #[tactic(auto, using(crate::proofs::Statuses::unread_rose))]
 pub fn railplan<F: Folder, K: Sink>(alloc: Global, words: &Words, folder: &mut F, out: &mut K) -> u8
-    // The statuses of words and files, where no read and no write failed and memory didn't run out.
+    // The statuses of words and files, where the status is none of 5, 6 and 7.
     ensures runs { (files : Files) → F.holds folder.old ≡ Some files → IsUndisturbed result → (result ≡ 0) ↔ RunsIn words.now files }
     ensures stops { (files : Files) → F.holds folder.old ≡ Some files → IsUndisturbed result → (result ≡ 1) ↔ StopsIn words.now files }
     ensures usage { IsUndisturbed result → (result ≡ 2) ↔ (folder_of words.now ≡ None) }
