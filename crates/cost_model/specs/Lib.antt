@@ -1,4 +1,3 @@
-pub mod Picking
 pub mod Leading
 pub mod Sums
 pub mod WithoutExchange

@@ -11,6 +11,7 @@ pub mod Links
 pub mod Duties
 pub mod Running
 pub mod Cost
+pub mod Picking
 -- its chains and hand-overs
 pub mod Chains
 pub mod Handovers
