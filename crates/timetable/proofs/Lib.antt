@@ -31,3 +31,5 @@ pub mod Turning
 pub mod PlainTurns
 pub mod ListedUnits
 pub mod TurnOn
+pub mod Minutes
+pub mod Listing

@@ -1,4 +1,5 @@
--- What an instance holds: the parts of a day, its units as one list, its catalogue, the links by trip, its chains and its hand-overs.
+-- What an instance holds: the parts of a day, its units as one list, its catalogue, the links by trip, its chains
+-- and hand-overs, and the departure minutes by station.
 use Rattle.std.specs.Prelude.{◌≡◌, length}
 use Rattle.compositions.specs.Catalogue.{catalogue_of}
 use Rattle.timetable.specs.declared.day.instance.Instance.TheInside.{Inside}
@@ -9,6 +10,8 @@ use Rattle.timetable.specs.Compositions.{greatest_in}
 use Rattle.timetable.specs.Handovers.{handovers_of}
 use Rattle.timetable.specs.Links.{arriving_in, departing_in}
 use Rattle.timetable.specs.LinkTables.{link_table}
+use Rattle.timetable.specs.Lists.{listed}
+use Rattle.timetable.specs.Minutes.{minutes_of}
 use Rattle.timetable.specs.Within.{IsWithin}
 
 abbrev pub day_in : Inside → Day
@@ -25,3 +28,4 @@ pub record Holds (a : Inside) : Type 0 where
   pub catalogue : a.catalogue ≡ catalogue_of a.types (greatest_in a.stations.items)
   pub chains : a.chains.items ≡ chains_of (day_in a)
   pub handovers : a.handovers.items ≡ handovers_of (day_in a)
+  pub minutes : a.minutes.items ≡ listed (minutes_of (day_in a)) (length a.stations.items)

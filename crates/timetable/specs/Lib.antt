@@ -15,6 +15,8 @@ pub mod Picking
 -- its chains and hand-overs
 pub mod Chains
 pub mod Handovers
+-- the departure minutes of its stations
+pub mod Minutes
 -- which tables make a day, and which rows make a plan
 pub mod Rowwise
 pub mod Tests

@@ -23,6 +23,16 @@ abbrev pub below : ℕ → List ℕ
 below zero = []
 below (suc n) = below n ++ n ∷ []
 
+-- what f gives of each number below a bound, in order
+abbrev pub listed : {X : Type 0} → (ℕ → X) → ℕ → List X
+listed f zero = []
+listed f (suc n) = listed f n ++ f n ∷ []
+
+-- the lists that f gives of the numbers below a bound, one after another
+abbrev pub joined : {X : Type 0} → (ℕ → List X) → ℕ → List X
+joined f zero = []
+joined f (suc n) = joined f n ++ f n
+
 -- the sum of f over the numbers below a bound
 abbrev pub sum_below : (ℕ → ℕ) → ℕ → ℕ
 sum_below f zero = 0

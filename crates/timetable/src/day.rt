@@ -3,6 +3,7 @@
 pub(crate) mod chains;
 pub mod instance;
 pub(crate) mod link_tables;
+pub(crate) mod minutes;
 pub mod picks;
 pub mod plan;
 pub mod records;

@@ -13,6 +13,7 @@ ghost use Rattle.timetable.specs.Day.{units_of, units_in, unit_count, wanted_in,
 ghost use Rattle.timetable.specs.Handovers.{handovers_of, IsHandover, AreHandovers};
 ghost use Rattle.timetable.specs.Links.{incoming, outgoing};
 ghost use Rattle.timetable.specs.Meaning.{IsDayOf};
+ghost use Rattle.timetable.specs.Minutes.{minutes_of, AreMinutes};
 ghost use Rattle.timetable.specs.Refusals.{day_tests};
 ghost use Rattle.timetable.specs.Starts.{start_in, start_of};
 ghost use Rattle.timetable.specs.Tests.{NoneFailed, IsFirstFailed};
@@ -26,10 +27,13 @@ use crate::building::link_rows::links_of;
 use crate::building::refusal::InstanceRefusal;
 use crate::building::tables::Tables;
 use crate::day::chains::{Chain, linking_of};
+use crate::day::minutes::{Minutes, minutes_of};
 use crate::day::records::{Handover, Link, Station, Stock, Trip, Unit, Weights};
 use compositions::{Catalogue, UnitTypes};
-use rail_base::limits::{MOST_COMPOSITION, MOST_LINKS, MOST_STATIONS, MOST_TRIPS, MOST_UNITS};
-use rail_base::{CompNo, LinkNo, NoMemory, StationNo, TripNo, TypeNo, UnitNo};
+use rail_base::limits::{
+    MOST_COMPOSITION, MOST_LINKS, MOST_MINUTES, MOST_STATIONS, MOST_TRIPS, MOST_UNITS,
+};
+use rail_base::{CompNo, LinkNo, Minute, NoMemory, StationNo, TripNo, TypeNo, UnitNo};
 use rail_csv::WeightsRow;
 use std::alloc::Global;
 use std::marker::Model;
@@ -50,6 +54,7 @@ pub struct Instance {
     outgoing: Vec<Option<LinkNo>>,
     chains: Vec<Chain>,
     handovers: Vec<Handover>,
+    minutes: Vec<Minutes>,
 }
 
 impl Model for Instance {
@@ -106,6 +111,8 @@ impl Instance {
         let units = units_of(alloc, &stock)?;
         let trip_count = trips.len() as u32;
         let linking = linking_of(alloc, &links, trip_count)?;
+        let station_count = stations.len() as u32;
+        let minutes = minutes_of(alloc, &trips, station_count)?;
         Ok(Instance {
             types,
             stations,
@@ -119,6 +126,7 @@ impl Instance {
             outgoing: linking.outgoing,
             chains: linking.chains,
             handovers: linking.handovers,
+            minutes,
         })
     }
 
@@ -295,6 +303,18 @@ impl Instance {
         ensures within { result.second < length self.now.trips }
     {
         self.handovers[handover as usize]
+    }
+
+    /// The minutes at which trips leave the station of this number, which is below `stations`: each once, in rising order, and
+    /// within the two days.
+    pub fn minutes(&self, station: StationNo) -> &[Minute]
+        requires { station < length self.now.stations }
+        ensures value { result.now ≡ minutes_of self.now station }
+        ensures whole { AreMinutes self.now station result.now }
+        ensures few { length result.now ≤ MOST_TRIPS }
+        ensures within { All (λ minute. minute < MOST_MINUTES) result.now }
+    {
+        self.minutes[station.place()].items()
     }
 
     /// The unit of this number, which is below `units`. Its type and its home are there.

@@ -10,6 +10,7 @@ use Rattle.rail_csv.specs.declared.rows.LinkRow.{LinkRow}
 use Rattle.timetable.specs.declared.day.records.Link.{Link}
 use Rattle.timetable.specs.declared.day.records.Station.{Station}
 use Rattle.timetable.specs.declared.day.records.Stock.{Stock}
+use Rattle.timetable.specs.declared.day.records.Trip.{Trip}
 use Rattle.timetable.specs.declared.building.tables.Tables.{Tables}
 use Rattle.timetable.specs.declared.building.refusal.InstanceRefusal.{InstanceRefusal}
 use Rattle.rail_base.specs.Answers.{Fails, Gives}
@@ -21,6 +22,8 @@ use Rattle.timetable.specs.Day.{Day, units_of}
 use Rattle.timetable.specs.Handovers.{handovers_from, handovers_of}
 use Rattle.timetable.specs.LinkRows.{links_in}
 use Rattle.timetable.specs.Links.{arriving_in, departing_in}
+use Rattle.timetable.specs.Lists.{listed}
+use Rattle.timetable.specs.Minutes.{minutes_in, minutes_of}
 use Rattle.timetable.specs.Within.{AreTypes, AreStations, AreTrips}
 use Rattle.timetable.proofs.Days.{day_is_made, day_within_limits, few_links}
 use Rattle.timetable.proofs.Entries.{are_types, types_within_limits, are_stations, are_trips}
@@ -83,13 +86,30 @@ overflow_cast-trip_count c =
     let trips : AreTrips (length c.in_ok-stations.stations) c.in_ok-trips.trips = are_trips c.in_ok-stations.stations c.items.result.now c.args.tables.trips c.in_ok-trips.trips c.requires.trips c.in_ok-trips.ensures in
     omega (arith, trips.few, ap length c.into_entries-trips.ensures)
 
+pub minutes_of-requires-clause-trips : goal.minutes_of-requires-clause-trips
+minutes_of-requires-clause-trips c =
+    let trips : AreTrips (length c.in_ok-stations.stations) c.in_ok-trips.trips = are_trips c.in_ok-stations.stations c.items.result.now c.args.tables.trips c.in_ok-trips.trips c.requires.trips c.in_ok-trips.ensures in
+    omega (arith, trips.few, ap length c.into_entries-trips.ensures, ap length c.deref-4.ensures.value)
+
+pub minutes_of-requires-clause-stations : goal.minutes_of-requires-clause-stations
+minutes_of-requires-clause-stations c =
+    let stations : AreStations c.in_ok-stations.stations = are_stations c.args.tables.stations c.in_ok-stations.stations c.requires.stations c.in_ok-stations.ensures in
+    let count : c.len-station_count.result ≡ length c.into_entries-stations.result.items = omega (arith, c.into_entries-stations.result.ok, c.len-station_count.ensures) in
+    omega (arith, stations.few, ap length c.into_entries-stations.ensures)
+
+pub overflow_cast-station_count : goal.overflow_cast-station_count
+overflow_cast-station_count c =
+    let stations : AreStations c.in_ok-stations.stations = are_stations c.args.tables.stations c.in_ok-stations.stations c.requires.stations c.in_ok-stations.ensures in
+    omega (arith, stations.few, ap length c.into_entries-stations.ensures)
+
 pub invariant_of-result : goal.invariant_of-result
-unfolding day_of units_of chains_of handovers_of
+unfolding day_of units_of chains_of handovers_of minutes_of
 invariant_of-result c =
     let day : Day = record { types = c.new-types.result; stations = c.into_entries-stations.result.items; stock = c.in_ok-stock.stock.items; trips = c.into_entries-trips.result.items; links = c.in_ok-links.links.items; weights = c.weights_of.result } in
     let made : day_of c.args.tables ≡ Ok day = search rules in
     let linked : links_in day.trips c.args.tables.links ≡ Ok day.links = (day_is_made c.args.tables day made).links in
     let count : c.len-trip_count.result ≡ length day.trips = omega (arith, c.into_entries-trips.result.ok, c.len-trip_count.ensures) in
+    let station_count : c.len-station_count.result ≡ length day.stations = omega (arith, c.into_entries-stations.result.ok, c.len-station_count.ensures) in
     record {
       units = search rules;
       day = day_within_limits c.args.tables day c.requires.types c.requires.stations c.requires.trips c.requires.links c.requires.weights made;
@@ -102,6 +122,9 @@ invariant_of-result c =
           ∙ ap (λ (links : List Link). chains_below links c.len-trip_count.result c.len-trip_count.result) c.deref-3.ensures.value
           ∙ ap (λ (n : ℕ). chains_below day.links n n) count;
       handovers = c.in_ok-linking.ensures.handovers ∙ ap (λ (links : List Link). handovers_from 0 links) c.deref-3.ensures.value;
+      minutes = c.in_ok-minutes.ensures
+          ∙ ap (λ (trips : List Trip). listed (minutes_in trips) c.len-station_count.result) c.deref-4.ensures.value
+          ∙ ap (λ (n : ℕ). listed (minutes_in day.trips) n) station_count;
     }
 
 pub returns-clause-meaning : goal.returns-clause-meaning
