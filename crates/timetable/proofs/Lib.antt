@@ -33,3 +33,4 @@ pub mod ListedUnits
 pub mod TurnOn
 pub mod Minutes
 pub mod Listing
+pub mod Indices

@@ -1,4 +1,5 @@
--- Which tables make a day and which rows make a plan, decided by tests in their order; and that a day's chains are no others.
+-- Which tables make a day and which rows make a plan, decided by tests in their order; that a day's chains are no others; and what has
+-- a multiplier.
 use Rattle.std.specs.Prelude.{ℕ, ◌≡◌, ◌↔◌, List, Result, Ok, Err, IsOk}
 use Rattle.rail_csv.specs.declared.rows.PlanRow.{PlanRow}
 use Rattle.timetable.specs.declared.building.tables.Tables.{Tables}
@@ -6,6 +7,7 @@ use Rattle.timetable.specs.Accepted.{AreLinks}
 use Rattle.timetable.specs.Build.{day_of}
 use Rattle.timetable.specs.Chains.{AreChains}
 use Rattle.timetable.specs.Day.{Day}
+use Rattle.timetable.specs.Indices.{HaveMultipliers, places_of}
 use Rattle.timetable.specs.Meaning.{IsDayOf}
 use Rattle.timetable.specs.Plans.{plan_of, plan_tests, IsPlanOf}
 use Rattle.timetable.specs.Refusals.{day_tests}
@@ -29,3 +31,7 @@ pub record PlansAreMade : Type 0 where
 -- two lists that are the chains of a day are one
 abbrev pub ChainsAreOne : Type 0
 ChainsAreOne = (day : Day) (some others : List (List ℕ)) → AreLinks day → AreChains day some → AreChains day others → some ≡ others
+
+-- each place that is there has a multiplier, and nothing else has
+abbrev pub PlacesHaveMultipliers : Type 0
+PlacesHaveMultipliers = (day : Day) → HaveMultipliers day (places_of day)

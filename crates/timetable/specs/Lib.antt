@@ -17,6 +17,8 @@ pub mod Chains
 pub mod Handovers
 -- the departure minutes of its stations
 pub mod Minutes
+-- its multipliers
+pub mod Indices
 -- which tables make a day, and which rows make a plan
 pub mod Rowwise
 pub mod Tests

@@ -7,6 +7,7 @@ pub mod laws;
 
 pub use building::refusal::{InstanceRefusal, PlanRefusal};
 pub use building::tables::{Rows, Tables};
+pub use day::indices::Place;
 pub use day::instance::Instance;
 pub use day::picks::Picks;
 pub use day::plan::NamedPlan;
