@@ -1,5 +1,6 @@
 -- Each place that is there has one index.
-use Rattle.std.proofs.Common.{◌≡◌, inl, inr, ℕ, zero, suc, ◌+◌, ◌<◌, ◌≤◌, List, [], ◌∷◌, ◌++◌, length, get_or, refl, sym, ap, subst, ◌∙◌, arith, Option, Some, slice_get}
+use Rattle.std.proofs.Common.{◌≡◌, inl, inr, ℕ, zero, suc, ◌+◌, ◌*◌, ◌<◌, ◌≤◌, List, [], ◌∷◌, ◌++◌, length, get_or, refl, sym, ap, subst, ◌∙◌, arith, length-append, Option, Some, slice_get}
+use Rattle.std.proofs.Math.Nat.{zero-mul, mul-zero, suc-mul}
 use Rattle.std.specs.List.{All, Contains}
 use Rattle.std.proofs.lemmas.List.Elements.{All-nil, All-push, All-append, All-contains}
 use Rattle.std.proofs.lemmas.Option.{get_or_from_slice_get, slice_get_within}
@@ -9,7 +10,7 @@ use Rattle.timetable.specs.Compositions.{compositions_of}
 use Rattle.timetable.specs.Day.{Day}
 use Rattle.timetable.specs.Handovers.{handovers_of}
 use Rattle.timetable.specs.Indices.{IsPlace, lambdas_at, lambdas_of, mus_of, sigmas_of, places_of, HaveMultipliers}
-use Rattle.timetable.specs.Lists.{listed, joined}
+use Rattle.timetable.specs.Lists.{listed, joined, sum_below}
 use Rattle.timetable.specs.Minutes.{minutes_of}
 use Rattle.timetable.proofs.Listing.{get_first, get_second, get_listed, get_joined, length-listed}
 
@@ -85,3 +86,39 @@ have_multipliers day = record {
       (let here : slice_get (places_of day) (index_in day place) ≡ Some place = get_place day place is in
       (index_in day place, slice_get_within (places_of day) (index_in day place) place here, get_or_from_slice_get (places_of day) (index_in day place) place place here));
 }
+
+-- ---- how many there are
+
+-- lists of one length that are joined
+even : {X : Type 0} (f : ℕ → List X) (w n : ℕ) → ((k : ℕ) → length (f k) ≡ w) → length (joined f n) ≡ n * w
+even f w zero each = sym (zero-mul w)
+even f w (suc n) each = length-append (joined f n) (f n) ∙ ap (λ (k : ℕ). k + length (f n)) (even f w n each) ∙ ap (λ (k : ℕ). n * w + k) (each n) ∙ sym (suc-mul n w)
+
+distribute : (k a b : ℕ) → k * (a + b) ≡ k * a + k * b
+distribute zero a b = omega (arith, zero-mul (a + b), zero-mul a, zero-mul b)
+distribute (suc k) a b = omega (arith, suc-mul k (a + b), suc-mul k a, suc-mul k b, distribute k a b)
+
+-- how many lambdas the stations before one have
+pub lambdas_before : (day : Day) (n : ℕ) → length (joined (λ s. joined (lambdas_at day s) (length day.types)) n) ≡ length day.types * sum_below (λ s. length (minutes_of day s)) n
+lambdas_before day zero = sym (mul-zero (length day.types))
+lambdas_before day (suc n) =
+    let f : ℕ → List Place = λ s. joined (lambdas_at day s) (length day.types) in
+    let count : ℕ = length (minutes_of day n) in
+    let total : ℕ = sum_below (λ s. length (minutes_of day s)) n in
+    length-append (joined f n) (f n)
+    ∙ ap (λ (k : ℕ). k + length (f n)) (lambdas_before day n)
+    ∙ ap (λ (k : ℕ). length day.types * total + k) (even (lambdas_at day n) count (length day.types) (λ m. length-listed (λ k. Lambda n m k) count))
+    ∙ sym (distribute (length day.types) total count)
+
+pub length-lambdas : (day : Day) → length (lambdas_of day) ≡ length day.types * sum_below (λ s. length (minutes_of day s)) (length day.stations)
+unfolding lambdas_of
+length-lambdas day = lambdas_before day (length day.stations)
+
+pub length-mus : (day : Day) → length (mus_of day) ≡ length day.stations * length day.types
+unfolding mus_of
+length-mus day = even (λ s. listed (λ m. Mu s m) (length day.types)) (length day.types) (length day.stations) (λ s. length-listed (λ m. Mu s m) (length day.types))
+
+pub length-sigmas : (day : Day) → length (sigmas_of day) ≡ length (handovers_of day) * length (compositions_of day)
+unfolding sigmas_of
+length-sigmas day =
+    even (λ h. listed (λ c. Sigma h c) (length (compositions_of day))) (length (compositions_of day)) (length (handovers_of day)) (λ h. length-listed (λ c. Sigma h c) (length (compositions_of day)))
