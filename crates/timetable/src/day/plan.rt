@@ -62,6 +62,15 @@ impl NamedPlan {
         Ok(NamedPlan { lists })
     }
 
+    /// The plan of these lists, one a trip in the order of the trips: at most 400. There is no condition on the units. It takes
+    /// no memory.
+    pub fn of(lists: Vec<UnitList>) -> NamedPlan
+        requires { length lists.items ≤ MOST_TRIPS }
+        ensures { result ≡ lists.items }
+    {
+        NamedPlan { lists }
+    }
+
     /// The units of this trip, front to rear: at most six. The trip is below `trips`.
     #[tactic(auto, unfolding(crate::specs::Links::list_of))]
     pub fn units(&self, trip: TripNo) -> &[UnitNo]
