@@ -1,8 +1,9 @@
 -- In the fixed order the trips of one moment rise.
-use Rattle.std.proofs.Common.{◌≡◌, ℕ, zero, suc, ◌<◌, List, [], ◌∷◌, ◌++◌, length, leb, arith}
+use Rattle.std.proofs.Common.{◌≡◌, ℕ, ◌<◌, List, [], ◌∷◌, length, leb, arith}
 use Rattle.std.proofs.lemmas.Bool.{cond_both, leb-false}
 use Rattle.timetable.specs.Day.{Day}
 use Rattle.timetable.specs.Lists.{below}
+use Rattle.timetable.proofs.Numbered.{AllLater, Rise, below_rises}
 use Rattle.day_simulator.specs.declared.events.DayEvent.{DayEvent}
 use Rattle.day_simulator.specs.declared.events.DayEvent.TheVariants.{Depart, Arrive}
 use Rattle.day_simulator.specs.Laws.{IsInFixedOrder}
@@ -10,40 +11,6 @@ use Rattle.day_simulator.specs.Orders.{LaterTrips, RisesByTrip}
 use Rattle.day_simulator.specs.State.{moment_of, trip_of}
 use Rattle.day_simulator.specs.Steps.{insert_event, sorted_events, events_by_trip, fixed_order}
 use Rattle.day_simulator.proofs.Lawful.{fixed_is_order}
-
--- each trip is later than trip t, and each is later than those before it
-abbrev pub AllLater : ℕ → List ℕ → Type 0
-AllLater t [] = Unit {0}
-AllLater t (s ∷ ss) = (t < s) × AllLater t ss
-
-abbrev pub Rise : List ℕ → Type 0
-Rise [] = Unit {0}
-Rise (t ∷ ts) = AllLater t ts × Rise ts
-
-all_later-push : (t n : ℕ) (ts : List ℕ) → AllLater t ts → t < n → AllLater t (ts ++ n ∷ [])
-all_later-push t n [] h lt = (lt, tt)
-all_later-push t n (s ∷ ss) h lt = (h.0, all_later-push t n ss h.1 lt)
-
--- each trip is below n
-abbrev pub AllBelow : ℕ → List ℕ → Type 0
-AllBelow n [] = Unit {0}
-AllBelow n (t ∷ ts) = (t < n) × AllBelow n ts
-
-all_below-more : (n : ℕ) (ts : List ℕ) → AllBelow n ts → AllBelow (suc n) (ts ++ n ∷ [])
-all_below-more n [] h = (omega arith, tt)
-all_below-more n (t ∷ ts) h = (omega (arith, h.0), all_below-more n ts h.1)
-
-rise-push : (n : ℕ) (ts : List ℕ) → Rise ts → AllBelow n ts → Rise (ts ++ n ∷ [])
-rise-push n [] h b = (tt, tt)
-rise-push n (t ∷ ts) h b = (all_later-push t n ts h.0 b.0, rise-push n ts h.1 b.1)
-
-all_below : (n : ℕ) → AllBelow n (below n)
-all_below zero = tt
-all_below (suc n) = all_below-more n (below n) (all_below n)
-
-below_rises : (n : ℕ) → Rise (below n)
-below_rises zero = tt
-below_rises (suc n) = rise-push n (below n) (below_rises n) (all_below n)
 
 module _ (day : Day) where
   later_insert : (e f : DayEvent) (es : List DayEvent) → (moment_of day f ≡ moment_of day e → trip_of e < trip_of f) → LaterTrips day e es → LaterTrips day e (insert_event day f es)

@@ -1,31 +1,19 @@
 -- The fixed order of a day's events, made by a stable sort.
 use Rattle.std.proofs.Common.{◌≡◌, ℕ, suc, ◌+◌, ◌≤◌, List, [], ◌∷◌, ◌++◌, filter, Bool, true, false, cond, not, ◌&&◌, eqb, leb, ltb, Less, Equal, Greater, refl, sym, ap, ◌∙◌, arith, append_assoc}
 use Rattle.std.specs.Prelude.{◌==◌}
-use Rattle.std.specs.Ordering.{nat_cmp, is_lt}
-use Rattle.std.specs.List.Sorted.{IsNonDecreasingBy, IsStableByKey, ties}
+use Rattle.std.specs.Ordering.{nat_cmp}
 use Rattle.std.proofs.lemmas.Bool.{cond_both, leb-true, leb-false, eqb-true}
-use Rattle.std.specs.List.Sorted.{IsSortedByKey}
+use Rattle.std.specs.List.Sorted.{IsSortedByKey, IsStableByKey}
 use Rattle.std.specs.Borrow.{Bor}
 use denote.Param.Members.{Mut}
 use Rattle.std.specs.Fn.{ComputesKey, Called}
-use Rattle.std.proofs.lemmas.List.Sorted.{IsNonDecreasingBy-from_sort_by_key}
-use Rattle.std.proofs.lemmas.Fn.{always_returns_same}
-use Rattle.std.proofs.lemmas.Bool.Decides.{nat_tests}
 use Rattle.timetable.specs.Day.{Day}
 use Rattle.timetable.specs.Lists.{below}
 use Rattle.day_simulator.specs.declared.events.DayEvent.{DayEvent}
 use Rattle.day_simulator.specs.declared.events.DayEvent.TheVariants.{Depart, Arrive}
 use Rattle.day_simulator.specs.State.{moment_of}
 use Rattle.day_simulator.specs.Steps.{insert_event, sorted_events, events_by_trip}
-use Rattle.day_simulator.proofs.Sorting.{From, Rises, with_number, same_sorted, rises_from_places}
-
-by_less : (x y : Bool) → is_lt (cond x Less (cond y Equal Greater)) ≡ x
-by_less true y = refl
-by_less false true = refl
-by_less false false = refl
-
-nat_cmp-ltb : (a b : ℕ) → is_lt (nat_cmp a b) ≡ ltb a b
-nat_cmp-ltb a b = by_less (ltb a b) (eqb a b)
+use Rattle.timetable.proofs.Sorting.{From, Rises, with_number, stable_sort_is}
 
 pub events_by_trip-append : (xs ys : List ℕ) → events_by_trip (xs ++ ys) ≡ events_by_trip xs ++ events_by_trip ys
 events_by_trip-append [] ys = refl
@@ -82,32 +70,10 @@ module _ (day : Day) where
   with_number-sorted k (e ∷ es) =
       with_number-insert k e (sorted_events day es) ∙ ap (λ (l : List DayEvent). cond (moment_of day e == k) (e ∷ l) l) (with_number-sorted k es)
 
-  neither : (a b : ℕ) → not (ltb a b) && not (ltb b a) ≡ (b == a)
-  neither a b = grind (arith, nat_tests)
-
-  ties_is : (x y : DayEvent) → ties (λ a b. is_lt (nat_cmp (moment_of day a) (moment_of day b))) x y ≡ (moment_of day y == moment_of day x)
-  ties_is x y = numbers (moment_of day x) (moment_of day y)
-    where
-      numbers : (a b : ℕ) → not (is_lt (nat_cmp a b)) && not (is_lt (nat_cmp b a)) ≡ (b == a)
-      numbers a b = ap (λ (p : Bool). not p && not (is_lt (nat_cmp b a))) (nat_cmp-ltb a b) ∙ ap (λ (q : Bool). not (ltb a b) && not q) (nat_cmp-ltb b a) ∙ neither a b
-
-  ties_filter : (x : DayEvent) (es : List DayEvent) → filter (ties (λ a b. is_lt (nat_cmp (moment_of day a) (moment_of day b))) x) es ≡ with_number (moment_of day) (moment_of day x) es
-  ties_filter x [] = refl
-  ties_filter x (e ∷ es) =
-      ap (λ (l : List DayEvent). cond (ties (λ a b. is_lt (nat_cmp (moment_of day a) (moment_of day b))) x e) (e ∷ l) l) (ties_filter x es)
-      ∙ ap (λ (b : Bool). cond b (e ∷ with_number (moment_of day) (moment_of day x) es) (with_number (moment_of day) (moment_of day x) es)) (ties_is x e)
-
-  -- a stable sort by the moments gives the sorted events
-  pub stable_sort_is : (es sorted : List DayEvent) → IsNonDecreasingBy (moment_of day) sorted → IsStableByKey (moment_of day) nat_cmp es sorted → sorted ≡ sorted_events day es
-  stable_sort_is es sorted rises stable =
-      same_sorted (moment_of day) sorted (sorted_events day es) (rises_from_places (moment_of day) sorted rises) (sorted_rises es)
-      (λ x. sym (ties_filter x sorted) ∙ stable x ∙ ties_filter x es ∙ sym (with_number-sorted (moment_of day x) es))
-
-  -- the same from what `sort_by_key` ensures, where each call gives the event's moment
+  -- a stable sort by the events' moments, which each call of its closure gives
   pub sort_by_moment_is : {F : Type 0} {g : Mut F (Bor DayEvent × Unit {0}) ℕ} {f : F} (es sorted : List DayEvent)
       → ((n : DayEvent → ℕ) → ComputesKey g n f → IsSortedByKey n nat_cmp sorted)
       → ((n : DayEvent → ℕ) → ComputesKey g n f → IsStableByKey n nat_cmp es sorted)
       → ((a : Bor DayEvent × Unit {0}) (r : ℕ) (f' : F) → Called g f a r f' → (r ≡ moment_of day a.0.now) × (f' ≡ f)) → sorted ≡ sorted_events day es
-  sort_by_moment_is {g = g} {f = f} es sorted up stable each =
-      stable_sort_is es sorted (IsNonDecreasingBy-from_sort_by_key (moment_of day) sorted up each)
-      (stable (moment_of day) (always_returns_same g (λ a r. r ≡ moment_of day a.0.now) f each))
+  sort_by_moment_is es sorted up stable each =
+      stable_sort_is (moment_of day) es sorted (sorted_events day es) up stable each (sorted_rises es) (λ k. with_number-sorted k es)

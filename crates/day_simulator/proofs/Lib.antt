@@ -19,7 +19,6 @@ pub mod Order
 pub mod Places
 pub mod PutPlaces
 pub mod Rising
-pub mod Sorting
 pub mod Starts
 pub mod Stepping
 pub mod Tested

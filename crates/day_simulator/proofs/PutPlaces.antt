@@ -1,12 +1,11 @@
 -- Where units are after some were put to a place.
-use Rattle.std.proofs.Common.{◌≡◌, ◌≢◌, ℕ, ◌+◌, ◌<◌, ◌≤◌, List, [], ◌∷◌, ◌++◌, length, get_or, set, take, Bool, true, false, cond, refl, sym, ap, ◌∙◌, subst, arith, leb, eq-eqb, ne_eqb, ⊎_elim}
-use Rattle.std.specs.Prelude.{slice_set, ◌==◌, ◌||◌}
-use Rattle.std.specs.List.{list_any}
-use Rattle.std.proofs.lemmas.Bool.Decides.{nat_tests}
-use Rattle.std.proofs.lemmas.Bool.{le-leb, cases_eq}
+use Rattle.std.proofs.Common.{◌≡◌, ◌≢◌, ℕ, ◌+◌, ◌<◌, ◌≤◌, List, [], ◌∷◌, ◌++◌, length, get_or, set, take, Bool, true, false, cond, refl, sym, ap, ◌∙◌, subst, arith, ⊎_elim}
+use Rattle.std.specs.Prelude.{slice_set}
+use Rattle.std.proofs.lemmas.Bool.{cases_eq}
 use Rattle.std.proofs.lemmas.Option.{unwrap_or-slice_get}
 use Rattle.std.proofs.lemmas.List.{take_more, length-set, get_or-set_same, get_or-set_other}
-use Rattle.timetable.specs.Lists.{count_of, has}
+use Rattle.timetable.specs.Lists.{has}
+use Rattle.timetable.proofs.ListedUnits.{has_first, has_later}
 use Rattle.day_simulator.specs.declared.events.Place.{Place}
 use Rattle.day_simulator.specs.declared.events.Place.TheVariants.{Yard}
 use Rattle.day_simulator.specs.State.{place_of, put_all}
@@ -42,12 +41,6 @@ cond_same : {X : Type 0} (b : Bool) (x : X) → cond b x x ≡ x
 cond_same true x = refl
 cond_same false x = refl
 
-has_first : (v u : ℕ) (us : List ℕ) → v ≡ u → has u (v ∷ us) ≡ true
-has_first v u us e = let one : 1 ≤ count_of u (v ∷ us) = grind (arith, nat_tests) in le-leb 1 (count_of u (v ∷ us)) one
-
-has_later : (v u : ℕ) (us : List ℕ) → v ≢ u → has u (v ∷ us) ≡ has u us
-has_later v u us ne = let same : count_of u (v ∷ us) ≡ count_of u us = grind (arith, nat_tests) in ap (λ (n : ℕ). leb 1 n) same
-
 -- where a unit is after these were put to a place
 pub place_of-put_all : (ps : List Place) (us : List ℕ) (p : Place) (u : ℕ) → u < length ps
     → place_of (put_all ps us p) u ≡ cond (has u us) p (place_of ps u)
@@ -65,14 +58,3 @@ place_of-put_all ps (v ∷ us) p u h =
     there ne =
         ap (λ (q : Place). cond (has u us) p q) (place_of-set_other ps v u p (λ e. ne (sym e)))
         ∙ ap (λ (b : Bool). cond b p (place_of ps u)) (sym (has_later v u us ne))
-
--- the test for a unit among others
-pub list_any-has : (us : List ℕ) (u : ℕ) → list_any (λ v. v == u) us ≡ has u us
-list_any-has [] u = refl
-list_any-has (v ∷ us) u = ⊎_elim here (there (list_any-has us u)) (cases_eq v u)
-  where
-    here : v ≡ u → (v == u) || list_any (λ v. v == u) us ≡ has u (v ∷ us)
-    here e = ap (λ (b : Bool). b || list_any (λ v. v == u) us) (eq-eqb v u e) ∙ sym (has_first v u us e)
-
-    there : list_any (λ v. v == u) us ≡ has u us → v ≢ u → (v == u) || list_any (λ v. v == u) us ≡ has u (v ∷ us)
-    there later ne = ap (λ (b : Bool). b || list_any (λ v. v == u) us) (ne_eqb v u ne) ∙ later ∙ sym (has_later v u us ne)

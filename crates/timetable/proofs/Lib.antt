@@ -34,3 +34,5 @@ pub mod TurnOn
 pub mod Minutes
 pub mod Listing
 pub mod Indices
+pub mod Sorting
+pub mod Numbered

@@ -1,8 +1,9 @@
 -- Units in a list, and their types.
-use Rattle.std.proofs.Common.{◌≡◌, ℕ, zero, suc, ◌+◌, ◌<◌, ◌≤◌, List, [], ◌∷◌, ◌++◌, length, get_or, take, map, Option, Some, None, true, IsTrue, refl, sym, ap, ◌∙◌, subst, arith, unwrap_or, slice_get}
-use Rattle.std.specs.Prelude.{option_map}
+use Rattle.std.proofs.Common.{◌≡◌, ◌≢◌, ℕ, zero, suc, ◌+◌, ◌<◌, ◌≤◌, List, [], ◌∷◌, ◌++◌, length, get_or, take, map, Option, Some, None, Bool, true, IsTrue, refl, sym, ap, ◌∙◌, subst, arith, unwrap_or, slice_get, leb, eq-eqb, ne_eqb, ⊎_elim}
+use Rattle.std.specs.Prelude.{option_map, ◌==◌, ◌||◌}
+use Rattle.std.specs.List.{list_any}
 use Rattle.std.proofs.lemmas.Bool.Decides.{nat_tests}
-use Rattle.std.proofs.lemmas.Bool.{le-leb, leb-true, and_from}
+use Rattle.std.proofs.lemmas.Bool.{le-leb, leb-true, and_from, cases_eq}
 use Rattle.compositions.specs.Composition.{are_types}
 use Rattle.std.proofs.lemmas.List.{take_more, map-append}
 use Rattle.timetable.specs.declared.day.records.Unit as unit
@@ -23,6 +24,23 @@ has_at us k u h e = let one : 1 ≤ count_of u us = subst (λ (v : ℕ). 1 ≤ c
 -- a unit of a list is a unit of the day
 pub unit_at : (day : Day) (us : List ℕ) (k u : ℕ) → AreUnits day us → k < length us → u ≡ get_or us k u → u < unit_count day
 unit_at day us k u known h e = known u (has_at us k u h e)
+
+pub has_first : (v u : ℕ) (us : List ℕ) → v ≡ u → has u (v ∷ us) ≡ true
+has_first v u us e = let one : 1 ≤ count_of u (v ∷ us) = grind (arith, nat_tests) in le-leb 1 (count_of u (v ∷ us)) one
+
+pub has_later : (v u : ℕ) (us : List ℕ) → v ≢ u → has u (v ∷ us) ≡ has u us
+has_later v u us ne = let same : count_of u (v ∷ us) ≡ count_of u us = grind (arith, nat_tests) in ap (λ (n : ℕ). leb 1 n) same
+
+-- the test for a unit among others
+pub list_any-has : (us : List ℕ) (u : ℕ) → list_any (λ v. v == u) us ≡ has u us
+list_any-has [] u = refl
+list_any-has (v ∷ us) u = ⊎_elim here (there (list_any-has us u)) (cases_eq v u)
+  where
+    here : v ≡ u → (v == u) || list_any (λ v. v == u) us ≡ has u (v ∷ us)
+    here e = ap (λ (b : Bool). b || list_any (λ v. v == u) us) (eq-eqb v u e) ∙ sym (has_first v u us e)
+
+    there : list_any (λ v. v == u) us ≡ has u us → v ≢ u → (v == u) || list_any (λ v. v == u) us ≡ has u (v ∷ us)
+    there later ne = ap (λ (b : Bool). b || list_any (λ v. v == u) us) (ne_eqb v u ne) ∙ later ∙ sym (has_later v u us ne)
 
 -- the type of a unit that is there
 pub type_is : (day : Day) (u : ℕ) (x : unit.Unit) → slice_get (units_of day) u ≡ Some x → type_of day u ≡ x.unit_type

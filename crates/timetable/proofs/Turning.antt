@@ -201,12 +201,12 @@ turn_parts-is type_of uncouple couple exchange arriving departing n e = ap (opti
 
 -- ---- the rule on units is the rule on their types
 
-staying-map : (f : ℕ → ℕ) (end : End) (xs : List ℕ) (n : ℕ) → staying end (map f xs) n ≡ map f (staying end xs n)
+pub staying-map : (f : ℕ → ℕ) (end : End) (xs : List ℕ) (n : ℕ) → staying end (map f xs) n ≡ map f (staying end xs n)
 staying-map f at.None xs n = refl
 staying-map f at.Rear xs n = take-map f n xs
 staying-map f at.Front xs n = ap (λ (k : ℕ). drop (k - n) (map f xs)) (length-map xs f) ∙ drop-map f (length xs - n) xs
 
-beyond-map : (f : ℕ → ℕ) (end : End) (xs : List ℕ) (n : ℕ) → beyond end (map f xs) n ≡ map f (beyond end xs n)
+pub beyond-map : (f : ℕ → ℕ) (end : End) (xs : List ℕ) (n : ℕ) → beyond end (map f xs) n ≡ map f (beyond end xs n)
 beyond-map f at.None xs n = refl
 beyond-map f at.Rear xs n = drop-map f n xs
 beyond-map f at.Front xs n = ap (λ (k : ℕ). take (k - n) (map f xs)) (length-map xs f) ∙ take-map f (length xs - n) xs
@@ -243,7 +243,7 @@ count_of-append u [] ys = omega arith
 count_of-append u (x ∷ xs) ys = let ih = count_of-append u xs ys in omega arith
 
 -- what stays and what goes are the whole
-staying_counts : (u : ℕ) (end : End) (xs : List ℕ) (n : ℕ) → count_of u xs ≡ count_of u (staying end xs n) + count_of u (beyond end xs n)
+pub staying_counts : (u : ℕ) (end : End) (xs : List ℕ) (n : ℕ) → count_of u xs ≡ count_of u (staying end xs n) + count_of u (beyond end xs n)
 staying_counts u at.None xs n = omega arith
 staying_counts u at.Rear xs n = ap (count_of u) (sym (take-append-drop n xs)) ∙ count_of-append u (take n xs) (drop n xs)
 staying_counts u at.Front xs n =

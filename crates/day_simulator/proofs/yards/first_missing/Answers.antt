@@ -1,6 +1,5 @@
 use Rattle.std.proofs.Common.{take, arith, sym, ◌∙◌}
-use Rattle.timetable.proofs.ListedUnits.{unit_at}
-use Rattle.day_simulator.proofs.PutPlaces.{list_any-has}
+use Rattle.timetable.proofs.ListedUnits.{unit_at, list_any-has}
 use Rattle.day_simulator.proofs.Missing.{missing_taken, missing_unready, missing_later, place_read, same_test}
 use Rattle.day_simulator.proofs.yards.first_missing.Goals as goal
 

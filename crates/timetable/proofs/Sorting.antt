@@ -1,8 +1,15 @@
 -- A list that is sorted by a number, with ties in a given order, is the only one.
-use Rattle.std.proofs.Common.{◌≡◌, ℕ, suc, ◌<◌, ◌≤◌, List, [], ◌∷◌, length, get_or, filter, Bool, true, false, cond, refl, sym, ap, ◌∙◌, arith, eq-eqb, ne_eqb, ⊎_elim, ◌≢◌, ◌⊎◌, inl, inr}
-use Rattle.std.specs.List.Sorted.{IsNonDecreasingBy}
+use Rattle.std.proofs.Common.{◌≡◌, ℕ, suc, ◌<◌, ◌≤◌, List, [], ◌∷◌, length, get_or, filter, Bool, true, false, cond, not, ◌&&◌, eqb, ltb, Less, Equal, Greater, refl, sym, ap, ◌∙◌, arith, eq-eqb, ne_eqb, ⊎_elim, ◌≢◌, ◌⊎◌, inl, inr}
+use Rattle.std.specs.List.Sorted.{IsNonDecreasingBy, IsSortedByKey, IsStableByKey, ties}
 use Rattle.std.specs.Prelude.{◌==◌}
+use Rattle.std.specs.Ordering.{nat_cmp, is_lt}
+use Rattle.std.specs.Borrow.{Bor}
+use Rattle.std.specs.Fn.{ComputesKey, Called}
+use denote.Param.Members.{Mut}
 use Rattle.std.proofs.lemmas.Bool.{cases_lt}
+use Rattle.std.proofs.lemmas.Bool.Decides.{nat_tests}
+use Rattle.std.proofs.lemmas.Fn.{always_returns_same}
+use Rattle.std.proofs.lemmas.List.Sorted.{IsNonDecreasingBy-from_sort_by_key}
 
 -- each number of the list is at least m
 abbrev pub From : {X : Type 0} → (X → ℕ) → ℕ → List X → Type 0
@@ -22,7 +29,7 @@ from_places : {X : Type 0} (n : X → ℕ) (m : ℕ) (xs : List X) → ((j : ℕ
 from_places n m [] h = tt
 from_places n m (x ∷ xs) h = (h 0 x (omega arith), from_places n m xs (λ j d l. h (suc j) d (omega arith)))
 
-pub rises_from_places : {X : Type 0} (n : X → ℕ) (xs : List X) → IsNonDecreasingBy n xs → Rises n xs
+rises_from_places : {X : Type 0} (n : X → ℕ) (xs : List X) → IsNonDecreasingBy n xs → Rises n xs
 rises_from_places n [] h = tt
 rises_from_places n (x ∷ xs) h =
     (from_places n (n x) xs (λ j d l. h 0 (suc j) d (omega arith) (omega arith)), rises_from_places n xs (λ i j d a b. h (suc i) (suc j) d (omega arith) (omega arith)))
@@ -69,3 +76,37 @@ same_sorted n (x ∷ xs) (y ∷ ys) rx ry h =
         let same : x ≡ y = heads x y _ _ (sym (first_with n (n x) x xs refl) ∙ h x ∙ first_with n (n x) y ys (sym e)) in
         let rest : xs ≡ ys = later rx.1 ry.1 (λ z. tails (n x == n z) x y _ _ (h z ∙ ap (λ (k : ℕ). cond (k == n z) (y ∷ with_number n (n z) ys) (with_number n (n z) ys)) (sym e))) in
         cc
+
+-- ---- what a stable sort by a number leaves
+
+by_less : (x y : Bool) → is_lt (cond x Less (cond y Equal Greater)) ≡ x
+by_less true y = refl
+by_less false true = refl
+by_less false false = refl
+
+nat_cmp-ltb : (a b : ℕ) → is_lt (nat_cmp a b) ≡ ltb a b
+nat_cmp-ltb a b = by_less (ltb a b) (eqb a b)
+
+neither : (a b : ℕ) → not (ltb a b) && not (ltb b a) ≡ (b == a)
+neither a b = grind (arith, nat_tests)
+
+-- two numbers tie where they are one
+numbers_tie : (a b : ℕ) → not (is_lt (nat_cmp a b)) && not (is_lt (nat_cmp b a)) ≡ (b == a)
+numbers_tie a b = ap (λ (p : Bool). not p && not (is_lt (nat_cmp b a))) (nat_cmp-ltb a b) ∙ ap (λ (q : Bool). not (ltb a b) && not q) (nat_cmp-ltb b a) ∙ neither a b
+
+ties_filter : {X : Type 0} (n : X → ℕ) (x : X) (xs : List X) → filter (ties (λ a b. is_lt (nat_cmp (n a) (n b))) x) xs ≡ with_number n (n x) xs
+ties_filter n x [] = refl
+ties_filter n x (y ∷ xs) =
+    ap (λ (l : List _). cond (ties (λ a b. is_lt (nat_cmp (n a) (n b))) x y) (y ∷ l) l) (ties_filter n x xs)
+    ∙ ap (λ (b : Bool). cond b (y ∷ with_number n (n x) xs) (with_number n (n x) xs)) (numbers_tie (n x) (n y))
+
+-- A stable sort by a number, which each call of its closure gives, leaves the list whose numbers never fall and that has the
+-- elements of each number in the order in which they were.
+pub stable_sort_is : {X F : Type 0} (n : X → ℕ) {g : Mut F (Bor X × Unit {0}) ℕ} {f : F} (xs sorted goal : List X)
+    → ((key : X → ℕ) → ComputesKey g key f → IsSortedByKey key nat_cmp sorted)
+    → ((key : X → ℕ) → ComputesKey g key f → IsStableByKey key nat_cmp xs sorted)
+    → ((a : Bor X × Unit {0}) (r : ℕ) (f' : F) → Called g f a r f' → (r ≡ n a.0.now) × (f' ≡ f))
+    → Rises n goal → ((k : ℕ) → with_number n k goal ≡ with_number n k xs) → sorted ≡ goal
+stable_sort_is n {g = g} {f = f} xs sorted goal up stable each rises same =
+    same_sorted n sorted goal (rises_from_places n sorted (IsNonDecreasingBy-from_sort_by_key n sorted up each)) rises
+    (λ x. sym (ties_filter n x sorted) ∙ stable n (always_returns_same g (λ a r. r ≡ n a.0.now) f each) x ∙ ties_filter n x xs ∙ sym (same (n x)))
