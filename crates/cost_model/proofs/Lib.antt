@@ -1,4 +1,3 @@
 pub mod Adding
 pub mod Leading
-pub mod Picking
 pub mod ByLength

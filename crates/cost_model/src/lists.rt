@@ -8,7 +8,6 @@ ghost use Rattle.timetable.specs.Running.{IsPlan};
 ghost use Rattle.timetable.specs.Picking.{ArePicks, picked};
 
 use arrayvec::ArrayVec;
-use compositions::Composition;
 use rail_base::limits::MOST_COMPOSITION;
 use rail_base::{TripNo, TypeNo};
 use timetable::{Instance, NamedPlan, Picks};
@@ -35,7 +34,7 @@ impl TypeLists for Picks {
     ghost lists = { λ picks day. picked day picks };
 
     fn types_on(&self, instance: &Instance, trip: TripNo) -> ArrayVec<TypeNo, MOST_COMPOSITION> {
-        copy_of(composition_on(instance, self, trip).units())
+        copy_of(instance.composition(self, trip).units())
     }
 }
 
@@ -47,16 +46,6 @@ impl TypeLists for NamedPlan {
     fn types_on(&self, instance: &Instance, trip: TripNo) -> ArrayVec<TypeNo, MOST_COMPOSITION> {
         self.types(instance, trip)
     }
-}
-
-/// The composition that is picked for a trip.
-fn composition_on<'a>(instance: &'a Instance, picks: &Picks, trip: TripNo) -> &'a Composition
-    requires picks { ArePicks instance.now picks.now }
-    requires trip { trip < length instance.now.trips }
-    ensures value { result.now ≡ list_of (picked instance.now picks.now) trip }
-    ensures known { IsTrue (are_types instance.now.types result.now) }
-{
-    instance.catalogue().get(picks.get(trip))
 }
 
 /// The same types in the same order.

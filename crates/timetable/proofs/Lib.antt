@@ -36,3 +36,5 @@ pub mod Listing
 pub mod Indices
 pub mod Sorting
 pub mod Numbered
+pub mod Picking
+pub mod YardTypes

@@ -10,3 +10,4 @@ pub mod plan;
 pub mod records;
 pub mod rule;
 pub mod turns;
+mod yard_types;

@@ -71,7 +71,7 @@ impl LinkKind {
 }
 
 /// The same entries in the same order.
-fn copy_of<T: Copy + Default + Drop>(list: &[T]) -> ArrayVec<T, MOST_COMPOSITION>
+pub(crate) fn copy_of<T: Copy + Default + Drop>(list: &[T]) -> ArrayVec<T, MOST_COMPOSITION>
     requires { length list.now ≤ MOST_COMPOSITION }
     ensures { result.items ≡ list.now }
 {

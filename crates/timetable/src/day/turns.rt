@@ -77,7 +77,7 @@ fn staying<T>(end: End, whole: &[T], stay: usize) -> &[T]
 }
 
 /// What goes of a list at this end when so many stay.
-fn beyond<T>(end: End, whole: &[T], stay: usize) -> &[T]
+pub(crate) fn beyond<T>(end: End, whole: &[T], stay: usize) -> &[T]
     requires { stay ≤ length whole.now }
     ensures units { result.now ≡ beyond end whole.now stay }
     ensures few { length result.now ≤ length whole.now }
