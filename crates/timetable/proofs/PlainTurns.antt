@@ -104,8 +104,8 @@ module _ (f : ℕ → ℕ) (uncouple couple : End) (arriving departing : List �
           let off = is_staying uncouple types_in (staying uncouple types_in n) is.0.fits.uncoupled in
           let on' = is_staying couple types_out (staying uncouple types_in n) is.0.fits.coupled in
           let one : n ≡ length types = ⊎_elim
-              (λ (h : length types ≡ length arriving). omega (arith, is.1, off.within, longest, length-map arriving f))
-              (λ (h : length types ≡ length departing). omega (arith, is.1, on'.within, longest, length-map departing f)) long in
+          (λ (h : length types ≡ length arriving). omega (arith, is.1, off.within, longest, length-map arriving f))
+          (λ (h : length types ≡ length departing). omega (arith, is.1, on'.within, longest, length-map departing f)) long in
           ap Some one
 
   -- the parts at a number, where the same units stay and one side shunts nothing
@@ -116,7 +116,7 @@ module _ (f : ℕ → ℕ) (uncouple couple : End) (arriving departing : List �
       (and_from _ _ (is_same (staying uncouple arriving n) (staying couple departing n) one)
       (or_left ((length arriving - n == 0) || (length departing - n == 0)) false
       (⊎_elim (λ (e : length arriving - n ≡ 0). or_left (length arriving - n == 0) (length departing - n == 0) (eq-eqb (length arriving - n) 0 e))
-        (λ (e : length departing - n ≡ 0). or_right (length arriving - n == 0) (length departing - n == 0) (eq-eqb (length departing - n) 0 e)) none)))
+      (λ (e : length departing - n ≡ 0). or_right (length arriving - n == 0) (length departing - n == 0) (eq-eqb (length departing - n) 0 e)) none)))
 
   -- what the parts say where there are any
   pub record Holds (n : ℕ) : Type 0 where
@@ -128,7 +128,7 @@ module _ (f : ℕ → ℕ) (uncouple couple : End) (arriving departing : List �
     | inl test ↦
         let both = and_parts (same (staying uncouple arriving n) (staying couple departing n)) (may_shunt false (length arriving - n) (length departing - n)) test in
         let some = ⊎_elim (λ (h : ((length arriving - n == 0) || (length departing - n == 0)) ≡ true). h) (λ (h : false ≡ true). absurd (false≢true h))
-            (or_cases ((length arriving - n == 0) || (length departing - n == 0)) false both.1) in
+        (or_cases ((length arriving - n == 0) || (length departing - n == 0)) false both.1) in
         record {
           one = same_is (staying uncouple arriving n) (staying couple departing n) both.0;
           none = ⊎_elim (λ (h : (length arriving - n == 0) ≡ true). inl (eqb-true (length arriving - n) 0 h))
@@ -200,23 +200,23 @@ module _ (f : ℕ → ℕ) (uncouple couple : End) (arriving departing : List �
           let may' : may_stay couple (length departing) n ≡ true =
           subst (λ (k : ℕ). may_stay couple k n ≡ true) (length-map departing f) (subst (λ (k : ℕ). may_stay couple (length types_out) k ≡ true) kept.1 on'.may) in
           let go : n ≡ length departing → ⊥ = λ (e' : n ≡ length departing). ⊎_elim
-              (λ (less : length departing < length arriving).
-                let is' : staying uncouple arriving (length departing) ≡ departing =
-                subst (λ (k : ℕ). staying uncouple arriving k ≡ staying couple departing k) e' h.one ∙ all_stay couple departing in
-                false≢true (sym not_gone ∙ is_left uncouple arriving departing (subst (λ (k : ℕ). may_stay uncouple (length arriving) k ≡ true) e' may) some' less is'))
-              (λ (more : length arriving ≤ length departing).
-                let all : n ≡ length arriving = omega arith in
-                let is' : arriving ≡ departing = sym (all_stay uncouple arriving) ∙ subst (λ (k : ℕ). staying uncouple arriving k ≡ staying couple departing n) all h.one
-                    ∙ ap (staying couple departing) e' ∙ all_stay couple departing in
-                false≢true (sym differ ∙ is_same arriving departing is'))
-              (cases_lt (length departing) (length arriving)) in
+          (λ (less : length departing < length arriving).
+          let is' : staying uncouple arriving (length departing) ≡ departing =
+          subst (λ (k : ℕ). staying uncouple arriving k ≡ staying couple departing k) e' h.one ∙ all_stay couple departing in
+          false≢true (sym not_gone ∙ is_left uncouple arriving departing (subst (λ (k : ℕ). may_stay uncouple (length arriving) k ≡ true) e' may) some' less is'))
+          (λ (more : length arriving ≤ length departing).
+          let all : n ≡ length arriving = omega arith in
+          let is' : arriving ≡ departing = sym (all_stay uncouple arriving) ∙ subst (λ (k : ℕ). staying uncouple arriving k ≡ staying couple departing n) all h.one
+          ∙ ap (staying couple departing) e' ∙ all_stay couple departing in
+          false≢true (sym differ ∙ is_same arriving departing is'))
+          (cases_lt (length departing) (length arriving)) in
           let come : n ≡ length arriving → ⊥ = λ (e' : n ≡ length arriving). ⊎_elim
-              (λ (less : length arriving < length departing).
-                let is' : staying couple departing (length arriving) ≡ arriving =
-                sym (subst (λ (k : ℕ). staying uncouple arriving k ≡ staying couple departing k) e' h.one) ∙ all_stay uncouple arriving in
-                false≢true (sym not_come ∙ is_left couple departing arriving (subst (λ (k : ℕ). may_stay couple (length departing) k ≡ true) e' may') some less is'))
-              (λ (more : length departing ≤ length arriving). go (omega arith))
-              (cases_lt (length arriving) (length departing)) in
+          (λ (less : length arriving < length departing).
+          let is' : staying couple departing (length arriving) ≡ arriving =
+          sym (subst (λ (k : ℕ). staying uncouple arriving k ≡ staying couple departing k) e' h.one) ∙ all_stay uncouple arriving in
+          false≢true (sym not_come ∙ is_left couple departing arriving (subst (λ (k : ℕ). may_stay couple (length departing) k ≡ true) e' may') some less is'))
+          (λ (more : length departing ≤ length arriving). go (omega arith))
+          (cases_lt (length arriving) (length departing)) in
           absurd (⊎_elim (λ (z : length arriving - n ≡ 0). come (omega arith)) (λ (z : length departing - n ≡ 0). go (omega arith)) h.none)
 
       on : (o : Option ℕ) → kept_length uncouple couple types_in types_out ≡ o → turn_parts f uncouple couple false arriving departing ≡ None

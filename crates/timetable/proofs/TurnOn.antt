@@ -9,9 +9,9 @@ use Rattle.timetable.specs.Links.{list_of, turned, kind_holds, given_by, taken_b
 use Rattle.timetable.specs.Turns.{Parts, kept_of, parts_at, turn_parts}
 
 module _ (type_of : ℕ → ℕ) (kind : LinkKind) (r : Bool) (plan : List (List ℕ)) (a b : ℕ) (uncouple couple : End) (exchange : Bool)
-  (is : kind ≡ Turn a b uncouple couple exchange) (kept : Option ℕ) (arriving departing : List ℕ)
-  (kept_is : kept ≡ kept_of kind (map type_of (turned r (list_of plan (leads_from kind)))) (map type_of (list_of plan (leads_to kind))))
-  (arriving_is : arriving ≡ turned r (list_of plan a)) (departing_is : departing ≡ list_of plan b) where
+    (is : kind ≡ Turn a b uncouple couple exchange) (kept : Option ℕ) (arriving departing : List ℕ)
+    (kept_is : kept ≡ kept_of kind (map type_of (turned r (list_of plan (leads_from kind)))) (map type_of (list_of plan (leads_to kind))))
+    (arriving_is : arriving ≡ turned r (list_of plan a)) (departing_is : departing ≡ list_of plan b) where
   parts_are : option_and_then (parts_at uncouple couple exchange arriving departing) kept ≡ turn_parts type_of uncouple couple exchange (turned r (list_of plan a)) (list_of plan b)
   unfolding turn_parts
   parts_are =

@@ -84,7 +84,7 @@ greatest-none test (suc b) e k some within = elim (cases_Bool (test (suc b))) [
   | inl passes ↦ let found = sym (cond-true (test (suc b)) (Some (suc b)) (greatest test b) passes) ∙ e in absurd (cc)
   | inr fails ↦
       ⊎_elim (λ (h : k < suc b). greatest-none test b (sym (cond-false (test (suc b)) (Some (suc b)) (greatest test b) fails) ∙ e) k some (omega arith))
-          (λ (h : suc b ≤ k). let is : suc b ≡ k = omega arith in subst (λ (m : ℕ). test m ≡ false) is fails) (cases_lt k (suc b))
+      (λ (h : suc b ≤ k). let is : suc b ≡ k = omega arith in subst (λ (m : ℕ). test m ≡ false) is fails) (cases_lt k (suc b))
 ]
 
 -- a number that fails is passed over
@@ -117,18 +117,18 @@ module _ (uncouple couple : End) (arriving departing : List ℕ) where
       let ends = and_parts (may_stay uncouple (length arriving) n) (may_stay couple (length departing) n) tests.0 in
       let off = stays uncouple arriving n ends.0 in
       let on = stays couple departing n ends.1 in
-      let one : staying uncouple arriving n ≡ staying couple departing n = (bytes_eq-Decides (staying uncouple arriving n) (staying couple departing n)).0 tests.1 in
-      (
+      let one : staying uncouple arriving n ≡ staying couple departing n = (bytes_eq-Decides (staying uncouple arriving n) (staying couple departing n)).0 tests.1 in (
         record {
           fits = record { some = omega (arith, off.long, is.some); uncoupled = off.without; coupled = subst (IsWithout couple departing) (sym one) on.without };
           longest = λ other fits. ⊎_elim
               (λ (h : n < length other).
-                let off' = is_staying uncouple arriving other fits.uncoupled in
-                absurd (false≢true (sym (is.others (length other) h off'.within) ∙ found other fits)))
+              let off' = is_staying uncouple arriving other fits.uncoupled in
+              absurd (false≢true (sym (is.others (length other) h off'.within) ∙ found other fits)))
               (λ (h : length other ≤ n). omega (arith, off.long)) (cases_lt n (length other));
         },
         off.long,
-        sym one)
+        sym one,
+      )
 
   pub kept-none : kept_length uncouple couple arriving departing ≡ None → (types : List ℕ) → Fits uncouple couple arriving departing types → ⊥
   unfolding kept_length

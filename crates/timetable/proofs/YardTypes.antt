@@ -39,7 +39,7 @@ module _ (uncouple couple : End) (exchange : Bool) (arriving departing : List �
       ap (λ (o : Option Parts). unwrap_or o all)
       (turn_parts-is itself uncouple couple exchange arriving departing n (by_types ∙ kept)
       ∙ cond-false (same (staying uncouple arriving n) (staying couple departing n) && may_shunt exchange (length arriving - n) (length departing - n)) _ None
-        (ap (λ (b : Bool). same (staying uncouple arriving n) (staying couple departing n) && b) many ∙ never (same (staying uncouple arriving n) (staying couple departing n))))
+      (ap (λ (b : Bool). same (staying uncouple arriving n) (staying couple departing n) && b) many ∙ never (same (staying uncouple arriving n) (staying couple departing n))))
 
   -- no list fits: all goes and comes
   pub none_stay : kept_length uncouple couple arriving departing ≡ None → turn_of itself uncouple couple exchange arriving departing ≡ all

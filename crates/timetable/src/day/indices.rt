@@ -6,9 +6,7 @@ ghost use Rattle.timetable.specs.Lists.{sum_below};
 ghost use Rattle.timetable.specs.Minutes.{minutes_of};
 
 use crate::day::instance::Instance;
-use rail_base::limits::{
-    MOST_COMPOSITIONS, MOST_LINKS, MOST_STATIONS, MOST_TRIPS, MOST_TYPES,
-};
+use rail_base::limits::{MOST_COMPOSITIONS, MOST_LINKS, MOST_STATIONS, MOST_TRIPS, MOST_TYPES};
 use rail_base::{CompNo, StationNo, TypeNo};
 
 /// What a multiplier belongs to.
@@ -26,7 +24,10 @@ pub enum Place {
         unit_type: TypeNo,
     },
     /// A hand-over and a composition of its second trip.
-    Sigma { handover: u32, comp: CompNo },
+    Sigma {
+        handover: u32,
+        comp: CompNo,
+    },
 }
 
 impl Instance {

@@ -63,7 +63,9 @@ impl LinkKind {
     {
         match *self {
             LinkKind::Turn {
-                uncouple, couple, ..
+                uncouple,
+                couple,
+                ..
             } => kept_length(uncouple, couple, arriving, departing),
             LinkKind::Join { .. } | LinkKind::Split { .. } => None,
         }
@@ -165,7 +167,15 @@ impl Link {
                 let kept = self.kept_on(instance, plan);
                 let arriving = turned(self.reverse, plan.units(arriving));
                 let departing = plan.units(departing);
-                turn_parts(uncouple, couple, exchange, kept, arriving.as_slice(), departing).is_some()
+                turn_parts(
+                    uncouple,
+                    couple,
+                    exchange,
+                    kept,
+                    arriving.as_slice(),
+                    departing,
+                )
+                .is_some()
             }
             LinkKind::Join {
                 first,
@@ -209,7 +219,14 @@ impl Link {
                 let kept = self.kept_on(instance, plan);
                 let arriving = turned(self.reverse, plan.units(arriving));
                 let departing = plan.units(departing);
-                match turn_parts(uncouple, couple, exchange, kept, arriving.as_slice(), departing) {
+                match turn_parts(
+                    uncouple,
+                    couple,
+                    exchange,
+                    kept,
+                    arriving.as_slice(),
+                    departing,
+                ) {
                     Some(parts) => YardUnits {
                         given: copy_of(parts.given),
                         taken: copy_of(parts.taken),

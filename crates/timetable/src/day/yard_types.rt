@@ -81,8 +81,13 @@ impl Link {
             } => {
                 let arriving = turned(self.reverse, instance.composition(picks, arriving).units());
                 let departing = instance.composition(picks, departing).units();
-                let staying =
-                    staying_units(uncouple, couple, exchange, arriving.as_slice(), departing);
+                let staying = staying_units(
+                    uncouple,
+                    couple,
+                    exchange,
+                    arriving.as_slice(),
+                    departing,
+                );
                 YardTypes {
                     given: going(uncouple, arriving.as_slice(), staying),
                     taken: going(couple, departing, staying),

@@ -21,8 +21,12 @@ overflow_add-result c = omega (arith, c.free_from.ensures.few, mul-le c.stations
 
 pub overflow_add-result-2 : goal.overflow_add-result-2
 overflow_add-result-2 c =
-    omega (arith, c.free_from.ensures.few, mul-le c.stations.result c.len.result 60 6 c.stations.ensures.few c.len.ensures.few,
-        mul-le c.handovers.result c.len-2.result 400 1000 c.handovers.ensures.few c.len-2.ensures.few)
+    omega (
+      arith,
+      c.free_from.ensures.few,
+      mul-le c.stations.result c.len.result 60 6 c.stations.ensures.few c.len.ensures.few,
+      mul-le c.handovers.result c.len-2.result 400 1000 c.handovers.ensures.few c.len-2.ensures.few,
+    )
 
 pub returns-clause-value : goal.returns-clause-value
 returns-clause-value c =
@@ -32,5 +36,9 @@ returns-clause-value c =
 
 pub returns-clause-few : goal.returns-clause-few
 returns-clause-few c =
-    omega (arith, c.free_from.ensures.few, mul-le c.stations.result c.len.result 60 6 c.stations.ensures.few c.len.ensures.few,
-        mul-le c.handovers.result c.len-2.result 400 1000 c.handovers.ensures.few c.len-2.ensures.few)
+    omega (
+      arith,
+      c.free_from.ensures.few,
+      mul-le c.stations.result c.len.result 60 6 c.stations.ensures.few c.len.ensures.few,
+      mul-le c.handovers.result c.len-2.result 400 1000 c.handovers.ensures.few c.len-2.ensures.few,
+    )
