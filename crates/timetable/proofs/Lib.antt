@@ -38,3 +38,4 @@ pub mod Sorting
 pub mod Numbered
 pub mod Picking
 pub mod YardTypes
+pub mod StockRows

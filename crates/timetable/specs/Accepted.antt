@@ -1,5 +1,5 @@
 -- What is known of every day that was accepted.
-use Rattle.std.specs.Prelude.{ℕ, ◌+◌, ◌<◌, ◌≤◌, ◌≡◌, length, List, [], ◌∷◌, All, IsTrue, Some, slice_get}
+use Rattle.std.specs.Prelude.{ℕ, ◌+◌, ◌<◌, ◌≤◌, ◌≡◌, length, List, [], ◌∷◌, ◌==◌, ◌&&◌, if◌then◌else◌, All, IsTrue, Some, slice_get}
 use Rattle.rail_base.specs.declared.limits.TheConstants.{MOST_CARRIAGES, MOST_SEATS, MOST_FIRST_SEATS, MOST_METRES, MOST_MINUTES, MOST_KM, MOST_DEMAND, MOST_FIRST_DEMAND, MOST_PLATFORM, MOST_REALLOCATION, MOST_TYPES, MOST_STATIONS, MOST_TRIPS, MOST_LINKS, MOST_UNITS, MOST_WEIGHT}
 use Rattle.compositions.specs.declared.types.UnitType.{UnitType}
 use Rattle.timetable.specs.Day.{Day, leaves, arrives, from_of, to_of, km_of, demand_of, first_demand_of, home_of, type_of, unit_count, platform_of, reallocation_of}
@@ -7,6 +7,7 @@ use Rattle.timetable.specs.Links.{arriving_in, departing_in}
 use Rattle.timetable.specs.Lists.{count_of, has}
 use Rattle.timetable.specs.declared.day.records.Link.{Link}
 use Rattle.timetable.specs.declared.day.records.LinkKind.{LinkKind}
+use Rattle.timetable.specs.declared.day.records.Stock.{Stock}
 
 -- the numbers of a unit type are within the limits
 pub record IsUnitType (t : UnitType) : Type 0 where
@@ -54,3 +55,12 @@ pub record AreLinks (day : Day) : Type 0 where
 -- each arriving trip of a link goes to the station that each departing one leaves from
 pub record DoMeet (day : Day) : Type 0 where
   pub station : (l a b : ℕ) (link : Link) → slice_get day.links l ≡ Some link → IsTrue (has a (arriving_in link.kind)) → IsTrue (has b (departing_in link.kind)) → to_of day a ≡ from_of day b
+
+-- how many stock rows are of a station and a type
+abbrev pub rows_of : List Stock → ℕ → ℕ → ℕ
+rows_of [] s m = 0
+rows_of (row ∷ rows) s m = (if (row.station == s) && (row.unit_type == m) then 1 else 0) + rows_of rows s m
+
+-- no station has two stock rows of one type
+pub record IsStocked (day : Day) : Type 0 where
+  pub once : (s m : ℕ) → rows_of day.stock s m ≤ 1

@@ -3,7 +3,7 @@
 ghost use Rattle.std.specs.Prelude.{◌≡◌, ◌<◌, ◌≤◌, [], ◌∷◌, ◌++◌, length, slice_get, Some, replicate, OnOk, IfOk, IfErr, IfSome};
 ghost use Rattle.std.specs.List.{All};
 ghost use Rattle.rail_csv.specs.Rows.{AreTypeRows, AreStationRows, AreStockRows, AreTripRows, AreLinkRows, IsWeightsRow};
-ghost use Rattle.timetable.specs.Accepted.{IsDay, AreLinks};
+ghost use Rattle.timetable.specs.Accepted.{IsDay, AreLinks, IsStocked};
 ghost use Rattle.timetable.specs.Admissible.{is_admissible};
 ghost use Rattle.timetable.specs.Compositions.{compositions_of, composition_at};
 ghost use Rattle.rail_base.specs.Answers.{Unless, Gives};
@@ -326,10 +326,12 @@ impl Instance {
         self.units[unit.place()]
     }
 
-    /// How many units of a type stand at a station at the start of the day: none where no stock row says it.
+    /// How many units of a type stand at a station at the start of the day: none where no stock row says it. No station has two
+    /// stock rows of one type.
     #[tactic(auto, unfolding(crate::specs::Starts::start_of))]
     pub fn start(&self, station: StationNo, unit_type: TypeNo) -> u32
-        ensures { result ≡ start_of self.now station unit_type }
+        ensures value { result ≡ start_of self.now station unit_type }
+        ensures once { IsStocked self.now }
     {
         start_in(&self.stock, station, unit_type)
     }

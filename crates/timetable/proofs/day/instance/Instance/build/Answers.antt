@@ -31,6 +31,7 @@ use Rattle.timetable.proofs.Linking.{are_links}
 use Rattle.timetable.proofs.LinkTables.{table_of}
 use Rattle.timetable.proofs.Leading.{next_known}
 use Rattle.timetable.proofs.Said.{is_day_of}
+use Rattle.timetable.proofs.StockRows.{stocked}
 use Rattle.timetable.proofs.Within.{entries_within}
 use Rattle.timetable.proofs.Refused.{answer_is_so, none_failed, first_failed, links_fail}
 use Rattle.timetable.specs.declared.building.refusal.InstanceRefusal.TheVariants.{TooManyUnits}
@@ -116,6 +117,7 @@ invariant_of-result c =
       within = entries_within c.args.tables day c.requires.types c.requires.stations c.requires.trips c.requires.weights made;
       catalogue = c.in_ok-catalogue.ensures.value ∙ ap (λ (stations : List Station). catalogue_of c.new-types.result (greatest_in stations)) (c.entries.ensures ∙ sym c.into_entries-stations.ensures);
       links = are_links day c.args.tables.links linked;
+      stocked = stocked day (is_day_of c.args.tables day made).stock_rows;
       incoming = table_of departing_in c.in_ok-linking.linking.incoming.items c.deref-3.result.now c.in_ok-links.links.items c.len-trip_count.result (length day.trips) c.in_ok-linking.ensures.incoming c.deref-3.ensures.value count;
       outgoing = table_of arriving_in c.in_ok-linking.linking.outgoing.items c.deref-3.result.now c.in_ok-links.links.items c.len-trip_count.result (length day.trips) c.in_ok-linking.ensures.outgoing c.deref-3.ensures.value count;
       chains = c.in_ok-linking.ensures.chains
