@@ -14,7 +14,7 @@ use Rattle.day_simulator.specs.declared.events.StepFault.{StepFault}
 use Rattle.day_simulator.specs.declared.events.StepFault.TheVariants.{Balance}
 use Rattle.day_simulator.specs.State.{State, place_of, stage_of, is_waiting, has_arrived, is_in_yard}
 use Rattle.day_simulator.specs.Finish.{first_not_made, yard_count, first_differing_type, or_else, first_differing, ended}
-use Rattle.day_simulator.proofs.Order.{one_same, one_other, count_below_in, count_below_out}
+use Rattle.timetable.proofs.Ones.{one_same, one_other, count_below_in, count_below_out}
 
 -- where every trip has arrived, each event was made
 pub all_made : (state : State) (es : List DayEvent) → ((t : ℕ) → stage_of state.stages t ≡ stage.Arrived) → first_not_made state es ≡ None

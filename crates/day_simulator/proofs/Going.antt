@@ -19,11 +19,12 @@ use Rattle.day_simulator.specs.declared.events.StepFault.TheVariants.{NotNow, No
 use Rattle.day_simulator.specs.State.{State, start_of, place_of, stage_of, put_all}
 use Rattle.day_simulator.specs.Steps.{is_now, broken_into, broken_out, first_missing, fault_of, after}
 use Rattle.day_simulator.specs.Orders.{IsOrder, departures, arrivals, AllFrom}
-use Rattle.day_simulator.proofs.Order.{one_other}
+use Rattle.timetable.proofs.Ones.{one_other}
 use Rattle.day_simulator.proofs.Lawful.{Lawful, lawful_order}
 use Rattle.day_simulator.proofs.Timely.{Timely, timely_now_depart, timely_now_arrive, timely_depart, timely_arrive, timely_start}
 use Rattle.day_simulator.proofs.Places.{HavePlaces, length-put_all, put_in, put_out, Served, served_from_none}
-use Rattle.day_simulator.proofs.Accounts.{AreAccounted, kept_arrives}
+use Rattle.day_simulator.proofs.Unbroken.{IsUnbroken}
+use Rattle.timetable.proofs.Accounts.{kept_arrives}
 use Rattle.day_simulator.proofs.Moves.{is_trip, Fits, DistinctSoFar, Boarding, fits_board, fits_pass_depart, fits_give, fits_keep, fits_pass_arrive, boarding_of, boards_once}
 
 pub record Going (day : Day) (plan : List (List ℕ)) (state : State) (es : List DayEvent) : Type 0 where
@@ -84,12 +85,12 @@ have_places day plan t n us is_plan same le = record {
   within = λ v c. let l = le v in let lt = is_plan.units t v (le-leb 1 (count_of v (list_of plan t)) (omega arith)) in omega arith;
 }
 
-module _ (day : Day) (plan : List (List ℕ)) (is_day : IsDay day) (is_plan : IsPlan day plan) (accounted : AreAccounted day plan) where
+module _ (day : Day) (plan : List (List ℕ)) (is_day : IsDay day) (is_plan : IsPlan day plan) (accounted : IsUnbroken day plan) where
   pub taken_within : (t u : ℕ) → count_of u (taken day plan t) ≤ count_of u (list_of plan t)
-  taken_within t u = let total = (accounted.takes t).total u in omega arith
+  taken_within t u = let total = (accounted.accounts.takes t).total u in omega arith
 
   pub given_within : (t u : ℕ) → count_of u (given day plan t) ≤ count_of u (list_of plan t)
-  given_within t u = let total = (accounted.gives t).total u in omega arith
+  given_within t u = let total = (accounted.accounts.gives t).total u in omega arith
 
   pub now_depart : (state : State) (t : ℕ) (es : List DayEvent) → Going day plan state (Depart t ∷ es) → is_now day state (Depart t) ≡ true
   now_depart state t es g = timely_now_depart day is_day accounted.before state t es (timely_of day plan state (Depart t ∷ es) g)
@@ -213,7 +214,7 @@ pub start_place : (day : Day) (u : ℕ) → u < unit_count day → place_of (sta
 unfolding start_of place_of home_of
 start_place day u lt = home_place (units_of day) u lt
 
-pub going_start : (day : Day) (plan : List (List ℕ)) (es : List DayEvent) → IsOrder day es → IsPlan day plan → AreAccounted day plan → Going day plan (start_of day) es
+pub going_start : (day : Day) (plan : List (List ℕ)) (es : List DayEvent) → IsOrder day es → IsPlan day plan → IsUnbroken day plan → Going day plan (start_of day) es
 unfolding start_of
 going_start day plan es order is_plan accounted =
     let timely = timely_start day es order in record {
@@ -227,7 +228,7 @@ going_start day plan es order is_plan accounted =
       fits = λ u lt. subst (λ p. Fits day plan u p es) (sym (start_place day u lt)) (record {
         under_way = λ t c d a. (let one = order.departs_once t (in_day t a) in absurd (omega arith));
         pending = λ a b k gone yet.
-            let le = kept_arrives day plan accounted u a b in
+            let le = kept_arrives day plan accounted.accounts u a b in
             let trip = is_trip day plan u a is_plan (omega arith) in
             let one = order.arrives_once a trip in
             absurd (omega arith);

@@ -9,7 +9,8 @@ use Rattle.day_simulator.specs.declared.events.DayEvent.TheVariants.{Depart, Arr
 use Rattle.day_simulator.specs.State.{moment_of}
 use Rattle.day_simulator.specs.Steps.{events_by_trip, fixed_order}
 use Rattle.day_simulator.specs.Orders.{IsOrder, departures, arrivals, AllFrom, NeverFalls}
-use Rattle.day_simulator.proofs.Order.{one_same, one_other, sorted_never_falls, departures_sorted, arrivals_sorted, count_below_in, count_below_out}
+use Rattle.timetable.proofs.Ones.{one_same, one_other, count_below_in, count_below_out}
+use Rattle.day_simulator.proofs.Order.{sorted_never_falls, departures_sorted, arrivals_sorted}
 
 pub record Lawful (day : Day) (es : List DayEvent) : Type 0 where
   pub never_falls : NeverFalls day es

@@ -11,7 +11,8 @@ use Rattle.day_simulator.specs.declared.events.DayEvent.TheVariants.{Depart, Arr
 use Rattle.day_simulator.specs.State.{moment_of}
 use Rattle.day_simulator.specs.Steps.{insert_event, sorted_events, events_by_trip, fixed_order}
 use Rattle.day_simulator.specs.Orders.{departures, AllFrom, NeverFalls}
-use Rattle.day_simulator.proofs.Order.{one_same, one_other, from_earlier, count_of-append, sorted_never_falls, departures_sorted, count_below_out}
+use Rattle.timetable.proofs.Ones.{one_same, one_other, count_below_out}
+use Rattle.day_simulator.proofs.Order.{from_earlier, count_of-append, sorted_never_falls, departures_sorted}
 use Rattle.day_simulator.proofs.Lawful.{from_departure}
 
 -- the trips that pass a test, as they depart among these events

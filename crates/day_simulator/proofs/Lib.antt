@@ -7,10 +7,9 @@ pub mod Faults
 pub mod FixedOrder
 pub mod Timely
 pub mod Going
-pub mod Accounts
+pub mod Unbroken
 pub mod Lawful
 pub mod Legs
-pub mod LinkKinds
 pub mod LinkTrips
 pub mod Linked
 pub mod Missing

@@ -14,9 +14,10 @@ use Rattle.day_simulator.specs.declared.events.Place.{Place}
 use Rattle.day_simulator.specs.declared.events.Place.TheVariants.{Yard, Aboard, Standing}
 use Rattle.day_simulator.specs.State.{is_ready, moment_of}
 use Rattle.day_simulator.specs.Orders.{departures, arrivals}
-use Rattle.day_simulator.proofs.Order.{one_same, one_other}
+use Rattle.timetable.proofs.Ones.{one_same, one_other}
 use Rattle.day_simulator.proofs.Lawful.{Lawful, left_depart, left_arrive, arrived_before, departs_after, from_arrival}
-use Rattle.day_simulator.proofs.Accounts.{AreAccounted, kept_arrives, kept_departs, not_given_and_kept, not_taken_and_kept, kept_for_one, comes_from, goes_to}
+use Rattle.day_simulator.proofs.Unbroken.{IsUnbroken}
+use Rattle.timetable.proofs.Accounts.{kept_arrives, kept_departs, not_given_and_kept, not_taken_and_kept, kept_for_one, comes_from, goes_to}
 
 -- a trip that has a unit is a trip of the day
 pub is_trip : (day : Day) (plan : List (List ℕ)) (u t : ℕ) → IsPlan day plan → 1 ≤ count_of u (list_of plan t) → t < length day.trips
@@ -59,7 +60,7 @@ pub record Boarding (day : Day) (plan : List (List ℕ)) (u t : ℕ) (place : Pl
   pub not_aboard : (s : ℕ) → place ≡ Aboard s → ⊥
   pub stood : (a : ℕ) → place ≡ Standing a → 1 ≤ count_of u (kept day plan a t)
 
-module _ (day : Day) (plan : List (List ℕ)) (is_day : IsDay day) (is_plan : IsPlan day plan) (accounted : AreAccounted day plan) where
+module _ (day : Day) (plan : List (List ℕ)) (is_day : IsDay day) (is_plan : IsPlan day plan) (accounted : IsUnbroken day plan) where
   pub fits_board : (u t : ℕ) (place : Place) (es : List DayEvent) → Lawful day (Depart t ∷ es) → DistinctSoFar plan (Depart t ∷ es) → 1 ≤ count_of u (list_of plan t) → Fits day plan u place (Depart t ∷ es) → Boarding day plan u t place → Fits day plan u (Aboard t) es
   fits_board u t place es lawful so_far mine fits boarding =
       let left = left_depart day t es lawful in
@@ -70,7 +71,7 @@ module _ (day : Day) (plan : List (List ℕ)) (is_day : IsDay day) (is_plan : Is
             let stands : place ≡ Standing a = fits.pending a b k gone (omega arith) in
             let too = lawful.departs_too a in
             let once = so_far.distinct a (omega arith) u in
-            let same : b ≡ t = kept_for_one day plan accounted u a b t once k (boarding.stood a stands) in
+            let same : b ≡ t = kept_for_one day plan accounted.accounts u a b t once k (boarding.stood a stands) in
             let yet' : 1 ≤ departures t es = subst (λ x. 1 ≤ departures x es) same yet in
             let none = left.departs in
             absurd (omega arith);
@@ -92,7 +93,7 @@ module _ (day : Day) (plan : List (List ℕ)) (is_day : IsDay day) (is_plan : Is
     aboard = λ s e. let f = fits.aboard s e in (f.0, (let d = f.1 in omega arith), f.2);
     standing = λ a e.
         let f = fits.standing a e in
-        let le = kept_departs day plan accounted u a f.0 in
+        let le = kept_departs day plan accounted.accounts u a f.0 in
         let k = f.1 in
         let ne : t ≢ f.0 = λ e. (let z = subst (λ x. count_of u (list_of plan x) ≡ 0) e none in absurd (omega arith)) in
         let o = one_other t f.0 ne in
@@ -117,7 +118,7 @@ module _ (day : Day) (plan : List (List ℕ)) (is_day : IsDay day) (is_plan : Is
         pending = λ a b k gone yet.
             ⊎_elim (λ (e : t ≡ a).
             let k' = subst (λ y. 1 ≤ count_of u (kept day plan y b)) (sym e) k in
-            absurd (not_given_and_kept day plan accounted u t b (so_far.distinct t left.departs u) gives k'))
+            absurd (not_given_and_kept day plan accounted.accounts u t b (so_far.distinct t left.departs u) gives k'))
             (λ (ne : t ≢ a).
             let o = one_other t a ne in
             let there : place ≡ Standing a = fits.pending a b k (omega arith) yet in
@@ -131,11 +132,11 @@ module _ (day : Day) (plan : List (List ℕ)) (is_day : IsDay day) (is_plan : Is
   fits_keep u t place es lawful mine not_given fits =
       let left = left_arrive day t es is_day lawful in
       let at : place ≡ Aboard t = arrives_aboard u t place es lawful mine fits in
-      let goes = goes_to day plan accounted u t mine not_given in
-      let le = kept_departs day plan accounted u t goes.0 in
+      let goes = goes_to day plan accounted.accounts u t mine not_given in
+      let le = kept_departs day plan accounted.accounts u t goes.0 in
       let k = goes.1 in
       let trip = is_trip day plan u goes.0 is_plan (omega arith) in
-      let yet = departs_after day t goes.0 es trip (accounted.time u t goes.0 goes.1) lawful in
+      let yet = departs_after day t goes.0 es trip (accounted.accounts.time u t goes.0 goes.1) lawful in
       record {
         under_way = λ x c d a.
             let there : place ≡ Aboard x = fits.under_way x c d (omega arith) in
@@ -159,7 +160,7 @@ module _ (day : Day) (plan : List (List ℕ)) (is_day : IsDay day) (is_plan : Is
   fits_pass_arrive u t place es none fits = record {
     under_way = λ s c d a. fits.under_way s c d (omega arith);
     pending = λ a b k gone yet.
-        let le = kept_arrives day plan accounted u a b in
+        let le = kept_arrives day plan accounted.accounts u a b in
         let ne : t ≢ a = λ e. (let z = subst (λ x. count_of u (list_of plan x) ≡ 0) e none in absurd (omega arith)) in
         let o = one_other t a ne in
         fits.pending a b k (omega arith) yet;
@@ -176,14 +177,14 @@ module _ (day : Day) (plan : List (List ℕ)) (is_day : IsDay day) (is_plan : Is
   pub kept_stands : (u a t : ℕ) (place : Place) (es : List DayEvent) → Lawful day (Depart t ∷ es) → 1 ≤ count_of u (kept day plan a t) → Fits day plan u place (Depart t ∷ es) → place ≡ Standing a
   kept_stands u a t place es lawful k fits =
       let o = one_same t t refl in
-      fits.pending a t k (arrived_before day a t es (accounted.time u a t k) lawful) (omega arith)
+      fits.pending a t k (arrived_before day a t es (accounted.accounts.time u a t k) lawful) (omega arith)
 
   -- a unit of a trip that departs, where those that it takes are ready, comes from a yard or from a train that it is kept from
   pub boarding_of : (u t : ℕ) (place : Place) (es : List DayEvent) → Lawful day (Depart t ∷ es) → 1 ≤ count_of u (list_of plan t) → (1 ≤ count_of u (taken day plan t) → is_ready (from_of day t) (leaves day t) place ≡ true) → Fits day plan u place (Depart t ∷ es) → Boarding day plan u t place
   boarding_of u t place es lawful mine ready fits =
       ⊎_elim (λ (c : 1 ≤ count_of u (taken day plan t)). from_yard place c (ready c))
       (λ (k : (a : ℕ) × (1 ≤ count_of u (kept day plan a t))). from_train k.0 k.1 (kept_stands u k.0 t place es lawful k.1 fits))
-      (comes_from day plan accounted u t mine)
+      (comes_from day plan accounted.accounts u t mine)
     where
       from_yard : (p : Place) → 1 ≤ count_of u (taken day plan t) → is_ready (from_of day t) (leaves day t) p ≡ true → Boarding day plan u t p
       from_yard (Yard s r) c is =
@@ -199,29 +200,29 @@ module _ (day : Day) (plan : List (List ℕ)) (is_day : IsDay day) (is_plan : Is
   -- such a unit is in the trip's list once
   pub boards_once : (u t : ℕ) (place : Place) (es : List DayEvent) → Lawful day (Depart t ∷ es) → DistinctSoFar plan (Depart t ∷ es) → count_of u (taken day plan t) ≤ 1 → (1 ≤ count_of u (taken day plan t) → is_ready (from_of day t) (leaves day t) place ≡ true) → Fits day plan u place (Depart t ∷ es) → count_of u (list_of plan t) ≤ 1
   boards_once u t place es lawful so_far once ready fits =
-      let total = (accounted.takes t).total u in
-      let first = kept_once (accounted.takes t).first in
-      let second = kept_once (accounted.takes t).second in
+      let total = (accounted.accounts.takes t).total u in
+      let first = kept_once (accounted.accounts.takes t).first in
+      let second = kept_once (accounted.accounts.takes t).second in
       ⊎_elim (λ (x : 0 < count_of u (taken day plan t)).
-      let f = not_kept (accounted.takes t).first (omega arith) in
-      let s = not_kept (accounted.takes t).second (omega arith) in
+      let f = not_kept (accounted.accounts.takes t).first (omega arith) in
+      let s = not_kept (accounted.accounts.takes t).second (omega arith) in
       omega arith)
       (λ (x : count_of u (taken day plan t) ≤ 0).
-      ⊎_elim (λ (y : 0 < count_of u (kept day plan (accounted.takes t).first t)).
-      let s : count_of u (kept day plan (accounted.takes t).second t) ≡ 0 =
-      ⊎_elim (λ (z : 0 < count_of u (kept day plan (accounted.takes t).second t)). absurd (not_both (omega arith) (omega arith)))
-      (λ (z : count_of u (kept day plan (accounted.takes t).second t) ≤ 0). omega arith) (cases_lt 0 (count_of u (kept day plan (accounted.takes t).second t))) in
+      ⊎_elim (λ (y : 0 < count_of u (kept day plan (accounted.accounts.takes t).first t)).
+      let s : count_of u (kept day plan (accounted.accounts.takes t).second t) ≡ 0 =
+      ⊎_elim (λ (z : 0 < count_of u (kept day plan (accounted.accounts.takes t).second t)). absurd (not_both (omega arith) (omega arith)))
+      (λ (z : count_of u (kept day plan (accounted.accounts.takes t).second t) ≤ 0). omega arith) (cases_lt 0 (count_of u (kept day plan (accounted.accounts.takes t).second t))) in
       omega arith)
-      (λ (y : count_of u (kept day plan (accounted.takes t).first t) ≤ 0). omega arith)
-      (cases_lt 0 (count_of u (kept day plan (accounted.takes t).first t))))
+      (λ (y : count_of u (kept day plan (accounted.accounts.takes t).first t) ≤ 0). omega arith)
+      (cases_lt 0 (count_of u (kept day plan (accounted.accounts.takes t).first t))))
       (cases_lt 0 (count_of u (taken day plan t)))
     where
       kept_once : (a : ℕ) → count_of u (kept day plan a t) ≤ 1
       kept_once a =
           ⊎_elim (λ (y : 0 < count_of u (kept day plan a t)).
-          let gone = arrived_before day a t es (accounted.time u a t (omega arith)) lawful in
+          let gone = arrived_before day a t es (accounted.accounts.time u a t (omega arith)) lawful in
           let too = lawful.departs_too a in
-          let le = kept_arrives day plan accounted u a t in
+          let le = kept_arrives day plan accounted.accounts u a t in
           let d = so_far.distinct a (omega arith) u in
           omega arith)
           (λ (y : count_of u (kept day plan a t) ≤ 0). omega arith) (cases_lt 0 (count_of u (kept day plan a t)))
@@ -234,24 +235,24 @@ module _ (day : Day) (plan : List (List ℕ)) (is_day : IsDay day) (is_plan : Is
           absurd (false≢true is))
           (λ (y : count_of u (kept day plan a t) ≤ 0). omega arith) (cases_lt 0 (count_of u (kept day plan a t)))
 
-      not_both : 1 ≤ count_of u (kept day plan (accounted.takes t).first t) → 1 ≤ count_of u (kept day plan (accounted.takes t).second t) → ⊥
+      not_both : 1 ≤ count_of u (kept day plan (accounted.accounts.takes t).first t) → 1 ≤ count_of u (kept day plan (accounted.accounts.takes t).second t) → ⊥
       not_both f s =
-          let x = kept_stands u (accounted.takes t).first t place es lawful f fits in
-          let y = kept_stands u (accounted.takes t).second t place es lawful s fits in
-          let same : (accounted.takes t).first ≡ (accounted.takes t).second = cc in
-          (accounted.takes t).apart same
+          let x = kept_stands u (accounted.accounts.takes t).first t place es lawful f fits in
+          let y = kept_stands u (accounted.accounts.takes t).second t place es lawful s fits in
+          let same : (accounted.accounts.takes t).first ≡ (accounted.accounts.takes t).second = cc in
+          (accounted.accounts.takes t).apart same
 
   -- the other way round: a unit that can board the trip, and is taken for it, is ready in the yard
   pub ready_from_boards : (u t : ℕ) (place : Place) (es : List DayEvent) → Lawful day (Depart t ∷ es) → count_of u (list_of plan t) ≤ 1 → 1 ≤ count_of u (taken day plan t) → Fits day plan u place (Depart t ∷ es) → Boards day plan u place t → is_ready (from_of day t) (leaves day t) place ≡ true
   unfolding moment_of
   ready_from_boards u t (Yard s r) es lawful once c fits h = and_from (eqb s (from_of day t)) (leb r (leaves day t)) (eq-eqb s (from_of day t) (sym h.1)) (le-leb r (leaves day t) h.2)
-  ready_from_boards u t (Aboard a) es lawful once c fits (inl k) = absurd (not_taken_and_kept day plan accounted u a t once c (leb-true 1 _ k))
+  ready_from_boards u t (Aboard a) es lawful once c fits (inl k) = absurd (not_taken_and_kept day plan accounted.accounts u a t once c (leb-true 1 _ k))
   ready_from_boards u t (Aboard a) es lawful once c fits (inr y) =
       let f = fits.aboard a refl in
       let late = from_arrival day (2 * leaves day t + 1) a es lawful.never_falls.0 f.2 in
       let ready = y.ready in
       absurd (omega arith)
-  ready_from_boards u t (Standing a) es lawful once c fits k = absurd (not_taken_and_kept day plan accounted u a t once c k)
+  ready_from_boards u t (Standing a) es lawful once c fits k = absurd (not_taken_and_kept day plan accounted.accounts u a t once c k)
 
   -- what a unit in a trip can board next, once the trip has given it to the yard
   pub boards_all_give : (u t : ℕ) (ts : List ℕ) → count_of u (list_of plan t) ≤ 1 → 1 ≤ count_of u (given day plan t) → BoardsAll day plan u (Aboard t) ts → BoardsAll day plan u (Yard (to_of day t) (arrives day t + reallocation_of day (to_of day t))) ts
@@ -259,7 +260,7 @@ module _ (day : Day) (plan : List (List ℕ)) (is_day : IsDay day) (is_plan : Is
   boards_all_give u t (b ∷ ts) once gives h = (on h.0, h.1)
     where
       on : MayFollow day plan u t b → Boards day plan u (Yard (to_of day t) (arrives day t + reallocation_of day (to_of day t))) b
-      on (inl k) = absurd (not_given_and_kept day plan accounted u t b once gives (leb-true 1 _ k))
+      on (inl k) = absurd (not_given_and_kept day plan accounted.accounts u t b once gives (leb-true 1 _ k))
       on (inr y) = (leb-true 1 _ y.taken, sym y.station, y.ready)
 
   pub boards_all_give_back : (u t : ℕ) (ts : List ℕ) → 1 ≤ count_of u (given day plan t) → BoardsAll day plan u (Yard (to_of day t) (arrives day t + reallocation_of day (to_of day t))) ts → BoardsAll day plan u (Aboard t) ts

@@ -5,21 +5,12 @@ use Rattle.std.proofs.lemmas.Bool.{cond_both, leb-true, leb-false, cases_eq}
 use Rattle.std.proofs.lemmas.Bool.Decides.{nat_tests}
 use Rattle.timetable.specs.Day.{Day}
 use Rattle.timetable.specs.Lists.{count_of, below}
+use Rattle.timetable.proofs.Ones.{one, one_same, one_other}
 use Rattle.day_simulator.specs.declared.events.DayEvent.{DayEvent}
 use Rattle.day_simulator.specs.declared.events.DayEvent.TheVariants.{Depart, Arrive}
 use Rattle.day_simulator.specs.State.{moment_of}
 use Rattle.day_simulator.specs.Orders.{departures, arrivals, AllFrom, NeverFalls}
 use Rattle.day_simulator.specs.Steps.{insert_event, sorted_events, events_by_trip}
-
--- a number counts once where it is the one, and not at all elsewhere
-abbrev pub one : ℕ → ℕ → ℕ
-one s t = if s == t then 1 else 0
-
-pub one_same : (s t : ℕ) → s ≡ t → one s t ≡ 1
-one_same s t e = grind (arith, nat_tests)
-
-pub one_other : (s t : ℕ) → s ≢ t → one s t ≡ 0
-one_other s t ne = grind (arith, nat_tests)
 
 pub from_earlier : (day : Day) (m n : ℕ) (es : List DayEvent) → m ≤ n → AllFrom day n es → AllFrom day m es
 from_earlier day m n [] le h = tt
@@ -83,30 +74,3 @@ arrivals_sorted day t (s ∷ ts) =
 pub count_of-append : (t : ℕ) (xs ys : List ℕ) → count_of t (xs ++ ys) ≡ count_of t xs + count_of t ys
 count_of-append t [] ys = omega arith
 count_of-append t (x ∷ xs) ys = let ih = count_of-append t xs ys in omega arith
-
--- each number below the bound is there once, and no other is
-pub count_below_out : (t n : ℕ) → n ≤ t → count_of t (below n) ≡ 0
-count_below_out t zero h = refl
-count_below_out t (suc n) h =
-    let ih = count_below_out t n (omega arith) in
-    let a = count_of-append t (below n) (n ∷ []) in
-    let other = one_other n t (omega arith) in
-    omega arith
-
-pub count_below_in : (t n : ℕ) → t < n → count_of t (below n) ≡ 1
-count_below_in t zero h = absurd (omega arith)
-count_below_in t (suc n) h = ⊎_elim here (before (λ lt. count_below_in t n lt)) (cases_eq n t)
-  where
-    here : n ≡ t → count_of t (below n ++ n ∷ []) ≡ 1
-    here e =
-        let out = count_below_out t n (omega arith) in
-        let a = count_of-append t (below n) (n ∷ []) in
-        let one = one_same n t e in
-        omega arith
-
-    before : (t < n → count_of t (below n) ≡ 1) → n ≢ t → count_of t (below n ++ n ∷ []) ≡ 1
-    before counted ne =
-        let ih = counted (omega arith) in
-        let a = count_of-append t (below n) (n ∷ []) in
-        let other = one_other n t ne in
-        omega arith

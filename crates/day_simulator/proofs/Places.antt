@@ -12,7 +12,7 @@ use Rattle.day_simulator.specs.declared.events.Stage.{Stage}
 use Rattle.day_simulator.specs.declared.events.Stage.TheVariants as stage
 use Rattle.day_simulator.specs.State.{place_of, stage_of, is_ready, put_all}
 use Rattle.day_simulator.specs.Steps.{first_missing}
-use Rattle.day_simulator.proofs.Order.{one_same, one_other}
+use Rattle.timetable.proofs.Ones.{one_same, one_other}
 
 pub place_same : (places : List Place) (u : ℕ) (p : Place) → u < length places → place_of (slice_set places u p) u ≡ p
 unfolding place_of

@@ -7,7 +7,7 @@ use Rattle.day_simulator.specs.declared.events.DayEvent.{DayEvent}
 use Rattle.day_simulator.specs.declared.events.DayEvent.TheVariants.{Depart, Arrive}
 use Rattle.day_simulator.specs.State.{moment_of}
 use Rattle.day_simulator.specs.Orders.{departures, NeverFalls}
-use Rattle.day_simulator.proofs.Order.{one, one_same, one_other}
+use Rattle.timetable.proofs.Ones.{one, one_same, one_other}
 use Rattle.day_simulator.proofs.Lawful.{from_departure}
 use Rattle.day_simulator.proofs.Legs.{legs}
 

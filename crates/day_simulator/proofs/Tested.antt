@@ -17,9 +17,10 @@ use Rattle.day_simulator.specs.declared.events.StepFault.TheVariants.{NotNow, No
 use Rattle.day_simulator.specs.State.{State, start_of}
 use Rattle.day_simulator.specs.Steps.{is_now, is_tested_at, broken, broken_into, broken_out, first_missing, fault_of, after, steps}
 use Rattle.day_simulator.specs.Orders.{IsOrder, departures, arrivals}
-use Rattle.day_simulator.proofs.Order.{one_same, one_other}
+use Rattle.timetable.proofs.Ones.{one_same, one_other}
 use Rattle.timetable.proofs.NamedTrips.{place_is}
-use Rattle.day_simulator.proofs.Linked.{LinksHold, holds_from_none}
+use Rattle.timetable.proofs.Linked.{LinksHold}
+use Rattle.day_simulator.proofs.Linked.{holds_from_none}
 use Rattle.day_simulator.proofs.Going.{tests_pass, option_map_none}
 use Rattle.day_simulator.proofs.Whole.{no_fault}
 

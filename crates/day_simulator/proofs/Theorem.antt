@@ -20,9 +20,10 @@ use Rattle.day_simulator.specs.Orders.{departures, IsOrder, last_ready, EndsAsPl
 use Rattle.day_simulator.specs.Laws.{InEveryOrder, RunInFixedOrder}
 use Rattle.day_simulator.proofs.Lawful.{fixed_is_order}
 use Rattle.day_simulator.proofs.Legs.{legs_fixed, leads}
-use Rattle.day_simulator.proofs.Order.{one_same}
+use Rattle.timetable.proofs.Ones.{one_same}
 use Rattle.day_simulator.proofs.Rising.{Rises, rises_more, in_legs, same_legs}
-use Rattle.day_simulator.proofs.Accounts.{AreAccounted, kept_arrives, comes_from}
+use Rattle.day_simulator.proofs.Unbroken.{IsUnbroken}
+use Rattle.timetable.proofs.Accounts.{kept_arrives, comes_from}
 use Rattle.day_simulator.proofs.Linked.{linked_hands}
 use Rattle.day_simulator.proofs.Tested.{links_hold}
 use Rattle.day_simulator.proofs.Moves.{BoardsAll, is_trip}
@@ -57,7 +58,7 @@ after_ok : (day : Day) (plan : List (List ℕ)) (r : Result State StepFault) (co
 after_ok day plan (Ok final) cost e = (final, refl, e)
 after_ok day plan (Err fault) cost e = absurd (cc)
 
-module _ (day : Day) (plan : List (List ℕ)) (is_day : IsDay day) (is_plan : IsPlan day plan) (accounted : AreAccounted day plan) where
+module _ (day : Day) (plan : List (List ℕ)) (is_day : IsDay day) (is_plan : IsPlan day plan) (accounted : IsUnbroken day plan) where
   -- the first trip of a unit takes it from the yard
   first_taken : (u t : ℕ) (ts : List ℕ) → to_board plan u (fixed_order day) ≡ t ∷ ts → 1 ≤ count_of u (taken day plan t)
   first_taken u t ts e =
@@ -65,15 +66,15 @@ module _ (day : Day) (plan : List (List ℕ)) (is_day : IsDay day) (is_plan : Is
       ⊎_elim (λ (c : 1 ≤ count_of u (taken day plan t)). c)
       (λ (k : (a : ℕ) × (1 ≤ count_of u (kept day plan a t))).
       let some = k.1 in
-      let le = kept_arrives day plan accounted u k.0 t in
+      let le = kept_arrives day plan accounted.accounts u k.0 t in
       let mine : 1 ≤ count_of u (list_of plan k.0) = omega arith in
       let trip = is_trip day plan u k.0 is_plan mine in
       let time = is_day.time k.0 trip in
-      let before = accounted.time u k.0 t k.1 in
+      let before = accounted.accounts.time u k.0 t k.1 in
       let once = (fixed_is_order day).departs_once k.0 trip in
       let later = first.1 k.0 (le-leb 1 (count_of u (list_of plan k.0)) mine) (omega arith) in
       absurd (omega arith))
-      (comes_from day plan accounted u t (leb-true 1 (count_of u (list_of plan t)) first.0))
+      (comes_from day plan accounted.accounts u t (leb-true 1 (count_of u (list_of plan t)) first.0))
 
   boards_all_start : (u s : ℕ) (ts : List ℕ) → to_board plan u (fixed_order day) ≡ ts → BeginsAt day s ts → EachFollows (MayFollow day plan u) ts → BoardsAll day plan u (Yard s 0) ts
   boards_all_start u s [] e begin follow = tt
@@ -87,7 +88,7 @@ module _ (day : Day) (plan : List (List ℕ)) (is_day : IsDay day) (is_plan : Is
       rises_more day a b ts (on h.0) (boards_all_rises u b ts (trips b (omega arith)) (λ t c. trips t (omega arith)) h.1)
     where
       on : MayFollow day plan u a b → leaves day a < leaves day b
-      on (inl k) = let time = is_day.time a trip in let before = accounted.time u a b (leb-true 1 (count_of u (kept day plan a b)) k) in omega arith
+      on (inl k) = let time = is_day.time a trip in let before = accounted.accounts.time u a b (leb-true 1 (count_of u (kept day plan a b)) k) in omega arith
       on (inr y) = let time = is_day.time a trip in let ready = y.ready in omega arith
 
   start_rises : (u s : ℕ) (ts : List ℕ) → ((t : ℕ) → 1 ≤ count_of t ts → t < length day.trips) → BoardsAll day plan u (Yard s 0) ts → Rises day ts

@@ -15,7 +15,7 @@ use Rattle.day_simulator.specs.declared.events.Stage.TheVariants as stage
 use Rattle.day_simulator.specs.State.{State, start_of, stage_of, is_waiting, is_under_way, has_arrived, moment_of}
 use Rattle.day_simulator.specs.Steps.{feeders, is_now, after}
 use Rattle.day_simulator.specs.Orders.{IsOrder, departures, arrivals, AllFrom}
-use Rattle.day_simulator.proofs.Order.{one_same, one_other}
+use Rattle.timetable.proofs.Ones.{one_same, one_other}
 use Rattle.day_simulator.proofs.Lawful.{Lawful, left_depart, left_arrive, lawful_tail, lawful_order, arrived_before}
 use Rattle.day_simulator.proofs.Places.{stage_same, stage_other}
 

@@ -16,11 +16,11 @@ use Rattle.day_simulator.specs.declared.events.StepFault.{StepFault}
 use Rattle.day_simulator.specs.State.{State, place_of, stage_of, is_ready}
 use Rattle.day_simulator.specs.Steps.{fault_of, after, steps, unless_fault}
 use Rattle.day_simulator.specs.Orders.{ready_after, departures}
-use Rattle.day_simulator.proofs.Order.{one_same, one_other}
+use Rattle.timetable.proofs.Ones.{one_same, one_other}
 use Rattle.day_simulator.proofs.Lawful.{left_arrive}
 use Rattle.day_simulator.proofs.Legs.{legs}
 use Rattle.day_simulator.proofs.Places.{none_from_served}
-use Rattle.day_simulator.proofs.Accounts.{AreAccounted}
+use Rattle.day_simulator.proofs.Unbroken.{IsUnbroken}
 use Rattle.day_simulator.proofs.Moves.{Fits, BoardsAll, arrives_aboard, ready_from_boards, boards_all_give, boards_all_give_back, boards_all_keep, boards_all_keep_back}
 use Rattle.day_simulator.proofs.Going.{Going, Departs, departs_from_none, none_from_departs, none_from_arrives, taken_within, now_depart, now_arrive, place_aboard, place_stays, place_given, place_kept, place_remains, boarding, distinct_here, going_depart, going_arrive}
 
@@ -77,7 +77,7 @@ pub no_fault : (fault : Option StepFault) (rest : Result State StepFault) (final
 no_fault None rest final e = (refl, e)
 no_fault (Some f) rest final e = absurd (cc)
 
-module _ (day : Day) (plan : List (List ℕ)) (is_day : IsDay day) (is_plan : IsPlan day plan) (accounted : AreAccounted day plan) where
+module _ (day : Day) (plan : List (List ℕ)) (is_day : IsDay day) (is_plan : IsPlan day plan) (accounted : IsUnbroken day plan) where
   -- where the lists and the boardings are right, a departure has no fault
   departs_from_good : (state : State) (t : ℕ) (es : List DayEvent) → Going day plan state (Depart t ∷ es) → Good day plan state (Depart t ∷ es) → Departs day plan state t
   departs_from_good state t es g good =

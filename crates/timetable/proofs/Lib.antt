@@ -39,3 +39,7 @@ pub mod Numbered
 pub mod Picking
 pub mod YardTypes
 pub mod StockRows
+pub mod Ones
+pub mod LinkKinds
+pub mod Accounts
+pub mod Linked

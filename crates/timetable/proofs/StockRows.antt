@@ -14,10 +14,10 @@ none_other s m row (other ∷ rows) station unit_type others =
     let rest = none_other s m row rows station unit_type (λ i d lt. others (suc i) d (omega arith)) in
     ⊎_elim
     (λ (is : ((other.station == s) && (other.unit_type == m)) ≡ true).
-      let both = and_parts (other.station == s) (other.unit_type == m) is in
-      absurd (others 0 other (omega arith) (station ∙ sym (eqb-true other.station s both.0), unit_type ∙ sym (eqb-true other.unit_type m both.1))))
+    let both = and_parts (other.station == s) (other.unit_type == m) is in
+    absurd (others 0 other (omega arith) (station ∙ sym (eqb-true other.station s both.0), unit_type ∙ sym (eqb-true other.unit_type m both.1))))
     (λ (isnt : ((other.station == s) && (other.unit_type == m)) ≡ false).
-      let none : cond {A = ℕ} ((other.station == s) && (other.unit_type == m)) 1 0 ≡ 0 = cond-false _ 1 0 isnt in omega arith)
+    let none : cond {A = ℕ} ((other.station == s) && (other.unit_type == m)) 1 0 ≡ 0 = cond-false _ 1 0 isnt in omega arith)
     (cases_Bool ((other.station == s) && (other.unit_type == m)))
 
 rows_once : (s m : ℕ) (rows : List Stock) → AllPairs IsOtherStock rows → rows_of rows s m ≤ 1
@@ -25,12 +25,12 @@ rows_once s m [] apart = omega arith
 rows_once s m (row ∷ rows) apart =
     ⊎_elim
     (λ (is : ((row.station == s) && (row.unit_type == m)) ≡ true).
-      let both = and_parts (row.station == s) (row.unit_type == m) is in
-      let none = none_other s m row rows (eqb-true row.station s both.0) (eqb-true row.unit_type m both.1) (λ i d lt. apart 0 (suc i) d (omega arith) (omega arith)) in
-      let one : cond {A = ℕ} ((row.station == s) && (row.unit_type == m)) 1 0 ≡ 1 = cond-true _ 1 0 is in omega arith)
+    let both = and_parts (row.station == s) (row.unit_type == m) is in
+    let none = none_other s m row rows (eqb-true row.station s both.0) (eqb-true row.unit_type m both.1) (λ i d lt. apart 0 (suc i) d (omega arith) (omega arith)) in
+    let one : cond {A = ℕ} ((row.station == s) && (row.unit_type == m)) 1 0 ≡ 1 = cond-true _ 1 0 is in omega arith)
     (λ (isnt : ((row.station == s) && (row.unit_type == m)) ≡ false).
-      let rest = rows_once s m rows (λ i j d lt within. apart (suc i) (suc j) d (omega arith) (omega arith)) in
-      let none : cond {A = ℕ} ((row.station == s) && (row.unit_type == m)) 1 0 ≡ 0 = cond-false _ 1 0 isnt in omega arith)
+    let rest = rows_once s m rows (λ i j d lt within. apart (suc i) (suc j) d (omega arith) (omega arith)) in
+    let none : cond {A = ℕ} ((row.station == s) && (row.unit_type == m)) 1 0 ≡ 0 = cond-false _ 1 0 isnt in omega arith)
     (cases_Bool ((row.station == s) && (row.unit_type == m)))
 
 pub stocked : (day : Day) → AllPairs IsOtherStock day.stock → IsStocked day

@@ -6,7 +6,7 @@ use Rattle.timetable.specs.Lists.{count_of, has}
 use Rattle.timetable.specs.declared.day.records.LinkKind.{LinkKind}
 use Rattle.timetable.specs.declared.day.records.LinkKind.TheVariants.{Turn, Join, Split}
 use Rattle.timetable.specs.Links.{list_of, turned, turn_of, kind_holds, arriving_in, departing_in, kept_by, given_by, taken_by}
-use Rattle.day_simulator.proofs.Order.{one_same, one_other}
+use Rattle.timetable.proofs.Ones.{one_same, one_other}
 use Rattle.timetable.proofs.Shares.{turn_shares, join_counts, split_counts, count_of-turned}
 
 same_alone : (x y : ℕ) → 1 ≤ count_of x (y ∷ []) → y ≡ x

@@ -1,10 +1,9 @@
 -- What becomes of the units that arrive, and where those that depart come from, by counts alone, where every link's rule holds.
-use Rattle.std.proofs.Common.{◌≡◌, ℕ, ◌+◌, ◌<◌, ◌≤◌, List, None, sym, ap, ◌∙◌, arith, ◌≢◌, ⊎_elim, ◌⊎◌, inl, inr}
+use Rattle.std.proofs.Common.{◌≡◌, ℕ, ◌+◌, ◌<◌, ◌≤◌, List, sym, ap, ◌∙◌, arith, ◌≢◌, ⊎_elim, ◌⊎◌, inl, inr}
 use Rattle.std.proofs.lemmas.Bool.{cases_eq, cases_lt}
 use Rattle.timetable.specs.Day.{Day, leaves, arrives}
 use Rattle.timetable.specs.Lists.{count_of}
 use Rattle.timetable.specs.Links.{list_of, kept, given, taken}
-use Rattle.day_simulator.specs.Steps.{feeders, broken_into, broken_out}
 
 -- what arrives with a trip is given to the yard, or kept for one of two trips at most
 pub record Gives (day : Day) (plan : List (List ℕ)) (a : ℕ) : Type 0 where
@@ -24,9 +23,6 @@ pub record Takes (day : Day) (plan : List (List ℕ)) (b : ℕ) : Type 0 where
 
 -- all units of all trips are accounted for
 pub record AreAccounted (day : Day) (plan : List (List ℕ)) : Type 0 where
-  pub before : (a b : ℕ) → 1 ≤ count_of a (feeders day b) → arrives day a ≤ leaves day b
-  pub into : (t : ℕ) → broken_into day plan t ≡ None
-  pub out : (t : ℕ) → broken_out day plan t ≡ None
   pub gives : (a : ℕ) → Gives day plan a
   pub takes : (b : ℕ) → Takes day plan b
   pub time : (u a b : ℕ) → 1 ≤ count_of u (kept day plan a b) → arrives day a ≤ leaves day b
