@@ -1,0 +1,17 @@
+pub mod Members
+pub mod Words
+pub mod Rising
+pub mod Puts
+pub mod PutIn
+pub mod Putting
+pub mod Admitted
+pub mod Branches
+pub mod Dividing
+pub mod Duality
+pub mod Covering
+pub mod Walking
+pub mod Concluding
+pub mod Settling
+pub mod Over
+pub mod Lying
+pub mod Ending
