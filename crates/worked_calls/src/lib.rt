@@ -1,4 +1,4 @@
-//! Worked calls: examples of the public calls of each crate, as tests alone.
+//! Worked calls: examples of the public calls of each crate, as tests, and a relaxation in small that they ask.
 #![tactic(auto)]
 
 #[cfg(test)]
@@ -9,9 +9,12 @@ mod cost_tests;
 mod edge_tests;
 #[cfg(test)]
 mod file_tests;
+pub mod lone_picks;
 #[cfg(test)]
 mod machine_tests;
 #[cfg(test)]
 mod row_tests;
 #[cfg(test)]
 mod timetable_tests;
+#[cfg(test)]
+mod tree_tests;

@@ -1,0 +1,3 @@
+-- a relaxation in small
+pub mod LonePicks
+pub mod LoneRelaxes
