@@ -1,9 +1,11 @@
 #!/usr/bin/env python3
 """Prints a program that builds the edges of a day of 400 trips with so many turns, and says how many edges there are.
 
-    edges.py LINKS PLATFORM > src/main.rt
+    edges.py LINKS PLATFORM [exchange] > src/main.rt
 
-With a platform of 302 metres there are 859 compositions. The README.md beside it says how it is run and what is measured.
+With a platform of 302 metres there are 859 compositions. With the third word each turn may uncouple units in front and couple
+others at the rear; there are then other types, and with a platform of 200 metres 883 compositions. The README.md beside it
+says how it is run and what is measured.
 """
 import sys
 
@@ -36,6 +38,9 @@ fn main(rt: HostRuntime) -> Result<()> {{
 """
 
 
+LINKS = "kind,arriving,arriving2,departing,departing2,reverse,uncouple,couple"
+
+
 def clock(minute):
     return f"{minute // 60:02}:{minute % 60:02}"
 
@@ -46,18 +51,21 @@ def table(header, rows):
 
 
 def main():
-    count, platform = int(sys.argv[1]), sys.argv[2]
+    count, platform, exchanges = int(sys.argv[1]), sys.argv[2], sys.argv[3:] == ["exchange"]
+    metres = [50, 50, 50, 50, 50, 66] if exchanges else [50, 50, 51]
+    types = [f"{name},3,200,{long},r" for name, long in zip("ABCDEF", metres)]
+    ends = "front,rear,yes" if exchanges else "rear,rear"
     trips, links = [], []
     for pair in range(200):
         start = 2 * pair
         trips.append(f"T{start},X,{clock(start)},Y,{clock(start + 60)},10,0")
         trips.append(f"T{start + 1},Y,{clock(start + 100)},X,{clock(start + 200)},10,0")
-        links.append(f"turn,T{start},,T{start + 1},,{'yes' if pair % 2 else 'no'},rear,rear")
+        links.append(f"turn,T{start},,T{start + 1},,{'yes' if pair % 2 else 'no'},{ends}")
     print(PROGRAM.format(
-        types=table("type,carriages,seats,metres,family", ["A,3,200,50,r", "B,3,200,50,r", "C,3,200,51,r"]),
+        types=table("type,carriages,seats,metres,family", types),
         stations=table("station,platform,reallocation", [f"X,{platform},5", f"Y,{platform},5"]),
         trips=table("trip,from,departure,to,arrival,km,demand", trips),
-        links=table("kind,arriving,arriving2,departing,departing2,reverse,uncouple,couple", links[:count]),
+        links=table(LINKS + (",exchange" if exchanges else ""), links[:count]),
     ), end="")
 
 
