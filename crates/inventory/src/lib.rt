@@ -1,0 +1,6 @@
+//! How many units stand in the yards of the stations, and which units a plan names where the counts allow it.
+#![tactic(auto)]
+
+pub mod naming_laws;
+pub mod serving_laws;
+pub mod solution_laws;

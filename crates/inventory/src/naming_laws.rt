@@ -1,0 +1,26 @@
+//! What is so of naming units, whether a call meets it or not.
+//!
+//! Each law is the contract of a function that does nothing.
+
+ghost use Rattle.inventory.specs.NamingLaws.{NamedPlansRun, RunningPlansAreNamed, ServedPlansRun, UnitsAreTakenInTurn};
+
+/// Compositions that the links and the yards allow are the types of a plan that runs: the one that is named by the rule.
+pub fn served_plans_run()
+    ensures law { ServedPlansRun }
+{}
+
+/// The same from any minute on: where the trips that depart before the minute are named as the rules demand it, naming the
+/// others by the rule gives a plan that runs, and leaves those as they are.
+pub fn named_plans_run()
+    ensures law { NamedPlansRun }
+{}
+
+/// The trips of a plan that runs are named as the rules demand it, up to any minute.
+pub fn running_plans_are_named()
+    ensures law { RunningPlansAreNamed }
+{}
+
+/// Where a unit may be taken, the one that was ready earliest is taken, and of those the one with the smallest number.
+pub fn units_are_taken_in_turn()
+    ensures law { UnitsAreTakenInTurn }
+{}

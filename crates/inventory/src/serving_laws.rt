@@ -1,0 +1,16 @@
+//! What is so of the counts of the yards, whether a call meets it or not.
+//!
+//! Each law is the contract of a function that does nothing.
+
+ghost use Rattle.inventory.specs.ServingLaws.{PlansAreServed, DeparturesAreEnough};
+
+/// A plan that runs is served by the yards: its compositions may run on their trips, the rule of each link holds over their
+/// types, no yard is ever short of a unit, and at the end of the day each station has as many units of each type as are wanted.
+pub fn plans_are_served()
+    ensures law { PlansAreServed }
+{}
+
+/// A yard that is not short of units of a type at the minutes at which trips leave its station, is short of them at no minute.
+pub fn departures_are_enough()
+    ensures law { DeparturesAreEnough }
+{}
