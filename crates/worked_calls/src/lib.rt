@@ -6,6 +6,8 @@ mod composition_tests;
 #[cfg(test)]
 mod cost_tests;
 #[cfg(test)]
+mod duty_tests;
+#[cfg(test)]
 mod edge_tests;
 #[cfg(test)]
 mod file_tests;
