@@ -83,7 +83,8 @@ pub record AreFewBranches (catalogue : List (List ℕ)) (root : List (List Bool)
   pub fewer : branchings_of nodes + 1 ≤ choices_of root
   pub single : choices_of root ≤ branchings_of nodes + 1 → Covers catalogue IsSingleAt root nodes
 
--- Where every cut is proper, a tree has fewer branches than its root has picks.
+-- Where every cut is proper and each trip of the root has a composition, a tree has fewer branches than its root has
+-- picks.
 abbrev pub ProperCutsEnd : Type 0
 ProperCutsEnd = (catalogue : List (List ℕ)) (root : List (List Bool)) (nodes : List Node) →
     Covers catalogue (IsProperAt catalogue) root nodes → IsFilled root → AreFewBranches catalogue root nodes

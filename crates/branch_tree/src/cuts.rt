@@ -49,12 +49,11 @@ pub struct Mark {
 }
 
 impl Mark {
-    /// Whether a composition was in the trip's set before the cut. Its number is below that of the most compositions.
+    /// Whether a composition was in the trip's set before the cut.
     pub fn has(&self, comp: CompNo) -> bool
-        requires { comp < MOST_COMPOSITIONS }
         ensures { result ≡ is_member self.now.before comp }
     {
-        self.before.has(comp)
+        self.before.contains(comp)
     }
 }
 

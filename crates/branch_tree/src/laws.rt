@@ -24,7 +24,7 @@ pub fn picks_lie_by_trip()
     ensures law { PicksLieByTrip }
 {}
 
-/// The picks of a region are divided by a cut: each is on exactly one side.
+/// The picks of a region are divided by a cut of one of its trips: each is on exactly one side.
 pub fn cuts_divide()
     ensures law { CutsDivide }
 {}
@@ -55,8 +55,8 @@ pub fn leaves_exceed_branches()
     ensures law { LeavesExceedBranches }
 {}
 
-/// Where every cut is proper, a tree has fewer branches than its root has picks; and where they are one fewer, each
-/// leaf has one composition for each trip.
+/// Where every cut is proper and each trip of the root has a composition, a tree has fewer branches than its root has
+/// picks; and where they are one fewer, each leaf has one composition for each trip.
 pub fn proper_cuts_end()
     ensures law { ProperCutsEnd }
 {}

@@ -16,19 +16,19 @@ use std::marker::Model;
 pub enum Node {
     /// The region is divided; the left subtree comes next, and then the right one.
     Branch(Cut),
-    /// No solution in the region costs less than the bound.
+    /// Says that no solution in the region costs less than the bound.
     CostLeaf {
         /// The least priced value of the picks near the region, with their cost.
         bound: Money,
         /// The multipliers that give it.
         multipliers: Multipliers,
     },
-    /// The region has no solution: the least priced value without cost is positive.
+    /// Says that the region has no solution, since the least priced value without cost is positive.
     RayLeaf {
         /// The multipliers that give it.
         multipliers: Multipliers,
     },
-    /// The region has no solution: no picks are near it.
+    /// Says that the region has no solution, since no picks are near it.
     EmptyLeaf,
 }
 
