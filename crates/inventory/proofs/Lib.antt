@@ -19,3 +19,7 @@ pub mod Laws
 pub mod OneMore
 pub mod Solutions
 pub mod Earlier
+pub mod PlaceOf
+pub mod Tables
+pub mod Filled
+pub mod Holds

@@ -1,6 +1,6 @@
 -- What one unit takes from the yards and gives to them along its duty, in a plan that runs: it is taken where it stands, and given
 -- where it ends.
-use Rattle.std.proofs.Common.{◌≡◌, ℕ, zero, ◌+◌, ◌<◌, ◌≤◌, List, [], ◌∷◌, length, map, Bool, true, false, cond, Option, refl, sym, ap, ◌∙◌, subst, arith, ◌≢◌, ⊎_elim, ◌⊎◌, inl, inr, unwrap_or}
+use Rattle.std.proofs.Common.{◌≡◌, ℕ, ◌+◌, ◌<◌, ◌≤◌, List, [], ◌∷◌, length, map, Bool, true, false, cond, Option, refl, sym, ap, ◌∙◌, subst, arith, ⊎_elim, inl, inr, unwrap_or}
 use Rattle.std.specs.Prelude.{if◌then◌else◌, ◌==◌, ◌&&◌, nat_le, IsTrue, filter}
 use Rattle.std.proofs.lemmas.Bool.{cases_lt, cases_Bool, cond-true, cond-false, false≢true, and_parts, and_from, eqb-true, eq-eqb, leb-true, le-leb}
 use Rattle.std.proofs.lemmas.Option.{slice_get_past}

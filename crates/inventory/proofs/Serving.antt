@@ -21,11 +21,11 @@ use Rattle.inventory.proofs.OnDuty.{takes_until, gives_until, takes_here, gives_
 
 -- ---- sums over trips, and over units
 
-sum_swap : (f : ℕ → ℕ → ℕ) (n k : ℕ) → sum_below (λ i. sum_below (λ j. f i j) k) n ≡ sum_below (λ j. sum_below (λ i. f i j) n) k
+pub sum_swap : (f : ℕ → ℕ → ℕ) (n k : ℕ) → sum_below (λ i. sum_below (λ j. f i j) k) n ≡ sum_below (λ j. sum_below (λ i. f i j) n) k
 sum_swap f zero k = sym (sum_zero (λ j. 0) k (λ j lt. refl))
 sum_swap f (suc n) k = let rest = sum_swap f n k in let both = sum_add (λ j. sum_below (λ i. f i j) n) (λ j. f n j) k in omega arith
 
-sum_when : (b : Bool) (f : ℕ → ℕ) (n : ℕ) → sum_below (λ t. if b then f t else 0) n ≡ cond {A = ℕ} b (sum_below f n) 0
+pub sum_when : (b : Bool) (f : ℕ → ℕ) (n : ℕ) → sum_below (λ t. if b then f t else 0) n ≡ cond {A = ℕ} b (sum_below f n) 0
 sum_when true f n = refl
 sum_when false f n = sum_zero (λ t. 0) n (λ t lt. refl)
 

@@ -1,6 +1,6 @@
 -- Picks are a solution exactly where the yards serve them.
-use Rattle.std.proofs.Common.{List, ℕ, subst}
-use Rattle.timetable.specs.Picking.{IsSolution, picked}
+use Rattle.std.proofs.Common.{subst}
+use Rattle.timetable.specs.Picking.{picked}
 use Rattle.inventory.specs.Counts.{AreServed}
 use Rattle.inventory.specs.Naming.{named_plan}
 use Rattle.inventory.specs.NamingLaws.{RunsWith}

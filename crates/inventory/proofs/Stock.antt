@@ -11,7 +11,7 @@ use Rattle.timetable.specs.Starts.{start_in, start_of}
 
 -- ---- sums, the first number apart
 
-sum_first : (f : ℕ → ℕ) (n : ℕ) → sum_below f (suc n) ≡ f 0 + sum_below (λ k. f (suc k)) n
+pub sum_first : (f : ℕ → ℕ) (n : ℕ) → sum_below f (suc n) ≡ f 0 + sum_below (λ k. f (suc k)) n
 sum_first f zero = omega arith
 sum_first f (suc n) = let rest = sum_first f n in omega arith
 

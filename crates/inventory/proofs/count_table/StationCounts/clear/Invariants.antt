@@ -1,0 +1,6 @@
+-- The types so far are cleared.
+use Rattle.std.proofs.Common.{◌≡◌, ◌≤◌, ◌++◌, take, drop, map, length, pos}
+use Rattle.inventory.proofs.count_table.StationCounts.clear.Given as goal
+
+abbrev pub invariant-loop-place : goal.invariant-loop-place
+invariant-loop-place l = (take l.place l.self-inside.types.items ++ map (map (λ _. pos 0)) (drop l.place l.self-inside.types.items) ≡ map (map (λ _. pos 0)) l.fn.self) × (length l.self-inside.types.items ≤ 6)
