@@ -11,6 +11,8 @@ mod duty_tests;
 mod edge_tests;
 #[cfg(test)]
 mod file_tests;
+#[cfg(test)]
+mod ledger_tests;
 pub mod lone_picks;
 #[cfg(test)]
 mod machine_tests;
