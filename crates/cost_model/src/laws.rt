@@ -2,7 +2,6 @@
 //!
 //! A law is the contract of a function that does nothing.
 
-ghost use Rattle.timetable.specs.TurnsWithoutExchange.{IsPlainTurn};
 ghost use Rattle.cost_model.specs.Sums.{AddUp};
 ghost use Rattle.cost_model.specs.WithoutExchange.{CostsByLength};
 
@@ -11,9 +10,8 @@ pub fn parts_add_up()
     ensures law { AddUp }
 {}
 
-/// Turns without exchange: between lists that are not empty the rule says that the departing units are the arriving ones,
-/// or what is left of them, or them with others; and a turn costs shunting exactly where its lists differ in length.
-pub fn turns_without_exchange()
-    ensures rule { IsPlainTurn }
-    ensures cost { CostsByLength }
+/// Where no turn has an exchange and every turn keeps its rule over the types of its trips, a day costs shunting once for each
+/// turn whose two lists differ in length, and for no other.
+pub fn turns_cost_by_length()
+    ensures law { CostsByLength }
 {}

@@ -52,7 +52,8 @@ abbrev pub RisesByTrip : Day → List DayEvent → Type 0
 RisesByTrip day [] = Unit {0}
 RisesByTrip day (e ∷ es) = LaterTrips day e es × RisesByTrip day es
 
--- when a unit is ready that was ready at a minute and then runs on these trips, each of which gives it to the yard
+-- when a unit is ready that was ready at a minute and then runs on these trips, the last of which gives it to the yard; on from the
+-- others it may be kept in the train
 abbrev pub ready_after : Day → ℕ → List ℕ → ℕ
 ready_after day ready [] = ready
 ready_after day ready (t ∷ ts) = ready_after day (arrives day t + reallocation_of day (to_of day t)) ts

@@ -63,6 +63,8 @@ pub const MOST_UNITS: u32 = 2_000;
 pub const MOST_COMPOSITION: usize = 6;
 /// Compositions in the catalogue.
 pub const MOST_COMPOSITIONS: usize = 1_000;
+/// Units that a turn may uncouple, and units that it may couple, where it does both.
+pub const MOST_EXCHANGED: usize = 2;
 
 // The search and its answer.
 

@@ -109,7 +109,7 @@ pub struct LinkRow {
     pub uncouple: End,
     /// Where units may be coupled.
     pub couple: End,
-    /// Whether a turn may uncouple units at one end and couple others at another; `false` in a table of the first version.
+    /// Whether a turn may both uncouple units and couple units; `false` in a table of the first version.
     pub exchange: bool,
 }
 

@@ -1,6 +1,6 @@
 -- Tests decide what is made of tables and rows.
-use Rattle.std.proofs.Common.{◌≡◌, ◌↔◌, ℕ, List, [], ◌∷◌, Result, Ok, Err, inl, inr, ⊎_elim, refl, sym, subst, ◌∙◌, ◌⊎◌}
-use Rattle.std.specs.Prelude.{IsOk, length, nat_lt, if◌then◌else◌}
+use Rattle.std.proofs.Common.{◌≡◌, ℕ, List, [], ◌∷◌, Result, Ok, Err, ⊎_elim, refl, sym, subst, ◌∙◌}
+use Rattle.std.specs.Prelude.{length, nat_lt, if◌then◌else◌}
 use Rattle.std.proofs.lemmas.Bool.{ltb-false, false≢true}
 use Rattle.rail_csv.specs.declared.rows.PlanRow.{PlanRow}
 use Rattle.timetable.specs.declared.building.refusal.PlanRefusal.TheVariants.{MissingTrip}

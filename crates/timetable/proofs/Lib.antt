@@ -29,6 +29,7 @@ pub mod Handovers
 pub mod Deciding
 pub mod Turning
 pub mod PlainTurns
+pub mod WholeTurns
 pub mod ListedUnits
 pub mod TurnOn
 pub mod Minutes

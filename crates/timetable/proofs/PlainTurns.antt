@@ -1,15 +1,15 @@
 -- Where no list is empty, a turn without exchange is one of three: all units stay, or some go, or some come.
-use Rattle.std.proofs.Common.{◌≡◌, ℕ, zero, suc, ◌+◌, ◌-◌, ◌<◌, ◌≤◌, List, [], ◌∷◌, ◌++◌, length, take, drop, map, Bool, true, false, cond, Option, Some, None, inl, inr, ◌⊎◌, ⊎_elim, refl, sym, ap, subst, ◌∙◌, arith, length-take, length-drop}
-use Rattle.std.specs.Prelude.{option_and_then, nat_le, nat_lt, ◌&&◌, ◌==◌, ◌||◌, ◌≢◌}
-use Rattle.std.proofs.lemmas.Bool.{and_parts, and_from, or_cases, or_left, or_right, leb-true, le-leb, ltb-true, lt-ltb, eqb-true, eq-eqb, cond-true, cond-false, false≢true, cases_Bool, cases_lt, false_from_ne_true}
-use Rattle.std.proofs.lemmas.List.{length-map, take-map, drop-map, take-append-drop, map-append, append-nil}
+use Rattle.std.proofs.Common.{◌≡◌, ℕ, ◌-◌, ◌<◌, ◌≤◌, List, [], ◌++◌, length, take, drop, map, true, false, Option, Some, None, inl, inr, ◌⊎◌, ⊎_elim, refl, sym, ap, subst, ◌∙◌, arith}
+use Rattle.std.specs.Prelude.{option_and_then, nat_le, nat_lt, ◌&&◌, ◌==◌, ◌||◌}
+use Rattle.std.proofs.lemmas.Bool.{and_parts, and_from, or_cases, or_left, or_right, leb-true, le-leb, ltb-true, lt-ltb, eqb-true, eq-eqb, cond-true, cond-false, false≢true, cases_Bool, cases_lt}
+use Rattle.std.proofs.lemmas.List.{length-map, take-append-drop, map-append, append-nil}
 use Rattle.std.proofs.lemmas.Slice.Eq.{bytes_eq-Decides}
 use Rattle.std.proofs.Math.Seq.{drop-length}
 use Rattle.rail_csv.specs.declared.rows.End.{End}
 use Rattle.rail_csv.specs.declared.rows.End.TheVariants as at
-use Rattle.timetable.specs.Turns.{IsWithout, Fits, IsKeptList, Parts, same, may_stay, staying, beyond, kept_length, may_shunt, parts_at, turn_parts}
-use Rattle.timetable.specs.TurnsWithoutExchange.{is_left_of, plain_parts, IsPlainTurn}
-use Rattle.timetable.proofs.Turning.{stays, is_staying, kept-is, kept-none}
+use Rattle.timetable.specs.Turns.{IsWithout, Fits, Parts, same, may_stay, staying, beyond, kept_length, may_shunt, parts_at, turn_parts}
+use Rattle.timetable.specs.TurnsWithoutExchange.{is_left_of, gone_of, plain_parts, IsPlainTurn}
+use Rattle.timetable.proofs.Turning.{is_staying, kept-is, kept-none}
 
 same_is : (xs ys : List ℕ) → same xs ys ≡ true → xs ≡ ys
 same_is xs ys e = (bytes_eq-Decides xs ys).0 e
@@ -73,6 +73,11 @@ none_goes : (end : End) (xs : List ℕ) → beyond end xs (length xs) ≡ []
 none_goes at.None xs = refl
 none_goes at.Rear xs = drop-length xs
 none_goes at.Front xs = ap (λ (n : ℕ). take n xs) (let none : length xs - length xs ≡ 0 = omega arith in none)
+
+goes_is : (end : End) (xs part : List ℕ) → beyond end xs (length part) ≡ gone_of end xs part
+goes_is at.None xs part = refl
+goes_is at.Rear xs part = refl
+goes_is at.Front xs part = refl
 
 module _ (f : ℕ → ℕ) (uncouple couple : End) (arriving departing : List ℕ) where
   abbrev types_in : List ℕ
@@ -155,7 +160,7 @@ module _ (f : ℕ → ℕ) (uncouple couple : End) (arriving departing : List �
       ∙ ap (λ (us : List ℕ). Some (record { kept = arriving; given = us; taken = beyond couple departing (length arriving) })) (none_goes uncouple arriving)
       ∙ ap (λ (us : List ℕ). Some (record { kept = arriving; given = []; taken = us })) goes'
 
-  some_go : Left uncouple arriving departing → turn_parts f uncouple couple false arriving departing ≡ Some (record { kept = departing; given = beyond uncouple arriving (length departing); taken = [] })
+  some_go : Left uncouple arriving departing → turn_parts f uncouple couple false arriving departing ≡ Some (record { kept = departing; given = gone_of uncouple arriving departing; taken = [] })
   some_go left =
       let fits : Fits uncouple couple types_in types_out types_out = record {
         some = omega (arith, length-map departing f, left.some);
@@ -167,8 +172,9 @@ module _ (f : ℕ → ℕ) (uncouple couple : End) (arriving departing : List �
       ∙ parts_are (length departing) (left.is ∙ sym (all_stay couple departing)) (inr (omega arith))
       ∙ ap (λ (us : List ℕ). Some (record { kept = us; given = beyond uncouple arriving (length departing); taken = beyond couple departing (length departing) })) left.is
       ∙ ap (λ (us : List ℕ). Some (record { kept = departing; given = beyond uncouple arriving (length departing); taken = us })) (none_goes couple departing)
+      ∙ ap (λ (us : List ℕ). Some (record { kept = departing; given = us; taken = [] })) (goes_is uncouple arriving departing)
 
-  some_come : Left couple departing arriving → turn_parts f uncouple couple false arriving departing ≡ Some (record { kept = arriving; given = []; taken = beyond couple departing (length arriving) })
+  some_come : Left couple departing arriving → turn_parts f uncouple couple false arriving departing ≡ Some (record { kept = arriving; given = []; taken = gone_of couple departing arriving })
   some_come left =
       let fits : Fits uncouple couple types_in types_out types_in = record {
         some = omega (arith, length-map arriving f, left.some);
@@ -180,6 +186,7 @@ module _ (f : ℕ → ℕ) (uncouple couple : End) (arriving departing : List �
       ∙ parts_are (length arriving) (all_stay uncouple arriving ∙ sym left.is) (inl (omega arith))
       ∙ ap (λ (us : List ℕ). Some (record { kept = us; given = beyond uncouple arriving (length arriving); taken = beyond couple departing (length arriving) })) (all_stay uncouple arriving)
       ∙ ap (λ (us : List ℕ). Some (record { kept = arriving; given = us; taken = beyond couple departing (length arriving) })) (none_goes uncouple arriving)
+      ∙ ap (λ (us : List ℕ). Some (record { kept = arriving; given = []; taken = us })) (goes_is couple departing arriving)
 
   -- no parts where none of the three is so
   no_parts : same arriving departing ≡ false → is_left_of uncouple arriving departing ≡ false → is_left_of couple departing arriving ≡ false

@@ -1,9 +1,9 @@
 -- What becomes of the units of a plan at a turn.
-use Rattle.std.proofs.Common.{◌≡◌, ℕ, List, [], map, Bool, Option, Some, None, refl, sym, ap, subst, ◌∙◌}
+use Rattle.std.proofs.Common.{◌≡◌, ℕ, List, [], map, Bool, Option, Some, None, sym, ap, subst, ◌∙◌}
 use Rattle.std.specs.Prelude.{option_and_then, is_some, unwrap_or}
 use Rattle.rail_csv.specs.declared.rows.End.{End}
 use Rattle.timetable.specs.declared.day.records.LinkKind.{LinkKind}
-use Rattle.timetable.specs.declared.day.records.LinkKind.TheVariants.{Turn, Join, Split}
+use Rattle.timetable.specs.declared.day.records.LinkKind.TheVariants.{Turn}
 use Rattle.timetable.specs.Chains.{leads_from, leads_to}
 use Rattle.timetable.specs.Links.{list_of, turned, kind_holds, given_by, taken_by}
 use Rattle.timetable.specs.Turns.{Parts, kept_of, parts_at, turn_parts}

@@ -1,8 +1,10 @@
--- Which tables make a day and which rows make a plan, decided by tests in their order; that a day's chains are no others; and what has
--- a multiplier.
-use Rattle.std.specs.Prelude.{ℕ, ◌≡◌, ◌↔◌, List, Result, Ok, Err, IsOk}
+-- Which tables make a day and which rows make a plan, decided by tests in their order; that a day's chains are no others; what a
+-- turn keeps, gives and takes; and what has a multiplier.
+use Rattle.std.specs.Prelude.{ℕ, ◌≡◌, ◌↔◌, List, Bool, Result, Ok, Err, IsOk, Some, length}
+use Rattle.rail_csv.specs.declared.rows.End.{End}
 use Rattle.rail_csv.specs.declared.rows.PlanRow.{PlanRow}
 use Rattle.timetable.specs.declared.building.tables.Tables.{Tables}
+use Rattle.timetable.specs.declared.day.records.LinkKind.{LinkKind}
 use Rattle.timetable.specs.Accepted.{AreLinks}
 use Rattle.timetable.specs.Build.{day_of}
 use Rattle.timetable.specs.Chains.{AreChains}
@@ -12,6 +14,7 @@ use Rattle.timetable.specs.Meaning.{IsDayOf}
 use Rattle.timetable.specs.Plans.{plan_of, plan_tests, IsPlanOf}
 use Rattle.timetable.specs.Refusals.{day_tests}
 use Rattle.timetable.specs.Tests.{Test, NoneFailed, IsFirstFailed}
+use Rattle.timetable.specs.Turns.{IsKept, kept_of, Parts, AreParts, turn_parts}
 
 -- something is made exactly where no test failed, and is refused exactly for the first that did
 pub record IsDecided {X E : Type 0} (made : Result X E) (tests : List (Test E)) : Type 0 where
@@ -32,6 +35,15 @@ pub record PlansAreMade : Type 0 where
 abbrev pub ChainsAreOne : Type 0
 ChainsAreOne = (day : Day) (some others : List (List ℕ)) → AreLinks day → AreChains day some → AreChains day others → some ≡ others
 
--- each place that is there has a multiplier, and nothing else has
+-- what a link keeps by types is as many as the longest list that fits
+abbrev pub KeepTheLongest : Type 0
+KeepTheLongest = (kind : LinkKind) (arriving departing : List ℕ) → IsKept kind arriving departing (kept_of kind arriving departing)
+
+-- the parts that a turn has are those of its rule, and it has none where no parts are
+abbrev pub HaveParts : Type 0
+HaveParts = (type_of : ℕ → ℕ) (uncouple couple : End) (exchange : Bool) (arriving departing : List ℕ) (parts : Parts)
+    → (turn_parts type_of uncouple couple exchange arriving departing ≡ Some parts) ↔ AreParts type_of uncouple couple exchange arriving departing parts
+
+-- each place that is there has one multiplier, and nothing else has; they are in order, those of departure minutes first
 abbrev pub PlacesHaveMultipliers : Type 0
 PlacesHaveMultipliers = (day : Day) → HaveMultipliers day (places_of day)

@@ -1,7 +1,8 @@
--- The rule of a turn: which units stay in the train. A turn may uncouple units at one end and couple others at one end. Which
--- places of the two lists stay is read off the types; that the same units stand there is the rule.
-use Rattle.std.specs.Prelude.{ℕ, zero, suc, ◌-◌, ◌≡◌, ◌≤◌, List, [], ◌++◌, length, take, drop, map, Bool, ◌&&◌, ◌||◌, ◌==◌, if◌then◌else◌, nat_le, Option, Some, None, option_and_then, unwrap_or, MatchOption}
+-- The rule of a turn: which units stay in the train. A turn has an end at which it may uncouple units, and one at which it may
+-- couple units. Which places of the two lists stay is read off the types; that the same units stand there is the rule.
+use Rattle.std.specs.Prelude.{ℕ, zero, suc, ◌-◌, ◌≡◌, ◌≤◌, List, [], ◌++◌, length, take, drop, map, Bool, ◌&&◌, ◌||◌, ◌==◌, if◌then◌else◌, nat_le, Option, Some, None, option_and_then, unwrap_or, MatchOption, IsTrue}
 use Rattle.std.specs.Str.{bytes_eq}
+use Rattle.rail_base.specs.declared.limits.TheConstants.{MOST_EXCHANGED}
 use Rattle.rail_csv.specs.declared.rows.End.{End}
 use Rattle.rail_csv.specs.declared.rows.End.TheVariants as at
 use Rattle.timetable.specs.declared.day.records.LinkKind.{LinkKind}
@@ -89,19 +90,32 @@ IsKept (Split a b1 b2) arriving departing kept = kept ≡ None
 
 -- ---- the rule
 
--- a hand-over of units at a turn: what stays in the train, what is given to the yard, what is taken from it
+-- what becomes of units at a turn: what stays in the train, what is given to the yard, what is taken from it
 pub record Parts : Type 0 where
   pub kept : List ℕ
   pub given : List ℕ
   pub taken : List ℕ
 
--- how many units a turn with exchange may uncouple, and how many it may couple
-abbrev pub most_exchanged : ℕ
-most_exchanged = 2
-
 -- a turn may take so many off and put so many on: nothing on one of the two sides, or, with exchange, few on both
 abbrev pub may_shunt : Bool → ℕ → ℕ → Bool
-may_shunt exchange off on = off == 0 || on == 0 || (exchange && nat_le off most_exchanged && nat_le on most_exchanged)
+may_shunt exchange off on = off == 0 || on == 0 || (exchange && nat_le off MOST_EXCHANGED && nat_le on MOST_EXCHANGED)
+
+-- the list is what stays and, at this end, what goes; nothing goes where neither end is named
+abbrev pub Consists : End → List ℕ → List ℕ → List ℕ → Type 0
+Consists at.None whole stays goes = (whole ≡ stays) × (goes ≡ [])
+Consists at.Rear whole stays goes = whole ≡ stays ++ goes
+Consists at.Front whole stays goes = whole ≡ goes ++ stays
+
+-- These are the parts of a turn: the units that stay are the same in both lists, and their types are the kept list; the arriving
+-- list is they and the units that are given, the departing list is they and the units that are taken, each at the end of the
+-- turn; and no more are given and taken than may be.
+pub record AreParts (type_of : ℕ → ℕ) (uncouple couple : End) (exchange : Bool) (arriving departing : List ℕ) (parts : Parts) : Type 0 where
+  pub types : IsKeptList uncouple couple (map type_of arriving) (map type_of departing) (map type_of parts.kept)
+  pub arrive : Consists uncouple arriving parts.kept parts.given
+  pub depart : Consists couple departing parts.kept parts.taken
+  pub few : IsTrue (may_shunt exchange (length parts.given) (length parts.taken))
+
+-- ---- the same by numbers: the parts
 
 -- the parts of a turn that keeps so many: none where other units stand at the kept places, or where too many are shunted
 abbrev pub parts_at : End → End → Bool → List ℕ → List ℕ → ℕ → Option Parts

@@ -2,16 +2,17 @@
 //!
 //! Each law is the contract of a function that does nothing.
 
-ghost use Rattle.timetable.specs.Laws.{DaysAreMade, PlansAreMade, ChainsAreOne, PlacesHaveMultipliers};
+ghost use Rattle.timetable.specs.Laws.{DaysAreMade, PlansAreMade, ChainsAreOne, KeepTheLongest, HaveParts, PlacesHaveMultipliers};
+ghost use Rattle.timetable.specs.TurnsWithoutExchange.{IsPlainTurn};
 
-/// Tables make a day exactly where no test on them fails, and then it is the day of the tables; a refusal is that of the first
-/// test that fails.
+/// Tables make a day exactly where no test on them fails, and then it is the day of the tables; a refusal is that of
+/// the first test that fails.
 pub fn days_are_made()
     ensures law { DaysAreMade }
 {}
 
-/// Rows make a plan of a day exactly where no test on them fails, and then it is the plan of the rows; a refusal is that of the
-/// first test that fails.
+/// Rows make a plan of a day exactly where no test on them fails, and then it is the plan of the rows; a refusal is
+/// that of the first test that fails.
 pub fn plans_are_made()
     ensures law { PlansAreMade }
 {}
@@ -21,8 +22,29 @@ pub fn chains_are_one()
     ensures law { ChainsAreOne }
 {}
 
-/// The multipliers of a day are one for each type and each departure minute of a station, one for each type and station, and
-/// one for each hand-over and composition, and no others.
+/// A turn keeps as many units, by their types, as the longest list of types that is left of the arriving list at the
+/// uncoupling end and of the departing list at the coupling end, and none where no list is. A join and a split keep
+/// no such list.
+pub fn links_keep_the_longest()
+    ensures law { KeepTheLongest }
+{}
+
+/// A turn has parts exactly where a list of types is kept, the same units of these types stay in both lists, and no
+/// more units are given and taken than may be; then the arriving list is the units that stay and, at the uncoupling
+/// end, those that are given, and the departing list is they and, at the coupling end, those that are taken.
+pub fn turns_have_parts()
+    ensures law { HaveParts }
+{}
+
+/// A turn without exchange, between lists that are not empty: the departing units are the arriving ones, or what is
+/// left of them after some were uncoupled, or they with some coupled.
+pub fn turns_without_exchange()
+    ensures law { IsPlainTurn }
+{}
+
+/// The multipliers of a day are one for each station, type and departure minute of the station, one for each station
+/// and type, and one for each hand-over and composition, and no others. Their indices are in this order of kinds, and
+/// within a kind in the order in which its parts are named here; so the first are those of departure minutes.
 pub fn places_have_multipliers()
     ensures law { PlacesHaveMultipliers }
 {}

@@ -14,7 +14,7 @@ use Rattle.timetable.specs.Compositions.{greatest_in, greatest_platform, composi
 use Rattle.timetable.specs.Day.{Day, from_of, platform_of}
 use Rattle.timetable.specs.Lists.{of_entry}
 use Rattle.timetable.specs.Links.{turned}
-use Rattle.timetable.specs.Turns.{most_exchanged}
+use Rattle.rail_base.specs.declared.limits.TheConstants.{MOST_EXCHANGED}
 use Rattle.transitions.specs.Edges.{MayRun}
 use Rattle.transitions.specs.Pairs.{AreAmongFirst}
 use Rattle.transitions.proofs.Kept.{length-turned}
@@ -72,7 +72,7 @@ no_longer ms ns before = elim (or_cases (nat_lt (length ms) (length ns)) (length
 ]
 
 -- before the first composition of more units than an exchange may uncouple stand all of no more
-pub among_first : (day : Day) (list : List (List ℕ)) (part : ℕ) (ms : List ℕ) → list ≡ compositions_of day → slice_get list part ≡ Some ms → most_exchanged < length ms → AreAmongFirst day part
+pub among_first : (day : Day) (list : List (List ℕ)) (part : ℕ) (ms : List ℕ) → list ≡ compositions_of day → slice_get list part ≡ Some ms → MOST_EXCHANGED < length ms → AreAmongFirst day part
 among_first day list part ms is at long =
     let here : slice_get (compositions_of day) part ≡ Some ms = ap (λ (l : List (List ℕ)). slice_get l part) (sym is) ∙ at in
     let below : part < length (compositions_of day) = slice_get_within (compositions_of day) part ms here in

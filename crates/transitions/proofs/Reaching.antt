@@ -7,6 +7,7 @@ use Rattle.std.proofs.lemmas.Slice.Eq.{bytes_eq-Decides}
 use Rattle.std.proofs.Math.Seq.{take-length, take-append_seam}
 use Rattle.compositions.specs.declared.types.UnitType.{UnitType}
 use Rattle.compositions.specs.Composition.{fits_in}
+use Rattle.rail_base.specs.declared.limits.TheConstants.{MOST_EXCHANGED}
 use Rattle.rail_csv.specs.declared.rows.End.{End}
 use Rattle.rail_csv.specs.declared.rows.End.TheVariants as at
 use Rattle.timetable.specs.declared.day.records.LinkKind.{LinkKind}
@@ -16,7 +17,7 @@ use Rattle.timetable.specs.Chains.{leads_from, leads_to}
 use Rattle.timetable.specs.Compositions.{composition_at}
 use Rattle.timetable.specs.Day.{Day}
 use Rattle.timetable.specs.Links.{turned, join_holds, split_holds}
-use Rattle.timetable.specs.Turns.{staying, beyond, may_shunt, most_exchanged}
+use Rattle.timetable.specs.Turns.{staying, beyond, may_shunt}
 use Rattle.transitions.specs.declared.edge.Edge.{Edge}
 use Rattle.transitions.specs.declared.pairs.Pair.{Pair}
 use Rattle.transitions.specs.Edges.{MayRun, IsKindEdge}
@@ -47,16 +48,16 @@ record IsPart (end : End) (whole part : List ℕ) : Type 0 where
   is : staying end whole (length part) ≡ part
 
 -- a turn with something on both sides is an exchange of few units
-few_of : (exchange : Bool) (off on : ℕ) → 1 ≤ off → 1 ≤ on → may_shunt exchange off on ≡ true → (exchange ≡ true) × (off ≤ most_exchanged) × (on ≤ most_exchanged)
-few_of exchange off on some some' may = elim (or_cases (off == 0 || on == 0) (exchange && nat_le off most_exchanged && nat_le on most_exchanged) may) [
+few_of : (exchange : Bool) (off on : ℕ) → 1 ≤ off → 1 ≤ on → may_shunt exchange off on ≡ true → (exchange ≡ true) × (off ≤ MOST_EXCHANGED) × (on ≤ MOST_EXCHANGED)
+few_of exchange off on some some' may = elim (or_cases (off == 0 || on == 0) (exchange && nat_le off MOST_EXCHANGED && nat_le on MOST_EXCHANGED) may) [
   | inl none ↦ elim (or_cases (off == 0) (on == 0) none) [
     | inl e ↦ let zero : off ≡ 0 = eqb-true off 0 e in absurd (omega (arith, zero))
     | inr e ↦ let zero : on ≡ 0 = eqb-true on 0 e in absurd (omega (arith, zero))
   ]
   | inr few ↦
-      let outer = and_parts (exchange && nat_le off most_exchanged) (nat_le on most_exchanged) few in
-      let inner = and_parts exchange (nat_le off most_exchanged) outer.0 in
-      (inner.0, leb-true off most_exchanged inner.1, leb-true on most_exchanged outer.1)
+      let outer = and_parts (exchange && nat_le off MOST_EXCHANGED) (nat_le on MOST_EXCHANGED) few in
+      let inner = and_parts exchange (nat_le off MOST_EXCHANGED) outer.0 in
+      (inner.0, leb-true off MOST_EXCHANGED inner.1, leb-true on MOST_EXCHANGED outer.1)
 ]
 
 -- what stays and what goes are the whole
@@ -127,8 +128,8 @@ module _ (day : Day) (r : Bool) (from to : ℕ) where
 
     -- not all of either
     turn_exchanged : n < length (turned r (composition_at day from)) → n < length (composition_at day to)
-        → length (turned r (composition_at day from)) - n ≤ most_exchanged → length (composition_at day to) - n ≤ most_exchanged
-        → IsExchanged day r uncouple couple few most_exchanged The
+        → length (turned r (composition_at day from)) - n ≤ MOST_EXCHANGED → length (composition_at day to) - n ≤ MOST_EXCHANGED
+        → IsExchanged day r uncouple couple few MOST_EXCHANGED The
     turn_exchanged off on few_off few_on =
         let long = beyond_long uncouple (turned r (composition_at day from)) n stay.of_arriving stay.arriving_long in
         let part = beyond_runs day a r uncouple from n arriving (omega (arith, long, off)) in

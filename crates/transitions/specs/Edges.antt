@@ -19,8 +19,8 @@ pub record MayRun (day : Day) (t comp : ℕ) : Type 0 where
   pub admissible : IsTrue (is_admissible day t (composition_at day comp))
 
 -- A turn of trip a into trip b: the types that depart are those that arrive, or what is left of them after units were
--- uncoupled at the one end, or they with units coupled at the other end; or, with exchange, what is left of them with units
--- coupled. The shunt says which, and how many units.
+-- uncoupled at the uncoupling end, or they with units coupled at the coupling end; or, with exchange, what is left of them with
+-- units coupled. The shunt says which, and how many units.
 pub record IsTurnEdge (day : Day) (reversed : Bool) (a b : ℕ) (uncouple couple : End) (exchange : Bool) (edge : Edge) : Type 0 where
   pub arriving : MayRun day a edge.from
   pub departing : MayRun day b edge.to

@@ -2,6 +2,7 @@
 -- those that may be left of it. At an exchange the arriving one is what stays with one or two units more.
 use Rattle.std.specs.Prelude.{ℕ, ◌≡◌, ◌<◌, ◌≤◌, ◌-◌, ◌⊎◌, ◌++◌, Bool, true, false, List, length, map, Some}
 use Rattle.std.specs.List.{All, Contains}
+use Rattle.rail_base.specs.declared.limits.TheConstants.{MOST_EXCHANGED}
 use Rattle.rail_csv.specs.declared.rows.End.{End}
 use Rattle.rail_csv.specs.declared.rows.End.TheVariants as at
 use Rattle.timetable.specs.declared.day.records.LinkKind.{LinkKind}
@@ -12,7 +13,7 @@ use Rattle.timetable.specs.Compositions.{compositions_of, composition_at}
 use Rattle.timetable.specs.Day.{Day}
 use Rattle.timetable.specs.Handovers.{second_of}
 use Rattle.timetable.specs.Links.{turned}
-use Rattle.timetable.specs.Turns.{staying, most_exchanged}
+use Rattle.timetable.specs.Turns.{staying}
 use Rattle.transitions.specs.declared.allowed.Admitted.{Admitted}
 use Rattle.transitions.specs.declared.edge.Edge.{Edge}
 use Rattle.transitions.specs.declared.pairs.Pair.{Pair}
@@ -40,7 +41,7 @@ coupled_at (Turn a b uncouple couple exchange) = couple
 coupled_at (Join a1 a2 b) = at.Rear
 coupled_at (Split a b1 b2) = at.None
 
--- a turn with exchange may uncouple units at the one end and couple others at the other
+-- a turn with exchange may uncouple units at its uncoupling end and couple units at its coupling end
 abbrev pub may_exchange : LinkKind → Bool
 may_exchange (Turn a b uncouple couple exchange) = exchange
 may_exchange (Join a1 a2 b) = false
@@ -55,7 +56,7 @@ joined_at at.Front units others = others ++ units
 -- all compositions that an exchange may uncouple are among the first so many
 pub record AreAmongFirst (day : Day) (few : ℕ) : Type 0 where
   pub within : few ≤ length (compositions_of day)
-  pub all : (comp : ℕ) → comp < length (compositions_of day) → length (composition_at day comp) ≤ most_exchanged → comp < few
+  pub all : (comp : ℕ) → comp < length (compositions_of day) → length (composition_at day comp) ≤ MOST_EXCHANGED → comp < few
 
 -- both compositions of a pair are in the catalogue
 pub record IsKnown (day : Day) (pair : Pair) : Type 0 where
@@ -94,7 +95,7 @@ pub record IsExchanged (day : Day) (reversed : Bool) (uncouple couple : End) (fe
 -- the arriving composition is that of which the departing one is made: by coupling alone, or by an exchange
 abbrev pub IsMade : Day → LinkKind → Bool → ℕ → Pair → Type 0
 IsMade day kind reversed few pair = IsFront day reversed (coupled_at kind) (length (composition_at day pair.to)) pair
-    ⊎ ((may_exchange kind ≡ true) × IsExchanged day reversed (uncoupled_at kind) (coupled_at kind) few most_exchanged pair)
+    ⊎ ((may_exchange kind ≡ true) × IsExchanged day reversed (uncoupled_at kind) (coupled_at kind) few MOST_EXCHANGED pair)
 
 -- the pairs of a list and more, among them all of a kind
 pub record Grown (day : Day) (before after : List Pair) (P : Pair → Type 0) : Type 0 where

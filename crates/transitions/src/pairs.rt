@@ -10,11 +10,11 @@ ghost use Rattle.transitions.specs.declared.pairs.Pair.{Pair};
 use crate::allowed::{Admitted, may_run, number_of};
 use crate::turns::turned;
 use compositions::Composition;
-use rail_base::limits::MOST_COMPOSITION;
+use rail_base::limits::{MOST_COMPOSITION, MOST_EXCHANGED};
 use rail_base::{CompNo, NoMemory};
 use rail_csv::End;
 use std::alloc::Global;
-use timetable::{Instance, Link, LinkKind, MOST_EXCHANGED};
+use timetable::{Instance, Link, LinkKind};
 
 /// An arriving and a departing composition.
 #[derive(Clone, Copy, Debug, PartialEq, Eq, PartialOrd, Ord)]
@@ -103,7 +103,7 @@ fn coupled_at(kind: LinkKind) -> End
     }
 }
 
-/// Whether a link is a turn that may uncouple units at one end and couple others at the other.
+/// Whether a link is a turn that may uncouple units at its uncoupling end and couple units at its coupling end.
 fn may_exchange(kind: LinkKind) -> bool
     ensures { result ≡ may_exchange kind }
 {

@@ -55,7 +55,7 @@ pub(crate) fn turned(reversed: bool, composition: &Composition) -> Composition
 
 /// What stands behind a front, or nothing where a whole of at most six types does not begin with the front or ends with it.
 pub(crate) fn rest_after(front: &[TypeNo], whole: &[TypeNo]) -> Option<Composition>
-    requires { length whole.now ≤ 6 }
+    requires { length whole.now ≤ MOST_COMPOSITION }
     ensures { (rest : List ℕ) → (result ≡ Some rest) ↔ ((front.now ++ rest ≡ whole.now) × (1 ≤ length rest)) }
 {
     Composition::of(whole.strip_prefix(front)?)

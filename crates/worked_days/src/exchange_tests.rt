@@ -1,4 +1,4 @@
-//! Turns that uncouple units at one end and couple others at one end: days whose links are of the second version.
+//! Turns that both uncouple and couple units: days whose links are of the second version.
 
 use crate::day::{Day, base_day, expect_document, two_types};
 use std::test::Fail;
@@ -70,6 +70,14 @@ fn an_exchange_has_two_ends(rt: HostRuntime) -> Result<(), Fail> {
         ),
         (
             "kind,arriving,arriving2,departing,departing2,reverse,uncouple,couple,exchange\nturn,T1,,T2,,yes,rear,none,yes\n",
+            "refused links.csv: row 1: fields do not fit the kind\n",
+        ),
+        (
+            "kind,arriving,arriving2,departing,departing2,reverse,uncouple,couple,exchange\njoin,T1,T1,T2,,no,none,none,yes\n",
+            "refused links.csv: row 1: fields do not fit the kind\n",
+        ),
+        (
+            "kind,arriving,arriving2,departing,departing2,reverse,uncouple,couple,exchange\nsplit,T1,,T2,T2,no,none,none,yes\n",
             "refused links.csv: row 1: fields do not fit the kind\n",
         ),
         (

@@ -48,7 +48,7 @@ pub struct Trip {
     pub first: u32,
 }
 
-/// A link from trips that arrive to trips that leave with the same units.
+/// A link, by which units of trips that arrive stay in the train and leave with other trips.
 #[derive(Clone, Copy, Debug)]
 pub struct Link {
     /// What becomes of the units.
@@ -60,13 +60,14 @@ pub struct Link {
 /// What becomes of the units of a link's arriving trips.
 #[derive(Clone, Copy, Debug)]
 pub enum LinkKind {
-    /// One train goes on as one train, and units are uncoupled at one end or coupled at one end.
+    /// One train goes on as one train. Units may be uncoupled at the uncoupling end and coupled at the coupling end,
+    /// which may be one and the same.
     Turn {
         arriving: TripNo,
         departing: TripNo,
         uncouple: End,
         couple: End,
-        /// Whether one or two units may be uncoupled and one or two coupled at once.
+        /// Whether the turn may do both, with one or two units each; else it may do one of the two.
         exchange: bool,
     },
     /// Two trains go on as one, the first in front.

@@ -9,7 +9,7 @@ ghost use Rattle.timetable.specs.Handovers.{second_of};
 ghost use Rattle.timetable.specs.LinkRows.{NamesBelow};
 ghost use Rattle.timetable.specs.Links.{list_of, turned, link_holds, given_by, taken_by, link_out, link_into, given, taken};
 ghost use Rattle.timetable.specs.Running.{IsPlan, AreUnits};
-ghost use Rattle.timetable.specs.Turns.{same, kept_of, parts_at};
+ghost use Rattle.timetable.specs.Turns.{same, kept_of, IsKept, parts_at};
 
 use crate::day::instance::Instance;
 use crate::day::plan::NamedPlan;
@@ -58,6 +58,7 @@ impl LinkKind {
     /// the longest list of types that fits both of its ends. Nothing where no list fits, and at a join or a split.
     pub fn kept(&self, arriving: &[TypeNo], departing: &[TypeNo]) -> Option<usize>
         ensures number { result ≡ kept_of self.now arriving.now departing.now }
+        ensures meaning { IsKept self.now arriving.now departing.now result }
         ensures arriving { IfSome result (λ n. n ≤ length arriving.now) }
         ensures departing { IfSome result (λ n. n ≤ length departing.now) }
     {

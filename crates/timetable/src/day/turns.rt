@@ -1,18 +1,18 @@
-//! What a turn keeps of an arriving train, by the types of its units, and which units it gives to the yard and takes from it.
+//! What a turn keeps of an arriving train, by the types of its units, and which units it gives to the yard and takes
+//! from it.
 
 ghost use Rattle.std.specs.Prelude.{◌≡◌, ◌≤◌, ◌-◌, length, map, IfSome, IsTrue};
 ghost use Rattle.timetable.specs.Turns.{may_stay, staying, beyond, fits_at, greatest, kept_length, may_shunt, parts_at};
 
+use rail_base::limits::MOST_EXCHANGED;
 use rail_base::{TypeNo, UnitNo};
 use rail_csv::End;
 use std::marker::Model;
 
-/// How many units a turn may uncouple, and how many it may couple, where it does both.
-pub const MOST_EXCHANGED: usize = 2;
-
-/// How many units a turn keeps, by the types of the arriving list after a reversal and of the departing list: the length of
-/// the longest list of types that is left of the arriving list after none or more were uncoupled at the one end, and that becomes the
-/// departing list when none or more are coupled at the other. Nothing where no list of one type or more is so.
+/// How many units a turn keeps, by the types of the arriving list after a reversal and of the departing list: the
+/// length of the longest list of types that is left of the arriving list after none or more were uncoupled at the
+/// uncoupling end, and that becomes the departing list when none or more are coupled at the coupling end. Nothing
+/// where no list of one type or more is so.
 #[tactic(auto, unfolding(crate::specs::Turns::kept_length))]
 pub(crate) fn kept_length(
     uncouple: End,
@@ -89,7 +89,8 @@ pub(crate) fn beyond<T>(end: End, whole: &[T], stay: usize) -> &[T]
     }
 }
 
-/// Whether a turn may take so many units off and put so many on: it does one of the two, or, with exchange, few of both.
+/// Whether a turn may take so many units off and put so many on: it does one of the two, or, with exchange, few of
+/// both.
 pub fn may_shunt(exchange: bool, off: usize, on: usize) -> bool
     ensures { result ≡ may_shunt exchange off on }
 {
@@ -115,8 +116,8 @@ impl<'a> Model for Parts<'a> {
     ghost view = { λ a. record { kept = a.kept.now; given = a.given.now; taken = a.taken.now } };
 }
 
-/// What becomes of units at a turn that keeps so many, or nothing where other units stand at the kept places or where more are
-/// shunted than may be. The arriving list is the one after a reversal.
+/// What becomes of units at a turn that keeps so many, or nothing where other units stand at the kept places or where
+/// more are shunted than may be. The arriving list is the one after a reversal.
 pub(crate) fn parts_at<'a>(
     uncouple: End,
     couple: End,

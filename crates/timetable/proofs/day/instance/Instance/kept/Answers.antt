@@ -1,9 +1,8 @@
 -- The link is the one of its number, and its count of kept units that of the longest list that fits.
-use Rattle.std.proofs.Common.{◌≡◌, ◌≤◌, ℕ, List, Option, Some, None, sym, ap, subst, ◌∙◌, arith, length, slice_get}
+use Rattle.std.proofs.Common.{◌≡◌, Option, sym, subst, ◌∙◌}
 use Rattle.std.specs.Prelude.{IfSome}
 use Rattle.timetable.specs.declared.day.records.Link.{Link}
 use Rattle.timetable.specs.Turns.{kept_of, IsKept}
-use Rattle.timetable.proofs.Turning.{kept_of-is}
 use Rattle.timetable.proofs.day.instance.Instance.kept.Goals as goal
 
 pub returns-clause-number : goal.returns-clause-number
@@ -14,5 +13,4 @@ returns-clause-number c =
 pub returns-clause-meaning : goal.returns-clause-meaning
 returns-clause-meaning c =
     subst (λ (o : Option Link). IfSome o (λ link. IsKept link.kind c.args.arriving.now c.args.departing.now c.as_number.result)) (sym c.link.ensures.value)
-    (subst (IsKept c.link.result.now.kind c.args.arriving.now c.args.departing.now) (sym (c.as_number.ensures ∙ c.kept.ensures.number))
-    (kept_of-is c.link.result.now.kind c.args.arriving.now c.args.departing.now))
+    (subst (IsKept c.link.result.now.kind c.args.arriving.now c.args.departing.now) (sym c.as_number.ensures) c.kept.ensures.meaning)
