@@ -1,50 +1,10 @@
--- Sums over the numbers below a bound, and how often a type is in a list of units.
-use Rattle.std.proofs.Common.{◌≡◌, ℕ, zero, suc, ◌+◌, ◌<◌, ◌≤◌, List, [], ◌∷◌, map, Bool, true, false, cond, eqb, refl, sym, ap, arith, ◌≢◌, ⊎_elim}
+-- How often a type is in a list of units, as a sum over the units below a bound.
+use Rattle.std.proofs.Common.{◌≡◌, ℕ, zero, suc, ◌+◌, ◌<◌, ◌≤◌, List, [], ◌∷◌, map, Bool, true, false, cond, eqb, refl, sym, arith, ◌≢◌}
 use Rattle.std.specs.Prelude.{if◌then◌else◌, ◌==◌}
-use Rattle.std.proofs.lemmas.Bool.{cases_eq, cond-true, cond-false, eq-eqb, ne_eqb}
-use Rattle.std.proofs.lemmas.Bool.Decides.{nat_tests}
+use Rattle.std.proofs.lemmas.Bool.{cond-true, cond-false, eq-eqb, ne_eqb}
 use Rattle.timetable.specs.Lists.{count_of, sum_below}
-
--- a number counts once where it is the one, and not at all elsewhere
-abbrev pub one : ℕ → ℕ → ℕ
-one s t = if s == t then 1 else 0
-
-pub one_same : (s t : ℕ) → s ≡ t → one s t ≡ 1
-one_same s t e = grind (arith, nat_tests)
-
-pub one_other : (s t : ℕ) → s ≢ t → one s t ≡ 0
-one_other s t ne = grind (arith, nat_tests)
-
-pub sum_same : (f g : ℕ → ℕ) (n : ℕ) → ((k : ℕ) → k < n → f k ≡ g k) → sum_below f n ≡ sum_below g n
-sum_same f g zero h = refl
-sum_same f g (suc n) h = let rest = sum_same f g n (λ k lt. h k (omega arith)) in let last = h n (omega arith) in omega arith
-
-pub sum_add : (f g : ℕ → ℕ) (n : ℕ) → sum_below (λ k. f k + g k) n ≡ sum_below f n + sum_below g n
-sum_add f g zero = omega arith
-sum_add f g (suc n) = let rest = sum_add f g n in omega arith
-
-pub sum_le : (f g : ℕ → ℕ) (n : ℕ) → ((k : ℕ) → k < n → f k ≤ g k) → sum_below f n ≤ sum_below g n
-sum_le f g zero h = omega arith
-sum_le f g (suc n) h = let rest = sum_le f g n (λ k lt. h k (omega arith)) in let last = h n (omega arith) in omega arith
-
-pub sum_zero : (f : ℕ → ℕ) (n : ℕ) → ((k : ℕ) → k < n → f k ≡ 0) → sum_below f n ≡ 0
-sum_zero f zero h = refl
-sum_zero f (suc n) h = let rest = sum_zero f n (λ k lt. h k (omega arith)) in let last = h n (omega arith) in omega arith
-
--- one number more at one place
-pub sum_one_more : (f g : ℕ → ℕ) (x v n : ℕ) → x < n → f x ≡ g x + v → ((k : ℕ) → k ≢ x → f k ≡ g k) → sum_below f n ≡ sum_below g n + v
-sum_one_more f g x v zero lt here other = absurd (omega arith)
-sum_one_more f g x v (suc n) lt here other = ⊎_elim
-    (λ (e : n ≡ x).
-    let rest = sum_same f g n (λ k below. other k (λ is. absurd (omega arith))) in
-    let fe = ap f e in
-    let ge = ap g e in
-    omega arith)
-    (λ (ne : n ≢ x).
-    let rest = sum_one_more f g x v n (omega arith) here other in
-    let last = other n ne in
-    omega arith)
-    (cases_eq n x)
+pub use Rattle.timetable.proofs.Ones.{one, one_same, one_other}
+pub use Rattle.timetable.proofs.Sums.{sum_same, sum_add, sum_le, sum_zero, sum_one_more}
 
 -- a list has so many units of a type as its units below a bound have that type
 pub sum_of_type : (type_of : ℕ → ℕ) (m n : ℕ) (us : List ℕ) → ((u : ℕ) → 1 ≤ count_of u us → u < n)

@@ -59,12 +59,14 @@ pub const MOST_WEIGHT: u32 = 10_000;
 
 /// Units at the start of the day, all stations together.
 pub const MOST_UNITS: u32 = 2_000;
+/// Hand-overs of units between two trains at joins and splits: each uses three of the two ends that each trip has.
+pub const MOST_HANDOVERS: usize = 2 * MOST_TRIPS / 3;
 /// Units in one composition.
 pub const MOST_COMPOSITION: usize = 6;
-/// Compositions in the catalogue.
-pub const MOST_COMPOSITIONS: usize = 1_000;
 /// Units that a turn may uncouple, and units that it may couple, where it does both.
 pub const MOST_EXCHANGED: usize = 2;
+/// Compositions in the catalogue.
+pub const MOST_COMPOSITIONS: usize = 1_000;
 
 // The search and its answer.
 

@@ -41,6 +41,8 @@ pub mod Picking
 pub mod YardTypes
 pub mod StockRows
 pub mod Ones
+pub mod Sums
+pub mod Ends
 pub mod LinkKinds
 pub mod Accounts
 pub mod Linked

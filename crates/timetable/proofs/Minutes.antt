@@ -1,18 +1,20 @@
 -- The departure minutes of a station rise, and are those of its trips.
-use Rattle.std.proofs.Common.{◌≡◌, ◌⊎◌, inl, inr, ℕ, zero, suc, ◌<◌, ◌≤◌, false, List, [], ◌∷◌, length, get_or, refl, sym, ap, subst, ◌∙◌, arith, Result, Ok, Err}
+use Rattle.std.proofs.Common.{◌≡◌, ◌⊎◌, inl, inr, ℕ, zero, suc, ◌<◌, ◌≤◌, false, List, [], ◌∷◌, ◌+◌, length, get_or, refl, sym, ap, subst, ◌∙◌, arith, Result, Ok, Err}
 use Rattle.std.specs.Prelude.{⊤, if◌then◌else◌, ◌==◌, nat_lt}
 use Rattle.std.specs.List.{All, AllPairs, Contains, insert}
 use Rattle.std.specs.List.Sorted.{IsBinarySearchResult}
 use Rattle.std.specs.Ordering.{nat_cmp}
 use Rattle.std.proofs.lemmas.List.Sorted.{searched}
-use Rattle.std.proofs.lemmas.Bool.{cases_lt, cond_both, cond-true, cond-false, both_ways, ltb-true, ltb-false, lt-ltb, le-ltb, eqb-true, eq-eqb, ne_eqb}
+use Rattle.std.proofs.lemmas.Bool.{cases_Bool, cases_lt, cond_both, cond-true, cond-false, both_ways, ltb-true, ltb-false, lt-ltb, le-ltb, eqb-true, eq-eqb, ne_eqb}
 use Rattle.std.proofs.lemmas.List.Elements.{Contains-get_or}
 use Rattle.timetable.specs.declared.day.records.Trip.{Trip}
 use Rattle.rail_base.specs.declared.limits.TheConstants.{MOST_MINUTES}
 use Rattle.timetable.specs.Accepted.{IsDay}
 use Rattle.timetable.specs.Day.{Day, leaves, arrives, from_of}
-use Rattle.timetable.specs.Lists.{of_entry}
+use Rattle.timetable.specs.Lists.{of_entry, sum_below}
 use Rattle.timetable.specs.Minutes.{LeavesAt, AreMinutes, inserted, minutes_in, minutes_of}
+use Rattle.timetable.proofs.Ones.{one}
+use Rattle.timetable.proofs.Sums.{sum_add, sum_le, sum_zero, sum_one}
 
 -- ---- numbers in a list
 
@@ -199,6 +201,28 @@ are_of (trip ∷ trips) s =
 pub minutes_rise : (trips : List Trip) (s : ℕ) → AllPairs (λ a b. a < b) (minutes_in trips s)
 minutes_rise trips s = pairs_rise (minutes_in trips s) (are_of trips s).rise
 
+-- a trip more makes one minute more at one station at most
+one_minute_more : (trip : Trip) (trips : List Trip) (s : ℕ) → length (minutes_in (trip ∷ trips) s) ≤ length (minutes_in trips s) + one trip.from s
+one_minute_more trip trips s = elim (cases_Bool (trip.from == s)) [
+  | inl here ↦
+      let most = (inserts trip.departure (minutes_in trips s)).few in
+      omega (arith, ap (λ (minutes : List ℕ). length minutes) (cond-true (trip.from == s) (inserted trip.departure (minutes_in trips s)) (minutes_in trips s) here), cond-true {A = ℕ} (trip.from == s) 1 0 here)
+  | inr other ↦
+      omega (arith, ap (λ (minutes : List ℕ). length minutes) (cond-false (trip.from == s) (inserted trip.departure (minutes_in trips s)) (minutes_in trips s) other), cond-false {A = ℕ} (trip.from == s) 1 0 other)
+]
+
+-- the stations have together no more minutes than there are trips
+few_minutes_below : (trips : List Trip) (n : ℕ) → sum_below (λ s. length (minutes_in trips s)) n ≤ length trips
+few_minutes_below [] n = omega (arith, sum_zero (λ s. length (minutes_in [] s)) n (λ s below. refl))
+few_minutes_below (trip ∷ trips) n =
+    omega (
+      arith,
+      sum_le (λ s. length (minutes_in (trip ∷ trips) s)) (λ s. length (minutes_in trips s) + one trip.from s) n (λ s below. one_minute_more trip trips s),
+      sum_add (λ s. length (minutes_in trips s)) (one trip.from) n,
+      sum_one trip.from n,
+      few_minutes_below trips n,
+    )
+
 pub few_minutes : (trips : List Trip) (s : ℕ) → length (minutes_in trips s) ≤ length trips
 few_minutes trips s = (are_of trips s).few
 
@@ -259,3 +283,7 @@ place_found ks read m i r same is rise says =
 pub few_minutes_of : (day : Day) (s : ℕ) → length (minutes_of day s) ≤ length day.trips
 unfolding minutes_of
 few_minutes_of day s = few_minutes day.trips s
+
+pub few_minutes_before : (day : Day) (n : ℕ) → sum_below (λ s. length (minutes_of day s)) n ≤ length day.trips
+unfolding minutes_of
+few_minutes_before day n = few_minutes_below day.trips n

@@ -26,7 +26,7 @@ position_some p xs i e =
     (slice_get_cases xs i).1
 
 -- where none is found, none passes
-position_none : {X : Type 0} (p : X → Bool) (xs : List X) (i : ℕ) (x : X) → position p xs ≡ None → slice_get xs i ≡ Some x → p x ≡ false
+pub position_none : {X : Type 0} (p : X → Bool) (xs : List X) (i : ℕ) (x : X) → position p xs ≡ None → slice_get xs i ≡ Some x → p x ≡ false
 position_none p xs i x e at =
     let lt = slice_get_within xs i x at in
     let past : length xs ≤ position_or_len p xs =

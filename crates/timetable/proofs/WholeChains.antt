@@ -12,26 +12,8 @@ use Rattle.timetable.specs.Chains.{Leads, Ends, IsChain, times_in, first_of, Are
 use Rattle.timetable.specs.Day.{Day, leaves}
 use Rattle.timetable.specs.Lists.{count_of, sum_below, count_below}
 use Rattle.timetable.specs.Running.{EachFollows}
+use Rattle.timetable.proofs.Sums.{sum_less, sum_ones}
 use Rattle.timetable.proofs.Leading.{leads_next, leads_led, next_leads, led_leads, one_next, one_before, leads_below, led_below, leads_later}
-
--- ---- sums of ones
-
-sum_least : (f g : ℕ → ℕ) (n : ℕ) → ((i : ℕ) → f i ≤ g i) → sum_below f n ≤ sum_below g n
-sum_least f g zero each = omega arith
-sum_least f g (suc n) each = omega (arith, sum_least f g n each, each n)
-
-sum_less : (f g : ℕ → ℕ) (n k : ℕ) → ((i : ℕ) → f i ≤ g i) → k < n → f k < g k → sum_below f n < sum_below g n
-sum_less f g zero k each below less = absurd (omega arith)
-sum_less f g (suc n) k each below less = elim (cases_eq k n) [
-  | inl is ↦
-      let last : f n < g n = subst (λ (i : ℕ). f i < g i) is less in
-      omega (arith, sum_least f g n each)
-  | inr differ ↦ omega (arith, sum_less f g n k each (omega arith) less, each n)
-]
-
-sum_ones : (n : ℕ) → sum_below (λ _. 1) n ≡ n
-sum_ones zero = refl
-sum_ones (suc n) = omega (arith, sum_ones n)
 
 -- ---- one chain
 

@@ -1,6 +1,6 @@
 -- The order of multipliers: what the multiplier of each index belongs to.
-use Rattle.std.specs.Prelude.{ℕ, ◌+◌, ◌≡◌, ◌<◌, ◌↔◌, List, ◌++◌, length, Some, slice_get}
-use Rattle.std.specs.List.{Contains}
+use Rattle.std.specs.Prelude.{ℕ, ◌≡◌, ◌<◌, ◌↔◌, ◌⊎◌, ⊤, List, ◌++◌, length, Some, slice_get}
+use Rattle.std.specs.List.{AllPairs, Contains}
 use Rattle.timetable.specs.declared.day.indices.Place.{Place}
 use Rattle.timetable.specs.declared.day.indices.Place.TheVariants.{Lambda, Mu, Sigma}
 use Rattle.timetable.specs.Compositions.{compositions_of}
@@ -33,7 +33,38 @@ sigmas_of day = joined (λ h. listed (λ c. Sigma h c) (length (compositions_of 
 abbrev pub places_of : Day → List Place
 places_of day = lambdas_of day ++ (mus_of day ++ sigmas_of day)
 
--- each place that is there has a multiplier, and nothing else has
-pub record HaveMultipliers (day : Day) (places : List Place) : Type 0 where
+-- ---- what these places are
+
+-- a departure minute of a station, and a type
+abbrev pub IsLambda : Place → Type 0
+IsLambda (Lambda s m k) = ⊤
+IsLambda (Mu s m) = ⊥
+IsLambda (Sigma h c) = ⊥
+
+-- A place comes before another: those of departure minutes come first, by station, then by type, then by minute; then those of
+-- stations and types, by station, then by type; then those of hand-overs and compositions, by hand-over, then by composition.
+abbrev pub Precedes : Place → Place → Type 0
+Precedes (Lambda s m k) (Lambda s' m' k') = (s < s') ⊎ ((s ≡ s') × ((m < m') ⊎ ((m ≡ m') × (k < k'))))
+Precedes (Lambda s m k) (Mu s' m') = ⊤
+Precedes (Lambda s m k) (Sigma h c) = ⊤
+Precedes (Mu s m) (Lambda s' m' k) = ⊥
+Precedes (Mu s m) (Mu s' m') = (s < s') ⊎ ((s ≡ s') × (m < m'))
+Precedes (Mu s m) (Sigma h c) = ⊤
+Precedes (Sigma h c) (Lambda s m k) = ⊥
+Precedes (Sigma h c) (Mu s m) = ⊥
+Precedes (Sigma h c) (Sigma h' c') = (h < h') ⊎ ((h ≡ h') × (c < c'))
+
+-- Each place that is there has one index, and nothing else has an index. The indices are in order, and the first of them, so many,
+-- are those of departure minutes.
+pub record HaveMultipliers (day : Day) (places : List Place) (first : ℕ) : Type 0 where
   pub each : (place : Place) → Contains places place → IsPlace day place
   pub all : (place : Place) → IsPlace day place → Contains places place
+  pub once : (i j : ℕ) (place : Place) → slice_get places i ≡ Some place → slice_get places j ≡ Some place → i ≡ j
+  pub in_order : AllPairs Precedes places
+  pub lambdas : (i : ℕ) (place : Place) → slice_get places i ≡ Some place → IsLambda place ↔ (i < first)
+
+-- the index is that of the place, and no other index is
+pub record IsIndexOf (day : Day) (place : Place) (index : ℕ) : Type 0 where
+  pub within : index < length (places_of day)
+  pub at : slice_get (places_of day) index ≡ Some place
+  pub alone : (i : ℕ) → slice_get (places_of day) i ≡ Some place → i ≡ index

@@ -9,7 +9,7 @@ use Rattle.timetable.specs.Accepted.{AreLinks}
 use Rattle.timetable.specs.Build.{day_of}
 use Rattle.timetable.specs.Chains.{AreChains}
 use Rattle.timetable.specs.Day.{Day}
-use Rattle.timetable.specs.Indices.{HaveMultipliers, places_of}
+use Rattle.timetable.specs.Indices.{HaveMultipliers, lambdas_of, places_of}
 use Rattle.timetable.specs.Meaning.{IsDayOf}
 use Rattle.timetable.specs.Plans.{plan_of, plan_tests, IsPlanOf}
 use Rattle.timetable.specs.Refusals.{day_tests}
@@ -46,4 +46,4 @@ HaveParts = (type_of : ℕ → ℕ) (uncouple couple : End) (exchange : Bool) (a
 
 -- each place that is there has one multiplier, and nothing else has; they are in order, those of departure minutes first
 abbrev pub PlacesHaveMultipliers : Type 0
-PlacesHaveMultipliers = (day : Day) → HaveMultipliers day (places_of day)
+PlacesHaveMultipliers = (day : Day) → HaveMultipliers day (places_of day) (length (lambdas_of day))

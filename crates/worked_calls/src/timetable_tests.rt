@@ -10,7 +10,7 @@ use rail_csv::{
 };
 use std::alloc::Global;
 use std::test::Fail;
-use timetable::{Handover, Instance, InstanceRefusal, NamedPlan, PlanRefusal, Rows, Tables};
+use timetable::{Handover, Instance, InstanceRefusal, NamedPlan, Place, PlanRefusal, Rows, Tables};
 
 const STATIONS: &[u8] = b"station,platform,reallocation\nX,200,30\nY,200,30\n";
 
@@ -147,6 +147,28 @@ fn chains_of_a_ring(rt: HostRuntime) -> Result<(), Fail> {
         return Ok(());
     }
     panic!(rt; "two chains and two hand-overs")
+}
+
+#[test]
+fn indices_of_a_ring(rt: HostRuntime) -> Result<(), Fail> {
+    let tables = tables_of(rt.alloc(), RING_STATIONS, RING_STOCK, RING, RING_LINKS)?;
+    let day = Instance::build(rt.alloc(), tables)?;
+    for index in 0..day.indices() {
+        let place = day.place(index);
+        assert_eq!(rt; day.index(place), index);
+        assert_eq!(rt;
+            matches!(place, Place::Lambda { .. }),
+            index < day.free_from()
+        );
+    }
+    if day.free_from() < day.indices() {
+        let first = Place::Mu {
+            station: StationNo(0),
+            unit_type: TypeNo(0),
+        };
+        assert_eq!(rt; day.place(day.free_from()), first);
+    }
+    Ok(())
 }
 
 #[test]

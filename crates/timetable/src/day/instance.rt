@@ -1,6 +1,6 @@
 //! The instance: a day that was accepted, with its units numbered.
 
-ghost use Rattle.std.specs.Prelude.{◌≡◌, ◌<◌, ◌≤◌, [], ◌∷◌, ◌++◌, length, slice_get, Some, replicate, OnOk, IfOk, IfErr, IfSome};
+ghost use Rattle.std.specs.Prelude.{ℕ, ◌≡◌, ◌<◌, ◌≤◌, ◌*◌, [], ◌∷◌, ◌++◌, length, slice_get, Some, replicate, OnOk, IfOk, IfErr, IfSome};
 ghost use Rattle.std.specs.List.{All};
 ghost use Rattle.rail_csv.specs.Rows.{AreTypeRows, AreStationRows, AreStockRows, AreTripRows, AreLinkRows, IsWeightsRow};
 ghost use Rattle.timetable.specs.Accepted.{IsDay, AreLinks, IsStocked};
@@ -12,6 +12,7 @@ ghost use Rattle.timetable.specs.Chains.{chains_of, IsChain, AreChains};
 ghost use Rattle.timetable.specs.Day.{units_of, units_in, unit_count, wanted_in, wanted_of};
 ghost use Rattle.timetable.specs.Handovers.{handovers_of, IsHandover, AreHandovers};
 ghost use Rattle.timetable.specs.Links.{incoming, outgoing};
+ghost use Rattle.timetable.specs.Lists.{sum_below};
 ghost use Rattle.timetable.specs.Meaning.{IsDayOf};
 ghost use Rattle.timetable.specs.Minutes.{minutes_of, AreMinutes};
 ghost use Rattle.timetable.specs.Refusals.{day_tests};
@@ -31,7 +32,8 @@ use crate::day::minutes::{Minutes, minutes_of};
 use crate::day::records::{Handover, Link, Station, Stock, Trip, Unit, Weights};
 use compositions::{Catalogue, UnitTypes};
 use rail_base::limits::{
-    MOST_COMPOSITION, MOST_LINKS, MOST_MINUTES, MOST_STATIONS, MOST_TRIPS, MOST_UNITS,
+    MOST_COMPOSITION, MOST_HANDOVERS, MOST_LINKS, MOST_MINUTES, MOST_STATIONS, MOST_TRIPS,
+    MOST_UNITS,
 };
 use rail_base::{CompNo, LinkNo, Minute, NoMemory, StationNo, TripNo, TypeNo, UnitNo};
 use rail_csv::WeightsRow;
@@ -72,13 +74,13 @@ impl Model for Instance {
 impl Instance {
     /// The day of tables whose rows keep within the rules of their columns and the limits of rows.
     ///
-    /// Refusals, the first test that fails: a repeated name of a type; of a station; a stock row with an unknown station,
-    /// an unknown type, or the station and type of an earlier row; more than 2,000 units; more than 1,000 compositions that
-    /// fit the greatest platform; a trip with a repeated name, an
-    /// unknown station, one station twice, an arrival not after its departure, or platforms that no composition fits; a
-    /// link whose fields do not fit its kind, with an unknown trip, with a trip that it or an earlier link has named on the
-    /// same side, with trips that do not meet at a station, or with a departure before an arrival. `NoMemory` may come at
-    /// any of them.
+    /// Refusals, the first test that fails: a repeated name of a type; of a station; a stock row with an unknown
+    /// station, an unknown type, or the station and type of an earlier row; more than 2,000 units; more than 1,000
+    /// compositions that fit the greatest platform; a trip with a repeated name, an unknown station, one station
+    /// twice, an arrival not after its departure, or platforms that no composition fits; a link whose fields do not
+    /// fit its kind, with an unknown trip, with a trip that it or an earlier link has named on the same side, with
+    /// trips that do not meet at a station, or with a departure before an arrival. `NoMemory` may come at any of
+    /// them.
     #[tactic(auto, unfolding(crate::specs::Build::day_of))]
     pub fn build(alloc: Global, tables: Tables) -> Result<Instance, InstanceRefusal>
         requires types { AreTypeRows tables.types }
@@ -156,10 +158,12 @@ impl Instance {
         self.links.len() as u32
     }
 
-    /// How many units there are.
+    /// How many units there are. No two stock rows are of one station and one type, so of each type as many units are at home
+    /// at a station as `start` tells.
     pub fn units(&self) -> u32
         ensures value { result ≡ unit_count self.now }
         ensures few { result ≤ MOST_UNITS }
+        ensures once { IsStocked self.now }
     {
         self.units.len() as u32
     }
@@ -180,8 +184,8 @@ impl Instance {
         &self.catalogue
     }
 
-    /// Whether the composition of this number may run on the trip: its metres fit the platforms of both stations. The trip is
-    /// below `trips`, the composition below the catalogue's `len`.
+    /// Whether the composition of this number may run on the trip: its metres fit the platforms of both stations. The
+    /// trip is below `trips`, the composition below the catalogue's `len`.
     #[tactic(auto, unfolding(crate::specs::Compositions::greatest_platform, crate::specs::Admissible::is_admissible))]
     pub fn admits(&self, trip: TripNo, comp: CompNo) -> bool
         requires trip { trip < length self.now.trips }
@@ -201,7 +205,8 @@ impl Instance {
         self.weights
     }
 
-    /// The station of this number, which is below `stations`. Its platform and its reallocation time are within the limits.
+    /// The station of this number, which is below `stations`. Its platform and its reallocation time are within the
+    /// limits.
     pub fn station(&self, station: StationNo) -> &Station
         requires { station < length self.now.stations }
         ensures value { slice_get self.now.stations station ≡ Some result.now }
@@ -210,8 +215,8 @@ impl Instance {
         &self.stations[station.place()]
     }
 
-    /// The trip of this number, which is below `trips`. It leaves before it arrives, within the two days, its stations are there,
-    /// and its kilometres and its demand are within the limits.
+    /// The trip of this number, which is below `trips`. It leaves before it arrives, within the two days, its
+    /// stations are there, and its kilometres and its demand are within the limits.
     pub fn trip(&self, trip: TripNo) -> &Trip
         requires { trip < length self.now.trips }
         ensures value { slice_get self.now.trips trip ≡ Some result.now }
@@ -220,8 +225,8 @@ impl Instance {
         &self.trips[trip.place()]
     }
 
-    /// The link of this number, which is below `links`. Its trips are there and meet at one station, and none departs before
-    /// one that it goes on from arrives.
+    /// The link of this number, which is below `links`. Its trips are there and meet at one station, and none departs
+    /// before one that it goes on from arrives.
     pub fn link(&self, link: LinkNo) -> &Link
         requires { link < length self.now.links }
         ensures value { slice_get self.now.links link ≡ Some result.now }
@@ -230,8 +235,8 @@ impl Instance {
         &self.links[link.place()]
     }
 
-    /// The link that leads into the trip, which is below `trips`: nothing where the trip takes all its units from the yard. The
-    /// number is that of a link.
+    /// The link that leads into the trip, which is below `trips`: nothing where the trip takes all its units from the
+    /// yard. The number is that of a link.
     pub fn incoming(&self, trip: TripNo) -> Option<LinkNo>
         requires { trip < length self.now.trips }
         ensures value { result ≡ incoming self.now trip }
@@ -240,8 +245,8 @@ impl Instance {
         self.incoming[trip.place()]
     }
 
-    /// The link that leads on from the trip, which is below `trips`: nothing where the trip gives all its units to the yard.
-    /// The number is that of a link.
+    /// The link that leads on from the trip, which is below `trips`: nothing where the trip gives all its units to
+    /// the yard. The number is that of a link.
     pub fn outgoing(&self, trip: TripNo) -> Option<LinkNo>
         requires { trip < length self.now.trips }
         ensures value { result ≡ outgoing self.now trip }
@@ -250,9 +255,9 @@ impl Instance {
         self.outgoing[trip.place()]
     }
 
-    /// How many units the turn of this number keeps, by the types of the arriving list after a reversal and of the departing
-    /// list, at most six each: the length of the longest list of types that fits both of its ends, and nothing where none fits, or
-    /// where the link is no turn. The link is below `links`.
+    /// How many units the turn of this number keeps, by the types of the arriving list after a reversal and of the
+    /// departing list, at most six each: the length of the longest list of types that fits both of its ends, and
+    /// nothing where none fits, or where the link is no turn. The link is below `links`.
     pub fn kept(&self, link: LinkNo, arriving: &[TypeNo], departing: &[TypeNo]) -> Option<u32>
         requires link { link < length self.now.links }
         requires arriving { length arriving.now ≤ MOST_COMPOSITION }
@@ -263,8 +268,9 @@ impl Instance {
         as_number(self.link(link).kind.kept(arriving, departing))
     }
 
-    /// How many chains there are. A turn leads a chain from its arriving to its departing trip, a join from its first arriving
-    /// trip to its departing trip, a split from its arriving trip to its first departing trip; every trip lies in one chain.
+    /// How many chains there are. A turn leads a chain from its arriving to its departing trip, a join from its first
+    /// arriving trip to its departing trip, a split from its arriving trip to its first departing trip; every trip
+    /// lies in one chain.
     pub fn chains(&self) -> u32
         ensures value { result ≡ length (chains_of self.now) }
         ensures few { result ≤ MOST_TRIPS }
@@ -273,9 +279,9 @@ impl Instance {
         self.chains.len() as u32
     }
 
-    /// The trips of the chain of this number, which is below `chains`, in the order in which they run. Chains are numbered by
-    /// their first trips in rising order. No link leads to the first trip or on from the last, and one leads from each trip to
-    /// the next.
+    /// The trips of the chain of this number, which is below `chains`, in the order in which they run. Chains are
+    /// numbered by their first trips in rising order. No link leads to the first trip or on from the last, and one
+    /// leads from each trip to the next.
     pub fn chain(&self, chain: u32) -> &[TripNo]
         requires { chain < length (chains_of self.now) }
         ensures value { slice_get (chains_of self.now) chain ≡ Some result.now }
@@ -285,17 +291,19 @@ impl Instance {
         self.chains[chain as usize].items()
     }
 
-    /// How many hand-overs there are: one for each join and each split.
+    /// How many hand-overs there are: one for each join and each split. A join and a split name three of the two ends
+    /// that each trip has, and no end is named twice.
     pub fn handovers(&self) -> u32
         ensures value { result ≡ length (handovers_of self.now) }
-        ensures few { result ≤ MOST_LINKS }
+        ensures few { result ≤ MOST_HANDOVERS }
+        ensures ends { 3 * result ≤ 2 * length self.now.trips }
         ensures whole { AreHandovers self.now (handovers_of self.now) }
     {
         self.handovers.len() as u32
     }
 
-    /// The hand-over of this number, which is below `handovers`. Hand-overs are numbered in the order of the links. Its link is a
-    /// join or a split of the day, with this second trip.
+    /// The hand-over of this number, which is below `handovers`. Hand-overs are numbered in the order of the links.
+    /// Its link is a join or a split of the day, with this second trip.
     pub fn handover(&self, handover: u32) -> Handover
         requires { handover < length (handovers_of self.now) }
         ensures value { slice_get (handovers_of self.now) handover ≡ Some result }
@@ -305,13 +313,15 @@ impl Instance {
         self.handovers[handover as usize]
     }
 
-    /// The minutes at which trips leave the station of this number, which is below `stations`: each once, in rising order, and
-    /// within the two days.
+    /// The minutes at which trips leave the station of this number, which is below `stations`: each once, in rising
+    /// order, and within the two days. All stations together have no more of them than a day may have trips, since a
+    /// trip leaves one station.
     pub fn minutes(&self, station: StationNo) -> &[Minute]
         requires { station < length self.now.stations }
         ensures value { result.now ≡ minutes_of self.now station }
         ensures whole { AreMinutes self.now station result.now }
         ensures few { length result.now ≤ MOST_TRIPS }
+        ensures together { (stations : ℕ) → sum_below (λ s. length (minutes_of self.now s)) stations ≤ MOST_TRIPS }
         ensures within { All (λ minute. minute < MOST_MINUTES) result.now }
     {
         self.minutes[station.place()].items()
@@ -326,8 +336,8 @@ impl Instance {
         self.units[unit.place()]
     }
 
-    /// How many units of a type stand at a station at the start of the day: none where no stock row says it. No station has two
-    /// stock rows of one type.
+    /// How many units of a type stand at a station at the start of the day: none where no stock row says it. No
+    /// station has two stock rows of one type.
     #[tactic(auto, unfolding(crate::specs::Starts::start_of))]
     pub fn start(&self, station: StationNo, unit_type: TypeNo) -> u32
         ensures value { result ≡ start_of self.now station unit_type }

@@ -1,5 +1,5 @@
 -- For each type the departure minutes of all stations.
-use Rattle.std.proofs.Common.{◌≡◌, ◌≤◌, ◌*◌, ◌∙◌, ℕ, List, length, ap, sym, arith}
+use Rattle.std.proofs.Common.{◌*◌, ◌∙◌, ℕ, List, length, ap, sym}
 use Rattle.std.proofs.lemmas.Nat.{mul-le}
 use Rattle.timetable.specs.Lists.{sum_below}
 use Rattle.compositions.specs.declared.types.UnitType.{UnitType}
@@ -15,4 +15,4 @@ returns-clause-value c =
     ∙ sym (length-lambdas c.args.self.now)
 
 pub returns-clause-few : goal.returns-clause-few
-returns-clause-few c = mul-le c.len.result c.minutes_before.result 6 24000 c.len.ensures.few c.minutes_before.ensures.few
+returns-clause-few c = mul-le c.len.result c.minutes_before.result 6 400 c.len.ensures.few c.minutes_before.ensures.few

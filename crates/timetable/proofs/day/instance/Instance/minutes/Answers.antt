@@ -7,7 +7,7 @@ use Rattle.timetable.specs.Holding.{day_in}
 use Rattle.timetable.specs.Lists.{listed}
 use Rattle.timetable.specs.Minutes.{minutes_of, AreMinutes}
 use Rattle.timetable.proofs.Listing.{length-listed, listed_entry}
-use Rattle.timetable.proofs.Minutes.{are_minutes, few_minutes_of, minutes_within}
+use Rattle.timetable.proofs.Minutes.{are_minutes, few_minutes_of, few_minutes_before, minutes_within}
 use Rattle.timetable.proofs.day.instance.Instance.minutes.Goals as goal
 
 is_entry : (day now : Day) (table : List (List ℕ)) (station place : ℕ) (entry read : List ℕ) → table ≡ listed (minutes_of day) (length day.stations) → day ≡ now → station < length now.stations → place ≡ station
@@ -43,3 +43,6 @@ returns-clause-within c =
     let day : Day = day_in c.self.inside in
     subst (λ (minutes : List ℕ). All (λ minute. minute < MOST_MINUTES) minutes) (sym (is_entry day c.args.self.now c.self.inside.minutes.items c.args.station c.place.result c.items.result.now c.index.result.now
     c.self.invariant.minutes c.self.view_is c.requires c.place.ensures.number c.items.ensures c.index.ensures)) (minutes_within day c.args.station c.self.invariant.day)
+
+pub returns-clause-together : goal.returns-clause-together
+returns-clause-together c = rw (← c.self.view_is) (λ stations. omega (arith, few_minutes_before (day_in c.self.inside) stations, c.self.invariant.day.trip_count))
