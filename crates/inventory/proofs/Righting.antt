@@ -45,7 +45,7 @@ module _ (day : Day) (types : List (List ℕ)) (minute : ℕ) (plan : List (List
     | inr later ↦ given_lists before by.1 t later early
   ]
 
-  types_right : (done : List ℕ) → AreRight day types lists done → (a : ℕ) → 1 ≤ count_of a done → types_of day (lists a) ≡ list_of types a
+  pub types_right : (done : List ℕ) → AreRight day types lists done → (a : ℕ) → 1 ≤ count_of a done → types_of day (lists a) ≡ list_of types a
   types_right [] rights a c = absurd (omega arith)
   types_right (b ∷ before) rights a c = elim (in_list a b before c) [
     | inl e ↦ subst (λ x. types_of day (lists x) ≡ list_of types x) e rights.0.types_are

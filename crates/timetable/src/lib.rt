@@ -13,4 +13,4 @@ pub use day::picks::Picks;
 pub use day::plan::NamedPlan;
 pub use day::records::{Handover, Link, LinkKind, Station, Stock, Trip, Unit, Weights};
 pub use day::rule::turned;
-pub use day::turns::may_shunt;
+pub use day::turns::{beyond, may_shunt, staying};

@@ -1,5 +1,5 @@
 -- Trips in the order in which they leave: a stable sort by the minute gives it, and a test keeps it.
-use Rattle.std.proofs.Common.{◌≡◌, ℕ, ◌<◌, ◌≤◌, List, [], ◌∷◌, filter, Bool, true, false, cond, ◌&&◌, ◌||◌, ltb, refl, sym, ap, ◌∙◌, arith}
+use Rattle.std.proofs.Common.{◌≡◌, ℕ, ◌<◌, ◌≤◌, List, [], ◌∷◌, Bool, true, false, cond, ◌&&◌, ◌||◌, ltb, refl, ap, ◌∙◌, arith}
 use Rattle.std.specs.Prelude.{◌==◌}
 use Rattle.std.specs.List.{All, AllByRecursion}
 use Rattle.std.proofs.lemmas.Bool.{cond_both, eqb-true}
@@ -9,7 +9,7 @@ use Rattle.timetable.specs.Day.{Day, leaves}
 use Rattle.timetable.specs.Duties.{is_before, insert_trip, in_order}
 use Rattle.timetable.specs.Lists.{below}
 use Rattle.timetable.proofs.Numbered.{AllLater, Rise, AllBelow, all_below}
-use Rattle.timetable.proofs.Sorting.{From, Rises, with_number, same_sorted}
+use Rattle.timetable.proofs.Sorting.{From, Rises, with_number}
 
 before_leaves : (m n a b : ℕ) → ltb m n || ((m == n) && ltb a b) ≡ true → m ≤ n
 before_leaves m n a b h = grind (arith, nat_tests)
@@ -27,40 +27,6 @@ swapped true true x y zs never = absurd (never refl refl)
 swapped true false x y zs never = refl
 swapped false true x y zs never = refl
 swapped false false x y zs never = refl
-
--- two tests one after another
-tests_swap : (b c : Bool) (x : ℕ) (ys zs ws : List ℕ) → zs ≡ ws → cond b (cond c (x ∷ zs) zs) zs ≡ cond c (cond b (x ∷ ws) ws) ws
-tests_swap true true x ys zs ws e = ap (λ (l : List ℕ). x ∷ l) e
-tests_swap true false x ys zs ws e = e
-tests_swap false true x ys zs ws e = e
-tests_swap false false x ys zs ws e = e
-
-step_filter : (p : ℕ → Bool) (c : Bool) (x : ℕ) (xs : List ℕ) → filter p (cond c (x ∷ xs) xs) ≡ cond c (cond (p x) (x ∷ filter p xs) (filter p xs)) (filter p xs)
-step_filter p true x xs = refl
-step_filter p false x xs = refl
-
-filters_swap : (p q : ℕ → Bool) (xs : List ℕ) → filter p (filter q xs) ≡ filter q (filter p xs)
-filters_swap p q [] = refl
-filters_swap p q (x ∷ xs) =
-    step_filter p (q x) x (filter q xs)
-    ∙ tests_swap (q x) (p x) x [] (filter p (filter q xs)) (filter q (filter p xs)) (filters_swap p q xs)
-    ∙ sym (step_filter q (p x) x (filter p xs))
-
-from_filter : (n : ℕ → ℕ) (p : ℕ → Bool) (m : ℕ) (xs : List ℕ) → From n m xs → From n m (filter p xs)
-from_filter n p m [] h = tt
-from_filter n p m (x ∷ xs) h = cond_both (p x) (x ∷ filter p xs) (filter p xs) (λ l. From n m l) (λ t. (h.0, from_filter n p m xs h.1)) (λ t. from_filter n p m xs h.1)
-
-rises_filter : (n : ℕ → ℕ) (p : ℕ → Bool) (xs : List ℕ) → Rises n xs → Rises n (filter p xs)
-rises_filter n p [] h = tt
-rises_filter n p (x ∷ xs) h = cond_both (p x) (x ∷ filter p xs) (filter p xs) (λ l. Rises n l) (λ t. (from_filter n p (n x) xs h.0, rises_filter n p xs h.1)) (λ t. rises_filter n p xs h.1)
-
-later_filter : (p : ℕ → Bool) (t : ℕ) (xs : List ℕ) → AllLater t xs → AllLater t (filter p xs)
-later_filter p t [] h = tt
-later_filter p t (x ∷ xs) h = cond_both (p x) (x ∷ filter p xs) (filter p xs) (λ l. AllLater t l) (λ b. (h.0, later_filter p t xs h.1)) (λ b. later_filter p t xs h.1)
-
-rise_filter : (p : ℕ → Bool) (xs : List ℕ) → Rise xs → Rise (filter p xs)
-rise_filter p [] h = tt
-rise_filter p (x ∷ xs) h = cond_both (p x) (x ∷ filter p xs) (filter p xs) (λ l. Rise l) (λ t. (later_filter p x xs h.0, rise_filter p xs h.1)) (λ t. rise_filter p xs h.1)
 
 module _ (day : Day) where
   from_earlier : (m k : ℕ) (ts : List ℕ) → m ≤ k → From (leaves day) k ts → From (leaves day) m ts
@@ -109,15 +75,6 @@ module _ (day : Day) where
   with_minute k [] h = refl
   with_minute k (t ∷ ts) h =
       with_minute-insert k t (in_order day ts) (later_in_order t ts h.0) ∙ ap (λ (l : List ℕ). cond (leaves day t == k) (t ∷ l) l) (with_minute k ts h.1)
-
-  -- the trips that pass a test, in order
-  pub filter-in_order : (p : ℕ → Bool) (ts : List ℕ) → Rise ts → filter p (in_order day ts) ≡ in_order day (filter p ts)
-  filter-in_order p ts h =
-      same_sorted (leaves day) (filter p (in_order day ts)) (in_order day (filter p ts)) (rises_filter (leaves day) p _ (in_order_rises ts)) (in_order_rises (filter p ts))
-      (λ x.
-      let k = leaves day x in
-      filters_swap (λ t. leaves day t == k) p (in_order day ts) ∙ ap (filter p) (with_minute k ts h)
-      ∙ filters_swap p (λ t. leaves day t == k) ts ∙ sym (with_minute k (filter p ts) (rise_filter p ts h)))
 
   known_insert : (n t : ℕ) (ts : List ℕ) → t < n → AllByRecursion (λ s. s < n) ts → AllByRecursion (λ s. s < n) (insert_trip day t ts)
   known_insert n t [] lt h = (lt, tt)

@@ -1,2 +1,10 @@
 pub mod InOrder
 pub mod Stopping
+pub mod WaitingOrder
+pub mod AtHome
+pub mod Fetching
+pub mod Giving
+pub mod Found
+pub mod NextTrip
+pub mod ByEdges
+pub mod Refusing

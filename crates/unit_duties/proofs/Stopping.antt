@@ -1,19 +1,19 @@
 -- Stops that are added to duties.
-use Rattle.std.proofs.Common.{◌≡◌, ◌≢◌, ℕ, zero, suc, ◌+◌, ◌<◌, ◌≤◌, List, [], ◌∷◌, ◌++◌, length, get_or, set, map, filter, replicate, Bool, true, false, cond, not, refl, sym, ap, ◌∙◌, subst, arith, append-nil, ◌-◌, length-append, ⊎_elim, eq-eqb, ne_eqb}
+use Rattle.std.proofs.Common.{◌≡◌, ◌≢◌, ℕ, zero, suc, ◌+◌, ◌<◌, ◌≤◌, List, [], ◌∷◌, ◌++◌, length, get_or, set, map, filter, replicate, Bool, true, false, cond, not, refl, sym, ap, ◌∙◌, subst, arith, append-nil, ◌-◌, ⊎_elim, eq-eqb, ne_eqb}
 use Rattle.std.specs.Prelude.{◌==◌}
 use Rattle.std.proofs.lemmas.Bool.{cases_eq, cases_lt, cases_Bool, false≢true}
-use Rattle.std.proofs.lemmas.List.{length-set, length-replicate, get_or-set_same, get_or-set_other, get_or_append_left, get_or-append_right, ext_get_or, map-append}
+use Rattle.std.proofs.lemmas.List.{length-set, length-replicate, get_or-set_same, get_or-set_other, get_or_append_left, get_or-append_right, ext_get_or, length-map, map-append}
 use Rattle.std.proofs.lemmas.Option.{unwrap_or-slice_get}
 use Rattle.timetable.specs.Day.{Day, unit_count}
 use Rattle.timetable.specs.Duties.{duty, in_order}
 use Rattle.timetable.specs.Links.{list_of}
 use Rattle.timetable.specs.Lists.{has, below}
 use Rattle.timetable.proofs.ListedUnits.{has_first, has_later}
-use Rattle.timetable.proofs.Numbered.{below_rises}
+use Rattle.inventory.proofs.Named.{length-below}
+use Rattle.inventory.proofs.Order.{filter_in_order}
 use Rattle.unit_duties.specs.declared.stops.Stop.{Stop}
 use Rattle.unit_duties.specs.Stops.{first_place, stop_on, stops_of, duties_of}
 use Rattle.unit_duties.specs.Adding.{stops_at, stop_of}
-use Rattle.unit_duties.proofs.InOrder.{filter-in_order}
 
 -- ---- one list of units, one unit more
 
@@ -177,15 +177,14 @@ stops_more plan units t ts before now so_far long added = let was = so_far.long 
   each = λ u lt. added u (omega arith) ∙ ap (λ (l : List Stop). l ++ stop_of t u (list_of plan t)) (so_far.each u lt) ∙ sym (stops-push plan u t ts);
 }
 
-length-map_below : (f : ℕ → List Stop) (n : ℕ) → length (map f (below n)) ≡ n
-length-map_below f zero = refl
-length-map_below f (suc n) = ap length (map-append f (below n) (n ∷ [])) ∙ length-append (map f (below n)) (f n ∷ []) ∙ (let ih : length (map f (below n)) ≡ n = length-map_below f n in omega arith)
+length-map_below : {X : Type 0} (f : ℕ → List X) (n : ℕ) → length (map f (below n)) ≡ n
+length-map_below f n = length-map (below n) f ∙ length-below n
 
-read_below : (f : ℕ → List Stop) (n u : ℕ) → u < n → get_or (map f (below n)) u [] ≡ f u
+read_below : {X : Type 0} (f : ℕ → List X) (n u : ℕ) → u < n → get_or (map f (below n)) u [] ≡ f u
 read_below f zero u lt = absurd (omega arith)
 read_below f (suc n) u lt =
     let long = length-map_below f n in
-    ap (λ (l : List (List Stop)). get_or l u []) (map-append f (below n) (n ∷ []))
+    ap (λ l. get_or l u []) (map-append f (below n) (n ∷ []))
     ∙ ⊎_elim
     (λ (l : u < n). get_or_append_left (map f (below n)) (f n ∷ []) [] u (omega arith) ∙ read_below f n u l)
     (λ (ge : n ≤ u).
@@ -195,10 +194,8 @@ read_below f (suc n) u lt =
     (cases_lt u n)
 
 -- lists that are known at each number
-pub lists_known : (f : ℕ → List Stop) (n : ℕ) (lists : List (List Stop)) → length lists ≡ n → ((u : ℕ) → u < n → stops_at lists u ≡ f u) → lists ≡ map f (below n)
-lists_known f n lists long each =
-    ext_get_or [] lists (map f (below n)) (long ∙ sym (length-map_below f n))
-    (λ u lt. sym (stops_at-get_or lists u) ∙ each u (omega arith) ∙ sym (read_below f n u (omega arith)))
+pub lists_known : {X : Type 0} (f : ℕ → List X) (n : ℕ) (lists : List (List X)) → length lists ≡ n → ((u : ℕ) → u < n → get_or lists u [] ≡ f u) → lists ≡ map f (below n)
+lists_known f n lists long each = ext_get_or [] lists (map f (below n)) (long ∙ sym (length-map_below f n)) (λ u lt. each u (omega arith) ∙ sym (read_below f n u (omega arith)))
 
 -- the duties of a plan, once each trip was added
 pub stops_are_duties : (day : Day) (plan : List (List ℕ)) (trips : List ℕ) (lists : List (List Stop)) → trips ≡ in_order day (below (length day.trips))
@@ -206,5 +203,5 @@ pub stops_are_duties : (day : Day) (plan : List (List ℕ)) (trips : List ℕ) (
 unfolding duties_of duty
 stops_are_duties day plan trips lists e so_far =
     lists_known (stops_of day plan) (unit_count day) lists so_far.long
-    (λ u lt. so_far.each u lt ∙ ap (λ (ts : List ℕ). map (stop_on plan u) (filter (λ t. has u (list_of plan t)) ts)) e
-    ∙ ap (map (stop_on plan u)) (filter-in_order day (λ t. has u (list_of plan t)) (below (length day.trips)) (below_rises (length day.trips))))
+    (λ u lt. sym (stops_at-get_or lists u) ∙ so_far.each u lt ∙ ap (λ (ts : List ℕ). map (stop_on plan u) (filter (λ t. has u (list_of plan t)) ts)) e
+    ∙ ap (map (stop_on plan u)) (sym (filter_in_order day (λ t. has u (list_of plan t)) (below (length day.trips)))))

@@ -1,2 +1,7 @@
 pub mod Stops
 pub mod Adding
+pub mod Trains
+pub mod Yards
+pub mod Fetching
+pub mod Broken
+pub mod Refusals

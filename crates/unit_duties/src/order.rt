@@ -2,23 +2,32 @@
 
 ghost use Rattle.std.specs.Prelude.{◌≡◌, ◌<◌, length, IfOk};
 ghost use Rattle.std.specs.List.{All};
-ghost use Rattle.timetable.specs.Day.{leaves};
+ghost use Rattle.timetable.specs.Day.{leaves, from_of};
 ghost use Rattle.timetable.specs.Duties.{in_order};
 ghost use Rattle.timetable.specs.Lists.{below};
 
-use rail_base::{NoMemory, TripNo};
+use rail_base::{NoMemory, StationNo, TripNo};
 use std::alloc::Global;
 use timetable::Instance;
 
 /// The minute at which a trip leaves; 0 where there is no such trip.
 #[tactic(auto, unfolding(timetable::specs::Day::leaves))]
-fn departure(instance: &Instance, trip: TripNo) -> u32
+pub(crate) fn departure(instance: &Instance, trip: TripNo) -> u32
     ensures { result ≡ leaves instance.now trip }
 {
     if trip.0 >= instance.trips() {
         return 0;
     }
     instance.trip(trip).departure.minutes()
+}
+
+/// The station that a trip leaves from.
+#[tactic(auto, unfolding(timetable::specs::Day::from_of))]
+pub(crate) fn origin(instance: &Instance, trip: TripNo) -> StationNo
+    requires { trip < length instance.now.trips }
+    ensures { result ≡ from_of instance.now trip }
+{
+    instance.trip(trip).from
 }
 
 /// The trips of a day by departure minute, and then by trip number.

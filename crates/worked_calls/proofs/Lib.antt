@@ -1,1 +1,2 @@
 pub mod LonePrices
+pub mod TwoPicks

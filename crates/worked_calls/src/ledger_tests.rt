@@ -22,7 +22,7 @@ fn day_of_an_uncoupling(alloc: Global) -> Result<Instance, Fail> {
 }
 
 /// A turn that uncouples at the front and couples at the rear; the second trip leaves when what is given is ready.
-fn day_of_an_exchange(alloc: Global) -> Result<Instance, Fail> {
+pub(crate) fn day_of_an_exchange(alloc: Global) -> Result<Instance, Fail> {
     day_of(
         alloc,
         &Texts {
@@ -36,7 +36,7 @@ fn day_of_an_exchange(alloc: Global) -> Result<Instance, Fail> {
 }
 
 /// The same, and the second trip leaves a minute earlier.
-fn day_of_an_early_exchange(alloc: Global) -> Result<Instance, Fail> {
+pub(crate) fn day_of_an_early_exchange(alloc: Global) -> Result<Instance, Fail> {
     day_of(
         alloc,
         &Texts {

@@ -64,8 +64,8 @@ fn may_stay(end: End, whole: usize, stay: usize) -> bool
     }
 }
 
-/// What stays of a list when all but so many go at this end.
-fn staying<T>(end: End, whole: &[T], stay: usize) -> &[T]
+/// What stays of a list when all but so many go at this end: at most all of it.
+pub fn staying<T>(end: End, whole: &[T], stay: usize) -> &[T]
     requires { stay ≤ length whole.now }
     ensures { result.now ≡ staying end whole.now stay }
 {
@@ -76,8 +76,8 @@ fn staying<T>(end: End, whole: &[T], stay: usize) -> &[T]
     }
 }
 
-/// What goes of a list at this end when so many stay.
-pub(crate) fn beyond<T>(end: End, whole: &[T], stay: usize) -> &[T]
+/// What goes of a list at this end when so many stay, which are at most all of it.
+pub fn beyond<T>(end: End, whole: &[T], stay: usize) -> &[T]
     requires { stay ≤ length whole.now }
     ensures units { result.now ≡ beyond end whole.now stay }
     ensures few { length result.now ≤ length whole.now }

@@ -1,0 +1,18 @@
+//! What is so of picked compositions and of named units, whether a call meets it or not.
+//!
+//! Each law is the contract of a function that does nothing.
+
+ghost use Rattle.inventory.specs.NamingLaws.{NamedPlansRun};
+ghost use Rattle.inventory.specs.SolutionLaws.{FaultsDecide};
+
+/// Picks are those of a plan that runs exactly where each composition may run on its trip, the rule of each link holds of their
+/// types, and the yards have no first fault. So `name_units` refuses no picks that have a plan.
+pub fn faults_decide()
+    ensures law { FaultsDecide }
+{}
+
+/// Where the trips that leave before a minute are named as the rules demand it, naming the others by the rule of `name_units`
+/// gives a plan that runs, and leaves those as they are.
+pub fn named_plans_run()
+    ensures law { NamedPlansRun }
+{}

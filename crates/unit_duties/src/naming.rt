@@ -1,0 +1,122 @@
+//! The naming of units: which units run on which trip, where a composition is picked for each.
+
+ghost use Rattle.std.specs.Prelude.{ℕ, ◌≡◌, ◌<◌, ◌≤◌, [], Option, length, replicate, IfOk, OnOk};
+ghost use Rattle.inventory.specs.Counts.{AreServed, ready_at};
+ghost use Rattle.timetable.specs.Accepted.{AreLinks};
+ghost use Rattle.timetable.specs.Day.{to_of};
+ghost use Rattle.timetable.specs.Running.{AreUnits};
+ghost use Rattle.unit_duties.specs.Trains.{given_units};
+ghost use Rattle.unit_duties.specs.Yards.{ArePutIn};
+ghost use Rattle.inventory.specs.Naming.{InYard, named_plan};
+ghost use Rattle.timetable.specs.Picking.{ArePicks, picked};
+ghost use Rattle.unit_duties.specs.Fetching.{CanFetch, HasFetched};
+
+use crate::order::{departure, origin, trips_in_order};
+use crate::trains::{given_units, put_together};
+use crate::yards::{Waiting, take, units_at_home};
+use arrayvec::ArrayVec;
+use rail_base::limits::MOST_COMPOSITION;
+use rail_base::{NoMemory, StationNo, TripNo, UnitNo};
+use rail_csv::UnitList;
+use std::alloc::Global;
+use std::collections::BTreeSet;
+use timetable::{Instance, NamedPlan, Picks};
+
+/// The plan of units that are named by the rule. Trips are named by departure minute and then by trip number. Units that stay in a
+/// train keep their places; each other place, front to rear, gets the unit of its type that was ready earliest in the yard of the
+/// station, and of those the one with the smallest number.
+pub(crate) fn named_plan(
+    alloc: Global,
+    instance: &Instance,
+    picks: &Picks,
+) -> Result<NamedPlan, NoMemory>
+    requires links { AreLinks instance.now }
+    requires picks { ArePicks instance.now picks.now }
+    requires served { AreServed instance.now (picked instance.now picks.now) }
+    ensures { IfOk result (λ plan. plan ≡ named_plan instance.now (picked instance.now picks.now)) }
+{
+    let order = trips_in_order(alloc, instance)?;
+    let mut yards = units_at_home(alloc, instance)?;
+    let mut lists = empty_lists(alloc, instance.trips())?;
+    for trip in &order {
+        let fetched = fetch(instance, picks, &mut yards, *trip);
+        let units = put_together(alloc, instance, picks, &lists, *trip, fetched.as_slice())?;
+        give(instance, picks, &mut yards, *trip, &units)?;
+        lists[trip.place()] = UnitList::of(units);
+    }
+    Ok(NamedPlan::of(lists))
+}
+
+/// For each trip a list of no units.
+fn empty_lists(alloc: Global, trips: u32) -> Result<Vec<UnitList>, NoMemory>
+    ensures { IfOk result (λ lists. lists.items ≡ replicate trips []) }
+{
+    let mut lists = Vec::new(alloc);
+    for _ in 0..trips {
+        lists.push(UnitList::of(Vec::new(alloc)))?;
+    }
+    Ok(lists)
+}
+
+/// Takes the units for the places of a trip that are filled from the yard, front to rear. Where one is ready for each place, they
+/// are the units that the rule names.
+fn fetch(
+    instance: &Instance,
+    picks: &Picks,
+    yards: &mut BTreeSet<Waiting>,
+    trip: TripNo,
+) -> ArrayVec<UnitNo, MOST_COMPOSITION>
+    requires picks { ArePicks instance.now picks.now }
+    requires trip { trip < length instance.now.trips }
+    ensures { (stands : ℕ → Option InYard) → CanFetch instance.now picks.now trip stands yards.old → HasFetched instance.now picks.now trip stands yards.new result.items }
+{
+    let types = instance.taken_types(picks, trip);
+    let station = origin(instance, trip);
+    let minute = departure(instance, trip);
+    let mut fetched = ArrayVec::new();
+    for unit_type in types.as_slice() {
+        if let Some(unit) = take(yards, station, *unit_type, minute) {
+            fetched.push(unit);
+        }
+    }
+    fetched
+}
+
+/// Gives the units that a trip does not keep to the yard where it arrives, ready once the reallocation time is over.
+fn give(
+    instance: &Instance,
+    picks: &Picks,
+    yards: &mut BTreeSet<Waiting>,
+    trip: TripNo,
+    units: &[UnitNo],
+) -> Result<(), NoMemory>
+    requires picks { ArePicks instance.now picks.now }
+    requires trip { trip < length instance.now.trips }
+    requires few { length units.now ≤ MOST_COMPOSITION }
+    requires known { AreUnits instance.now (given_units instance.now picks.now trip units.now) }
+    ensures { OnOk result (ArePutIn instance.now (to_of instance.now trip) (ready_at instance.now trip) (given_units instance.now picks.now trip units.now) yards.old yards.new) }
+{
+    let given = given_units(instance, picks, trip, units);
+    let (station, ready) = goal_of(instance, trip);
+    for unit in given.as_slice() {
+        yards.insert(Waiting {
+            station,
+            unit_type: instance.unit(*unit).unit_type,
+            ready,
+            unit: *unit,
+        })?;
+    }
+    Ok(())
+}
+
+/// The station that a trip goes to, and the minute from which a unit that it gives there may be taken.
+#[tactic(auto, unfolding(timetable::specs::Day::to_of, timetable::specs::Day::arrives, timetable::specs::Day::reallocation_of))]
+fn goal_of(instance: &Instance, trip: TripNo) -> (StationNo, u32)
+    requires { trip < length instance.now.trips }
+    ensures station { result.0 ≡ to_of instance.now trip }
+    ensures ready { result.1 ≡ ready_at instance.now trip }
+{
+    let trip = instance.trip(trip);
+    let station = instance.station(trip.to);
+    (trip.to, trip.arrival.minutes() + station.reallocation)
+}
