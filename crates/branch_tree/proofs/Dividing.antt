@@ -79,6 +79,12 @@ one_side true false true both = refl
 one_side true met false both = absurd (cc)
 one_side false met rest both = absurd (cc)
 
+on_side : (member on rest : Bool) → (member && rest) ≡ true → ((member && on) && rest) ≡ on
+on_side true true true both = refl
+on_side true false true both = refl
+on_side true on false both = absurd (cc)
+on_side false on rest both = absurd (cc)
+
 within : (member on rest : Bool) → ((member && on) && rest) ≡ true → (member && rest) ≡ true
 within true true rest all = all
 within true false rest all = absurd (cc)
@@ -90,6 +96,9 @@ cuts_divide catalogue cut region picks inside = record {
       ∙ one_side (is_member (set_at region (trip_of cut)) (get_or picks (trip_of cut) 0)) (is_met catalogue cut (get_or picks (trip_of cut) 0)) (are_in_but picks region (trip_of cut))
       (sym (are_in-whole picks region (trip_of cut) inside) ∙ there)
       ∙ sym (ap not (are_in-side catalogue cut Right region picks inside));
+  which = λ side there. are_in-side catalogue cut side region picks inside
+      ∙ on_side (is_member (set_at region (trip_of cut)) (get_or picks (trip_of cut) 0)) (is_on catalogue cut side (get_or picks (trip_of cut) 0)) (are_in_but picks region (trip_of cut))
+      (sym (are_in-whole picks region (trip_of cut) inside) ∙ there);
   inside = λ side there. are_in-whole picks region (trip_of cut) inside
       ∙ within (is_member (set_at region (trip_of cut)) (get_or picks (trip_of cut) 0)) (is_on catalogue cut side (get_or picks (trip_of cut) 0)) (are_in_but picks region (trip_of cut))
       (sym (are_in-side catalogue cut side region picks inside) ∙ there);

@@ -30,10 +30,13 @@ CutsKeep = (catalogue : List (List ℕ)) (cut : Cut) (side : Side) (region : Lis
     trip_of cut < length region → has (side_of catalogue cut side region) trip comp ≡
     (has region trip comp && (if trip == trip_of cut then is_on catalogue cut side comp else true))
 
--- picks of a region are on exactly one side of a cut, and picks on a side are in the region
+-- picks of a region are on exactly one side of a cut, the one on which the pick of its trip is, and picks on a side are in the
+-- region
 pub record IsDivided (catalogue : List (List ℕ)) (cut : Cut) (region : List (List Bool)) (picks : List ℕ) : Type 0 where
   pub one : IsTrue (are_in picks region) →
       are_in picks (side_of catalogue cut Left region) ≡ not (are_in picks (side_of catalogue cut Right region))
+  pub which : (side : Side) → IsTrue (are_in picks region) →
+      are_in picks (side_of catalogue cut side region) ≡ is_on catalogue cut side (get_or picks (trip_of cut) 0)
   pub inside : (side : Side) → IsTrue (are_in picks (side_of catalogue cut side region)) → IsTrue (are_in picks region)
 
 -- Picks are in a region exactly where there is one for each trip, and each is in its trip's set.

@@ -24,7 +24,8 @@ pub fn picks_lie_by_trip()
     ensures law { PicksLieByTrip }
 {}
 
-/// The picks of a region are divided by a cut of one of its trips: each is on exactly one side.
+/// The picks of a region are divided by a cut of one of its trips: each is on exactly one side, on which its pick of
+/// that trip is.
 pub fn cuts_divide()
     ensures law { CutsDivide }
 {}
