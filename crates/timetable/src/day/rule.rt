@@ -7,7 +7,7 @@ ghost use Rattle.timetable.specs.Day.{type_of, types_of};
 ghost use Rattle.timetable.specs.Chains.{leads_from, leads_to};
 ghost use Rattle.timetable.specs.Handovers.{second_of};
 ghost use Rattle.timetable.specs.LinkRows.{NamesBelow};
-ghost use Rattle.timetable.specs.Links.{list_of, turned, link_holds, given_by, taken_by, link_out, link_into, given, taken};
+ghost use Rattle.timetable.specs.Links.{list_of, turned, link_holds, split_holds, given_by, taken_by, link_out, link_into, given, taken};
 ghost use Rattle.timetable.specs.Running.{IsPlan, AreUnits};
 ghost use Rattle.timetable.specs.Turns.{same, kept_of, IsKept, parts_at};
 
@@ -107,6 +107,14 @@ fn is_joined(first: &[UnitNo], second: &[UnitNo], whole: &[UnitNo]) -> bool
     }
 }
 
+/// Whether the whole is the first list and then the second, and neither is empty.
+#[tactic(auto, unfolding(crate::specs::Links::split_holds))]
+fn is_split(first: &[UnitNo], second: &[UnitNo], whole: &[UnitNo]) -> bool
+    ensures { result ≡ split_holds whole.now first.now second.now }
+{
+    is_joined(first, second, whole) && !first.is_empty() && !second.is_empty()
+}
+
 /// The units that a link does not keep in the train.
 #[derive(Drop)]
 struct YardUnits {
@@ -151,7 +159,7 @@ impl Link {
     }
 
     /// Whether a plan keeps the link's rule. The link's trips are trips of the plan's day.
-    #[tactic(auto, unfolding(crate::specs::Links::link_holds, crate::specs::Links::join_holds, crate::specs::Links::split_holds))]
+    #[tactic(auto, unfolding(crate::specs::Links::link_holds, crate::specs::Links::join_holds))]
     pub fn holds(&self, instance: &Instance, plan: &NamedPlan) -> bool
         requires trips { NamesBelow (length instance.now.trips) self.now.kind }
         requires plan { IsPlan instance.now plan.now }
@@ -193,11 +201,7 @@ impl Link {
                 second,
             } => {
                 let arriving = turned(self.reverse, plan.units(arriving));
-                let first = plan.units(first);
-                let second = plan.units(second);
-                is_joined(first, second, arriving.as_slice())
-                    && !first.is_empty()
-                    && !second.is_empty()
+                is_split(plan.units(first), plan.units(second), arriving.as_slice())
             }
         }
     }
