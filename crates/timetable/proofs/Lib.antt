@@ -37,6 +37,7 @@ pub mod Listing
 pub mod Indices
 pub mod Sorting
 pub mod Numbered
+pub mod AdmittedTypes
 pub mod Picking
 pub mod YardTypes
 pub mod StockRows

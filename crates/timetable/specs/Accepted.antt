@@ -1,7 +1,8 @@
 -- What is known of every day that was accepted.
-use Rattle.std.specs.Prelude.{ℕ, ◌+◌, ◌<◌, ◌≤◌, ◌≡◌, length, List, [], ◌∷◌, ◌==◌, ◌&&◌, if◌then◌else◌, All, IsTrue, Some, slice_get}
+use Rattle.std.specs.Prelude.{ℕ, ◌+◌, ◌<◌, ◌≤◌, ◌≡◌, length, List, [], ◌∷◌, ◌==◌, ◌&&◌, true, if◌then◌else◌, All, IsTrue, Some, slice_get}
 use Rattle.rail_base.specs.declared.limits.TheConstants.{MOST_CARRIAGES, MOST_SEATS, MOST_FIRST_SEATS, MOST_METRES, MOST_MINUTES, MOST_KM, MOST_DEMAND, MOST_FIRST_DEMAND, MOST_PLATFORM, MOST_REALLOCATION, MOST_TYPES, MOST_STATIONS, MOST_TRIPS, MOST_LINKS, MOST_UNITS, MOST_WEIGHT}
 use Rattle.compositions.specs.declared.types.UnitType.{UnitType}
+use Rattle.timetable.specs.Admissible.{is_admissible}
 use Rattle.timetable.specs.Day.{Day, leaves, arrives, from_of, to_of, km_of, demand_of, first_demand_of, home_of, type_of, unit_count, platform_of, reallocation_of}
 use Rattle.timetable.specs.Links.{arriving_in, departing_in}
 use Rattle.timetable.specs.Lists.{count_of, has}
@@ -38,6 +39,10 @@ pub record IsDay (day : Day) : Type 0 where
   pub carriage : day.weights.carriage ≤ MOST_WEIGHT
   pub shortage : day.weights.shortage ≤ MOST_WEIGHT
   pub shunting : day.weights.shunting ≤ MOST_WEIGHT
+
+-- some composition may run on each trip
+abbrev pub HaveCompositions : Day → Type 0
+HaveCompositions day = (t : ℕ) → t < length day.trips → (types : List ℕ) × (is_admissible day t types ≡ true)
 
 -- how often links name a trip on one side, as arriving or as departing
 abbrev pub times_named : (LinkKind → List ℕ) → List Link → ℕ → ℕ

@@ -4,7 +4,7 @@ use Rattle.std.specs.Prelude.{◌≡◌, length}
 use Rattle.compositions.specs.Catalogue.{catalogue_of}
 use Rattle.timetable.specs.declared.day.instance.Instance.TheInside.{Inside}
 use Rattle.timetable.specs.Day.{Day, units_of}
-use Rattle.timetable.specs.Accepted.{IsDay, AreLinks, IsStocked}
+use Rattle.timetable.specs.Accepted.{IsDay, AreLinks, IsStocked, HaveCompositions}
 use Rattle.timetable.specs.Chains.{chains_of}
 use Rattle.timetable.specs.Compositions.{greatest_in}
 use Rattle.timetable.specs.Handovers.{handovers_of}
@@ -24,6 +24,7 @@ pub record Holds (a : Inside) : Type 0 where
   pub within : IsWithin (day_in a)
   pub links : AreLinks (day_in a)
   pub stocked : IsStocked (day_in a)
+  pub served : HaveCompositions (day_in a)
   pub incoming : a.incoming.items ≡ link_table departing_in a.links.items (length a.trips.items)
   pub outgoing : a.outgoing.items ≡ link_table arriving_in a.links.items (length a.trips.items)
   pub catalogue : a.catalogue ≡ catalogue_of a.types (greatest_in a.stations.items)

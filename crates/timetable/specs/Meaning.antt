@@ -15,8 +15,7 @@ use Rattle.timetable.specs.declared.day.records.LinkKind.TheVariants.{Turn, Join
 use Rattle.timetable.specs.declared.day.records.Stock.{Stock}
 use Rattle.timetable.specs.declared.day.records.Trip.{Trip}
 use Rattle.timetable.specs.declared.building.tables.Tables.{Tables}
-use Rattle.timetable.specs.Accepted.{AreLinks, DoMeet}
-use Rattle.timetable.specs.Admissible.{is_admissible}
+use Rattle.timetable.specs.Accepted.{AreLinks, DoMeet, HaveCompositions}
 use Rattle.timetable.specs.Build.{type_in, station_in, weights_in}
 use Rattle.timetable.specs.Compositions.{compositions_of}
 use Rattle.timetable.specs.Day.{Day, leaves, arrives, from_of, to_of, unit_count}
@@ -117,7 +116,7 @@ pub record IsDayOf (tables : Tables) (day : Day) : Type 0 where
   -- every trip goes to another station, arrives after it leaves, and some composition may run on it
   pub elsewhere : (t : ℕ) → t < length day.trips → from_of day t ≢ to_of day t
   pub later : (t : ℕ) → t < length day.trips → leaves day t < arrives day t
-  pub served : (t : ℕ) → t < length day.trips → (types : List ℕ) × (is_admissible day t types ≡ true)
+  pub served : HaveCompositions day
   -- no trip is linked twice on one side, and the trips of a link meet at a station in time
   pub linked : AreLinks day
   pub meet : DoMeet day

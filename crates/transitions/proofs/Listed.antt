@@ -3,38 +3,18 @@ use Rattle.std.proofs.Common.{◌≡◌, ℕ, zero, suc, ◌<◌, ◌≤◌, Lis
 use Rattle.std.specs.Prelude.{◌↔◌, ◌&&◌, ◌==◌, nat_lt}
 use Rattle.std.proofs.lemmas.Bool.{and_parts, and_from, or_cases, eqb-true, ltb-true, leb-true, le-leb, cases_eq, cases_lt}
 use Rattle.std.proofs.lemmas.Option.{slice_get-get_or, slice_get_within, get_or_from_slice_get, unwrap_or-slice_get}
-use Rattle.compositions.specs.declared.types.UnitType.{UnitType}
-use Rattle.compositions.specs.Composition.{fits_in, metres_of}
 use Rattle.compositions.specs.Catalogue.{is_lower, comes_before}
 use Rattle.compositions.proofs.Fitting.{Fits-from_test}
 use Rattle.compositions.proofs.Listing.{catalogue_listed}
-use Rattle.timetable.specs.declared.day.records.Station.{Station}
-use Rattle.timetable.specs.Admissible.{longest_of, is_admissible}
-use Rattle.timetable.specs.Compositions.{greatest_in, greatest_platform, compositions_of, composition_at}
-use Rattle.timetable.specs.Day.{Day, from_of, platform_of}
-use Rattle.timetable.specs.Lists.{of_entry}
+use Rattle.timetable.specs.Admissible.{is_admissible}
+use Rattle.timetable.specs.Compositions.{greatest_platform, compositions_of, composition_at}
+use Rattle.timetable.specs.Day.{Day}
 use Rattle.timetable.specs.Links.{turned}
+use Rattle.timetable.proofs.AdmittedTypes.{CompositionOf, composition_of}
 use Rattle.rail_base.specs.declared.limits.TheConstants.{MOST_EXCHANGED}
 use Rattle.transitions.specs.Edges.{MayRun}
 use Rattle.transitions.specs.Pairs.{AreAmongFirst}
 use Rattle.transitions.proofs.Kept.{length-turned}
-
--- no platform is greater than the greatest
-platform_within : (stations : List Station) (s : ℕ) → of_entry (λ station. station.platform) stations s 0 ≤ greatest_in stations
-platform_within [] s = omega arith
-platform_within (station ∷ stations) zero = omega arith
-platform_within (station ∷ stations) (suc s) = omega (arith, platform_within stations s)
-
-longest_within : (day : Day) (t : ℕ) → longest_of day t ≤ greatest_platform day
-unfolding platform_of greatest_platform
-longest_within day t = omega (arith, platform_within day.stations (from_of day t))
-
--- what fits still fits where more metres do
-fits_longer : (types : List UnitType) (n m : ℕ) (ms : List ℕ) → n ≤ m → fits_in types n ms ≡ true → fits_in types m ms ≡ true
-fits_longer types n m ms more fits =
-    let both = and_parts _ _ fits in
-    let short : metres_of types ms ≤ n = leb-true (metres_of types ms) n both.1 in
-    and_from _ _ both.0 (le-leb (metres_of types ms) m (omega arith))
 
 -- the number of the composition of types that may run on a trip
 pub record NumberOf (day : Day) (t : ℕ) (ms : List ℕ) : Type 0 where
@@ -43,13 +23,13 @@ pub record NumberOf (day : Day) (t : ℕ) (ms : List ℕ) : Type 0 where
   pub is : composition_at day comp ≡ ms
 
 pub number_of : (day : Day) (t : ℕ) (ms : List ℕ) → is_admissible day t ms ≡ true → NumberOf day t ms
-unfolding is_admissible
 number_of day t ms fits =
-    let listed : Contains (compositions_of day) ms =
-    (catalogue_listed day.types (greatest_platform day)).complete ms (fits_longer day.types (longest_of day t) (greatest_platform day) ms (longest_within day t) fits) in
-    let is : composition_at day listed.0 ≡ ms =
-    ap (λ (o : Option (List ℕ)). unwrap_or o []) (slice_get-get_or (compositions_of day) listed.0 ms listed.1) ∙ listed.2 in
-    record { comp = listed.0; runs = record { listed = listed.1; admissible = subst (λ (ns : List ℕ). is_admissible day t ns ≡ true) (sym is) fits }; is = is }
+    let as_listed : CompositionOf day ms = composition_of day t ms fits in
+    record {
+      comp = as_listed.comp;
+      runs = record { listed = as_listed.listed; admissible = subst (λ (ns : List ℕ). is_admissible day t ns ≡ true) (sym as_listed.is) fits };
+      is = as_listed.is;
+    }
 
 -- a composition of the catalogue has at most six units
 pub few_units : (day : Day) (comp : ℕ) → comp < length (compositions_of day) → length (composition_at day comp) ≤ 6

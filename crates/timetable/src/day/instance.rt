@@ -3,7 +3,7 @@
 ghost use Rattle.std.specs.Prelude.{ℕ, ◌≡◌, ◌<◌, ◌≤◌, ◌*◌, [], ◌∷◌, ◌++◌, length, slice_get, Some, replicate, OnOk, IfOk, IfErr, IfSome};
 ghost use Rattle.std.specs.List.{All};
 ghost use Rattle.rail_csv.specs.Rows.{AreTypeRows, AreStationRows, AreStockRows, AreTripRows, AreLinkRows, IsWeightsRow};
-ghost use Rattle.timetable.specs.Accepted.{IsDay, AreLinks, IsStocked};
+ghost use Rattle.timetable.specs.Accepted.{IsDay, AreLinks, IsStocked, HaveCompositions};
 ghost use Rattle.timetable.specs.Admissible.{is_admissible};
 ghost use Rattle.timetable.specs.Compositions.{compositions_of, composition_at};
 ghost use Rattle.rail_base.specs.Answers.{Unless, Gives};
@@ -140,11 +140,12 @@ impl Instance {
         self.stations.len() as u32
     }
 
-    /// How many trips there are.
+    /// How many trips there are. Some composition may run on each.
     pub fn trips(&self) -> u32
         ensures value { result ≡ length self.now.trips }
         ensures few { result ≤ MOST_TRIPS }
         ensures sound { IsDay self.now }
+        ensures served { HaveCompositions self.now }
     {
         self.trips.len() as u32
     }

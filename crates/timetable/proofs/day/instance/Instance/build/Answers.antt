@@ -118,6 +118,7 @@ invariant_of-result c =
       catalogue = c.in_ok-catalogue.ensures.value ∙ ap (λ (stations : List Station). catalogue_of c.new-types.result (greatest_in stations)) (c.entries.ensures ∙ sym c.into_entries-stations.ensures);
       links = are_links day c.args.tables.links linked;
       stocked = stocked day (is_day_of c.args.tables day made).stock_rows;
+      served = (is_day_of c.args.tables day made).served;
       incoming = table_of departing_in c.in_ok-linking.linking.incoming.items c.deref-3.result.now c.in_ok-links.links.items c.len-trip_count.result (length day.trips) c.in_ok-linking.ensures.incoming c.deref-3.ensures.value count;
       outgoing = table_of arriving_in c.in_ok-linking.linking.outgoing.items c.deref-3.result.now c.in_ok-links.links.items c.len-trip_count.result (length day.trips) c.in_ok-linking.ensures.outgoing c.deref-3.ensures.value count;
       chains = c.in_ok-linking.ensures.chains
