@@ -15,3 +15,4 @@ pub mod Settling
 pub mod Over
 pub mod Lying
 pub mod Ending
+pub mod Roots

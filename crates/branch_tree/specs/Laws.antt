@@ -1,9 +1,12 @@
 -- What holds of every cut, tree and relaxation.
 use Rattle.std.specs.Prelude.{ℕ, ◌+◌, ◌*◌, ◌<◌, ◌≤◌, ◌≡◌, ◌↔◌, None, List, [], ◌∷◌, ◌++◌, length, get_or, set, Bool}
 use Rattle.std.specs.Prelude.{true, not, ◌&&◌, ◌==◌, IsTrue, if◌then◌else◌, ℤ, pos, ◌≤ℤ◌, ◌<ℤ◌, All}
+use Rattle.rail_base.specs.declared.limits.TheConstants.{MOST_COMPOSITIONS}
 use Rattle.rail_base.specs.declared.numbers.Money.{Money}
+use Rattle.timetable.specs.Accepted.{HaveCompositions}
 use Rattle.timetable.specs.Day.{Day}
 use Rattle.timetable.specs.Compositions.{compositions_of}
+use Rattle.timetable.specs.Picking.{IsSolution}
 use Rattle.branch_tree.specs.declared.cuts.Cut.{Cut}
 use Rattle.branch_tree.specs.declared.cuts.Cut.TheVariants.{Only}
 use Rattle.branch_tree.specs.declared.cuts.Side.{Side}
@@ -95,6 +98,16 @@ ProperCutsEnd = (catalogue : List (List ℕ)) (root : List (List Bool)) (nodes :
 -- The region of a day is over its trips and its catalogue, and so is each side of a cut of a region that is.
 abbrev pub RootsAreOver : Type 0
 RootsAreOver = (day : Day) → IsOver (length day.trips) (compositions_of day) (root_of day)
+
+-- In the region of a day each trip has some composition.
+abbrev pub RootsAreFilled : Type 0
+RootsAreFilled = (day : Day) → length (compositions_of day) ≤ MOST_COMPOSITIONS → HaveCompositions day →
+    IsFilled (root_of day)
+
+-- Picks that are a solution are in the region of the day.
+abbrev pub SolutionsLieInRoots : Type 0
+SolutionsLieInRoots = (day : Day) (picks : List ℕ) → length (compositions_of day) ≤ MOST_COMPOSITIONS →
+    IsSolution day picks → IsTrue (are_in picks (root_of day))
 
 abbrev pub SidesAreOver : Type 0
 SidesAreOver = (trips : ℕ) (catalogue other : List (List ℕ)) (cut : Cut) (side : Side) (region : List (List Bool)) →
