@@ -1,6 +1,6 @@
 //! What a day costs, whole and in its three parts: with picks, and with a plan.
 
-ghost use Rattle.std.specs.Prelude.{◌≡◌, ◌<◌, ◌≤◌, ◌*◌, ◌+ℤ◌, length, pos};
+ghost use Rattle.std.specs.Prelude.{◌≡◌, ◌<◌, ◌≤◌, ◌*◌, ◌+ℤ◌, ◌≤ℤ◌, length, pos};
 ghost use Rattle.timetable.specs.Cost.{link_cost, cost_of, plan_cost};
 ghost use Rattle.timetable.specs.Running.{IsPlan};
 ghost use Rattle.timetable.specs.Picking.{ArePicks, picked};
@@ -8,10 +8,16 @@ ghost use Rattle.cost_model.specs.Sums.{carriage_of, shortage_of, shunting_of};
 
 use crate::links::{MOST_LINK_COST, link_cost};
 use crate::lists::TypeLists;
-use crate::trips::{MOST_CARRIAGE_COST, MOST_SHORTAGE_COST, carriage_cost, shortage_cost};
+use crate::trips::{
+    MOST_CARRIAGE_COST, MOST_SHORTAGE_COST, MOST_TRIP_COST, carriage_cost, shortage_cost,
+};
 use rail_base::limits::{MOST_LINKS, MOST_TRIPS};
 use rail_base::{LinkNo, Money, TripNo};
 use timetable::{Instance, NamedPlan, Picks};
+
+/// The most that a day costs: each trip and each link the most.
+pub const MOST_DAY_COST: u64 = MOST_TRIP_COST * MOST_TRIPS as u64
+    + MOST_LINK_COST * MOST_LINKS as u64;
 
 /// The three parts that add up to the cost of picks. None is negative.
 #[derive(Clone, Copy, Debug, PartialEq, Eq)]
@@ -28,7 +34,8 @@ pub struct CostParts {
 /// neither fit the platforms nor follow the rules of the links. It takes no memory.
 pub fn cost(instance: &Instance, picks: &Picks) -> Money
     requires { ArePicks instance.now picks.now }
-    ensures { result.0 ≡ pos (cost_of instance.now (picked instance.now picks.now)) }
+    ensures cost { result.0 ≡ pos (cost_of instance.now (picked instance.now picks.now)) }
+    ensures range { result.0 ≤ℤ pos MOST_DAY_COST }
 {
     whole_cost(instance, picks)
 }
@@ -60,7 +67,8 @@ pub fn plan_cost(instance: &Instance, plan: &NamedPlan) -> Money
 /// The cost of a day with these lists of types.
 fn whole_cost<L: TypeLists>(instance: &Instance, lists: &L) -> Money
     requires { L.are_of lists.now instance.now }
-    ensures { result.0 ≡ pos (cost_of instance.now (L.lists lists.now instance.now)) }
+    ensures cost { result.0 ≡ pos (cost_of instance.now (L.lists lists.now instance.now)) }
+    ensures range { result.0 ≤ℤ pos MOST_DAY_COST }
 {
     money(
         carriages_cost(instance, lists)
