@@ -1,0 +1,5 @@
+use Rattle.sample_picks.proofs.Admitted.{MayRunBelow}
+use Rattle.sample_picks.proofs.may_run.Given as goal
+
+abbrev pub invariant-loop-number : goal.invariant-loop-number
+invariant-loop-number l = MayRunBelow l.day l.picks l.number
