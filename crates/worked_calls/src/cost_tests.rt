@@ -1,8 +1,8 @@
 //! What the worked day of a turn costs, with picks and with plans, by hand.
 
-use crate::machine_tests::{Texts, day_of, plan_of};
 use cost_model::{CostParts, cost, parts, plan_cost};
 use rail_base::{CompNo, Money, TripNo};
+use sample_days::{Texts, day_of, plan_of};
 use std::alloc::Global;
 use std::test::Fail;
 use timetable::{Instance, Picks};

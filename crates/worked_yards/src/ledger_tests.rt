@@ -1,8 +1,8 @@
 //! Worked days: the first fault of the yards for picked compositions.
 
-use crate::machine_tests::{Texts, day_of};
 use inventory::{Ledger, StockFault};
 use rail_base::{CompNo, StationNo, TripNo, TypeNo};
+use sample_days::{Texts, day_of};
 use std::alloc::Global;
 use std::test::Fail;
 use timetable::{Instance, Picks};

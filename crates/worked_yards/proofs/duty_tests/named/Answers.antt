@@ -1,7 +1,7 @@
 use Rattle.std.proofs.Common.{◌∙◌, ℕ, List, set, sym, ap, subst}
 use Rattle.unit_duties.specs.Broken.{AreAdmissible}
-use Rattle.worked_calls.proofs.TwoPicks.{two_admissible}
-use Rattle.worked_calls.proofs.duty_tests.named.Goals as goal
+use Rattle.worked_yards.proofs.TwoPicks.{two_admissible}
+use Rattle.worked_yards.proofs.duty_tests.named.Goals as goal
 
 pub name_units-requires-clause-admissible : goal.name_units-requires-clause-admissible
 name_units-requires-clause-admissible c =

@@ -3,9 +3,9 @@
 ghost use Rattle.std.specs.Prelude.{◌≡◌, ◌<◌, ◌≤◌, length, IfOk};
 
 use crate::ledger_tests::{day_of_an_early_exchange, day_of_an_exchange};
-use crate::machine_tests::{Texts, day_of, plan_of};
 use inventory::StockFault;
 use rail_base::{CompNo, LinkNo, StationNo, TripNo, TypeNo, UnitNo};
+use sample_days::{Texts, day_of, plan_of};
 use std::alloc::Global;
 use std::test::Fail;
 use timetable::{Instance, NamedPlan, Picks};

@@ -1,60 +1,16 @@
 //! Worked days: what simulating them tells, and days step by step. The costs were counted by hand.
 
-ghost use Rattle.std.specs.Prelude.{◌≡◌, ◌<◌, ◌≤◌, length, IfOk};
+ghost use Rattle.std.specs.Prelude.{◌≡◌, ◌<◌, ◌≤◌, length};
 ghost use Rattle.timetable.specs.Day.{unit_count};
 ghost use Rattle.timetable.specs.Running.{IsPlan};
 ghost use Rattle.day_simulator.specs.State.{trip_of};
 
 use day_simulator::{Day, DayEvent, Place, Ran, SimulateRefusal, StepFault, simulate};
 use rail_base::{LinkNo, Money, StationNo, TripNo, UnitNo};
+use sample_days::{Texts, day_of, plan_of};
 use std::alloc::Global;
 use std::test::Fail;
-use timetable::{Instance, NamedPlan, Rows, Tables};
-
-/// The tables of a day but the weights, which are 1, 1 and 100.
-pub(crate) struct Texts<'a> {
-    pub(crate) types: &'a [u8],
-    pub(crate) stations: &'a [u8],
-    pub(crate) stock: &'a [u8],
-    pub(crate) trips: &'a [u8],
-    pub(crate) links: &'a [u8],
-}
-
-/// The day of these tables.
-pub(crate) fn day_of(alloc: Global, texts: &Texts<'_>) -> Result<Instance, Fail>
-    requires types { length texts.now.types.now ≤ 4194304 }
-    requires stations { length texts.now.stations.now ≤ 4194304 }
-    requires stock { length texts.now.stock.now ≤ 4194304 }
-    requires trips { length texts.now.trips.now ≤ 4194304 }
-    requires links { length texts.now.links.now ≤ 4194304 }
-{
-    let types = rail_csv::types(alloc, texts.types)?;
-    let stations = rail_csv::stations(alloc, texts.stations)?;
-    let stock = rail_csv::stock(alloc, texts.stock)?;
-    let trips = rail_csv::trips(alloc, texts.trips)?;
-    let links = rail_csv::links(alloc, texts.links)?;
-    let weights = rail_csv::weights(alloc, b"carriage,shortage,shunting\n1,1,100\n")?;
-    Ok(Instance::build(
-        alloc,
-        Tables {
-            types: Rows::of(types),
-            stations: Rows::of(stations),
-            stock: Rows::of(stock),
-            trips: Rows::of(trips),
-            links: Rows::of(links),
-            weights,
-        },
-    )?)
-}
-
-/// The plan of a day that a table makes.
-pub(crate) fn plan_of(alloc: Global, instance: &Instance, text: &[u8]) -> Result<NamedPlan, Fail>
-    requires { length text.now ≤ 4194304 }
-    ensures { IfOk result (λ plan. IsPlan instance.now plan) }
-{
-    let rows = rail_csv::plan(alloc, text)?;
-    Ok(NamedPlan::build(alloc, instance, rows.as_slice())?)
-}
+use timetable::{Instance, NamedPlan};
 
 /// A turn that turns round and may uncouple at the rear.
 fn day_of_an_uncoupling(alloc: Global) -> Result<Instance, Fail> {

@@ -1,2 +1,1 @@
 pub mod LonePrices
-pub mod TwoPicks
