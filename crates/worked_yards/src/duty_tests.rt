@@ -2,7 +2,7 @@
 
 ghost use Rattle.std.specs.Prelude.{◌≡◌, ◌<◌, ◌≤◌, length, IfOk};
 
-use crate::ledger_tests::{day_of_an_early_exchange, day_of_an_exchange};
+use crate::ledger_tests::{day_of_an_early_exchange, day_of_an_exchange, fault_of};
 use inventory::StockFault;
 use rail_base::{CompNo, LinkNo, StationNo, TripNo, TypeNo, UnitNo};
 use sample_days::{Texts, day_of, plan_of};
@@ -136,5 +136,17 @@ fn units_of_an_exchange(rt: HostRuntime) -> Result<(), Fail> {
     });
     let refused = named(alloc, &early, 2, 3)?;
     assert!(rt; is_refused(&refused, short));
+    Ok(())
+}
+
+// One unit goes out and two come back, so that the turn is broken and the yard of Y is short too.
+#[test]
+fn broken_link_told_before_a_fault(rt: HostRuntime) -> Result<(), Fail> {
+    let alloc = rt.alloc();
+    let day = day_of_a_turn(alloc)?;
+    let fault = fault_of(alloc, &day, 0, 1)?;
+    assert!(rt; matches!(fault, Some(Some(_))));
+    let refused = named(alloc, &day, 0, 1)?;
+    assert!(rt; is_refused(&refused, DutyRefusal::LinkBroken(LinkNo(0))));
     Ok(())
 }

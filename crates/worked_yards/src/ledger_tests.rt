@@ -50,7 +50,7 @@ pub(crate) fn day_of_an_early_exchange(alloc: Global) -> Result<Instance, Fail> 
 }
 
 /// The first fault for two picks; nothing where the day has not two trips and these compositions.
-fn fault_of(
+pub(crate) fn fault_of(
     alloc: Global,
     instance: &Instance,
     first: u32,
