@@ -1,0 +1,5 @@
+-- proposals
+pub mod Proposed
+pub mod Proposals
+-- what an advisor answers
+pub mod Advising
