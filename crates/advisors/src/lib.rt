@@ -2,7 +2,11 @@
 #![tactic(auto)]
 
 pub mod advisor;
+pub mod diver;
 pub mod proposal;
+pub mod subgradient;
 
 pub use advisor::{Advisor, Look, Word};
+pub use diver::Diver;
 pub use proposal::Proposal;
+pub use subgradient::Subgradient;
