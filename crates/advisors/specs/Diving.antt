@@ -19,11 +19,11 @@ abbrev pub IsNarrowestOf : ℕ → List ℕ → Option ℕ → Type 0
 IsNarrowestOf trips sizes found = MatchOption found (AreDecided trips sizes) (IsNarrowest trips sizes)
 
 -- a proposal with the cut that leaves a trip its pick alone; the same proposal where the trip has no pick
-abbrev pub decided : Proposed → ℕ → Option ℕ → Proposed
-decided proposal trip None = proposal
-decided proposal trip (Some comp) = record proposal { cut = Some (Only trip comp) }
+abbrev pub with_cut_to : Proposed → ℕ → Option ℕ → Proposed
+with_cut_to proposal trip None = proposal
+with_cut_to proposal trip (Some comp) = record proposal { cut = Some (Only trip comp) }
 
 -- a proposal after a dive: as before where all trips are decided, and else with the cut that decides the narrowest
 pub record IsDived (sizes picks : List ℕ) (before after : Proposed) : Type 0 where
   pub nothing : AreDecided (length sizes) sizes → after ≡ before
-  pub cut : (trip : ℕ) → IsNarrowest (length sizes) sizes trip → after ≡ decided before trip (slice_get picks trip)
+  pub cut : (trip : ℕ) → IsNarrowest (length sizes) sizes trip → after ≡ with_cut_to before trip (slice_get picks trip)
