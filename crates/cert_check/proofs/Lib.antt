@@ -1,0 +1,9 @@
+pub mod Listed
+pub mod Testing
+pub mod Shapes
+pub mod Retracing
+pub mod OnTheWay
+pub mod Bounding
+pub mod Proved
+pub mod Here
+pub mod Ordered
