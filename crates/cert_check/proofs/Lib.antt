@@ -7,3 +7,4 @@ pub mod Bounding
 pub mod Proved
 pub mod Here
 pub mod Ordered
+pub mod Unique

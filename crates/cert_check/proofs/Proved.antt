@@ -96,7 +96,7 @@ none_left number (RayLeaf multipliers ∷ nodes) none = none_left (suc number) n
 none_left number (EmptyLeaf ∷ nodes) none = none_left (suc number) nodes none
 
 -- what is found of bounds that have a least one
-found_least : (bounds : List ℤ) (least : ℤ) (found : Option Money) → IsLeast bounds least → IsLeastOf bounds found → found ≡ Some (money least)
+pub found_least : (bounds : List ℤ) (least : ℤ) (found : Option Money) → IsLeast bounds least → IsLeastOf bounds found → found ≡ Some (money least)
 found_least bounds least None is none = absurd (none_contained least (subst (λ bs. Contains bs least) none is.one))
   where
     none_contained : (x : ℤ) → Contains [] x → ⊥

@@ -84,7 +84,8 @@ opens_past zero (node ∷ nodes) place inside before = refl
 opens_past (suc trees) (node ∷ nodes) zero inside before = absurd (some_not_none trees before)
 opens_past (suc trees) (node ∷ nodes) (suc place) inside before = opens_past (below (cut_of node) + trees) nodes place (omega (arith, inside)) before
 
-not_after : (nodes : List Node) (place : ℕ) → place < length nodes → IsWhole (take place nodes) → IsWhole nodes → ⊥
+-- no tree is whole after the first nodes that are one
+pub not_after : (nodes : List Node) (place : ℕ) → place < length nodes → IsWhole (take place nodes) → IsWhole nodes → ⊥
 not_after nodes place inside front whole =
     none_is_not 0 (sym (opens_past 1 nodes place inside (opens_of_whole (take place nodes) front)) ∙ opens_of_whole nodes whole)
 
