@@ -1,6 +1,6 @@
 //! The tests of the nodes as a list: that they are one whole tree, of as many branchings as are said.
 
-ghost use Rattle.std.specs.Prelude.{◌≡◌, IfOk, IfErr, ◌∷◌, []};
+ghost use Rattle.std.specs.Prelude.{◌≡◌, IfOk, IfErr};
 ghost use Rattle.branch_tree.specs.Trees.{IsWhole, branchings_of};
 ghost use Rattle.cert_check.specs.Reasons.{HasOtherBranchings, IsMisshapen};
 
