@@ -50,8 +50,8 @@ pub fn go_back(taken: &mut Vec<Taken>, region: &mut Region)
     ensures none { taken.new.items ≡ [] }
     ensures room { vec_capacity taken.old ≤ vec_capacity taken.new }
 {
-    while let Some(last) = taken.pop() {
-        region.put_back(last.mark);
+    while let Some(one) = taken.pop() {
+        region.put_back(one.mark);
     }
 }
 
