@@ -1,0 +1,88 @@
+//! An answer as a value: what it says of the day, the plan that it offers, and the tree that proves it.
+
+ghost use Rattle.std.specs.Prelude.{◌≡◌};
+ghost use Rattle.answer_text.specs.Limits.{has_plan};
+
+use branch_tree::Tree;
+use rail_base::Money;
+use rail_csv::UnitList;
+use std::marker::Model;
+
+/// What an answer says of the plans of a day.
+#[derive(Clone, Copy, Debug, PartialEq, Eq)]
+pub enum Head {
+    /// The runs are a plan of this cost, and no plan that runs costs less.
+    Optimal {
+        /// The cost of the plan.
+        cost: Money,
+    },
+    /// No plan runs.
+    Infeasible,
+    /// No plan that runs costs less than the bound.
+    Bounded {
+        /// The bound.
+        bound: Money,
+    },
+    /// The runs are a plan of this cost, and no plan that runs costs less than the bound.
+    BoundedPlan {
+        /// The bound.
+        bound: Money,
+        /// The cost of the plan.
+        cost: Money,
+    },
+}
+
+impl Head {
+    /// Whether the answer has a plan, and so may have runs.
+    pub fn has_plan(&self) -> bool
+        ensures { result ≡ has_plan self.now }
+    {
+        match self {
+            Head::Optimal { .. } | Head::BoundedPlan { .. } => true,
+            Head::Infeasible | Head::Bounded { .. } => false,
+        }
+    }
+}
+
+/// Which units run on each trip, in the order of the trips. A contract sees the list of the trips' lists of units.
+#[derive(Debug, Drop)]
+pub struct Runs {
+    runs: Vec<UnitList>,
+}
+
+impl Model for Runs {
+    ghost use Rattle.std.specs.Prelude.{List, ℕ};
+
+    ghost Value = { List (List ℕ) };
+
+    ghost view = { λ a. a.runs.items };
+}
+
+impl Runs {
+    /// The runs of these lists of units, one a trip. It takes no memory.
+    pub fn of(items: Vec<UnitList>) -> Runs
+        ensures { result ≡ items.items }
+    {
+        Runs { runs: items }
+    }
+
+    /// The lists of units, one a trip. It takes no memory.
+    pub fn items(&self) -> &[UnitList]
+        ensures { result.now ≡ self.now }
+    {
+        self.runs.as_slice()
+    }
+}
+
+/// An answer: what it says of a day, and what proves it.
+#[derive(Debug, Drop)]
+pub struct Answer {
+    /// What it says.
+    pub head: Head,
+    /// How many branchings the search made.
+    pub branchings: u32,
+    /// The units of each trip, where the head has a plan; else no runs.
+    pub runs: Runs,
+    /// The tree that proves it.
+    pub tree: Tree,
+}

@@ -1,0 +1,6 @@
+//! The limits of an answer document that no other part of the product has.
+
+/// Size of a bound and of a cost, whatever its sign.
+pub const MOST_AMOUNT: u128 = 100_000_000_000_000_000_000;
+/// The greatest index of an entry.
+pub const MOST_INDEX: u32 = 999_999;
