@@ -1,5 +1,11 @@
--- how answers are written
+-- the one text of each answer
 pub mod Lines
 pub mod Texts
--- within which limits they are read
+-- which answers are read, and what is wrong with other bytes
 pub mod Limits
+pub mod Grammar
+-- the inside of reading: pieces, numbers, lines, places in a document
+pub mod Pieces
+pub mod Numbers
+pub mod ReadLines
+pub mod ReadPlaces

@@ -1,5 +1,5 @@
 -- Lines and their words.
-use Rattle.std.specs.Prelude.{ℕ, List, [], ◌∷◌, ◌++◌}
+use Rattle.std.specs.Prelude.{ℕ, ◌≡◌, List, [], ◌∷◌, ◌++◌}
 
 abbrev pub space : ℕ
 space = 32
@@ -21,3 +21,7 @@ spaced (word ∷ words) = word ++ after_spaces words
 abbrev pub text_of_lines : List (List ℕ) → List ℕ
 text_of_lines [] = []
 text_of_lines (line ∷ lines) = line ++ (line_feed ∷ text_of_lines lines)
+
+-- a text with lines added to it
+abbrev pub Adds : List ℕ → List ℕ → List (List ℕ) → Type 0
+Adds old new lines = new ≡ old ++ text_of_lines lines

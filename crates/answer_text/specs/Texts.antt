@@ -9,7 +9,7 @@ use Rattle.branch_tree.specs.declared.tree.Node.TheVariants.{Branch, CostLeaf, R
 use Rattle.answer_text.specs.declared.answer.Answer.{Answer}
 use Rattle.answer_text.specs.declared.answer.Head.{Head}
 use Rattle.answer_text.specs.declared.answer.Head.TheVariants.{Optimal, Infeasible, Bounded, BoundedPlan}
-use Rattle.answer_text.specs.Lines.{spaced, text_of_lines}
+use Rattle.answer_text.specs.Lines.{after_spaces, line_feed, spaced, text_of_lines}
 
 abbrev pub title_line : List ℕ
 title_line = codes "railplan answer 1"
@@ -42,6 +42,10 @@ entry_word entry = decimal entry.index ++ (58 ∷ signed_decimal entry.value)
 -- how many entries there are, and the entries
 abbrev pub entries_words : List Entry → List (List ℕ)
 entries_words entries = decimal (length entries) ∷ map entry_word entries
+
+-- the end of a line of entries, with its line feed
+abbrev pub entries_end : List Entry → List ℕ
+entries_end entries = after_spaces (entries_words entries) ++ (line_feed ∷ [])
 
 abbrev pub cut_words : Cut → List (List ℕ)
 cut_words (Only trip comp) = codes "only" ∷ decimal trip ∷ decimal comp ∷ []

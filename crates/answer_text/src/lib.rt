@@ -3,7 +3,15 @@
 
 pub mod answer;
 pub mod limits;
+mod lines;
+mod nodes;
+mod numbers;
+mod pieces;
 mod printing;
+mod reading;
+pub mod refusal;
 
 pub use answer::{Answer, Head, Runs};
 pub use printing::print;
+pub use reading::read;
+pub use refusal::AnswerRefusal;

@@ -1,9 +1,8 @@
 //! The text of an answer.
 
-ghost use Rattle.std.specs.Prelude.{◌≡◌, ◌++◌, ◌∷◌, [], map, IfOk, OnOk, string_bytes};
-ghost use Rattle.std.specs.Fmt.{decimal};
-ghost use Rattle.answer_text.specs.Lines.{after_spaces, text_of_lines};
-ghost use Rattle.answer_text.specs.Texts.{branchings_line, entries_words, head_line, node_line, node_lines, run_line, run_lines, text_of};
+ghost use Rattle.std.specs.Prelude.{◌≡◌, ◌++◌, ◌∷◌, [], IfOk, OnOk, string_bytes};
+ghost use Rattle.answer_text.specs.Lines.{Adds};
+ghost use Rattle.answer_text.specs.Texts.{branchings_line, entries_end, head_line, node_line, node_lines, run_line, run_lines, text_of};
 
 use crate::answer::{Answer, Head};
 use branch_tree::{Cut, Entry, Node, Tree};
@@ -29,7 +28,7 @@ pub fn print(alloc: Global, answer: &Answer) -> Result<Vec<u8>, NoMemory>
 
 /// Adds what the answer says of the day.
 fn write_head(text: &mut String, head: &Head) -> Result<(), NoMemory>
-    ensures { OnOk result (string_bytes text.new ≡ string_bytes text.old ++ text_of_lines (head_line head.now ∷ [])) }
+    ensures { OnOk result (Adds (string_bytes text.old) (string_bytes text.new) (head_line head.now ∷ [])) }
 {
     match *head {
         Head::Optimal { cost } => write!(text, "optimal {}\n", cost.0)?,
@@ -44,7 +43,7 @@ fn write_head(text: &mut String, head: &Head) -> Result<(), NoMemory>
 
 /// Adds the number of branchings.
 fn write_branchings(text: &mut String, branchings: u32) -> Result<(), NoMemory>
-    ensures { OnOk result (string_bytes text.new ≡ string_bytes text.old ++ text_of_lines (branchings_line branchings ∷ [])) }
+    ensures { OnOk result (Adds (string_bytes text.old) (string_bytes text.new) (branchings_line branchings ∷ [])) }
 {
     write!(text, "branchings {branchings}\n")?;
     Ok(())
@@ -52,7 +51,7 @@ fn write_branchings(text: &mut String, branchings: u32) -> Result<(), NoMemory>
 
 /// Adds the units of each trip.
 fn write_runs(text: &mut String, runs: &[UnitList]) -> Result<(), NoMemory>
-    ensures { OnOk result (string_bytes text.new ≡ string_bytes text.old ++ text_of_lines (run_lines 0 runs.now)) }
+    ensures { OnOk result (Adds (string_bytes text.old) (string_bytes text.new) (run_lines 0 runs.now)) }
 {
     for trip in 0..runs.len() {
         write_run(text, trip, &runs[trip])?;
@@ -62,7 +61,7 @@ fn write_runs(text: &mut String, runs: &[UnitList]) -> Result<(), NoMemory>
 
 /// Adds the units of one trip.
 fn write_run(text: &mut String, trip: usize, units: &UnitList) -> Result<(), NoMemory>
-    ensures { OnOk result (string_bytes text.new ≡ string_bytes text.old ++ text_of_lines (run_line trip units.now ∷ [])) }
+    ensures { OnOk result (Adds (string_bytes text.old) (string_bytes text.new) (run_line trip units.now ∷ [])) }
 {
     write!(text, "run {trip}")?;
     for unit in units.items() {
@@ -74,7 +73,7 @@ fn write_run(text: &mut String, trip: usize, units: &UnitList) -> Result<(), NoM
 
 /// Adds the nodes of a tree.
 fn write_nodes(text: &mut String, tree: &Tree) -> Result<(), NoMemory>
-    ensures { OnOk result (string_bytes text.new ≡ string_bytes text.old ++ text_of_lines (node_lines tree.now)) }
+    ensures { OnOk result (Adds (string_bytes text.old) (string_bytes text.new) (node_lines tree.now)) }
 {
     for node in 0..tree.len() {
         write_node(text, tree.node(NodeNo(node)))?;
@@ -84,7 +83,7 @@ fn write_nodes(text: &mut String, tree: &Tree) -> Result<(), NoMemory>
 
 /// Adds one node.
 fn write_node(text: &mut String, node: &Node) -> Result<(), NoMemory>
-    ensures { OnOk result (string_bytes text.new ≡ string_bytes text.old ++ text_of_lines (node_line node.now ∷ [])) }
+    ensures { OnOk result (Adds (string_bytes text.old) (string_bytes text.new) (node_line node.now ∷ [])) }
 {
     match node {
         Node::Branch(Cut::Only { trip, comp }) => {
@@ -114,7 +113,7 @@ fn write_node(text: &mut String, node: &Node) -> Result<(), NoMemory>
 
 /// Adds the number of entries and the entries, as the end of a line.
 fn write_entries(text: &mut String, entries: &[Entry]) -> Result<(), NoMemory>
-    ensures { OnOk result (string_bytes text.new ≡ string_bytes text.old ++ after_spaces (entries_words entries.now) ++ (10 ∷ [])) }
+    ensures { OnOk result (string_bytes text.new ≡ string_bytes text.old ++ entries_end entries.now) }
 {
     write!(text, " {}", entries.len())?;
     for entry in entries {

@@ -1,0 +1,10 @@
+use Rattle.std.proofs.Common.{◌≡◌, true, take}
+use Rattle.std.specs.Str.{all_ascii_digits}
+use Rattle.std.specs.Str.Parse.{digits_value}
+use Rattle.answer_text.proofs.numbers.digits_value.Given as goal
+
+abbrev pub invariant-loop-byte : goal.invariant-loop-byte
+invariant-loop-byte l = record {
+  value : l.value ≡ digits_value 10 (take l.byte-index l.word);
+  digits : all_ascii_digits (take l.byte-index l.word) ≡ true;
+}

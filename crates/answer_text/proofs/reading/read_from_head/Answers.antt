@@ -1,0 +1,18 @@
+use Rattle.std.proofs.Common.{sym}
+use Rattle.std.proofs.lemmas.Result.{err_from_is_err_and}
+use Rattle.answer_text.specs.Pieces.{pieces}
+use Rattle.answer_text.proofs.Turns.{fails, head_cut, head_on, head_wrong, moved}
+use Rattle.answer_text.proofs.reading.read_from_head.Goals as goal
+
+pub returns-in_err-line : goal.returns-in_err-line
+returns-in_err-line c =
+    let p = err_from_is_err_and c.from_residual.result c.from_residual.ensures.1 in
+    rw (p.1, p.2) (fails c.in_err-line.field-0.0 _ (head_cut (pieces 10 c.args.bytes.now) c.in_err-line.field-0.0 c.in_err-line.ensures))
+
+pub returns-in_default : goal.returns-in_default
+returns-in_default c =
+    head_wrong (pieces 10 c.args.bytes.now) (pieces 10 c.in_ok-line.rest.now) c.in_ok-line.line.now c.in_ok-line.ensures (sym c.in_default.ensures)
+
+pub returns : goal.returns
+returns c =
+    moved c.read_from_branchings.result _ _ (head_on (pieces 10 c.args.bytes.now) (pieces 10 c.in_ok-line.rest.now) c.in_ok-line.line.now c.in-Some.head c.in_ok-line.ensures (sym c.in-Some.ensures)) c.read_from_branchings.ensures
