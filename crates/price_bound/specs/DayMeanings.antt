@@ -1,0 +1,51 @@
+-- What the relaxation of a day means.
+use Rattle.std.specs.Prelude.{ℕ, ◌≡◌, List, [], ◌∷◌, ◌++◌, length, pos}
+use Rattle.timetable.specs.Accepted.{IsDay, AreLinks}
+use Rattle.timetable.specs.Chains.{chains_of}
+use Rattle.timetable.specs.Compositions.{compositions_of}
+use Rattle.timetable.specs.Cost.{cost_of}
+use Rattle.timetable.specs.Day.{Day}
+use Rattle.timetable.specs.Indices.{lambdas_of, places_of}
+use Rattle.timetable.specs.Picking.{IsSolution, picked}
+use Rattle.branch_tree.specs.Meanings.{Meanings}
+use Rattle.transitions.specs.declared.edge.Edge.{Edge}
+use Rattle.transitions.specs.Edges.{AreGraphs}
+use Rattle.price_bound.specs.Following.{Follow}
+use Rattle.price_bound.specs.Near.{AreNear}
+use Rattle.price_bound.specs.Slacks.{broken_at, slack_of}
+
+-- lists one after another
+abbrev pub one_after_another : List (List ℕ) → List ℕ
+one_after_another [] = []
+one_after_another (list ∷ lists) = list ++ one_after_another lists
+
+-- the trips chain by chain, each from its first trip on
+unfoldable pub trips_by_chain : Day → List ℕ
+trips_by_chain day = one_after_another (chains_of day)
+
+-- Picks cost what their compositions cost. They are a solution where a plan of named units runs that has their types.
+abbrev pub meanings_of : Day → Meanings
+meanings_of day = record {
+  trips = length day.trips;
+  indices = length (places_of day);
+  free_from = length (lambdas_of day);
+  catalogue = compositions_of day;
+  order = trips_by_chain day;
+  cost = λ picks. pos (cost_of day (picked day picks));
+  slack = slack_of day;
+  Follow = Follow day;
+  IsSolution = IsSolution day;
+  AreNear = AreNear day;
+  broken = broken_at day;
+}
+
+-- what is known of every accepted day
+pub record IsAccepted (day : Day) : Type 0 where
+  pub sound : IsDay day
+  pub links : AreLinks day
+
+-- what is kept while a day is worked on: its edges, and room for a pick of each trip
+pub record IsWorkedOn (day : Day) (graphs : List (List Edge)) (choice : List ℕ) : Type 0 where
+  pub accepted : IsAccepted day
+  pub graphs_are : AreGraphs day graphs
+  pub room : length choice ≡ length day.trips
