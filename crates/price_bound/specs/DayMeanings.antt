@@ -1,6 +1,6 @@
 -- What the relaxation of a day means.
 use Rattle.std.specs.Prelude.{ℕ, ◌≡◌, List, [], ◌∷◌, ◌++◌, length, pos}
-use Rattle.timetable.specs.Accepted.{IsDay, AreLinks}
+use Rattle.timetable.specs.Accepted.{IsDay, AreLinks, IsStocked}
 use Rattle.timetable.specs.Chains.{chains_of}
 use Rattle.timetable.specs.Compositions.{compositions_of}
 use Rattle.timetable.specs.Cost.{cost_of}
@@ -8,6 +8,7 @@ use Rattle.timetable.specs.Day.{Day}
 use Rattle.timetable.specs.Indices.{lambdas_of, places_of}
 use Rattle.timetable.specs.Picking.{IsSolution, picked}
 use Rattle.branch_tree.specs.Meanings.{Meanings}
+use Rattle.inventory.specs.Loaded.{Loaded}
 use Rattle.transitions.specs.declared.edge.Edge.{Edge}
 use Rattle.transitions.specs.Edges.{AreGraphs}
 use Rattle.price_bound.specs.Following.{Follow}
@@ -43,9 +44,11 @@ meanings_of day = record {
 pub record IsAccepted (day : Day) : Type 0 where
   pub sound : IsDay day
   pub links : AreLinks day
+  pub stocked : IsStocked day
 
--- what is kept while a day is worked on: its edges, and room for a pick of each trip
-pub record IsWorkedOn (day : Day) (graphs : List (List Edge)) (choice : List ℕ) : Type 0 where
+-- what is kept while a day is worked on: its edges, a ledger of its yards, and room for a pick of each trip
+pub record IsWorkedOn (day : Day) (graphs : List (List Edge)) (ledger : Loaded) (choice : List ℕ) : Type 0 where
   pub accepted : IsAccepted day
   pub graphs_are : AreGraphs day graphs
+  pub counted : ledger.day ≡ day
   pub room : length choice ≡ length day.trips
