@@ -5,3 +5,6 @@ mod Meeting
 mod Breaking
 mod Ruling
 mod Whole
+mod PartsFound
+mod FirstBroken
+mod SettledBy

@@ -1,11 +1,9 @@
 -- In a solution no slack of a departure minute is positive, and every other slack is 0.
-use Rattle.std.proofs.Common.{◌≡◌, ◌<◌, ◌≤◌, ◌+◌, ◌-◌, ℕ, zero, suc, List, ◌++◌, length, Option, Some, Bool, true, false, ◌==◌, slice_get, unwrap_or, refl, sym, ap, subst, ◌∙◌, arith, ℤ, pos, neg_ℤ, ◌-ℤ◌, ◌≤ℤ◌}
+use Rattle.std.proofs.Common.{◌≡◌, ◌<◌, ◌≤◌, ◌+◌, ℕ, List, length, get_or, Option, Some, Bool, true, false, ◌==◌, slice_get, unwrap_or, refl, sym, ap, subst, ◌∙◌, arith, ℤ, pos, neg_ℤ, ◌-ℤ◌, ◌≤ℤ◌}
 use Rattle.std.specs.Prelude.{option_map}
-use Rattle.std.specs.List.{All}
 use Rattle.std.proofs.lemmas.Bool.{eqb-true, eq-eqb}
 use Rattle.std.proofs.lemmas.Int.{ints}
-use Rattle.std.proofs.lemmas.List.Elements.{All-nil, All-push, All-append}
-use Rattle.std.proofs.lemmas.Option.{get_or_from_slice_get, slice_get_within}
+use Rattle.std.proofs.lemmas.Option.{get_or_from_slice_get}
 use Rattle.std.proofs.lemmas.Slice.Eq.{bytes_eq-Decides}
 use Rattle.timetable.specs.declared.day.indices.Place.{Place}
 use Rattle.timetable.specs.declared.day.indices.Place.TheVariants.{Lambda, Mu, Sigma}
@@ -15,20 +13,19 @@ use Rattle.timetable.specs.Accepted.{AreLinks}
 use Rattle.timetable.specs.Compositions.{compositions_of, composition_at}
 use Rattle.timetable.specs.Day.{Day, wanted_of}
 use Rattle.timetable.specs.Handovers.{IsHandover, handovers_of}
-use Rattle.timetable.specs.Indices.{IsPlace, lambdas_of, mus_of, sigmas_of, places_of}
-use Rattle.timetable.specs.Lists.{listed, joined}
+use Rattle.timetable.specs.Indices.{IsLambda, IsPlace, lambdas_of, places_of}
+use Rattle.timetable.specs.Minutes.{minutes_of}
 use Rattle.timetable.specs.Picking.{IsSolution, picked}
 use Rattle.timetable.specs.Starts.{start_of}
 use Rattle.timetable.specs.Turns.{same}
 use Rattle.timetable.proofs.Handovers.{are_handovers}
 use Rattle.timetable.proofs.Indices.{have_multipliers}
-use Rattle.timetable.proofs.Listing.{get_second}
 use Rattle.timetable.proofs.Shares.{same_lists}
+use Rattle.inventory.specs.Counts.{AreServed, taken_until, ready_until, all_taken, all_given}
 use Rattle.branch_tree.specs.Meanings.{IsMet}
 use Rattle.price_bound.specs.DayMeanings.{meanings_of}
 use Rattle.price_bound.specs.Following.{part_of, pick_of}
 use Rattle.price_bound.specs.Slacks.{one_if, is_part, handover_slack, slack_at, slack_of}
-use Rattle.price_bound.specs.Yards.{taken_until, ready_until, all_taken, all_given, minute_at}
 use Rattle.price_bound.proofs.Solving.{same_number, second_is_part, second_listed}
 use Rattle.price_bound.proofs.Steps.{entry_below}
 
@@ -36,25 +33,7 @@ use Rattle.price_bound.proofs.Steps.{entry_below}
 
 -- it is not of a departure minute
 abbrev IsFree : Place → Type 0
-IsFree (Lambda s m k) = ⊥
-IsFree (Mu s m) = Unit {0}
-IsFree (Sigma h c) = Unit {0}
-
-all_listed : (f : ℕ → Place) (n : ℕ) → ((k : ℕ) → IsFree (f k)) → All IsFree (listed f n)
-all_listed f zero each = All-nil IsFree
-all_listed f (suc n) each = All-push IsFree (listed f n) (f n) (all_listed f n each) (each n)
-
-all_joined : (f : ℕ → List Place) (n : ℕ) → ((k : ℕ) → All IsFree (f k)) → All IsFree (joined f n)
-all_joined f zero each = All-nil IsFree
-all_joined f (suc n) each = All-append IsFree (joined f n) (f n) (all_joined f n each) (each n)
-
-all_free : (day : Day) → All IsFree (mus_of day ++ sigmas_of day)
-unfolding mus_of sigmas_of
-all_free day =
-    All-append IsFree (mus_of day) (sigmas_of day)
-    (all_joined (λ s. listed (λ m. Mu s m) (length day.types)) (length day.stations) (λ s. all_listed (λ m. Mu s m) (length day.types) (λ m. tt)))
-    (all_joined (λ h. listed (λ c. Sigma h c) (length (compositions_of day))) (length (handovers_of day)) (λ h.
-    all_listed (λ c. Sigma h c) (length (compositions_of day)) (λ c. tt)))
+IsFree place = IsLambda place → ⊥
 
 pub record IsAtIndex (day : Day) (index : ℕ) (place : Place) : Type 0 where
   pub at : slice_get (places_of day) index ≡ Some place
@@ -68,12 +47,7 @@ place_at day index below =
       record {
         at = at;
         there = (have_multipliers day).each place (index, below, get_or_from_slice_get (places_of day) index place place at);
-        free = λ past.
-            let rest : List Place = mus_of day ++ sigmas_of day in
-            let k : ℕ = index - length (lambdas_of day) in
-            let sum : length (lambdas_of day) + k ≡ index = omega (arith, past) in
-            let here : slice_get rest k ≡ Some place = sym (get_second (lambdas_of day) rest k) ∙ ap (slice_get (places_of day)) sum ∙ at in
-            subst IsFree (get_or_from_slice_get rest k place place here) (all_free day k place (slice_get_within rest k place here));
+        free = λ past lambda. absurd (omega (arith, past, ((have_multipliers day).lambdas index place at).0 lambda));
       },
     )
 
@@ -91,15 +65,6 @@ alike false false to from = refl
 alike true false to from = absurd (let e : false ≡ true = to refl in cc)
 alike false true to from = absurd (let e : false ≡ true = from refl in cc)
 
--- a list is the same as itself
-is_same : (xs ys : List ℕ) → xs ≡ ys → same xs ys ≡ true
-is_same xs ys e = (bytes_eq-Decides xs ys).1 e
-
--- what the definitions of counts say of a solution: no yard is short at any minute, and every end count is the wanted one
-pub record AreInBalance (day : Day) (lists : List (List ℕ)) : Type 0 where
-  pub never_short : (s m minute : ℕ) → taken_until day lists s m minute ≤ start_of day s m + ready_until day lists s m minute
-  pub ends : (s m : ℕ) → s < length day.stations → m < length day.types → start_of day s m + all_given day lists s m ≡ wanted_of day s m + all_taken day lists s m
-
 module _ (day : Day) (picks : List ℕ) (links : AreLinks day) (solves : IsSolution day picks) where
   -- at each hand-over of a solution the part is the second trip's composition
   module _ (handover : Handover) (of_link : IsHandover day.links handover) (comp : ℕ) (listed : comp < length (compositions_of day)) where
@@ -115,7 +80,7 @@ module _ (day : Day) (picks : List ℕ) (links : AreLinks day) (solves : IsSolut
         (same_lists (composition_at day (pick_of picks handover.second)) (composition_at day comp) e))
 
     from : (pick_of picks handover.second == comp) ≡ true → same (composition_at day (pick_of picks handover.second)) (composition_at day comp) ≡ true
-    from e = is_same (composition_at day (pick_of picks handover.second)) (composition_at day comp) (ap (composition_at day) (eqb-true (pick_of picks handover.second) comp e))
+    from e = (bytes_eq-Decides (composition_at day (pick_of picks handover.second)) (composition_at day comp)).1 (ap (composition_at day) (eqb-true (pick_of picks handover.second) comp e))
 
     no_slack : handover_slack day picks comp handover ≡ pos 0
     no_slack = ap (λ (b : Bool). one_if b -ℤ one_if (pick_of picks handover.second == comp)) part
@@ -127,16 +92,16 @@ module _ (day : Day) (picks : List ℕ) (links : AreLinks day) (solves : IsSolut
       let of_link : IsHandover day.links handover = subst (IsHandover day.links) (get_or_from_slice_get (handovers_of day) h handover handover at) ((are_handovers day).each h handover there) in
       ap (λ (o : Option Handover). unwrap_or (option_map (handover_slack day picks comp) o) (pos 0)) at ∙ no_slack handover of_link comp listed
 
-  module _ (balance : AreInBalance day (picked day picks)) where
+  module _ (served : AreServed day (picked day picks)) where
     place_met : (place : Place) → IsPlace day place → (slack_at day picks place ≤ℤ pos 0) × (IsFree place → slack_at day picks place ≡ pos 0)
     place_met (Lambda s m k) there = (
-      no_positive (start_of day s m + ready_until day (picked day picks) s m (minute_at day s k)) (taken_until day (picked day picks) s m (minute_at day s k))
-          (balance.never_short s m (minute_at day s k)),
-      λ free. absurd free,
+      no_positive (start_of day s m + ready_until day (picked day picks) s m (get_or (minutes_of day s) k 0)) (taken_until day (picked day picks) s m (get_or (minutes_of day s) k 0))
+          (served.never_short s m (get_or (minutes_of day s) k 0)),
+      λ free. absurd (free tt),
     )
     place_met (Mu s m) (station, unit_type) =
         let zero_is : slack_at day picks (Mu s m) ≡ pos 0 =
-        balanced (wanted_of day s m) (start_of day s m + all_given day (picked day picks) s m) (all_taken day (picked day picks) s m) (balance.ends s m station unit_type) in
+        balanced (wanted_of day s m) (start_of day s m + all_given day (picked day picks) s m) (all_taken day (picked day picks) s m) (served.ends s m station unit_type) in
         (omega (arith, ints, zero_is), λ free. zero_is)
     place_met (Sigma h comp) there =
         let zero_is : slack_at day picks (Sigma h comp) ≡ pos 0 = sigma_met h comp there in

@@ -33,7 +33,7 @@ use Rattle.price_bound.specs.Slacks.{one_if, handover_slack, is_positive, slack_
 use Rattle.price_bound.proofs.Solving.{LeadWithin, lead_within, second_within, list_picked, part_is, IsPart}
 
 -- a hand-over and a composition have a multiplier
-sigma_there : (day : Day) (h comp : ℕ) → h < length (handovers_of day) → comp < length (compositions_of day)
+pub sigma_there : (day : Day) (h comp : ℕ) → h < length (handovers_of day) → comp < length (compositions_of day)
     → (n : ℕ) × (slice_get (sigmas_of day) n ≡ Some (Sigma h comp))
 unfolding sigmas_of
 sigma_there day h comp there known =

@@ -9,7 +9,7 @@ use Rattle.transitions.proofs.Following.{edges_found}
 use Rattle.price_bound.specs.Following.{IsStep, pick_of}
 
 -- the edge of a step is found between its two picks
-found_by : (day : Day) (graphs : List (List Edge)) (picks : List ℕ) (l from to : ℕ) (link : Link) → AreGraphs day graphs
+pub found_by : (day : Day) (graphs : List (List Edge)) (picks : List ℕ) (l from to : ℕ) (link : Link) → AreGraphs day graphs
     → from ≡ pick_of picks (leads_from link.kind) → to ≡ pick_of picks (leads_to link.kind)
     → (step : IsStep day picks l link) → IsFound graphs l from to step.edge
 found_by day graphs picks l from to link are first last step =

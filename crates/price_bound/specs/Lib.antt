@@ -1,8 +1,10 @@
 -- picks that follow, and the parts of joins and splits
 pub mod Following
 pub mod Near
--- counts, slacks, and where picks are broken
-pub mod Yards
+-- slacks, and where picks are broken
 pub mod Slacks
+pub mod Parts
 -- the relaxation
 pub mod DayMeanings
+-- what settling names
+pub mod Settling

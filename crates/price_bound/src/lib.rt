@@ -3,5 +3,7 @@
 
 pub mod day_bounds;
 mod following;
+mod parts;
+mod settling;
 
 pub use day_bounds::DayBounds;
