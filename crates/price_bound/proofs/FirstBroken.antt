@@ -1,15 +1,13 @@
 -- Where picks are broken first: at a hand-over, else at a fault of the yards.
-use Rattle.std.proofs.Common.{◌≡◌, ◌≢◌, ◌<◌, ◌≤◌, ◌+◌, ℕ, zero, suc, List, ◌++◌, length, get_or, Option, Some, None, Bool, true, false, not, ◌&&◌, ◌==◌, slice_get, unwrap_or, position, ltb, refl, sym, ap, subst, ◌∙◌, arith, ℤ, pos, negsuc, neg_ℤ, ◌-ℤ◌, ◌*ℤ◌, ◌≤ℤ◌, ◌<ℤ◌, int_lt, inl, inr, ◌⊎◌, ⊎_elim}
+use Rattle.std.proofs.Common.{◌≡◌, ◌≢◌, ◌<◌, ◌≤◌, ◌+◌, ℕ, List, ◌++◌, length, get_or, Option, Some, None, Bool, true, false, ◌==◌, slice_get, unwrap_or, position, ltb, refl, sym, ap, subst, ◌∙◌, arith, pos, ◌-ℤ◌, int_lt, inl, inr, ◌⊎◌}
 use Rattle.std.specs.Prelude.{option_map}
 use Rattle.std.specs.List.{position_or_len}
-use Rattle.std.proofs.lemmas.Bool.{cases_eq, cases_lt, cond-true, eq-eqb, ne_eqb, false≢true, lt-ltb}
-use Rattle.std.proofs.lemmas.Int.{ints}
+use Rattle.std.proofs.lemmas.Bool.{cases_eq, cond-true, eq-eqb, ne_eqb, false≢true, lt-ltb}
 use Rattle.std.proofs.lemmas.List.Sums.{position_or_len_is}
 use Rattle.std.proofs.lemmas.Option.{get_or_from_slice_get, slice_get-get_or, slice_get_within}
 use Rattle.timetable.specs.declared.day.indices.Place.{Place}
 use Rattle.timetable.specs.declared.day.indices.Place.TheVariants.{Lambda, Mu, Sigma}
 use Rattle.timetable.specs.declared.day.records.Handover.{Handover}
-use Rattle.timetable.specs.Compositions.{compositions_of}
 use Rattle.timetable.specs.Day.{Day}
 use Rattle.timetable.specs.Handovers.{handovers_of}
 use Rattle.timetable.specs.Indices.{IsLambda, IsPlace, Precedes, lambdas_of, mus_of, sigmas_of, places_of}
@@ -18,7 +16,7 @@ use Rattle.timetable.proofs.Listing.{get_first, get_second}
 use Rattle.timetable.proofs.NamedTrips.{position_some}
 use Rattle.price_bound.specs.Following.{pick_of}
 use Rattle.price_bound.specs.Parts.{HasPart, IsPartAt, Misses, second_pick}
-use Rattle.price_bound.specs.Slacks.{handover_slack, is_none, is_positive, one_if, slack_at}
+use Rattle.price_bound.specs.Slacks.{handover_slack, is_positive, one_if, slack_at}
 use Rattle.price_bound.proofs.Steps.{entry_below}
 use Rattle.price_bound.proofs.Whole.{mu_there}
 
@@ -117,7 +115,7 @@ module _ (day : Day) where
 
 -- ---- the slacks of a hand-over
 
-balanced_at : (part c : ℕ) → one_if (c == part) -ℤ one_if (part == c) ≡ pos 0
+pub balanced_at : (part c : ℕ) → one_if (c == part) -ℤ one_if (part == c) ≡ pos 0
 balanced_at part c = elim (cases_eq c part) [
   | inl e ↦
       ap (λ (b : Bool). one_if b -ℤ one_if (part == c)) (eq-eqb c part e) ∙ ap (λ (b : Bool). one_if true -ℤ one_if b) (eq-eqb part c (sym e))

@@ -8,3 +8,8 @@ mod Whole
 mod PartsFound
 mod FirstBroken
 mod SettledBy
+mod Entering
+mod FewTaken
+mod SlackIndices
+mod PairEntered
+mod CountedOf

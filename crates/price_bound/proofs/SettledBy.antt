@@ -1,19 +1,17 @@
 -- What settling says of picks: where they are broken first, or that they are a solution.
-use Rattle.std.proofs.Common.{◌≡◌, ◌≢◌, ◌<◌, ◌≤◌, ◌+◌, ℕ, zero, suc, List, length, Option, Some, None, Bool, true, false, not, ◌&&◌, ◌==◌, slice_get, unwrap_or, position, refl, sym, ap, subst, ◌∙◌, arith, ℤ, pos, negsuc, neg_ℤ, ◌-ℤ◌, ◌*ℤ◌, ◌≤ℤ◌, ◌<ℤ◌, int_lt, inl, inr, ◌⊎◌, ⊎_elim, if◌then◌else◌}
+use Rattle.std.proofs.Common.{◌≡◌, ◌<◌, ◌≤◌, ◌+◌, ℕ, zero, suc, List, length, Option, Some, None, Bool, true, false, not, ◌&&◌, slice_get, unwrap_or, position, refl, sym, ap, subst, ◌∙◌, arith, ℤ, pos, negsuc, neg_ℤ, ◌-ℤ◌, ◌*ℤ◌, ◌≤ℤ◌, ◌<ℤ◌, int_lt, inl, inr, ⊎_elim, if◌then◌else◌}
 use Rattle.std.specs.Prelude.{option_map}
 use Rattle.std.proofs.lemmas.Bool.{cases_lt, eq-eqb, lt-ltb}
 use Rattle.std.proofs.lemmas.Int.{ints}
-use Rattle.std.proofs.lemmas.Option.{get_or_from_slice_get, slice_get-get_or, slice_get_within}
+use Rattle.std.proofs.lemmas.Option.{slice_get-get_or}
 use Rattle.timetable.specs.declared.day.indices.Place.{Place}
 use Rattle.timetable.specs.declared.day.indices.Place.TheVariants.{Lambda, Mu, Sigma}
 use Rattle.timetable.specs.declared.day.records.Handover.{Handover}
 use Rattle.timetable.specs.declared.day.records.Link.{Link}
 use Rattle.timetable.specs.Compositions.{composition_at}
-use Rattle.timetable.specs.Cost.{cost_of}
 use Rattle.timetable.specs.Day.{Day, wanted_of}
-use Rattle.timetable.specs.Handovers.{handovers_of, second_of}
+use Rattle.timetable.specs.Handovers.{handovers_of}
 use Rattle.timetable.specs.Indices.{IsIndexOf, IsPlace, Precedes, lambdas_of, mus_of, sigmas_of, places_of}
-use Rattle.timetable.specs.Minutes.{minutes_of}
 use Rattle.timetable.specs.Picking.{IsSolution, picked}
 use Rattle.timetable.specs.Turns.{same}
 use Rattle.timetable.proofs.Handovers.{are_handovers}

@@ -8,3 +8,5 @@ pub mod Parts
 pub mod DayMeanings
 -- what settling names
 pub mod Settling
+-- what is entered of the slacks
+pub mod Entered

@@ -3,7 +3,7 @@ use Rattle.std.specs.Prelude.{ℕ, ◌≡◌, ℤ, pos, ◌-ℤ◌}
 use Rattle.timetable.specs.declared.day.indices.Place.{Place}
 use Rattle.timetable.specs.declared.day.indices.Place.TheVariants.{Lambda, Mu}
 use Rattle.timetable.specs.Day.{Day, wanted_of}
-use Rattle.timetable.specs.Indices.{IsIndexOf, IsPlace}
+use Rattle.timetable.specs.Indices.{IsIndexOf}
 use Rattle.inventory.specs.declared.faults.StockFault.{StockFault}
 use Rattle.inventory.specs.declared.faults.StockFault.TheVariants.{Short, Balance}
 use Rattle.branch_tree.specs.declared.relaxation.Settled.{Settled}

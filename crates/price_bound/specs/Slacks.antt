@@ -22,15 +22,16 @@ one_if b = if b then pos 1 else pos 0
 -- whether the part of a hand-over has the types of a composition
 abbrev pub is_part : Day → List ℕ → Handover → ℕ → Bool
 is_part day picks handover comp = unwrap_or (option_map
-    (λ link. same (part_of link (picked day picks)) (composition_at day comp)) (slice_get day.links handover.link)) false
+    (λ link. same (part_of link (picked day picks)) (composition_at day comp))
+    (slice_get day.links handover.link)) false
 
 -- at a hand-over and a composition: 1 where the part has it, less 1 where the second trip has it
 abbrev pub handover_slack : Day → List ℕ → ℕ → Handover → ℤ
 handover_slack day picks comp handover =
     one_if (is_part day picks handover comp) -ℤ one_if (pick_of picks handover.second == comp)
 
--- the slack at what a multiplier belongs to: minus the count after a departure minute; the wanted end count less that of the
--- picks; at a hand-over the part against the second trip
+-- the slack at what a multiplier belongs to: minus the count after a departure minute; the wanted end count less that
+-- of the picks; at a hand-over the part against the second trip
 abbrev pub slack_at : Day → List ℕ → Place → ℤ
 slack_at day picks (Lambda s m k) = neg_ℤ (count_of_place day (picked day picks) s m k)
 slack_at day picks (Mu s m) = pos (wanted_of day s m) -ℤ last_of day (picked day picks) s m

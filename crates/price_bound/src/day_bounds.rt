@@ -10,8 +10,8 @@ use std::marker::Model;
 use timetable::{Instance, Picks};
 use transitions::Graphs;
 
-/// A day with its edges, and the room in which choices of compositions and their counts are looked at. A contract sees the
-/// day.
+/// A day with its edges, and the room in which choices of compositions and their counts are looked at. A contract sees
+/// the day.
 #[derive(Drop)]
 pub struct DayBounds<'a> {
     instance: &'a Instance,

@@ -43,7 +43,8 @@ fn may_run(instance: &Instance, trip: TripNo, comp: CompNo) -> bool
 fn all_step(instance: &Instance, graphs: &Graphs, picks: &Picks) -> bool
     requires graphs { AreGraphs instance.now graphs.now }
     requires picks { length picks.now ≡ length instance.now.trips }
-    ensures { IsTrue result ↔ ((l : ℕ) (link : Link) → slice_get instance.now.links l ≡ Some link → IsStep instance.now picks.now l link) }
+    ensures { IsTrue result ↔ ((l : ℕ) (link : Link) → slice_get instance.now.links l ≡ Some link →
+        IsStep instance.now picks.now l link) }
 {
     for link in 0..instance.links() {
         if !is_step(instance, graphs, picks, LinkNo(link)) {
@@ -58,7 +59,8 @@ fn is_step(instance: &Instance, graphs: &Graphs, picks: &Picks, link: LinkNo) ->
     requires graphs { AreGraphs instance.now graphs.now }
     requires picks { length picks.now ≡ length instance.now.trips }
     requires link { link < length instance.now.links }
-    ensures { (at : Link) → slice_get instance.now.links link ≡ Some at → IsTrue result ↔ IsStep instance.now picks.now link at }
+    ensures { (at : Link) → slice_get instance.now.links link ≡ Some at →
+        IsTrue result ↔ IsStep instance.now picks.now link at }
 {
     let kind = &instance.link(link).kind;
     let from = picks.get(kind.leads_from());

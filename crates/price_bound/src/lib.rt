@@ -5,5 +5,6 @@ pub mod day_bounds;
 mod following;
 mod parts;
 mod settling;
+mod slacks;
 
 pub use day_bounds::DayBounds;

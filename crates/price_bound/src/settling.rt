@@ -16,9 +16,9 @@ use inventory::{Ledger, StockFault};
 use timetable::{Instance, Picks, Place};
 use transitions::Graphs;
 
-/// Whether picks that follow are a solution, and its cost; else an index at which they have a slack, and its sign: that of the
-/// first hand-over whose second trip misses the part, and of the part; or that of the first fault of the yards. The ledger is
-/// one of the day. It takes no memory.
+/// Whether picks that follow are a solution, and its cost; else an index at which they have a slack, and its sign: that
+/// of the first hand-over whose second trip misses the part, and of the part; or that of the first fault of the yards.
+/// The ledger is one of the day. It takes no memory.
 pub(crate) fn settle(
     instance: &Instance,
     graphs: &Graphs,

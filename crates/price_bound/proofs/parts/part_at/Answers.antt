@@ -1,5 +1,5 @@
 -- The edge of the link is that of its step, and has a part.
-use Rattle.std.proofs.Common.{◌≡◌, Some, sym, ◌∙◌, None}
+use Rattle.std.proofs.Common.{sym, ◌∙◌}
 use Rattle.price_bound.proofs.PartsFound.{edge_is, part_there, some_part}
 use Rattle.price_bound.proofs.parts.part_at.Goals as goal
 
