@@ -51,4 +51,4 @@ pub returns-in-None-clause-settled : goal.returns-in-None-clause-settled
 returns-in-None-clause-settled c =
     let none : NoneMissed c.args.instance.now c.args.picks.now = missed_is c.args.instance.now c.args.picks.now c.first_missed.result None c.first_missed.ensures c.in_default.is in
     let fault = fault_is c.args.instance.now c.args.ledger.now.day c.args.picks.now c.load.new.self c.first_fault.result c.requires.ledger c.load.ensures c.first_fault.ensures None c.in-None.is in
-    (solution c.args.instance.now c.args.picks.now c.requires.accepted c.requires.follow none fault, sym c.cost.ensures)
+    (solution c.args.instance.now c.args.picks.now c.requires.accepted c.requires.follow none fault, sym c.cost.ensures.cost)
