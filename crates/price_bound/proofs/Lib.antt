@@ -13,3 +13,5 @@ mod FewTaken
 mod SlackIndices
 mod PairEntered
 mod CountedOf
+mod Places
+mod Parting

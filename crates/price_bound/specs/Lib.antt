@@ -6,6 +6,8 @@ pub mod Slacks
 pub mod Parts
 -- the relaxation
 pub mod DayMeanings
+-- choices of compositions, one after another
+pub mod Choices
 -- what settling names
 pub mod Settling
 -- what is entered of the slacks

@@ -3,7 +3,9 @@
 
 pub mod day_bounds;
 mod following;
+mod nearness;
 mod parts;
+mod questions;
 mod settling;
 mod slacks;
 
