@@ -15,3 +15,4 @@ mod PairEntered
 mod CountedOf
 mod Places
 mod Parting
+mod Pricing

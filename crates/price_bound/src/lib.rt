@@ -5,6 +5,7 @@ pub mod day_bounds;
 mod following;
 mod nearness;
 mod parts;
+mod prices;
 mod questions;
 mod settling;
 mod slacks;
