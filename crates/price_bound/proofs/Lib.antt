@@ -13,6 +13,8 @@ mod FewTaken
 mod SlackIndices
 mod PairEntered
 mod CountedOf
+mod Looking
 mod Places
+mod Choosing
 mod Parting
 mod Pricing

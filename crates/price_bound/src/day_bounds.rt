@@ -1,10 +1,17 @@
 //! A day as a relaxation.
 
 ghost use Rattle.std.specs.Prelude.{◌≡◌, ◌≤◌, IfOk, length};
+ghost use Rattle.branch_tree.specs.Bounds.{IsBound};
+ghost use Rattle.branch_tree.specs.Meanings.{DoFitFor};
 ghost use Rattle.transitions.specs.Edges.{AreGraphs};
+ghost use Rattle.price_bound.specs.Choices.{answer_of};
+ghost use Rattle.price_bound.specs.DayMeanings.{meanings_of, trips_by_chain};
 
+use crate::choices::look;
+use crate::questions::Question;
+use branch_tree::{BoundAnswer, Multipliers, Region, Weight};
 use inventory::Ledger;
-use rail_base::NoMemory;
+use rail_base::{Money, NoMemory, TripNo};
 use std::alloc::Global;
 use std::marker::Model;
 use timetable::{Instance, Picks};
@@ -17,19 +24,20 @@ pub struct DayBounds<'a> {
     instance: &'a Instance,
     graphs: &'a Graphs,
     ledger: Ledger<'a>,
+    order: Vec<TripNo>,
     choice: Picks,
 }
 
 impl<'a> Model for DayBounds<'a> {
     ghost use Rattle.std.specs.Prelude.{◌≡◌, length};
     ghost use Rattle.timetable.specs.Day.{Day};
-    ghost use Rattle.price_bound.specs.DayMeanings.{IsWorkedOn};
+    ghost use Rattle.price_bound.specs.DayMeanings.{IsWorkedOn, trips_by_chain};
 
     ghost Value = { Day };
 
     ghost view = { λ a. a.instance.now };
 
-    ghost invariant = { λ a. IsWorkedOn a.instance.now a.graphs.now a.ledger a.choice };
+    ghost invariant = { λ a. IsWorkedOn a.instance.now a.graphs.now a.ledger a.choice × (a.order.items ≡ trips_by_chain a.instance.now) };
 }
 
 impl<'a> DayBounds<'a> {
@@ -43,6 +51,7 @@ impl<'a> DayBounds<'a> {
         ensures { IfOk result (λ bounds. bounds ≡ instance.now) }
     {
         let ledger = Ledger::new(alloc, instance)?;
+        let order = trips_by_chain(alloc, instance)?;
         let choice = Picks::new(alloc, instance.trips())?;
         let _links = instance.links();
         let _units = instance.units();
@@ -50,7 +59,58 @@ impl<'a> DayBounds<'a> {
             instance,
             graphs,
             ledger,
+            order,
             choice,
         })
     }
+
+    /// The same as `bound` of the relaxation, found by looking at every choice of compositions in the order in which choices
+    /// are compared. Its time grows with the number of choices of the region, and it is there for tests to compare with. It
+    /// takes no memory. The region and `best` have a set and a pick for each trip.
+    pub fn bound_by_choices(
+        &mut self,
+        region: &Region,
+        multipliers: &Multipliers,
+        weight: Weight,
+        best: &mut Picks,
+    ) -> BoundAnswer
+        requires fit { DoFitFor (meanings_of self.old) multipliers.now }
+        requires region { length region.now ≡ length self.old.trips }
+        requires best { length best.old ≡ length self.old.trips }
+        ensures same { self.new ≡ self.old }
+        ensures bound { IsBound (meanings_of self.old) region.now multipliers.now weight result best.old best.new }
+    {
+        let question = Question {
+            instance: self.instance,
+            graphs: self.graphs,
+            order: &self.order,
+            region,
+            multipliers,
+            weight,
+        };
+        let found = look(&question, 0, None, &mut self.choice, &mut self.ledger, best);
+        answer_of(found)
+    }
+}
+
+/// The answer of a bound: the value that was found, if there is one.
+fn answer_of(found: Option<Money>) -> BoundAnswer
+    ensures { result ≡ answer_of found }
+{
+    match found {
+        Some(value) => BoundAnswer::Value(value),
+        None => BoundAnswer::Empty,
+    }
+}
+
+/// The trips of a day chain by chain, each from its first trip on. The error is want of memory.
+#[tactic(auto, unfolding(crate::specs::DayMeanings::trips_by_chain))]
+fn trips_by_chain(alloc: Global, instance: &Instance) -> Result<Vec<TripNo>, NoMemory>
+    ensures { IfOk result (λ order. order.items ≡ trips_by_chain instance.now) }
+{
+    let mut order = Vec::new(alloc);
+    for chain in 0..instance.chains() {
+        order.extend_from_slice(instance.chain(chain))?;
+    }
+    Ok(order)
 }

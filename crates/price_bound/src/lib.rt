@@ -1,6 +1,7 @@
 //! The bounds of a day: the least priced value of the picks that are near a region, and what picks that follow lack.
 #![tactic(auto)]
 
+mod choices;
 pub mod day_bounds;
 mod following;
 mod nearness;
