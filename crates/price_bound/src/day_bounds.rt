@@ -2,14 +2,18 @@
 
 ghost use Rattle.std.specs.Prelude.{◌≡◌, ◌≤◌, IfOk, length};
 ghost use Rattle.branch_tree.specs.Bounds.{IsBound};
-ghost use Rattle.branch_tree.specs.Meanings.{DoFitFor};
+ghost use Rattle.branch_tree.specs.Meanings.{DoFitFor, IsRelaxation};
 ghost use Rattle.transitions.specs.Edges.{AreGraphs};
 ghost use Rattle.price_bound.specs.Choices.{answer_of};
 ghost use Rattle.price_bound.specs.DayMeanings.{meanings_of, trips_by_chain};
 
 use crate::choices::look;
+use crate::following::follow;
 use crate::questions::Question;
-use branch_tree::{BoundAnswer, Multipliers, Region, Weight};
+use crate::settling::settle;
+use crate::slacks::put_slacks;
+use branch_tree::{BoundAnswer, Multipliers, Region, Relaxation, Settled, Slacks, Weight};
+use compositions::Catalogue;
 use inventory::Ledger;
 use rail_base::{Money, NoMemory, TripNo};
 use std::alloc::Global;
@@ -91,6 +95,56 @@ impl<'a> DayBounds<'a> {
         let found = look(&question, 0, None, &mut self.choice, &mut self.ledger, best);
         answer_of(found)
     }
+}
+
+impl<'a> Relaxation for DayBounds<'a> {
+    type Problem = Instance;
+
+    ghost problem = { λ bounds. bounds };
+
+    ghost meanings = { meanings_of };
+
+    ghost IsAccepted = { λ day. IsRelaxation (meanings_of day) };
+
+    fn trips(&self) -> u32 {
+        self.instance.trips()
+    }
+
+    fn indices(&self) -> u32 {
+        self.instance.indices()
+    }
+
+    fn free_from(&self) -> u32 {
+        self.instance.free_from()
+    }
+
+    fn catalogue(&self) -> &Catalogue {
+        self.instance.catalogue()
+    }
+
+    fn bound(
+        &mut self,
+        region: &Region,
+        multipliers: &Multipliers,
+        weight: Weight,
+        best: &mut Picks,
+    ) -> BoundAnswer {
+        self.bound_by_choices(region, multipliers, weight, best)
+    }
+
+    fn follows(&self, picks: &Picks) -> bool {
+        follow(self.instance, self.graphs, picks)
+    }
+
+    fn settle(&mut self, picks: &Picks) -> Settled {
+        settle(self.instance, self.graphs, &mut self.ledger, picks)
+    }
+
+    fn slacks(&mut self, picks: &Picks, into: &mut Slacks) {
+        put_slacks(self.instance, self.graphs, &mut self.ledger, picks, into)
+    }
+
+    ghost relaxes = { λ day relaxed. relaxed };
 }
 
 /// The answer of a bound: the value that was found, if there is one.
