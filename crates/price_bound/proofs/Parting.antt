@@ -1,10 +1,9 @@
 -- The parts of hand-overs, where picks follow, and whether a region has them.
-use Rattle.std.proofs.Common.{◌≡◌, ◌<◌, ◌↔◌, ℕ, List, length, Option, Some, Bool, true, false, ◌==◌, All, Contains, IsTrue, slice_get, get_or, unwrap_or, refl, sym, ap, subst, ◌∙◌, arith, ℤ, pos, ◌-ℤ◌}
+use Rattle.std.proofs.Common.{◌≡◌, ◌<◌, ◌↔◌, ℕ, List, length, Option, Some, Bool, true, false, All, IsTrue, slice_get, get_or, unwrap_or, refl, sym, ap, subst, ◌∙◌, arith}
 use Rattle.std.specs.Prelude.{option_map}
 use Rattle.std.proofs.lemmas.Bool.{eq-eqb, eqb-true}
 use Rattle.std.proofs.lemmas.List.Elements.{All-contains, All-from_get_or, All-get_or}
 use Rattle.std.proofs.lemmas.Slice.Eq.{bytes_eq-Decides}
-use Rattle.timetable.specs.declared.day.indices.Place.TheVariants.{Sigma}
 use Rattle.timetable.specs.declared.day.records.Handover.{Handover}
 use Rattle.timetable.specs.declared.day.records.Link.{Link}
 use Rattle.timetable.specs.Compositions.{composition_at, compositions_of}
@@ -16,10 +15,10 @@ use Rattle.timetable.proofs.Handovers.{are_handovers}
 use Rattle.timetable.proofs.Shares.{same_lists}
 use Rattle.branch_tree.specs.Regions.{are_in, has}
 use Rattle.price_bound.specs.Choices.{HasPartOf}
-use Rattle.price_bound.specs.Following.{Follow, part_of, pick_of}
-use Rattle.price_bound.specs.Near.{AreNear, LieIn}
-use Rattle.price_bound.specs.Parts.{IsPartAt, second_pick}
-use Rattle.price_bound.specs.Slacks.{handover_slack, is_part, one_if, slack_at}
+use Rattle.price_bound.specs.Following.{Follow, part_of}
+use Rattle.price_bound.specs.Near.{AreNear}
+use Rattle.price_bound.specs.Parts.{IsPartAt}
+use Rattle.price_bound.specs.Slacks.{is_part}
 
 -- picks that follow are compositions of the day
 pub picks_known : (day : Day) (picks : List ℕ) → Follow day picks → ArePicks day picks

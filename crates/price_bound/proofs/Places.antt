@@ -1,8 +1,8 @@
 -- The places of the trips in the order in which picks are compared.
-use Rattle.std.proofs.Common.{◌≡◌, ◌≢◌, ℕ, zero, suc, ◌+◌, ◌<◌, ◌≤◌, List, [], ◌∷◌, length, map, get_or, set, ltb, true, ◌⊎◌, inl, inr, ⊎_elim, IsTrue, refl, sym, ◌∙◌, ap, subst, arith, if◌then◌else◌}
+use Rattle.std.proofs.Common.{◌≡◌, ◌≢◌, ℕ, zero, suc, ◌<◌, ◌≤◌, List, [], ◌∷◌, length, map, get_or, set, true, ⊎_elim, refl, sym, ◌∙◌, ap, arith, if◌then◌else◌}
 use Rattle.std.specs.Prelude.{◌==◌, ◌&&◌, ◌||◌, nat_lt}
 use Rattle.std.proofs.lemmas.Bool.{cases_lt, cases_eq, lt-ltb, eq-eqb, le-ltb, or_right}
-use Rattle.std.proofs.lemmas.List.{ext_get_or, get_or-set_same, get_or-set_other}
+use Rattle.std.proofs.lemmas.List.{ext_get_or, get_or-set_other}
 use Rattle.compositions.specs.Catalogue.{is_lower}
 use Rattle.timetable.specs.Day.{Day}
 use Rattle.timetable.specs.Lists.{count_of}

@@ -1,5 +1,7 @@
--- Looking at choices of compositions one after another: what is asked, what was found before some are looked at, and what then.
-use Rattle.std.specs.Prelude.{ℕ, ◌≡◌, ◌<◌, ⊤, List, length, get_or, Bool, ◌⊎◌, Option, Some, None, slice_get, ℤ, ◌≤ℤ◌, ◌<ℤ◌}
+-- Looking at choices of compositions one after another: what is asked, what was found before some are looked at, and
+-- what is found then.
+use Rattle.std.specs.Prelude.{ℕ, ◌≡◌, ◌<◌, ⊤, List, length, get_or, Bool, ◌⊎◌, Option, Some, None, slice_get}
+use Rattle.std.specs.Prelude.{ℤ, ◌≤ℤ◌, ◌<ℤ◌}
 use Rattle.rail_base.specs.declared.numbers.Money.{Money}
 use Rattle.timetable.specs.declared.day.records.Handover.{Handover}
 use Rattle.timetable.specs.declared.day.records.Link.{Link}
@@ -44,7 +46,8 @@ HasPartOf region day picks handover = (link : Link) → slice_get day.links hand
 
 -- the picks have the same compositions as others for the first so many trips of an order
 abbrev pub Agree : List ℕ → ℕ → List ℕ → List ℕ → Type 0
-Agree order places picks others = (i : ℕ) → i < places → pick_of picks (get_or order i 0) ≡ pick_of others (get_or order i 0)
+Agree order places picks others = (i : ℕ) → i < places →
+    pick_of picks (get_or order i 0) ≡ pick_of others (get_or order i 0)
 
 -- a value is lower than what was found, if something was
 abbrev pub IsLower : ℤ → Option Money → Type 0
@@ -64,7 +67,8 @@ pub record Stays (asked : Asked) (Among : List ℕ → Type 0) (old : Option Mon
   pub reached : (picks : List ℕ) → AreNear asked.day picks asked.region → Among picks →
       IsReached (value_of asked picks) old
 
--- a lower value is found: that of the first of these picks that are near, by their values and then by their compositions
+-- a lower value is found: that of the first of these picks that are near, by their values and then by their
+-- compositions
 pub record IsFound (asked : Asked) (Among : List ℕ → Type 0) (old new : Option Money) (best : List ℕ) : Type 0 where
   pub value : Money
   pub is : new ≡ Some value

@@ -11,9 +11,9 @@ use inventory::Ledger;
 use rail_base::{CompNo, Money, TripNo};
 use timetable::Picks;
 
-/// Looks at all choices that have the compositions of `choice` for the trips before a place of the order, in the order of
-/// their compositions, and keeps the first of least value in `best`, if that is lower than what was found before. The answer
-/// is what is found then. The choice keeps its compositions for the trips before the place.
+/// Looks at all choices that have the compositions of `choice` for the trips before a place of the order, in the order
+/// of their compositions, and keeps the first of least value in `best`, if that is lower than what was found before.
+/// The answer is what is found then. The choice keeps its compositions for the trips before the place.
 pub(crate) fn look(
     question: &Question<'_>,
     place: usize,
@@ -46,8 +46,8 @@ pub(crate) fn look(
     found
 }
 
-/// Keeps a choice in `best` if it is near the region and its value is lower than what was found before. The answer is what is
-/// found then.
+/// Keeps a choice in `best` if it is near the region and its value is lower than what was found before. The answer is
+/// what is found then.
 fn weigh(
     question: &Question<'_>,
     before: Option<Money>,

@@ -35,13 +35,13 @@ pub struct DayBounds<'a> {
 impl<'a> Model for DayBounds<'a> {
     ghost use Rattle.std.specs.Prelude.{◌≡◌, length};
     ghost use Rattle.timetable.specs.Day.{Day};
-    ghost use Rattle.price_bound.specs.DayMeanings.{IsWorkedOn, trips_by_chain};
+    ghost use Rattle.price_bound.specs.DayMeanings.{IsWorkedOn};
 
     ghost Value = { Day };
 
     ghost view = { λ a. a.instance.now };
 
-    ghost invariant = { λ a. IsWorkedOn a.instance.now a.graphs.now a.ledger a.choice × (a.order.items ≡ trips_by_chain a.instance.now) };
+    ghost invariant = { λ a. IsWorkedOn a.instance.now a.graphs.now a.ledger a.order.items a.choice };
 }
 
 impl<'a> DayBounds<'a> {
@@ -68,9 +68,9 @@ impl<'a> DayBounds<'a> {
         })
     }
 
-    /// The same as `bound` of the relaxation, found by looking at every choice of compositions in the order in which choices
-    /// are compared. Its time grows with the number of choices of the region, and it is there for tests to compare with. It
-    /// takes no memory. The region and `best` have a set and a pick for each trip.
+    /// The same as `bound` of the relaxation, found by looking at every choice of compositions in the order in which
+    /// choices are compared. Its time grows with the number of choices of the region, and it is there for tests to
+    /// compare with. It takes no memory. The region and `best` have a set and a pick for each trip.
     pub fn bound_by_choices(
         &mut self,
         region: &Region,

@@ -35,8 +35,8 @@ fn have_parts(question: &Question<'_>, picks: &Picks) -> bool
     true
 }
 
-/// Whether the region has the part of a hand-over for its second trip, where picks follow. The hand-over is below the number
-/// of hand-overs.
+/// Whether the region has the part of a hand-over for its second trip, where picks follow. The hand-over is below the
+/// number of hand-overs.
 fn has_part(question: &Question<'_>, picks: &Picks, handover: u32) -> bool
     requires follow { Follow question.now.day picks.now }
     requires handover { handover < length (handovers_of question.now.day) }

@@ -20,8 +20,8 @@ use rail_base::limits::{MOST_ENTRIES, MOST_MULTIPLIER};
 use rail_base::{CompNo, Money};
 use timetable::{Picks, Place};
 
-/// The priced value of picks that follow, under the multipliers and the weight that are asked about. The picks are loaded
-/// into the ledger of the day.
+/// The priced value of picks that follow, under the multipliers and the weight that are asked about. The picks are
+/// loaded into the ledger of the day.
 pub(crate) fn price(question: &Question<'_>, picks: &Picks, ledger: &mut Ledger<'_>) -> Money
     requires follow { Follow question.now.day picks.now }
     requires ledger { ledger.old.day ≡ question.now.day }

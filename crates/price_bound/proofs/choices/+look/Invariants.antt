@@ -1,4 +1,4 @@
-use Rattle.std.proofs.Common.{ℕ, ◌≡◌, ◌<◌, ◌-◌, List, length, get_or}
+use Rattle.std.proofs.Common.{◌≡◌, ◌<◌, ◌-◌, length, get_or}
 use Rattle.price_bound.specs.Choices.{Agree, AreLookedAt}
 use Rattle.price_bound.specs.DayMeanings.{trips_by_chain}
 use Rattle.price_bound.specs.Following.{pick_of}

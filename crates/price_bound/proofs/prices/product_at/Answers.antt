@@ -1,11 +1,10 @@
-use Rattle.std.proofs.Common.{◌≡◌, ◌≤◌, ◌*◌, ◌^◌, ℕ, Some, slice_get, ℤ, ◌*ℤ◌, FitsSigned, sym, ap, subst, ◌∙◌}
+use Rattle.std.proofs.Common.{◌≡◌, ◌≤◌, ◌*◌, ◌^◌, Some, slice_get, ℤ, ◌*ℤ◌, FitsSigned, sym, ap, subst, ◌∙◌}
 use Rattle.std.specs.Int.{w128}
 use Rattle.std.specs.Prelude.{unsigned_abs}
 use Rattle.rail_base.specs.declared.limits.TheConstants.{MOST_MULTIPLIER}
 use Rattle.timetable.specs.Day.{Day}
 use Rattle.timetable.specs.Indices.{places_of}
 use Rattle.price_bound.specs.Choices.{Asked}
-use Rattle.price_bound.specs.Slacks.{slack_of}
 use Rattle.price_bound.proofs.Pricing.{factors_are, product_fits, product_is, size_of_product, slack_by_place}
 use Rattle.price_bound.proofs.prices.product_at.Goals as goal
 

@@ -1,5 +1,5 @@
 -- The sum so far, and its size.
-use Rattle.std.proofs.Common.{ℕ, ◌≡◌, ◌≤◌, ◌*◌, ◌^◌, take, ◌*ℤ◌}
+use Rattle.std.proofs.Common.{◌≡◌, ◌≤◌, ◌*◌, ◌^◌, take, ◌*ℤ◌}
 use Rattle.std.specs.Prelude.{unsigned_abs}
 use Rattle.rail_base.specs.declared.limits.TheConstants.{MOST_MULTIPLIER}
 use Rattle.branch_tree.specs.IntSums.{int_sum}

@@ -7,5 +7,5 @@ use Rattle.price_bound.proofs.day_bounds.DayBoundsRelaxation.trips.Goals as goal
 
 pub returns-clause-accepted : goal.returns-clause-accepted
 returns-clause-accepted c =
-    let accepted : IsAccepted c.args.self.now = subst (λ (day : Day). IsAccepted day) c.self.view_is c.self.invariant.0.accepted in
+    let accepted : IsAccepted c.args.self.now = subst (λ (day : Day). IsAccepted day) c.self.view_is c.self.invariant.accepted in
     relaxes c.args.self.now accepted
