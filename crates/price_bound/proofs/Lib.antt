@@ -18,3 +18,4 @@ mod Places
 mod Choosing
 mod Parting
 mod Pricing
+mod Planned

@@ -41,7 +41,7 @@ list_made : {X : Type 0} (f : X → List ℕ) (xs : List X) (t : ℕ) (d : X) �
 unfolding list_of
 list_made f xs t d below = ap (λ (o : Option (List ℕ)). unwrap_or o []) (slice_get-map f xs t ∙ ap (option_map f) (slice_get-get_or xs t d below))
 
-list_read : (plan : List (List ℕ)) (t : ℕ) → t < length plan → list_of plan t ≡ get_or plan t []
+pub list_read : (plan : List (List ℕ)) (t : ℕ) → t < length plan → list_of plan t ≡ get_or plan t []
 unfolding list_of
 list_read plan t below = ap (λ (o : Option (List ℕ)). unwrap_or o []) (slice_get-get_or plan t [] below)
 

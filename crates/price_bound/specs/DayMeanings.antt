@@ -7,7 +7,7 @@ use Rattle.timetable.specs.Cost.{cost_of}
 use Rattle.timetable.specs.Day.{Day}
 use Rattle.timetable.specs.Indices.{lambdas_of, places_of}
 use Rattle.timetable.specs.Picking.{IsSolution, picked}
-use Rattle.branch_tree.specs.Meanings.{Meanings}
+use Rattle.branch_tree.specs.Meanings.{IsRelaxation, Meanings}
 use Rattle.inventory.specs.Loaded.{Loaded}
 use Rattle.transitions.specs.declared.edge.Edge.{Edge}
 use Rattle.transitions.specs.Edges.{AreGraphs}
@@ -45,6 +45,10 @@ pub record IsAccepted (day : Day) : Type 0 where
   pub sound : IsDay day
   pub links : AreLinks day
   pub stocked : IsStocked day
+
+-- Every accepted day is a relaxation of its solutions.
+abbrev pub DaysAreRelaxations : Type 0
+DaysAreRelaxations = (day : Day) → IsAccepted day → IsRelaxation (meanings_of day)
 
 -- what is kept while a day is worked on: its edges, a ledger of its yards, its trips by chain, and room for a pick of each
 -- trip

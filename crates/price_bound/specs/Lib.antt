@@ -12,3 +12,5 @@ pub mod Choices
 pub mod Settling
 -- what is entered of the slacks
 pub mod Entered
+-- plans of named units
+pub mod PlanBounds

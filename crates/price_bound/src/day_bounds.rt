@@ -69,8 +69,8 @@ impl<'a> DayBounds<'a> {
     }
 
     /// The same as `bound` of the relaxation, found by looking at every choice of compositions in the order in which
-    /// choices are compared. Its time grows with the number of choices of the region, and it is there for tests to
-    /// compare with. It takes no memory. The region and `best` have a set and a pick for each trip.
+    /// choices are compared. Its time grows with the number of choices of the region: it is the plain way, with which
+    /// a faster one can be compared. It takes no memory. The region and `best` have a set and a pick for each trip.
     pub fn bound_by_choices(
         &mut self,
         region: &Region,

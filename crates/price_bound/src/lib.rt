@@ -4,6 +4,7 @@
 mod choices;
 pub mod day_bounds;
 mod following;
+pub mod laws;
 mod nearness;
 mod parts;
 mod prices;
