@@ -7,6 +7,12 @@ space = 32
 abbrev pub line_feed : ℕ
 line_feed = 10
 
+abbrev pub colon : ℕ
+colon = 58
+
+abbrev pub minus : ℕ
+minus = 45
+
 -- words, each after a space
 abbrev pub after_spaces : List (List ℕ) → List ℕ
 after_spaces [] = []

@@ -2,6 +2,8 @@
 use Rattle.std.specs.Prelude.{ℕ, ℤ, pos, neg_ℤ, List, [], ◌∷◌, length, Bool, true, false, not, ◌&&◌, ◌==◌, nat_le, nat_lt, slice_index, if◌then◌else◌, Option, Some, None}
 use Rattle.std.specs.Str.{all_ascii_digits}
 use Rattle.std.specs.Str.Parse.{digits_value}
+use Rattle.answer_text.specs.declared.limits.TheConstants.{MOST_DIGITS}
+use Rattle.answer_text.specs.Lines.{minus}
 
 -- one step, and then the next where it gave a value
 infixl 10 ◌>>=◌
@@ -9,17 +11,13 @@ abbrev pub ◌>>=◌ : {A B : Type 0} → Option A → (A → Option B) → Opti
 (Some x) >>= next = next x
 None >>= next = None
 
--- digits of the greatest number of a document
-abbrev pub most_digits : ℕ
-most_digits = 21
-
 -- a word begins with 0 and goes on
 abbrev pub has_leading_zero : List ℕ → Bool
 has_leading_zero word = (slice_index word 0 == 48) && nat_lt 1 (length word)
 
 -- 1 to 21 digits, of which the first is 0 only where it is alone
 abbrev pub is_number : List ℕ → Bool
-is_number word = nat_le 1 (length word) && nat_le (length word) most_digits
+is_number word = nat_le 1 (length word) && nat_le (length word) MOST_DIGITS
     && not (has_leading_zero word) && all_ascii_digits word
 
 -- a number up to a limit
@@ -34,7 +32,7 @@ signed_of negative size = if negative then neg_ℤ (pos size) else pos size
 unfoldable pub signed_in : ℕ → List ℕ → Option ℤ
 signed_in most [] = None
 signed_in most (byte ∷ word) =
-    if byte == 45
+    if byte == minus
     then (number_in most word >>= λ size. if size == 0 then None else Some (signed_of true size))
     else (number_in most (byte ∷ word) >>= λ size. Some (signed_of false size))
 
@@ -42,7 +40,7 @@ signed_in most (byte ∷ word) =
 unfoldable pub nonzero_in : ℕ → List ℕ → Option ℤ
 nonzero_in most [] = None
 nonzero_in most (byte ∷ word) =
-    if byte == 45
+    if byte == minus
     then (number_in most word >>= λ size. if size == 0 then None else Some (signed_of true size))
     else (number_in most (byte ∷ word) >>= λ size. if size == 0 then None else Some (signed_of false size))
 

@@ -1,5 +1,6 @@
 -- Bytes as pieces between marks: a document as lines, and a line as words.
 use Rattle.std.specs.Prelude.{ℕ, ◌≡◌, List, [], ◌∷◌, ◌==◌, if◌then◌else◌}
+use Rattle.answer_text.specs.Lines.{space}
 
 -- pieces with one more byte at the front of the first
 abbrev pub with_byte : ℕ → List (List ℕ) → List (List ℕ)
@@ -22,8 +23,8 @@ IsFirst mark all piece rest = all ≡ piece ∷ pieces_after mark rest
 
 -- the words of a line
 abbrev pub words_of : List ℕ → List (List ℕ)
-words_of line = pieces 32 line
+words_of line = pieces space line
 
 -- the words that follow a word
 abbrev pub words_after : List ℕ → List (List ℕ)
-words_after rest = pieces_after 32 rest
+words_after rest = pieces_after space rest

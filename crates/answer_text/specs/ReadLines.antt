@@ -10,6 +10,7 @@ use Rattle.branch_tree.specs.declared.tree.Node.TheVariants.{Branch, CostLeaf, R
 use Rattle.answer_text.specs.declared.answer.Head.{Head}
 use Rattle.answer_text.specs.declared.answer.Head.TheVariants.{Optimal, Infeasible, Bounded, BoundedPlan}
 use Rattle.answer_text.specs.declared.limits.TheConstants.{MOST_AMOUNT, MOST_INDEX}
+use Rattle.answer_text.specs.Lines.{colon}
 use Rattle.answer_text.specs.Pieces.{pieces}
 use Rattle.answer_text.specs.Numbers.{◌>>=◌, number_in, nonzero_in, next_number, next_signed, at_end}
 
@@ -98,7 +99,7 @@ entry_in (index ∷ more) = entry_of index more
 -- the next word as an entry, and the words after it
 unfoldable pub next_entry : List (List ℕ) → Option (Entry × List (List ℕ))
 next_entry [] = None
-next_entry (word ∷ words) = entry_in (pieces 58 word) >>= λ entry. Some (entry, words)
+next_entry (word ∷ words) = entry_in (pieces colon word) >>= λ entry. Some (entry, words)
 
 -- all indices are below this one
 abbrev pub AreBelow : ℕ → List Entry → Type 0

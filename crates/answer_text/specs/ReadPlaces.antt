@@ -8,6 +8,7 @@ use Rattle.answer_text.specs.declared.answer.Head.{Head}
 use Rattle.answer_text.specs.declared.refusal.AnswerRefusal.{AnswerRefusal}
 use Rattle.answer_text.specs.declared.refusal.AnswerRefusal.TheVariants.{BadLine, MissingEnd, Trailing, TooManyNodes}
 use Rattle.answer_text.specs.Limits.{has_plan}
+use Rattle.answer_text.specs.Lines.{line_feed}
 use Rattle.answer_text.specs.Numbers.{◌>>=◌}
 use Rattle.answer_text.specs.Pieces.{pieces, words_of}
 use Rattle.answer_text.specs.ReadLines.{head_in, branchings_in, run_in, node_in}
@@ -95,9 +96,13 @@ whole answer number after =
     if length answer.tree == 0 then Err (BadLine number)
     else if length after == 0 then Ok answer else Err (Trailing (number + 1))
 
+-- bytes have no line of a number, and why
+abbrev pub HasNone : ℕ → List ℕ → AnswerRefusal → Type 0
+HasNone number bytes refusal = line_in number (pieces line_feed bytes) ≡ Err refusal
+
 -- bytes begin with the line of a number, and then come others
 abbrev pub IsNext : ℕ → List ℕ → List ℕ → List ℕ → Type 0
-IsNext number bytes line rest = line_in number (pieces 10 bytes) ≡ Ok (line, pieces 10 rest)
+IsNext number bytes line rest = line_in number (pieces line_feed bytes) ≡ Ok (line, pieces line_feed rest)
 
 -- one line, and then what is next
 abbrev pub going_on : Option Place → AnswerRefusal → (Place → Result Answer AnswerRefusal) → Result Answer AnswerRefusal
@@ -113,4 +118,4 @@ reading place (line ∷ next ∷ rest) =
 
 -- what becomes of a document
 abbrev pub answer_in : List ℕ → Result Answer AnswerRefusal
-answer_in bytes = reading at_title (pieces 10 bytes)
+answer_in bytes = reading at_title (pieces line_feed bytes)

@@ -9,7 +9,7 @@ use Rattle.branch_tree.specs.declared.tree.Node.TheVariants.{Branch, CostLeaf, R
 use Rattle.answer_text.specs.declared.answer.Answer.{Answer}
 use Rattle.answer_text.specs.declared.answer.Head.{Head}
 use Rattle.answer_text.specs.declared.answer.Head.TheVariants.{Optimal, Infeasible, Bounded, BoundedPlan}
-use Rattle.answer_text.specs.Lines.{after_spaces, line_feed, spaced, text_of_lines}
+use Rattle.answer_text.specs.Lines.{after_spaces, colon, line_feed, spaced, text_of_lines}
 
 abbrev pub title_line : List ℕ
 title_line = codes "railplan answer 1"
@@ -37,7 +37,7 @@ run_words trip units = codes "run" ∷ decimal trip ∷ map decimal units
 
 -- an index and its value, with a colon between
 abbrev pub entry_word : Entry → List ℕ
-entry_word entry = decimal entry.index ++ (58 ∷ signed_decimal entry.value)
+entry_word entry = decimal entry.index ++ (colon ∷ signed_decimal entry.value)
 
 -- how many entries there are, and the entries
 abbrev pub entries_words : List Entry → List (List ℕ)

@@ -1,6 +1,7 @@
 //! What the node lines say.
 
 ghost use Rattle.std.specs.Prelude.{◌≡◌, ◌≢◌, ◌<◌, ◌≤◌, [], ◌∷◌, ◌++◌, length, pos, unsigned_abs, IfOk, option_map};
+ghost use Rattle.answer_text.specs.Lines.{colon};
 ghost use Rattle.answer_text.specs.Pieces.{pieces, words_after, words_of};
 ghost use Rattle.answer_text.specs.ReadLines.{AreBelow, cost_in, counted_in, empty_in, entries_in, entry_in, most_in, next_entry, node_in, only_in, ray_in};
 ghost use Rattle.rail_base.specs.declared.limits.TheConstants.{MOST_MULTIPLIER};
@@ -171,7 +172,7 @@ fn next_entry(rest: &[u8]) -> Option<(Entry, &[u8])>
 /// The entry that a word says: an index and a value with a colon between.
 #[tactic(auto, unfolding(crate::specs::ReadLines::entry_in, crate::specs::ReadLines::entry_of))]
 fn entry_in(word: &[u8]) -> Option<Entry>
-    ensures { result ≡ entry_in (pieces 58 word.now) }
+    ensures { result ≡ entry_in (pieces colon word.now) }
 {
     let (index, rest) = first_piece(b':', word);
     let (value, rest) = next_piece(b':', rest)?;

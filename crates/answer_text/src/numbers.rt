@@ -4,15 +4,12 @@ ghost use Rattle.std.specs.Prelude.{◌≡◌, ◌≤◌, ◌==◌, length, Some
 ghost use Rattle.std.specs.Str.{all_ascii_digits};
 ghost use Rattle.std.specs.Str.Parse.{digits_value};
 ghost use Rattle.answer_text.specs.Pieces.{words_after};
-ghost use Rattle.answer_text.specs.Numbers.{has_leading_zero, most_digits, next_number, next_signed, nonzero_in, number_in, signed_in, signed_of};
+ghost use Rattle.answer_text.specs.Numbers.{has_leading_zero, next_number, next_signed, nonzero_in, number_in, signed_in, signed_of};
 
-use crate::limits::MOST_AMOUNT;
+use crate::limits::{MOST_AMOUNT, MOST_DIGITS};
 use crate::pieces::next_piece;
 use rail_base::Money;
 use rail_base::limits::MOST_MULTIPLIER;
-
-/// Digits of the greatest number of a document.
-const MOST_DIGITS: usize = 21;
 
 /// The next word as a number up to a limit, and what follows it.
 #[tactic(auto, unfolding(crate::specs::Numbers::next_number))]
@@ -134,7 +131,7 @@ fn has_leading_zero(word: &[u8]) -> bool
 
 /// The number that a word of at most 21 digits spells, where it has digits alone.
 fn digits_value(word: &[u8]) -> Option<u128>
-    requires { length word.now ≤ most_digits }
+    requires { length word.now ≤ MOST_DIGITS }
     ensures { result ≡ if all_ascii_digits word.now then Some (digits_value 10 word.now) else None }
 {
     let mut value = 0u128;

@@ -6,8 +6,9 @@ ghost use Rattle.rail_base.specs.Answers.{Gives, Unless};
 ghost use Rattle.answer_text.specs.declared.answer.Answer.{Answer};
 ghost use Rattle.answer_text.specs.declared.refusal.AnswerRefusal.{AnswerRefusal};
 ghost use Rattle.answer_text.specs.Grammar.{IsRefused, IsText, is_memory};
+ghost use Rattle.answer_text.specs.Lines.{line_feed};
 ghost use Rattle.answer_text.specs.Pieces.{pieces};
-ghost use Rattle.answer_text.specs.ReadPlaces.{at_branchings, at_head, at_nodes, at_runs, at_title, IsNext, line_in, most_runs, reading, whole};
+ghost use Rattle.answer_text.specs.ReadPlaces.{at_branchings, at_head, at_nodes, at_runs, at_title, HasNone, IsNext, most_runs, reading, whole};
 
 use crate::answer::{Answer, Head, Runs};
 use crate::lines::{branchings_in, head_in, run_in};
@@ -36,7 +37,7 @@ pub fn read(alloc: Global, bytes: &[u8]) -> Result<Answer, AnswerRefusal>
 
 /// The answer whose text these bytes are, line by line.
 fn read_from_title(alloc: Global, bytes: &[u8]) -> Result<Answer, AnswerRefusal>
-    ensures { Gives is_memory result (reading at_title (pieces 10 bytes.now)) }
+    ensures { Gives is_memory result (reading at_title (pieces line_feed bytes.now)) }
 {
     let (line, rest) = cut_line(1, bytes)?;
     if !is_line(line, b"railplan answer 1") {
@@ -47,7 +48,7 @@ fn read_from_title(alloc: Global, bytes: &[u8]) -> Result<Answer, AnswerRefusal>
 
 /// The answer whose text goes on with the head line.
 fn read_from_head(alloc: Global, bytes: &[u8]) -> Result<Answer, AnswerRefusal>
-    ensures { Gives is_memory result (reading at_head (pieces 10 bytes.now)) }
+    ensures { Gives is_memory result (reading at_head (pieces line_feed bytes.now)) }
 {
     let (line, rest) = cut_line(2, bytes)?;
     let Some(head) = head_in(line) else {
@@ -58,7 +59,7 @@ fn read_from_head(alloc: Global, bytes: &[u8]) -> Result<Answer, AnswerRefusal>
 
 /// The answer whose text goes on with the number of branchings.
 fn read_from_branchings(alloc: Global, head: Head, bytes: &[u8]) -> Result<Answer, AnswerRefusal>
-    ensures { Gives is_memory result (reading (at_branchings head) (pieces 10 bytes.now)) }
+    ensures { Gives is_memory result (reading (at_branchings head) (pieces line_feed bytes.now)) }
 {
     let (line, rest) = cut_line(3, bytes)?;
     let Some(branchings) = branchings_in(line) else {
@@ -74,7 +75,7 @@ fn read_from_runs(
     branchings: u32,
     bytes: &[u8],
 ) -> Result<Answer, AnswerRefusal>
-    ensures { Gives is_memory result (reading (at_runs head branchings []) (pieces 10 bytes.now)) }
+    ensures { Gives is_memory result (reading (at_runs head branchings []) (pieces line_feed bytes.now)) }
 {
     let most = most_runs(&head);
     let mut runs = Vec::new(alloc);
@@ -106,7 +107,7 @@ fn read_from_nodes(
     bytes: &[u8],
 ) -> Result<Answer, AnswerRefusal>
     requires { length runs ≤ MOST_TRIPS }
-    ensures { Gives is_memory result (reading (at_nodes head branchings runs []) (pieces 10 bytes.now)) }
+    ensures { Gives is_memory result (reading (at_nodes head branchings runs []) (pieces line_feed bytes.now)) }
 {
     let first = 5 + runs.items().len() as u32;
     let mut tree = Tree::new(alloc)?;
@@ -158,7 +159,7 @@ fn most_runs(head: &Head) -> usize
 
 /// The next line, which has this number, and what follows it.
 fn cut_line(number: u32, bytes: &[u8]) -> Result<(&[u8], &[u8]), AnswerRefusal>
-    ensures { MatchResult result (λ x. IsNext number bytes.now x.0.now x.1.now) (λ e. line_in number (pieces 10 bytes.now) ≡ Err e) }
+    ensures { MatchResult result (λ x. IsNext number bytes.now x.0.now x.1.now) (λ e. HasNone number bytes.now e) }
 {
     if bytes.is_empty() {
         return Err(AnswerRefusal::MissingEnd);
