@@ -8,7 +8,7 @@ use Rattle.timetable.proofs.Shares.{count_of-append}
 use Rattle.timetable.proofs.WholeChains.{are_chains}
 use Rattle.price_bound.specs.DayMeanings.{IsAccepted, one_after_another, trips_by_chain}
 
-count_joined : (t : ℕ) (lists : List (List ℕ)) → count_of t (one_after_another lists) ≡ times_in lists t
+pub count_joined : (t : ℕ) (lists : List (List ℕ)) → count_of t (one_after_another lists) ≡ times_in lists t
 count_joined t [] = refl
 count_joined t (list ∷ lists) = count_of-append t list (one_after_another lists) ∙ ap (λ n. count_of t list + n) (count_joined t lists)
 

@@ -14,3 +14,21 @@ pub mod Settling
 pub mod Entered
 -- plans of named units
 pub mod PlanBounds
+-- the priced value, regrouped over trips and links
+pub mod IntBelow
+pub mod YardPrices
+pub mod Regrouped
+-- changed costs
+pub mod Changes
+-- cheapest paths along a chain, and what they come to on a day
+pub mod Paths
+pub mod EdgeValues
+pub mod ChainStages
+pub mod FirstPaths
+-- how they are found: tables of prices, and rows of cells
+pub mod CellSizes
+pub mod PriceTables
+pub mod CellRows
+pub mod Pricing
+pub mod Rooms
+pub mod ChangedDays

@@ -84,7 +84,7 @@ fn is_lower(value: Money, found: Option<Money>) -> bool
 }
 
 /// Copies picks over others of as many trips.
-fn copy_picks(to: &mut Picks, from: &Picks)
+pub(crate) fn copy_picks(to: &mut Picks, from: &Picks)
     requires { length to.old ≡ length from.now }
     ensures { to.new ≡ from.now }
 {

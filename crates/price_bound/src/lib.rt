@@ -1,15 +1,24 @@
 //! The bounds of a day: the least priced value of the picks that are near a region, and what picks that follow lack.
 #![tactic(auto)]
 
+mod amounts;
+mod cells;
+mod chain_rows;
+pub mod changes;
 mod choices;
 pub mod day_bounds;
 mod following;
 pub mod laws;
 mod nearness;
 mod parts;
+mod price_tables;
+mod priced;
 mod prices;
 mod questions;
 mod settling;
 mod slacks;
+mod workspaces;
+mod worths;
 
+pub use changes::Change;
 pub use day_bounds::DayBounds;

@@ -1,0 +1,185 @@
+-- Amounts in a table that is added to: in the rows and the column that it is added to they are more by it, and else they stay.
+use Rattle.std.proofs.Common.{◌≡◌, ◌≢◌, ℕ, zero, suc, ◌+◌, ◌*◌, ◌^◌, ◌-◌, ◌<◌, ◌≤◌, List, [], ◌∷◌, length, set, get_or, replicate, map, Bool, true, false, ◌&&◌, refl, sym, ap, ◌∙◌, subst, arith, ℤ, pos, negsuc, ◌+ℤ◌, neg_ℤ, inl, inr, length-set, unsigned_abs}
+use Rattle.std.specs.Prelude.{◌==◌, if◌then◌else◌, min}
+use Rattle.std.specs.Int.{saturate_to_bits}
+use Rattle.std.proofs.lemmas.Bool.{cases_eq, eq-eqb, ne_eqb}
+use Rattle.std.proofs.lemmas.Int.{ints}
+use Rattle.std.proofs.lemmas.List.{get_or-replicate, get_or-set_same, get_or-set_other, length-map, length-replicate}
+use Rattle.branch_tree.specs.IntSums.{int_sum}
+use Rattle.inventory.specs.CountTable.{changed_at, changed_in, plus}
+use Rattle.price_bound.specs.CellSizes.{IsSmall}
+use Rattle.price_bound.specs.PriceTables.{HasSize, amount_at, cleared_table, with_amounts}
+
+-- ---- sizes of numbers
+
+pub small_sum : (a b : ℕ) (x y : ℤ) → IsSmall a x → IsSmall b y → IsSmall (a + b) (x +ℤ y)
+small_sum a b x y p q = record { above = omega (arith, ints, p.above, q.above); below = omega (arith, ints, p.below, q.below) }
+
+pub small_neg : (a : ℕ) (x : ℤ) → IsSmall a x → IsSmall a (neg_ℤ x)
+small_neg a x p = record { above = omega (arith, ints, p.below); below = omega (arith, ints, p.above) }
+
+pub small_zero : (a : ℕ) → IsSmall a (pos 0)
+small_zero a = record { above = omega (arith, ints); below = omega (arith, ints) }
+
+pub small_more : (a b : ℕ) (x : ℤ) → a ≤ b → IsSmall a x → IsSmall b x
+small_more a b x le p = record { above = omega (arith, ints, le, p.above); below = omega (arith, ints, le, p.below) }
+
+pub small_by_size : (a : ℕ) (x : ℤ) → unsigned_abs x ≤ a → IsSmall a x
+small_by_size a (pos n) le = record { above = omega (arith, ints); below = omega (arith, ints, le) }
+small_by_size a (negsuc n) le = record { above = omega (arith, ints, le); below = omega (arith, ints) }
+
+plus_is : (x y : ℤ) → IsSmall 4000000000000000000 (x +ℤ y) → plus x y ≡ x +ℤ y
+plus_is x y small = of_sum (x +ℤ y) small
+  where
+    of_sum : (z : ℤ) → IsSmall 4000000000000000000 z → saturate_to_bits 63 z ≡ z
+    of_sum (pos n) small = (let le = small.below in let least : min n (2 ^ 63 - 1) ≡ n = omega (arith, ints) in ap pos least)
+    of_sum (negsuc n) small = (let le = small.above in let least : min n (2 ^ 63 - 1) ≡ n = omega (arith, ints) in ap negsuc least)
+
+-- ---- one amount changed
+
+module _ (rows columns : ℕ) (table : List (List ℤ)) (size : HasSize rows columns table) (r0 c0 : ℕ) (x : ℤ) where
+  abbrev row : List ℤ
+  row = changed_at c0 x (get_or table r0 [])
+
+  row_here : (r : ℕ) → r < rows → r0 ≡ r → get_or (changed_in r0 c0 x table) r [] ≡ changed_at c0 x (get_or table r [])
+  row_here r below same = subst (λ (k : ℕ). get_or (set table r0 row) k [] ≡ changed_at c0 x (get_or table k [])) same
+      (get_or-set_same table r0 row [] (omega (arith, below, same, size.height)))
+
+  row_other : (r : ℕ) → r0 ≢ r → get_or (changed_in r0 c0 x table) r [] ≡ get_or table r []
+  row_other r differ = get_or-set_other table r0 r row [] (λ e. differ (sym e))
+
+  pub changed_size : HasSize rows columns (changed_in r0 c0 x table)
+  changed_size = record {
+    height = length-set table r0 row ∙ size.height;
+    widths = λ r below. elim (cases_eq r0 r) [
+      | inl same ↦ ap length (row_here r below same) ∙ length-set (get_or table r []) c0 (plus (get_or (get_or table r []) c0 (pos 0)) x) ∙ size.widths r below
+      | inr differ ↦ ap length (row_other r differ) ∙ size.widths r below
+    ];
+  }
+
+  module _ (r c : ℕ) (r_below : r < rows) (c_below : c < columns) where
+    pub changed_here : r0 ≡ r → c ≡ c0 → amount_at (changed_in r0 c0 x table) r c ≡ plus (amount_at table r c) x
+    changed_here same_row same =
+        ap (λ (ms : List ℤ). get_or ms c (pos 0)) (row_here r r_below same_row)
+        ∙ subst (λ (k : ℕ). get_or (changed_at c0 x (get_or table r [])) k (pos 0) ≡ plus (amount_at table r k) x) (sym same)
+        (get_or-set_same (get_or table r []) c0 (plus (get_or (get_or table r []) c0 (pos 0)) x) (pos 0) (omega (arith, c_below, same, size.widths r r_below)))
+
+    other_column : r0 ≡ r → c ≢ c0 → amount_at (changed_in r0 c0 x table) r c ≡ amount_at table r c
+    other_column same_row differ =
+        ap (λ (ms : List ℤ). get_or ms c (pos 0)) (row_here r r_below same_row)
+        ∙ get_or-set_other (get_or table r []) c0 c (plus (get_or (get_or table r []) c0 (pos 0)) x) (pos 0) differ
+
+    other_row : r0 ≢ r → amount_at (changed_in r0 c0 x table) r c ≡ amount_at table r c
+    other_row differ = ap (λ (ms : List ℤ). get_or ms c (pos 0)) (row_other r differ)
+
+    none_more : (a b : ℤ) → b ≡ pos 0 → a ≡ a +ℤ b
+    none_more a b e = omega (arith, ints, e)
+
+    module _ (small : IsSmall 2000000000000000000 (amount_at table r c)) (small_x : IsSmall 2000000000000000000 x) where
+      in_row : r0 ≡ r → amount_at (changed_in r0 c0 x table) r c ≡ amount_at table r c +ℤ (if c == c0 then x else pos 0)
+      in_row same_row = elim (cases_eq c c0) [
+        | inl same ↦
+            changed_here same_row same ∙ plus_is (amount_at table r c) x (small_more (2000000000000000000 + 2000000000000000000) 4000000000000000000 (amount_at table r c +ℤ x) (omega arith)
+            (small_sum 2000000000000000000 2000000000000000000 (amount_at table r c) x small small_x))
+            ∙ ap (λ (b : Bool). amount_at table r c +ℤ (if b then x else pos 0)) (sym (eq-eqb c c0 same))
+        | inr differ ↦
+            other_column same_row differ ∙ none_more (amount_at table r c) (if c == c0 then x else pos 0) (ap (λ (b : Bool). if b then x else pos 0) (ne_eqb c c0 differ))
+      ]
+
+      pub changed_amount : amount_at (changed_in r0 c0 x table) r c ≡ amount_at table r c +ℤ (if (r0 == r) && (c == c0) then x else pos 0)
+      changed_amount = elim (cases_eq r0 r) [
+        | inl same ↦ in_row same ∙ ap (λ (b : Bool). amount_at table r c +ℤ (if b && (c == c0) then x else pos 0)) (sym (eq-eqb r0 r same))
+        | inr differ ↦ other_row differ ∙ none_more (amount_at table r c) (if (r0 == r) && (c == c0) then x else pos 0)
+            (ap (λ (b : Bool). if b && (c == c0) then x else pos 0) (ne_eqb r0 r differ))
+      ]
+
+-- ---- an amount in each row that passes a test
+
+module _ (rows columns : ℕ) (table : List (List ℤ)) (size : HasSize rows columns table) (test : ℕ → Bool) (c0 : ℕ) (x : ℤ) where
+  abbrev after : ℕ → List (List ℤ)
+  after n = with_amounts test c0 x n table
+
+  tested_size : (n : ℕ) (b : Bool) → HasSize rows columns (after n) → HasSize rows columns (if b then changed_in n c0 x (after n) else after n)
+  tested_size n true is = changed_size rows columns (after n) is n c0 x
+  tested_size n false is = is
+
+  pub amounts_size : (n : ℕ) → HasSize rows columns (after n)
+  amounts_size zero = size
+  amounts_size (suc n) = tested_size n (test n) (amounts_size n)
+
+  module _ (r c : ℕ) (r_below : r < rows) (c_below : c < columns) (small : IsSmall 2000000000000000000 (amount_at table r c)) (small_x : IsSmall 2000000000000000000 x) where
+    not_yet : (n : ℕ) (b : Bool) → n ≢ r → amount_at (after n) r c ≡ amount_at table r c → amount_at (if b then changed_in n c0 x (after n) else after n) r c ≡ amount_at table r c
+    not_yet n true differ is = other_row rows columns (after n) (amounts_size n) n c0 x r c r_below c_below differ ∙ is
+    not_yet n false differ is = is
+
+    -- rows that are not come to yet stay
+    stays : (n : ℕ) → n ≤ r → amount_at (after n) r c ≡ amount_at table r c
+    stays zero le = refl
+    stays (suc n) le = not_yet n (test n) (λ e. absurd (omega (arith, le, e))) (stays n (omega (arith, le)))
+
+    at_row : (n : ℕ) → n ≡ r → amount_at (after (suc n)) r c ≡ amount_at table r c +ℤ (if test r then (if c == c0 then x else pos 0) else pos 0)
+    at_row n same = by_test (test n) (test r) (ap test same)
+      where
+        before : amount_at (after n) r c ≡ amount_at table r c
+        before = stays n (omega (arith, same))
+
+        none_there : (a : ℤ) → a ≡ a +ℤ pos 0
+        none_there a = omega (arith, ints)
+
+        by_test : (b b' : Bool) → b ≡ b' → amount_at (if b then changed_in n c0 x (after n) else after n) r c ≡ amount_at table r c +ℤ (if b' then (if c == c0 then x else pos 0) else pos 0)
+        by_test true true e =
+            in_row rows columns (after n) (amounts_size n) n c0 x r c r_below c_below (subst (IsSmall 2000000000000000000) (sym before) small) small_x same
+            ∙ ap (λ (v : ℤ). v +ℤ (if c == c0 then x else pos 0)) before
+        by_test false false e = before ∙ none_there (amount_at table r c)
+        by_test true false e = absurd cc
+        by_test false true e = absurd cc
+
+    pub amounts_added : (n : ℕ) → r < n → amount_at (after n) r c ≡ amount_at table r c +ℤ (if test r then (if c == c0 then x else pos 0) else pos 0)
+    amounts_added zero lt = absurd (omega (arith, lt))
+    amounts_added (suc n) lt = elim (cases_eq n r) [
+      | inl same ↦ at_row n same
+      | inr differ ↦ by_test n (test n) (λ e. differ e) (amounts_added n (omega (arith, lt, differ)))
+    ]
+      where
+        by_test : (n : ℕ) (b : Bool) → n ≢ r → amount_at (after n) r c ≡ amount_at table r c +ℤ (if test r then (if c == c0 then x else pos 0) else pos 0)
+            → amount_at (if b then changed_in n c0 x (after n) else after n) r c ≡ amount_at table r c +ℤ (if test r then (if c == c0 then x else pos 0) else pos 0)
+        by_test n true differ is = other_row rows columns (after n) (amounts_size n) n c0 x r c r_below c_below differ ∙ is
+        by_test n false differ is = is
+
+-- ---- a cleared table
+
+row_zero : (xs : List ℤ) (c : ℕ) → get_or (map (λ _. pos 0) xs) c (pos 0) ≡ pos 0
+row_zero [] c = refl
+row_zero (x ∷ xs) zero = refl
+row_zero (x ∷ xs) (suc c) = row_zero xs c
+
+cleared_row : (table : List (List ℤ)) (r : ℕ) → get_or (cleared_table table) r [] ≡ map (λ _. pos 0) (get_or table r [])
+cleared_row [] r = refl
+cleared_row (xs ∷ table) zero = refl
+cleared_row (xs ∷ table) (suc r) = cleared_row table r
+
+pub cleared_amount : (table : List (List ℤ)) (r c : ℕ) → amount_at (cleared_table table) r c ≡ pos 0
+cleared_amount table r c = ap (λ (xs : List ℤ). get_or xs c (pos 0)) (cleared_row table r) ∙ row_zero (get_or table r []) c
+
+pub cleared_size : (rows columns : ℕ) (table : List (List ℤ)) → HasSize rows columns table → HasSize rows columns (cleared_table table)
+cleared_size rows columns table size = record {
+  height = length-map table (map (λ _. pos 0)) ∙ size.height;
+  widths = λ r below. ap length (cleared_row table r) ∙ length-map (get_or table r []) (λ _. pos 0) ∙ size.widths r below;
+}
+
+pub zeros_size : (rows columns : ℕ) → HasSize rows columns (replicate rows (replicate columns (pos 0)))
+zeros_size rows columns = record {
+  height = length-replicate rows (replicate columns (pos 0));
+  widths = λ r below. ap length (get_or-replicate rows r (replicate columns (pos 0)) [] below) ∙ length-replicate columns (pos 0);
+}
+
+-- ---- sums stay small
+
+pub sum_small : {X : Type 0} (f : X → ℤ) (bound : ℕ) (xs : List X) → ((k : ℕ) (d : X) → k < length xs → IsSmall bound (f (get_or xs k d))) → IsSmall (length xs * bound) (int_sum f xs)
+sum_small f bound [] each = small_zero (0 * bound)
+sum_small f bound (x ∷ xs) each =
+    small_more (bound + length xs * bound) (suc (length xs) * bound) (f x +ℤ int_sum f xs) (next (length xs) bound)
+    (small_sum bound (length xs * bound) (f x) (int_sum f xs) (each 0 x (omega arith)) (sum_small f bound xs (λ k d lt. each (suc k) d (omega (arith, lt)))))
+  where
+    next : (n b : ℕ) → b + n * b ≤ suc n * b
+    next n b = grind arith

@@ -1,0 +1,67 @@
+-- What changes add, change by change, is what they add trip by trip.
+use Rattle.std.proofs.Common.{◌≡◌, ◌≢◌, ℕ, zero, suc, ◌+◌, ◌<◌, ◌≤◌, List, [], ◌∷◌, length, refl, sym, ap, ◌∙◌, subst, arith, inl, inr}
+use Rattle.std.proofs.Common.{Bool, true, false, cond, eqb}
+use Rattle.std.specs.Prelude.{◌==◌, if◌then◌else◌}
+use Rattle.std.specs.List.{All, AllPairs}
+use Rattle.std.proofs.lemmas.Bool.{cases_eq, eq-eqb, ne_eqb}
+use Rattle.std.proofs.lemmas.List.Elements.{All-head, All-tail}
+use Rattle.timetable.specs.Lists.{sum_below}
+use Rattle.timetable.proofs.Sums.{sum_add, sum_one_more, sum_same, sum_zero}
+use Rattle.price_bound.specs.declared.changes.Change.{Change}
+use Rattle.price_bound.specs.ChangedDays.{added_cost}
+use Rattle.price_bound.specs.Changes.{change_cost}
+use Rattle.price_bound.specs.Following.{pick_of}
+
+-- trips before all changes have none
+no_change : (changes : List Change) (t comp : ℕ) → All (λ change. t < change.trip) changes → change_cost changes t comp ≡ 0
+no_change [] t comp later = refl
+no_change (change ∷ changes) t comp later =
+    let less : t < change.trip = All-head (λ (c : Change). t < c.trip) change changes later in
+    let differ : eqb change.trip t ≡ false = ne_eqb change.trip t (λ e. absurd (omega (arith, e, less))) in
+    ap (λ (b : Bool). cond b (cond (eqb change.base comp) 0 change.cost) (change_cost changes t comp)) differ
+    ∙ no_change changes t comp (All-tail (λ (c : Change). t < c.trip) change changes later)
+
+later_all : (change : Change) (changes : List Change) → AllPairs (λ a b. a.trip < b.trip) (change ∷ changes)
+    → All (λ c. change.trip < c.trip) changes
+later_all change changes rising k d lt = rising 0 (suc k) d (omega arith) (omega (arith, lt))
+
+rest_rising : (change : Change) (changes : List Change) → AllPairs (λ a b. a.trip < b.trip) (change ∷ changes)
+    → AllPairs (λ a b. a.trip < b.trip) changes
+rest_rising change changes rising i j d lt below = rising (suc i) (suc j) d (omega (arith, lt)) (omega (arith, below))
+
+module _ (change : Change) (changes : List Change) (picks : List ℕ) (rising : AllPairs (λ a b. a.trip < b.trip) (change ∷ changes)) where
+  abbrev whole : ℕ → ℕ
+  whole t = change_cost (change ∷ changes) t (pick_of picks t)
+
+  abbrev rest : ℕ → ℕ
+  rest t = change_cost changes t (pick_of picks t)
+
+  abbrev first : ℕ
+  first = if change.base == pick_of picks change.trip then 0 else change.cost
+
+  at_first : whole change.trip ≡ rest change.trip + first
+  at_first =
+      let itself : eqb change.trip change.trip ≡ true = eq-eqb change.trip change.trip refl in
+      let here : whole change.trip ≡ first = ap (λ (b : Bool). cond b first (rest change.trip)) itself in
+      let none : rest change.trip ≡ 0 = no_change changes change.trip (pick_of picks change.trip) (later_all change changes rising) in
+      here ∙ sum first (rest change.trip) none
+    where
+      sum : (n m : ℕ) → m ≡ 0 → n ≡ m + n
+      sum n m e = omega (arith, e)
+
+  elsewhere : (t : ℕ) → t ≢ change.trip → whole t ≡ rest t
+  elsewhere t differ =
+      let apart : eqb change.trip t ≡ false = ne_eqb change.trip t (λ e. differ (sym e)) in
+      ap (λ (b : Bool). cond b (cond (eqb change.base (pick_of picks t)) 0 change.cost) (rest t)) apart
+
+  one_change : (n : ℕ) → change.trip < n → sum_below whole n ≡ sum_below rest n + first
+  one_change n below = sum_one_more whole rest change.trip first n below at_first elsewhere
+
+pub added_by_trips : (changes : List Change) (picks : List ℕ) (n : ℕ) → AllPairs (λ a b. a.trip < b.trip) changes
+    → All (λ change. change.trip < n) changes
+    → sum_below (λ t. change_cost changes t (pick_of picks t)) n ≡ added_cost changes picks
+added_by_trips [] picks n rising below = sum_zero (λ _. 0) n (λ k lt. refl)
+added_by_trips (change ∷ changes) picks n rising below =
+    let more = one_change change changes picks rising n (All-head (λ (c : Change). c.trip < n) change changes below) in
+    let others = added_by_trips changes picks n (rest_rising change changes rising) (All-tail (λ (c : Change). c.trip < n) change changes below) in
+    omega (arith, more, others)

@@ -1,0 +1,76 @@
+-- Sums over the units of a list, read off the tables of prices.
+use Rattle.std.proofs.Common.{◌≡◌, ℕ, ◌-◌, ◌<◌, ◌≤◌, List, [], ◌∷◌, length, get_or, true, refl, sym, ap, ◌∙◌, subst, arith, ℤ, pos, ◌+ℤ◌, ◌-ℤ◌, length-take, length-drop}
+use Rattle.std.specs.Prelude.{nat_lt}
+use Rattle.std.specs.List.{All}
+use Rattle.std.proofs.lemmas.Bool.{and_parts, ltb-true}
+use Rattle.std.proofs.lemmas.Int.{ints}
+use Rattle.std.proofs.lemmas.List.Elements.{All-nil, All-cons, All-head, All-tail, All-take, All-drop}
+use Rattle.compositions.specs.declared.types.UnitType.{UnitType}
+use Rattle.compositions.specs.Composition.{are_types}
+use Rattle.rail_csv.specs.declared.rows.End.{End}
+use Rattle.rail_csv.specs.declared.rows.End.TheVariants as at
+use Rattle.timetable.specs.Day.{Day, from_of, leaves, to_of}
+use Rattle.inventory.specs.Counts.{ready_at}
+use Rattle.branch_tree.specs.declared.multipliers.Entry.{Entry}
+use Rattle.branch_tree.specs.Entries.{AreMultipliers}
+use Rattle.branch_tree.specs.IntSums.{int_sum}
+use Rattle.price_bound.specs.declared.price_tables.PriceTables.{PriceTables}
+use Rattle.price_bound.specs.EdgeValues.{stayed}
+use Rattle.price_bound.specs.PriceTables.{ArePrices}
+use Rattle.price_bound.specs.CellSizes.{IsSmall}
+use Rattle.price_bound.specs.YardPrices.{giving, taking, yard_price}
+use Rattle.price_bound.proofs.Filling.{are_few, yard_small}
+
+-- the types of a composition are below the number of types
+pub types_below : (types : List UnitType) (ms : List ℕ) → are_types types ms ≡ true → All (λ m. m < length types) ms
+types_below types [] known = All-nil (λ m. m < length types)
+types_below types (m ∷ ms) known =
+    let both = and_parts (nat_lt m (length types)) (are_types types ms) known in
+    All-cons (λ m. m < length types) m ms (ltb-true m (length types) both.0) (types_below types ms both.1)
+
+-- so are those that stayed
+pub stayed_below : (n : ℕ) (end : End) (units : ℕ) (ms : List ℕ) → All (λ m. m < n) ms → All (λ m. m < n) (stayed end units ms)
+stayed_below n at.None units ms known = known
+stayed_below n at.Rear units ms known = All-take (λ m. m < n) (length ms - units) ms known
+stayed_below n at.Front units ms known = All-drop (λ m. m < n) units ms known
+
+pub stayed_few : (end : End) (units : ℕ) (ms : List ℕ) (most : ℕ) → length ms ≤ most → length (stayed end units ms) ≤ most
+stayed_few at.None units ms most few = few
+stayed_few at.Rear units ms most few = omega (arith, few, length-take (length ms - units) ms)
+stayed_few at.Front units ms most few = omega (arith, few, length-drop units ms)
+
+sums_on : (f g : ℕ → ℤ) (n : ℕ) (ms : List ℕ) → ((m : ℕ) → m < n → f m ≡ g m) → All (λ m. m < n) ms → int_sum f ms ≡ int_sum g ms
+sums_on f g n [] each known = refl
+sums_on f g n (m ∷ ms) each known =
+    ap (λ (v : ℤ). v +ℤ int_sum f ms) (each m (All-head (λ k. k < n) m ms known))
+    ∙ ap (λ (v : ℤ). g m +ℤ v) (sums_on f g n ms each (All-tail (λ k. k < n) m ms known))
+
+module _ (day : Day) (entries : List Entry) (tables : PriceTables) (prices : ArePrices day entries tables) (t : ℕ) (below : t < length day.trips) where
+  pub taking_is : (ms : List ℕ) → All (λ m. m < length day.types) ms → int_sum (λ m. get_or (get_or tables.takes t []) m (pos 0)) ms ≡ taking day entries t ms
+  taking_is ms known = sums_on (λ m. get_or (get_or tables.takes t []) m (pos 0)) (yard_price day entries (from_of day t) (leaves day t)) (length day.types) ms
+      (λ m lt. prices.takes t m below lt) known
+
+  pub giving_is : (ms : List ℕ) → All (λ m. m < length day.types) ms → int_sum (λ m. get_or (get_or tables.gives t []) m (pos 0)) ms ≡ giving day entries t ms
+  giving_is ms known = sums_on (λ m. get_or (get_or tables.gives t []) m (pos 0)) (yard_price day entries (to_of day t) (ready_at day t)) (length day.types) ms
+      (λ m lt. prices.gives t m below lt) known
+
+  module _ (multipliers : AreMultipliers entries) where
+    pub takes_small : (m : ℕ) → m < length (get_or tables.takes t []) → IsSmall 1000000000000000 (get_or (get_or tables.takes t []) m (pos 0))
+    takes_small m lt =
+        subst (IsSmall 1000000000000000) (sym (prices.takes t m below (omega (arith, lt, prices.sized.takes.widths t below))))
+        (yard_small day entries (from_of day t) (leaves day t) m (are_few day entries multipliers))
+
+    pub gives_small : (m : ℕ) → m < length (get_or tables.gives t []) → IsSmall 1000000000000000 (get_or (get_or tables.gives t []) m (pos 0))
+    gives_small m lt =
+        subst (IsSmall 1000000000000000) (sym (prices.gives t m below (omega (arith, lt, prices.sized.gives.widths t below))))
+        (yard_small day entries (to_of day t) (ready_at day t) m (are_few day entries multipliers))
+
+-- what a turn adds is small, by its parts
+pub turn_small : (cost takes takes_less gives gives_less taken given charged whole : ℤ) → IsSmall 1000000000000 cost
+    → IsSmall 6000000000000000 takes → IsSmall 6000000000000000 takes_less → IsSmall 6000000000000000 gives
+    → IsSmall 6000000000000000 gives_less → taken ≡ takes -ℤ takes_less → given ≡ gives -ℤ gives_less
+    → charged ≡ cost +ℤ taken → whole ≡ charged -ℤ given → IsSmall 30000000000000000 whole
+turn_small cost takes takes_less gives gives_less taken given charged whole p q r s t e f g h = record {
+  above = omega (arith, ints, p.above, q.above, r.below, s.below, t.above, e, f, g, h);
+  below = omega (arith, ints, p.below, q.below, r.above, s.above, t.below, e, f, g, h);
+}

@@ -1,0 +1,14 @@
+-- The rows are those that were made.
+use Rattle.std.proofs.Common.{◌≡◌, ◌++◌, ◌*◌, ℕ, [], List, Option, length, drop, get_or, sym, ap, subst, arith}
+use Rattle.std.proofs.lemmas.List.{take_at}
+use Rattle.price_bound.specs.declared.cells.Cell.{Cell}
+use Rattle.price_bound.specs.CellSizes.{AreSmallCells}
+use Rattle.price_bound.proofs.chain_rows.ChainRows.fill.Goals as goal
+
+pub returns-clause-small : goal.returns-clause-small
+returns-clause-small c =
+    let long : length c.fill_rows.new.rows ≡ c.self.inside.rows.len =
+    omega (arith, c.fill_rows.ensures.room.height, c.requires.room.height, ap length c.self.view_is, c.deref_mut.ensures.len) in
+    subst (λ (rows : List (List (Option Cell))). AreSmallCells (length c.args.chain.now * 50000000000000000) (get_or rows 0 []))
+    (sym (take_at c.fill_rows.new.rows (drop (length c.fill_rows.new.rows) c.self.inside.rows.items) c.self.inside.rows.len long))
+    c.fill_rows.ensures.small

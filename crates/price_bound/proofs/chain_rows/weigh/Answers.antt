@@ -1,0 +1,47 @@
+-- One cell more has its worth.
+use Rattle.std.proofs.Common.{◌≡◌, ◌≤◌, ◌<◌, ℕ, suc, ◌+◌, None, Option, List, ℤ, length, get_or, set, sym, ap, ◌∙◌, subst, arith}
+use Rattle.timetable.specs.Compositions.{compositions_of}
+use Rattle.std.specs.Prelude.{IfSome}
+use Rattle.price_bound.specs.declared.cells.Cell.{Cell}
+use Rattle.price_bound.specs.CellSizes.{IsSmall}
+use Rattle.price_bound.specs.ChainStages.{stage_of}
+use Rattle.price_bound.specs.Paths.{with_worth}
+use Rattle.price_bound.specs.Pricing.{priced_by}
+use Rattle.price_bound.proofs.ChainCells.{AreWeighed, cell_more, cell_small, weighed_all, weighed_more, weighed_none}
+use Rattle.price_bound.proofs.chain_rows.weigh.Goals as goal
+
+pub loop-comp-init : goal.loop-comp-init
+loop-comp-init c = weighed_none (stage_of (priced_by c.args.pricing.now) c.args.trip) c.args.row.now
+
+pub add-requires-clause-comp : goal.add-requires-clause-comp
+add-requires-clause-comp c =
+    let comps : length c.catalogue.result.now ≡ length (compositions_of c.args.pricing.now.instance.now) = ap length c.catalogue.ensures in
+    omega (arith, comps, c.loop-comp-test.true, c.loop-comp.invariant.long, c.requires.row, c.len-comp-end.ensures.value)
+
+pub add-requires-clause-small : goal.add-requires-clause-small
+add-requires-clause-small c =
+    subst (λ (o : Option Cell). IfSome o (λ it. IsSmall 1000000000000000000000000000000 it.value))
+    (sym (c.loop-comp.invariant.rest c.loop-comp.comp (omega arith)))
+    (cell_more 10000000000000000000000000000 1000000000000000000000000000000 (get_or c.args.row.now c.loop-comp.comp None)
+    (omega arith) (cell_small 10000000000000000000000000000 c.args.row.now c.loop-comp.comp c.requires.small))
+
+pub loop-comp-preserved : goal.loop-comp-preserved
+loop-comp-preserved c =
+    let next : suc c.loop-comp.comp ≡ c.loop-comp.comp + 1 = omega arith in
+    let below : c.loop-comp.comp < length c.loop-comp.row =
+    omega (arith, ap length c.catalogue.ensures, c.loop-comp-test.true, c.loop-comp.invariant.long, c.requires.row, c.len-comp-end.ensures.value) in
+    subst (λ (k : ℕ). AreWeighed (stage_of (priced_by c.args.pricing.now) c.args.trip) c.args.row.now k c.add.new.self) next
+    (weighed_more (stage_of (priced_by c.args.pricing.now) c.args.trip) c.args.row.now c.loop-comp.comp c.loop-comp.row
+    c.add.new.self c.loop-comp.invariant below (c.add.ensures.value
+    ∙ ap (λ (o : Option ℤ). set c.loop-comp.row c.loop-comp.comp (with_worth o (get_or c.loop-comp.row c.loop-comp.comp None)))
+    c.worth-worth.ensures.value) c.add.ensures.small)
+
+pub returns : goal.returns
+returns c =
+    let past : length c.loop-comp.row ≤ c.loop-comp.comp =
+    omega (arith, ap length c.catalogue.ensures, c.loop-comp-test.false, c.loop-comp.invariant.long, c.requires.row, c.len-comp-end.ensures.value) in
+    record {
+      row = weighed_all (stage_of (priced_by c.args.pricing.now) c.args.trip) c.args.row.now c.loop-comp.comp c.loop-comp.row
+          c.loop-comp.invariant past;
+      small = c.loop-comp.invariant.small;
+    }

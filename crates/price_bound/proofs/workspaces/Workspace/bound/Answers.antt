@@ -1,0 +1,43 @@
+-- What is found along the chains is the bound.
+use Rattle.std.proofs.Common.{◌≡◌, ℕ, List, Option, Some, None, length, ℤ, ◌+ℤ◌, ap, sym, subst, ◌∙◌}
+use Rattle.rail_base.specs.declared.numbers.Money.{Money}
+use Rattle.price_bound.specs.ChainStages.{Priced}
+use Rattle.price_bound.specs.ChangedDays.{changed_day, changed_meanings}
+use Rattle.price_bound.specs.FirstPaths.{AreFound}
+use Rattle.price_bound.proofs.Bounding.{found_bound, none_bound}
+use Rattle.price_bound.proofs.DayPrices.{day_priced}
+use Rattle.price_bound.proofs.workspaces.Workspace.bound.Goals as goal
+
+pub returns-in-Some-clause-bound : goal.returns-in-Some-clause-bound
+returns-in-Some-clause-bound c =
+    let priced : Priced = record {
+      day = c.args.instance.now;
+      graphs = c.args.graphs.now;
+      changes = c.args.changes.now;
+      entries = c.args.multipliers.now;
+      weight = c.args.weight;
+      region = c.args.region.now;
+    } in
+    let found : AreFound priced (Some c.in-Some.value) c.copy_picks.new.to =
+    subst (AreFound priced (Some c.in-Some.value)) (sym c.copy_picks.ensures)
+    (subst (λ (o : Option Money). AreFound priced o c.first_paths.new.choice) c.in-Some.is c.first_paths.ensures.found) in
+    found_bound (changed_meanings (changed_day c.args.instance.now c.args.changes.now)) priced
+    (day_priced priced c.links-links.ensures.sound c.requires.changes) c.links-links.ensures.sound c.requires.graphs
+    c.chains-chains.ensures.whole c.requires.region c.copy_picks.new.to c.args.best.now c.in-Some.value c.added.result
+    (ap length c.copy_picks.ensures ∙ c.first_paths.ensures.choice) found
+    (c.added.ensures ∙ ap (λ (z : ℤ). z +ℤ c.in-Some.value.0) c.constant.ensures.value)
+
+pub returns-in-None-clause-bound : goal.returns-in-None-clause-bound
+returns-in-None-clause-bound c =
+    let priced : Priced = record {
+      day = c.args.instance.now;
+      graphs = c.args.graphs.now;
+      changes = c.args.changes.now;
+      entries = c.args.multipliers.now;
+      weight = c.args.weight;
+      region = c.args.region.now;
+    } in
+    none_bound (changed_meanings (changed_day c.args.instance.now c.args.changes.now)) priced
+    (day_priced priced c.links-links.ensures.sound c.requires.changes) c.links-links.ensures.sound c.requires.graphs
+    c.chains-chains.ensures.whole c.requires.region c.args.best.now
+    (subst (λ (o : Option Money). AreFound priced o c.first_paths.new.choice) c.in-None.is c.first_paths.ensures.found)

@@ -1,0 +1,39 @@
+-- One multiplier more.
+use Rattle.std.proofs.Common.{◌≡◌, ℕ, ◌+◌, ◌*◌, ◌<◌, ◌≤◌, List, length, get_or, take, ℤ, pos, ◌+ℤ◌, ap, sym, subst, arith, ◌∙◌}
+use Rattle.std.proofs.lemmas.List.{get_or_default, take_all}
+use Rattle.branch_tree.specs.declared.multipliers.Entry.{Entry}
+use Rattle.branch_tree.specs.IntSums.{int_sum}
+use Rattle.price_bound.specs.CellSizes.{IsSmall}
+use Rattle.price_bound.specs.Regrouped.{constant_by, constant_of}
+use Rattle.price_bound.specs.YardPrices.{by_place}
+use Rattle.price_bound.proofs.Adding.{small_more, small_sum}
+use Rattle.price_bound.proofs.Pricing.{int_sum_more}
+use Rattle.price_bound.proofs.workspaces.constant.Goals as goal
+
+pub loop-place-preserved : goal.loop-place-preserved
+loop-place-preserved c =
+    let entries : List Entry = c.entries-entries.result.now in
+    let i : ℕ = c.loop-place.place in
+    let none : Entry = record { index = 0; value = pos 0 } in
+    let of : Entry → ℤ = by_place c.args.instance.now (constant_by c.args.instance.now) in
+    let below : i < length entries = c.loop-place-test.true in
+    let amount : c.constant_by-amount.result.0 ≡ of (get_or entries i none) =
+    c.constant_by-amount.ensures.value ∙ ap of (get_or_default entries i _ none below) in
+    let more : i * 10000000000000000000000 + 10000000000000000000000 ≤ (i + 1) * 10000000000000000000000 = omega arith in
+    record {
+      sum = c.added-sum.ensures ∙ (ap (λ (z : ℤ). z +ℤ c.constant_by-amount.result.0) c.loop-place.invariant.sum
+          ∙ (ap (λ (z : ℤ). int_sum of (take i entries) +ℤ z) amount ∙ sym (int_sum_more of entries i none below)));
+      small = subst (IsSmall ((i + 1) * 10000000000000000000000)) (sym c.added-sum.ensures)
+          (small_more (i * 10000000000000000000000 + 10000000000000000000000) ((i + 1) * 10000000000000000000000)
+          (c.loop-place.sum.0 +ℤ c.constant_by-amount.result.0) more
+          (small_sum (i * 10000000000000000000000) 10000000000000000000000 c.loop-place.sum.0 c.constant_by-amount.result.0
+          c.loop-place.invariant.small c.constant_by-amount.ensures.small));
+    }
+
+pub returns-clause-value : goal.returns-clause-value
+unfolding constant_of
+returns-clause-value c =
+    let all : take c.loop-place.place c.entries-entries.result.now ≡ c.args.multipliers.now =
+    take_all c.loop-place.place c.entries-entries.result.now (omega (arith, c.loop-place-test.false)) ∙ c.entries-entries.ensures.value in
+    c.loop-place.invariant.sum
+    ∙ ap (int_sum (by_place c.args.instance.now (constant_by c.args.instance.now))) all

@@ -1,0 +1,13 @@
+-- The sum so far, and its size.
+use Rattle.std.proofs.Common.{◌≡◌, ◌*◌, take}
+use Rattle.branch_tree.specs.IntSums.{int_sum}
+use Rattle.price_bound.specs.CellSizes.{IsSmall}
+use Rattle.price_bound.specs.Regrouped.{constant_by}
+use Rattle.price_bound.specs.YardPrices.{by_place}
+use Rattle.price_bound.proofs.workspaces.constant.Given as goal
+
+abbrev pub invariant-loop-place : goal.invariant-loop-place
+invariant-loop-place l = record {
+  sum : l.sum.0 ≡ int_sum (by_place l.instance (constant_by l.instance)) (take l.place l.entries);
+  small : IsSmall (l.place * 10000000000000000000000) l.sum.0;
+}

@@ -1,0 +1,51 @@
+-- Rows of cells while they are made, and picks along a chain.
+use Rattle.std.specs.Prelude.{ℕ, ◌≡◌, ◌<◌, List, [], ◌∷◌, length, get_or, set, fold, Option, None}
+use Rattle.timetable.specs.Compositions.{compositions_of}
+use Rattle.timetable.specs.Links.{outgoing}
+use Rattle.price_bound.specs.declared.cells.Cell.{Cell}
+use Rattle.price_bound.specs.ChainStages.{Priced, edges_of, price_of, stage_of, stages_of}
+use Rattle.price_bound.specs.Paths.{last_row, lower_cell, offer_by, row_before, rows_of}
+
+-- a row after a cell is offered to a composition
+abbrev pub lower_at : ℕ → Option Cell → List (Option Cell) → List (Option Cell)
+lower_at comp cell row = set row comp (lower_cell (get_or row comp None) cell)
+
+-- picks with the compositions of a path on the trips of a chain
+abbrev pub put_along : List ℕ → List ℕ → List ℕ → List ℕ
+put_along [] path picks = picks
+put_along (t ∷ ts) [] picks = picks
+put_along (t ∷ ts) (comp ∷ path) picks = put_along ts path (set picks t comp)
+
+-- a row after the edges of a link, if there is one, offered their cells
+abbrev pub edges_offered : Priced → Option ℕ → List (Option Cell) → List (Option Cell) → List (Option Cell)
+edges_offered priced link ahead row =
+    fold (λ row edge. lower_at edge.from (offer_by edge.to (price_of priced link edge) (get_or ahead edge.to None)) row)
+    row (edges_of priced link)
+
+-- rows of so many compositions
+pub record HaveRoom (rows comps : ℕ) (table : List (List (Option Cell))) : Type 0 where
+  pub height : length table ≡ rows
+  pub widths : (row : ℕ) → row < rows → length (get_or table row []) ≡ comps
+
+-- ---- of what is priced
+
+abbrev pub comps_of : Priced → ℕ
+comps_of priced = length (compositions_of priced.day)
+
+abbrev pub HaveRoomFor : Priced → List (List (Option Cell)) → Type 0
+HaveRoomFor priced table = HaveRoom (length priced.day.trips) (comps_of priced) table
+
+-- the rows of a chain
+abbrev pub chain_rows : Priced → List ℕ → List (List (Option Cell))
+chain_rows priced chain = rows_of (comps_of priced) (stages_of priced chain)
+
+-- the row of a trip, where it is the last of its chain; and where the row of the next trip is ahead
+abbrev pub last_row_on : Priced → ℕ → List (Option Cell)
+last_row_on priced t = last_row (comps_of priced) (stage_of priced t)
+
+abbrev pub row_on : Priced → ℕ → List (Option Cell) → List (Option Cell)
+row_on priced t ahead = row_before (comps_of priced) (stage_of priced t) ahead
+
+-- a row after the edges that lead on from a trip offered their cells
+abbrev pub offered_on : Priced → ℕ → List (Option Cell) → List (Option Cell) → List (Option Cell)
+offered_on priced t ahead row = edges_offered priced (outgoing priced.day t) ahead row

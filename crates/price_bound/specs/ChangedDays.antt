@@ -1,0 +1,42 @@
+-- Days under changes: what changes add to the cost of picks, and what the relaxation of such a day means.
+use Rattle.std.specs.Prelude.{ℕ, ◌+◌, ◌<◌, ◌≤◌, List, [], ◌∷◌, length, ◌==◌, if◌then◌else◌, pos}
+use Rattle.std.specs.List.{All, AllPairs}
+use Rattle.timetable.specs.Compositions.{compositions_of}
+use Rattle.timetable.specs.Cost.{cost_of}
+use Rattle.timetable.specs.Day.{Day}
+use Rattle.timetable.specs.Picking.{picked}
+use Rattle.branch_tree.specs.Meanings.{IsRelaxation, Meanings}
+use Rattle.price_bound.specs.declared.changes.Change.{Change}
+use Rattle.price_bound.specs.DayMeanings.{meanings_of}
+use Rattle.price_bound.specs.Following.{pick_of}
+
+-- a day, and what it costs to give some of its trips other picks than bases
+pub record ChangedDay : Type 0 where
+  pub day : Day
+  pub changes : List Change
+
+-- the trips rise and are the day's, each base is in the catalogue, and each cost is within the limit
+pub record AreChanges (day : Day) (changes : List Change) : Type 0 where
+  pub rising : AllPairs (λ a b. a.trip < b.trip) changes
+  pub trips : All (λ change. change.trip < length day.trips) changes
+  pub bases : All (λ change. change.base < length (compositions_of day)) changes
+  pub costs : All (λ change. change.cost ≤ 1000000) changes
+
+-- the cost of each change whose trip has another pick than its base
+abbrev pub added_cost : List Change → List ℕ → ℕ
+added_cost [] picks = 0
+added_cost (change ∷ changes) picks =
+    (if change.base == pick_of picks change.trip then 0 else change.cost) + added_cost changes picks
+
+-- Picks cost what their compositions cost and what the changes add. All else is as it is on the day.
+abbrev pub changed_meanings : ChangedDay → Meanings
+changed_meanings changed = record (meanings_of changed.day) {
+  cost = λ picks. pos (cost_of changed.day (picked changed.day picks) + added_cost changed.changes picks);
+}
+
+-- a day that nothing is changed on
+abbrev pub unchanged : Day → ChangedDay
+unchanged day = record { day = day; changes = [] }
+
+abbrev pub changed_day : Day → List Change → ChangedDay
+changed_day day changes = record { day = day; changes = changes }

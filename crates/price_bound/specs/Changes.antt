@@ -1,0 +1,16 @@
+-- Changed costs: what a trip costs more with another composition than a base.
+use Rattle.std.specs.Prelude.{ℕ, ◌+◌, List, [], ◌∷◌, ◌==◌, if◌then◌else◌}
+use Rattle.timetable.specs.Compositions.{composition_at}
+use Rattle.timetable.specs.Cost.{trip_cost}
+use Rattle.timetable.specs.Day.{Day}
+use Rattle.price_bound.specs.declared.changes.Change.{Change}
+
+-- what a trip's change costs with a composition: nothing with the base, and nothing where the trip has no change
+abbrev pub change_cost : List Change → ℕ → ℕ → ℕ
+change_cost [] t comp = 0
+change_cost (change ∷ changes) t comp =
+    if change.trip == t then (if change.base == comp then 0 else change.cost) else change_cost changes t comp
+
+-- a trip with a composition, under changes
+unfoldable pub changed_cost : Day → List Change → ℕ → ℕ → ℕ
+changed_cost day changes t comp = trip_cost day t (composition_at day comp) + change_cost changes t comp

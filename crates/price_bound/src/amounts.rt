@@ -1,0 +1,121 @@
+//! Tables of amounts by row and column.
+
+ghost use Rattle.std.specs.Prelude.{ℕ, ◌≡◌, ◌<◌, ◌^◌, [], map, length, get_or, replicate, pos, IfOk};
+ghost use Rattle.inventory.specs.CountTable.{changed_at, changed_in};
+ghost use Rattle.price_bound.specs.PriceTables.{amount_at, cleared_table, with_amounts};
+
+use rail_base::{Money, NoMemory};
+use std::alloc::Global;
+use std::marker::Model;
+
+/// The amounts of one row. A contract sees the list of them.
+#[derive(Debug, Drop)]
+pub(crate) struct AmountRow {
+    amounts: Vec<i64>,
+}
+
+impl Model for AmountRow {
+    ghost use Rattle.std.specs.Prelude.{List, ℤ};
+
+    ghost Value = { List ℤ };
+
+    ghost view = { λ a. a.amounts.items };
+}
+
+/// Amounts by row and column. A contract sees a list for each row.
+#[derive(Debug, Drop)]
+pub(crate) struct AmountTable {
+    rows: Vec<AmountRow>,
+}
+
+impl Model for AmountTable {
+    ghost use Rattle.std.specs.Prelude.{List, ℤ};
+
+    ghost Value = { List (List ℤ) };
+
+    ghost view = { λ a. a.rows.items };
+}
+
+impl AmountRow {
+    /// A zero for each of so many columns.
+    fn new(alloc: Global, columns: usize) -> Result<AmountRow, NoMemory>
+        ensures { IfOk result (λ row. row ≡ replicate columns (pos 0)) }
+    {
+        Ok(AmountRow {
+            amounts: vec![in alloc; 0; columns]?,
+        })
+    }
+
+    /// Sets each amount to zero.
+    fn clear(&mut self)
+        ensures { self.new ≡ map (λ _. pos 0) self.old }
+    {
+        for column in 0..self.amounts.len() {
+            self.amounts[column] = 0;
+        }
+    }
+
+    /// Adds to the amount of a column, if there is one.
+    fn add(&mut self, column: usize, amount: i64)
+        ensures { self.new ≡ changed_at column amount self.old }
+    {
+        if column < self.amounts.len() {
+            self.amounts[column] = self.amounts[column].saturating_add(amount);
+        }
+    }
+
+    /// The amounts.
+    pub(crate) fn items(&self) -> &[i64]
+        ensures { result.now ≡ self.now }
+    {
+        &self.amounts
+    }
+}
+
+impl AmountTable {
+    /// A zero for each of so many rows and columns.
+    pub(crate) fn new(alloc: Global, rows: usize, columns: usize) -> Result<AmountTable, NoMemory>
+        ensures { IfOk result (λ table. table ≡ replicate rows (replicate columns (pos 0))) }
+    {
+        let mut table = Vec::new(alloc);
+        for row in 0..rows {
+            table.push(AmountRow::new(alloc, columns)?)?;
+        }
+        Ok(AmountTable { rows: table })
+    }
+
+    /// Sets each amount to zero.
+    pub(crate) fn clear(&mut self)
+        ensures { self.new ≡ cleared_table self.old }
+    {
+        for row in 0..self.rows.len() {
+            self.rows[row].clear();
+        }
+    }
+
+    /// Adds to the amount of a row and a column, if there is one.
+    pub(crate) fn add(&mut self, row: usize, column: usize, amount: i64)
+        ensures { self.new ≡ changed_in row column amount self.old }
+    {
+        if row < self.rows.len() {
+            self.rows[row].add(column, amount);
+        }
+    }
+
+    /// The row of a number, which is below the number of rows.
+    pub(crate) fn row(&self, row: usize) -> &AmountRow
+        requires { row < length self.now }
+        ensures { result.now ≡ get_or self.now row [] }
+    {
+        &self.rows[row]
+    }
+
+    /// The amount of a row and a column, which are there.
+    pub(crate) fn get(&self, row: usize, column: usize) -> Money
+        requires row { row < length self.now }
+        requires column { column < length (get_or self.now row []) }
+        ensures { result.0 ≡ amount_at self.now row column }
+    {
+        Money(i128::from(self.rows[row].amounts[column]))
+    }
+}

@@ -1,0 +1,178 @@
+//! Cells: the least value from a composition of a trip to the end of the trip's chain, and the next step of the first path that
+//! has it.
+
+ghost use Rattle.std.specs.Prelude.{ℕ, ◌≡◌, ◌<◌, ◌+◌, map, length, get_or, set, replicate, pos, IfOk, IfSome, Some, None, option_map};
+ghost use Rattle.price_bound.specs.CellRows.{lower_at};
+ghost use Rattle.price_bound.specs.Paths.{entered, least_from, lower_cell, offer_by, with_worth};
+ghost use Rattle.price_bound.specs.CellSizes.{AreSmallCells, IsSmall};
+
+use rail_base::{CompNo, Money, NoMemory};
+use std::alloc::Global;
+use std::marker::Model;
+
+/// The first path of least value from a composition of a trip to the end of its chain.
+#[derive(Clone, Copy, Debug, PartialEq, Eq)]
+pub(crate) struct Cell {
+    /// Its value.
+    pub value: i128,
+    /// The composition of the next trip on it; 0 at the chain's last trip.
+    pub next: CompNo,
+}
+
+/// The cells of one trip, by composition. A contract sees the list of them.
+#[derive(Debug, Drop)]
+pub(crate) struct CellRow {
+    cells: Vec<Option<Cell>>,
+}
+
+impl Model for CellRow {
+    ghost use Rattle.std.specs.Prelude.{List, Option};
+    ghost use Rattle.price_bound.specs.declared.cells.Cell.{Cell};
+
+    ghost Value = { List (Option Cell) };
+
+    ghost view = { λ a. a.cells.items };
+}
+
+impl CellRow {
+    /// No cell for each of so many compositions. The error is want of memory.
+    pub(crate) fn new(alloc: Global, comps: usize) -> Result<CellRow, NoMemory>
+        ensures { IfOk result (λ row. row ≡ replicate comps None) }
+    {
+        Ok(CellRow {
+            cells: vec![in alloc; None; comps]?,
+        })
+    }
+
+    /// How many compositions have a place.
+    pub(crate) fn len(&self) -> usize
+        ensures { result ≡ length self.now }
+    {
+        self.cells.len()
+    }
+
+    /// The cell of a composition, which is below `len`.
+    pub(crate) fn get(&self, comp: CompNo) -> Option<Cell>
+        requires { comp < length self.now }
+        ensures { result ≡ get_or self.now comp None }
+    {
+        self.cells[comp.place()]
+    }
+
+    /// Takes all cells out.
+    pub(crate) fn clear(&mut self)
+        ensures { self.new ≡ map (λ _. None) self.old }
+    {
+        for comp in 0..self.cells.len() {
+            self.cells[comp] = None;
+        }
+    }
+
+    /// Puts a cell of value 0 in place of each.
+    pub(crate) fn end(&mut self)
+        ensures { self.new ≡ map (λ _. Some (record { value = pos 0; next = 0 })) self.old }
+    {
+        for comp in 0..self.cells.len() {
+            self.cells[comp] = Some(Cell {
+                value: 0,
+                next: CompNo(0),
+            });
+        }
+    }
+
+    /// Offers a cell to a composition, which is below `len`: it is taken where it is of lower value.
+    pub(crate) fn offer(&mut self, comp: CompNo, cell: Option<Cell>)
+        requires { comp < length self.old }
+        ensures { self.new ≡ lower_at comp cell self.old }
+    {
+        let place = comp.place();
+        self.cells[place] = lower_cell(self.cells[place], cell);
+    }
+
+    /// Adds a worth to the cell of a composition, which is below `len`; where there is no worth, there is no cell then.
+    pub(crate) fn add(&mut self, comp: CompNo, worth: Option<Money>)
+        requires comp { comp < length self.old }
+        requires small { IfSome (get_or self.old comp None) (λ cell. IsSmall 1000000000000000000000000000000 cell.value) }
+        requires worth { IfSome worth (λ worth. IsSmall 20000000000000000 worth.0) }
+        ensures value { self.new ≡ set self.old comp (with_worth (option_map (λ worth. worth.0) worth) (get_or self.old comp None)) }
+        ensures small { (bound : ℕ) → IfSome (get_or self.old comp None) (λ cell. IsSmall bound cell.value) → IfSome (get_or self.new comp None) (λ cell. IsSmall (bound + 20000000000000000) cell.value) }
+    {
+        let place = comp.place();
+        self.cells[place] = with_worth(worth, self.cells[place]);
+    }
+
+    /// The least value of the cells, of which there are so many, with the first composition that has it in place of the next
+    /// one; nothing where there is no cell.
+    pub(crate) fn least(&self, comps: u32) -> Option<Cell>
+        requires { comps ≡ length self.now }
+        ensures { result ≡ least_from 0 None self.now }
+    {
+        let mut least = None;
+        for comp in 0..comps {
+            least = lower_cell(least, entered(CompNo(comp), self.cells[comp as usize]));
+        }
+        least
+    }
+}
+
+/// The first of two cells, unless the other is of lower value.
+fn lower_cell(cell: Option<Cell>, other: Option<Cell>) -> Option<Cell>
+    ensures { result ≡ lower_cell cell other }
+{
+    match (cell, other) {
+        (None, other) => other,
+        (Some(cell), None) => Some(cell),
+        (Some(cell), Some(other)) => Some(lower_of(cell, other)),
+    }
+}
+
+/// The first of two cells, unless the other is of lower value.
+fn lower_of(cell: Cell, other: Cell) -> Cell
+    ensures { Some result ≡ lower_cell (Some cell) (Some other) }
+{
+    if other.value < cell.value {
+        return other;
+    }
+    cell
+}
+
+/// The cell of an edge to a composition: what is ahead there, at the edge's price.
+pub(crate) fn offer_by(to: CompNo, price: Option<Money>, ahead: Option<Cell>) -> Option<Cell>
+    requires price { IfSome price (λ price. IsSmall 30000000000000000 price.0) }
+    requires ahead { IfSome ahead (λ cell. IsSmall 1000000000000000000000000000000 cell.value) }
+    ensures value { result ≡ offer_by to (option_map (λ price. price.0) price) ahead }
+    ensures small { (bound : ℕ) → IfSome ahead (λ cell. IsSmall bound cell.value) → IfSome result (λ cell. IsSmall (bound + 30000000000000000) cell.value) }
+{
+    let price = price?;
+    let ahead = ahead?;
+    Some(Cell {
+        value: price.0 + ahead.value,
+        next: to,
+    })
+}
+
+/// A cell with the worth of its composition.
+fn with_worth(worth: Option<Money>, cell: Option<Cell>) -> Option<Cell>
+    requires worth { IfSome worth (λ worth. IsSmall 20000000000000000 worth.0) }
+    requires cell { IfSome cell (λ cell. IsSmall 1000000000000000000000000000000 cell.value) }
+    ensures value { result ≡ with_worth (option_map (λ worth. worth.0) worth) cell }
+    ensures small { (bound : ℕ) → IfSome cell (λ cell. IsSmall bound cell.value) → IfSome result (λ cell. IsSmall (bound + 20000000000000000) cell.value) }
+{
+    let worth = worth?;
+    let cell = cell?;
+    Some(Cell {
+        value: worth.0 + cell.value,
+        next: cell.next,
+    })
+}
+
+/// What a cell offers to a path's begin: its value, at its own composition.
+fn entered(comp: CompNo, cell: Option<Cell>) -> Option<Cell>
+    ensures { result ≡ entered comp cell }
+{
+    let cell = cell?;
+    Some(Cell {
+        value: cell.value,
+        next: comp,
+    })
+}

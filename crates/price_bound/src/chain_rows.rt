@@ -1,0 +1,216 @@
+//! The rows of cells of a chain, made from its last trip to its first; and the first path of least value, read off from
+//! the first trip on.
+
+ghost use Rattle.std.specs.Prelude.{ℕ, ◌≡◌, ◌<◌, ◌≤◌, ◌+◌, ◌*◌, [], length, get_or, set, take, All, IfOk, Some, None};
+ghost use Rattle.timetable.specs.Compositions.{compositions_of};
+ghost use Rattle.price_bound.specs.CellRows.{HaveRoom, HaveRoomFor, chain_rows, comps_of, edges_offered, last_row_on};
+ghost use Rattle.price_bound.specs.CellRows.{offered_on, put_along, row_on};
+ghost use Rattle.price_bound.specs.CellSizes.{AreSmallCells, AreSmallOffers, IsSmallStep};
+ghost use Rattle.price_bound.specs.ChainStages.{stage_of};
+ghost use Rattle.price_bound.specs.Paths.{begin_of, next_of, walked, with_worths};
+ghost use Rattle.price_bound.specs.Pricing.{ArePriced, priced_by};
+
+use crate::cells::{Cell, CellRow, offer_by};
+use crate::priced::Pricing;
+use rail_base::{CompNo, LinkNo, NoMemory, TripNo};
+use std::alloc::Global;
+use std::marker::Model;
+use timetable::{Instance, Picks};
+
+/// Room for the rows of any chain of a day. A contract sees a list of cells for each row.
+#[derive(Debug, Drop)]
+pub(crate) struct ChainRows {
+    rows: Vec<CellRow>,
+}
+
+impl Model for ChainRows {
+    ghost use Rattle.std.specs.Prelude.{List, Option};
+    ghost use Rattle.price_bound.specs.declared.cells.Cell.{Cell};
+
+    ghost Value = { List (List (Option Cell)) };
+
+    ghost view = { λ a. a.rows.items };
+}
+
+impl ChainRows {
+    /// A row for each trip of a day, since no chain has more. The error is want of memory.
+    pub(crate) fn new(alloc: Global, instance: &Instance) -> Result<ChainRows, NoMemory>
+        ensures { IfOk result (HaveRoom (length instance.now.trips) (length (compositions_of instance.now))) }
+    {
+        let comps = instance.catalogue().len() as usize;
+        let mut rows = Vec::new(alloc);
+        for trip in 0..instance.trips() {
+            rows.push(CellRow::new(alloc, comps)?)?;
+        }
+        Ok(ChainRows { rows })
+    }
+
+    /// Makes the rows of a chain, which has one trip or more, all of the day.
+    pub(crate) fn fill(&mut self, pricing: &Pricing<'_>, chain: &[TripNo])
+        requires priced { ArePriced pricing.now }
+        requires some { 1 ≤ length chain.now }
+        requires few { length chain.now ≤ length pricing.now.instance.now.trips }
+        requires known { All (λ trip. trip < length pricing.now.instance.now.trips) chain.now }
+        requires room { HaveRoomFor (priced_by pricing.now) self.old }
+        ensures room { HaveRoomFor (priced_by pricing.now) self.new }
+        ensures rows { take (length chain.now) self.new ≡ chain_rows (priced_by pricing.now) chain.now }
+        ensures small { AreSmallCells (length chain.now * 50000000000000000) (get_or self.new 0 []) }
+    {
+        fill_rows(pricing, chain, &mut self.rows);
+    }
+
+    /// The value of the first path of least value, with its first composition; nothing where the chain has no path.
+    pub(crate) fn begin(&self, comps: u32) -> Option<Cell>
+        requires some { 1 ≤ length self.now }
+        requires comps { comps ≡ length (get_or self.now 0 []) }
+        ensures { result ≡ begin_of self.now }
+    {
+        self.rows[0].least(comps)
+    }
+
+    /// Gives the trips of a chain the compositions of the path that begins with one.
+    pub(crate) fn walk(&self, chain: &[TripNo], begin: CompNo, choice: &mut Picks)
+        requires few { length chain.now ≤ length self.now }
+        requires known { All (λ trip. trip < length choice.old) chain.now }
+        ensures { choice.new ≡ put_along chain.now (walked (take (length chain.now) self.now) begin) choice.old }
+    {
+        let mut comp = begin;
+        for place in 0..chain.len() {
+            choice.set(chain[place], comp);
+            comp = self.next(place, comp);
+        }
+    }
+
+    /// The composition to which the cell of a row and a composition leads; 0 where there is no cell.
+    fn next(&self, place: usize, comp: CompNo) -> CompNo
+        requires { place < length self.now }
+        ensures { result ≡ next_of (get_or (get_or self.now place []) comp None) }
+    {
+        let row = &self.rows[place];
+        if comp.place() >= row.len() {
+            return CompNo(0);
+        }
+        next_of(row.get(comp))
+    }
+}
+
+/// The composition to which a cell leads; 0 where there is no cell.
+fn next_of(cell: Option<Cell>) -> CompNo
+    ensures { result ≡ next_of cell }
+{
+    match cell {
+        Some(cell) => cell.next,
+        None => CompNo(0),
+    }
+}
+
+/// Makes the rows of a chain, of which there is one for each trip of the day.
+fn fill_rows(pricing: &Pricing<'_>, chain: &[TripNo], rows: &mut [CellRow])
+    requires priced { ArePriced pricing.now }
+    requires some { 1 ≤ length chain.now }
+    requires few { length chain.now ≤ length pricing.now.instance.now.trips }
+    requires known { All (λ trip. trip < length pricing.now.instance.now.trips) chain.now }
+    requires room { HaveRoomFor (priced_by pricing.now) rows.old }
+    ensures room { HaveRoomFor (priced_by pricing.now) rows.new }
+    ensures rows { take (length chain.now) rows.new ≡ chain_rows (priced_by pricing.now) chain.now }
+    ensures small { AreSmallCells (length chain.now * 50000000000000000) (get_or rows.new 0 []) }
+{
+    let _trips = pricing.instance.trips();
+    let mut place = chain.len() - 1;
+    fill_last(pricing, chain[place], &mut rows[place]);
+    while place > 0 {
+        place -= 1;
+        fill_place(pricing, chain[place], rows, place);
+    }
+}
+
+/// Makes the row of a trip at a place of its chain, before the row of the next place.
+fn fill_place(pricing: &Pricing<'_>, trip: TripNo, rows: &mut [CellRow], place: usize)
+    requires priced { ArePriced pricing.now }
+    requires trip { trip < length pricing.now.instance.now.trips }
+    requires place { place + 1 < length pricing.now.instance.now.trips }
+    requires room { HaveRoomFor (priced_by pricing.now) rows.old }
+    requires ahead { AreSmallCells 1000000000000000000000000000 (get_or rows.old (place + 1) []) }
+    ensures room { HaveRoomFor (priced_by pricing.now) rows.new }
+    ensures row { rows.new ≡ set rows.old place (row_on (priced_by pricing.now) trip (get_or rows.old (place + 1) [])) }
+    ensures small { IsSmallStep 50000000000000000 (get_or rows.old (place + 1) []) (get_or rows.new place []) }
+{
+    let (front, back) = rows.split_at_mut(place + 1);
+    fill_before(pricing, trip, &mut front[place], &back[0]);
+}
+
+/// Makes the row of the last trip of a chain.
+fn fill_last(pricing: &Pricing<'_>, trip: TripNo, row: &mut CellRow)
+    requires priced { ArePriced pricing.now }
+    requires trip { trip < length pricing.now.instance.now.trips }
+    requires row { length row.old ≡ comps_of (priced_by pricing.now) }
+    ensures row { row.new ≡ last_row_on (priced_by pricing.now) trip }
+    ensures small { AreSmallCells 50000000000000000 row.new }
+{
+    row.end();
+    weigh(pricing, trip, row);
+}
+
+/// Makes the row of a trip before that of the next trip of its chain.
+fn fill_before(pricing: &Pricing<'_>, trip: TripNo, row: &mut CellRow, ahead: &CellRow)
+    requires priced { ArePriced pricing.now }
+    requires trip { trip < length pricing.now.instance.now.trips }
+    requires row { length row.old ≡ comps_of (priced_by pricing.now) }
+    requires ahead { length ahead.now ≡ comps_of (priced_by pricing.now) }
+    requires small { AreSmallCells 1000000000000000000000000000 ahead.now }
+    ensures row { row.new ≡ row_on (priced_by pricing.now) trip ahead.now }
+    ensures small { IsSmallStep 50000000000000000 ahead.now row.new }
+{
+    row.clear();
+    offer_all(pricing, trip, row, ahead);
+    weigh(pricing, trip, row);
+}
+
+/// Offers the cells of the edges that lead on from a trip.
+fn offer_all(pricing: &Pricing<'_>, trip: TripNo, row: &mut CellRow, ahead: &CellRow)
+    requires priced { ArePriced pricing.now }
+    requires trip { trip < length pricing.now.instance.now.trips }
+    requires row { length row.old ≡ comps_of (priced_by pricing.now) }
+    requires ahead { length ahead.now ≡ comps_of (priced_by pricing.now) }
+    requires small { AreSmallCells 1000000000000000000000000000 ahead.now }
+    ensures row { row.new ≡ offered_on (priced_by pricing.now) trip ahead.now row.old }
+    ensures small { AreSmallOffers 30000000000000000 ahead.now row.old row.new }
+{
+    if let Some(link) = pricing.instance.outgoing(trip) {
+        offer_edges(pricing, link, row, ahead);
+    }
+}
+
+/// Offers the cells of the edges of a link.
+fn offer_edges(pricing: &Pricing<'_>, link: LinkNo, row: &mut CellRow, ahead: &CellRow)
+    requires priced { ArePriced pricing.now }
+    requires link { link < length pricing.now.instance.now.links }
+    requires row { length row.old ≡ comps_of (priced_by pricing.now) }
+    requires ahead { length ahead.now ≡ comps_of (priced_by pricing.now) }
+    requires small { AreSmallCells 1000000000000000000000000000 ahead.now }
+    ensures row { row.new ≡ edges_offered (priced_by pricing.now) (Some link) ahead.now row.old }
+    ensures small { AreSmallOffers 30000000000000000 ahead.now row.old row.new }
+{
+    let edges = pricing.graphs.edges(link);
+    for place in 0..edges.len() {
+        let edge = &edges[place];
+        let price = pricing.price(link, edge);
+        let offer = offer_by(edge.to, price, ahead.get(edge.to));
+        row.offer(edge.from, offer);
+    }
+}
+
+/// Adds to each cell what its composition is worth.
+fn weigh(pricing: &Pricing<'_>, trip: TripNo, row: &mut CellRow)
+    requires priced { ArePriced pricing.now }
+    requires trip { trip < length pricing.now.instance.now.trips }
+    requires row { length row.old ≡ comps_of (priced_by pricing.now) }
+    requires small { AreSmallCells 10000000000000000000000000000 row.old }
+    ensures row { row.new ≡ with_worths (stage_of (priced_by pricing.now) trip) 0 row.old }
+    ensures small { IsSmallStep 20000000000000000 row.old row.new }
+{
+    for comp in 0..pricing.instance.catalogue().len() {
+        let worth = pricing.worth(trip, CompNo(comp));
+        row.add(CompNo(comp), worth);
+    }
+}

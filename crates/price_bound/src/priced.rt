@@ -1,0 +1,20 @@
+//! What is priced, with the prices at hand.
+
+use crate::changes::Change;
+use crate::price_tables::PriceTables;
+use branch_tree::{Multipliers, Region, Weight};
+use timetable::Instance;
+use transitions::Graphs;
+
+/// What is priced: a day and its edges under changes, a region of it, multipliers and their weight; with the prices under the
+/// multipliers at hand.
+#[derive(Drop)]
+pub(crate) struct Pricing<'a> {
+    pub instance: &'a Instance,
+    pub graphs: &'a Graphs,
+    pub changes: &'a [Change],
+    pub multipliers: &'a Multipliers,
+    pub weight: Weight,
+    pub region: &'a Region,
+    pub tables: &'a PriceTables,
+}

@@ -1,0 +1,196 @@
+//! The least priced value of the picks that are near a region, by one cheapest path for each chain.
+
+ghost use Rattle.std.specs.Prelude.{ℕ, ◌≡◌, ◌≤◌, ◌<◌, ◌+ℤ◌, ◌-ℤ◌, ◌*ℤ◌, pos, neg_ℤ, length, IfOk, IfSome, unsigned_abs};
+ghost use Rattle.timetable.specs.Indices.{lambdas_of, places_of};
+ghost use Rattle.transitions.specs.Edges.{AreGraphs};
+ghost use Rattle.branch_tree.specs.Bounds.{IsBound};
+ghost use Rattle.branch_tree.specs.Entries.{DoFit};
+ghost use Rattle.price_bound.specs.CellRows.{HaveRoomFor};
+ghost use Rattle.price_bound.specs.CellSizes.{IsSmall};
+ghost use Rattle.price_bound.specs.ChangedDays.{AreChanges, changed_day, changed_meanings};
+ghost use Rattle.price_bound.specs.FirstPaths.{AreFound};
+ghost use Rattle.price_bound.specs.Pricing.{ArePriced, priced_by};
+ghost use Rattle.price_bound.specs.Regrouped.{constant_by, constant_of};
+ghost use Rattle.price_bound.specs.Rooms.{IsRoomFor};
+ghost use Rattle.price_bound.specs.YardPrices.{by_place};
+
+use crate::cells::Cell;
+use crate::chain_rows::ChainRows;
+use crate::changes::Change;
+use crate::choices::copy_picks;
+use crate::price_tables::PriceTables;
+use crate::priced::Pricing;
+use crate::worths::added;
+use branch_tree::{BoundAnswer, Entry, Multipliers, Region, Weight};
+use rail_base::{Money, NoMemory};
+use std::alloc::Global;
+use timetable::{Instance, Picks, Place};
+use transitions::Graphs;
+
+/// The room in which the bounds of a day are found.
+#[derive(Debug, Drop)]
+pub(crate) struct Workspace {
+    /// The prices under the multipliers of a bound.
+    pub tables: PriceTables,
+    /// The cells of one chain.
+    pub rows: ChainRows,
+    /// The picks that are found.
+    pub choice: Picks,
+}
+
+impl Workspace {
+    /// The room for a day. The error is want of memory.
+    pub(crate) fn new(alloc: Global, instance: &Instance) -> Result<Workspace, NoMemory>
+        ensures { IfOk result (λ room. IsRoomFor instance.now room) }
+    {
+        let tables = PriceTables::new(alloc, instance)?;
+        let rows = ChainRows::new(alloc, instance)?;
+        let choice = Picks::new(alloc, instance.trips())?;
+        Ok(Workspace {
+            tables,
+            rows,
+            choice,
+        })
+    }
+
+    /// The least priced value of the picks that are near a region of a day, under changes and under multipliers that fit.
+    /// It is `Empty` exactly where no picks are near the region, and `best` is then as before. Else `best` is, among those
+    /// of least value, the first by the list of compositions read chain by chain. It takes no memory, and time that grows
+    /// with the edges of the day.
+    pub(crate) fn bound(
+        &mut self,
+        instance: &Instance,
+        graphs: &Graphs,
+        changes: &[Change],
+        region: &Region,
+        multipliers: &Multipliers,
+        weight: Weight,
+        best: &mut Picks,
+    ) -> BoundAnswer
+        requires graphs { AreGraphs instance.now graphs.now }
+        requires room { IsRoomFor instance.now self.old }
+        requires changes { AreChanges instance.now changes.now }
+        requires region { length region.now ≡ length instance.now.trips }
+        requires fit { DoFit (length (places_of instance.now)) (length (lambdas_of instance.now)) multipliers.now }
+        requires best { length best.old ≡ length instance.now.trips }
+        ensures room { IsRoomFor instance.now self.new }
+        ensures bound { IsBound (changed_meanings (changed_day instance.now changes.now)) region.now multipliers.now weight result best.old best.new }
+    {
+        let _entries = multipliers.entries();
+        let _chains = instance.chains();
+        let _links = instance.links();
+        self.tables.fill(instance, multipliers);
+        let pricing = Pricing {
+            instance,
+            graphs,
+            changes,
+            multipliers,
+            weight,
+            region,
+            tables: &self.tables,
+        };
+        match first_paths(&pricing, &mut self.rows, &mut self.choice) {
+            Some(value) => {
+                copy_picks(best, &self.choice);
+                BoundAnswer::Value(added(constant(instance, multipliers), value))
+            }
+            None => BoundAnswer::Empty,
+        }
+    }
+}
+
+/// Finds along each chain the first path of least value, puts it on the trips of `choice`, and answers the sum of the
+/// values; or nothing, where a chain has no path.
+fn first_paths(pricing: &Pricing<'_>, rows: &mut ChainRows, choice: &mut Picks) -> Option<Money>
+    requires priced { ArePriced pricing.now }
+    requires room { HaveRoomFor (priced_by pricing.now) rows.old }
+    requires choice { length choice.old ≡ length pricing.now.instance.now.trips }
+    ensures room { HaveRoomFor (priced_by pricing.now) rows.new }
+    ensures choice { length choice.new ≡ length pricing.now.instance.now.trips }
+    ensures found { AreFound (priced_by pricing.now) result choice.new }
+    ensures small { IfSome result (λ value. IsSmall 10000000000000000000000 value.0) }
+{
+    let _trips = pricing.instance.trips();
+    let mut value = Money(0);
+    for chain in 0..pricing.instance.chains() {
+        let trips = pricing.instance.chain(chain);
+        rows.fill(pricing, trips);
+        let Some(begin) = rows.begin(pricing.instance.catalogue().len()) else {
+            return None;
+        };
+        rows.walk(trips, begin.next, choice);
+        value = with_begin(value, begin);
+    }
+    Some(value)
+}
+
+/// A value and that of a path more, which begins with a cell.
+fn with_begin(value: Money, begin: Cell) -> Money
+    requires value { IsSmall 1000000000000000000000000000000 value.0 }
+    requires begin { IsSmall 1000000000000000000000000000000 begin.value }
+    ensures { result.0 ≡ value.0 +ℤ begin.value }
+{
+    Money(value.0 + begin.value)
+}
+
+/// What multipliers add whatever the picks.
+fn constant(instance: &Instance, multipliers: &Multipliers) -> Money
+    requires { DoFit (length (places_of instance.now)) (length (lambdas_of instance.now)) multipliers.now }
+    ensures value { result.0 ≡ constant_of instance.now multipliers.now }
+    ensures small { IsSmall 10000000000000000000000000 result.0 }
+{
+    let entries = multipliers.entries();
+    let mut sum = Money(0);
+    for place in 0..entries.len() {
+        let amount = constant_by(instance, &entries[place]);
+        sum = added(sum, amount);
+    }
+    sum
+}
+
+/// What one multiplier adds whatever the picks.
+fn constant_by(instance: &Instance, entry: &Entry) -> Money
+    requires index { entry.now.index < length (places_of instance.now) }
+    requires size { unsigned_abs entry.now.value ≤ 1000000000000 }
+    ensures value { result.0 ≡ by_place instance.now (constant_by instance.now) entry.now }
+    ensures small { IsSmall 10000000000000000000000 result.0 }
+{
+    match instance.place(entry.index) {
+        Place::Lambda {
+            station,
+            unit_type,
+            ..
+        } => times(entry, minus(instance.start(station, unit_type))),
+        Place::Mu { station, unit_type } => {
+            let start = instance.start(station, unit_type);
+            times(entry, between(instance.end(station, unit_type), start))
+        }
+        Place::Sigma { .. } => Money(0),
+    }
+}
+
+/// Minus a number of units.
+fn minus(units: u32) -> Money
+    ensures value { result.0 ≡ neg_ℤ (pos units) }
+    ensures small { IsSmall 4294967296 result.0 }
+{
+    Money(-i128::from(units))
+}
+
+/// A number of units less another.
+fn between(units: u32, other: u32) -> Money
+    ensures value { result.0 ≡ pos units -ℤ pos other }
+    ensures small { IsSmall 4294967296 result.0 }
+{
+    Money(i128::from(units) - i128::from(other))
+}
+
+/// A multiplier times a number of units.
+fn times(entry: &Entry, units: Money) -> Money
+    requires size { unsigned_abs entry.now.value ≤ 1000000000000 }
+    requires units { IsSmall 4294967296 units.0 }
+    ensures value { result.0 ≡ entry.now.value *ℤ units.0 }
+    ensures small { IsSmall 10000000000000000000000 result.0 }
+{
+    Money(i128::from(entry.value) * units.0)
+}
