@@ -1,14 +1,17 @@
 -- What changes add, change by change, is what they add trip by trip.
 use Rattle.std.proofs.Common.{◌≡◌, ◌≢◌, ℕ, zero, suc, ◌+◌, ◌<◌, ◌≤◌, List, [], ◌∷◌, length, refl, sym, ap, ◌∙◌, subst, arith, inl, inr}
-use Rattle.std.proofs.Common.{Bool, true, false, cond, eqb}
+use Rattle.std.proofs.Common.{Bool, true, false, cond, eqb, get_or, take, ◌++◌}
 use Rattle.std.specs.Prelude.{◌==◌, if◌then◌else◌}
 use Rattle.std.specs.List.{All, AllPairs}
 use Rattle.std.proofs.lemmas.Bool.{cases_eq, eq-eqb, ne_eqb}
-use Rattle.std.proofs.lemmas.List.Elements.{All-head, All-tail}
+use Rattle.std.proofs.lemmas.List.Elements.{All-head, All-nil, All-tail}
+use Rattle.std.proofs.lemmas.List.{take_more}
+use Rattle.timetable.specs.Compositions.{compositions_of}
+use Rattle.timetable.specs.Day.{Day}
 use Rattle.timetable.specs.Lists.{sum_below}
 use Rattle.timetable.proofs.Sums.{sum_add, sum_one_more, sum_same, sum_zero}
 use Rattle.price_bound.specs.declared.changes.Change.{Change}
-use Rattle.price_bound.specs.ChangedDays.{added_cost}
+use Rattle.price_bound.specs.ChangedDays.{AreChanges, added_cost, own_cost}
 use Rattle.price_bound.specs.Changes.{change_cost}
 use Rattle.price_bound.specs.Following.{pick_of}
 
@@ -37,7 +40,7 @@ module _ (change : Change) (changes : List Change) (picks : List ℕ) (rising : 
   rest t = change_cost changes t (pick_of picks t)
 
   abbrev first : ℕ
-  first = if change.base == pick_of picks change.trip then 0 else change.cost
+  first = own_cost picks change
 
   at_first : whole change.trip ≡ rest change.trip + first
   at_first =
@@ -65,3 +68,22 @@ added_by_trips (change ∷ changes) picks n rising below =
     let more = one_change change changes picks rising n (All-head (λ (c : Change). c.trip < n) change changes below) in
     let others = added_by_trips changes picks n (rest_rising change changes rising) (All-tail (λ (c : Change). c.trip < n) change changes below) in
     omega (arith, more, others)
+
+pub no_changes : (day : Day) → AreChanges day []
+no_changes day = record {
+  rising = λ i j d lt below. absurd (omega (arith, below));
+  trips = All-nil (λ change. change.trip < length day.trips);
+  bases = All-nil (λ change. change.base < length (compositions_of day));
+  costs = All-nil (λ change. change.cost ≤ 1000000);
+}
+
+-- so many changes
+added_push : (changes : List Change) (picks : List ℕ) (change : Change)
+    → added_cost (changes ++ change ∷ []) picks ≡ added_cost changes picks + own_cost picks change
+added_push [] picks change = omega arith
+added_push (first ∷ changes) picks change = omega (arith, added_push changes picks change)
+
+pub added_more : (changes : List Change) (picks : List ℕ) (i : ℕ) (d : Change) → i < length changes
+    → added_cost (take (i + 1) changes) picks ≡ added_cost (take i changes) picks + own_cost picks (get_or changes i d)
+added_more changes picks i d below =
+    ap (λ (cs : List Change). added_cost cs picks) (take_more changes i d below) ∙ added_push (take i changes) picks (get_or changes i d)

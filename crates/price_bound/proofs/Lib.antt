@@ -42,3 +42,4 @@ mod ChainSteps
 mod ChainCells
 mod Finding
 mod ChangedCosts
+mod ChangedRelaxation

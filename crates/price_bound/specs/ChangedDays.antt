@@ -23,10 +23,12 @@ pub record AreChanges (day : Day) (changes : List Change) : Type 0 where
   pub costs : All (λ change. change.cost ≤ 1000000) changes
 
 -- the cost of each change whose trip has another pick than its base
+abbrev pub own_cost : List ℕ → Change → ℕ
+own_cost picks change = if change.base == pick_of picks change.trip then 0 else change.cost
+
 abbrev pub added_cost : List Change → List ℕ → ℕ
 added_cost [] picks = 0
-added_cost (change ∷ changes) picks =
-    (if change.base == pick_of picks change.trip then 0 else change.cost) + added_cost changes picks
+added_cost (change ∷ changes) picks = own_cost picks change + added_cost changes picks
 
 -- Picks cost what their compositions cost and what the changes add. All else is as it is on the day.
 abbrev pub changed_meanings : ChangedDay → Meanings

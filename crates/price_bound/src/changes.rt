@@ -1,9 +1,13 @@
 //! Changes: what it costs to give trips other compositions than bases.
 
-ghost use Rattle.std.specs.Prelude.{◌≡◌, ◌==◌, if◌then◌else◌};
+ghost use Rattle.std.specs.Prelude.{◌≡◌, ◌<◌, ◌==◌, if◌then◌else◌, All, length, pos};
+ghost use Rattle.price_bound.specs.CellSizes.{IsSmall};
+ghost use Rattle.price_bound.specs.ChangedDays.{added_cost, own_cost};
 ghost use Rattle.price_bound.specs.Changes.{change_cost};
 
-use rail_base::{CompNo, TripNo};
+use crate::worths::added;
+use rail_base::{CompNo, Money, TripNo};
+use timetable::Picks;
 
 /// What a trip costs more with another composition than its base.
 #[derive(Clone, Copy, Debug, PartialEq, Eq)]
@@ -37,4 +41,28 @@ fn cost_from(change: &Change, comp: CompNo) -> u32
         return 0;
     }
     change.cost
+}
+
+/// What changes add to the cost of picks, which have one for the trip of each change.
+pub(crate) fn added_cost(changes: &[Change], picks: &Picks) -> Money
+    requires { All (λ change. change.trip < length picks.now) changes.now }
+    ensures value { result.0 ≡ pos (added_cost changes.now picks.now) }
+    ensures small { IsSmall 1000000000000000000000000000000 result.0 }
+{
+    let mut sum = Money(0);
+    for place in 0..changes.len() {
+        let more = own_cost(&changes[place], picks);
+        sum = added(sum, more);
+    }
+    sum
+}
+
+/// What one change adds to the cost of picks, which have one for its trip.
+fn own_cost(change: &Change, picks: &Picks) -> Money
+    requires { change.now.trip < length picks.now }
+    ensures value { result.0 ≡ pos (own_cost picks.now change.now) }
+    ensures small { IsSmall 4294967296 result.0 }
+{
+    let comp = picks.get(change.trip);
+    Money(i128::from(cost_from(change, comp)))
 }

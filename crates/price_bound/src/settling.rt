@@ -4,12 +4,15 @@ ghost use Rattle.std.specs.Prelude.{◌≡◌, ◌-ℤ◌, pos};
 ghost use Rattle.timetable.specs.Indices.{IsPlace};
 ghost use Rattle.transitions.specs.Edges.{AreGraphs};
 ghost use Rattle.branch_tree.specs.Bounds.{IsSettled};
-ghost use Rattle.price_bound.specs.DayMeanings.{IsAccepted, meanings_of};
+ghost use Rattle.price_bound.specs.ChangedDays.{AreChanges, changed_day, changed_meanings};
+ghost use Rattle.price_bound.specs.DayMeanings.{IsAccepted};
 ghost use Rattle.price_bound.specs.Following.{Follow};
 ghost use Rattle.price_bound.specs.Settling.{Names, fault_sign, place_of};
 ghost use Rattle.price_bound.specs.Slacks.{sign_of};
 
+use crate::changes::{Change, added_cost};
 use crate::parts::first_missed;
+use crate::worths::added;
 use branch_tree::Settled;
 use cost_model::cost;
 use inventory::{Ledger, StockFault};
@@ -18,19 +21,21 @@ use transitions::Graphs;
 
 /// Whether picks that follow are a solution, and its cost; else an index at which they have a slack, and its sign: that
 /// of the first hand-over whose second trip misses the part, and of the part; or that of the first fault of the yards.
-/// The ledger is one of the day. It takes no memory.
+/// The ledger is one of the day. The cost is that under changes. It takes no memory.
 pub(crate) fn settle(
     instance: &Instance,
     graphs: &Graphs,
+    changes: &[Change],
     ledger: &mut Ledger<'_>,
     picks: &Picks,
 ) -> Settled
     requires accepted { IsAccepted instance.now }
     requires graphs { AreGraphs instance.now graphs.now }
+    requires changes { AreChanges instance.now changes.now }
     requires ledger { ledger.old.day ≡ instance.now }
     requires follow { Follow instance.now picks.now }
     ensures day { ledger.new.day ≡ ledger.old.day }
-    ensures settled { IsSettled (meanings_of instance.now) picks.now result }
+    ensures settled { IsSettled (changed_meanings (changed_day instance.now changes.now)) picks.now result }
 {
     if let Some(place) = first_missed(instance, graphs, picks) {
         return broken_at(instance, place, 1);
@@ -38,7 +43,10 @@ pub(crate) fn settle(
     ledger.load(picks);
     match ledger.first_fault() {
         Some(fault) => broken_by(instance, fault),
-        None => Settled::Costs(cost(instance, picks)),
+        None => {
+            let more = added_cost(changes, picks);
+            Settled::Costs(added(cost(instance, picks), more))
+        }
     }
 }
 
