@@ -1,0 +1,19 @@
+use Rattle.std.proofs.Common.{◌≡◌, ℕ, ◌≤◌, false, length, get_or}
+use Rattle.search.specs.Asking.{AreAskedUpTo, once}
+use Rattle.search.specs.Desks.{IsLaidOut}
+use Rattle.search.specs.Offers.{IsOffered}
+use Rattle.search.specs.Solving.{plan_in}
+use Rattle.search.specs.Working.{IsWorkedOn}
+use Rattle.search.proofs.rounds.make_round.Given as goal
+
+abbrev pub invariant-loop-place : goal.invariant-loop-place
+invariant-loop-place g l = record {
+  same : g.R.Relaxation.problem l.problem ≡ g.R.Relaxation.problem l.fn.problem;
+  region : l.work.region ≡ l.fn.work.region;
+  offered : IsOffered (g.R.Relaxation.meanings (g.R.Relaxation.problem l.fn.problem)) l.fn.work.region (plan_in l.fn.best) (plan_in l.best);
+  worked : IsWorkedOn (g.R.Relaxation.meanings (g.R.Relaxation.problem l.fn.problem)) (plan_in l.best) l.work;
+  desk : IsLaidOut (g.R.Relaxation.meanings (g.R.Relaxation.problem l.fn.problem)) (length l.fn.advisors.items) l.desk;
+  enough : (place : ℕ) → l.place ≤ place → get_or l.desk.has_enough.items place false ≡ get_or l.fn.desk.has_enough.items place false;
+  asked : AreAskedUpTo l.fn.advisors.items l.advisors.items (λ b. (goal.Advisor-dyn g (b.vtable, b.value)).asked b.value)
+      (λ b. (goal.Advisor-dyn g (b.vtable, b.value)).has_quit b.value) (once l.fn.desk.has_enough.items) l.place;
+}

@@ -1,0 +1,22 @@
+use Rattle.std.proofs.Common.{◌≡◌, ◌≤◌, true, length}
+use Rattle.search.specs.Asking.{AreAsked, once}
+use Rattle.search.specs.Desks.{IsLaidOut}
+use Rattle.search.specs.Offers.{IsOffered}
+use Rattle.search.specs.Solving.{plan_in}
+use Rattle.search.specs.Working.{IsWorkedOn, is_left_open}
+use Rattle.search.proofs.rounds.make_rounds.Given as goal
+
+abbrev pub invariant-loop-round : goal.invariant-loop-round
+invariant-loop-round g l = record {
+  same : g.R.Relaxation.problem l.problem ≡ g.R.Relaxation.problem l.fn.problem;
+  region : l.work.region ≡ l.fn.work.region;
+  offered : IsOffered (g.R.Relaxation.meanings (g.R.Relaxation.problem l.fn.problem)) l.fn.work.region (plan_in l.fn.best) (plan_in l.best);
+  worked : IsWorkedOn (g.R.Relaxation.meanings (g.R.Relaxation.problem l.fn.problem)) (plan_in l.best) l.work;
+  desk : IsLaidOut (g.R.Relaxation.meanings (g.R.Relaxation.problem l.fn.problem)) (length l.advisors.items) l.desk;
+  asked : AreAsked l.fn.advisors.items l.advisors.items (λ b. (goal.Advisor-dyn g (b.vtable, b.value)).asked b.value)
+      (λ b. (goal.Advisor-dyn g (b.vtable, b.value)).has_quit b.value) 0 l.round;
+  first : l.round ≡ 0 → once l.desk.has_enough.items ≡ 1;
+  least : 1 ≤ l.round → is_left_open (plan_in l.best) l.work ≡ true →
+      AreAsked l.fn.advisors.items l.advisors.items (λ b. (goal.Advisor-dyn g (b.vtable, b.value)).asked b.value)
+      (λ b. (goal.Advisor-dyn g (b.vtable, b.value)).has_quit b.value) 1 l.round;
+}

@@ -1,0 +1,50 @@
+use Rattle.std.proofs.Common.{◌≡◌, None, [], ◌∷◌, ◌++◌, All, sym, ap, subst, ◌∙◌}
+use Rattle.std.proofs.lemmas.List.Elements.{All-cons, All-nil}
+use Rattle.branch_tree.specs.Trees.{branchings_of}
+use Rattle.search.specs.Asking.{AreAsked, in_rounds}
+use Rattle.search.specs.Ends.{made_or_open}
+use Rattle.search.specs.Frontiers.{IsEntered}
+use Rattle.search.specs.Nodes.{IsLeafOf, IsSearched, tree_node, tree_nodes}
+use Rattle.search.specs.Offers.{IsOffered}
+use Rattle.search.specs.Solving.{plan_in}
+use Rattle.search.proofs.Asking.{are_unasked}
+use Rattle.search.proofs.Counting.{asked_for_leaf}
+use Rattle.search.proofs.Growing.{one_if_leaf, one_node}
+use Rattle.search.proofs.solving.Search.begin.Goals as goal
+
+pub returns-in_err-inherited-clause-asked : goal.returns-in_err-inherited-clause-asked
+returns-in_err-inherited-clause-asked g c = are_unasked _ _ c.args.rounds c.args.advisors.now.items
+
+pub returns-in_err-copy-clause-asked : goal.returns-in_err-copy-clause-asked
+returns-in_err-copy-clause-asked g c = are_unasked _ _ c.args.rounds c.args.advisors.now.items
+
+pub returns-clause-searched : goal.returns-clause-searched
+returns-clause-searched g c =
+    let problem = g.R.Relaxation.meanings (g.R.Relaxation.problem c.args.problem.now) in
+    let best = plan_in c.make_node.new.best in
+    let items : c.push.new.self.items ≡ c.in_ok-node.node ∷ [] = c.in_ok-push.ensures.items ∙ ap (λ before. before ++ c.in_ok-node.node ∷ []) c.new-nodes.ensures.items in
+    subst (λ nodes. IsSearched problem c.args.root.now best nodes) (sym items)
+    (one_node problem c.args.root.now best c.in_ok-node.node c.requires.over
+    (subst (λ sets. IsLeafOf problem best sets c.in_ok-node.node) c.in_ok-copy.ensures c.in_ok-node.ensures.node)
+    (subst (λ sets. IsOffered problem sets None best) c.in_ok-copy.ensures c.in_ok-node.ensures.offered))
+
+pub returns-clause-entered : goal.returns-clause-entered
+returns-clause-entered g c =
+    let best = plan_in c.make_node.new.best in
+    let items : c.push.new.self.items ≡ c.in_ok-node.node ∷ [] = c.in_ok-push.ensures.items ∙ ap (λ before. before ++ c.in_ok-node.node ∷ []) c.new-nodes.ensures.items in
+    subst (λ nodes. All (IsEntered best c.enter.new.self) nodes) (sym items)
+    (All-cons (IsEntered best c.enter.new.self) c.in_ok-node.node [] (c.in_ok-enter.ensures.node best) (All-nil (IsEntered best c.enter.new.self)))
+
+pub returns-clause-none : goal.returns-clause-none
+returns-clause-none g c =
+    let items : c.push.new.self.items ≡ c.in_ok-node.node ∷ [] = c.in_ok-push.ensures.items ∙ ap (λ before. before ++ c.in_ok-node.node ∷ []) c.new-nodes.ensures.items in
+    ap (λ nodes. branchings_of (tree_nodes nodes)) items ∙ one_if_leaf (tree_node c.in_ok-node.node) c.in_ok-node.ensures.node.leaf
+
+pub returns-clause-counted : goal.returns-clause-counted
+returns-clause-counted g c =
+    let best = plan_in c.make_node.new.best in
+    let items : c.push.new.self.items ≡ c.in_ok-node.node ∷ [] = c.in_ok-push.ensures.items ∙ ap (λ before. before ++ c.in_ok-node.node ∷ []) c.new-nodes.ensures.items in
+    subst (λ nodes. AreAsked c.args.advisors.now.items c.make_node.new.advisors.items (λ b. (goal.Advisor-dyn g (b.vtable, b.value)).asked b.value) (λ b. (goal.Advisor-dyn g (b.vtable, b.value)).has_quit b.value)
+    (in_rounds c.args.rounds (made_or_open best (tree_nodes nodes))) c.args.rounds) (sym items)
+    (asked_for_leaf _ _ c.args.rounds best (tree_node c.in_ok-node.node) c.args.advisors.now.items c.make_node.new.advisors.items
+    c.in_ok-node.ensures.node.leaf c.make_node.ensures.asked c.in_ok-node.ensures.least)

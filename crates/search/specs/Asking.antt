@@ -1,0 +1,58 @@
+-- How the advisors of a search are asked.
+use Rattle.std.specs.Prelude.{ℕ, zero, suc, ◌+◌, ◌<◌, ◌≤◌, ◌^◌, ◌≡◌, List, [], ◌∷◌, length, get_or, All, Bool, true, false}
+use Rattle.std.specs.List.{AllZip}
+
+-- An advisor that has not quit was asked so many times at least, and each was asked so many times at most. One that has
+-- quit stays so, and is not asked.
+pub record IsAsked (least most before after : ℕ) (had_quit has_quit : Bool) : Type 0 where
+  pub not_fewer : before ≤ after
+  pub at_most : after ≤ before + most
+  pub at_least : has_quit ≡ false → before + least ≤ after
+  pub still_quit : had_quit ≡ true → has_quit ≡ true
+  pub not_asked : had_quit ≡ true → after ≡ before
+
+-- as many advisors as before at their places, each asked so many times at least, and so many at most
+abbrev pub AreAsked : {A : Type 0} → List A → List A → (A → ℕ) → (A → Bool) → ℕ → ℕ → Type 0
+AreAsked before after asked has_quit least most =
+    AllZip (λ old new. IsAsked least most (asked old) (asked new) (has_quit old) (has_quit new)) before after
+
+-- a number of times where there are rounds, and none where there are not
+abbrev pub in_rounds : ℕ → ℕ → ℕ
+in_rounds zero times = 0
+in_rounds (suc rounds) times = times
+
+-- each advisor may be asked so many times yet
+abbrev pub MayBeAsked : {A : Type 0} → List A → (A → ℕ) → ℕ → Type 0
+MayBeAsked advisors asked times = All (λ advisor. asked advisor + times < 2 ^ 64) advisors
+
+-- how often an advisor is asked in a round at least: once where none has enough yet
+abbrev pub once : List Bool → ℕ
+once [] = 1
+once (true ∷ flags) = 0
+once (false ∷ flags) = once flags
+
+-- the advisors at the first places were asked once at least, where they have not quit and so much is claimed, and once
+-- at most; and the others were not
+abbrev pub AreAskedUpTo : {A : Type 0} → List A → List A → (A → ℕ) → (A → Bool) → ℕ → ℕ → Type 0
+AreAskedUpTo before after asked has_quit least zero = after ≡ before
+AreAskedUpTo [] [] asked has_quit least (suc places) = Unit {0}
+AreAskedUpTo [] (new ∷ after) asked has_quit least (suc places) = ⊥
+AreAskedUpTo (old ∷ before) [] asked has_quit least (suc places) = ⊥
+AreAskedUpTo (old ∷ before) (new ∷ after) asked has_quit least (suc places) =
+    IsAsked least 1 (asked old) (asked new) (has_quit old) (has_quit new) ×
+    AreAskedUpTo before after asked has_quit least places
+
+-- the advisor at a place was asked once, and no other was
+abbrev pub IsAskedAt : {A : Type 0} → List A → List A → (A → ℕ) → (A → Bool) → ℕ → Type 0
+IsAskedAt [] after asked has_quit place = ⊥
+IsAskedAt (old ∷ before) [] asked has_quit place = ⊥
+IsAskedAt (old ∷ before) (new ∷ after) asked has_quit zero =
+    IsAsked 1 1 (asked old) (asked new) (has_quit old) (has_quit new) × (after ≡ before)
+IsAskedAt (old ∷ before) (new ∷ after) asked has_quit (suc place) =
+    (new ≡ old) × IsAskedAt before after asked has_quit place
+
+-- the advisor at a place has not quit, and may be asked once more
+pub record CanAsk {A : Type 0} (advisors : List A) (asked : A → ℕ) (has_quit : A → Bool) (place : ℕ) : Type 0 where
+  pub within : place < length advisors
+  pub stays : (advisor : A) → has_quit (get_or advisors place advisor) ≡ false
+  pub room : (advisor : A) → asked (get_or advisors place advisor) + 1 < 2 ^ 64

@@ -1,0 +1,35 @@
+-- The frontier of a search: which nodes it has, and which of them it names.
+use Rattle.std.specs.Prelude.{ℕ, ◌≡◌, ◌<◌, ◌&&◌, List, length, slice_index_or, Bool, true, false, Option, nat_eq}
+use Rattle.std.specs.declared.cmp.Ordering.{Ordering}
+use Rattle.std.specs.Ordering.{int_cmp, nat_cmp, ordering_then, int_eq}
+use Rattle.std.specs.BTreeMap.{ContainsKey}
+use Rattle.rail_base.specs.declared.numbers.Money.{Money}
+use Rattle.branch_tree.specs.Claims.{Priced, is_below}
+use Rattle.search.specs.declared.frontier.Frontier.{Frontier}
+use Rattle.search.specs.declared.nodes.SearchNode.{SearchNode}
+use Rattle.search.specs.declared.nodes.SearchNode.TheVariants.{Fixed, Pending}
+
+-- whether a node may be branched and leaves room for a better solution
+abbrev pub can_improve : Option Priced → SearchNode → Bool
+can_improve best (Fixed node) = false
+can_improve best (Pending node) = is_below node.bound.0 best
+
+-- the node at a place may be branched
+pub record IsOpenAt (best : Option Priced) (nodes : List SearchNode) (place : ℕ) : Type 0 where
+  pub within : place < length nodes
+  pub here : (node : SearchNode) → can_improve best (slice_index_or nodes place node) ≡ true
+
+-- the order of ranks: by bound, and then by number
+abbrev pub rank_order : Money × ℕ → Money × ℕ → Ordering
+rank_order one other = ordering_then (int_cmp one.0.0 other.0.0) (nat_cmp one.1 other.1)
+
+-- whether a node may be branched and has this bound and number
+abbrev pub has_rank : Money → ℕ → SearchNode → Bool
+has_rank bound number (Fixed node) = false
+has_rank bound number (Pending node) = int_eq node.bound.0 bound.0 && nat_eq node.number number
+
+-- a frontier has the rank of a node, where it may be branched and leaves room for a better solution
+abbrev pub IsEntered : Option Priced → Frontier → SearchNode → Type 0
+IsEntered best frontier (Fixed node) = Unit {0}
+IsEntered best frontier (Pending node) =
+    is_below node.bound.0 best ≡ true → ContainsKey rank_order frontier.ranks (node.bound, node.number)

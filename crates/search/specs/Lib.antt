@@ -1,0 +1,15 @@
+-- how the advisors of a search are asked
+pub mod Asking
+-- what a search finds
+pub mod Solving
+-- the best solution so far, and evaluations of a region
+pub mod Offers
+pub mod Evaluations
+-- a node in work, and its advisors' desk
+pub mod Working
+pub mod Desks
+-- the nodes of a search, and those of them that may be branched
+pub mod Nodes
+pub mod Frontiers
+-- the end of a search
+pub mod Ends

@@ -1,0 +1,391 @@
+//! The search: it begins with the root, branches the open node of the least bound while branchings are granted, and
+//! tells what its tree proves.
+
+ghost use Rattle.std.specs.Prelude.{ℕ, List, Bool, Option, ◌≡◌, ◌+◌, ◌*◌, ◌<◌, ◌≤◌, ◌^◌, true, length, All, IfOk, OnOk};
+ghost use Rattle.rail_base.specs.declared.limits.TheConstants.{MOST_BRANCHINGS, MOST_NODES, MOST_ROUNDS};
+ghost use Rattle.branch_tree.specs.Claims.{Priced, is_open, open_leaves_of};
+ghost use Rattle.branch_tree.specs.Meanings.{DoFitFor};
+ghost use Rattle.branch_tree.specs.Regions.{IsOver};
+ghost use Rattle.branch_tree.specs.Trees.{branchings_of};
+ghost use Rattle.search.specs.Asking.{AreAsked, MayBeAsked, in_rounds};
+ghost use Rattle.search.specs.Ends.{HasEnded, HaveKeptUp, found_by, least_of, lesser, made_or_open};
+ghost use Rattle.search.specs.Frontiers.{IsEntered, IsOpenAt};
+ghost use Rattle.search.specs.Nodes.{IsDivisionAt, IsLeafOf, IsSearched, branched, tree_node, tree_nodes};
+ghost use Rattle.search.specs.Offers.{IsOffered};
+ghost use Rattle.search.specs.Solving.{IsSolved, nodes_found, plan_found, plan_in};
+ghost use Rattle.search.specs.Working.{IsWorkedOn};
+ghost use Rattle.search.specs.declared.nodes.SearchNode.{SearchNode};
+
+use crate::evaluation::{Outcome, evaluate, is_below};
+use crate::found::{Best, Found};
+use crate::frontier::Frontier;
+use crate::nodes::{Division, SearchNode};
+use crate::rounds::make_rounds;
+use crate::work::Work;
+use advisors::Advisor;
+use branch_tree::{Cut, Multipliers, Node, Region, Relaxation, Tree};
+use rail_base::{Money, NoMemory};
+use std::alloc::Global;
+
+/// A search that is under way.
+#[derive(Drop)]
+struct Search {
+    /// The nodes in preorder.
+    nodes: Vec<SearchNode>,
+    /// Those that may be branched, by rank.
+    frontier: Frontier,
+    /// The cheapest solution so far, the earliest of these.
+    best: Option<Best>,
+}
+
+/// Finds a solution of least cost in a region by branch and bound, or how little one may cost where the branchings that
+/// are granted don't suffice.
+///
+/// `root` is over the trips and the catalogue of the problem. `grant` is how many branchings may be made, at most
+/// 4,000, and `rounds` how often an advisor may be asked about one node, at most 100. Each advisor was asked at most
+/// 2^63 times.
+///
+/// The answer is proved by its tree, whatever the advisors propose. `Bounded` comes exactly where all branchings that
+/// are granted are made and a leaf is open: its bound is below the cost of the best solution, or there is none yet.
+/// Else it is `Optimal` where a solution was found, and `Infeasible` where none was: then there is none in the root.
+///
+/// The advisors stay in the list at their places, whatever the answer is. One that has quit, before or meanwhile, is
+/// not asked again. Each other one was asked at most `rounds` times about each node that was made, and, where there
+/// are rounds, once at least for each branching and each leaf that is open at the end.
+///
+/// The error is want of memory alone, here or in an advisor. What the problem means is as before after any answer.
+pub fn solve<R: Relaxation>(
+    alloc: Global,
+    problem: &mut R,
+    root: &Region,
+    grant: u32,
+    rounds: u8,
+    advisors: &mut Vec<Box<dyn Advisor>>,
+) -> Result<Found, NoMemory>
+    requires over { IsOver (R.meanings (R.problem problem.old)).trips
+        (R.meanings (R.problem problem.old)).catalogue root.now }
+    requires grant { grant ≤ MOST_BRANCHINGS }
+    requires rounds { rounds ≤ MOST_ROUNDS }
+    requires asked { All (λ advisor. asked advisor ≤ 2 ^ 63) advisors.old.items }
+    ensures same { R.problem problem.new ≡ R.problem problem.old }
+    ensures solved { IfOk result (IsSolved (R.meanings (R.problem problem.old)) root.now grant) }
+    ensures asked { AreAsked advisors.old.items advisors.new.items asked has_quit 0 (rounds * (2 * grant + 1)) }
+    ensures counted { IfOk result (λ found. AreAsked advisors.old.items advisors.new.items asked has_quit
+        (in_rounds rounds (branchings_of (nodes_found found) + open_leaves_of (plan_found found) (nodes_found found)))
+        (rounds * (2 * branchings_of (nodes_found found) + 1))) }
+{
+    let search = run(alloc, problem, root, grant, rounds, advisors)?;
+    let found = search.finish(alloc)?;
+    Ok(found)
+}
+
+/// Branches open nodes until none is left or so many branchings are made.
+fn run<R: Relaxation>(
+    alloc: Global,
+    problem: &mut R,
+    root: &Region,
+    grant: u32,
+    rounds: u8,
+    advisors: &mut Vec<Box<dyn Advisor>>,
+) -> Result<Search, NoMemory>
+    requires over { IsOver (R.meanings (R.problem problem.old)).trips
+        (R.meanings (R.problem problem.old)).catalogue root.now }
+    requires grant { grant ≤ MOST_BRANCHINGS }
+    requires rounds { rounds ≤ MOST_ROUNDS }
+    requires asked { All (λ advisor. asked advisor ≤ 2 ^ 63) advisors.old.items }
+    ensures same { R.problem problem.new ≡ R.problem problem.old }
+    ensures searched { IfOk result (λ search. IsSearched (R.meanings (R.problem problem.old)) root.now
+        (plan_in search.best) search.nodes.items) }
+    ensures granted { IfOk result (λ search. branchings_of (tree_nodes search.nodes.items) ≤ grant) }
+    ensures ended { IfOk result (λ search. HasEnded grant (plan_in search.best) (tree_nodes search.nodes.items)) }
+    ensures asked { AreAsked advisors.old.items advisors.new.items asked has_quit 0 (rounds * (2 * grant + 1)) }
+    ensures counted { IfOk result (λ search. AreAsked advisors.old.items advisors.new.items asked has_quit
+        (in_rounds rounds (made_or_open (plan_in search.best) (tree_nodes search.nodes.items)))
+        (rounds * (2 * branchings_of (tree_nodes search.nodes.items) + 1))) }
+{
+    let mut search = Search::begin(alloc, problem, root, rounds, advisors)?;
+    for _branching in 0..grant {
+        let Some(place) = search.frontier.next_open(&search.nodes, &search.best) else {
+            return Ok(search);
+        };
+        search.branch(alloc, problem, place, rounds, advisors)?;
+    }
+    Ok(search)
+}
+
+impl Search {
+    /// A search over a region, which is its one node.
+    fn begin<R: Relaxation>(
+        alloc: Global,
+        problem: &mut R,
+        root: &Region,
+        rounds: u8,
+        advisors: &mut Vec<Box<dyn Advisor>>,
+    ) -> Result<Search, NoMemory>
+        requires over { IsOver (R.meanings (R.problem problem.old)).trips
+            (R.meanings (R.problem problem.old)).catalogue root.now }
+        requires room { MayBeAsked advisors.old.items asked rounds }
+        ensures same { R.problem problem.new ≡ R.problem problem.old }
+        ensures accepted { OnOk result (R.IsAccepted (R.problem problem.old)) }
+        ensures searched { IfOk result (λ search. IsSearched (R.meanings (R.problem problem.old)) root.now
+            (plan_in search.best) search.nodes.items) }
+        ensures entered { IfOk result (λ search.
+            All (IsEntered (plan_in search.best) search.frontier) search.nodes.items) }
+        ensures none { IfOk result (λ search. branchings_of (tree_nodes search.nodes.items) ≡ 0) }
+        ensures asked { AreAsked advisors.old.items advisors.new.items asked has_quit 0 rounds }
+        ensures counted { IfOk result (λ search. AreAsked advisors.old.items advisors.new.items asked has_quit
+            (in_rounds rounds (made_or_open (plan_in search.best) (tree_nodes search.nodes.items))) rounds) }
+    {
+        let mut best = None;
+        let inherited = Multipliers::new(alloc)?;
+        let node = make_node(
+            alloc,
+            problem,
+            root.copy(alloc)?,
+            0,
+            &inherited,
+            &mut best,
+            rounds,
+            advisors,
+        )?;
+        let mut frontier = Frontier::new(alloc);
+        frontier.enter(&node)?;
+        let mut nodes = Vec::new(alloc);
+        nodes.push(node)?;
+        Ok(Search {
+            nodes,
+            frontier,
+            best,
+        })
+    }
+
+    /// Branches the open node at a place.
+    fn branch<R: Relaxation>(
+        &mut self,
+        alloc: Global,
+        problem: &mut R,
+        place: usize,
+        rounds: u8,
+        advisors: &mut Vec<Box<dyn Advisor>>,
+    ) -> Result<(), NoMemory>
+        requires accepted { R.IsAccepted (R.problem problem.old) }
+        requires searched { (root : List (List Bool)) × IsSearched (R.meanings (R.problem problem.old)) root
+            (plan_in self.old.best) self.old.nodes.items }
+        requires entered { All (IsEntered (plan_in self.old.best) self.old.frontier) self.old.nodes.items }
+        requires few { length self.old.nodes.items < MOST_NODES }
+        requires open { IsOpenAt (plan_in self.old.best) self.old.nodes.items place }
+        requires room { MayBeAsked advisors.old.items asked (2 * rounds) }
+        ensures same { R.problem problem.new ≡ R.problem problem.old }
+        ensures searched { OnOk result ((root : List (List Bool)) →
+            IsSearched (R.meanings (R.problem problem.old)) root (plan_in self.old.best) self.old.nodes.items →
+            IsSearched (R.meanings (R.problem problem.old)) root (plan_in self.new.best) self.new.nodes.items) }
+        ensures entered { OnOk result (All (IsEntered (plan_in self.new.best) self.new.frontier) self.new.nodes.items) }
+        ensures one { OnOk result
+            (branchings_of (tree_nodes self.new.nodes.items) ≡ branchings_of (tree_nodes self.old.nodes.items) + 1) }
+        ensures asked { AreAsked advisors.old.items advisors.new.items asked has_quit 0 (2 * rounds) }
+        ensures counted { OnOk result (HaveKeptUp (plan_in self.old.best) (tree_nodes self.old.nodes.items)
+            (plan_in self.new.best) (tree_nodes self.new.nodes.items)
+            (λ times. AreAsked advisors.old.items advisors.new.items asked has_quit (in_rounds rounds times)
+            (2 * rounds))) }
+    {
+        let division = self.divide_at(alloc, problem, place)?;
+        let number = self.nodes.len() as u32;
+        let left = make_node(
+            alloc,
+            problem,
+            division.left,
+            number,
+            &division.multipliers,
+            &mut self.best,
+            rounds,
+            advisors,
+        )?;
+        let right = make_node(
+            alloc,
+            problem,
+            division.right,
+            number + 1,
+            &division.multipliers,
+            &mut self.best,
+            rounds,
+            advisors,
+        )?;
+        put_children(
+            &mut self.nodes,
+            &mut self.frontier,
+            place,
+            division.cut,
+            left,
+            right,
+        )?;
+        Ok(())
+    }
+
+    /// Divides the open node at a place.
+    fn divide_at<R: Relaxation>(
+        &self,
+        alloc: Global,
+        problem: &R,
+        place: usize,
+    ) -> Result<Division, NoMemory>
+        requires accepted { R.IsAccepted (R.problem problem.now) }
+        requires searched { (root : List (List Bool)) ×
+            IsSearched (R.meanings (R.problem problem.now)) root (plan_in self.now.best) self.now.nodes.items }
+        requires open { IsOpenAt (plan_in self.now.best) self.now.nodes.items place }
+        ensures { IfOk result
+            (IsDivisionAt (R.meanings (R.problem problem.now)) (plan_in self.now.best) self.now.nodes.items place) }
+    {
+        let SearchNode::Pending(node) = &self.nodes[place] else {
+            unreachable!()
+        };
+        let division = node.divide(alloc, problem.catalogue())?;
+        Ok(division)
+    }
+
+    /// What was found. The error is want of memory.
+    fn finish(self, alloc: Global) -> Result<Found, NoMemory>
+        requires { length self.nodes.items ≤ MOST_NODES }
+        ensures { IfOk result (λ found. found ≡
+            found_by (least_of (tree_nodes self.nodes.items)) self.best (tree_nodes self.nodes.items)) }
+    {
+        let (tree, least) = into_tree(alloc, self.nodes)?;
+        Ok(found_of(least, self.best, tree))
+    }
+}
+
+/// Makes the node at a place a branch, puts its children behind it, and enters them in the frontier.
+fn put_children(
+    nodes: &mut Vec<SearchNode>,
+    frontier: &mut Frontier,
+    place: usize,
+    cut: Cut,
+    left: SearchNode,
+    right: SearchNode,
+) -> Result<(), NoMemory>
+    requires { place < length nodes.old.items }
+    ensures nodes { OnOk result (nodes.new.items ≡ branched nodes.old.items place cut left right) }
+    ensures left { OnOk result ((best : Option Priced) → IsEntered best frontier.new left) }
+    ensures right { OnOk result ((best : Option Priced) → IsEntered best frontier.new right) }
+    ensures others { OnOk result ((best : Option Priced) (node : SearchNode) →
+        IsEntered best frontier.old node → IsEntered best frontier.new node) }
+{
+    frontier.enter(&left)?;
+    frontier.enter(&right)?;
+    nodes[place] = SearchNode::Fixed(Node::Branch(cut));
+    nodes.insert(place + 1, left)?;
+    nodes.insert(place + 2, right)?;
+    Ok(())
+}
+
+/// The tree of the nodes, and the least of its bounds, where it has one. The error is want of memory.
+fn into_tree(alloc: Global, mut nodes: Vec<SearchNode>) -> Result<(Tree, Option<Money>), NoMemory>
+    requires { length nodes.items ≤ MOST_NODES }
+    ensures tree { IfOk result (λ made. made.0 ≡ tree_nodes nodes.items) }
+    ensures least { IfOk result (λ made. made.1 ≡ least_of (tree_nodes nodes.items)) }
+{
+    // The nodes leave from the end, so the first one is put there.
+    nodes.reverse();
+    let mut least = None;
+    let mut tree = Tree::new(alloc)?;
+    while let Some(node) = nodes.pop() {
+        let node = node.into_tree_node();
+        least = lesser_bound(least, &node);
+        tree.push(node)?;
+    }
+    Ok((tree, least))
+}
+
+/// What a tree proves with the least of its bounds and the best solution.
+fn found_of(least: Option<Money>, best: Option<Best>, tree: Tree) -> Found
+    ensures { result ≡ found_by least best tree }
+{
+    if let Some(bound) = least {
+        if is_below(bound, &best) {
+            return Found::Bounded { best, bound, tree };
+        }
+    }
+    match best {
+        Some(Best { picks, cost }) => Found::Optimal { picks, cost, tree },
+        None => Found::Infeasible { tree },
+    }
+}
+
+/// The lesser of a bound and that of a node, where there are such.
+fn lesser_bound(least: Option<Money>, node: &Node) -> Option<Money>
+    ensures { result ≡ lesser least node.now }
+{
+    let Node::CostLeaf { bound, .. } = node else {
+        return least;
+    };
+    match least {
+        Some(least) if bound.0 >= least.0 => Some(least),
+        _ => Some(*bound),
+    }
+}
+
+/// Makes a node of the search: evaluates its region with no multipliers and then under those that it inherits, and asks
+/// the advisors about it.
+fn make_node<R: Relaxation>(
+    alloc: Global,
+    problem: &mut R,
+    region: Region,
+    number: u32,
+    inherited: &Multipliers,
+    best: &mut Option<Best>,
+    rounds: u8,
+    advisors: &mut Vec<Box<dyn Advisor>>,
+) -> Result<SearchNode, NoMemory>
+    requires region { length region ≡ (R.meanings (R.problem problem.old)).trips }
+    requires fits { DoFitFor (R.meanings (R.problem problem.old)) inherited.now }
+    requires room { MayBeAsked advisors.old.items asked rounds }
+    ensures same { R.problem problem.new ≡ R.problem problem.old }
+    ensures offered { OnOk result (IsOffered (R.meanings (R.problem problem.old)) region (plan_in best.old)
+        (plan_in best.new)) }
+    ensures accepted { OnOk result (R.IsAccepted (R.problem problem.old)) }
+    ensures node { IfOk result (IsLeafOf (R.meanings (R.problem problem.old)) (plan_in best.new) region) }
+    ensures asked { AreAsked advisors.old.items advisors.new.items asked has_quit 0 rounds }
+    ensures least { IfOk result (λ node. is_open (plan_in best.new) (tree_node node) ≡ true →
+        AreAsked advisors.old.items advisors.new.items asked has_quit (in_rounds rounds 1) rounds) }
+{
+    let none = Multipliers::new(alloc)?;
+    let outcome = evaluate(alloc, problem, &region, none, best)?;
+    match outcome {
+        Outcome::Ended(ending) => Ok(SearchNode::Fixed(ending.into_leaf())),
+        Outcome::Open(evaluation) => {
+            let work = Work::new(alloc, region, evaluation)?;
+            let node = work_on(
+                alloc, problem, work, number, inherited, best, rounds, advisors,
+            )?;
+            Ok(node)
+        }
+    }
+}
+
+/// Works on a node after its first evaluation: evaluates it under the multipliers that it inherits, and asks the
+/// advisors about it.
+fn work_on<R: Relaxation>(
+    alloc: Global,
+    problem: &mut R,
+    mut work: Work,
+    number: u32,
+    inherited: &Multipliers,
+    best: &mut Option<Best>,
+    rounds: u8,
+    advisors: &mut Vec<Box<dyn Advisor>>,
+) -> Result<SearchNode, NoMemory>
+    requires region { length work.region ≡ (R.meanings (R.problem problem.old)).trips }
+    requires worked { IsWorkedOn (R.meanings (R.problem problem.old)) (plan_in best.old) work }
+    requires fits { DoFitFor (R.meanings (R.problem problem.old)) inherited.now }
+    requires room { MayBeAsked advisors.old.items asked rounds }
+    ensures same { R.problem problem.new ≡ R.problem problem.old }
+    ensures offered { OnOk result (IsOffered (R.meanings (R.problem problem.old)) work.region (plan_in best.old)
+        (plan_in best.new)) }
+    ensures node { IfOk result (IsLeafOf (R.meanings (R.problem problem.old)) (plan_in best.new) work.region) }
+    ensures asked { AreAsked advisors.old.items advisors.new.items asked has_quit 0 rounds }
+    ensures least { IfOk result (λ node. is_open (plan_in best.new) (tree_node node) ≡ true →
+        AreAsked advisors.old.items advisors.new.items asked has_quit (in_rounds rounds 1) rounds) }
+{
+    work.inherit(alloc, problem, inherited, best)?;
+    make_rounds(alloc, problem, &mut work, best, rounds, advisors)?;
+    Ok(work.into_node(number, best))
+}
