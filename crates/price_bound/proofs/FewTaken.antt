@@ -22,7 +22,7 @@ use Rattle.inventory.specs.Counts.{all_taken, count_at, last_of, takes_of, taken
 use Rattle.price_bound.specs.Following.{pick_of}
 use Rattle.price_bound.proofs.Solving.{list_picked}
 
-count_le : (m : ℕ) (us : List ℕ) → count_of m us ≤ length us
+pub count_le : (m : ℕ) (us : List ℕ) → count_of m us ≤ length us
 count_le m [] = omega arith
 count_le m (u ∷ us) = let rest = count_le m us in by (u == m) rest
   where
@@ -30,7 +30,7 @@ count_le m (u ∷ us) = let rest = count_le m us in by (u == m) rest
     by true rest = omega arith
     by false rest = omega arith
 
-few_beyond : (end : End) (whole : List ℕ) (n : ℕ) → length (beyond end whole n) ≤ length whole
+pub few_beyond : (end : End) (whole : List ℕ) (n : ℕ) → length (beyond end whole n) ≤ length whole
 few_beyond at.None whole n = omega arith
 few_beyond at.Rear whole n = let e = length-drop n whole in omega arith
 few_beyond at.Front whole n = let e = length-take-le (length whole - n) whole (omega arith) in omega arith
@@ -51,11 +51,11 @@ module _ (uncouple couple : End) (exchange : Bool) (arriving departing : List �
       (record { kept = staying uncouple arriving n; given = beyond uncouple arriving n; taken = beyond couple departing n }) (few_beyond couple departing n)
 
 -- a sum of small numbers
-few_summed : (f : ℕ → ℕ) (n : ℕ) → ((k : ℕ) → f k ≤ 6) → sum_below f n ≤ 6 * n
+pub few_summed : (f : ℕ → ℕ) (n : ℕ) → ((k : ℕ) → f k ≤ 6) → sum_below f n ≤ 6 * n
 few_summed f zero few = omega arith
 few_summed f (suc n) few = let rest = few_summed f n few in let last = few n in omega arith
 
-chosen : (b : Bool) (n : ℕ) → n ≤ 6 → cond {A = ℕ} b n 0 ≤ 6
+pub chosen : (b : Bool) (n : ℕ) → n ≤ 6 → cond {A = ℕ} b n 0 ≤ 6
 chosen true n few = few
 chosen false n few = omega arith
 
@@ -63,7 +63,7 @@ least : (a b : ℕ) → b ≤ 2400 → neg_ℤ (pos 2400) ≤ℤ (pos a -ℤ pos
 least a b few = omega (arith, ints, few)
 
 module _ (day : Day) (picks : List ℕ) (is_day : IsDay day) (are_picks : ArePicks day picks) where
-  few_listed : (t : ℕ) → length (list_of (picked day picks) t) ≤ 6
+  pub few_listed : (t : ℕ) → length (list_of (picked day picks) t) ≤ 6
   unfolding list_of
   few_listed t = elim (cases_lt t (length picks)) [
     | inl below ↦

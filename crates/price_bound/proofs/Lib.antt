@@ -1,10 +1,10 @@
 mod Steps
-mod Solving
+pub mod Solving
 mod Ordering
 mod Meeting
 mod Breaking
 mod Ruling
-mod Whole
+pub mod Whole
 mod PartsFound
 mod FirstBroken
 mod SettledBy
@@ -18,7 +18,7 @@ mod Places
 mod Choosing
 mod Parting
 mod Pricing
-mod Planned
+pub mod Planned
 mod IntLaws
 mod OneMultiplier
 mod ByLink
@@ -43,3 +43,10 @@ mod ChainCells
 mod Finding
 mod ChangedCosts
 mod ChangedRelaxation
+mod Alone
+mod Closing
+mod BrokenPlaces
+mod FewGiven
+mod FewCosts
+mod SmallValues
+mod MissedParts

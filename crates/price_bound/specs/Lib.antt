@@ -10,8 +10,12 @@ pub mod DayMeanings
 pub mod Choices
 -- what settling names
 pub mod Settling
+-- where picks are broken first
+pub mod BrokenLaws
 -- what is entered of the slacks
 pub mod Entered
+-- how large slacks and priced values are
+pub mod Sizes
 -- plans of named units
 pub mod PlanBounds
 -- the priced value, regrouped over trips and links

@@ -2,8 +2,11 @@
 //!
 //! A law is the contract of a function that does nothing.
 
+ghost use Rattle.price_bound.specs.BrokenLaws.{BrokenAtFirstFault, BrokenAtFirstMissed, BrokenPicksAreClosed};
+ghost use Rattle.price_bound.specs.BrokenLaws.{PartsAreMissedOrNot, SolvedWithoutFault};
 ghost use Rattle.price_bound.specs.DayMeanings.{DaysAreRelaxations};
 ghost use Rattle.price_bound.specs.PlanBounds.{NoSolutionsNoPlans, PlansArePricedLow, PlansHavePicks, SolutionsBoundPlans};
+ghost use Rattle.price_bound.specs.Sizes.{DaysWantFew, SlacksAreSmall, ValuesAreSmall};
 
 /// Every accepted day is a relaxation of its solutions, which are the picks that are the types of a plan that runs: what
 /// is said of a solution's slacks, of near picks and of picks that are no solution holds of the day.
@@ -23,4 +26,30 @@ pub fn solutions_stand_for_plans()
 pub fn plans_are_priced_low()
     ensures picks { PlansHavePicks }
     ensures law { PlansArePricedLow }
+{}
+
+/// Picks that follow are broken at the first hand-over whose second trip misses the part, at the part and with sign 1,
+/// if there is one; where none misses its part, at the first fault of the yards, with the sign of the slack there; and
+/// where the yards have no fault either, they are a solution.
+pub fn picks_are_broken_first()
+    ensures parts { PartsAreMissedOrNot }
+    ensures missed { BrokenAtFirstMissed }
+    ensures fault { BrokenAtFirstFault }
+    ensures solved { SolvedWithoutFault }
+{}
+
+/// Picks that follow and are no solution have no open region alone: nothing is near it where they are broken at a
+/// hand-over, and where they are broken at a yard, the multiplier that is named for them is a ray there. The day has no
+/// more compositions than a catalogue may have.
+pub fn broken_picks_are_closed()
+    ensures law { BrokenPicksAreClosed }
+{}
+
+/// Where no station wants more units of a type than a stock row may say, as is so of the day of tables whose stock
+/// rows are within the limits, the slacks of picks that follow are at most `MOST_SLACK` in size, and their priced
+/// values are below `MOST_VALUE`.
+pub fn values_are_small()
+    ensures wanted { DaysWantFew }
+    ensures slacks { SlacksAreSmall }
+    ensures values { ValuesAreSmall }
 {}

@@ -16,9 +16,11 @@ mod priced;
 mod prices;
 mod questions;
 mod settling;
+mod sizes;
 mod slacks;
 mod workspaces;
 mod worths;
 
 pub use changes::Change;
 pub use day_bounds::DayBounds;
+pub use sizes::{MOST_SLACK, MOST_VALUE};

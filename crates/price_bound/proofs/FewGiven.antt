@@ -1,0 +1,96 @@
+-- A yard has few units at the start, and a trip gives no more than a composition has, so that no count of the yards is
+-- far above zero.
+use Rattle.std.proofs.Common.{◌≡◌, ◌≤◌, ◌+◌, ◌-◌, ℕ, List, [], ◌∷◌, length, map, Bool, true, false, Option, Some, None, unwrap_or, arith, inl, inr}
+use Rattle.std.specs.Prelude.{option_map, option_and_then, ◌==◌, ◌&&◌, if◌then◌else◌, nat_le, replicate}
+use Rattle.std.proofs.lemmas.Bool.{cases_Bool, cond-true, cond-false}
+use Rattle.std.proofs.lemmas.List.{length-append, length-replicate}
+use Rattle.rail_csv.specs.declared.rows.End.{End}
+use Rattle.timetable.specs.declared.day.records.Link.{Link}
+use Rattle.timetable.specs.declared.day.records.LinkKind.{LinkKind}
+use Rattle.timetable.specs.declared.day.records.LinkKind.TheVariants.{Turn, Join, Split}
+use Rattle.timetable.specs.declared.day.records.Stock.{Stock}
+use Rattle.timetable.specs.declared.day.records.Unit as unit
+use Rattle.timetable.specs.Accepted.{IsDay}
+use Rattle.timetable.specs.Day.{Day, to_of, units_in, units_of}
+use Rattle.timetable.specs.Links.{list_of, itself, link_out, given_by, given_with, turned}
+use Rattle.timetable.specs.Picking.{ArePicks, picked}
+use Rattle.timetable.specs.Starts.{start_in, start_of}
+use Rattle.timetable.specs.Turns.{Parts, beyond, kept_length, may_shunt, parts_at, same, staying, turn_parts}
+use Rattle.transitions.proofs.Kept.{length-turned}
+use Rattle.inventory.specs.Counts.{all_given, gives_of, ready_at, ready_until}
+use Rattle.price_bound.proofs.FewTaken.{chosen, count_le, few_beyond, few_listed, few_summed}
+
+-- ---- units at the start
+
+units_at_start : (rows : List Stock) (s m : ℕ) → start_in rows s m ≤ length (units_in rows)
+units_at_start [] s m = omega arith
+units_at_start (row ∷ rows) s m =
+    let rest = units_at_start rows s m in
+    let units : List unit.Unit = replicate row.start (record { unit_type = row.unit_type; home = row.station }) in
+    let whole : length (units_in (row ∷ rows)) ≡ length units + length (units_in rows) = length-append units (units_in rows) in
+    let first : length units ≡ row.start = length-replicate row.start (record { unit_type = row.unit_type; home = row.station }) in
+    elim (cases_Bool ((row.station == s) && (row.unit_type == m))) [
+      | inl is ↦ let e : start_in (row ∷ rows) s m ≡ row.start = cond-true {A = ℕ} ((row.station == s) && (row.unit_type == m)) row.start (start_in rows s m) is in omega arith
+      | inr isnt ↦ let e : start_in (row ∷ rows) s m ≡ start_in rows s m = cond-false {A = ℕ} ((row.station == s) && (row.unit_type == m)) row.start (start_in rows s m) isnt in omega arith
+    ]
+
+pub few_at_start : (day : Day) → IsDay day → (s m : ℕ) → start_of day s m ≤ 2000
+unfolding start_of units_of
+few_at_start day is_day s m = let few = units_at_start day.stock s m in let units = is_day.units in omega arith
+
+-- ---- units given
+
+-- what a turn gives is of the arriving list
+module _ (uncouple couple : End) (exchange : Bool) (arriving departing : List ℕ) where
+  abbrev parts_or : Option Parts → Parts
+  parts_or o = unwrap_or o (record { kept = []; given = arriving; taken = departing })
+
+  few_of : (b : Bool) (parts : Parts) → length parts.given ≤ length arriving → length (parts_or (if b then Some parts else None)).given ≤ length arriving
+  few_of true parts few = few
+  few_of false parts few = omega arith
+
+  few_by : (kept : Option ℕ) → length (parts_or (option_and_then (parts_at uncouple couple exchange arriving departing) kept)).given ≤ length arriving
+  few_by None = omega arith
+  few_by (Some n) =
+      few_of (same (staying uncouple arriving n) (staying couple departing n) && may_shunt exchange (length arriving - n) (length departing - n))
+      (record { kept = staying uncouple arriving n; given = beyond uncouple arriving n; taken = beyond couple departing n }) (few_beyond uncouple arriving n)
+
+module _ (day : Day) (picks : List ℕ) (is_day : IsDay day) (are_picks : ArePicks day picks) where
+  few_of_kind : (kind : LinkKind) (r : Bool) → length (given_by itself kind r (picked day picks)) ≤ 6
+  unfolding turn_parts
+  few_of_kind (Turn a b uncouple couple exchange) r =
+      let arriving : List ℕ = turned r (list_of (picked day picks) a) in
+      let departing : List ℕ = list_of (picked day picks) b in
+      let few = few_by uncouple couple exchange arriving departing (kept_length uncouple couple (map itself arriving) (map itself departing)) in
+      let all = few_listed day picks is_day are_picks a in
+      let turns = length-turned r (list_of (picked day picks) a) in
+      omega arith
+  few_of_kind (Join a1 a2 b) r = omega arith
+  few_of_kind (Split a b1 b2) r = omega arith
+
+  few_out_of : (t : ℕ) (o : Option Link) → length (unwrap_or (option_map (λ (link : Link). given_by itself link.kind link.reverse (picked day picks)) o) (list_of (picked day picks) t)) ≤ 6
+  few_out_of t None = few_listed day picks is_day are_picks t
+  few_out_of t (Some link) = few_of_kind link.kind link.reverse
+
+  few_gives : (m t : ℕ) → gives_of day (picked day picks) m t ≤ 6
+  unfolding given_with
+  few_gives m t =
+      let few : length (given_with itself day (picked day picks) t) ≤ 6 = few_out_of t (link_out day t) in
+      let count = count_le m (given_with itself day (picked day picks) t) in
+      omega arith
+
+  pub few_ready : (s m minute : ℕ) → ready_until day (picked day picks) s m minute ≤ 2400
+  unfolding ready_until
+  few_ready s m minute =
+      let few = few_summed (λ t. if (to_of day t == s) && nat_le (ready_at day t) minute then gives_of day (picked day picks) m t else 0) (length day.trips)
+      (λ t. chosen ((to_of day t == s) && nat_le (ready_at day t) minute) (gives_of day (picked day picks) m t) (few_gives m t)) in
+      let trips = is_day.trip_count in
+      omega arith
+
+  pub few_all_given : (s m : ℕ) → all_given day (picked day picks) s m ≤ 2400
+  unfolding all_given
+  few_all_given s m =
+      let few = few_summed (λ t. if to_of day t == s then gives_of day (picked day picks) m t else 0) (length day.trips)
+      (λ t. chosen (to_of day t == s) (gives_of day (picked day picks) m t) (few_gives m t)) in
+      let trips = is_day.trip_count in
+      omega arith

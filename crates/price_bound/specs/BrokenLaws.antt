@@ -1,0 +1,65 @@
+-- Where picks that follow are broken, and why the region of such picks alone has no solution.
+use Rattle.std.specs.Prelude.{ℕ, ◌≡◌, ◌+◌, ◌<◌, ◌≤◌, ◌⊎◌, List, [], ◌∷◌, length, Some, None, ℤ, pos}
+use Rattle.rail_base.specs.declared.limits.TheConstants.{MOST_COMPOSITIONS}
+use Rattle.timetable.specs.declared.day.indices.Place.{Place}
+use Rattle.timetable.specs.Compositions.{compositions_of}
+use Rattle.timetable.specs.Day.{Day}
+use Rattle.timetable.specs.Indices.{IsIndexOf, lambdas_of, mus_of}
+use Rattle.timetable.specs.Picking.{IsSolution, picked}
+use Rattle.inventory.specs.declared.faults.StockFault.{StockFault}
+use Rattle.inventory.specs.StockFaults.{IsFirstFault}
+use Rattle.branch_tree.specs.Bounds.{IsEmpty}
+use Rattle.branch_tree.specs.Claims.{IsRay}
+use Rattle.branch_tree.specs.Regions.{alone}
+use Rattle.price_bound.specs.DayMeanings.{IsAccepted, meanings_of}
+use Rattle.price_bound.specs.Following.{Follow}
+use Rattle.price_bound.specs.Parts.{IsFirstMissed, NoneMissed}
+use Rattle.price_bound.specs.Settling.{fault_sign, place_of}
+use Rattle.price_bound.specs.Slacks.{broken_at}
+
+-- ---- where picks are broken
+
+-- picks are broken at a place, with a sign
+pub record AreBrokenAt (day : Day) (picks : List ℕ) (place : Place) (sign : ℤ) : Type 0 where
+  pub index_of : IsIndexOf day place (broken_at day picks).index
+  pub sign_is : (broken_at day picks).value ≡ sign
+
+-- Of picks that follow, no second trip misses its part, or there is a first hand-over whose second trip does.
+abbrev pub PartsAreMissedOrNot : Type 0
+PartsAreMissedOrNot = (day : Day) (picks : List ℕ) → IsAccepted day → Follow day picks →
+    NoneMissed day picks ⊎ ((place : Place) × IsFirstMissed day picks place)
+
+-- They are broken at the first one and its part.
+abbrev pub BrokenAtFirstMissed : Type 0
+BrokenAtFirstMissed = (day : Day) (picks : List ℕ) (place : Place) → IsAccepted day → Follow day picks →
+    IsFirstMissed day picks place → AreBrokenAt day picks place (pos 1)
+
+-- Where no second trip misses its part, they are broken at the first fault of the yards.
+abbrev pub BrokenAtFirstFault : Type 0
+BrokenAtFirstFault = (day : Day) (picks : List ℕ) (fault : StockFault) → IsAccepted day → Follow day picks →
+    NoneMissed day picks → IsFirstFault day (picked day picks) (Some fault) →
+    AreBrokenAt day picks (place_of fault) (fault_sign day fault)
+
+-- Where the yards have no fault either, they are a solution.
+abbrev pub SolvedWithoutFault : Type 0
+SolvedWithoutFault = (day : Day) (picks : List ℕ) → IsAccepted day → Follow day picks → NoneMissed day picks →
+    IsFirstFault day (picked day picks) None → IsSolution day picks
+
+-- ---- the region of picks alone
+
+-- the first index of hand-overs: those of the yards are below it
+abbrev pub handovers_begin : Day → ℕ
+handovers_begin day = length (lambdas_of day) + length (mus_of day)
+
+-- Why the region of picks alone has no solution: where they are broken at a hand-over, nothing is near the region;
+-- where they are broken at a yard, the one multiplier that is named, with its sign, is a ray there.
+pub record AreClosedAlone (day : Day) (picks : List ℕ) : Type 0 where
+  pub at_handover : handovers_begin day ≤ (broken_at day picks).index → IsEmpty (meanings_of day) (alone picks)
+  pub at_yard : (broken_at day picks).index < handovers_begin day →
+      IsRay (meanings_of day) (alone picks) (broken_at day picks ∷ [])
+
+-- So it is of all picks that follow and are no solution, of a day with no more compositions than a catalogue may have.
+abbrev pub BrokenPicksAreClosed : Type 0
+BrokenPicksAreClosed = (day : Day) (picks : List ℕ) → IsAccepted day →
+    length (compositions_of day) ≤ MOST_COMPOSITIONS → Follow day picks → (IsSolution day picks → ⊥) →
+    AreClosedAlone day picks
