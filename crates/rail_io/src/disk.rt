@@ -5,17 +5,64 @@ ghost use Rattle.std.specs.Result.{is_err};
 ghost use Rattle.rail_io.specs.Folders.{Rose, RoseBy, counted};
 
 use crate::{Failed, Folder, Sink};
+use arrayvec::ArrayVec;
 use std::io::{Print, Read, Seek, SeekFrom};
 use std::marker::Model;
 use std::rt::Files;
 use std::{fs, io};
 
+/// The longest path whose file stays open between reads, in bytes.
+const MOST_PATH_BYTES: usize = 4096;
+
+/// A file that was opened, and where its next read begins.
+#[derive(Drop)]
+struct OpenFile<F: Drop> {
+    path: ArrayVec<u8, MOST_PATH_BYTES>,
+    file: F,
+    at: u64,
+}
+
+impl<F: Read + Seek + Drop> OpenFile<F> {
+    /// Opens the file of a path, to be read from its front on.
+    fn new<R: Files<File = F>>(rt: &R, path: &str) -> io::Result<OpenFile<F>> {
+        let file = fs::open(rt, path)?;
+        let mut kept = ArrayVec::new();
+        // A path that is too long to be kept is that of no later read.
+        let _kept = kept.try_extend_from_slice(path.as_bytes());
+        Ok(OpenFile {
+            path: kept,
+            file,
+            at: 0,
+        })
+    }
+
+    /// Whether the file was opened by this path.
+    fn is_of(&self, path: &str) -> bool {
+        !path.is_empty() && self.path.as_slice() == path.as_bytes()
+    }
+
+    /// Reads some bytes from a place on, and answers how many: 0 only at the file's end. It seeks only where the place is
+    /// not that of the next read.
+    fn read_from(&mut self, from: u64, into: &mut [u8]) -> io::Result<usize>
+        ensures { IfOk result (λ n. n ≤ length into.new) }
+    {
+        if from != self.at {
+            self.at = self.file.seek(SeekFrom::Start(from))?;
+        }
+        let count = self.file.read(into)?;
+        self.at = self.at.saturating_add(count as u64);
+        Ok(count)
+    }
+}
+
 /// The files of the system, over the runtime that main is given. A path is taken from the folder that the program runs
-/// in, and each read opens its file anew. Each error of the system raises the count of faults, which stays at its last
-/// value. A contract sees the counts of faults and of bytes handed out.
+/// in. A file stays open while reads go on in it, so that one that is replaced meanwhile is read as it was opened; a read
+/// of another path, the file's end and an error close it. Each error of the system raises the count of faults, which
+/// stays at its last value. A contract sees the counts of faults and of bytes handed out.
 #[derive(Drop)]
 pub struct DiskFolder<'a, R: Files> {
     rt: &'a R,
+    open: Option<OpenFile<R::File>>,
     faults: u64,
     taken: u64,
 }
@@ -28,15 +75,6 @@ impl<'a, R: Files> Model for DiskFolder<'a, R> {
     ghost view = { λ a. record { faults = a.faults; taken = a.taken } };
 }
 
-/// Reads some bytes of a file from a place on, and answers how many: 0 only at its end.
-fn read_from<R: Files>(rt: &R, path: &str, from: u64, into: &mut [u8]) -> io::Result<usize>
-    ensures { IfOk result (λ n. n ≤ length into.new) }
-{
-    let mut file = fs::open(rt, path)?;
-    file.seek(SeekFrom::Start(from))?;
-    file.read(into)
-}
-
 impl<'a, R: Files> DiskFolder<'a, R> {
     /// The files of the system. It touches none of them.
     pub fn new(rt: &'a R) -> DiskFolder<'a, R>
@@ -44,9 +82,27 @@ impl<'a, R: Files> DiskFolder<'a, R> {
     {
         DiskFolder {
             rt,
+            open: None,
             faults: 0,
             taken: 0,
         }
+    }
+
+    /// Reads some bytes of a file from a place on, and answers how many: 0 only at its end, which closes it as an error
+    /// does.
+    fn read_on(&mut self, path: &str, from: u64, into: &mut [u8]) -> io::Result<usize>
+        ensures room { IfOk result (λ n. n ≤ length into.new) }
+        ensures counts { self.new ≡ self.old }
+    {
+        let mut open = match self.open.take() {
+            Some(open) if open.is_of(path) => open,
+            _ => OpenFile::new(self.rt, path)?,
+        };
+        let count = open.read_from(from, into)?;
+        if count > 0 {
+            self.open = Some(open);
+        }
+        Ok(count)
     }
 }
 
@@ -71,7 +127,7 @@ impl<'a, R: Files> Folder for DiskFolder<'a, R> {
         if into.is_empty() {
             return Ok(0);
         }
-        let Ok(count) = read_from(self.rt, path, from, into) else {
+        let Ok(count) = self.read_on(path, from, into) else {
             self.faults = self.faults.saturating_add(1);
             return Err(Failed);
         };

@@ -11,7 +11,7 @@ use std::alloc::{AllocError, Global};
 use thiserror::Error;
 
 /// How many bytes one read asks for.
-const PIECE_BYTES: usize = 4096;
+const PIECE_BYTES: usize = 65_536;
 
 /// Why a file was not read.
 #[derive(Clone, Copy, Debug, PartialEq, Eq, Hash, Error)]

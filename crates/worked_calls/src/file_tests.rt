@@ -28,13 +28,13 @@ fn folder_with(
 #[test]
 fn reads_whole_files(rt: HostRuntime) -> Result<(), Fail> {
     let alloc = rt.alloc();
-    let long = vec![in alloc; b'x'; 5000]?;
+    let long = digits(alloc, 70_000)?;
     let mut folder = folder_with(&rt, alloc, "trips.csv", &long, Vec::new(alloc))?;
-    let bytes = read_file(alloc, &mut folder, "trips.csv", 5000)?;
+    let bytes = read_file(alloc, &mut folder, "trips.csv", 70_000)?;
     assert!(rt; bytes.as_slice() == long.as_slice());
-    let refusal = read_file(alloc, &mut folder, "trips.csv", 4999).err();
+    let refusal = read_file(alloc, &mut folder, "trips.csv", 69_999).err();
     assert!(rt; refusal == Some(FileRefusal::TooLong));
-    let missing = read_file(alloc, &mut folder, "links.csv", 5000).err();
+    let missing = read_file(alloc, &mut folder, "links.csv", 70_000).err();
     assert!(rt; missing == Some(FileRefusal::ReadFault));
     Ok(())
 }
@@ -82,22 +82,62 @@ fn keeps_what_was_written_before_the_failure(rt: HostRuntime) -> Result<(), Fail
     Ok(())
 }
 
+/// Bytes that differ from their neighbours: the ten digits in turn.
+fn digits(alloc: Global, count: u32) -> Result<Vec<u8>, NoMemory> {
+    let ten = *b"0123456789";
+    let mut digits = Vec::new(alloc);
+    for place in 0..count {
+        digits.push(ten[(place % 10) as usize])?;
+    }
+    Ok(digits)
+}
+
 #[test]
 fn reads_the_disk(rt: HostRuntime) -> Result<(), Fail> {
     let alloc = rt.alloc();
     let name = format!(in alloc; "rail_io-{}.csv", std::process::id(rt.process()))?;
     let path = env::temp_dir(&rt)?.join(alloc, name.as_str())?;
-    let text = vec![in alloc; b'7'; 9000]?;
+    let text = digits(alloc, 200_000)?;
     fs::write(&rt, path.as_path(), text.as_slice())?;
 
     let mut folder = DiskFolder::new(&rt);
-    let bytes = read_file(alloc, &mut folder, path.as_str(), 9000)?;
+    let bytes = read_file(alloc, &mut folder, path.as_str(), 200_000)?;
     assert!(rt; bytes.as_slice() == text.as_slice());
+    let refusal = read_file(alloc, &mut folder, path.as_str(), 199_999).err();
+    assert!(rt; refusal == Some(FileRefusal::TooLong));
     let mut piece = [0; 4];
-    assert!(rt; folder.read_at(path.as_str(), 8998, &mut piece) == Ok(2));
-    assert!(rt; piece == [b'7', b'7', 0, 0]);
+    assert!(rt; folder.read_at(path.as_str(), 199_998, &mut piece) == Ok(2));
+    assert!(rt; piece == [b'8', b'9', 0, 0]);
     fs::remove_file(&rt, path.as_path())?;
-    assert!(rt; folder.read_at(path.as_str(), 0, &mut piece) == Err(Failed));
+    Ok(())
+}
+
+#[test]
+fn reads_a_file_as_it_was_opened(rt: HostRuntime) -> Result<(), Fail> {
+    let alloc = rt.alloc();
+    let name = format!(in alloc; "rail_io-{}.txt", std::process::id(rt.process()))?;
+    let path = env::temp_dir(&rt)?.join(alloc, name.as_str())?;
+    fs::write(&rt, path.as_path(), b"before")?;
+    let mut folder = DiskFolder::new(&rt);
+    let mut piece = [0; 3];
+    assert!(rt; folder.read_at(path.as_str(), 0, &mut piece) == Ok(3));
+    assert!(rt; piece == *b"bef");
+
+    // Another file takes its place: what was opened is read to its end, and the other one after that.
+    fs::remove_file(&rt, path.as_path())?;
+    fs::write(&rt, path.as_path(), b"after")?;
+    assert!(rt; folder.read_at(path.as_str(), 3, &mut piece) == Ok(3));
+    assert!(rt; piece == *b"ore");
+    assert!(rt; folder.read_at(path.as_str(), 1, &mut piece) == Ok(3));
+    assert!(rt; piece == *b"efo");
+    assert!(rt; folder.read_at(path.as_str(), 6, &mut piece) == Ok(0));
+    assert!(rt; folder.read_at(path.as_str(), 0, &mut piece) == Ok(3));
+    assert!(rt; piece == *b"aft");
+
+    // A read of another path closes it.
+    fs::remove_file(&rt, path.as_path())?;
+    assert!(rt; folder.read_at("no such file", 0, &mut piece) == Err(Failed));
+    assert!(rt; folder.read_at(path.as_str(), 3, &mut piece) == Err(Failed));
     Ok(())
 }
 
