@@ -1,0 +1,112 @@
+//! What tests ask of a relaxation of a day. What may not be asked fails the test.
+
+use branch_tree::{BoundAnswer, Entry, Multipliers, Region, Relaxation, Settled, Slacks, Weight};
+use price_bound::DayBounds;
+use rail_base::{CompNo, TripNo};
+use std::alloc::Global;
+use std::test::Fail;
+use timetable::Picks;
+
+/// What a bound answers, and the picks that it leaves where each trip had composition 1 before.
+#[derive(Drop)]
+pub(crate) struct Bound {
+    pub(crate) answer: BoundAnswer,
+    pub(crate) best: Picks,
+}
+
+/// What the bound of a region answers.
+pub(crate) fn bound_of(
+    alloc: Global,
+    bounds: &mut DayBounds<'_>,
+    region: &Region,
+    multipliers: &Multipliers,
+    weight: Weight,
+) -> Result<Bound, Fail> {
+    let mut best = Picks::new(alloc, bounds.trips())?;
+    for trip in 0..bounds.trips() {
+        if trip < best.len() {
+            best.set(TripNo(trip), CompNo(1));
+        }
+    }
+    if best.len() != bounds.trips() || region.trips() != bounds.trips() {
+        return Err(Fail::new("the region is not one of the day"));
+    }
+    if !multipliers.fits(bounds.indices(), bounds.free_from()) {
+        return Err(Fail::new("the multipliers do not fit"));
+    }
+    let answer = bounds.bound(region, multipliers, weight, &mut best);
+    Ok(Bound { answer, best })
+}
+
+/// What settling answers for picks that follow.
+pub(crate) fn settled(bounds: &mut DayBounds<'_>, picks: &Picks) -> Result<Settled, Fail> {
+    if picks.len() != bounds.trips() || !bounds.follows(picks) {
+        return Err(Fail::new("the picks do not follow"));
+    }
+    Ok(bounds.settle(picks))
+}
+
+/// The slacks of picks that follow.
+pub(crate) fn slacks_of(
+    alloc: Global,
+    bounds: &mut DayBounds<'_>,
+    picks: &Picks,
+) -> Result<Slacks, Fail> {
+    if picks.len() != bounds.trips() || !bounds.follows(picks) {
+        return Err(Fail::new("the picks do not follow"));
+    }
+    let mut slacks = Slacks::new(alloc)?;
+    slacks.put(Entry { index: 0, value: 1 });
+    bounds.slacks(picks, &mut slacks);
+    Ok(slacks)
+}
+
+/// Multipliers of these entries.
+pub(crate) fn multipliers_of(alloc: Global, entries: &[Entry]) -> Result<Multipliers, Fail> {
+    let mut multipliers = Multipliers::new(alloc)?;
+    for entry in entries {
+        multipliers.put(entry.index, entry.value)?;
+    }
+    Ok(multipliers)
+}
+
+/// Picks of these compositions, in the order of the trips.
+pub(crate) fn picks_of(alloc: Global, comps: &[u32]) -> Result<Picks, Fail> {
+    let Ok(trips) = u32::try_from(comps.len()) else {
+        return Err(Fail::new("the compositions are too many"));
+    };
+    let mut picks = Picks::new(alloc, trips)?;
+    for trip in 0..trips {
+        set_pick(&mut picks, TripNo(trip), comps.get(trip as usize));
+    }
+    Ok(picks)
+}
+
+/// Gives a trip a composition, where both are there.
+fn set_pick(picks: &mut Picks, trip: TripNo, comp: Option<&u32>) {
+    let Some(comp) = comp else {
+        return;
+    };
+    if trip.0 < picks.len() {
+        picks.set(trip, CompNo(*comp));
+    }
+}
+
+/// The compositions of the first four trips, and 0 for each that is not there.
+pub(crate) fn first_four(picks: &Picks) -> [u32; 4] {
+    [
+        comp_of(picks, 0),
+        comp_of(picks, 1),
+        comp_of(picks, 2),
+        comp_of(picks, 3),
+    ]
+}
+
+/// The composition of a trip, and 0 where it is not there.
+fn comp_of(picks: &Picks, trip: u32) -> u32 {
+    if trip < picks.len() {
+        picks.get(TripNo(trip)).0
+    } else {
+        0
+    }
+}

@@ -1,0 +1,17 @@
+//! Worked bounds: what bounds, settling and slacks of days answer, as tests.
+#![tactic(auto)]
+
+#[cfg(test)]
+mod asking;
+#[cfg(test)]
+mod drawn_questions;
+#[cfg(test)]
+mod drawn_tests;
+#[cfg(test)]
+mod link_rule;
+#[cfg(test)]
+mod listing;
+#[cfg(test)]
+mod plain_slacks;
+#[cfg(test)]
+mod row_tests;
