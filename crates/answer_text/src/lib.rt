@@ -12,6 +12,6 @@ mod reading;
 pub mod refusal;
 
 pub use answer::{Answer, Head, Runs};
-pub use printing::print;
+pub use printing::{print, write_head};
 pub use reading::read;
 pub use refusal::AnswerRefusal;

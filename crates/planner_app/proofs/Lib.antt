@@ -1,2 +1,15 @@
+pub mod Digits
+pub mod Turns
+pub mod PlainForms
+pub mod Meanings
+pub mod Readings
+pub mod KnownUnits
+pub mod Admitting
+pub mod Roots
+pub mod Truth
+pub mod OnePicks
+pub mod Checked
+pub mod Refuting
+pub mod Endings
 pub mod Outcomes
 pub mod Statuses

@@ -1,31 +1,100 @@
--- The cause of the status of a file that could not be read.
-use Rattle.std.proofs.Common.{◌≡◌, ℕ, Bool, List, Option, refl, sym, ◌∙◌, arith}
+-- The statuses of outcomes, and their causes.
+use Rattle.std.proofs.Common.{◌≡◌, ◌↔◌, ◌⊎◌, inl, inr, ℕ, suc, Bool, List, Option, Some, ap, refl, sym, ◌∙◌, subst, arith}
 use Rattle.rail_io.specs.Folders.{Files, Rose}
-use Rattle.rail_csv.specs.declared.rows.Table.{Table}
 use Rattle.day_files.specs.declared.errors.ReadError.TheVariants.{CannotRead, Refused, NoMemory}
+use Rattle.answer_text.specs.declared.refusal.AnswerRefusal.TheVariants as answer_refusal
+use Rattle.planner_app.specs.declared.answer_file.AnswerError.TheVariants as answer_error
+use Rattle.planner_app.specs.declared.checking.AnswerVerdict.{AnswerVerdict}
+use Rattle.planner_app.specs.declared.checking.AnswerVerdict.TheVariants.{Valid, RunsDiffer, UnknownUnit}
+use Rattle.planner_app.specs.declared.checking.AnswerVerdict.TheVariants as verdict
 use Rattle.planner_app.specs.declared.outcome.Outcome.{Outcome}
-use Rattle.planner_app.specs.declared.outcome.Outcome.TheVariants.{Runs, Stops, Usage, NoInputs}
-use Rattle.planner_app.specs.Outcomes.{IsOutcome}
-use Rattle.planner_app.specs.Statuses.{status_of, Wrote, Whole, Part, Nothing}
+use Rattle.planner_app.specs.declared.outcome.Outcome.TheVariants.{Runs, Stops, Checked, Usage, NoInputs, NoAnswer}
+use Rattle.planner_app.specs.Outcomes.{AskInVain, AskToCheck, AskToSimulate, HasCause, IsOutcome}
+use Rattle.planner_app.specs.Statuses.{EndsCheck, EndsSimulation, IsUndisturbed, status_of, status_of_verdict, Wrote, Whole, Part, Nothing}
+use Rattle.planner_app.proofs.Endings.{check_ends, simulation_ends}
 
--- the outcome with this status
-unread_outcome : (outcome : Outcome) → status_of outcome ≡ 5 → (table : Table) × (outcome ≡ NoInputs (CannotRead table))
-unread_outcome (Runs money) e = absurd (omega arith)
-unread_outcome (Stops fault) e = absurd (omega arith)
-unread_outcome Usage e = absurd (omega arith)
-unread_outcome (NoInputs (Refused why)) e = absurd (omega arith)
-unread_outcome (NoInputs (CannotRead table)) e = (table, refl)
-unread_outcome (NoInputs NoMemory) e = absurd (omega arith)
+-- a verdict has no status but 0 and 1
+few_of_verdict : (found : AnswerVerdict) (n : ℕ) → status_of_verdict found ≡ n → (n ≡ 0) ⊎ (n ≡ 1)
+few_of_verdict Valid n e = inl (sym e)
+few_of_verdict (RunsDiffer said found) n e = inr (sym e)
+few_of_verdict (UnknownUnit trip) n e = inr (sym e)
+few_of_verdict (verdict.Stops fault) n e = inr (sym e)
+few_of_verdict (verdict.Claim reason) n e = inr (sym e)
+
+no_such : (found : AnswerVerdict) (n : ℕ) → status_of_verdict found ≡ suc (suc n) → ⊥
+no_such found n e = elim (few_of_verdict found (suc (suc n)) e) [ inl zero ↦ omega (arith, zero) | inr one ↦ omega (arith, one) ]
 
 -- a file could not be read only where the folder's count of faults rose
-pub unread_rose : {F : Type 0} (holds : F → Option Files) (may_fail : F → List ℕ → Bool) (counted taken : F → ℕ) (words : List (List ℕ)) (before after : F)
-    (outcome : Outcome) (status : ℕ) (written written' : Option (List ℕ)) (faults faults' : ℕ) →
-    IsOutcome holds may_fail counted taken words before after outcome → Wrote outcome status written written' faults faults' → status ≡ 5 → Rose (counted before) (counted after)
-unread_rose holds may_fail counted taken words before after outcome status written written' faults faults' is wrote five =
-    let unread = unread_outcome outcome (five_of wrote) in
-    (is.caused (CannotRead unread.0) unread.1).2.0
-  where
-    five_of : Wrote outcome status written written' faults faults' → status_of outcome ≡ 5
-    five_of (Whole text d appends e) = sym e ∙ five
-    five_of (Part text d appends rose six) = absurd (omega arith)
-    five_of (Nothing same seven) = absurd (omega arith)
+rose_by : {F : Type 0} (may_fail : F → List ℕ → Bool) (faults taken : F → ℕ) (words : List (List ℕ)) (before after : F) (outcome : Outcome)
+    → status_of outcome ≡ 5 → HasCause may_fail faults taken words before after outcome → Rose (faults before) (faults after)
+rose_by may_fail faults taken words before after (Runs money) e cause = absurd (omega (arith, e))
+rose_by may_fail faults taken words before after (Stops fault) e cause = absurd (omega (arith, e))
+rose_by may_fail faults taken words before after (Checked head found) e cause = absurd (no_such found 3 e)
+rose_by may_fail faults taken words before after Usage e cause = absurd (omega (arith, e))
+rose_by may_fail faults taken words before after (NoInputs (Refused why)) e cause = absurd (omega (arith, e))
+rose_by may_fail faults taken words before after (NoInputs (CannotRead table)) e cause = cause.2.0
+rose_by may_fail faults taken words before after (NoInputs NoMemory) e cause = absurd (omega (arith, e))
+rose_by may_fail faults taken words before after (NoAnswer answer_error.CannotRead) e cause = cause.2.0
+rose_by may_fail faults taken words before after (NoAnswer answer_error.TooLong) e cause = absurd (omega (arith, e))
+rose_by may_fail faults taken words before after (NoAnswer (answer_error.Refused answer_refusal.NoMemory)) e cause = absurd (omega (arith, e))
+rose_by may_fail faults taken words before after (NoAnswer (answer_error.Refused (answer_refusal.BadLine line))) e cause = absurd (omega (arith, e))
+rose_by may_fail faults taken words before after (NoAnswer (answer_error.Refused answer_refusal.MissingEnd)) e cause = absurd (omega (arith, e))
+rose_by may_fail faults taken words before after (NoAnswer (answer_error.Refused (answer_refusal.Trailing line))) e cause = absurd (omega (arith, e))
+rose_by may_fail faults taken words before after (NoAnswer (answer_error.Refused answer_refusal.TooManyNodes)) e cause = absurd (omega (arith, e))
+
+-- only words that are not understood end with status 2
+usage_by : (outcome : Outcome) → status_of outcome ≡ 2 → outcome ≡ Usage
+usage_by (Runs money) e = absurd (omega (arith, e))
+usage_by (Stops fault) e = absurd (omega (arith, e))
+usage_by (Checked head found) e = absurd (no_such found 0 e)
+usage_by Usage e = refl
+usage_by (NoInputs (Refused why)) e = absurd (omega (arith, e))
+usage_by (NoInputs (CannotRead table)) e = absurd (omega (arith, e))
+usage_by (NoInputs NoMemory) e = absurd (omega (arith, e))
+usage_by (NoAnswer answer_error.CannotRead) e = absurd (omega (arith, e))
+usage_by (NoAnswer answer_error.TooLong) e = absurd (omega (arith, e))
+usage_by (NoAnswer (answer_error.Refused answer_refusal.NoMemory)) e = absurd (omega (arith, e))
+usage_by (NoAnswer (answer_error.Refused (answer_refusal.BadLine line))) e = absurd (omega (arith, e))
+usage_by (NoAnswer (answer_error.Refused answer_refusal.MissingEnd)) e = absurd (omega (arith, e))
+usage_by (NoAnswer (answer_error.Refused (answer_refusal.Trailing line))) e = absurd (omega (arith, e))
+usage_by (NoAnswer (answer_error.Refused answer_refusal.TooManyNodes)) e = absurd (omega (arith, e))
+
+module _ {F : Type 0} (holds : F → Option Files) (may_fail : F → List ℕ → Bool) (counted taken : F → ℕ) (words : List (List ℕ)) (before after : F)
+    (outcome : Outcome) (status : ℕ) (written written' : Option (List ℕ)) (faults faults' : ℕ)
+    (is : IsOutcome holds may_fail counted taken words before after outcome) (wrote : Wrote outcome status written written' faults faults') where
+  pub unread_rose : status ≡ 5 → Rose (counted before) (counted after)
+  unread_rose five = rose_by may_fail counted taken words before after outcome (five_of wrote) is.caused
+    where
+      five_of : Wrote outcome status written written' faults faults' → status_of outcome ≡ 5
+      five_of (Whole text d appends e) = sym e ∙ five
+      five_of (Part text d appends rose six) = absurd (omega (arith, five, six))
+      five_of (Nothing same seven) = absurd (omega (arith, five, seven))
+
+  -- an undisturbed status is that of the outcome
+  its_own : IsUndisturbed status → status_of outcome ≡ status
+  its_own undisturbed = by wrote
+    where
+      by : Wrote outcome status written written' faults faults' → status_of outcome ≡ status
+      by (Whole text d appends e) = sym e
+      by (Part text d appends rose six) = absurd (undisturbed.1 six)
+      by (Nothing same seven) = absurd (undisturbed.2 seven)
+
+  own_undisturbed : IsUndisturbed status → IsUndisturbed (status_of outcome)
+  own_undisturbed undisturbed = subst IsUndisturbed (sym (its_own undisturbed)) undisturbed
+
+  pub ends_simulation : (files : Files) (dir : List ℕ) → holds before ≡ Some files → AskToSimulate words dir → IsUndisturbed status
+      → EndsSimulation files dir status
+  ends_simulation files dir tells asked undisturbed = subst (λ (n : ℕ). EndsSimulation files dir n) (its_own undisturbed)
+      (simulation_ends words files dir outcome asked (is.told files tells) (own_undisturbed undisturbed))
+
+  pub ends_check : (files : Files) (dir : List ℕ) → holds before ≡ Some files → AskToCheck words dir → IsUndisturbed status
+      → EndsCheck files dir status
+  ends_check files dir tells asked undisturbed = subst (λ (n : ℕ). EndsCheck files dir n) (its_own undisturbed)
+      (check_ends words files dir outcome asked (is.told files tells) (own_undisturbed undisturbed))
+
+  pub ends_in_usage : IsUndisturbed status → (status ≡ 2) ↔ AskInVain words
+  ends_in_usage undisturbed = (λ two. is.usage (usage_by outcome (its_own undisturbed ∙ two)), λ vain. by (is.understood vain))
+    where
+      by : (outcome ≡ Usage) ⊎ (outcome ≡ NoInputs NoMemory) → status ≡ 2
+      by (inl usage) = sym (its_own undisturbed) ∙ ap status_of usage
+      by (inr memory) = absurd ((own_undisturbed undisturbed).2 (ap status_of memory))

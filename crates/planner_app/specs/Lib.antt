@@ -1,6 +1,14 @@
--- the words of a command line, and the lines that are written
-pub mod Words
-pub mod Texts
--- what a run comes to, and the status and the document of it
+-- the words of a command line
+pub mod Commands
+pub mod PlainForm
+-- what an answer says of all plans, and the verdict on it
+pub mod Headline
+pub mod Verdicts
+pub mod AnswerFiles
+-- the lines that are written
+pub mod Lines
+pub mod CheckTexts
+-- what a run comes to, and the document and the status of it
 pub mod Outcomes
+pub mod Texts
 pub mod Statuses

@@ -1,32 +1,57 @@
 -- The status that a run ends with, and what it wrote.
-use Rattle.std.specs.Prelude.{ℕ, ◌≡◌, ◌≢◌, ◌⊎◌, ◌≤◌, List, Option}
+use Rattle.std.specs.Prelude.{ℕ, ◌≡◌, ◌≢◌, ◌⊎◌, ◌≤◌, ◌<◌, ◌↔◌, List, length, Option, Ok, Err, Bool, true, false, if◌then◌else◌}
+use Rattle.rail_base.specs.declared.limits.TheConstants.{MOST_FILE_BYTES}
 use Rattle.rail_io.specs.Folders.{Files, Rose}
 use Rattle.rail_io.specs.Sinks.{Appends, AppendsPart}
+use Rattle.timetable.specs.Day.{Day}
 use Rattle.day_files.specs.declared.errors.Refusal.{Refusal}
 use Rattle.day_files.specs.declared.errors.ReadError.TheVariants.{CannotRead, Refused, NoMemory}
 use Rattle.day_files.specs.declared.inputs.Inputs.{Inputs}
+use Rattle.day_files.specs.Inputs.{day_in, inputs_in}
+use Rattle.answer_text.specs.declared.answer.Answer.{Answer}
+use Rattle.answer_text.specs.declared.refusal.AnswerRefusal.{AnswerRefusal}
+use Rattle.answer_text.specs.declared.refusal.AnswerRefusal.TheVariants as answer_refusal
+use Rattle.answer_text.specs.Grammar.{IsRefused}
+use Rattle.planner_app.specs.declared.answer_file.AnswerError.TheVariants as answer_error
+use Rattle.planner_app.specs.declared.checking.AnswerVerdict.{AnswerVerdict}
+use Rattle.planner_app.specs.declared.checking.AnswerVerdict.TheVariants.{Valid}
 use Rattle.planner_app.specs.declared.outcome.Outcome.{Outcome}
-use Rattle.planner_app.specs.declared.outcome.Outcome.TheVariants.{Runs, Stops, Usage, NoInputs}
-use Rattle.planner_app.specs.Outcomes.{Accepted, RefusedFor, PlanRuns}
+use Rattle.planner_app.specs.declared.outcome.Outcome.TheVariants.{Runs, Stops, Checked, Usage, NoInputs, NoAnswer}
+use Rattle.planner_app.specs.AnswerFiles.{answer_bytes}
+use Rattle.planner_app.specs.Headline.{IsTrueOf, IsValid}
+use Rattle.planner_app.specs.Outcomes.{AreAnswered, PlanRuns}
 use Rattle.planner_app.specs.Texts.{IsDocument}
 
--- ---- what the words and the files say of the status
-
--- the files are accepted, and the plan runs
-abbrev pub RunsIn : List (List ℕ) → Files → Type 0
-RunsIn words files = (inputs : Inputs) × Accepted words files inputs × PlanRuns inputs
-
--- the files are accepted, and the plan doesn't run
-abbrev pub StopsIn : List (List ℕ) → Files → Type 0
-StopsIn words files = (inputs : Inputs) × Accepted words files inputs × ¬ (PlanRuns inputs)
-
--- a file is refused
-abbrev pub IsRefusedIn : List (List ℕ) → Files → Type 0
-IsRefusedIn words files = (why : Refusal) × RefusedFor words files why
+-- ---- what the files say of the status
 
 -- the status says of no read and no write that it failed, and not that memory ran out
 abbrev pub IsUndisturbed : ℕ → Type 0
 IsUndisturbed status = (status ≢ 5) × (status ≢ 6) × (status ≢ 7)
+
+-- the status with which a plan of a folder is run
+pub record EndsSimulation (files : Files) (dir : List ℕ) (status : ℕ) : Type 0 where
+  -- 0 exactly where the files are accepted, and the plan runs
+  pub runs : (status ≡ 0) ↔ ((inputs : Inputs) × (inputs_in files dir ≡ Ok inputs) × PlanRuns inputs)
+  -- 1 exactly where they are accepted, and it doesn't run
+  pub stops : (status ≡ 1) ↔ ((inputs : Inputs) × (inputs_in files dir ≡ Ok inputs) × ¬ (PlanRuns inputs))
+  -- 3 exactly where a file is refused
+  pub refused : (status ≡ 3) ↔ ((why : Refusal) × (inputs_in files dir ≡ Err why))
+
+-- the file of an answer is refused: it is too long, or it is the text of none
+abbrev pub IsAnswerFileRefused : List ℕ → Type 0
+IsAnswerFileRefused bytes = (MOST_FILE_BYTES < length bytes) ⊎ ((refusal : AnswerRefusal) × IsRefused bytes refusal)
+
+-- the status with which an answer of a folder is checked
+pub record EndsCheck (files : Files) (dir : List ℕ) (status : ℕ) : Type 0 where
+  -- 0 exactly where the files are accepted, and the answer is valid
+  pub valid : (status ≡ 0) ↔ ((day : Day) × (answer : Answer) × AreAnswered files dir day answer × IsValid day answer)
+  -- and what a valid answer says is true of every plan of the day
+  pub holds : status ≡ 0 → (day : Day) × (answer : Answer) × AreAnswered files dir day answer × IsTrueOf day answer
+  -- 1 exactly where they are accepted, and it isn't
+  pub invalid : (status ≡ 1) ↔ ((day : Day) × (answer : Answer) × AreAnswered files dir day answer × ¬ (IsValid day answer))
+  -- 3 exactly where a table or the answer is refused
+  pub refused : (status ≡ 3) ↔ (((why : Refusal) × (day_in files dir ≡ Err why))
+      ⊎ ((day : Day) × (day_in files dir ≡ Ok day) × IsAnswerFileRefused (answer_bytes files dir)))
 
 -- the statuses that there are
 abbrev pub IsStatus : ℕ → Type 0
@@ -34,14 +59,24 @@ IsStatus status = (status ≤ 3) ⊎ ((5 ≤ status) × (status ≤ 7))
 
 -- ---- of an outcome
 
+-- the status of a verdict
+abbrev pub status_of_verdict : AnswerVerdict → ℕ
+status_of_verdict Valid = 0
+status_of_verdict other = 1
+
 -- the status of an outcome whose document was written, and of want of memory
 abbrev pub status_of : Outcome → ℕ
 status_of (Runs cost) = 0
 status_of (Stops fault) = 1
+status_of (Checked head verdict) = status_of_verdict verdict
 status_of Usage = 2
 status_of (NoInputs (Refused why)) = 3
 status_of (NoInputs (CannotRead table)) = 5
 status_of (NoInputs NoMemory) = 7
+status_of (NoAnswer answer_error.CannotRead) = 5
+status_of (NoAnswer answer_error.TooLong) = 3
+status_of (NoAnswer (answer_error.Refused answer_refusal.NoMemory)) = 7
+status_of (NoAnswer (answer_error.Refused refusal)) = 3
 
 -- What was written of an outcome, and the status that says so: its whole document; or a front of it, where a write failed; or
 -- nothing, where memory ran out.

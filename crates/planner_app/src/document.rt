@@ -1,9 +1,13 @@
 //! The document of an outcome: one line, with the text of a refusal or a fault.
 
 ghost use Rattle.std.specs.Prelude.{◌≡◌, ℕ, pos, IfOk, string_bytes};
-ghost use Rattle.planner_app.specs.Texts.{IsDocument, balance_text, cannot_read_line, fault_text, not_ready_text, refused_line, runs_line, stops_line};
+ghost use Rattle.planner_app.specs.Lines.{answer_file, answer_refusal_text, balance_text, cannot_read_line, fault_text, file_refused_line, not_ready_text, refused_line, runs_line, stops_line};
+ghost use Rattle.planner_app.specs.Texts.{IsDocument};
 
+use crate::answer_file::AnswerError;
+use crate::check_lines::check_line;
 use crate::outcome::Outcome;
+use answer_text::AnswerRefusal;
 use day_files::{ReadError, Refusal, file_name};
 use day_simulator::StepFault;
 use rail_base::{Money, NoMemory, StationNo, TripNo, TypeNo, UnitNo};
@@ -18,10 +22,45 @@ pub(crate) fn document(alloc: Global, outcome: &Outcome) -> Result<String, NoMem
     match outcome {
         Outcome::Runs(cost) => runs_line(alloc, *cost),
         Outcome::Stops(fault) => stops_line(alloc, fault),
+        Outcome::Checked { head, verdict } => check_line(alloc, head, verdict),
         Outcome::Usage => Ok(String::from_str(alloc, "usage\n")?),
         Outcome::NoInputs(ReadError::Refused(refusal)) => refused_line(alloc, refusal),
         Outcome::NoInputs(ReadError::CannotRead(table)) => cannot_read_line(alloc, *table),
         Outcome::NoInputs(ReadError::NoMemory) => Err(NoMemory),
+        Outcome::NoAnswer(error) => no_answer_line(alloc, error),
+    }
+}
+
+/// The line of an answer that was not read. There is none for want of memory.
+fn no_answer_line(alloc: Global, error: &AnswerError) -> Result<String, NoMemory>
+    ensures { IfOk result (λ text. IsDocument (Outcome.NoAnswer error.now) (string_bytes text)) }
+{
+    match *error {
+        AnswerError::CannotRead => Ok(String::from_str(alloc, "cannot read answer.txt\n")?),
+        AnswerError::TooLong => Ok(String::from_str(alloc, "refused answer.txt: too long\n")?),
+        AnswerError::Refused(AnswerRefusal::NoMemory) => Err(NoMemory),
+        AnswerError::Refused(refusal) => refused_answer_line(alloc, refusal),
+    }
+}
+
+/// The line of an answer file that is the text of no answer, for a cause that is not want of memory.
+fn refused_answer_line(alloc: Global, refusal: AnswerRefusal) -> Result<String, NoMemory>
+    ensures { IfOk result (λ line. string_bytes line ≡ file_refused_line answer_file (answer_refusal_text refusal)) }
+{
+    let why = answer_refusal_text(alloc, refusal)?;
+    Ok(format!(in alloc; "refused answer.txt: {why}\n")?)
+}
+
+/// Why bytes are no answer. Want of memory has no text.
+fn answer_refusal_text(alloc: Global, refusal: AnswerRefusal) -> Result<String, NoMemory>
+    ensures { IfOk result (λ text. string_bytes text ≡ answer_refusal_text refusal) }
+{
+    match refusal {
+        AnswerRefusal::BadLine(line) => Ok(format!(in alloc; "line {line}")?),
+        AnswerRefusal::MissingEnd => Ok(String::from_str(alloc, "no end line")?),
+        AnswerRefusal::Trailing(line) => Ok(format!(in alloc; "line {line} after the end")?),
+        AnswerRefusal::TooManyNodes => Ok(String::from_str(alloc, "too many nodes")?),
+        AnswerRefusal::NoMemory => Ok(String::new(alloc)),
     }
 }
 
@@ -59,7 +98,7 @@ fn cannot_read_line(alloc: Global, table: Table) -> Result<String, NoMemory>
 }
 
 /// Why a plan stops.
-fn fault_text(alloc: Global, fault: &StepFault) -> Result<String, NoMemory>
+pub(crate) fn fault_text(alloc: Global, fault: &StepFault) -> Result<String, NoMemory>
     ensures { IfOk result (λ text. string_bytes text ≡ fault_text fault.now) }
 {
     match *fault {

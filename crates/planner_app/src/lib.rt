@@ -1,11 +1,22 @@
-//! The program's one call: it reads a day and a plan, and says whether the plan runs.
+//! The program's one call: it reads a day, and says whether a plan of it runs, or whether an answer to it is valid.
 #![tactic(auto)]
 
+pub mod answer_file;
+mod answered_plan;
+mod check_lines;
+pub mod checking;
+pub mod command;
+pub mod command_words;
 mod document;
+mod numbers;
 pub mod outcome;
 mod run;
+mod taken_words;
 mod top;
-mod words;
 
+pub use answer_file::AnswerError;
+pub use checking::{AnswerVerdict, check_answer};
+pub use command::{Command, Text};
+pub use command_words::{WordsRefusal, read_words};
 pub use outcome::Outcome;
 pub use top::railplan;

@@ -1,18 +1,30 @@
 //! What a run of the program comes to.
 
+use crate::answer_file::AnswerError;
+use crate::checking::AnswerVerdict;
+use answer_text::Head;
 use day_files::ReadError;
 use day_simulator::StepFault;
 use rail_base::Money;
 
 /// What a run comes to: the document that it writes and the status that it ends with follow from it.
-#[derive(Clone, Copy, Debug, PartialEq, Eq)]
+#[derive(Debug, Drop)]
 pub enum Outcome {
     /// The plan runs, and costs this.
     Runs(Money),
     /// The plan stops with this fault.
     Stops(StepFault),
-    /// The words are not understood.
+    /// An answer that says this was checked.
+    Checked {
+        /// What the answer says.
+        head: Head,
+        /// What was found of it.
+        verdict: AnswerVerdict,
+    },
+    /// The words are not understood, or name a command that is not built.
     Usage,
-    /// There is no day and no plan: a file could not be read or is refused, or memory ran out.
+    /// There is no day, or no plan of it: a file could not be read or is refused, or memory ran out.
     NoInputs(ReadError),
+    /// There is no answer for the day: its file could not be read or is refused, or memory ran out.
+    NoAnswer(AnswerError),
 }

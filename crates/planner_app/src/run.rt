@@ -1,25 +1,46 @@
-//! From the words to the outcome: the day and the plan of a folder, and whether the plan runs.
+//! From the words to the outcome: what each command does with the files of its folder.
 
-ghost use Rattle.std.specs.Prelude.{◌≡◌};
+ghost use Rattle.std.specs.Prelude.{ℕ, List, ◌≡◌, ◌≤◌, Some, IfOk, length};
+ghost use Rattle.rail_base.specs.declared.limits.TheConstants.{MOST_TRIPS};
 ghost use Rattle.rail_io.specs.Folders.{OnlyReads};
-ghost use Rattle.planner_app.specs.Outcomes.{IsOutcome};
+ghost use Rattle.planner_app.specs.Headline.{IsTrueOf};
+ghost use Rattle.planner_app.specs.Outcomes.{AskToCheck, AskToSimulate, IsOutcome};
+ghost use Rattle.planner_app.specs.Verdicts.{IsAnswerVerdict};
 
+use crate::answer_file::answer_in;
+use crate::checking::{AnswerVerdict, check_answer};
+use crate::command::Command;
+use crate::command_words::{WordsRefusal, read_words};
 use crate::outcome::Outcome;
-use crate::words::folder_of;
-use day_files::{ReadError, inputs_in};
+use answer_text::Answer;
+use day_files::{ReadError, day_in, inputs_in};
 use day_simulator::{SimulateRefusal, simulate};
-use rail_base::Words;
+use rail_base::{NoMemory, Words};
 use rail_io::Folder;
 use std::alloc::Global;
+use timetable::Instance;
+use transitions::Graphs;
 
 /// What the words and the folder come to.
 pub(crate) fn outcome_of<F: Folder>(alloc: Global, words: &Words, folder: &mut F) -> Outcome
     ensures outcome { IsOutcome F.holds F.may_fail F.faults F.taken words.now folder.old folder.new result }
     ensures only_reads { OnlyReads F.holds F.may_fail F.faults F.taken folder.old folder.new }
 {
-    let Some(dir) = folder_of(words) else {
-        return Outcome::Usage;
-    };
+    match read_words(alloc, words) {
+        Ok(Command::Simulate { dir }) => simulated(alloc, folder, dir.as_str()),
+        Ok(Command::Check { dir }) => checked(alloc, folder, dir.as_str()),
+        Ok(_) => Outcome::Usage,
+        Err(WordsRefusal::NotUnderstood) => Outcome::Usage,
+        Err(WordsRefusal::NoMemory) => Outcome::NoInputs(ReadError::NoMemory),
+    }
+}
+
+/// Runs the plan of a folder.
+fn simulated<F: Folder>(alloc: Global, folder: &mut F, dir: &str) -> Outcome
+    ensures outcome { (words : List (List ℕ)) → AskToSimulate words dir.now
+        → IsOutcome F.holds F.may_fail F.faults F.taken words folder.old folder.new result }
+    ensures only_reads { OnlyReads F.holds F.may_fail F.faults F.taken folder.old folder.new }
+{
     let inputs = match inputs_in(alloc, folder, dir) {
         Ok(inputs) => inputs,
         Err(error) => return Outcome::NoInputs(error),
@@ -29,4 +50,41 @@ pub(crate) fn outcome_of<F: Folder>(alloc: Global, words: &Words, folder: &mut F
         Err(SimulateRefusal::Stops(fault)) => Outcome::Stops(fault),
         Err(SimulateRefusal::NoMemory) => Outcome::NoInputs(ReadError::NoMemory),
     }
+}
+
+/// Checks the answer of a folder.
+fn checked<F: Folder>(alloc: Global, folder: &mut F, dir: &str) -> Outcome
+    ensures outcome { (words : List (List ℕ)) → AskToCheck words dir.now
+        → IsOutcome F.holds F.may_fail F.faults F.taken words folder.old folder.new result }
+    ensures only_reads { OnlyReads F.holds F.may_fail F.faults F.taken folder.old folder.new }
+{
+    let instance = match day_in(alloc, folder, dir) {
+        Ok(instance) => instance,
+        Err(error) => return Outcome::NoInputs(error),
+    };
+    let answer = match answer_in(alloc, folder, dir) {
+        Ok(answer) => answer,
+        Err(error) => return Outcome::NoAnswer(error),
+    };
+    match verdict_on(alloc, &instance, &answer) {
+        Ok(verdict) => Outcome::Checked {
+            head: answer.head,
+            verdict,
+        },
+        Err(NoMemory) => Outcome::NoInputs(ReadError::NoMemory),
+    }
+}
+
+/// The verdict on an answer of the day.
+fn verdict_on(
+    alloc: Global,
+    instance: &Instance,
+    answer: &Answer,
+) -> Result<AnswerVerdict, NoMemory>
+    requires { length answer.now.runs ≤ MOST_TRIPS }
+    ensures verdict { IfOk result (IsAnswerVerdict instance.now answer.now) }
+    ensures holds { IfOk result (λ verdict. verdict ≡ AnswerVerdict.Valid → IsTrueOf instance.now answer.now) }
+{
+    let graphs = Graphs::build(alloc, instance)?;
+    check_answer(alloc, instance, &graphs, answer)
 }

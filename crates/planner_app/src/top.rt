@@ -1,15 +1,17 @@
 //! The top call: it reads a folder, writes one document and answers a status.
 
-ghost use Rattle.std.specs.Prelude.{◌≡◌, ◌≤◌, ◌↔◌, Some, None};
+ghost use Rattle.std.specs.Prelude.{ℕ, List, ◌≡◌, ◌≤◌, ◌↔◌, Some};
 ghost use Rattle.rail_io.specs.Folders.{Files, OnlyReads, Rose};
 ghost use Rattle.planner_app.specs.declared.outcome.Outcome.{Outcome};
-ghost use Rattle.planner_app.specs.Words.{folder_of};
-ghost use Rattle.planner_app.specs.Outcomes.{IsOutcome};
-ghost use Rattle.planner_app.specs.Statuses.{IsRefusedIn, IsStatus, IsUndisturbed, RunsIn, StopsIn, Wrote, status_of};
+ghost use Rattle.planner_app.specs.Outcomes.{AskInVain, AskToCheck, AskToSimulate, IsOutcome};
+ghost use Rattle.planner_app.specs.Statuses.{EndsCheck, EndsSimulation, IsStatus, IsUndisturbed, Wrote, status_of};
 
+use crate::answer_file::AnswerError;
+use crate::checking::AnswerVerdict;
 use crate::document::document;
 use crate::outcome::Outcome;
 use crate::run::outcome_of;
+use answer_text::AnswerRefusal;
 use day_files::ReadError;
 use rail_base::Words;
 use rail_io::{Folder, Sink, write_all};
@@ -22,10 +24,14 @@ fn status_of(outcome: &Outcome) -> u8
     match outcome {
         Outcome::Runs(_) => 0,
         Outcome::Stops(_) => 1,
+        Outcome::Checked { verdict, .. } => u8::from(*verdict != AnswerVerdict::Valid),
         Outcome::Usage => 2,
         Outcome::NoInputs(ReadError::Refused(_)) => 3,
         Outcome::NoInputs(ReadError::CannotRead(_)) => 5,
         Outcome::NoInputs(ReadError::NoMemory) => 7,
+        Outcome::NoAnswer(AnswerError::CannotRead) => 5,
+        Outcome::NoAnswer(AnswerError::Refused(AnswerRefusal::NoMemory)) => 7,
+        Outcome::NoAnswer(_) => 3,
     }
 }
 
@@ -45,15 +51,16 @@ fn write_outcome<K: Sink>(alloc: Global, outcome: &Outcome, out: &mut K) -> u8
 
 /// Runs the command that the words name over a folder, writes one document to the sink and answers the status.
 ///
-/// The first word stands for the program's name and is not looked at. The one command is `simulate DIR`: it reads
-/// the six tables of a day and its plan, `types.csv`, `stations.csv`, `stock.csv`, `trips.csv`, `links.csv`,
-/// `weights.csv` and `plan.csv` in DIR, and says whether the plan runs and what it costs.
+/// The first word stands for the program's name and is not looked at. Each command reads the six tables of a day,
+/// `types.csv`, `stations.csv`, `stock.csv`, `trips.csv`, `links.csv` and `weights.csv` in DIR. `simulate DIR` reads
+/// `plan.csv` as well, and says whether the plan runs and what it costs. `check DIR` reads `answer.txt` as well, and says
+/// whether the answer is valid: its plan, if it has one, runs, and its tree proves what it says of all plans.
 ///
 /// | Status | Comes | Document |
 /// |---|---|---|
-/// | 0 | exactly where the files are accepted and the plan runs | `runs` and the cost |
-/// | 1 | exactly where the files are accepted and the plan doesn't run | `stops:` and the first fault of the day |
-/// | 2 | exactly where the words are no such command | `usage` |
+/// | 0 | exactly where the files are accepted, and the plan runs or the answer is valid | `runs` and the cost, or `valid` and what the answer says |
+/// | 1 | exactly where they are accepted, and it doesn't or isn't | `stops:` and the first fault of the day, or `invalid:` and the first thing that is wrong |
+/// | 2 | exactly where the words are neither command | `usage` |
 /// | 3 | exactly where a file is refused | `refused`, the first such file and why |
 /// | 5 | only where the count of failed reads rose in this call | `cannot read` and the file, one that is reached and may fail |
 /// | 6 | only where the count of failed writes rose in this call | a front of the document, and not all of it |
@@ -64,10 +71,11 @@ fn write_outcome<K: Sink>(alloc: Global, outcome: &Outcome, out: &mut K) -> u8
 #[tactic(auto, using(crate::proofs::Statuses::unread_rose))]
 pub fn railplan<F: Folder, K: Sink>(alloc: Global, words: &Words, folder: &mut F, out: &mut K) -> u8
     // The statuses of words and files, where the status is none of 5, 6 and 7.
-    ensures runs { (files : Files) → F.holds folder.old ≡ Some files → IsUndisturbed result → (result ≡ 0) ↔ RunsIn words.now files }
-    ensures stops { (files : Files) → F.holds folder.old ≡ Some files → IsUndisturbed result → (result ≡ 1) ↔ StopsIn words.now files }
-    ensures usage { IsUndisturbed result → (result ≡ 2) ↔ (folder_of words.now ≡ None) }
-    ensures refused { (files : Files) → F.holds folder.old ≡ Some files → IsUndisturbed result → (result ≡ 3) ↔ IsRefusedIn words.now files }
+    ensures simulate { (files : Files) (dir : List ℕ) → F.holds folder.old ≡ Some files → AskToSimulate words.now dir
+        → IsUndisturbed result → EndsSimulation files dir result }
+    ensures check { (files : Files) (dir : List ℕ) → F.holds folder.old ≡ Some files → AskToCheck words.now dir
+        → IsUndisturbed result → EndsCheck files dir result }
+    ensures usage { IsUndisturbed result → (result ≡ 2) ↔ AskInVain words.now }
 
     // The other statuses, and that there are no more.
     ensures unread { result ≡ 5 → Rose (F.faults folder.old) (F.faults folder.new) }

@@ -1,5 +1,5 @@
 use Rattle.std.proofs.Common.{ap, ◌∙◌}
-use Rattle.planner_app.specs.Texts.{not_ready_text}
+use Rattle.planner_app.specs.Lines.{not_ready_text}
 use Rattle.planner_app.proofs.document.not_ready_text.Goals as goal
 
 -- the numbers that are printed are those that the clause sees

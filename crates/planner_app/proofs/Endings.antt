@@ -1,0 +1,193 @@
+-- The status of a command, by what its outcome says of the files.
+use Rattle.std.proofs.Common.{◌≡◌, ◌≢◌, ℕ, ◌<◌, ◌≤◌, ◌⊎◌, inl, inr, List, length, Bool, true, false, Option, Some, None, Result, Ok, Err, refl, sym, ◌∙◌, ap, subst, arith}
+use Rattle.std.specs.Prelude.{MatchOption, ⊤}
+use Rattle.rail_io.specs.Folders.{Files}
+use Rattle.timetable.specs.Day.{Day}
+use Rattle.day_files.specs.declared.errors.Refusal.{Refusal}
+use Rattle.day_files.specs.declared.errors.ReadError.TheVariants.{CannotRead, Refused, NoMemory}
+use Rattle.day_files.specs.declared.inputs.Inputs.{Inputs}
+use Rattle.day_files.specs.Inputs.{day_in, inputs_in}
+use Rattle.answer_text.specs.declared.answer.Answer.{Answer}
+use Rattle.answer_text.specs.declared.answer.Head.{Head}
+use Rattle.answer_text.specs.declared.refusal.AnswerRefusal.{AnswerRefusal}
+use Rattle.answer_text.specs.declared.refusal.AnswerRefusal.TheVariants as answer_refusal
+use Rattle.planner_app.specs.declared.answer_file.AnswerError.{AnswerError}
+use Rattle.planner_app.specs.declared.answer_file.AnswerError.TheVariants as answer_error
+use Rattle.planner_app.specs.declared.checking.AnswerVerdict.{AnswerVerdict}
+use Rattle.planner_app.specs.declared.checking.AnswerVerdict.TheVariants.{Valid, RunsDiffer, UnknownUnit, Stops}
+use Rattle.planner_app.specs.declared.checking.AnswerVerdict.TheVariants as verdicts
+use Rattle.planner_app.specs.declared.command.Command.{Command}
+use Rattle.planner_app.specs.declared.command.Command.TheVariants as command
+use Rattle.planner_app.specs.declared.outcome.Outcome.{Outcome}
+use Rattle.planner_app.specs.declared.outcome.Outcome.TheVariants as outcome
+use Rattle.planner_app.specs.AnswerFiles.{IsAnswerOf, IsWrongAnswer, answer_bytes}
+use Rattle.planner_app.specs.Commands.{command_of}
+use Rattle.planner_app.specs.Headline.{IsTrueOf, IsValid}
+use Rattle.planner_app.specs.Outcomes.{AreAnswered, AskInVain, AskToCheck, AskToSimulate, IsRefusedFor, OfDay, OfDayAndPlan, PlanRuns, Says, can_run}
+use Rattle.planner_app.specs.Statuses.{EndsCheck, EndsSimulation, IsAnswerFileRefused, IsUndisturbed, status_of, status_of_verdict}
+use Rattle.planner_app.proofs.Refuting.{valid_or_not}
+
+-- status 0 is that of `Valid` alone
+only_valid : (verdict : AnswerVerdict) → status_of_verdict verdict ≡ 0 → verdict ≡ Valid
+only_valid Valid zero = refl
+only_valid (RunsDiffer said found) zero = absurd (omega (arith, zero))
+only_valid (UnknownUnit trip) zero = absurd (omega (arith, zero))
+only_valid (Stops fault) zero = absurd (omega (arith, zero))
+only_valid (verdicts.Claim reason) zero = absurd (omega (arith, zero))
+
+-- ---- what the words ask for is one thing
+
+never_both : (words : List (List ℕ)) (dir other : List ℕ) → AskToSimulate words dir → AskToCheck words other → ⊥
+never_both words dir other simulate check = cc
+
+one_simulated : (words : List (List ℕ)) (dir other : List ℕ) → AskToSimulate words dir → AskToSimulate words other → other ≡ dir
+one_simulated words dir other first second = cc
+
+one_checked : (words : List (List ℕ)) (dir other : List ℕ) → AskToCheck words dir → AskToCheck words other → other ≡ dir
+one_checked words dir other first second = cc
+
+not_in_vain : (words : List (List ℕ)) (asked : Command) → command_of words ≡ Some asked → can_run asked ≡ true → AskInVain words → ⊥
+not_in_vain words asked named runs vain =
+    let none : can_run asked ≡ false = subst (λ (o : Option Command). MatchOption o ⊤ (λ c. can_run c ≡ false)) named vain in
+    cc
+
+module _ (words : List (List ℕ)) (files : Files) (dir : List ℕ) where
+  -- ---- a plan is run
+
+  same_inputs : (one other : Inputs) → inputs_in files dir ≡ Ok one → inputs_in files dir ≡ Ok other → one ≡ other
+  same_inputs one other first second = cc
+
+  not_refused : (inputs : Inputs) → inputs_in files dir ≡ Ok inputs → ((why : Refusal) × (inputs_in files dir ≡ Err why)) → ⊥
+  not_refused inputs accepted refused = let e = refused.1 in cc
+
+  ended_running : (inputs : Inputs) → inputs_in files dir ≡ Ok inputs → PlanRuns inputs → EndsSimulation files dir 0
+  ended_running inputs accepted runs = record {
+    runs = (λ e. (inputs, accepted, runs), λ said. refl);
+    stops = (λ e. absurd (omega (arith, e)), λ said. absurd (said.2 (subst PlanRuns (same_inputs inputs said.0 accepted said.1) runs)));
+    refused = (λ e. absurd (omega (arith, e)), λ said. absurd (not_refused inputs accepted said));
+  }
+
+  ended_stopped : (inputs : Inputs) → inputs_in files dir ≡ Ok inputs → ¬ (PlanRuns inputs) → EndsSimulation files dir 1
+  ended_stopped inputs accepted stops = record {
+    runs = (λ e. absurd (omega (arith, e)), λ said. absurd (stops (subst PlanRuns (sym (same_inputs inputs said.0 accepted said.1)) said.2)));
+    stops = (λ e. (inputs, accepted, stops), λ said. refl);
+    refused = (λ e. absurd (omega (arith, e)), λ said. absurd (not_refused inputs accepted said));
+  }
+
+  ended_refused : (why : Refusal) → inputs_in files dir ≡ Err why → EndsSimulation files dir 3
+  ended_refused why refused = record {
+    runs = (λ e. absurd (omega (arith, e)), λ said. absurd (not_refused said.0 said.1 (why, refused)));
+    stops = (λ e. absurd (omega (arith, e)), λ said. absurd (not_refused said.0 said.1 (why, refused)));
+    refused = (λ e. (why, refused), λ said. refl);
+  }
+
+  pub simulation_ends : (it : Outcome) → AskToSimulate words dir → Says words files it → IsUndisturbed (status_of it)
+      → EndsSimulation files dir (status_of it)
+  simulation_ends (outcome.Runs money) asked says undisturbed =
+      ended_running says.0 (subst (λ (d : List ℕ). inputs_in files d ≡ Ok says.0) (one_simulated words dir says.1.dir asked says.1.asked) says.1.accepted) says.2
+  simulation_ends (outcome.Stops fault) asked says undisturbed =
+      ended_stopped says.0 (subst (λ (d : List ℕ). inputs_in files d ≡ Ok says.0) (one_simulated words dir says.1.dir asked says.1.asked) says.1.accepted) says.2
+  simulation_ends (outcome.Checked head verdict) asked says undisturbed = absurd (never_both words dir says.dir asked says.asked)
+  simulation_ends outcome.Usage asked says undisturbed = absurd (not_in_vain words (command.Simulate dir) asked refl says)
+  simulation_ends (outcome.NoInputs (Refused why)) asked (OfDayAndPlan other asked' refused) undisturbed =
+      ended_refused why (subst (λ (d : List ℕ). inputs_in files d ≡ Err why) (one_simulated words dir other asked asked') refused)
+  simulation_ends (outcome.NoInputs (Refused why)) asked (OfDay other asked' refused) undisturbed = absurd (never_both words dir other asked asked')
+  simulation_ends (outcome.NoInputs (CannotRead table)) asked says undisturbed = absurd (undisturbed.0 refl)
+  simulation_ends (outcome.NoInputs NoMemory) asked says undisturbed = absurd (undisturbed.2 refl)
+  simulation_ends (outcome.NoAnswer error) asked says undisturbed = absurd (never_both words dir says.dir asked says.asked)
+
+  -- ---- an answer is checked
+
+  same_day : (one other : Day) → day_in files dir ≡ Ok one → day_in files dir ≡ Ok other → one ≡ other
+  same_day one other first second = cc
+
+  day_or_not : (day : Day) (why : Refusal) → day_in files dir ≡ Ok day → day_in files dir ≡ Err why → ⊥
+  day_or_not day why accepted refused = cc
+
+  answered_once : (day other : Day) (answer another : Answer) → AreAnswered files dir day answer → AreAnswered files dir other another
+      → IsValid day answer → IsValid other another
+  answered_once day other answer another first second valid =
+      subst (λ (d : Day). IsValid d another) (same_day day other first.of_tables second.of_tables)
+      (subst (λ (a : Answer). IsValid day a) (first.of_file.only another second.of_file.text) valid)
+
+  abbrev RefusedIn : Type 0
+  RefusedIn = ((why : Refusal) × (day_in files dir ≡ Err why))
+      ⊎ ((day : Day) × (day_in files dir ≡ Ok day) × IsAnswerFileRefused (answer_bytes files dir))
+
+  file_right : (answer : Answer) → IsAnswerOf (answer_bytes files dir) answer → IsAnswerFileRefused (answer_bytes files dir) → ⊥
+  file_right answer is (inl longer) = omega (arith, is.few, longer)
+  file_right answer is (inr refused) = is.right refused.0 refused.1
+
+  answered_right : (day : Day) (answer : Answer) → AreAnswered files dir day answer → RefusedIn → ⊥
+  answered_right day answer accepted (inl none) = day_or_not day none.0 accepted.of_tables none.1
+  answered_right day answer accepted (inr wrong) = file_right answer accepted.of_file wrong.2
+
+  checked_valid : (day : Day) (answer : Answer) → AreAnswered files dir day answer → IsValid day answer → IsTrueOf day answer
+      → EndsCheck files dir 0
+  checked_valid day answer accepted valid holds = record {
+    valid = (λ e. (day, answer, accepted, valid), λ said. refl);
+    holds = λ e. (day, answer, accepted, holds);
+    invalid = (λ e. absurd (omega (arith, e)), λ said. absurd (said.3 (answered_once day said.0 answer said.1 accepted said.2 valid)));
+    refused = (λ e. absurd (omega (arith, e)), λ said. absurd (answered_right day answer accepted said));
+  }
+
+  checked_invalid : (day : Day) (answer : Answer) → AreAnswered files dir day answer → ¬ (IsValid day answer) → EndsCheck files dir 1
+  checked_invalid day answer accepted wrong = record {
+    holds = λ e. absurd (omega (arith, e));
+    valid = (λ e. absurd (omega (arith, e)), λ said. absurd (wrong (answered_once said.0 day said.1 answer said.2 accepted said.3)));
+    invalid = (λ e. (day, answer, accepted, wrong), λ said. refl);
+    refused = (λ e. absurd (omega (arith, e)), λ said. absurd (answered_right day answer accepted said));
+  }
+
+  checked_refused : RefusedIn → ((day : Day) (answer : Answer) → AreAnswered files dir day answer → ⊥) → EndsCheck files dir 3
+  checked_refused wrong none = record {
+    holds = λ e. absurd (omega (arith, e));
+    valid = (λ e. absurd (omega (arith, e)), λ said. absurd (none said.0 said.1 said.2));
+    invalid = (λ e. absurd (omega (arith, e)), λ said. absurd (none said.0 said.1 said.2));
+    refused = (λ e. wrong, λ said. refl);
+  }
+
+  by_verdict : (day : Day) (answer : Answer) (status : ℕ) → AreAnswered files dir day answer
+      → ((status ≡ 0) × IsValid day answer) ⊎ ((status ≡ 1) × ¬ IsValid day answer) → (status ≡ 0 → IsTrueOf day answer)
+      → EndsCheck files dir status
+  by_verdict day answer status accepted (inl valid) holds =
+      subst (λ (n : ℕ). EndsCheck files dir n) (sym valid.0) (checked_valid day answer accepted valid.1 (holds valid.0))
+  by_verdict day answer status accepted (inr wrong) holds =
+      subst (λ (n : ℕ). EndsCheck files dir n) (sym wrong.0) (checked_invalid day answer accepted wrong.1)
+
+  at_folder : (other : List ℕ) (day : Day) (answer : Answer) → other ≡ dir → AreAnswered files other day answer → AreAnswered files dir day answer
+  at_folder other day answer is accepted = subst (λ (d : List ℕ). AreAnswered files d day answer) is accepted
+
+  no_answer : (day : Day) (error : AnswerError) → day_in files dir ≡ Ok day → IsWrongAnswer files dir error
+      → IsUndisturbed (status_of (outcome.NoAnswer error)) → EndsCheck files dir (status_of (outcome.NoAnswer error))
+  no_answer day answer_error.CannotRead accepted wrong undisturbed = absurd (undisturbed.0 refl)
+  no_answer day answer_error.TooLong accepted wrong undisturbed =
+      checked_refused (inr (day, accepted, inl wrong)) (λ other answer is. omega (arith, is.of_file.few, wrong))
+  no_answer day (answer_error.Refused answer_refusal.NoMemory) accepted wrong undisturbed = absurd (undisturbed.2 refl)
+  no_answer day (answer_error.Refused (answer_refusal.BadLine line)) accepted wrong undisturbed =
+      checked_refused (inr (day, accepted, inr (answer_refusal.BadLine line, wrong.refused))) (λ other answer is. wrong.none answer is.of_file.text)
+  no_answer day (answer_error.Refused answer_refusal.MissingEnd) accepted wrong undisturbed =
+      checked_refused (inr (day, accepted, inr (answer_refusal.MissingEnd, wrong.refused))) (λ other answer is. wrong.none answer is.of_file.text)
+  no_answer day (answer_error.Refused (answer_refusal.Trailing line)) accepted wrong undisturbed =
+      checked_refused (inr (day, accepted, inr (answer_refusal.Trailing line, wrong.refused))) (λ other answer is. wrong.none answer is.of_file.text)
+  no_answer day (answer_error.Refused answer_refusal.TooManyNodes) accepted wrong undisturbed =
+      checked_refused (inr (day, accepted, inr (answer_refusal.TooManyNodes, wrong.refused))) (λ other answer is. wrong.none answer is.of_file.text)
+
+  pub check_ends : (it : Outcome) → AskToCheck words dir → Says words files it → IsUndisturbed (status_of it) → EndsCheck files dir (status_of it)
+  check_ends (outcome.Runs money) asked says undisturbed = absurd (never_both words says.1.dir dir says.1.asked asked)
+  check_ends (outcome.Stops fault) asked says undisturbed = absurd (never_both words says.1.dir dir says.1.asked asked)
+  check_ends (outcome.Checked head verdict) asked says undisturbed =
+      by_verdict says.day says.answer (status_of_verdict verdict)
+      (at_folder says.dir says.day says.answer (one_checked words dir says.dir asked says.asked) says.accepted)
+      (valid_or_not says.day says.answer verdict says.on.is) (λ zero. says.on.holds (only_valid verdict zero))
+  check_ends outcome.Usage asked says undisturbed = absurd (not_in_vain words (command.Check dir) asked refl says)
+  check_ends (outcome.NoInputs (Refused why)) asked (OfDayAndPlan other asked' refused) undisturbed = absurd (never_both words other dir asked' asked)
+  check_ends (outcome.NoInputs (Refused why)) asked (OfDay other asked' refused) undisturbed =
+      let none : day_in files dir ≡ Err why = subst (λ (d : List ℕ). day_in files d ≡ Err why) (one_checked words dir other asked asked') refused in
+      checked_refused (inl (why, none)) (λ day answer is. day_or_not day why is.of_tables none)
+  check_ends (outcome.NoInputs (CannotRead table)) asked says undisturbed = absurd (undisturbed.0 refl)
+  check_ends (outcome.NoInputs NoMemory) asked says undisturbed = absurd (undisturbed.2 refl)
+  check_ends (outcome.NoAnswer error) asked says undisturbed =
+      let is : says.dir ≡ dir = one_checked words dir says.dir asked says.asked in
+      no_answer says.day error (subst (λ (d : List ℕ). day_in files d ≡ Ok says.day) is says.accepted)
+      (subst (λ (d : List ℕ). IsWrongAnswer files d error) is says.wrong) undisturbed

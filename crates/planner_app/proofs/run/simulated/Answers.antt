@@ -1,0 +1,12 @@
+use Rattle.std.proofs.Common.{rules}
+use Rattle.planner_app.proofs.Outcomes.{no_plan, plan_stops}
+use Rattle.planner_app.proofs.run.simulated.Goals as goal
+
+pub returns-in-Err-clause-outcome : goal.returns-in-Err-clause-outcome
+returns-in-Err-clause-outcome g c words asked =
+    no_plan _ _ _ _ words _ _ c.args.dir.now c.in-Err.error asked c.in-Err.ensures.told c.in-Err.ensures.caused
+
+pub returns-in-Err-Stops-clause-outcome : goal.returns-in-Err-Stops-clause-outcome
+returns-in-Err-Stops-clause-outcome g c words asked =
+    plan_stops _ _ _ _ words _ _ c.args.dir.now c.in-Ok.inputs c.in-Err-Stops.fault asked (search rules) (search rules) (search rules)
+    (c.in-Err-Stops.ensures.in_turn c.in-Err-Stops.fault (search rules))

@@ -1,0 +1,11 @@
+use Rattle.planner_app.proofs.Statuses.{ends_check, ends_in_usage, ends_simulation, unread_rose}
+use Rattle.planner_app.proofs.top.railplan.Goals as goal
+
+pub returns-clause-simulate : goal.returns-clause-simulate
+returns-clause-simulate g c files dir = ends_simulation _ _ _ _ _ _ _ _ _ _ _ _ _ c.outcome_of-outcome.ensures.outcome c.write_outcome.ensures.wrote files dir
+
+pub returns-clause-check : goal.returns-clause-check
+returns-clause-check g c files dir = ends_check _ _ _ _ _ _ _ _ _ _ _ _ _ c.outcome_of-outcome.ensures.outcome c.write_outcome.ensures.wrote files dir
+
+pub returns-clause-usage : goal.returns-clause-usage
+returns-clause-usage g c = ends_in_usage _ _ _ _ _ _ _ _ _ _ _ _ _ c.outcome_of-outcome.ensures.outcome c.write_outcome.ensures.wrote
