@@ -34,7 +34,7 @@ def write_day(folder, trips, units):
         train = [str(first + place) for place in range(6)]
         for name, run in ((out, train), (front, train[:4]), (rear, train[4:]), (back, train[4:] + train[:4])):
             plan.append(f"{name},{' '.join(run)}")
-    tables = {
+    write_tables(folder, {
         "types.csv": ["type,carriages,seats,metres,family", "A,3,200,80,regional"],
         "stations.csv": ["station,platform,reallocation", "X,480,5", "Y,480,5", "Z,480,5"],
         "stock.csv": ["station,type,start,end", f"X,A,{units},{units}"],
@@ -42,7 +42,11 @@ def write_day(folder, trips, units):
         "links.csv": ["kind,arriving,arriving2,departing,departing2,reverse,uncouple,couple"] + links,
         "weights.csv": ["carriage,shortage,shunting", "1,1,100"],
         "plan.csv": ["trip,units"] + plan,
-    }
+    })
+
+
+def write_tables(folder, tables):
+    """Writes tables into a folder, by the names of their files."""
     for name, lines in tables.items():
         with open(os.path.join(folder, name), "w") as table:
             table.write("\n".join(lines) + "\n")
