@@ -6,6 +6,7 @@ use Rattle.std.specs.List.{All, AllPairs}
 use Rattle.std.proofs.lemmas.Bool.{cases_eq, eq-eqb, ne_eqb}
 use Rattle.std.proofs.lemmas.List.Elements.{All-head, All-nil, All-tail}
 use Rattle.std.proofs.lemmas.List.{take_more}
+use Rattle.rail_base.specs.declared.limits.TheConstants.{MOST_CHANGE}
 use Rattle.timetable.specs.Compositions.{compositions_of}
 use Rattle.timetable.specs.Day.{Day}
 use Rattle.timetable.specs.Lists.{sum_below}
@@ -74,7 +75,7 @@ no_changes day = record {
   rising = λ i j d lt below. absurd (omega (arith, below));
   trips = All-nil (λ change. change.trip < length day.trips);
   bases = All-nil (λ change. change.base < length (compositions_of day));
-  costs = All-nil (λ change. change.cost ≤ 1000000);
+  costs = All-nil (λ change. change.cost ≤ MOST_CHANGE);
 }
 
 -- so many changes

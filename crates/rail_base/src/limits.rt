@@ -54,6 +54,8 @@ pub const MOST_DEMAND: u32 = 10_000;
 pub const MOST_FIRST_DEMAND: u32 = 10_000;
 /// Each weight of the cost.
 pub const MOST_WEIGHT: u32 = 10_000;
+/// What a trip costs more with another composition than the one that it is to have.
+pub const MOST_CHANGE: u32 = 1_000_000;
 
 // The day.
 
