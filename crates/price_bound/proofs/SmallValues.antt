@@ -1,26 +1,20 @@
 -- The slacks and the priced values of picks that follow are small.
 use Rattle.std.proofs.Common.{◌≤◌, ◌+◌, ◌*◌, ℕ, List, [], ◌∷◌, length, get_or, Bool, true, false, Option, Some, None, slice_get, unwrap_or, sym, subst, arith, ℤ, pos, neg_ℤ, ◌-ℤ◌, ◌*ℤ◌}
-use Rattle.std.specs.List.{AllZip}
 use Rattle.std.specs.Prelude.{All, option_map, unsigned_abs, ◌==◌, ◌&&◌, if◌then◌else◌}
 use Rattle.std.proofs.Math.Nat.{suc-mul}
 use Rattle.std.proofs.lemmas.Int.{ints}
 use Rattle.std.proofs.lemmas.List.Elements.{All-head, All-tail}
-use Rattle.rail_base.specs.declared.limits.TheConstants.{MOST_MULTIPLIER, MOST_STOCK}
-use Rattle.rail_csv.specs.declared.rows.StockRow.{StockRow}
-use Rattle.rail_csv.specs.Rows.{IsStockRow}
+use Rattle.rail_base.specs.declared.limits.TheConstants.{MOST_MULTIPLIER}
 use Rattle.timetable.specs.declared.day.indices.Place.{Place}
 use Rattle.timetable.specs.declared.day.indices.Place.TheVariants.{Lambda, Mu, Sigma}
 use Rattle.timetable.specs.declared.day.records.Handover.{Handover}
-use Rattle.timetable.specs.declared.day.records.Stock.{Stock}
 use Rattle.timetable.specs.Cost.{cost_of}
-use Rattle.timetable.specs.Day.{Day, wanted_in, wanted_of}
+use Rattle.timetable.specs.Day.{Day, wanted_of}
 use Rattle.timetable.specs.Handovers.{handovers_of}
 use Rattle.timetable.specs.Indices.{places_of}
-use Rattle.timetable.specs.Meaning.{IsStockOf}
 use Rattle.timetable.specs.Minutes.{minutes_of}
 use Rattle.timetable.specs.Picking.{ArePicks, picked}
 use Rattle.timetable.specs.Starts.{start_of}
-use Rattle.timetable.proofs.Deciding.{days_are_made}
 use Rattle.inventory.specs.Counts.{all_given, all_taken, ready_until, taken_until}
 use Rattle.branch_tree.specs.declared.multipliers.Entry.{Entry}
 use Rattle.branch_tree.specs.declared.relaxation.Weight.{Weight}
@@ -31,32 +25,13 @@ use Rattle.cost_model.specs.declared.costs.TheConstants.{MOST_DAY_COST}
 use Rattle.price_bound.specs.declared.sizes.TheConstants.{MOST_SLACK}
 use Rattle.price_bound.specs.DayMeanings.{IsAccepted, meanings_of}
 use Rattle.price_bound.specs.Following.{Follow, pick_of}
-use Rattle.price_bound.specs.Sizes.{DaysWantFew, SlacksAreSmall, ValuesAreSmall, WantsFew}
+use Rattle.price_bound.specs.Sizes.{SlacksAreSmall, ValuesAreSmall}
 use Rattle.price_bound.specs.Slacks.{handover_slack, is_part, one_if, slack_at, slack_of}
 use Rattle.price_bound.proofs.FewCosts.{day_costs}
 use Rattle.price_bound.proofs.FewGiven.{few_all_given, few_at_start, few_ready}
 use Rattle.price_bound.proofs.FewTaken.{few_all_taken, few_taken}
 use Rattle.price_bound.proofs.Pricing.{size_of_product, size_of_sum, size_within}
 use Rattle.price_bound.proofs.Whole.{are_picks}
-
--- ---- what is wanted
-
-one_of : (b : Bool) (n rest : ℕ) → n ≤ MOST_STOCK → rest ≤ MOST_STOCK → (if b then n else rest) ≤ MOST_STOCK
-one_of true n rest few others = few
-one_of false n rest few others = others
-
-few_wanted : (day : Day) (rows : List StockRow) (stock : List Stock) (s m : ℕ) → AllZip (IsStockOf day) rows stock → All IsStockRow rows → wanted_in stock s m ≤ MOST_STOCK
-few_wanted day [] [] s m are within = omega arith
-few_wanted day [] (entry ∷ stock) s m are within = absurd are
-few_wanted day (row ∷ rows) [] s m are within = absurd are
-few_wanted day (row ∷ rows) (entry ∷ stock) s m are within =
-    let first : IsStockRow row = All-head IsStockRow row rows within in
-    one_of ((entry.station == s) && (entry.unit_type == m)) entry.end (wanted_in stock s m)
-    (subst (λ (n : ℕ). n ≤ MOST_STOCK) (sym are.0.end) first.end.1) (few_wanted day rows stock s m are.1 (All-tail IsStockRow row rows within))
-
-pub days_want_few : DaysWantFew
-unfolding wanted_of
-days_want_few tables day rows made s m = few_wanted day tables.stock day.stock s m (days_are_made.meaning tables day made).stock rows.each
 
 -- ---- slacks
 
@@ -72,7 +47,7 @@ small_part true false = omega arith
 small_part false true = omega arith
 small_part false false = omega arith
 
-module _ (day : Day) (picks : List ℕ) (accepted : IsAccepted day) (wants : WantsFew day) (follow : Follow day picks) where
+module _ (day : Day) (picks : List ℕ) (accepted : IsAccepted day) (follow : Follow day picks) where
   picks_are : ArePicks day picks
   picks_are = are_picks day picks follow
 
@@ -91,7 +66,7 @@ module _ (day : Day) (picks : List ℕ) (accepted : IsAccepted day) (wants : Wan
       let start = few_at_start day accepted.sound s m in
       let given = few_all_given day picks accepted.sound picks_are s m in
       let taken = few_all_taken day picks accepted.sound picks_are s m in
-      let wanted = wants s m in
+      let wanted = accepted.stocked.few s m in
       small_end (wanted_of day s m) (start_of day s m + all_given day (picked day picks) s m) (all_taken day (picked day picks) s m) (omega arith) (omega arith)
   small_at (Sigma h comp) = small_handover comp (slice_get (handovers_of day) h)
 
@@ -121,12 +96,12 @@ module _ (day : Day) (picks : List ℕ) (accepted : IsAccepted day) (wants : Wan
   small_cost NoCost = omega arith
 
 pub slacks_are_small : SlacksAreSmall
-slacks_are_small day picks index accepted wants follow = small day picks accepted wants follow index
+slacks_are_small day picks index accepted follow = small day picks accepted follow index
 
 pub values_are_small : ValuesAreSmall
-values_are_small day picks multipliers weight accepted wants follow are =
-    let cost = small_cost day picks accepted wants follow weight in
-    let sum = small_sum day picks accepted wants follow multipliers are.within in
+values_are_small day picks multipliers weight accepted follow are =
+    let cost = small_cost day picks accepted follow weight in
+    let sum = small_sum day picks accepted follow multipliers are.within in
     let both = size_of_sum (weighted weight (pos (cost_of day (picked day picks)))) (slack_sum (meanings_of day) multipliers picks)
     MOST_DAY_COST (length multipliers * (MOST_MULTIPLIER * MOST_SLACK)) cost sum in
     let few = are.few in

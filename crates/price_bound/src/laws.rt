@@ -6,7 +6,7 @@ ghost use Rattle.price_bound.specs.BrokenLaws.{BrokenAtFirstFault, BrokenAtFirst
 ghost use Rattle.price_bound.specs.BrokenLaws.{PartsAreMissedOrNot, SolvedWithoutFault};
 ghost use Rattle.price_bound.specs.DayMeanings.{DaysAreRelaxations};
 ghost use Rattle.price_bound.specs.PlanBounds.{NoSolutionsNoPlans, PlansArePricedLow, PlansHavePicks, SolutionsBoundPlans};
-ghost use Rattle.price_bound.specs.Sizes.{DaysWantFew, SlacksAreSmall, ValuesAreSmall};
+ghost use Rattle.price_bound.specs.Sizes.{SlacksAreSmall, ValuesAreSmall};
 
 /// Every accepted day is a relaxation of its solutions, which are the picks that are the types of a plan that runs: what
 /// is said of a solution's slacks, of near picks and of picks that are no solution holds of the day.
@@ -45,11 +45,8 @@ pub fn broken_picks_are_closed()
     ensures law { BrokenPicksAreClosed }
 {}
 
-/// Where no station wants more units of a type than a stock row may say, as is so of the day of tables whose stock
-/// rows are within the limits, the slacks of picks that follow are at most `MOST_SLACK` in size, and their priced
-/// values are below `MOST_VALUE`.
+/// The slacks of picks that follow are at most `MOST_SLACK` in size, and their priced values are below `MOST_VALUE`.
 pub fn values_are_small()
-    ensures wanted { DaysWantFew }
     ensures slacks { SlacksAreSmall }
     ensures values { ValuesAreSmall }
 {}

@@ -1,12 +1,16 @@
--- No station has two stock rows of one type.
-use Rattle.std.proofs.Common.{◌≡◌, ℕ, suc, ◌≤◌, List, [], ◌∷◌, true, false, cond, refl, sym, ◌∙◌, arith, ⊎_elim}
-use Rattle.std.specs.Prelude.{◌==◌, ◌&&◌}
-use Rattle.std.specs.List.{All, AllPairs}
+-- No station has two stock rows of one type, and none wants more units than a stock row may say.
+use Rattle.std.proofs.Common.{◌≡◌, ℕ, suc, ◌≤◌, Bool, List, [], ◌∷◌, true, false, cond, refl, sym, subst, ◌∙◌, arith, ⊎_elim}
+use Rattle.std.specs.Prelude.{◌==◌, ◌&&◌, if◌then◌else◌}
+use Rattle.std.specs.List.{All, AllPairs, AllZip}
+use Rattle.std.proofs.lemmas.List.Elements.{All-head, All-tail}
 use Rattle.std.proofs.lemmas.Bool.{cases_Bool, and_parts, eqb-true, cond-true, cond-false}
+use Rattle.rail_base.specs.declared.limits.TheConstants.{MOST_STOCK}
+use Rattle.rail_csv.specs.declared.rows.StockRow.{StockRow}
+use Rattle.rail_csv.specs.Rows.{IsStockRow}
 use Rattle.timetable.specs.declared.day.records.Stock.{Stock}
 use Rattle.timetable.specs.Accepted.{rows_of, IsStocked}
-use Rattle.timetable.specs.Day.{Day}
-use Rattle.timetable.specs.Meaning.{IsOtherStock}
+use Rattle.timetable.specs.Day.{Day, wanted_in, wanted_of}
+use Rattle.timetable.specs.Meaning.{IsOtherStock, IsStockOf}
 
 none_other : (s m : ℕ) (row : Stock) (rows : List Stock) → row.station ≡ s → row.unit_type ≡ m → All (IsOtherStock row) rows → rows_of rows s m ≡ 0
 none_other s m row [] station unit_type others = refl
@@ -33,5 +37,22 @@ rows_once s m (row ∷ rows) apart =
     let none : cond {A = ℕ} ((row.station == s) && (row.unit_type == m)) 1 0 ≡ 0 = cond-false _ 1 0 isnt in omega arith)
     (cases_Bool ((row.station == s) && (row.unit_type == m)))
 
-pub stocked : (day : Day) → AllPairs IsOtherStock day.stock → IsStocked day
-stocked day apart = record { once = λ s m. rows_once s m day.stock apart }
+one_of : (b : Bool) (n rest : ℕ) → n ≤ MOST_STOCK → rest ≤ MOST_STOCK → (if b then n else rest) ≤ MOST_STOCK
+one_of true n rest few others = few
+one_of false n rest few others = others
+
+few_wanted : (day : Day) (rows : List StockRow) (stock : List Stock) (s m : ℕ) → AllZip (IsStockOf day) rows stock → All IsStockRow rows → wanted_in stock s m ≤ MOST_STOCK
+few_wanted day [] [] s m are within = omega arith
+few_wanted day [] (entry ∷ stock) s m are within = absurd are
+few_wanted day (row ∷ rows) [] s m are within = absurd are
+few_wanted day (row ∷ rows) (entry ∷ stock) s m are within =
+    let first : IsStockRow row = All-head IsStockRow row rows within in
+    one_of ((entry.station == s) && (entry.unit_type == m)) entry.end (wanted_in stock s m)
+    (subst (λ (n : ℕ). n ≤ MOST_STOCK) (sym are.0.end) first.end.1) (few_wanted day rows stock s m are.1 (All-tail IsStockRow row rows within))
+
+pub stocked : (day : Day) (rows : List StockRow) → AllPairs IsOtherStock day.stock → AllZip (IsStockOf day) rows day.stock → All IsStockRow rows → IsStocked day
+unfolding wanted_of
+stocked day rows apart are within = record {
+  once = λ s m. rows_once s m day.stock apart;
+  few = λ s m. few_wanted day rows day.stock s m are within;
+}

@@ -1,9 +1,9 @@
 -- What is known of every day that was accepted.
 use Rattle.std.specs.Prelude.{ℕ, ◌+◌, ◌<◌, ◌≤◌, ◌≡◌, length, List, [], ◌∷◌, ◌==◌, ◌&&◌, true, if◌then◌else◌, All, IsTrue, Some, slice_get}
-use Rattle.rail_base.specs.declared.limits.TheConstants.{MOST_CARRIAGES, MOST_SEATS, MOST_FIRST_SEATS, MOST_METRES, MOST_MINUTES, MOST_KM, MOST_DEMAND, MOST_FIRST_DEMAND, MOST_PLATFORM, MOST_REALLOCATION, MOST_TYPES, MOST_STATIONS, MOST_TRIPS, MOST_LINKS, MOST_UNITS, MOST_WEIGHT}
+use Rattle.rail_base.specs.declared.limits.TheConstants.{MOST_CARRIAGES, MOST_SEATS, MOST_FIRST_SEATS, MOST_METRES, MOST_MINUTES, MOST_KM, MOST_DEMAND, MOST_FIRST_DEMAND, MOST_PLATFORM, MOST_REALLOCATION, MOST_STOCK, MOST_TYPES, MOST_STATIONS, MOST_TRIPS, MOST_LINKS, MOST_UNITS, MOST_WEIGHT}
 use Rattle.compositions.specs.declared.types.UnitType.{UnitType}
 use Rattle.timetable.specs.Admissible.{is_admissible}
-use Rattle.timetable.specs.Day.{Day, leaves, arrives, from_of, to_of, km_of, demand_of, first_demand_of, home_of, type_of, unit_count, platform_of, reallocation_of}
+use Rattle.timetable.specs.Day.{Day, leaves, arrives, from_of, to_of, km_of, demand_of, first_demand_of, home_of, type_of, unit_count, platform_of, reallocation_of, wanted_of}
 use Rattle.timetable.specs.Links.{arriving_in, departing_in}
 use Rattle.timetable.specs.Lists.{count_of, has}
 use Rattle.timetable.specs.declared.day.records.Link.{Link}
@@ -66,6 +66,8 @@ abbrev pub rows_of : List Stock → ℕ → ℕ → ℕ
 rows_of [] s m = 0
 rows_of (row ∷ rows) s m = (if (row.station == s) && (row.unit_type == m) then 1 else 0) + rows_of rows s m
 
--- no station has two stock rows of one type
+-- no station has two stock rows of one type, and none wants more units of a type at the end of the day than a stock row
+-- may say
 pub record IsStocked (day : Day) : Type 0 where
   pub once : (s m : ℕ) → rows_of day.stock s m ≤ 1
+  pub few : (s m : ℕ) → wanted_of day s m ≤ MOST_STOCK

@@ -160,7 +160,7 @@ impl Instance {
     }
 
     /// How many units there are. No two stock rows are of one station and one type, so of each type as many units are at home
-    /// at a station as `start` tells.
+    /// at a station as `start` tells; and no row wants more units at the end than a stock row may say.
     pub fn units(&self) -> u32
         ensures value { result ≡ unit_count self.now }
         ensures few { result ≤ MOST_UNITS }
