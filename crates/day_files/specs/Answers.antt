@@ -27,6 +27,11 @@ IsCaused may_fail faults taken dir before after (CannotRead table) =
 IsCaused may_fail faults taken dir before after (Refused (TooLong table)) = RosePast MOST_TABLE_BYTES (taken before) (taken after)
 IsCaused may_fail faults taken dir before after _ = ⊤
 
+-- a file that could not be read is one of these
+abbrev pub IsUnreadOf : (Table → Type 0) → ReadError → Type 0
+IsUnreadOf AreRead (CannotRead table) = AreRead table
+IsUnreadOf AreRead _ = ⊤
+
 -- what the refusal of a table comes to
 abbrev pub error_of : Table → TableRefusal → ReadError
 error_of table refusal = if is_memory refusal then NoMemory else Refused (WrongTable table refusal)

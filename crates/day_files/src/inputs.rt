@@ -1,6 +1,7 @@
 //! The day and the plan of a folder: the tables, the day that they make, and the plan of it.
 
-ghost use Rattle.std.specs.Prelude.{◌≡◌, [], Some, Result, IfOk, IfErr};
+ghost use Rattle.std.specs.Prelude.{◌≡◌, ◌≢◌, [], Some, Result, IfOk, IfErr};
+ghost use Rattle.rail_csv.specs.declared.rows.Table.TheVariants.{Plan};
 ghost use Rattle.rail_io.specs.Folders.{Files, OnlyReads};
 ghost use Rattle.rail_csv.specs.Rows.{ArePlanRows};
 ghost use Rattle.timetable.specs.Build.{day_of};
@@ -9,7 +10,7 @@ ghost use Rattle.timetable.specs.Running.{IsPlan};
 ghost use Rattle.day_files.specs.Tables.{AreTables};
 ghost use Rattle.day_files.specs.Inputs.{as_day, as_plan, day_in, inputs_in, tables_in};
 ghost use Rattle.day_files.specs.Order.{Reaches};
-ghost use Rattle.day_files.specs.Answers.{Reads, IsCaused, IsMade};
+ghost use Rattle.day_files.specs.Answers.{Reads, IsCaused, IsMade, IsUnreadOf};
 
 use crate::errors::{ReadError, Refusal};
 use crate::tables::table_in;
@@ -32,6 +33,7 @@ pub struct Inputs {
 fn tables_in<F: Folder>(alloc: Global, folder: &mut F, dir: &str) -> Result<Tables, ReadError>
     ensures told { (files : Files) → F.holds folder.old ≡ Some files → Reads (Reaches files dir.now) result (tables_in files dir.now) }
     ensures within { IfOk result AreTables }
+    ensures unread { IfErr result (IsUnreadOf (λ table. table ≢ Plan)) }
     ensures caused { IfErr result (IsCaused F.may_fail F.faults F.taken dir.now folder.old folder.new) }
     ensures only_reads { OnlyReads F.holds F.may_fail F.faults F.taken folder.old folder.new }
 {
@@ -76,12 +78,14 @@ fn plan_of(alloc: Global, instance: &Instance, rows: &[PlanRow]) -> Result<Named
 /// `weights.csv`, read in this order. The first file that is refused or cannot be read ends the reading, and the rules of
 /// the day come after the six files.
 ///
-/// - `CannotRead`: the count of failed reads rose, a read of that file may fail, and each file before it is accepted.
+/// - `CannotRead`: the count of failed reads rose, a read of that file may fail, and each file before it is accepted. It is
+///   never the file of the plan, which isn't read.
 /// - `Refused`: a file is refused, and it is the first; or the tables make no day.
 /// - `NoMemory`: want of memory.
 #[tactic(auto, unfolding(crate::specs::Inputs::day_in))]
 pub fn day_in<F: Folder>(alloc: Global, folder: &mut F, dir: &str) -> Result<Instance, ReadError>
     ensures told { (files : Files) → F.holds folder.old ≡ Some files → Reads (Reaches files dir.now) result (day_in files dir.now) }
+    ensures unread { IfErr result (IsUnreadOf (λ table. table ≢ Plan)) }
     ensures caused { IfErr result (IsCaused F.may_fail F.faults F.taken dir.now folder.old folder.new) }
     ensures only_reads { OnlyReads F.holds F.may_fail F.faults F.taken folder.old folder.new }
 {

@@ -7,7 +7,7 @@ ghost use Rattle.rail_csv.specs.Tables.{is_memory};
 ghost use Rattle.rail_csv.specs.declared.rows.Table.{Table};
 ghost use Rattle.rail_csv.specs.declared.refusal.TableRefusal.{TableRefusal};
 ghost use Rattle.day_files.specs.Tables.{bytes_in, read_by};
-ghost use Rattle.day_files.specs.Answers.{Reads, IsCaused, error_of};
+ghost use Rattle.day_files.specs.Answers.{Reads, IsCaused, IsUnreadOf, error_of};
 
 use crate::errors::{ReadError, Refusal};
 use crate::names::path_of;
@@ -54,6 +54,7 @@ fn bytes_of<F: Folder>(
     ensures told { (files : Files) → F.holds folder.old ≡ Some files
         → Reads (λ other. other ≡ table) result (bytes_in files dir.now table) }
     ensures few { IfOk result (λ bytes. length bytes ≤ MOST_TABLE_BYTES) }
+    ensures unread { IfErr result (IsUnreadOf (λ other. other ≡ table)) }
     ensures caused { IfErr result (IsCaused F.may_fail F.faults F.taken dir.now folder.old folder.new) }
     ensures only_reads { OnlyReads F.holds F.may_fail F.faults F.taken folder.old folder.new }
 {
@@ -86,6 +87,7 @@ pub(crate) fn table_in<F: Folder, T: DayTable>(
     ensures told { (files : Files) → F.holds folder.old ≡ Some files
         → Reads (λ other. other ≡ T.table) result (read_by T.reading files dir.now T.table) }
     ensures within { IfOk result T.is_within }
+    ensures unread { IfErr result (IsUnreadOf (λ other. other ≡ T.table)) }
     ensures caused { IfErr result (IsCaused F.may_fail F.faults F.taken dir.now folder.old folder.new) }
     ensures only_reads { OnlyReads F.holds F.may_fail F.faults F.taken folder.old folder.new }
 {
