@@ -1,6 +1,5 @@
 -- The status of a command, by what its outcome says of the files.
 use Rattle.std.proofs.Common.{◌≡◌, ◌≢◌, ℕ, ◌<◌, ◌≤◌, ◌⊎◌, inl, inr, List, length, Bool, true, false, Option, Some, None, Result, Ok, Err, refl, sym, ◌∙◌, ap, subst, arith}
-use Rattle.std.specs.Prelude.{MatchOption, ⊤}
 use Rattle.rail_io.specs.Folders.{Files}
 use Rattle.timetable.specs.Day.{Day}
 use Rattle.day_files.specs.declared.errors.Refusal.{Refusal}
@@ -9,6 +8,8 @@ use Rattle.day_files.specs.declared.inputs.Inputs.{Inputs}
 use Rattle.day_files.specs.Inputs.{day_in, inputs_in}
 use Rattle.answer_text.specs.declared.answer.Answer.{Answer}
 use Rattle.answer_text.specs.declared.answer.Head.{Head}
+use Rattle.answer_text.specs.declared.answer.Head.TheVariants.{Optimal, Infeasible, Bounded, BoundedPlan}
+use Rattle.answer_text.specs.Texts.{text_of}
 use Rattle.answer_text.specs.declared.refusal.AnswerRefusal.{AnswerRefusal}
 use Rattle.answer_text.specs.declared.refusal.AnswerRefusal.TheVariants as answer_refusal
 use Rattle.planner_app.specs.declared.answer_file.AnswerError.{AnswerError}
@@ -21,10 +22,15 @@ use Rattle.planner_app.specs.declared.command.Command.TheVariants as command
 use Rattle.planner_app.specs.declared.outcome.Outcome.{Outcome}
 use Rattle.planner_app.specs.declared.outcome.Outcome.TheVariants as outcome
 use Rattle.planner_app.specs.AnswerFiles.{IsAnswerOf, IsWrongAnswer, answer_bytes}
-use Rattle.planner_app.specs.Commands.{command_of}
-use Rattle.planner_app.specs.Headline.{IsTrueOf, IsValid}
-use Rattle.planner_app.specs.Outcomes.{AreAnswered, AskInVain, AskToCheck, AskToSimulate, IsRefusedFor, OfDay, OfDayAndPlan, PlanRuns, Says, can_run}
-use Rattle.planner_app.specs.Statuses.{EndsCheck, EndsSimulation, IsAnswerFileRefused, IsUndisturbed, status_of, status_of_verdict}
+use Rattle.planner_app.specs.Headline.{IsHeadline, IsTrueOf, IsValid, status_said}
+use Rattle.planner_app.specs.Outcomes.{AreAnswered, AskAbout, AskToCheck, AskToPlan, AskToSimulate, IsRefusedFor, OfDay, OfDayAndPlan}
+use Rattle.planner_app.specs.Outcomes.{PlanRuns, Says, reads_answer, reads_plan}
+use Rattle.planner_app.specs.PlainForm.{IsPlainForm}
+use Rattle.rail_io.specs.Sinks.{Appends}
+use Rattle.planner_app.specs.Statuses.{EndsCheck, EndsPlanning, EndsSimulation, IsAnswered, IsAnswerFileRefused, IsUndisturbed}
+use Rattle.planner_app.specs.Statuses.{status_of, status_of_verdict}
+use Rattle.planner_app.specs.Texts.{IsDocument}
+use Rattle.planner_app.proofs.Asking.{about_folder, not_vain, one_command}
 use Rattle.planner_app.proofs.Refuting.{valid_or_not}
 
 -- status 0 is that of `Valid` alone
@@ -38,18 +44,46 @@ only_valid (verdicts.Claim reason) zero = absurd (omega (arith, zero))
 -- ---- what the words ask for is one thing
 
 never_both : (words : List (List ℕ)) (dir other : List ℕ) → AskToSimulate words dir → AskToCheck words other → ⊥
-never_both words dir other simulate check = cc
+never_both words dir other simulate check =
+    let same = one_command words (command.Simulate dir) (command.Check other) simulate check in cc
 
 one_simulated : (words : List (List ℕ)) (dir other : List ℕ) → AskToSimulate words dir → AskToSimulate words other → other ≡ dir
-one_simulated words dir other first second = cc
+one_simulated words dir other first second =
+    let same = one_command words (command.Simulate dir) (command.Simulate other) first second in cc
 
 one_checked : (words : List (List ℕ)) (dir other : List ℕ) → AskToCheck words dir → AskToCheck words other → other ≡ dir
-one_checked words dir other first second = cc
+one_checked words dir other first second =
+    let same = one_command words (command.Check dir) (command.Check other) first second in cc
 
-not_in_vain : (words : List (List ℕ)) (asked : Command) → command_of words ≡ Some asked → can_run asked ≡ true → AskInVain words → ⊥
-not_in_vain words asked named runs vain =
-    let none : can_run asked ≡ false = subst (λ (o : Option Command). MatchOption o ⊤ (λ c. can_run c ≡ false)) named vain in
-    cc
+plan_or_simulate : (words : List (List ℕ)) (dir other : List ℕ) (nodes rounds : ℕ) → AskToPlan words other nodes rounds
+    → AskToSimulate words dir → ⊥
+plan_or_simulate words dir other nodes rounds plan simulate =
+    let same = one_command words (command.Plan other nodes rounds) (command.Simulate dir) plan simulate in cc
+
+plan_or_check : (words : List (List ℕ)) (dir other : List ℕ) (nodes rounds : ℕ) → AskToPlan words other nodes rounds
+    → AskToCheck words dir → ⊥
+plan_or_check words dir other nodes rounds plan check =
+    let same = one_command words (command.Plan other nodes rounds) (command.Check dir) plan check in cc
+
+-- the command of words that are about a folder is the one that they are asked for by
+is_named : (words : List (List ℕ)) (dir : List ℕ) (named : Command) → IsPlainForm words named → (about : AskAbout words dir)
+    → about.named ≡ named
+is_named words dir named form about = one_command words about.named named about.asked form
+
+simulate_reads_plan : (words : List (List ℕ)) (dir other : List ℕ) → AskToSimulate words dir → (about : AskAbout words other)
+    → reads_plan about.named ≡ false → ⊥
+simulate_reads_plan words dir other asked about plain =
+    let reads : reads_plan about.named ≡ true = ap reads_plan (is_named words other (command.Simulate dir) asked about) in cc
+
+simulate_reads_no_answer : (words : List (List ℕ)) (dir other : List ℕ) → AskToSimulate words dir → (about : AskAbout words other)
+    → reads_answer about.named ≡ true → ⊥
+simulate_reads_no_answer words dir other asked about reads =
+    let none : reads_answer about.named ≡ false = ap reads_answer (is_named words other (command.Simulate dir) asked about) in cc
+
+plan_reads_no_answer : (words : List (List ℕ)) (dir other : List ℕ) (nodes rounds : ℕ) → AskToPlan words dir nodes rounds
+    → (about : AskAbout words other) → reads_answer about.named ≡ true → ⊥
+plan_reads_no_answer words dir other nodes rounds asked about reads =
+    let none : reads_answer about.named ≡ false = ap reads_answer (is_named words other (command.Plan dir nodes rounds) asked about) in cc
 
 module _ (words : List (List ℕ)) (files : Files) (dir : List ℕ) where
   -- ---- a plan is run
@@ -83,18 +117,22 @@ module _ (words : List (List ℕ)) (files : Files) (dir : List ℕ) where
 
   pub simulation_ends : (it : Outcome) → AskToSimulate words dir → Says words files it → IsUndisturbed (status_of it)
       → EndsSimulation files dir (status_of it)
+  simulation_ends (outcome.Planned answer) asked says undisturbed =
+      absurd (plan_or_simulate words dir says.1.dir says.1.nodes says.1.rounds says.1.asked asked)
   simulation_ends (outcome.Runs money) asked says undisturbed =
       ended_running says.0 (subst (λ (d : List ℕ). inputs_in files d ≡ Ok says.0) (one_simulated words dir says.1.dir asked says.1.asked) says.1.accepted) says.2
   simulation_ends (outcome.Stops fault) asked says undisturbed =
       ended_stopped says.0 (subst (λ (d : List ℕ). inputs_in files d ≡ Ok says.0) (one_simulated words dir says.1.dir asked says.1.asked) says.1.accepted) says.2
   simulation_ends (outcome.Checked head verdict) asked says undisturbed = absurd (never_both words dir says.dir asked says.asked)
-  simulation_ends outcome.Usage asked says undisturbed = absurd (not_in_vain words (command.Simulate dir) asked refl says)
+  simulation_ends outcome.Usage asked says undisturbed = absurd (not_vain words (command.Simulate dir) asked refl says)
   simulation_ends (outcome.NoInputs (Refused why)) asked (OfDayAndPlan other asked' refused) undisturbed =
       ended_refused why (subst (λ (d : List ℕ). inputs_in files d ≡ Err why) (one_simulated words dir other asked asked') refused)
-  simulation_ends (outcome.NoInputs (Refused why)) asked (OfDay other asked' refused) undisturbed = absurd (never_both words dir other asked asked')
+  simulation_ends (outcome.NoInputs (Refused why)) asked (OfDay other about plain refused) undisturbed =
+      absurd (simulate_reads_plan words dir other asked about plain)
   simulation_ends (outcome.NoInputs (CannotRead table)) asked says undisturbed = absurd (undisturbed.0 refl)
   simulation_ends (outcome.NoInputs NoMemory) asked says undisturbed = absurd (undisturbed.2 refl)
-  simulation_ends (outcome.NoAnswer error) asked says undisturbed = absurd (never_both words dir says.dir asked says.asked)
+  simulation_ends (outcome.NoAnswer error) asked says undisturbed =
+      absurd (simulate_reads_no_answer words dir says.dir asked says.asked says.reads)
 
   -- ---- an answer is checked
 
@@ -174,20 +212,79 @@ module _ (words : List (List ℕ)) (files : Files) (dir : List ℕ) where
       checked_refused (inr (day, accepted, inr (answer_refusal.TooManyNodes, wrong.refused))) (λ other answer is. wrong.none answer is.of_file.text)
 
   pub check_ends : (it : Outcome) → AskToCheck words dir → Says words files it → IsUndisturbed (status_of it) → EndsCheck files dir (status_of it)
+  check_ends (outcome.Planned answer) asked says undisturbed =
+      absurd (plan_or_check words dir says.1.dir says.1.nodes says.1.rounds says.1.asked asked)
   check_ends (outcome.Runs money) asked says undisturbed = absurd (never_both words says.1.dir dir says.1.asked asked)
   check_ends (outcome.Stops fault) asked says undisturbed = absurd (never_both words says.1.dir dir says.1.asked asked)
   check_ends (outcome.Checked head verdict) asked says undisturbed =
       by_verdict says.day says.answer (status_of_verdict verdict)
       (at_folder says.dir says.day says.answer (one_checked words dir says.dir asked says.asked) says.accepted)
       (valid_or_not says.day says.answer verdict says.on.is) (λ zero. says.on.holds (only_valid verdict zero))
-  check_ends outcome.Usage asked says undisturbed = absurd (not_in_vain words (command.Check dir) asked refl says)
+  check_ends outcome.Usage asked says undisturbed = absurd (not_vain words (command.Check dir) asked refl says)
   check_ends (outcome.NoInputs (Refused why)) asked (OfDayAndPlan other asked' refused) undisturbed = absurd (never_both words other dir asked' asked)
-  check_ends (outcome.NoInputs (Refused why)) asked (OfDay other asked' refused) undisturbed =
-      let none : day_in files dir ≡ Err why = subst (λ (d : List ℕ). day_in files d ≡ Err why) (one_checked words dir other asked asked') refused in
+  check_ends (outcome.NoInputs (Refused why)) asked (OfDay other about plain refused) undisturbed =
+      let none : day_in files dir ≡ Err why = subst (λ (d : List ℕ). day_in files d ≡ Err why)
+      (about_folder words dir other (command.Check dir) asked refl about) refused in
       checked_refused (inl (why, none)) (λ day answer is. day_or_not day why is.of_tables none)
   check_ends (outcome.NoInputs (CannotRead table)) asked says undisturbed = absurd (undisturbed.0 refl)
   check_ends (outcome.NoInputs NoMemory) asked says undisturbed = absurd (undisturbed.2 refl)
   check_ends (outcome.NoAnswer error) asked says undisturbed =
-      let is : says.dir ≡ dir = one_checked words dir says.dir asked says.asked in
+      let is : says.dir ≡ dir = about_folder words dir says.dir (command.Check dir) asked refl says.asked in
       no_answer says.day error (subst (λ (d : List ℕ). day_in files d ≡ Ok says.day) is says.accepted)
       (subst (λ (d : List ℕ). IsWrongAnswer files d error) is says.wrong) undisturbed
+
+  -- ---- a day is planned
+
+  module _ (nodes rounds : ℕ) (asked : AskToPlan words dir nodes rounds) (before after : Option (List ℕ)) where
+    planned_refused : (why : Refusal) → day_in files dir ≡ Err why → EndsPlanning files dir nodes 3 before after
+    planned_refused why refused = record {
+      refused = (λ e. (why, refused), λ said. refl);
+      answered = λ other. absurd (other refl);
+    }
+
+    never_refused : (head : Head) → status_said head ≢ 3
+    never_refused (Optimal cost) e = omega (arith, e)
+    never_refused Infeasible e = omega (arith, e)
+    never_refused (Bounded bound) e = omega (arith, e)
+    never_refused (BoundedPlan bound cost) e = omega (arith, e)
+
+    -- the words say one folder and one grant
+    same_plan : (other : List ℕ) (n k : ℕ) → AskToPlan words other n k → (other ≡ dir) × (n ≡ nodes)
+    same_plan other n k asked' =
+        let same = one_command words (command.Plan other n k) (command.Plan dir nodes rounds) asked' asked in (cc, cc)
+
+    planned_answered : (day : Day) (answer : Answer) → day_in files dir ≡ Ok day → IsHeadline day nodes answer
+        → Appends (text_of answer) before after → EndsPlanning files dir nodes (status_said answer.head) before after
+    planned_answered day answer accepted headline written = record {
+      refused = (λ e. absurd (never_refused answer.head e), λ said. absurd (day_or_not day said.0 accepted said.1));
+      answered = λ other. (
+        day,
+        accepted,
+        record { answer = answer; headline = headline; says = refl; written = written },
+      );
+    }
+
+    pub planning_ends : (it : Outcome) → Says words files it → (text : List ℕ) → IsDocument it text → Appends text before after
+        → IsUndisturbed (status_of it) → EndsPlanning files dir nodes (status_of it) before after
+    planning_ends (outcome.Planned answer) says text is written undisturbed =
+        let same = same_plan says.1.dir says.1.nodes says.1.rounds says.1.asked in
+        planned_answered says.0 answer (subst (λ (d : List ℕ). day_in files d ≡ Ok says.0) same.0 says.2)
+        (subst (λ (n : ℕ). IsHeadline says.0 n answer) same.1 says.1.headline)
+        (subst (λ (t : List ℕ). Appends t before after) is written)
+    planning_ends (outcome.Runs money) says text is written undisturbed =
+        absurd (plan_or_simulate words says.1.dir dir nodes rounds asked says.1.asked)
+    planning_ends (outcome.Stops fault) says text is written undisturbed =
+        absurd (plan_or_simulate words says.1.dir dir nodes rounds asked says.1.asked)
+    planning_ends (outcome.Checked head verdict) says text is written undisturbed =
+        absurd (plan_or_check words says.dir dir nodes rounds asked says.asked)
+    planning_ends outcome.Usage says text is written undisturbed =
+        absurd (not_vain words (command.Plan dir nodes rounds) asked refl says)
+    planning_ends (outcome.NoInputs (Refused why)) (OfDayAndPlan other asked' refused) text is written undisturbed =
+        absurd (plan_or_simulate words other dir nodes rounds asked asked')
+    planning_ends (outcome.NoInputs (Refused why)) (OfDay other about plain refused) text is written undisturbed =
+        planned_refused why (subst (λ (d : List ℕ). day_in files d ≡ Err why)
+        (about_folder words dir other (command.Plan dir nodes rounds) asked refl about) refused)
+    planning_ends (outcome.NoInputs (CannotRead table)) says text is written undisturbed = absurd (undisturbed.0 refl)
+    planning_ends (outcome.NoInputs NoMemory) says text is written undisturbed = absurd (undisturbed.2 refl)
+    planning_ends (outcome.NoAnswer error) says text is written undisturbed =
+        absurd (plan_reads_no_answer words dir says.dir nodes rounds asked says.asked says.reads)

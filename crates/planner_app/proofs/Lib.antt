@@ -9,7 +9,14 @@ pub mod Roots
 pub mod Truth
 pub mod OnePicks
 pub mod Checked
+pub mod Naming
+pub mod Leaves
+pub mod Granting
+pub mod Planned
+pub mod OpenLeaves
 pub mod Refuting
+pub mod Rechecking
+pub mod Asking
 pub mod Endings
 pub mod Outcomes
 pub mod Statuses

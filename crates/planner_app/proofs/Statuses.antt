@@ -1,17 +1,20 @@
 -- The statuses of outcomes, and their causes.
-use Rattle.std.proofs.Common.{◌≡◌, ◌↔◌, ◌⊎◌, inl, inr, ℕ, suc, Bool, List, Option, Some, ap, refl, sym, ◌∙◌, subst, arith}
+use Rattle.std.proofs.Common.{◌≡◌, ◌≢◌, ◌↔◌, ◌⊎◌, inl, inr, ℕ, suc, Bool, List, Option, Some, ap, refl, sym, ◌∙◌, subst, arith}
 use Rattle.rail_io.specs.Folders.{Files, Rose}
 use Rattle.day_files.specs.declared.errors.ReadError.TheVariants.{CannotRead, Refused, NoMemory}
 use Rattle.answer_text.specs.declared.refusal.AnswerRefusal.TheVariants as answer_refusal
+use Rattle.answer_text.specs.declared.answer.Head.{Head}
+use Rattle.answer_text.specs.declared.answer.Head.TheVariants.{Optimal, Infeasible, Bounded, BoundedPlan}
 use Rattle.planner_app.specs.declared.answer_file.AnswerError.TheVariants as answer_error
 use Rattle.planner_app.specs.declared.checking.AnswerVerdict.{AnswerVerdict}
 use Rattle.planner_app.specs.declared.checking.AnswerVerdict.TheVariants.{Valid, RunsDiffer, UnknownUnit}
 use Rattle.planner_app.specs.declared.checking.AnswerVerdict.TheVariants as verdict
 use Rattle.planner_app.specs.declared.outcome.Outcome.{Outcome}
-use Rattle.planner_app.specs.declared.outcome.Outcome.TheVariants.{Runs, Stops, Checked, Usage, NoInputs, NoAnswer}
-use Rattle.planner_app.specs.Outcomes.{AskInVain, AskToCheck, AskToSimulate, HasCause, IsOutcome}
-use Rattle.planner_app.specs.Statuses.{EndsCheck, EndsSimulation, IsUndisturbed, status_of, status_of_verdict, Wrote, Whole, Part, Nothing}
-use Rattle.planner_app.proofs.Endings.{check_ends, simulation_ends}
+use Rattle.planner_app.specs.declared.outcome.Outcome.TheVariants.{Planned, Runs, Stops, Checked, Usage, NoInputs, NoAnswer}
+use Rattle.planner_app.specs.Headline.{status_said}
+use Rattle.planner_app.specs.Outcomes.{AskInVain, AskToCheck, AskToPlan, AskToSimulate, HasCause, IsOutcome}
+use Rattle.planner_app.specs.Statuses.{EndsCheck, EndsPlanning, EndsSimulation, IsUndisturbed, status_of, status_of_verdict, Wrote, Whole, Part, Nothing}
+use Rattle.planner_app.proofs.Endings.{check_ends, planning_ends, simulation_ends}
 
 -- a verdict has no status but 0 and 1
 few_of_verdict : (found : AnswerVerdict) (n : ℕ) → status_of_verdict found ≡ n → (n ≡ 0) ⊎ (n ≡ 1)
@@ -24,9 +27,17 @@ few_of_verdict (verdict.Claim reason) n e = inr (sym e)
 no_such : (found : AnswerVerdict) (n : ℕ) → status_of_verdict found ≡ suc (suc n) → ⊥
 no_such found n e = elim (few_of_verdict found (suc (suc n)) e) [ inl zero ↦ omega (arith, zero) | inr one ↦ omega (arith, one) ]
 
+-- what an answer says has no status but 0, 1 and 4
+few_of_head : (head : Head) (n : ℕ) → status_said head ≡ n → n ≢ 2 × n ≢ 5
+few_of_head (Optimal cost) n e = (λ two. omega (arith, e, two), λ five. omega (arith, e, five))
+few_of_head Infeasible n e = (λ two. omega (arith, e, two), λ five. omega (arith, e, five))
+few_of_head (Bounded bound) n e = (λ two. omega (arith, e, two), λ five. omega (arith, e, five))
+few_of_head (BoundedPlan bound cost) n e = (λ two. omega (arith, e, two), λ five. omega (arith, e, five))
+
 -- a file could not be read only where the folder's count of faults rose
 rose_by : {F : Type 0} (may_fail : F → List ℕ → Bool) (faults taken : F → ℕ) (words : List (List ℕ)) (before after : F) (outcome : Outcome)
     → status_of outcome ≡ 5 → HasCause may_fail faults taken words before after outcome → Rose (faults before) (faults after)
+rose_by may_fail faults taken words before after (Planned answer) e cause = absurd ((few_of_head answer.head 5 e).1 refl)
 rose_by may_fail faults taken words before after (Runs money) e cause = absurd (omega (arith, e))
 rose_by may_fail faults taken words before after (Stops fault) e cause = absurd (omega (arith, e))
 rose_by may_fail faults taken words before after (Checked head found) e cause = absurd (no_such found 3 e)
@@ -34,7 +45,7 @@ rose_by may_fail faults taken words before after Usage e cause = absurd (omega (
 rose_by may_fail faults taken words before after (NoInputs (Refused why)) e cause = absurd (omega (arith, e))
 rose_by may_fail faults taken words before after (NoInputs (CannotRead table)) e cause = cause.2.0
 rose_by may_fail faults taken words before after (NoInputs NoMemory) e cause = absurd (omega (arith, e))
-rose_by may_fail faults taken words before after (NoAnswer answer_error.CannotRead) e cause = cause.2.0
+rose_by may_fail faults taken words before after (NoAnswer answer_error.CannotRead) e cause = cause.3.0
 rose_by may_fail faults taken words before after (NoAnswer answer_error.TooLong) e cause = absurd (omega (arith, e))
 rose_by may_fail faults taken words before after (NoAnswer (answer_error.Refused answer_refusal.NoMemory)) e cause = absurd (omega (arith, e))
 rose_by may_fail faults taken words before after (NoAnswer (answer_error.Refused (answer_refusal.BadLine line))) e cause = absurd (omega (arith, e))
@@ -44,6 +55,7 @@ rose_by may_fail faults taken words before after (NoAnswer (answer_error.Refused
 
 -- only words that are not understood end with status 2
 usage_by : (outcome : Outcome) → status_of outcome ≡ 2 → outcome ≡ Usage
+usage_by (Planned answer) e = absurd ((few_of_head answer.head 2 e).0 refl)
 usage_by (Runs money) e = absurd (omega (arith, e))
 usage_by (Stops fault) e = absurd (omega (arith, e))
 usage_by (Checked head found) e = absurd (no_such found 0 e)
@@ -81,6 +93,17 @@ module _ {F : Type 0} (holds : F → Option Files) (may_fail : F → List ℕ �
 
   own_undisturbed : IsUndisturbed status → IsUndisturbed (status_of outcome)
   own_undisturbed undisturbed = subst IsUndisturbed (sym (its_own undisturbed)) undisturbed
+
+  pub ends_planning : (files : Files) (dir : List ℕ) (nodes rounds : ℕ) → holds before ≡ Some files
+      → AskToPlan words dir nodes rounds → IsUndisturbed status → EndsPlanning files dir nodes status written written'
+  ends_planning files dir nodes rounds tells asked undisturbed = by wrote
+    where
+      by : Wrote outcome status written written' faults faults' → EndsPlanning files dir nodes status written written'
+      by (Whole text d appends e) = subst (λ (n : ℕ). EndsPlanning files dir nodes n written written') (sym e)
+          (planning_ends words files dir nodes rounds asked written written' outcome (is.told files tells) text d appends
+          (own_undisturbed undisturbed))
+      by (Part text d appends rose six) = absurd (undisturbed.1 six)
+      by (Nothing same seven) = absurd (undisturbed.2 seven)
 
   pub ends_simulation : (files : Files) (dir : List ℕ) → holds before ≡ Some files → AskToSimulate words dir → IsUndisturbed status
       → EndsSimulation files dir status

@@ -1,18 +1,21 @@
 -- What an answer says of all plans of named units of a day.
-use Rattle.std.specs.Prelude.{ℕ, ◌≡◌, List, map, IsTrue, ℤ, pos, Option, Some, None, MatchOption}
+use Rattle.std.specs.Prelude.{ℕ, ◌+◌, ◌≤◌, ◌≡◌, List, [], map, IsTrue, ℤ, pos, Option, Some, None, MatchOption, IsSome}
+use Rattle.rail_base.specs.declared.limits.TheConstants.{MOST_NODES}
 use Rattle.rail_base.specs.declared.numbers.Money.{Money}
 use Rattle.timetable.specs.Cost.{plan_cost}
 use Rattle.timetable.specs.Day.{Day, types_of}
 use Rattle.timetable.specs.Picking.{ArePicks, picked}
 use Rattle.timetable.specs.Running.{Runs}
-use Rattle.branch_tree.specs.Claims.{Conclusion, optimal, infeasible, bounded, bounded_plan, IsProved}
-use Rattle.branch_tree.specs.Regions.{root_of}
+use Rattle.branch_tree.specs.Claims.{Conclusion, Priced, optimal, infeasible, bounded, bounded_plan, plan_of}
+use Rattle.branch_tree.specs.Claims.{EndsInTime, HasOpenLeaf, IsProved, open_leaves_of}
+use Rattle.branch_tree.specs.Regions.{choices_of, root_of}
+use Rattle.branch_tree.specs.Trees.{branchings_of}
 use Rattle.price_bound.specs.DayMeanings.{meanings_of}
 use Rattle.price_bound.specs.PlanBounds.{PlansCostAtLeast, NoPlanRuns}
 use Rattle.answer_text.specs.declared.answer.Answer.{Answer}
 use Rattle.answer_text.specs.declared.answer.Head.{Head}
 use Rattle.answer_text.specs.declared.answer.Head.TheVariants.{Optimal, Infeasible, Bounded, BoundedPlan}
-use Rattle.answer_text.specs.Limits.{has_plan}
+use Rattle.answer_text.specs.Limits.{IsWithin, has_plan}
 
 -- the cost and the bound that a head says
 abbrev pub cost_said : Head → Option ℤ
@@ -74,3 +77,38 @@ pub record IsValid (day : Day) (answer : Answer) : Type 0 where
   pub picks : List ℕ
   pub planned : HasPicks day answer picks
   pub proved : IsProvedBy day answer picks
+
+-- the status that goes with a head
+abbrev pub status_said : Head → ℕ
+status_said (Optimal cost) = 0
+status_said Infeasible = 1
+status_said (Bounded bound) = 4
+status_said (BoundedPlan bound cost) = 4
+
+-- the plan of an answer, where it has one, by these picks
+abbrev pub plan_said : Answer → List ℕ → Option Priced
+plan_said answer picks = plan_of (conclusion_of answer.head picks)
+
+-- how many leaves of the tree of an answer are open, by the cost that it says
+abbrev pub open_leaves : Answer → ℕ
+open_leaves answer = open_leaves_of (plan_said answer []) answer.tree
+
+-- What is said with an answer to a day for which so many branchings were granted.
+pub record IsHeadline (day : Day) (granted : ℕ) (answer : Answer) : Type 0 where
+  -- what the head says is true of every plan that runs; and the plan of the answer, where it has one, runs and costs
+  -- what is said
+  pub holds : IsTrueOf day answer
+  -- the tree proves what the head says
+  pub valid : IsValid day answer
+  -- the branchings that are said are those of the tree
+  pub branchings : answer.branchings ≡ branchings_of answer.tree
+  -- `bounded`: exactly the granted branchings were made
+  pub spent : IsSome (bound_said answer.head) → branchings_of answer.tree ≡ granted
+  -- `bounded`: a leaf is open
+  pub left_open : IsSome (bound_said answer.head) → HasOpenLeaf (plan_said answer valid.picks) answer.tree
+  -- `bounded` never comes where as many branchings are granted as the trips have choices of compositions, less one
+  pub enough : choices_of (root_of day) ≤ granted + 1 → bound_said answer.head ≡ None
+  -- no open leaf has an evident end, and no bound is below the one without multipliers
+  pub evident : EndsInTime (meanings_of day) (root_of day) (plan_said answer valid.picks) answer.tree
+  -- its text can be read again
+  pub within : IsWithin MOST_NODES answer

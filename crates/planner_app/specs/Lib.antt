@@ -3,6 +3,7 @@ pub mod Commands
 pub mod PlainForm
 -- what an answer says of all plans, and the verdict on it
 pub mod Headline
+pub mod Planning
 pub mod Verdicts
 pub mod AnswerFiles
 -- the lines that are written
@@ -12,3 +13,4 @@ pub mod CheckTexts
 pub mod Outcomes
 pub mod Texts
 pub mod Statuses
+pub mod Advice

@@ -1,6 +1,7 @@
 -- What a run comes to, by its words and the files in the folder that they name.
-use Rattle.std.specs.Prelude.{ℕ, ◌≡◌, ◌⊎◌, List, Bool, true, false, IsTrue, Option, Some, None, MatchOption, Result, Ok, Err, ⊤}
+use Rattle.std.specs.Prelude.{ℕ, ◌≡◌, ◌⊎◌, List, Bool, true, false, IsTrue, Option, Some, None, Result, Ok, Err, ⊤}
 use Rattle.rail_csv.specs.declared.rows.Table.{Table}
+use Rattle.rail_csv.specs.declared.rows.Table.TheVariants as table
 use Rattle.rail_io.specs.Folders.{Files}
 use Rattle.timetable.specs.Day.{Day}
 use Rattle.timetable.specs.Running as running
@@ -23,36 +24,71 @@ use Rattle.planner_app.specs.declared.checking.AnswerVerdict.TheVariants.{Valid}
 use Rattle.planner_app.specs.declared.command.Command.{Command}
 use Rattle.planner_app.specs.declared.command.Command.TheVariants as command
 use Rattle.planner_app.specs.declared.outcome.Outcome.{Outcome}
-use Rattle.planner_app.specs.declared.outcome.Outcome.TheVariants.{Runs, Stops, Checked, Usage, NoInputs, NoAnswer}
+use Rattle.planner_app.specs.declared.outcome.Outcome.TheVariants.{Planned, Runs, Stops, Checked, Usage, NoInputs, NoAnswer}
 use Rattle.planner_app.specs.AnswerFiles.{IsAnswerCaused, IsAnswerOf, IsWrongAnswer, answer_bytes}
-use Rattle.planner_app.specs.Commands.{command_of}
-use Rattle.planner_app.specs.Headline.{IsTrueOf}
+use Rattle.planner_app.specs.Headline.{IsHeadline, IsTrueOf}
+use Rattle.planner_app.specs.PlainForm.{IsPlainForm}
 use Rattle.planner_app.specs.Verdicts.{IsAnswerVerdict}
 
 -- ---- what the words ask for
 
--- to run the plan of a folder, or to check the answer of a folder
+-- to plan the day of a folder, to run the plan of a folder, or to check the answer of a folder
+abbrev pub AskToPlan : List (List ℕ) → List ℕ → ℕ → ℕ → Type 0
+AskToPlan words dir nodes rounds = IsPlainForm words (command.Plan dir nodes rounds)
+
 abbrev pub AskToSimulate : List (List ℕ) → List ℕ → Type 0
-AskToSimulate words dir = command_of words ≡ Some (command.Simulate dir)
+AskToSimulate words dir = IsPlainForm words (command.Simulate dir)
 
 abbrev pub AskToCheck : List (List ℕ) → List ℕ → Type 0
-AskToCheck words dir = command_of words ≡ Some (command.Check dir)
+AskToCheck words dir = IsPlainForm words (command.Check dir)
 
 -- the commands that can be run
 abbrev pub can_run : Command → Bool
+can_run (command.Plan dir nodes rounds) = true
 can_run (command.Simulate dir) = true
 can_run (command.Check dir) = true
 can_run other = false
 
--- the words are not understood, or ask for what can't be run
+-- the words are the plain form of no command, or ask for what can't be run
 abbrev pub AskInVain : List (List ℕ) → Type 0
-AskInVain words = MatchOption (command_of words) ⊤ (λ asked. can_run asked ≡ false)
+AskInVain words = (asked : Command) → IsPlainForm words asked → can_run asked ≡ false
 
--- the words ask for what begins with the day of a folder
-abbrev pub AskAbout : List (List ℕ) → List ℕ → Type 0
-AskAbout words dir = AskToSimulate words dir ⊎ AskToCheck words dir
+-- the folder that a command works on
+abbrev pub folder_of : Command → Option (List ℕ)
+folder_of (command.Plan dir nodes rounds) = Some dir
+folder_of (command.Simulate dir) = Some dir
+folder_of (command.Check dir) = Some dir
+folder_of (command.Duties dir) = Some dir
+folder_of (command.Yards dir) = Some dir
+folder_of (command.Costs dir) = Some dir
+folder_of (command.Trial seed trips nodes rounds) = None
+
+-- whether a command reads the plan of its folder, beside the tables of its day
+abbrev pub reads_plan : Command → Bool
+reads_plan (command.Simulate dir) = true
+reads_plan other = false
+
+-- whether a command reads the answer of its folder, beside the tables of its day
+abbrev pub reads_answer : Command → Bool
+reads_answer (command.Check dir) = true
+reads_answer other = false
+
+-- the words ask for a command on this folder, one that can be run
+pub record AskAbout (words : List (List ℕ)) (dir : List ℕ) : Type 0 where
+  pub named : Command
+  pub asked : IsPlainForm words named
+  pub folder : folder_of named ≡ Some dir
+  pub runs : can_run named ≡ true
 
 -- ---- what an outcome says of the files
+
+-- An answer to a day, as the words ask for: it meets the headline, with the branchings that the words grant.
+pub record IsPlanned (words : List (List ℕ)) (day : Day) (answer : Answer) : Type 0 where
+  pub dir : List ℕ
+  pub nodes : ℕ
+  pub rounds : ℕ
+  pub asked : AskToPlan words dir nodes rounds
+  pub headline : IsHeadline day nodes answer
 
 -- the files are accepted as this day and this plan of it
 pub record AreInputs (words : List (List ℕ)) (files : Files) (inputs : Inputs) : Type 0 where
@@ -87,7 +123,8 @@ pub record IsChecked (words : List (List ℕ)) (files : Files) (head : Head) (ve
 -- the day of the files is accepted, and its answer isn't
 pub record IsAnswerRefused (words : List (List ℕ)) (files : Files) (error : AnswerError) : Type 0 where
   pub dir : List ℕ
-  pub asked : AskToCheck words dir
+  pub asked : AskAbout words dir
+  pub reads : reads_answer asked.named ≡ true
   pub day : Day
   pub accepted : day_in files dir ≡ Ok day
   pub wrong : IsWrongAnswer files dir error
@@ -95,16 +132,24 @@ pub record IsAnswerRefused (words : List (List ℕ)) (files : Files) (error : An
 -- the first file that is refused is refused for this
 pub data IsRefusedFor (words : List (List ℕ)) (files : Files) (why : Refusal) : Type 0 where
   OfDayAndPlan : (dir : List ℕ) → AskToSimulate words dir → inputs_in files dir ≡ Err why → IsRefusedFor words files why
-  OfDay : (dir : List ℕ) → AskToCheck words dir → day_in files dir ≡ Err why → IsRefusedFor words files why
+  OfDay : (dir : List ℕ) (asked : AskAbout words dir) → reads_plan asked.named ≡ false → day_in files dir ≡ Err why
+      → IsRefusedFor words files why
+
+-- the words ask for a command on this folder that reads this table; the plan is read by few commands
+pub record AskToRead (words : List (List ℕ)) (dir : List ℕ) (read : Table) : Type 0 where
+  pub about : AskAbout words dir
+  pub plan : read ≡ table.Plan → reads_plan about.named ≡ true
 
 -- a file that is reached
-pub record IsReached (words : List (List ℕ)) (files : Files) (table : Table) : Type 0 where
+pub record IsReached (words : List (List ℕ)) (files : Files) (read : Table) : Type 0 where
   pub dir : List ℕ
-  pub asked : AskAbout words dir
-  pub reached : Reaches files dir table
+  pub asked : AskToRead words dir read
+  pub reached : Reaches files dir read
 
 -- what an outcome says of the files that a folder holds
 abbrev pub Says : List (List ℕ) → Files → Outcome → Type 0
+Says words files (Planned answer) =
+    (day : Day) × (planned : IsPlanned words day answer) × (day_in files planned.dir ≡ Ok day)
 Says words files (Runs money) =
     (inputs : Inputs) × AreInputs words files inputs × PlanRuns inputs × IsCost (plan_cost inputs.instance inputs.plan) money
 Says words files (Stops fault) =
@@ -116,23 +161,27 @@ Says words files (NoInputs (CannotRead table)) = IsReached words files table
 Says words files (NoInputs NoMemory) = ⊤
 Says words files (NoAnswer error) = IsAnswerRefused words files error
 
--- what an outcome says whatever the files are: a cost is never negative, a plan stops for a cause of its own, and a verdict is
--- that on an answer of a day
-abbrev pub IsSound : Outcome → Type 0
-IsSound (Runs money) = (cost : ℕ) × IsCost cost money
-IsSound (Stops fault) = IsInTurn fault
-IsSound (Checked head verdict) = (day : Day) × (answer : Answer) × IsVerdictOn day answer head verdict
-IsSound Usage = ⊤
-IsSound (NoInputs error) = ⊤
-IsSound (NoAnswer error) = ⊤
+-- what an outcome says whatever the files are: an answer meets the headline for some day, a cost is never negative, a plan
+-- stops for a cause of its own, and a verdict is that on an answer of a day
+abbrev pub IsSound : List (List ℕ) → Outcome → Type 0
+IsSound words (Planned answer) = (day : Day) × IsPlanned words day answer
+IsSound words (Runs money) = (cost : ℕ) × IsCost cost money
+IsSound words (Stops fault) = IsInTurn fault
+IsSound words (Checked head verdict) = (day : Day) × (answer : Answer) × IsVerdictOn day answer head verdict
+IsSound words Usage = ⊤
+IsSound words (NoInputs error) = ⊤
+IsSound words (NoAnswer error) = ⊤
 
 -- what an error is caused by is seen in the counts of the folder
 abbrev pub HasCause : {F : Type 0} → (F → List ℕ → Bool) → (F → ℕ) → (F → ℕ) → List (List ℕ) → F → F → Outcome → Type 0
 HasCause may_fail faults taken words before after (NoInputs NoMemory) = ⊤
-HasCause may_fail faults taken words before after (NoInputs error) =
-    (dir : List ℕ) × AskAbout words dir × IsCaused may_fail faults taken dir before after error
+HasCause may_fail faults taken words before after (NoInputs (CannotRead read)) =
+    (dir : List ℕ) × AskToRead words dir read × IsCaused may_fail faults taken dir before after (CannotRead read)
+HasCause may_fail faults taken words before after (NoInputs (Refused why)) =
+    (dir : List ℕ) × AskAbout words dir × IsCaused may_fail faults taken dir before after (Refused why)
 HasCause may_fail faults taken words before after (NoAnswer error) =
-    (dir : List ℕ) × AskToCheck words dir × IsAnswerCaused may_fail faults taken dir before after error
+    (dir : List ℕ) × (about : AskAbout words dir) × (reads_answer about.named ≡ true)
+    × IsAnswerCaused may_fail faults taken dir before after error
 HasCause may_fail faults taken words before after _ = ⊤
 
 -- An outcome of a run, from a folder before it to the same folder after it. Where the folder tells what it holds, the outcome is
@@ -141,7 +190,7 @@ HasCause may_fail faults taken words before after _ = ⊤
 pub record IsOutcome {F : Type 0} (holds : F → Option Files) (may_fail : F → List ℕ → Bool) (faults taken : F → ℕ)
     (words : List (List ℕ)) (before after : F) (outcome : Outcome) : Type 0 where
   pub told : (files : Files) → holds before ≡ Some files → Says words files outcome
-  pub sound : IsSound outcome
+  pub sound : IsSound words outcome
   pub usage : outcome ≡ Usage → AskInVain words
   pub understood : AskInVain words → (outcome ≡ Usage) ⊎ (outcome ≡ NoInputs NoMemory)
   pub caused : HasCause may_fail faults taken words before after outcome

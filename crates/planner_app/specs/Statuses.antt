@@ -12,13 +12,14 @@ use Rattle.answer_text.specs.declared.answer.Answer.{Answer}
 use Rattle.answer_text.specs.declared.refusal.AnswerRefusal.{AnswerRefusal}
 use Rattle.answer_text.specs.declared.refusal.AnswerRefusal.TheVariants as answer_refusal
 use Rattle.answer_text.specs.Grammar.{IsRefused}
+use Rattle.answer_text.specs.Texts.{text_of}
 use Rattle.planner_app.specs.declared.answer_file.AnswerError.TheVariants as answer_error
 use Rattle.planner_app.specs.declared.checking.AnswerVerdict.{AnswerVerdict}
 use Rattle.planner_app.specs.declared.checking.AnswerVerdict.TheVariants.{Valid}
 use Rattle.planner_app.specs.declared.outcome.Outcome.{Outcome}
-use Rattle.planner_app.specs.declared.outcome.Outcome.TheVariants.{Runs, Stops, Checked, Usage, NoInputs, NoAnswer}
+use Rattle.planner_app.specs.declared.outcome.Outcome.TheVariants.{Planned, Runs, Stops, Checked, Usage, NoInputs, NoAnswer}
 use Rattle.planner_app.specs.AnswerFiles.{answer_bytes}
-use Rattle.planner_app.specs.Headline.{IsTrueOf, IsValid}
+use Rattle.planner_app.specs.Headline.{IsHeadline, IsTrueOf, IsValid, status_said}
 use Rattle.planner_app.specs.Outcomes.{AreAnswered, PlanRuns}
 use Rattle.planner_app.specs.Texts.{IsDocument}
 
@@ -27,6 +28,21 @@ use Rattle.planner_app.specs.Texts.{IsDocument}
 -- the status says of no read and no write that it failed, and not that memory ran out
 abbrev pub IsUndisturbed : ℕ → Type 0
 IsUndisturbed status = (status ≢ 5) × (status ≢ 6) × (status ≢ 7)
+
+-- What was written is the text of an answer to a day, with so many branchings granted, and nothing else; the answer meets
+-- the headline, and the status is that of what it says: 0 of `optimal`, 1 of `infeasible`, 4 of `bounded`.
+pub record IsAnswered (day : Day) (nodes status : ℕ) (before after : Option (List ℕ)) : Type 0 where
+  pub answer : Answer
+  pub headline : IsHeadline day nodes answer
+  pub says : status ≡ status_said answer.head
+  pub written : Appends (text_of answer) before after
+
+-- the status with which the day of a folder is planned, and what was written
+pub record EndsPlanning (files : Files) (dir : List ℕ) (nodes status : ℕ) (before after : Option (List ℕ)) : Type 0 where
+  -- 3 exactly where a table is refused
+  pub refused : (status ≡ 3) ↔ ((why : Refusal) × (day_in files dir ≡ Err why))
+  -- where it isn't 3, the tables are accepted as a day, and an answer to it was written
+  pub answered : status ≢ 3 → (day : Day) × (day_in files dir ≡ Ok day) × IsAnswered day nodes status before after
 
 -- the status with which a plan of a folder is run
 pub record EndsSimulation (files : Files) (dir : List ℕ) (status : ℕ) : Type 0 where
@@ -55,7 +71,7 @@ pub record EndsCheck (files : Files) (dir : List ℕ) (status : ℕ) : Type 0 wh
 
 -- the statuses that there are
 abbrev pub IsStatus : ℕ → Type 0
-IsStatus status = (status ≤ 3) ⊎ ((5 ≤ status) × (status ≤ 7))
+IsStatus status = status ≤ 7
 
 -- ---- of an outcome
 
@@ -66,6 +82,7 @@ status_of_verdict other = 1
 
 -- the status of an outcome whose document was written, and of want of memory
 abbrev pub status_of : Outcome → ℕ
+status_of (Planned answer) = status_said answer.head
 status_of (Runs cost) = 0
 status_of (Stops fault) = 1
 status_of (Checked head verdict) = status_of_verdict verdict

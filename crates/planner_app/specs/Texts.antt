@@ -1,15 +1,17 @@
 -- The document of an outcome.
 use Rattle.std.specs.Prelude.{ℕ, pos, List, ◌≡◌}
 use Rattle.day_files.specs.declared.errors.ReadError.TheVariants.{CannotRead, Refused, NoMemory}
+use Rattle.answer_text.specs.Texts.{text_of}
 use Rattle.answer_text.specs.declared.refusal.AnswerRefusal.TheVariants as answer_refusal
 use Rattle.planner_app.specs.declared.answer_file.AnswerError.TheVariants as answer_error
 use Rattle.planner_app.specs.declared.outcome.Outcome.{Outcome}
-use Rattle.planner_app.specs.declared.outcome.Outcome.TheVariants.{Runs, Stops, Checked, Usage, NoInputs, NoAnswer}
+use Rattle.planner_app.specs.declared.outcome.Outcome.TheVariants.{Planned, Runs, Stops, Checked, Usage, NoInputs, NoAnswer}
 use Rattle.planner_app.specs.CheckTexts.{check_line}
 use Rattle.planner_app.specs.Lines.{answer_file, answer_refusal_text, cannot_read_line, file_refused_line, file_unread_line, refused_line, runs_line, stops_line, too_long_text, usage_line}
 
 -- the document of an outcome; there is none for want of memory, and a cost is never negative
 abbrev pub IsDocument : Outcome → List ℕ → Type 0
+IsDocument (Planned answer) text = text ≡ text_of answer
 IsDocument (Runs money) text = (cost : ℕ) → money.0 ≡ pos cost → text ≡ runs_line cost
 IsDocument (Stops fault) text = text ≡ stops_line fault
 IsDocument (Checked head verdict) text = text ≡ check_line head verdict

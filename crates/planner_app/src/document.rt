@@ -1,4 +1,4 @@
-//! The document of an outcome: one line, with the text of a refusal or a fault.
+//! The document of an outcome: an answer, or one line with the text of a refusal or a fault.
 
 ghost use Rattle.std.specs.Prelude.{◌≡◌, ℕ, pos, IfOk, string_bytes};
 ghost use Rattle.planner_app.specs.Lines.{answer_file, answer_refusal_text, balance_text, cannot_read_line, fault_text, file_refused_line, not_ready_text, refused_line, runs_line, stops_line};
@@ -7,27 +7,37 @@ ghost use Rattle.planner_app.specs.Texts.{IsDocument};
 use crate::answer_file::AnswerError;
 use crate::check_lines::check_line;
 use crate::outcome::Outcome;
-use answer_text::AnswerRefusal;
+use answer_text::{AnswerRefusal, print};
 use day_files::{ReadError, Refusal, file_name};
 use day_simulator::StepFault;
 use rail_base::{Money, NoMemory, StationNo, TripNo, TypeNo, UnitNo};
 use rail_csv::Table;
 use std::alloc::Global;
 
-/// The document that a run writes for its outcome: one line with its line feed. There is none for want of memory, which
-/// is the only refusal.
-pub(crate) fn document(alloc: Global, outcome: &Outcome) -> Result<String, NoMemory>
-    ensures { IfOk result (λ text. IsDocument outcome.now (string_bytes text)) }
+/// The document that a run writes for its outcome: the text of an answer, or one line with its line feed. There is none
+/// for want of memory, which is the only refusal.
+pub(crate) fn document(alloc: Global, outcome: &Outcome) -> Result<Vec<u8>, NoMemory>
+    ensures { IfOk result (λ text. IsDocument outcome.now text.items) }
 {
     match outcome {
-        Outcome::Runs(cost) => runs_line(alloc, *cost),
-        Outcome::Stops(fault) => stops_line(alloc, fault),
-        Outcome::Checked { head, verdict } => check_line(alloc, head, verdict),
-        Outcome::Usage => Ok(String::from_str(alloc, "usage\n")?),
-        Outcome::NoInputs(ReadError::Refused(refusal)) => refused_line(alloc, refusal),
-        Outcome::NoInputs(ReadError::CannotRead(table)) => cannot_read_line(alloc, *table),
-        Outcome::NoInputs(ReadError::NoMemory) => Err(NoMemory),
-        Outcome::NoAnswer(error) => no_answer_line(alloc, error),
+        Outcome::Planned(answer) => print(alloc, answer),
+        Outcome::Runs(cost) => Ok(runs_line(alloc, *cost)?.into_bytes()),
+        Outcome::Stops(fault) => Ok(stops_line(alloc, fault)?.into_bytes()),
+        Outcome::Checked { head, verdict } => Ok(check_line(alloc, head, verdict)?.into_bytes()),
+        Outcome::Usage => Ok(String::from_str(alloc, "usage\n")?.into_bytes()),
+        Outcome::NoInputs(error) => Ok(no_inputs_line(alloc, error)?.into_bytes()),
+        Outcome::NoAnswer(error) => Ok(no_answer_line(alloc, error)?.into_bytes()),
+    }
+}
+
+/// The line of a day or a plan that was not read. There is none for want of memory.
+fn no_inputs_line(alloc: Global, error: &ReadError) -> Result<String, NoMemory>
+    ensures { IfOk result (λ text. IsDocument (Outcome.NoInputs error.now) (string_bytes text)) }
+{
+    match error {
+        ReadError::Refused(refusal) => refused_line(alloc, refusal),
+        ReadError::CannotRead(table) => cannot_read_line(alloc, *table),
+        ReadError::NoMemory => Err(NoMemory),
     }
 }
 

@@ -10,6 +10,7 @@ pub mod command_words;
 mod document;
 mod numbers;
 pub mod outcome;
+mod planning;
 mod run;
 mod taken_words;
 mod top;

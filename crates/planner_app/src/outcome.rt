@@ -2,7 +2,7 @@
 
 use crate::answer_file::AnswerError;
 use crate::checking::AnswerVerdict;
-use answer_text::Head;
+use answer_text::{Answer, Head};
 use day_files::ReadError;
 use day_simulator::StepFault;
 use rail_base::Money;
@@ -10,6 +10,8 @@ use rail_base::Money;
 /// What a run comes to: the document that it writes and the status that it ends with follow from it.
 #[derive(Debug, Drop)]
 pub enum Outcome {
+    /// The day is planned, and this is the answer to it.
+    Planned(Answer),
     /// The plan runs, and costs this.
     Runs(Money),
     /// The plan stops with this fault.

@@ -1,10 +1,12 @@
 //! From the words to the outcome: what each command does with the files of its folder.
 
-ghost use Rattle.std.specs.Prelude.{ℕ, List, ◌≡◌, ◌≤◌, Some, IfOk, length};
-ghost use Rattle.rail_base.specs.declared.limits.TheConstants.{MOST_TRIPS};
+ghost use Rattle.std.specs.Prelude.{ℕ, List, ◌≡◌, ◌≤◌, ◌+◌, ◌*◌, ◌^◌, Some, All, IfOk, length};
+ghost use Rattle.rail_base.specs.declared.limits.TheConstants.{MOST_BRANCHINGS, MOST_ROUNDS, MOST_TRIPS};
 ghost use Rattle.rail_io.specs.Folders.{OnlyReads};
+ghost use Rattle.search.specs.Asking.{AreAsked};
+ghost use Rattle.planner_app.specs.Advice.{AreAskedFor};
 ghost use Rattle.planner_app.specs.Headline.{IsTrueOf};
-ghost use Rattle.planner_app.specs.Outcomes.{AskToCheck, AskToSimulate, IsOutcome};
+ghost use Rattle.planner_app.specs.Outcomes.{AskToCheck, AskToPlan, AskToSimulate, IsOutcome};
 ghost use Rattle.planner_app.specs.Verdicts.{IsAnswerVerdict};
 
 use crate::answer_file::answer_in;
@@ -12,6 +14,8 @@ use crate::checking::{AnswerVerdict, check_answer};
 use crate::command::Command;
 use crate::command_words::{WordsRefusal, read_words};
 use crate::outcome::Outcome;
+use crate::planning::answer_for;
+use advisors::Advisor;
 use answer_text::Answer;
 use day_files::{ReadError, day_in, inputs_in};
 use day_simulator::{SimulateRefusal, simulate};
@@ -22,16 +26,62 @@ use timetable::Instance;
 use transitions::Graphs;
 
 /// What the words and the folder come to.
-pub(crate) fn outcome_of<F: Folder>(alloc: Global, words: &Words, folder: &mut F) -> Outcome
+pub(crate) fn outcome_of<F: Folder>(
+    alloc: Global,
+    words: &Words,
+    folder: &mut F,
+    advisors: &mut Vec<Box<dyn Advisor>>,
+) -> Outcome
+    requires asked { All (λ advisor. asked advisor ≤ 2 ^ 63) advisors.old.items }
     ensures outcome { IsOutcome F.holds F.may_fail F.faults F.taken words.now folder.old folder.new result }
     ensures only_reads { OnlyReads F.holds F.may_fail F.faults F.taken folder.old folder.new }
+    ensures asked { (dir : List ℕ) (nodes rounds : ℕ) → AskToPlan words.now dir nodes rounds
+        → AreAsked advisors.old.items advisors.new.items asked has_quit 0 (rounds * (2 * nodes + 1)) }
+    ensures asked_for { (dir : List ℕ) (nodes rounds : ℕ) → AskToPlan words.now dir nodes rounds
+        → AreAskedFor rounds result advisors.old.items advisors.new.items asked has_quit }
+    ensures unasked { ((dir : List ℕ) (nodes rounds : ℕ) → ¬ AskToPlan words.now dir nodes rounds)
+        → advisors.new.items ≡ advisors.old.items }
 {
     match read_words(alloc, words) {
+        Ok(Command::Plan { dir, nodes, rounds }) => {
+            planned(alloc, folder, dir.as_str(), nodes, rounds, advisors)
+        }
         Ok(Command::Simulate { dir }) => simulated(alloc, folder, dir.as_str()),
         Ok(Command::Check { dir }) => checked(alloc, folder, dir.as_str()),
-        Ok(_) => Outcome::Usage,
+        Ok(Command::Duties { .. }) => Outcome::Usage,
+        Ok(Command::Yards { .. }) => Outcome::Usage,
+        Ok(Command::Costs { .. }) => Outcome::Usage,
+        Ok(Command::Trial { .. }) => Outcome::Usage,
         Err(WordsRefusal::NotUnderstood) => Outcome::Usage,
         Err(WordsRefusal::NoMemory) => Outcome::NoInputs(ReadError::NoMemory),
+    }
+}
+
+/// Plans the day of a folder.
+fn planned<F: Folder>(
+    alloc: Global,
+    folder: &mut F,
+    dir: &str,
+    nodes: u32,
+    rounds: u8,
+    advisors: &mut Vec<Box<dyn Advisor>>,
+) -> Outcome
+    requires nodes { nodes ≤ MOST_BRANCHINGS }
+    requires rounds { rounds ≤ MOST_ROUNDS }
+    requires asked { All (λ advisor. asked advisor ≤ 2 ^ 63) advisors.old.items }
+    ensures outcome { (words : List (List ℕ)) → AskToPlan words dir.now nodes rounds
+        → IsOutcome F.holds F.may_fail F.faults F.taken words folder.old folder.new result }
+    ensures only_reads { OnlyReads F.holds F.may_fail F.faults F.taken folder.old folder.new }
+    ensures asked { AreAsked advisors.old.items advisors.new.items asked has_quit 0 (rounds * (2 * nodes + 1)) }
+    ensures asked_for { AreAskedFor rounds result advisors.old.items advisors.new.items asked has_quit }
+{
+    let instance = match day_in(alloc, folder, dir) {
+        Ok(instance) => instance,
+        Err(error) => return Outcome::NoInputs(error),
+    };
+    match answer_for(alloc, &instance, nodes, rounds, advisors) {
+        Ok(answer) => Outcome::Planned(answer),
+        Err(NoMemory) => Outcome::NoInputs(ReadError::NoMemory),
     }
 }
 

@@ -1,27 +1,44 @@
 //! The top call: it reads a folder, writes one document and answers a status.
 
-ghost use Rattle.std.specs.Prelude.{ℕ, List, ◌≡◌, ◌≤◌, ◌↔◌, Some};
+ghost use Rattle.std.specs.Prelude.{ℕ, List, ◌≡◌, ◌≤◌, ◌+◌, ◌*◌, ◌^◌, ◌↔◌, Some, All};
 ghost use Rattle.rail_io.specs.Folders.{Files, OnlyReads, Rose};
+ghost use Rattle.search.specs.Asking.{AreAsked};
 ghost use Rattle.planner_app.specs.declared.outcome.Outcome.{Outcome};
-ghost use Rattle.planner_app.specs.Outcomes.{AskInVain, AskToCheck, AskToSimulate, IsOutcome};
-ghost use Rattle.planner_app.specs.Statuses.{EndsCheck, EndsSimulation, IsStatus, IsUndisturbed, Wrote, status_of};
+ghost use Rattle.planner_app.specs.Advice.{AreAskedFor};
+ghost use Rattle.planner_app.specs.Headline.{status_said};
+ghost use Rattle.planner_app.specs.Outcomes.{AskInVain, AskToCheck, AskToPlan, AskToSimulate, IsOutcome};
+ghost use Rattle.planner_app.specs.Statuses.{EndsCheck, EndsPlanning, EndsSimulation, IsStatus, IsUndisturbed};
+ghost use Rattle.planner_app.specs.Statuses.{Wrote, status_of};
 
 use crate::answer_file::AnswerError;
 use crate::checking::AnswerVerdict;
 use crate::document::document;
 use crate::outcome::Outcome;
 use crate::run::outcome_of;
-use answer_text::AnswerRefusal;
+use advisors::Advisor;
+use answer_text::{AnswerRefusal, Head};
 use day_files::ReadError;
 use rail_base::Words;
 use rail_io::{Folder, Sink, write_all};
 use std::alloc::Global;
+
+/// The status that goes with what an answer says.
+fn status_said(head: Head) -> u8
+    ensures { result ≡ status_said head }
+{
+    match head {
+        Head::Optimal { .. } => 0,
+        Head::Infeasible => 1,
+        Head::Bounded { .. } | Head::BoundedPlan { .. } => 4,
+    }
+}
 
 /// The status of an outcome whose document was written, and of want of memory.
 fn status_of(outcome: &Outcome) -> u8
     ensures { result ≡ status_of outcome.now }
 {
     match outcome {
+        Outcome::Planned(answer) => status_said(answer.head),
         Outcome::Runs(_) => 0,
         Outcome::Stops(_) => 1,
         Outcome::Checked { verdict, .. } => u8::from(*verdict != AnswerVerdict::Valid),
@@ -43,7 +60,7 @@ fn write_outcome<K: Sink>(alloc: Global, outcome: &Outcome, out: &mut K) -> u8
     let Ok(text) = document(alloc, outcome) else {
         return 7;
     };
-    match write_all(out, text.as_bytes()) {
+    match write_all(out, text.as_slice()) {
         Ok(()) => status_of(outcome),
         Err(_) => 6,
     }
@@ -52,25 +69,48 @@ fn write_outcome<K: Sink>(alloc: Global, outcome: &Outcome, out: &mut K) -> u8
 /// Runs the command that the words name over a folder, writes one document to the sink and answers the status.
 ///
 /// The first word stands for the program's name and is not looked at. Each command reads the six tables of a day,
-/// `types.csv`, `stations.csv`, `stock.csv`, `trips.csv`, `links.csv` and `weights.csv` in DIR. `simulate DIR` reads
-/// `plan.csv` as well, and says whether the plan runs and what it costs. `check DIR` reads `answer.txt` as well, and says
-/// whether the answer is valid: its plan, if it has one, runs, and its tree proves what it says of all plans.
+/// `types.csv`, `stations.csv`, `stock.csv`, `trips.csv`, `links.csv` and `weights.csv` in DIR.
+///
+/// - `plan DIR --nodes N --rounds K` plans the day by a search of at most N branchings, 200 where no N is given, and writes
+///   an answer: the plan of named units, its cost, and a tree that proves what is said of all other plans. The advisors are
+///   asked for proposals in at most K rounds at each node, 20 where no K is given. Whatever they propose, what the answer
+///   says is true.
+/// - `simulate DIR` reads `plan.csv` as well, and says whether the plan runs and what it costs.
+/// - `check DIR` reads `answer.txt` as well, and says whether the answer is valid: its plan, if it has one, runs, and its
+///   tree proves what it says of all plans.
 ///
 /// | Status | Comes | Document |
 /// |---|---|---|
-/// | 0 | exactly where the files are accepted, and the plan runs or the answer is valid | `runs` and the cost, or `valid` and what the answer says |
-/// | 1 | exactly where they are accepted, and it doesn't or isn't | `stops:` and the first fault of the day, or `invalid:` and the first thing that is wrong |
-/// | 2 | exactly where the words are neither command | `usage` |
+/// | 0 | exactly where the files are accepted, and the answer found is optimal, the plan runs or the answer is valid | the answer, `runs` and the cost, or `valid` and what the answer says |
+/// | 1 | exactly where they are accepted, and no plan runs, the plan doesn't or the answer isn't valid | the answer, `stops:` and the first fault of the day, or `invalid:` and the first thing that is wrong |
+/// | 2 | exactly where the words are none of these commands | `usage` |
 /// | 3 | exactly where a file is refused | `refused`, the first such file and why |
+/// | 4 | exactly where the files are accepted, and the answer found is bounded: all branchings that are granted were made, and a leaf is open | the answer |
 /// | 5 | only where the count of failed reads rose in this call | `cannot read` and the file, one that is reached and may fail |
 /// | 6 | only where the count of failed writes rose in this call | a front of the document, and not all of it |
 /// | 7 | want of memory | nothing was written |
 ///
 /// Each "exactly where" yields to statuses 5, 6 and 7. What is said of the files holds where the folder tells what it
 /// holds, and what is said of the document where the sink tells what was written.
+///
+/// Each advisor was asked at most 2^63 times before. The advisors stay in the list at their places, whatever the status is.
+/// One that has quit is not asked; each is asked at most K times at the root and at both sides of each branching, and once
+/// at least, where K is not 0, for each branching of the answer and for each of its open leaves. Other commands leave the
+/// list as it is.
 #[tactic(auto, using(crate::proofs::Statuses::unread_rose))]
-pub fn railplan<F: Folder, K: Sink>(alloc: Global, words: &Words, folder: &mut F, out: &mut K) -> u8
-    // The statuses of words and files, where the status is none of 5, 6 and 7.
+pub fn railplan<F: Folder, K: Sink>(
+    alloc: Global,
+    words: &Words,
+    folder: &mut F,
+    out: &mut K,
+    advisors: &mut Vec<Box<dyn Advisor>>,
+) -> u8
+    requires asked { All (λ advisor. asked advisor ≤ 2 ^ 63) advisors.old.items }
+
+    // The headline, and the statuses of the other words and files, where the status is none of 5, 6 and 7.
+    ensures plan { (files : Files) (dir : List ℕ) (nodes rounds : ℕ) → F.holds folder.old ≡ Some files
+        → AskToPlan words.now dir nodes rounds → IsUndisturbed result
+        → EndsPlanning files dir nodes result (K.written out.old) (K.written out.new) }
     ensures simulate { (files : Files) (dir : List ℕ) → F.holds folder.old ≡ Some files → AskToSimulate words.now dir
         → IsUndisturbed result → EndsSimulation files dir result }
     ensures check { (files : Files) (dir : List ℕ) → F.holds folder.old ≡ Some files → AskToCheck words.now dir
@@ -83,14 +123,23 @@ pub fn railplan<F: Folder, K: Sink>(alloc: Global, words: &Words, folder: &mut F
     ensures nothing { result ≡ 7 → K.written out.new ≡ K.written out.old }
     ensures statuses { IsStatus result }
 
-    // What was written is the document of an outcome of these words and this folder, whose status is the result.
+    // What was written is the document of an outcome of these words and this folder, whose status is the result; and where
+    // it is an answer, the advisors were asked as it tells.
     ensures document { (outcome : Outcome) × IsOutcome F.holds F.may_fail F.faults F.taken words.now folder.old folder.new outcome
-        × Wrote outcome result (K.written out.old) (K.written out.new) (K.faults out.old) (K.faults out.new) }
+        × Wrote outcome result (K.written out.old) (K.written out.new) (K.faults out.old) (K.faults out.new)
+        × ((dir : List ℕ) (nodes rounds : ℕ) → AskToPlan words.now dir nodes rounds
+        → AreAskedFor rounds outcome advisors.old.items advisors.new.items asked has_quit) }
+
+    // How often the advisors were asked, whatever the status is.
+    ensures asked { (dir : List ℕ) (nodes rounds : ℕ) → AskToPlan words.now dir nodes rounds
+        → AreAsked advisors.old.items advisors.new.items asked has_quit 0 (rounds * (2 * nodes + 1)) }
+    ensures unasked { ((dir : List ℕ) (nodes rounds : ℕ) → ¬ AskToPlan words.now dir nodes rounds)
+        → advisors.new.items ≡ advisors.old.items }
 
     // What stays: the folder is only read, and no count falls.
     ensures only_reads { OnlyReads F.holds F.may_fail F.faults F.taken folder.old folder.new }
     ensures lasting { K.faults out.old ≤ K.faults out.new }
 {
-    let outcome = outcome_of(alloc, words, folder);
+    let outcome = outcome_of(alloc, words, folder, advisors);
     write_outcome(alloc, &outcome, out)
 }

@@ -1,10 +1,11 @@
 //! The program: the files of the system and the standard output in place of a folder and a sink.
 #![tactic(auto)]
 
+use advisors::{Advisor, Diver, Subgradient};
 use planner_app::railplan;
 use rail_base::limits::MOST_WORDS;
 use rail_base::{NoMemory, Words};
-use rail_io::{DiskFolder, StdoutSink};
+use rail_io::{DiskFolder, Folder, Sink, StdoutSink};
 use std::alloc::Global;
 use std::env::{self, Args};
 use std::io::ErrorKind;
@@ -29,6 +30,20 @@ fn name_alone(alloc: Global) -> Result<Words, NoMemory> {
     Ok(words)
 }
 
+/// Runs the command of the words with the advisors that the program has, in the order in which they are asked. The error
+/// is want of memory for their boxes.
+fn run<F: Folder, K: Sink>(
+    alloc: Global,
+    words: &Words,
+    folder: &mut F,
+    out: &mut K,
+) -> Result<u8, NoMemory> {
+    let mut advisors: Vec<Box<dyn Advisor>> = Vec::new(alloc);
+    advisors.push(Box::new(alloc, Subgradient::new())?)?;
+    advisors.push(Box::new(alloc, Diver::new())?)?;
+    Ok(railplan(alloc, words, folder, out, &mut advisors))
+}
+
 fn main(rt: HostRuntime) -> ExitCode {
     let alloc = rt.alloc();
     let words = match env::args(&rt) {
@@ -41,5 +56,8 @@ fn main(rt: HostRuntime) -> ExitCode {
     };
     let mut folder = DiskFolder::new(&rt);
     let mut out = StdoutSink::new(&rt);
-    ExitCode::from(railplan(alloc, &words, &mut folder, &mut out))
+    match run(alloc, &words, &mut folder, &mut out) {
+        Ok(status) => ExitCode::from(status),
+        Err(NoMemory) => ExitCode::from(7),
+    }
 }

@@ -1,7 +1,6 @@
 //! Checking an answer: worked documents that are valid, each thing that can be wrong with one, and files that are refused.
 
-use crate::day::{Day, base_day, folder_with_bytes, ring, words_of};
-use planner_app::railplan;
+use crate::day::{Day, base_day, both_stay, folder_with_bytes, one_stays, ring, run, words_of};
 use rail_base::NoMemory;
 use rail_io::MemorySink;
 use std::alloc::Global;
@@ -20,26 +19,10 @@ fn expect_check(
     let mut folder = folder_with_bytes(rt, alloc, day, "day/answer.txt", answer.as_bytes())?;
     let mut out = MemorySink::new(alloc, 1000, 1000, Vec::new(alloc))?;
     let words = words_of(rt, alloc, &["railplan", "check", "day"])?;
-    let found = railplan(alloc, &words, &mut folder, &mut out);
+    let found = run(alloc, &words, &mut folder, &mut out)?;
     assert!(rt; out.written() == line.as_bytes());
     assert!(rt; found == status);
     Ok(())
-}
-
-/// The base day on which one of the two units is to stay at the other station.
-fn one_stays() -> Day<'static> {
-    Day {
-        stock: Some("station,type,start,end\nX,A,2,1\nY,A,0,1\n"),
-        ..base_day()
-    }
-}
-
-/// The base day on which both units are to stay at the other station.
-fn both_stay() -> Day<'static> {
-    Day {
-        stock: Some("station,type,start,end\nX,A,2,0\nY,A,0,2\n"),
-        ..base_day()
-    }
 }
 
 /// Asserts the status and the line for an answer to the day on which one unit stays, by what follows the title line.

@@ -1,6 +1,7 @@
 //! Two travel classes: days whose tables are of the second version, and what is refused in them.
 
 use crate::day::{Day, base_day, expect_document};
+use crate::plan_tests::expect_answer;
 use std::test::Fail;
 
 const TYPES: &str = "type,carriages,seats,metres,family,first\nA,3,200,80,regional,40\n";
@@ -43,6 +44,9 @@ fn each_class_has_its_own_shortage(rt: HostRuntime) -> Result<(), Fail> {
     for (day, line) in &cases {
         expect_document(&rt, alloc, day, 0, line)?;
     }
+    let usual = ["railplan", "plan", "day"];
+    let both_return = "optimal 220\nbranchings 0\nrun 0 0 1\nrun 1 1 0\ntree\ncost 220 0\nend\n";
+    expect_answer(&rt, alloc, &two_classes(), &usual, 0, both_return)?;
     Ok(())
 }
 

@@ -1,5 +1,6 @@
 //! A day in memory, with one text a file, and what a run over it comes to.
 
+use advisors::{Advisor, Diver, Subgradient};
 use planner_app::railplan;
 use rail_base::name::is_name;
 use rail_base::{NoMemory, Words};
@@ -53,6 +54,22 @@ pub(crate) fn base_day() -> Day<'static> {
         ),
         plan: Some("trip,units\nT1,0 1\nT2,1 0\n"),
         ..two_trips()
+    }
+}
+
+/// The base day on which one of the two units is to stay at the other station.
+pub(crate) fn one_stays() -> Day<'static> {
+    Day {
+        stock: Some("station,type,start,end\nX,A,2,1\nY,A,0,1\n"),
+        ..base_day()
+    }
+}
+
+/// The base day on which both units are to stay at the other station.
+pub(crate) fn both_stay() -> Day<'static> {
+    Day {
+        stock: Some("station,type,start,end\nX,A,2,0\nY,A,0,2\n"),
+        ..base_day()
     }
 }
 
@@ -180,6 +197,19 @@ pub(crate) fn words_of(rt: &impl Abort, alloc: Global, texts: &[&str]) -> Result
     Ok(words)
 }
 
+/// The status of the words over a folder and a sink, with the advisors that the program has.
+pub(crate) fn run(
+    alloc: Global,
+    words: &Words,
+    folder: &mut MemoryFolder,
+    out: &mut MemorySink,
+) -> Result<u8, NoMemory> {
+    let mut advisors: Vec<Box<dyn Advisor>> = Vec::new(alloc);
+    advisors.push(Box::new(alloc, Subgradient::new())?)?;
+    advisors.push(Box::new(alloc, Diver::new())?)?;
+    Ok(railplan(alloc, words, folder, out, &mut advisors))
+}
+
 /// What `simulate day` comes to over a folder and a sink.
 pub(crate) fn simulated_with(
     rt: &impl Abort,
@@ -188,7 +218,7 @@ pub(crate) fn simulated_with(
     mut out: MemorySink,
 ) -> Result<Ending, NoMemory> {
     let words = words_of(rt, alloc, &["railplan", "simulate", "day"])?;
-    let status = railplan(alloc, &words, folder, &mut out);
+    let status = run(alloc, &words, folder, &mut out)?;
     let written = out.written().to_vec(alloc)?;
     Ok(Ending { status, written })
 }

@@ -1,6 +1,7 @@
 //! Turns that both uncouple and couple units: days whose links are of the second version.
 
 use crate::day::{Day, base_day, expect_document, two_types};
+use crate::plan_tests::{expect_cost, expect_impossible};
 use std::test::Fail;
 
 /// The day of a turn that turns round and exchanges a unit of the one type for one of the other at the rear.
@@ -42,6 +43,8 @@ fn a_turn_exchanges_units(rt: HostRuntime) -> Result<(), Fail> {
         ..exchange_at_the_rear()
     };
     expect_document(&rt, alloc, &without, 1, "stops: link 0 is broken\n")?;
+    expect_cost(&rt, alloc, &exchange_at_the_rear(), 190)?;
+    expect_impossible(&rt, alloc, &without)?;
     Ok(())
 }
 

@@ -14,6 +14,8 @@ mod failure_tests;
 #[cfg(test)]
 mod link_tests;
 #[cfg(test)]
+mod plan_tests;
+#[cfg(test)]
 mod refusal_tests;
 #[cfg(test)]
 mod simulate_tests;

@@ -1,7 +1,6 @@
 //! Running a plan: worked days with their lines, refused files, and reads and writes that fail.
 
-use crate::day::{Day, expect_document, folder_of, simulated_with, two_trips, words_of};
-use planner_app::railplan;
+use crate::day::{Day, expect_document, folder_of, run, simulated_with, two_trips, words_of};
 use rail_base::NoMemory;
 use rail_io::MemorySink;
 use std::alloc::Global;
@@ -210,7 +209,7 @@ fn expect_usage(rt: &impl Abort, alloc: Global, texts: &[&str]) -> Result<(), No
     let words = words_of(rt, alloc, texts)?;
     let mut folder = folder_of(rt, alloc, &two_trips(), Vec::new(alloc))?;
     let mut out = MemorySink::new(alloc, 1000, 1000, Vec::new(alloc))?;
-    assert!(rt; railplan(alloc, &words, &mut folder, &mut out) == 2);
+    assert!(rt; run(alloc, &words, &mut folder, &mut out)? == 2);
     assert!(rt; out.written() == b"usage\n".as_slice());
     Ok(())
 }
@@ -224,7 +223,8 @@ fn other_words_are_refused(rt: HostRuntime) -> Result<(), Fail> {
     expect_usage(&rt, alloc, &["railplan", "simulate", ""])?;
     expect_usage(&rt, alloc, &["railplan", "simulate", "-day"])?;
     expect_usage(&rt, alloc, &["railplan", "simulate", "day", "day"])?;
-    expect_usage(&rt, alloc, &["railplan", "plan", "day"])?;
+    expect_usage(&rt, alloc, &["railplan", "plan", "day", "day"])?;
+    expect_usage(&rt, alloc, &["railplan", "plan", "day", "--nodes", "4001"])?;
     expect_usage(&rt, alloc, &["railplan", "--help"])?;
     Ok(())
 }

@@ -1,5 +1,5 @@
 use Rattle.std.proofs.Common.{rules}
-use Rattle.planner_app.proofs.Outcomes.{no_plan, plan_stops}
+use Rattle.planner_app.proofs.Outcomes.{no_plan, plan_runs, plan_stops}
 use Rattle.planner_app.proofs.run.simulated.Goals as goal
 
 pub returns-in-Err-clause-outcome : goal.returns-in-Err-clause-outcome
@@ -10,3 +10,8 @@ pub returns-in-Err-Stops-clause-outcome : goal.returns-in-Err-Stops-clause-outco
 returns-in-Err-Stops-clause-outcome g c words asked =
     plan_stops _ _ _ _ words _ _ c.args.dir.now c.in-Ok.inputs c.in-Err-Stops.fault asked (search rules) (search rules) (search rules)
     (c.in-Err-Stops.ensures.in_turn c.in-Err-Stops.fault (search rules))
+
+pub returns-in-Ok-simulate-clause-outcome : goal.returns-in-Ok-simulate-clause-outcome
+returns-in-Ok-simulate-clause-outcome g c words asked =
+    plan_runs _ _ _ _ words _ _ c.args.dir.now c.in-Ok.inputs c.in-Ok-simulate.ran.cost asked (search rules) (search rules)
+    (search rules)

@@ -1,5 +1,9 @@
-use Rattle.planner_app.proofs.Statuses.{ends_check, ends_in_usage, ends_simulation, unread_rose}
+use Rattle.planner_app.proofs.Statuses.{ends_check, ends_in_usage, ends_planning, ends_simulation, unread_rose}
 use Rattle.planner_app.proofs.top.railplan.Goals as goal
+
+pub returns-clause-plan : goal.returns-clause-plan
+returns-clause-plan g c files dir nodes rounds =
+    ends_planning _ _ _ _ _ _ _ _ _ _ _ _ _ c.outcome_of-outcome.ensures.outcome c.write_outcome.ensures.wrote files dir nodes rounds
 
 pub returns-clause-simulate : goal.returns-clause-simulate
 returns-clause-simulate g c files dir = ends_simulation _ _ _ _ _ _ _ _ _ _ _ _ _ c.outcome_of-outcome.ensures.outcome c.write_outcome.ensures.wrote files dir

@@ -5,8 +5,8 @@ use Rattle.planner_app.proofs.top.write_outcome.Goals as goal
 
 pub returns-in-Ok-write_all-clause-wrote : goal.returns-in-Ok-write_all-clause-wrote
 returns-in-Ok-write_all-clause-wrote g c =
-    Whole c.as_bytes.result.now (subst (λ text. IsDocument c.args.outcome.now text) (sym c.as_bytes.ensures.value) c.in-Ok.ensures) c.in-Ok-write_all.ensures.whole c.status_of.ensures
+    Whole c.as_slice.result.now (subst (λ text. IsDocument c.args.outcome.now text) (sym c.as_slice.ensures.value) c.in-Ok.ensures) c.in-Ok-write_all.ensures.whole c.status_of.ensures
 
 pub returns-clause-wrote : goal.returns-clause-wrote
 returns-clause-wrote g c =
-    Part c.as_bytes.result.now (subst (λ text. IsDocument c.args.outcome.now text) (sym c.as_bytes.ensures.value) c.in-Ok.ensures) c.in-Err.ensures.part c.in-Err.ensures.fault refl
+    Part c.as_slice.result.now (subst (λ text. IsDocument c.args.outcome.now text) (sym c.as_slice.ensures.value) c.in-Ok.ensures) c.in-Err.ensures.part c.in-Err.ensures.fault refl

@@ -1,0 +1,18 @@
+use Rattle.std.proofs.Common.{◌+◌, ◌*◌}
+use Rattle.search.proofs.Asking.{are_unasked}
+use Rattle.planner_app.proofs.Outcomes.{day_not_planned, planned}
+use Rattle.planner_app.proofs.run.planned.Goals as goal
+
+pub returns-in-Err-clause-outcome : goal.returns-in-Err-clause-outcome
+returns-in-Err-clause-outcome g c words asked =
+    day_not_planned _ _ _ _ words _ _ c.args.dir.now c.args.nodes c.args.rounds c.in-Err.error asked
+    c.in-Err.ensures.told c.in-Err.ensures.unread c.in-Err.ensures.caused
+
+pub returns-in-Err-clause-asked : goal.returns-in-Err-clause-asked
+returns-in-Err-clause-asked g c =
+    are_unasked _ _ (c.args.rounds * (2 * c.args.nodes + 1)) c.args.advisors.now.items
+
+pub returns-in-Ok-answer_for-clause-outcome : goal.returns-in-Ok-answer_for-clause-outcome
+returns-in-Ok-answer_for-clause-outcome g c words asked =
+    planned _ _ _ _ words _ _ c.args.dir.now c.args.nodes c.args.rounds c.in-Ok.instance c.in-Ok-answer_for.answer asked
+    c.in-Ok.ensures.told c.in-Ok-answer_for.ensures.headline

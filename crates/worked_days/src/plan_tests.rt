@@ -1,0 +1,204 @@
+//! Planning a day: worked days and the answers to them, as the text that is written.
+
+use crate::day::{
+    Day, base_day, both_stay, folder_of, northport, one_stays, ring, run, two_trips, two_types,
+    words_of,
+};
+use rail_base::NoMemory;
+use rail_io::MemorySink;
+use std::alloc::Global;
+use std::process::Abort;
+use std::test::Fail;
+
+/// What is written of a day by these words, whose status is this.
+fn answer_to(
+    rt: &impl Abort,
+    alloc: Global,
+    day: &Day,
+    words: &[&str],
+    status: u8,
+) -> Result<Vec<u8>, NoMemory> {
+    let mut folder = folder_of(rt, alloc, day, Vec::new(alloc))?;
+    let mut out = MemorySink::new(alloc, 100_000, 1000, Vec::new(alloc))?;
+    let words = words_of(rt, alloc, words)?;
+    let found = run(alloc, &words, &mut folder, &mut out)?;
+    assert!(rt; found == status);
+    Ok(out.written().to_vec(alloc)?)
+}
+
+/// Asserts the status and the whole answer of a day, by what follows the title line.
+pub(crate) fn expect_answer(
+    rt: &impl Abort,
+    alloc: Global,
+    day: &Day,
+    words: &[&str],
+    status: u8,
+    rest: &str,
+) -> Result<(), NoMemory> {
+    let answer = format!(in alloc; "railplan answer 1\n{rest}")?;
+    let written = answer_to(rt, alloc, day, words, status)?;
+    assert!(rt; written.as_slice() == answer.as_bytes());
+    Ok(())
+}
+
+/// Asserts that the plan of a day is optimal, and what it costs.
+pub(crate) fn expect_cost(
+    rt: &impl Abort,
+    alloc: Global,
+    day: &Day,
+    cost: u64,
+) -> Result<(), NoMemory> {
+    let front = format!(in alloc; "railplan answer 1\noptimal {cost}\n")?;
+    let written = answer_to(rt, alloc, day, &["railplan", "plan", "day"], 0)?;
+    assert!(rt; written.as_slice().starts_with(front.as_bytes()));
+    Ok(())
+}
+
+/// Asserts that no plan runs on a day.
+pub(crate) fn expect_impossible(rt: &impl Abort, alloc: Global, day: &Day) -> Result<(), NoMemory> {
+    let written = answer_to(rt, alloc, day, &["railplan", "plan", "day"], 1)?;
+    assert!(rt;
+        written
+            .as_slice()
+            .starts_with(b"railplan answer 1\ninfeasible\n".as_slice())
+    );
+    Ok(())
+}
+
+/// The words that grant so many branchings and so many rounds.
+fn granted<'a>(nodes: &'a str, rounds: &'a str) -> [&'a str; 7] {
+    [
+        "railplan", "plan", "day", "--nodes", nodes, "--rounds", rounds,
+    ]
+}
+
+#[test]
+fn plans_that_are_optimal(rt: HostRuntime) -> Result<(), Fail> {
+    let alloc = rt.alloc();
+    let usual = ["railplan", "plan", "day"];
+    let both_return = "optimal 120\nbranchings 0\nrun 0 0 1\nrun 1 1 0\ntree\ncost 120 0\nend\n";
+    expect_answer(&rt, alloc, &base_day(), &usual, 0, both_return)?;
+    let one_returns =
+        "optimal 190\nbranchings 0\nrun 0 0 1\nrun 1 1\ntree\ncost 190 2 2:-45 3:45\nend\n";
+    expect_answer(
+        &rt,
+        alloc,
+        &one_stays(),
+        &["railplan", "plan", "day", "--nodes", "0"],
+        0,
+        one_returns,
+    )?;
+    let one_unit = "optimal 60\nbranchings 0\nrun 0 0\nrun 1 0\ntree\ncost 60 0\nend\n";
+    expect_answer(&rt, alloc, &two_trips(), &usual, 0, one_unit)?;
+    let waiting =
+        "optimal 13360\nbranchings 0\nrun 0 0 1\nrun 1 0\nrun 2 0\nrun 3 0 1\ntree\ncost 13360 0\nend\n";
+    expect_answer(&rt, alloc, &northport(), &usual, 0, waiting)?;
+    expect_cost(&rt, alloc, &ring(), 1270)?;
+    expect_cost(&rt, alloc, &two_types(), 170)?;
+    Ok(())
+}
+
+#[test]
+fn branchings_and_rounds_are_granted(rt: HostRuntime) -> Result<(), Fail> {
+    let alloc = rt.alloc();
+    let first_bound = "bounded 120\nbranchings 0\ntree\ncost 120 0\nend\n";
+    expect_answer(&rt, alloc, &one_stays(), &granted("0", "0"), 4, first_bound)?;
+    let closed =
+        "optimal 190\nbranchings 2\nrun 0 0 1\nrun 1 1\ntree\nonly 0 1\nonly 1 1\nray 1 2:-1\ncost 190 0\nray 1 2:-1\nend\n";
+    expect_answer(&rt, alloc, &one_stays(), &granted("2", "0"), 0, closed)?;
+    let plan_and_bound =
+        "bounded 100 plan 1060\nbranchings 1\nrun 0 0\nrun 1 0\ntree\nonly 0 1\ncost 100 0\ncost 1060 0\nend\n";
+    let cheap = Day {
+        weights: Some("carriage,shortage,shunting\n1,1,10\n"),
+        ..base_day()
+    };
+    expect_answer(&rt, alloc, &cheap, &granted("1", "0"), 4, plan_and_bound)?;
+    Ok(())
+}
+
+#[test]
+fn days_that_no_plan_runs_on(rt: HostRuntime) -> Result<(), Fail> {
+    let alloc = rt.alloc();
+    let usual = ["railplan", "plan", "day"];
+    let too_many = "infeasible\nbranchings 0\ntree\nray 1 2:-1\nend\n";
+    expect_answer(&rt, alloc, &both_stay(), &usual, 1, too_many)?;
+    let late = Day {
+        trips: Some(
+            "trip,from,departure,to,arrival,km,demand\nT1,X,08:00,Y,09:00,10,150\nT2,Y,09:29,X,10:30,10,150\n",
+        ),
+        ..two_trips()
+    };
+    let not_ready = "infeasible\nbranchings 0\ntree\nray 1 1:1\nend\n";
+    expect_answer(&rt, alloc, &late, &usual, 1, not_ready)?;
+    let same_way = Day {
+        stock: Some("station,type,start,end\nX,A,1,0\nY,A,0,1\n"),
+        trips: Some(
+            "trip,from,departure,to,arrival,km,demand\nT1,X,08:00,Y,09:00,10,150\nT2,X,08:00,Y,09:00,10,150\n",
+        ),
+        ..two_trips()
+    };
+    let one_for_two = "infeasible\nbranchings 0\ntree\nray 1 0:1\nend\n";
+    expect_answer(&rt, alloc, &same_way, &usual, 1, one_for_two)?;
+    Ok(())
+}
+
+#[test]
+fn a_day_without_trips_is_planned(rt: HostRuntime) -> Result<(), Fail> {
+    let alloc = rt.alloc();
+    let usual = ["railplan", "plan", "day"];
+    let empty = Day {
+        stock: Some("station,type,start,end\nX,A,2,2\n"),
+        trips: Some("trip,from,departure,to,arrival,km,demand\n"),
+        ..two_trips()
+    };
+    let nothing_to_do = "optimal 0\nbranchings 0\ntree\ncost 0 0\nend\n";
+    expect_answer(&rt, alloc, &empty, &usual, 0, nothing_to_do)?;
+    let one_too_many = Day {
+        stock: Some("station,type,start,end\nX,A,2,1\n"),
+        ..empty
+    };
+    let none = "infeasible\nbranchings 0\ntree\nray 1 0:-1\nend\n";
+    expect_answer(&rt, alloc, &one_too_many, &usual, 1, none)?;
+    Ok(())
+}
+
+/// The rows of 400 trips that run at once for almost two days, each over the most kilometres and with the most demand.
+fn longest_trips(alloc: Global) -> Result<String, NoMemory> {
+    let mut text = String::from_str(alloc, "trip,from,departure,to,arrival,km,demand\n")?;
+    for trip in 0..400u32 {
+        write!(&mut text, "T{trip},X,00:00,Y,47:59,1000,10000\n")?;
+    }
+    Ok(text)
+}
+
+/// The day of these trips between two stations, with as many units of 20 carriages as trips, and the dearest weights.
+fn dearest_day(trips: &str) -> Day {
+    Day {
+        types: Some("type,carriages,seats,metres,family\nA,20,1,500,regional\n"),
+        stations: Some("station,platform,reallocation\nX,500,0\nY,500,0\n"),
+        stock: Some("station,type,start,end\nX,A,400,0\nY,A,0,400\n"),
+        trips: Some(trips),
+        weights: Some("carriage,shortage,shunting\n10000,10000,10000\n"),
+        ..two_trips()
+    }
+}
+
+#[test]
+fn the_dearest_day_is_planned(rt: HostRuntime) -> Result<(), Fail> {
+    let alloc = rt.alloc();
+    let trips = longest_trips(alloc)?;
+    expect_cost(&rt, alloc, &dearest_day(trips.as_str()), 40_076_000_000_000)?;
+    Ok(())
+}
+
+#[test]
+fn a_front_of_an_answer_is_written(rt: HostRuntime) -> Result<(), Fail> {
+    let alloc = rt.alloc();
+    let mut folder = folder_of(&rt, alloc, &base_day(), Vec::new(alloc))?;
+    let mut out = MemorySink::new(alloc, 1000, 16, vec![in alloc; 2]?)?;
+    let words = words_of(&rt, alloc, &["railplan", "plan", "day"])?;
+    let status = run(alloc, &words, &mut folder, &mut out)?;
+    assert!(rt; status == 6);
+    assert!(rt; out.written() == b"railplan answer 1\noptimal 120\nbr".as_slice());
+    Ok(())
+}
