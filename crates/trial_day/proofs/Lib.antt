@@ -1,0 +1,5 @@
+pub mod Drawing
+pub mod Names
+pub mod Passing
+pub mod Within
+pub mod Accepting
