@@ -1,0 +1,175 @@
+//! The report of yards.
+
+ghost use Rattle.std.specs.Prelude.{◌≡◌, ◌<◌, ◌++◌, ◌∷◌, [], length, get_or, IfOk, OnOk};
+ghost use Rattle.timetable.specs.Minutes.{minutes_of};
+ghost use Rattle.timetable.specs.Picking.{ArePicks, picked};
+ghost use Rattle.day_reports.specs.YardRows.{IsYardOf, end_row, minute_row, start_row, station_rows, yard_row, yard_rows, yards_text};
+
+use crate::names::{station_name, type_name};
+use crate::report::{Report, digits_of};
+use crate::yard::{RowCounts, Span, Yard};
+use inventory::Ledger;
+use rail_base::{Minute, NoMemory, StationNo, TypeNo, clock};
+use std::alloc::Global;
+use timetable::{Instance, Picks};
+
+/// The report of the yards of a day whose trips have picked compositions, as a table of comma-separated values with the columns
+/// `station,type,time,taken,ready,count`. For each station and then each type there is a row `start` with the units that stand
+/// there at the start, a row for each minute at which trips leave the station, and a row `end` with the units that stand there at
+/// the end. In the row of a minute, `taken` are the units that are taken then, `ready` those that became ready after the minute of
+/// the row before and by this minute, and `count` those that stand there after the takes. In the row `end`, `ready` are those that
+/// become ready after the last of these minutes. Behind the row `start`, every minute counts as after it.
+///
+/// There is one pick for each trip, and each is the number of a composition of the catalogue. No count is below zero where they
+/// are those of a plan that runs. The error is want of memory.
+#[tactic(auto, unfolding(crate::specs::YardRows::yards_text))]
+pub fn yards_table(alloc: Global, instance: &Instance, picks: &Picks) -> Result<Vec<u8>, NoMemory>
+    requires { ArePicks instance.now picks.now }
+    ensures { IfOk result (λ text. text.items ≡ yards_text instance.now (picked instance.now picks.now)) }
+{
+    let mut ledger = Ledger::new(alloc, instance)?;
+    ledger.load(picks);
+    let mut report = Report::new(alloc);
+    report.push(&[b"station", b"type", b"time", b"taken", b"ready", b"count"])?;
+    for number in 0..instance.stations() {
+        push_station(
+            alloc,
+            &mut report,
+            instance,
+            picks,
+            &ledger,
+            StationNo(number),
+        )?;
+    }
+    report.text()
+}
+
+/// Adds the rows of a station.
+fn push_station<'day, 'picks, 'ledger>(
+    alloc: Global,
+    report: &mut Report,
+    instance: &'day Instance,
+    picks: &'picks Picks,
+    ledger: &'ledger Ledger<'day>,
+    station: StationNo,
+) -> Result<(), NoMemory>
+    requires picks { ArePicks instance.now picks.now }
+    requires counts { ledger.now ≡ record { day = instance.now; lists = picked instance.now picks.now } }
+    requires station { station < length instance.now.stations }
+    ensures { OnOk result (report.new ≡ report.old ++ station_rows instance.now (picked instance.now picks.now) station) }
+{
+    for number in 0..instance.types().len() {
+        let yard = Yard {
+            instance,
+            picks,
+            ledger,
+            station,
+            unit_type: TypeNo(number),
+        };
+        push_yard(alloc, report, &yard)?;
+    }
+    Ok(())
+}
+
+/// Adds the rows of a type at a station.
+fn push_yard(alloc: Global, report: &mut Report, yard: &Yard<'_, '_, '_>) -> Result<(), NoMemory>
+    requires { IsYardOf yard.now.instance.now yard.now.picks.now yard.now.ledger.now yard.now.station yard.now.unit_type }
+    ensures { OnOk result (report.new ≡ report.old ++ yard_rows yard.now.instance.now (picked yard.now.instance.now yard.now.picks.now) yard.now.station yard.now.unit_type) }
+{
+    push_start(alloc, report, yard)?;
+    let mut before = None;
+    let minutes = yard.instance.minutes(yard.station);
+    for place in 0..minutes.len() {
+        push_minute(alloc, report, yard, before, place as u32)?;
+        before = Some(minutes[place]);
+    }
+    push_end(alloc, report, yard, before)
+}
+
+/// Adds the row of the start.
+fn push_start(alloc: Global, report: &mut Report, yard: &Yard<'_, '_, '_>) -> Result<(), NoMemory>
+    requires station { yard.now.station < length yard.now.instance.now.stations }
+    requires unit_type { yard.now.unit_type < length yard.now.instance.now.types }
+    ensures { OnOk result (report.new ≡ report.old ++ start_row yard.now.instance.now yard.now.station yard.now.unit_type ∷ []) }
+{
+    let start = yard.instance.start(yard.station, yard.unit_type);
+    let counts = RowCounts {
+        taken: 0,
+        ready: 0,
+        standing: i64::from(start),
+    };
+    push_row(alloc, report, yard, b"start", counts)
+}
+
+/// Adds the row of a departure minute of the station, behind the row of a minute or of the start.
+fn push_minute(
+    alloc: Global,
+    report: &mut Report,
+    yard: &Yard<'_, '_, '_>,
+    before: Option<Minute>,
+    place: u32,
+) -> Result<(), NoMemory>
+    requires yard { IsYardOf yard.now.instance.now yard.now.picks.now yard.now.ledger.now yard.now.station yard.now.unit_type }
+    requires place { place < length (minutes_of yard.now.instance.now yard.now.station) }
+    ensures { OnOk result (report.new ≡ report.old ++ minute_row yard.now.instance.now (picked yard.now.instance.now yard.now.picks.now) yard.now.station yard.now.unit_type before (get_or (minutes_of yard.now.instance.now yard.now.station) place 0) ∷ []) }
+{
+    let minute = yard.instance.minutes(yard.station)[place as usize];
+    let standing = yard.ledger.count_after(yard.station, yard.unit_type, place);
+    let span = Span {
+        after: before,
+        by: Some(minute),
+    };
+    let counts = RowCounts {
+        taken: yard.taken_at(minute),
+        ready: yard.ready_between(&span),
+        standing,
+    };
+    push_row(alloc, report, yard, &clock(minute), counts)
+}
+
+/// Adds the row of the end, behind the row of a minute or of the start.
+fn push_end(
+    alloc: Global,
+    report: &mut Report,
+    yard: &Yard<'_, '_, '_>,
+    before: Option<Minute>,
+) -> Result<(), NoMemory>
+    requires { IsYardOf yard.now.instance.now yard.now.picks.now yard.now.ledger.now yard.now.station yard.now.unit_type }
+    ensures { OnOk result (report.new ≡ report.old ++ end_row yard.now.instance.now (picked yard.now.instance.now yard.now.picks.now) yard.now.station yard.now.unit_type before ∷ []) }
+{
+    let span = Span {
+        after: before,
+        by: None,
+    };
+    let counts = RowCounts {
+        taken: 0,
+        ready: yard.ready_between(&span),
+        standing: yard.ledger.end(yard.station, yard.unit_type),
+    };
+    push_row(alloc, report, yard, b"end", counts)
+}
+
+/// Adds a row.
+fn push_row(
+    alloc: Global,
+    report: &mut Report,
+    yard: &Yard<'_, '_, '_>,
+    time: &[u8],
+    counts: RowCounts,
+) -> Result<(), NoMemory>
+    requires station { yard.now.station < length yard.now.instance.now.stations }
+    requires unit_type { yard.now.unit_type < length yard.now.instance.now.types }
+    ensures { OnOk result (report.new ≡ report.old ++ yard_row yard.now.instance.now yard.now.station yard.now.unit_type time.now counts.taken counts.ready counts.standing ∷ []) }
+{
+    let taken = digits_of(alloc, counts.taken)?;
+    let ready = digits_of(alloc, counts.ready)?;
+    let standing = format!(in alloc; "{}", counts.standing)?;
+    report.push(&[
+        station_name(yard.instance, yard.station),
+        type_name(yard.instance, yard.unit_type),
+        time,
+        taken.as_bytes(),
+        ready.as_bytes(),
+        standing.as_bytes(),
+    ])
+}

@@ -1,0 +1,149 @@
+//! Worked days: the reports of plans, and of compositions that are picked.
+
+ghost use Rattle.std.specs.Prelude.{◌≤◌, length};
+ghost use Rattle.rail_base.specs.declared.limits.TheConstants.{MOST_TRIPS};
+
+use day_reports::{costs_table, duties_table, yards_table};
+use rail_base::limits::MOST_TRIPS;
+use rail_base::{CompNo, TripNo};
+use sample_days::{Texts, day_of, plan_of};
+use sample_picks::may_run;
+use std::alloc::Global;
+use std::test::Fail;
+use timetable::{Instance, Picks};
+
+/// Two units leave together, and the second one comes back alone.
+fn day_of_two_trips(alloc: Global) -> Result<Instance, Fail> {
+    day_of(
+        alloc,
+        &Texts {
+            types: b"type,carriages,seats,metres,family\nA,3,200,80,regional\n",
+            stations: b"station,platform,reallocation\nX,200,30\nY,200,30\n",
+            stock: b"station,type,start,end\nX,A,2,1\nY,A,0,1\n",
+            trips: b"trip,from,departure,to,arrival,km,demand\nT1,X,08:00,Y,09:00,10,300\nT2,Y,09:10,X,10:10,10,150\n",
+            links: b"kind,arriving,arriving2,departing,departing2,reverse,uncouple,couple\nturn,T1,,T2,,yes,rear,none\n",
+        },
+    )
+}
+
+/// Two units leave a station whose name has a comma, one of them goes on alone and back, and both come home together. A third
+/// unit, of another type, stays.
+fn day_of_four_trips(alloc: Global) -> Result<Instance, Fail> {
+    day_of(
+        alloc,
+        &Texts {
+            types: b"type,carriages,seats,metres,family\nIC-3,3,192,81,inter\nIC-4,4,254,108,inter\n",
+            stations: b"station,platform,reallocation\n\"Northport, Central\",340,20\nMidford,340,20\nSouthhaven,270,20\n",
+            stock: b"station,type,start,end\n\"Northport, Central\",IC-3,2,2\n\"Northport, Central\",IC-4,1,1\n",
+            trips: b"trip,from,departure,to,arrival,km,demand\n\
+                101,\"Northport, Central\",06:02,Midford,06:58,74,310\n\
+                102,Midford,07:05,Southhaven,07:50,58,180\n\
+                103,Southhaven,08:10,Midford,08:55,58,170\n\
+                104,Midford,09:02,\"Northport, Central\",09:58,74,290\n",
+            links: b"kind,arriving,arriving2,departing,departing2,reverse,uncouple,couple\n\
+                turn,101,,102,,no,rear,none\n\
+                turn,102,,103,,yes,none,none\n\
+                turn,103,,104,,no,none,rear\n",
+        },
+    )
+}
+
+/// Picks of these compositions, one for each trip.
+fn picks_of(alloc: Global, compositions: &[u32]) -> Result<Picks, Fail>
+    requires { length compositions.now ≤ MOST_TRIPS }
+{
+    let mut picks = Picks::new(alloc, compositions.len() as u32)?;
+    for place in 0..compositions.len() {
+        if place < picks.len() as usize {
+            picks.set(TripNo(place as u32), CompNo(compositions[place]));
+        }
+    }
+    Ok(picks)
+}
+
+const TWO_TRIPS_DUTIES: &[u8] = b"unit,type,home,trip,from,departure,to,arrival,position\n\
+    0,A,X,T1,X,08:00,Y,09:00,0\n\
+    1,A,X,T1,X,08:00,Y,09:00,1\n\
+    1,A,X,T2,Y,09:10,X,10:10,0\n";
+
+const TWO_TRIPS_YARDS: &[u8] = b"station,type,time,taken,ready,count\n\
+    X,A,start,0,0,2\n\
+    X,A,08:00,2,0,0\n\
+    X,A,end,0,1,1\n\
+    Y,A,start,0,0,0\n\
+    Y,A,09:10,0,0,0\n\
+    Y,A,end,0,1,1\n";
+
+const TWO_TRIPS_COSTS: &[u8] = b"part,amount\ncarriage,90\nshortage,0\nshunting,100\ntotal,190\n";
+
+const FOUR_TRIPS_DUTIES: &[u8] = b"unit,type,home,trip,from,departure,to,arrival,position\n\
+    0,IC-3,\"Northport, Central\",101,\"Northport, Central\",06:02,Midford,06:58,0\n\
+    0,IC-3,\"Northport, Central\",102,Midford,07:05,Southhaven,07:50,0\n\
+    0,IC-3,\"Northport, Central\",103,Southhaven,08:10,Midford,08:55,0\n\
+    0,IC-3,\"Northport, Central\",104,Midford,09:02,\"Northport, Central\",09:58,0\n\
+    1,IC-3,\"Northport, Central\",101,\"Northport, Central\",06:02,Midford,06:58,1\n\
+    1,IC-3,\"Northport, Central\",104,Midford,09:02,\"Northport, Central\",09:58,1\n\
+    2,IC-4,\"Northport, Central\",,,,,,\n";
+
+const FOUR_TRIPS_YARDS: &[u8] = b"station,type,time,taken,ready,count\n\
+    \"Northport, Central\",IC-3,start,0,0,2\n\
+    \"Northport, Central\",IC-3,06:02,2,0,0\n\
+    \"Northport, Central\",IC-3,end,0,2,2\n\
+    \"Northport, Central\",IC-4,start,0,0,1\n\
+    \"Northport, Central\",IC-4,06:02,0,0,1\n\
+    \"Northport, Central\",IC-4,end,0,0,1\n\
+    Midford,IC-3,start,0,0,0\n\
+    Midford,IC-3,07:05,0,0,0\n\
+    Midford,IC-3,09:02,1,1,0\n\
+    Midford,IC-3,end,0,0,0\n\
+    Midford,IC-4,start,0,0,0\n\
+    Midford,IC-4,07:05,0,0,0\n\
+    Midford,IC-4,09:02,0,0,0\n\
+    Midford,IC-4,end,0,0,0\n\
+    Southhaven,IC-3,start,0,0,0\n\
+    Southhaven,IC-3,08:10,0,0,0\n\
+    Southhaven,IC-3,end,0,0,0\n\
+    Southhaven,IC-4,start,0,0,0\n\
+    Southhaven,IC-4,08:10,0,0,0\n\
+    Southhaven,IC-4,end,0,0,0\n";
+
+#[test]
+fn duties_of_plans(rt: HostRuntime) -> Result<(), Fail> {
+    let alloc = rt.alloc();
+    let day = day_of_two_trips(alloc)?;
+    let plan = plan_of(alloc, &day, b"trip,units\nT1,0 1\nT2,1\n")?;
+    let text = duties_table(alloc, &day, &plan)?;
+    assert!(rt; text.as_slice() == TWO_TRIPS_DUTIES);
+    let day = day_of_four_trips(alloc)?;
+    let plan = plan_of(alloc, &day, b"trip,units\n101,0 1\n102,0\n103,0\n104,0 1\n")?;
+    let text = duties_table(alloc, &day, &plan)?;
+    assert!(rt; text.as_slice() == FOUR_TRIPS_DUTIES);
+    Ok(())
+}
+
+#[test]
+fn yards_of_picks(rt: HostRuntime) -> Result<(), Fail> {
+    let alloc = rt.alloc();
+    let day = day_of_two_trips(alloc)?;
+    let picks = picks_of(alloc, &[1, 0])?;
+    assert!(rt; may_run(&day, &picks));
+    let text = yards_table(alloc, &day, &picks)?;
+    assert!(rt; text.as_slice() == TWO_TRIPS_YARDS);
+    let day = day_of_four_trips(alloc)?;
+    let picks = picks_of(alloc, &[2, 0, 0, 2])?;
+    assert!(rt; may_run(&day, &picks));
+    let text = yards_table(alloc, &day, &picks)?;
+    assert!(rt; text.as_slice() == FOUR_TRIPS_YARDS);
+    Ok(())
+}
+
+#[test]
+fn costs_of_picks(rt: HostRuntime) -> Result<(), Fail> {
+    let alloc = rt.alloc();
+    let day = day_of_two_trips(alloc)?;
+    let picks = picks_of(alloc, &[1, 0])?;
+    assert!(rt; may_run(&day, &picks));
+    let text = costs_table(alloc, &day, &picks)?;
+    assert!(rt; text.as_slice() == TWO_TRIPS_COSTS);
+    Ok(())
+}
