@@ -3,6 +3,7 @@ use Rattle.std.specs.Prelude.{ℕ, List, [], ◌∷◌, codes, ℤ, pos}
 use Rattle.std.specs.Fmt.{signed_decimal}
 use Rattle.timetable.specs.Cost.{cost_of}
 use Rattle.timetable.specs.Day.{Day}
+use Rattle.cost_model.specs.declared.costs.CostParts.{CostParts}
 use Rattle.cost_model.specs.Sums.{carriage_of, shortage_of, shunting_of}
 use Rattle.day_reports.specs.Text.{rows_text}
 
@@ -14,11 +15,21 @@ abbrev pub amount_row : List ℕ → ℤ → List (List ℕ)
 amount_row name amount = name ∷ signed_decimal amount ∷ []
 
 -- the rows of three parts and of their sum
-abbrev pub amount_rows : ℤ → ℤ → ℤ → ℤ → List (List (List ℕ))
-amount_rows carriage shortage shunting total =
-    amount_row (codes "carriage") carriage ∷ amount_row (codes "shortage") shortage ∷ amount_row (codes "shunting") shunting ∷ amount_row (codes "total") total ∷ []
+abbrev pub amount_rows : CostParts → ℤ → List (List (List ℕ))
+amount_rows parts total =
+    amount_row (codes "carriage") parts.carriage.0
+    ∷ amount_row (codes "shortage") parts.shortage.0
+    ∷ amount_row (codes "shunting") parts.shunting.0
+    ∷ amount_row (codes "total") total
+    ∷ []
 
--- of a day whose trips have these lists of types
+-- the parts of what a day costs whose trips have these lists of types
+abbrev pub parts_of : Day → List (List ℕ) → CostParts
+parts_of day lists = record {
+  carriage = record { 0 = pos (carriage_of day lists) };
+  shortage = record { 0 = pos (shortage_of day lists) };
+  shunting = record { 0 = pos (shunting_of day lists) };
+}
+
 unfoldable pub costs_text : Day → List (List ℕ) → List ℕ
-costs_text day lists =
-    rows_text (cost_header ∷ amount_rows (pos (carriage_of day lists)) (pos (shortage_of day lists)) (pos (shunting_of day lists)) (pos (cost_of day lists)))
+costs_text day lists = rows_text (cost_header ∷ amount_rows (parts_of day lists) (pos (cost_of day lists)))

@@ -11,13 +11,15 @@ use Rattle.day_reports.specs.Text.{rows_text}
 
 abbrev pub duty_header : List (List ℕ)
 duty_header =
-    codes "unit" ∷ codes "type" ∷ codes "home" ∷ codes "trip" ∷ codes "from" ∷ codes "departure" ∷ codes "to" ∷ codes "arrival" ∷ codes "position" ∷ []
+    codes "unit" ∷ codes "type" ∷ codes "home" ∷ codes "trip"
+    ∷ codes "from" ∷ codes "departure" ∷ codes "to" ∷ codes "arrival" ∷ codes "position" ∷ []
 
 -- a unit: its number, its type and its home
 abbrev pub unit_fields : Day → ℕ → List (List ℕ)
 unit_fields day u = decimal u ∷ type_name day (type_of day u) ∷ station_name day (home_of day u) ∷ []
 
--- a trip of its duty: from where and when, to where and when, and the place of the unit in the train, counted from 0 at the front
+-- a trip of its duty: from where and when, to where and when, and the place of the unit in the train, counted from 0 at
+-- the front
 abbrev pub stop_fields : Day → Stop → List (List ℕ)
 stop_fields day stop =
     trip_name day stop.trip

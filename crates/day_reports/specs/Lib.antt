@@ -1,4 +1,4 @@
--- the text of a table
+-- the text of a report
 pub mod Text
 -- what the reports name
 pub mod Named
@@ -6,3 +6,5 @@ pub mod Named
 pub mod DutyRows
 pub mod YardRows
 pub mod CostRows
+-- the inside of the report of yards
+pub mod YardsTold

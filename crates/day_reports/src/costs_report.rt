@@ -10,9 +10,10 @@ use rail_base::{Money, NoMemory};
 use std::alloc::Global;
 use timetable::{Instance, Picks};
 
-/// The report of what picks cost, as a table of comma-separated values with the columns `part,amount`: the rows `carriage`,
-/// `shortage` and `shunting` with the parts of the cost, and the row `total` with their sum. There is one pick for each trip, and
-/// each is the number of a composition of the catalogue; they need not be those of a plan that runs. The error is want of memory.
+/// The report of what picks cost, as a table of comma-separated values with the columns `part,amount`: the rows
+/// `carriage`, `shortage` and `shunting` with the parts of the cost, and the row `total` with their sum. There is one pick
+/// for each trip, and each is the number of a composition of the catalogue; they need not be those of a plan that runs. The
+/// error is want of memory.
 #[tactic(auto, unfolding(crate::specs::CostRows::costs_text))]
 pub fn costs_table(alloc: Global, instance: &Instance, picks: &Picks) -> Result<Vec<u8>, NoMemory>
     requires { ArePicks instance.now picks.now }
@@ -36,7 +37,7 @@ fn push_parts(
     parts: &CostParts,
     total: Money,
 ) -> Result<(), NoMemory>
-    ensures { OnOk result (report.new ≡ report.old ++ amount_rows parts.now.carriage.0 parts.now.shortage.0 parts.now.shunting.0 total.0) }
+    ensures { OnOk result (report.new ≡ report.old ++ amount_rows parts.now total.0) }
 {
     push_part(alloc, report, b"carriage", parts.carriage)?;
     push_part(alloc, report, b"shortage", parts.shortage)?;

@@ -2,27 +2,40 @@
 
 ghost use Rattle.std.specs.Prelude.{◌≡◌, ◌<◌, ◌≤◌, ◌&&◌, length};
 ghost use Rattle.timetable.specs.Lists.{count_of};
-ghost use Rattle.timetable.specs.Picking.{ArePicks, picked};
-ghost use Rattle.day_reports.specs.YardRows.{is_no_later, is_later, ready_between, gives_between, taken_at, takes_at};
+ghost use Rattle.day_reports.specs.YardRows.{gives_between, is_later, is_no_later, ready_between, taken_at, takes_at};
 
 use inventory::Ledger;
 use rail_base::limits::MOST_COMPOSITION;
 use rail_base::{Minute, StationNo, TripNo, TypeNo};
+use std::marker::Model;
 use timetable::{Instance, Picks};
 
-/// The yard of a type at a station, where the trips have picked compositions.
-#[derive(Clone, Copy)]
+/// The yard of a type at a station, where the trips have picked compositions. A contract sees the day, the types of the
+/// compositions, the station and the type.
+#[derive(Drop)]
 pub(crate) struct Yard<'day, 'picks, 'ledger> {
     /// The day.
     pub(crate) instance: &'day Instance,
     /// The compositions of its trips.
     pub(crate) picks: &'picks Picks,
-    /// The counts of all yards.
+    /// The counts of all yards with these compositions.
     pub(crate) ledger: &'ledger Ledger<'day>,
     /// The station.
     pub(crate) station: StationNo,
     /// The type.
     pub(crate) unit_type: TypeNo,
+}
+
+impl<'day, 'picks, 'ledger> Model for Yard<'day, 'picks, 'ledger> {
+    ghost use Rattle.timetable.specs.Picking.{picked};
+    ghost use Rattle.day_reports.specs.YardRows.{YardOf};
+    ghost use Rattle.day_reports.specs.YardsTold.{IsToldOf};
+
+    ghost Value = { YardOf };
+
+    ghost view = { λ a. record { day = a.instance.now; lists = picked a.instance.now a.picks.now; station = a.station; unit_type = a.unit_type } };
+
+    ghost invariant = { λ a. IsToldOf a.instance.now a.picks.now a.ledger.now a.station a.unit_type };
 }
 
 /// The minutes after one minute, where one is told, and up to another, where one is told.
@@ -79,8 +92,7 @@ impl<'day, 'picks, 'ledger> Yard<'day, 'picks, 'ledger> {
     /// How many units are taken at a minute.
     #[tactic(auto, unfolding(crate::specs::YardRows::taken_at))]
     pub(crate) fn taken_at(&self, minute: Minute) -> u32
-        requires { ArePicks self.now.instance.now self.now.picks.now }
-        ensures { result ≡ taken_at self.now.instance.now (picked self.now.instance.now self.now.picks.now) self.now.station self.now.unit_type minute }
+        ensures { result ≡ taken_at self.now minute }
     {
         let mut taken = 0;
         for number in 0..self.instance.trips() {
@@ -92,9 +104,8 @@ impl<'day, 'picks, 'ledger> Yard<'day, 'picks, 'ledger> {
     /// How many units one trip takes at a minute.
     #[tactic(auto, unfolding(timetable::specs::Day::leaves, timetable::specs::Day::from_of))]
     fn takes_at(&self, trip: TripNo, minute: Minute) -> u32
-        requires picks { ArePicks self.now.instance.now self.now.picks.now }
-        requires trip { trip < length self.now.instance.now.trips }
-        ensures value { result ≡ takes_at self.now.instance.now (picked self.now.instance.now self.now.picks.now) self.now.station self.now.unit_type minute trip }
+        requires { trip < length self.now.day.trips }
+        ensures value { result ≡ takes_at self.now minute trip }
         ensures few { result ≤ MOST_COMPOSITION }
     {
         let timetabled = self.instance.trip(trip);
@@ -108,8 +119,7 @@ impl<'day, 'picks, 'ledger> Yard<'day, 'picks, 'ledger> {
     /// How many units that trips give become ready in a span of minutes.
     #[tactic(auto, unfolding(crate::specs::YardRows::ready_between))]
     pub(crate) fn ready_between(&self, span: &Span) -> u32
-        requires { ArePicks self.now.instance.now self.now.picks.now }
-        ensures { result ≡ ready_between self.now.instance.now (picked self.now.instance.now self.now.picks.now) self.now.station self.now.unit_type span.now.after span.now.by }
+        ensures { result ≡ ready_between self.now span.now.after span.now.by }
     {
         let mut ready = 0;
         for number in 0..self.instance.trips() {
@@ -121,9 +131,8 @@ impl<'day, 'picks, 'ledger> Yard<'day, 'picks, 'ledger> {
     /// How many units that one trip gives become ready in a span of minutes.
     #[tactic(auto, unfolding(timetable::specs::Day::arrives, timetable::specs::Day::to_of, timetable::specs::Day::reallocation_of))]
     fn gives_between(&self, trip: TripNo, span: &Span) -> u32
-        requires picks { ArePicks self.now.instance.now self.now.picks.now }
-        requires trip { trip < length self.now.instance.now.trips }
-        ensures value { result ≡ gives_between self.now.instance.now (picked self.now.instance.now self.now.picks.now) self.now.station self.now.unit_type span.now.after span.now.by trip }
+        requires { trip < length self.now.day.trips }
+        ensures value { result ≡ gives_between self.now span.now.after span.now.by trip }
         ensures few { result ≤ MOST_COMPOSITION }
     {
         let timetabled = self.instance.trip(trip);

@@ -3,7 +3,7 @@
 ghost use Rattle.std.specs.Prelude.{◌≡◌, ◌<◌, ◌++◌, ◌∷◌, [], length, get_or, IfOk, OnOk};
 ghost use Rattle.timetable.specs.Minutes.{minutes_of};
 ghost use Rattle.timetable.specs.Picking.{ArePicks, picked};
-ghost use Rattle.day_reports.specs.YardRows.{IsYardOf, end_row, minute_row, start_row, station_rows, yard_row, yard_rows, yards_text};
+ghost use Rattle.day_reports.specs.YardRows.{end_row, minute_row, start_row, station_rows, yard_row, yard_rows, yards_text};
 
 use crate::names::{station_name, type_name};
 use crate::report::{Report, digits_of};
@@ -13,15 +13,16 @@ use rail_base::{Minute, NoMemory, StationNo, TypeNo, clock};
 use std::alloc::Global;
 use timetable::{Instance, Picks};
 
-/// The report of the yards of a day whose trips have picked compositions, as a table of comma-separated values with the columns
-/// `station,type,time,taken,ready,count`. For each station and then each type there is a row `start` with the units that stand
-/// there at the start, a row for each minute at which trips leave the station, and a row `end` with the units that stand there at
-/// the end. In the row of a minute, `taken` are the units that are taken then, `ready` those that became ready after the minute of
-/// the row before and by this minute, and `count` those that stand there after the takes. In the row `end`, `ready` are those that
-/// become ready after the last of these minutes. Behind the row `start`, every minute counts as after it.
+/// The report of the yards of a day whose trips have picked compositions, as a table of comma-separated values with the
+/// columns `station,type,time,taken,ready,count`. For each station and then each type there is a row `start` with the units
+/// that stand there at the start, a row for each minute at which trips leave the station, and a row `end` with the units
+/// that stand there at the end. In the row of a minute, `taken` are the units that are taken then, `ready` those that became
+/// ready after the minute of the row before and by this minute, and `count` those that stand there after the takes. In the
+/// row `end`, `ready` are those that become ready after the last of these minutes. Behind the row `start` no minute has
+/// passed, so that every ready minute counts.
 ///
-/// There is one pick for each trip, and each is the number of a composition of the catalogue. No count is below zero where they
-/// are those of a plan that runs. The error is want of memory.
+/// There is one pick for each trip, and each is the number of a composition of the catalogue. No count is below zero where
+/// they are those of a plan that runs. The error is want of memory.
 #[tactic(auto, unfolding(crate::specs::YardRows::yards_text))]
 pub fn yards_table(alloc: Global, instance: &Instance, picks: &Picks) -> Result<Vec<u8>, NoMemory>
     requires { ArePicks instance.now picks.now }
@@ -73,8 +74,7 @@ fn push_station<'day, 'picks, 'ledger>(
 
 /// Adds the rows of a type at a station.
 fn push_yard(alloc: Global, report: &mut Report, yard: &Yard<'_, '_, '_>) -> Result<(), NoMemory>
-    requires { IsYardOf yard.now.instance.now yard.now.picks.now yard.now.ledger.now yard.now.station yard.now.unit_type }
-    ensures { OnOk result (report.new ≡ report.old ++ yard_rows yard.now.instance.now (picked yard.now.instance.now yard.now.picks.now) yard.now.station yard.now.unit_type) }
+    ensures { OnOk result (report.new ≡ report.old ++ yard_rows yard.now) }
 {
     push_start(alloc, report, yard)?;
     let mut before = None;
@@ -88,9 +88,7 @@ fn push_yard(alloc: Global, report: &mut Report, yard: &Yard<'_, '_, '_>) -> Res
 
 /// Adds the row of the start.
 fn push_start(alloc: Global, report: &mut Report, yard: &Yard<'_, '_, '_>) -> Result<(), NoMemory>
-    requires station { yard.now.station < length yard.now.instance.now.stations }
-    requires unit_type { yard.now.unit_type < length yard.now.instance.now.types }
-    ensures { OnOk result (report.new ≡ report.old ++ start_row yard.now.instance.now yard.now.station yard.now.unit_type ∷ []) }
+    ensures { OnOk result (report.new ≡ report.old ++ start_row yard.now ∷ []) }
 {
     let start = yard.instance.start(yard.station, yard.unit_type);
     let counts = RowCounts {
@@ -109,9 +107,8 @@ fn push_minute(
     before: Option<Minute>,
     place: u32,
 ) -> Result<(), NoMemory>
-    requires yard { IsYardOf yard.now.instance.now yard.now.picks.now yard.now.ledger.now yard.now.station yard.now.unit_type }
-    requires place { place < length (minutes_of yard.now.instance.now yard.now.station) }
-    ensures { OnOk result (report.new ≡ report.old ++ minute_row yard.now.instance.now (picked yard.now.instance.now yard.now.picks.now) yard.now.station yard.now.unit_type before (get_or (minutes_of yard.now.instance.now yard.now.station) place 0) ∷ []) }
+    requires { place < length (minutes_of yard.now.day yard.now.station) }
+    ensures { OnOk result (report.new ≡ report.old ++ minute_row yard.now before (get_or (minutes_of yard.now.day yard.now.station) place 0) ∷ []) }
 {
     let minute = yard.instance.minutes(yard.station)[place as usize];
     let standing = yard.ledger.count_after(yard.station, yard.unit_type, place);
@@ -134,8 +131,7 @@ fn push_end(
     yard: &Yard<'_, '_, '_>,
     before: Option<Minute>,
 ) -> Result<(), NoMemory>
-    requires { IsYardOf yard.now.instance.now yard.now.picks.now yard.now.ledger.now yard.now.station yard.now.unit_type }
-    ensures { OnOk result (report.new ≡ report.old ++ end_row yard.now.instance.now (picked yard.now.instance.now yard.now.picks.now) yard.now.station yard.now.unit_type before ∷ []) }
+    ensures { OnOk result (report.new ≡ report.old ++ end_row yard.now before ∷ []) }
 {
     let span = Span {
         after: before,
@@ -157,9 +153,7 @@ fn push_row(
     time: &[u8],
     counts: RowCounts,
 ) -> Result<(), NoMemory>
-    requires station { yard.now.station < length yard.now.instance.now.stations }
-    requires unit_type { yard.now.unit_type < length yard.now.instance.now.types }
-    ensures { OnOk result (report.new ≡ report.old ++ yard_row yard.now.instance.now yard.now.station yard.now.unit_type time.now counts.taken counts.ready counts.standing ∷ []) }
+    ensures { OnOk result (report.new ≡ report.old ++ yard_row yard.now time.now counts.taken counts.ready counts.standing ∷ []) }
 {
     let taken = digits_of(alloc, counts.taken)?;
     let ready = digits_of(alloc, counts.ready)?;

@@ -5,4 +5,6 @@ use Rattle.day_reports.specs.YardRows.{yard_rows}
 use Rattle.day_reports.proofs.yards_report.push_station.Given as goal
 
 abbrev pub invariant-loop-number : goal.invariant-loop-number
-invariant-loop-number l = l.report ≡ l.fn.report ++ joined (yard_rows l.instance (picked l.instance l.picks) l.station) l.number
+invariant-loop-number l =
+    let lists = picked l.instance l.picks in
+    l.report ≡ l.fn.report ++ joined (λ m. yard_rows (record { day = l.instance; lists = lists; station = l.station; unit_type = m })) l.number

@@ -1,12 +1,11 @@
 use Rattle.std.proofs.Common.{◌≡◌, ◌≤◌, ◌*◌}
 use Rattle.rail_base.specs.declared.limits.TheConstants.{MOST_COMPOSITION}
 use Rattle.timetable.specs.Lists.{sum_below}
-use Rattle.timetable.specs.Picking.{picked}
 use Rattle.day_reports.specs.YardRows.{gives_between}
 use Rattle.day_reports.proofs.yard.Yard.ready_between.Given as goal
 
 abbrev pub invariant-loop-number : goal.invariant-loop-number
 invariant-loop-number l = record {
-  sum : l.ready ≡ sum_below (gives_between l.self.instance.now (picked l.self.instance.now l.self.picks.now) l.self.station l.self.unit_type l.span.after l.span.by) l.number;
+  sum : l.ready ≡ sum_below (gives_between l.self l.span.after l.span.by) l.number;
   few : l.ready ≤ MOST_COMPOSITION * l.number;
 }

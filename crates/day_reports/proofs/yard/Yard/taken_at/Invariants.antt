@@ -1,12 +1,11 @@
 use Rattle.std.proofs.Common.{◌≡◌, ◌≤◌, ◌*◌}
 use Rattle.rail_base.specs.declared.limits.TheConstants.{MOST_COMPOSITION}
 use Rattle.timetable.specs.Lists.{sum_below}
-use Rattle.timetable.specs.Picking.{picked}
 use Rattle.day_reports.specs.YardRows.{takes_at}
 use Rattle.day_reports.proofs.yard.Yard.taken_at.Given as goal
 
 abbrev pub invariant-loop-number : goal.invariant-loop-number
 invariant-loop-number l = record {
-  sum : l.taken ≡ sum_below (takes_at l.self.instance.now (picked l.self.instance.now l.self.picks.now) l.self.station l.self.unit_type l.minute) l.number;
+  sum : l.taken ≡ sum_below (takes_at l.self l.minute) l.number;
   few : l.taken ≤ MOST_COMPOSITION * l.number;
 }
