@@ -1,12 +1,13 @@
 -- What words ask for is one command, and its numbers are within their limits.
-use Rattle.std.proofs.Common.{◌≡◌, ℕ, ◌≤◌, List, [], ◌∷◌, Option, Some, true, false, refl, sym, ap, ◌∙◌, arith}
+use Rattle.std.proofs.Common.{◌≡◌, ℕ, ◌≤◌, List, [], ◌∷◌, Option, Some, ◌⊎◌, inl, inr, sym, ap, ◌∙◌, arith}
 use Rattle.rail_base.specs.declared.limits.TheConstants.{MOST_BRANCHINGS, MOST_ROUNDS}
+use Rattle.trial_day.specs.Trial.{IsTrialSize}
 use Rattle.planner_app.specs.declared.command.Choice.TheVariants.{Nodes, Rounds}
 use Rattle.planner_app.specs.declared.command.Command.{Command}
 use Rattle.planner_app.specs.declared.command.Command.TheVariants as command
 use Rattle.planner_app.specs.declared.command.TheConstants.{USUAL_NODES, USUAL_ROUNDS}
-use Rattle.planner_app.specs.Outcomes.{AskAbout, AskInVain, AskToPlan, can_run, folder_of}
-use Rattle.planner_app.specs.PlainForm.{IsOption, IsPlainForm, WordList, values_in}
+use Rattle.planner_app.specs.Outcomes.{AskAbout, AskToPlan, AskToTry, Grants, folder_of}
+use Rattle.planner_app.specs.PlainForm.{IsOption, IsPlainForm, IsSearch, WordList, values_in}
 use Rattle.planner_app.proofs.Meanings.{plain}
 
 -- words are the plain form of one command at most
@@ -14,10 +15,6 @@ pub one_command : (words : WordList) (one other : Command) → IsPlainForm words
 one_command words one other first second =
     let both : ◌≡◌ {A = Option Command} (Some one) (Some other) = sym (plain words one first) ∙ plain words other second in
     cc
-
--- words that ask for what can be run do not ask in vain
-pub not_vain : (words : WordList) (asked : Command) → IsPlainForm words asked → can_run asked ≡ true → AskInVain words → ⊥
-not_vain words asked form runs vain = let none : can_run asked ≡ false = vain asked form in cc
 
 -- the folder of the words is that of their command
 pub about_folder : (words : WordList) (dir other : List ℕ) (named : Command) → IsPlainForm words named
@@ -33,16 +30,39 @@ option_within usual most [] number fits is = omega (arith, fits, is)
 option_within usual most (text ∷ []) number fits is = is.limit
 option_within usual most (text ∷ again ∷ texts) number fits is = absurd is
 
--- no more branchings and rounds are asked for than may be granted
-pub grant_within : (words : WordList) (dir : List ℕ) (nodes rounds : ℕ) → AskToPlan words dir nodes rounds
-    → (nodes ≤ MOST_BRANCHINGS) × (rounds ≤ MOST_ROUNDS)
-grant_within words dir nodes rounds form = (
-  option_within USUAL_NODES MOST_BRANCHINGS (values_in Nodes form.items) nodes (omega arith) form.meant.1.0,
-  option_within USUAL_ROUNDS MOST_ROUNDS (values_in Rounds form.items) rounds (omega arith) form.meant.1.1,
+search_within : (n k : ℕ) (nodes rounds : WordList) → IsSearch n k nodes rounds → (n ≤ MOST_BRANCHINGS) × (k ≤ MOST_ROUNDS)
+search_within n k nodes rounds is = (
+  option_within USUAL_NODES MOST_BRANCHINGS nodes n (omega arith) is.0,
+  option_within USUAL_ROUNDS MOST_ROUNDS rounds k (omega arith) is.1,
 )
 
+-- no more branchings and rounds are asked for than may be granted
+pub plan_within : (words : WordList) (dir : List ℕ) (nodes rounds : ℕ) → AskToPlan words dir nodes rounds
+    → (nodes ≤ MOST_BRANCHINGS) × (rounds ≤ MOST_ROUNDS)
+plan_within words dir nodes rounds form =
+    search_within nodes rounds (values_in Nodes form.items) (values_in Rounds form.items) form.meant.1
+
+pub trial_within : (words : WordList) (seed trips nodes rounds : ℕ) → AskToTry words seed trips nodes rounds
+    → (nodes ≤ MOST_BRANCHINGS) × (rounds ≤ MOST_ROUNDS)
+trial_within words seed trips nodes rounds form =
+    search_within nodes rounds (values_in Nodes form.items) (values_in Rounds form.items) form.meant.1
+
+-- a trial day is asked for with as many trips as one may have
+pub trial_size : (words : WordList) (seed trips nodes rounds : ℕ) → AskToTry words seed trips nodes rounds → IsTrialSize trips
+trial_size words seed trips nodes rounds form =
+    record { even = form.meant.0.even; some = form.meant.0.some; few = form.meant.0.trips_number.limit }
+
 -- words grant one number of branchings and of rounds
-pub same_grant : (words : WordList) (dir other : List ℕ) (nodes rounds n k : ℕ) → AskToPlan words dir nodes rounds
-    → AskToPlan words other n k → (nodes ≡ n) × (rounds ≡ k)
-same_grant words dir other nodes rounds n k first second =
-    let same = one_command words (command.Plan dir nodes rounds) (command.Plan other n k) first second in (cc, cc)
+pub plan_grants : (words : WordList) (dir : List ℕ) (nodes rounds n k : ℕ) → AskToPlan words dir nodes rounds
+    → Grants words n k → (nodes ≡ n) × (rounds ≡ k)
+plan_grants words dir nodes rounds n k form (inl other) =
+    let same = one_command words (command.Plan dir nodes rounds) (command.Plan other.0 n k) form other.1 in (cc, cc)
+plan_grants words dir nodes rounds n k form (inr other) =
+    let same = one_command words (command.Plan dir nodes rounds) (command.Trial other.0 other.1 n k) form other.2 in absurd cc
+
+pub trial_grants : (words : WordList) (seed trips nodes rounds n k : ℕ) → AskToTry words seed trips nodes rounds
+    → Grants words n k → (nodes ≡ n) × (rounds ≡ k)
+trial_grants words seed trips nodes rounds n k form (inl other) =
+    let same = one_command words (command.Trial seed trips nodes rounds) (command.Plan other.0 n k) form other.1 in absurd cc
+trial_grants words seed trips nodes rounds n k form (inr other) =
+    let same = one_command words (command.Trial seed trips nodes rounds) (command.Trial other.0 other.1 n k) form other.2 in (cc, cc)

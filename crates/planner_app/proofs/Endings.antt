@@ -21,20 +21,23 @@ use Rattle.planner_app.specs.declared.command.Command.{Command}
 use Rattle.planner_app.specs.declared.command.Command.TheVariants as command
 use Rattle.planner_app.specs.declared.outcome.Outcome.{Outcome}
 use Rattle.planner_app.specs.declared.outcome.Outcome.TheVariants as outcome
+use Rattle.planner_app.specs.declared.reports.Report.{Report}
+use Rattle.planner_app.specs.declared.reports.Report.TheVariants as report
 use Rattle.planner_app.specs.AnswerFiles.{IsAnswerOf, IsWrongAnswer, answer_bytes}
 use Rattle.planner_app.specs.Headline.{IsHeadline, IsTrueOf, IsValid, status_said}
-use Rattle.planner_app.specs.Outcomes.{AreAnswered, AskAbout, AskToCheck, AskToPlan, AskToSimulate, IsRefusedFor, OfDay, OfDayAndPlan}
-use Rattle.planner_app.specs.Outcomes.{PlanRuns, Says, reads_answer, reads_plan}
+use Rattle.planner_app.specs.Outcomes.{AreAnswered, AskAbout, AskToCheck, AskToPlan, AskToReport, AskToSimulate, IsRefusedFor}
+use Rattle.planner_app.specs.Outcomes.{OfDay, OfDayAndPlan, PlanRuns, Says, command_for, folder_of, reads_plan}
 use Rattle.planner_app.specs.PlainForm.{IsPlainForm}
 use Rattle.rail_io.specs.Sinks.{Appends}
-use Rattle.planner_app.specs.Statuses.{EndsCheck, EndsPlanning, EndsSimulation, IsAnswered, IsAnswerFileRefused, IsUndisturbed}
+use Rattle.planner_app.specs.Statuses.{EndsCheck, EndsPlanning, EndsSimulation, IsAnswerFileRefused, IsAnswerRefusedIn, IsUndisturbed}
 use Rattle.planner_app.specs.Statuses.{status_of, status_of_verdict}
 use Rattle.planner_app.specs.Texts.{IsDocument}
-use Rattle.planner_app.proofs.Asking.{about_folder, not_vain, one_command}
+use Rattle.planner_app.proofs.Allowed.{IsAllowed, is_allowed}
+use Rattle.planner_app.proofs.Asking.{about_folder, one_command}
 use Rattle.planner_app.proofs.Refuting.{valid_or_not}
 
 -- status 0 is that of `Valid` alone
-only_valid : (verdict : AnswerVerdict) → status_of_verdict verdict ≡ 0 → verdict ≡ Valid
+pub only_valid : (verdict : AnswerVerdict) → status_of_verdict verdict ≡ 0 → verdict ≡ Valid
 only_valid Valid zero = refl
 only_valid (RunsDiffer said found) zero = absurd (omega (arith, zero))
 only_valid (UnknownUnit trip) zero = absurd (omega (arith, zero))
@@ -43,27 +46,41 @@ only_valid (verdicts.Claim reason) zero = absurd (omega (arith, zero))
 
 -- ---- what the words ask for is one thing
 
-never_both : (words : List (List ℕ)) (dir other : List ℕ) → AskToSimulate words dir → AskToCheck words other → ⊥
-never_both words dir other simulate check =
-    let same = one_command words (command.Simulate dir) (command.Check other) simulate check in cc
-
 one_simulated : (words : List (List ℕ)) (dir other : List ℕ) → AskToSimulate words dir → AskToSimulate words other → other ≡ dir
 one_simulated words dir other first second =
     let same = one_command words (command.Simulate dir) (command.Simulate other) first second in cc
 
-one_checked : (words : List (List ℕ)) (dir other : List ℕ) → AskToCheck words dir → AskToCheck words other → other ≡ dir
-one_checked words dir other first second =
-    let same = one_command words (command.Check dir) (command.Check other) first second in cc
+-- the report that is asked for, and its folder
+abbrev kind_of : Command → Report
+kind_of (command.Duties dir) = report.Duties
+kind_of (command.Yards dir) = report.Yards
+kind_of other = report.Costs
 
-plan_or_simulate : (words : List (List ℕ)) (dir other : List ℕ) (nodes rounds : ℕ) → AskToPlan words other nodes rounds
-    → AskToSimulate words dir → ⊥
-plan_or_simulate words dir other nodes rounds plan simulate =
-    let same = one_command words (command.Plan other nodes rounds) (command.Simulate dir) plan simulate in cc
+kind_is : (kind : Report) (dir : List ℕ) → kind_of (command_for kind dir) ≡ kind
+kind_is report.Duties dir = refl
+kind_is report.Yards dir = refl
+kind_is report.Costs dir = refl
 
-plan_or_check : (words : List (List ℕ)) (dir other : List ℕ) (nodes rounds : ℕ) → AskToPlan words other nodes rounds
-    → AskToCheck words dir → ⊥
-plan_or_check words dir other nodes rounds plan check =
-    let same = one_command words (command.Plan other nodes rounds) (command.Check dir) plan check in cc
+pub folder_is : (kind : Report) (dir : List ℕ) → folder_of (command_for kind dir) ≡ Some dir
+folder_is report.Duties dir = refl
+folder_is report.Yards dir = refl
+folder_is report.Costs dir = refl
+
+pub one_report : (words : List (List ℕ)) (kind other : Report) (dir another : List ℕ) → AskToReport words kind dir
+    → AskToReport words other another → (other ≡ kind) × (another ≡ dir)
+one_report words kind other dir another first second =
+    let same : command_for kind dir ≡ command_for other another =
+    one_command words (command_for kind dir) (command_for other another) first second in
+    let folders : ◌≡◌ {A = Option (List ℕ)} (Some dir) (Some another) =
+    sym (folder_is kind dir) ∙ ap folder_of same ∙ folder_is other another in (
+      sym (kind_is other another) ∙ ap kind_of (sym same) ∙ kind_is kind dir,
+      cc,
+    )
+
+pub report_plain : (kind : Report) (dir : List ℕ) → reads_plan (command_for kind dir) ≡ true → ⊥
+report_plain report.Duties dir reads = absurd cc
+report_plain report.Yards dir reads = absurd cc
+report_plain report.Costs dir reads = absurd cc
 
 -- the command of words that are about a folder is the one that they are asked for by
 is_named : (words : List (List ℕ)) (dir : List ℕ) (named : Command) → IsPlainForm words named → (about : AskAbout words dir)
@@ -74,16 +91,6 @@ simulate_reads_plan : (words : List (List ℕ)) (dir other : List ℕ) → AskTo
     → reads_plan about.named ≡ false → ⊥
 simulate_reads_plan words dir other asked about plain =
     let reads : reads_plan about.named ≡ true = ap reads_plan (is_named words other (command.Simulate dir) asked about) in cc
-
-simulate_reads_no_answer : (words : List (List ℕ)) (dir other : List ℕ) → AskToSimulate words dir → (about : AskAbout words other)
-    → reads_answer about.named ≡ true → ⊥
-simulate_reads_no_answer words dir other asked about reads =
-    let none : reads_answer about.named ≡ false = ap reads_answer (is_named words other (command.Simulate dir) asked about) in cc
-
-plan_reads_no_answer : (words : List (List ℕ)) (dir other : List ℕ) (nodes rounds : ℕ) → AskToPlan words dir nodes rounds
-    → (about : AskAbout words other) → reads_answer about.named ≡ true → ⊥
-plan_reads_no_answer words dir other nodes rounds asked about reads =
-    let none : reads_answer about.named ≡ false = ap reads_answer (is_named words other (command.Plan dir nodes rounds) asked about) in cc
 
 module _ (words : List (List ℕ)) (files : Files) (dir : List ℕ) where
   -- ---- a plan is run
@@ -117,46 +124,58 @@ module _ (words : List (List ℕ)) (files : Files) (dir : List ℕ) where
 
   pub simulation_ends : (it : Outcome) → AskToSimulate words dir → Says words files it → IsUndisturbed (status_of it)
       → EndsSimulation files dir (status_of it)
-  simulation_ends (outcome.Planned answer) asked says undisturbed =
-      absurd (plan_or_simulate words dir says.1.dir says.1.nodes says.1.rounds says.1.asked asked)
-  simulation_ends (outcome.Runs money) asked says undisturbed =
-      ended_running says.0 (subst (λ (d : List ℕ). inputs_in files d ≡ Ok says.0) (one_simulated words dir says.1.dir asked says.1.asked) says.1.accepted) says.2
-  simulation_ends (outcome.Stops fault) asked says undisturbed =
-      ended_stopped says.0 (subst (λ (d : List ℕ). inputs_in files d ≡ Ok says.0) (one_simulated words dir says.1.dir asked says.1.asked) says.1.accepted) says.2
-  simulation_ends (outcome.Checked head verdict) asked says undisturbed = absurd (never_both words dir says.dir asked says.asked)
-  simulation_ends outcome.Usage asked says undisturbed = absurd (not_vain words (command.Simulate dir) asked refl says)
-  simulation_ends (outcome.NoInputs (Refused why)) asked (OfDayAndPlan other asked' refused) undisturbed =
-      ended_refused why (subst (λ (d : List ℕ). inputs_in files d ≡ Err why) (one_simulated words dir other asked asked') refused)
-  simulation_ends (outcome.NoInputs (Refused why)) asked (OfDay other about plain refused) undisturbed =
-      absurd (simulate_reads_plan words dir other asked about plain)
-  simulation_ends (outcome.NoInputs (CannotRead table)) asked says undisturbed = absurd (undisturbed.0 refl)
-  simulation_ends (outcome.NoInputs NoMemory) asked says undisturbed = absurd (undisturbed.2 refl)
-  simulation_ends (outcome.NoAnswer error) asked says undisturbed =
-      absurd (simulate_reads_no_answer words dir says.dir asked says.asked says.reads)
+  simulation_ends it asked says undisturbed = by it says undisturbed
+      (is_allowed words files (command.Simulate dir) asked it says)
+    where
+      by : (it : Outcome) → Says words files it → IsUndisturbed (status_of it) → IsAllowed it 1
+          → EndsSimulation files dir (status_of it)
+      by (outcome.Runs money) says undisturbed allowed =
+          ended_running says.0 (subst (λ (d : List ℕ). inputs_in files d ≡ Ok says.0)
+          (one_simulated words dir says.1.dir asked says.1.asked) says.1.accepted) says.2
+      by (outcome.Stops fault) says undisturbed allowed =
+          ended_stopped says.0 (subst (λ (d : List ℕ). inputs_in files d ≡ Ok says.0)
+          (one_simulated words dir says.1.dir asked says.1.asked) says.1.accepted) says.2
+      by (outcome.Planned answer) says undisturbed allowed = absurd (omega (arith, allowed))
+      by (outcome.Tried seed trips answer) says undisturbed allowed = absurd (omega (arith, allowed))
+      by (outcome.Checked head verdict) says undisturbed allowed = absurd (omega (arith, allowed.0))
+      by (outcome.Reported text) says undisturbed allowed = absurd (omega (arith, allowed.0))
+      by outcome.NoPlan says undisturbed allowed = absurd (omega (arith, allowed.0))
+      by outcome.Usage says undisturbed allowed = absurd allowed
+      by (outcome.NoInputs (Refused why)) (OfDayAndPlan other asked' refused) undisturbed allowed =
+          ended_refused why (subst (λ (d : List ℕ). inputs_in files d ≡ Err why) (one_simulated words dir other asked asked') refused)
+      by (outcome.NoInputs (Refused why)) (OfDay other about plain refused) undisturbed allowed =
+          absurd (simulate_reads_plan words dir other asked about plain)
+      by (outcome.NoInputs (CannotRead table)) says undisturbed allowed = absurd (undisturbed.0 refl)
+      by (outcome.NoInputs NoMemory) says undisturbed allowed = absurd (undisturbed.2 refl)
+      by (outcome.NoAnswer error) says undisturbed allowed = absurd (omega (arith, allowed.0))
 
   -- ---- an answer is checked
 
-  same_day : (one other : Day) → day_in files dir ≡ Ok one → day_in files dir ≡ Ok other → one ≡ other
+  pub same_day : (one other : Day) → day_in files dir ≡ Ok one → day_in files dir ≡ Ok other → one ≡ other
   same_day one other first second = cc
 
-  day_or_not : (day : Day) (why : Refusal) → day_in files dir ≡ Ok day → day_in files dir ≡ Err why → ⊥
+  pub day_or_not : (day : Day) (why : Refusal) → day_in files dir ≡ Ok day → day_in files dir ≡ Err why → ⊥
   day_or_not day why accepted refused = cc
 
-  answered_once : (day other : Day) (answer another : Answer) → AreAnswered files dir day answer → AreAnswered files dir other another
+  -- the answer of the files is one
+  pub same_answer : (day other : Day) (answer another : Answer) → AreAnswered files dir day answer → AreAnswered files dir other another
+      → answer ≡ another
+  same_answer day other answer another first second = first.of_file.only another second.of_file.text
+
+  pub answered_once : (day other : Day) (answer another : Answer) → AreAnswered files dir day answer → AreAnswered files dir other another
       → IsValid day answer → IsValid other another
   answered_once day other answer another first second valid =
       subst (λ (d : Day). IsValid d another) (same_day day other first.of_tables second.of_tables)
       (subst (λ (a : Answer). IsValid day a) (first.of_file.only another second.of_file.text) valid)
 
   abbrev RefusedIn : Type 0
-  RefusedIn = ((why : Refusal) × (day_in files dir ≡ Err why))
-      ⊎ ((day : Day) × (day_in files dir ≡ Ok day) × IsAnswerFileRefused (answer_bytes files dir))
+  RefusedIn = IsAnswerRefusedIn files dir
 
   file_right : (answer : Answer) → IsAnswerOf (answer_bytes files dir) answer → IsAnswerFileRefused (answer_bytes files dir) → ⊥
   file_right answer is (inl longer) = omega (arith, is.few, longer)
   file_right answer is (inr refused) = is.right refused.0 refused.1
 
-  answered_right : (day : Day) (answer : Answer) → AreAnswered files dir day answer → RefusedIn → ⊥
+  pub answered_right : (day : Day) (answer : Answer) → AreAnswered files dir day answer → RefusedIn → ⊥
   answered_right day answer accepted (inl none) = day_or_not day none.0 accepted.of_tables none.1
   answered_right day answer accepted (inr wrong) = file_right answer accepted.of_file wrong.2
 
@@ -193,45 +212,64 @@ module _ (words : List (List ℕ)) (files : Files) (dir : List ℕ) where
   by_verdict day answer status accepted (inr wrong) holds =
       subst (λ (n : ℕ). EndsCheck files dir n) (sym wrong.0) (checked_invalid day answer accepted wrong.1)
 
-  at_folder : (other : List ℕ) (day : Day) (answer : Answer) → other ≡ dir → AreAnswered files other day answer → AreAnswered files dir day answer
+  pub at_folder : (other : List ℕ) (day : Day) (answer : Answer) → other ≡ dir → AreAnswered files other day answer → AreAnswered files dir day answer
   at_folder other day answer is accepted = subst (λ (d : List ℕ). AreAnswered files d day answer) is accepted
+
+  -- the file of an answer that is not read is refused, and is that of none
+  pub refused_answer : (day : Day) (error : AnswerError) → day_in files dir ≡ Ok day → IsWrongAnswer files dir error
+      → IsUndisturbed (status_of (outcome.NoAnswer error))
+      → (status_of (outcome.NoAnswer error) ≡ 3) × RefusedIn × ((other : Day) (answer : Answer) → AreAnswered files dir other answer → ⊥)
+  refused_answer day answer_error.CannotRead accepted wrong undisturbed = absurd (undisturbed.0 refl)
+  refused_answer day answer_error.TooLong accepted wrong undisturbed =
+      (refl, inr (day, accepted, inl wrong), λ other answer is. omega (arith, is.of_file.few, wrong))
+  refused_answer day (answer_error.Refused answer_refusal.NoMemory) accepted wrong undisturbed = absurd (undisturbed.2 refl)
+  refused_answer day (answer_error.Refused (answer_refusal.BadLine line)) accepted wrong undisturbed =
+      (refl, inr (day, accepted, inr (answer_refusal.BadLine line, wrong.refused)), λ other answer is. wrong.none answer is.of_file.text)
+  refused_answer day (answer_error.Refused answer_refusal.MissingEnd) accepted wrong undisturbed =
+      (refl, inr (day, accepted, inr (answer_refusal.MissingEnd, wrong.refused)), λ other answer is. wrong.none answer is.of_file.text)
+  refused_answer day (answer_error.Refused (answer_refusal.Trailing line)) accepted wrong undisturbed =
+      (refl, inr (day, accepted, inr (answer_refusal.Trailing line, wrong.refused)), λ other answer is. wrong.none answer is.of_file.text)
+  refused_answer day (answer_error.Refused answer_refusal.TooManyNodes) accepted wrong undisturbed =
+      (refl, inr (day, accepted, inr (answer_refusal.TooManyNodes, wrong.refused)), λ other answer is. wrong.none answer is.of_file.text)
 
   no_answer : (day : Day) (error : AnswerError) → day_in files dir ≡ Ok day → IsWrongAnswer files dir error
       → IsUndisturbed (status_of (outcome.NoAnswer error)) → EndsCheck files dir (status_of (outcome.NoAnswer error))
-  no_answer day answer_error.CannotRead accepted wrong undisturbed = absurd (undisturbed.0 refl)
-  no_answer day answer_error.TooLong accepted wrong undisturbed =
-      checked_refused (inr (day, accepted, inl wrong)) (λ other answer is. omega (arith, is.of_file.few, wrong))
-  no_answer day (answer_error.Refused answer_refusal.NoMemory) accepted wrong undisturbed = absurd (undisturbed.2 refl)
-  no_answer day (answer_error.Refused (answer_refusal.BadLine line)) accepted wrong undisturbed =
-      checked_refused (inr (day, accepted, inr (answer_refusal.BadLine line, wrong.refused))) (λ other answer is. wrong.none answer is.of_file.text)
-  no_answer day (answer_error.Refused answer_refusal.MissingEnd) accepted wrong undisturbed =
-      checked_refused (inr (day, accepted, inr (answer_refusal.MissingEnd, wrong.refused))) (λ other answer is. wrong.none answer is.of_file.text)
-  no_answer day (answer_error.Refused (answer_refusal.Trailing line)) accepted wrong undisturbed =
-      checked_refused (inr (day, accepted, inr (answer_refusal.Trailing line, wrong.refused))) (λ other answer is. wrong.none answer is.of_file.text)
-  no_answer day (answer_error.Refused answer_refusal.TooManyNodes) accepted wrong undisturbed =
-      checked_refused (inr (day, accepted, inr (answer_refusal.TooManyNodes, wrong.refused))) (λ other answer is. wrong.none answer is.of_file.text)
+  no_answer day error accepted wrong undisturbed =
+      let refused = refused_answer day error accepted wrong undisturbed in
+      subst (λ (n : ℕ). EndsCheck files dir n) (sym refused.0) (checked_refused refused.1 refused.2)
+
+  -- what holds of the file at another folder holds at this one
+  pub at_answer : (other : List ℕ) (error : AnswerError) → other ≡ dir → IsWrongAnswer files other error → IsWrongAnswer files dir error
+  at_answer other error is wrong = subst (λ (d : List ℕ). IsWrongAnswer files d error) is wrong
 
   pub check_ends : (it : Outcome) → AskToCheck words dir → Says words files it → IsUndisturbed (status_of it) → EndsCheck files dir (status_of it)
-  check_ends (outcome.Planned answer) asked says undisturbed =
-      absurd (plan_or_check words dir says.1.dir says.1.nodes says.1.rounds says.1.asked asked)
-  check_ends (outcome.Runs money) asked says undisturbed = absurd (never_both words says.1.dir dir says.1.asked asked)
-  check_ends (outcome.Stops fault) asked says undisturbed = absurd (never_both words says.1.dir dir says.1.asked asked)
-  check_ends (outcome.Checked head verdict) asked says undisturbed =
-      by_verdict says.day says.answer (status_of_verdict verdict)
-      (at_folder says.dir says.day says.answer (one_checked words dir says.dir asked says.asked) says.accepted)
-      (valid_or_not says.day says.answer verdict says.on.is) (λ zero. says.on.holds (only_valid verdict zero))
-  check_ends outcome.Usage asked says undisturbed = absurd (not_vain words (command.Check dir) asked refl says)
-  check_ends (outcome.NoInputs (Refused why)) asked (OfDayAndPlan other asked' refused) undisturbed = absurd (never_both words other dir asked' asked)
-  check_ends (outcome.NoInputs (Refused why)) asked (OfDay other about plain refused) undisturbed =
-      let none : day_in files dir ≡ Err why = subst (λ (d : List ℕ). day_in files d ≡ Err why)
-      (about_folder words dir other (command.Check dir) asked refl about) refused in
-      checked_refused (inl (why, none)) (λ day answer is. day_or_not day why is.of_tables none)
-  check_ends (outcome.NoInputs (CannotRead table)) asked says undisturbed = absurd (undisturbed.0 refl)
-  check_ends (outcome.NoInputs NoMemory) asked says undisturbed = absurd (undisturbed.2 refl)
-  check_ends (outcome.NoAnswer error) asked says undisturbed =
-      let is : says.dir ≡ dir = about_folder words dir says.dir (command.Check dir) asked refl says.asked in
-      no_answer says.day error (subst (λ (d : List ℕ). day_in files d ≡ Ok says.day) is says.accepted)
-      (subst (λ (d : List ℕ). IsWrongAnswer files d error) is says.wrong) undisturbed
+  check_ends it asked says undisturbed = by it says undisturbed (is_allowed words files (command.Check dir) asked it says)
+    where
+      by : (it : Outcome) → Says words files it → IsUndisturbed (status_of it) → IsAllowed it 2 → EndsCheck files dir (status_of it)
+      by (outcome.Checked head verdict) says undisturbed allowed =
+          by_verdict says.day says.answer (status_of_verdict verdict)
+          (at_folder says.dir says.day says.answer
+          (about_folder words dir says.dir (command.Check dir) asked refl says.asked) says.accepted)
+          (valid_or_not says.day says.answer verdict says.on.is) (λ zero. says.on.holds (only_valid verdict zero))
+      by (outcome.Planned answer) says undisturbed allowed = absurd (omega (arith, allowed))
+      by (outcome.Tried seed trips answer) says undisturbed allowed = absurd (omega (arith, allowed))
+      by (outcome.Runs money) says undisturbed allowed = absurd (omega (arith, allowed))
+      by (outcome.Stops fault) says undisturbed allowed = absurd (omega (arith, allowed))
+      by (outcome.Reported text) says undisturbed allowed = absurd (omega (arith, allowed.0))
+      by outcome.NoPlan says undisturbed allowed = absurd (omega (arith, allowed.0))
+      by outcome.Usage says undisturbed allowed = absurd allowed
+      by (outcome.NoInputs (Refused why)) (OfDayAndPlan other asked' refused) undisturbed allowed =
+          let same = one_command words (command.Check dir) (command.Simulate other) asked asked' in absurd cc
+      by (outcome.NoInputs (Refused why)) (OfDay other about plain refused) undisturbed allowed =
+          let none : day_in files dir ≡ Err why = subst (λ (d : List ℕ). day_in files d ≡ Err why)
+          (about_folder words dir other (command.Check dir) asked refl about) refused in
+          checked_refused (inl (why, none)) (λ day answer is. day_or_not day why is.of_tables none)
+      by (outcome.NoInputs (CannotRead table)) says undisturbed allowed = absurd (undisturbed.0 refl)
+      by (outcome.NoInputs NoMemory) says undisturbed allowed = absurd (undisturbed.2 refl)
+      by (outcome.NoAnswer error) says undisturbed allowed =
+          let is : says.dir ≡ dir = about_folder words dir says.dir (command.Check dir) asked refl says.asked in
+          no_answer says.day error (subst (λ (d : List ℕ). day_in files d ≡ Ok says.day) is says.accepted)
+          (at_answer says.dir error is says.wrong) undisturbed
 
   -- ---- a day is planned
 
@@ -266,25 +304,28 @@ module _ (words : List (List ℕ)) (files : Files) (dir : List ℕ) where
 
     pub planning_ends : (it : Outcome) → Says words files it → (text : List ℕ) → IsDocument it text → Appends text before after
         → IsUndisturbed (status_of it) → EndsPlanning files dir nodes (status_of it) before after
-    planning_ends (outcome.Planned answer) says text is written undisturbed =
-        let same = same_plan says.1.dir says.1.nodes says.1.rounds says.1.asked in
-        planned_answered says.0 answer (subst (λ (d : List ℕ). day_in files d ≡ Ok says.0) same.0 says.2)
-        (subst (λ (n : ℕ). IsHeadline says.0 n answer) same.1 says.1.headline)
-        (subst (λ (t : List ℕ). Appends t before after) is written)
-    planning_ends (outcome.Runs money) says text is written undisturbed =
-        absurd (plan_or_simulate words says.1.dir dir nodes rounds asked says.1.asked)
-    planning_ends (outcome.Stops fault) says text is written undisturbed =
-        absurd (plan_or_simulate words says.1.dir dir nodes rounds asked says.1.asked)
-    planning_ends (outcome.Checked head verdict) says text is written undisturbed =
-        absurd (plan_or_check words says.dir dir nodes rounds asked says.asked)
-    planning_ends outcome.Usage says text is written undisturbed =
-        absurd (not_vain words (command.Plan dir nodes rounds) asked refl says)
-    planning_ends (outcome.NoInputs (Refused why)) (OfDayAndPlan other asked' refused) text is written undisturbed =
-        absurd (plan_or_simulate words other dir nodes rounds asked asked')
-    planning_ends (outcome.NoInputs (Refused why)) (OfDay other about plain refused) text is written undisturbed =
-        planned_refused why (subst (λ (d : List ℕ). day_in files d ≡ Err why)
-        (about_folder words dir other (command.Plan dir nodes rounds) asked refl about) refused)
-    planning_ends (outcome.NoInputs (CannotRead table)) says text is written undisturbed = absurd (undisturbed.0 refl)
-    planning_ends (outcome.NoInputs NoMemory) says text is written undisturbed = absurd (undisturbed.2 refl)
-    planning_ends (outcome.NoAnswer error) says text is written undisturbed =
-        absurd (plan_reads_no_answer words dir says.dir nodes rounds asked says.asked says.reads)
+    planning_ends it says text is written undisturbed = by it says text is written undisturbed
+        (is_allowed words files (command.Plan dir nodes rounds) asked it says)
+      where
+        by : (it : Outcome) → Says words files it → (text : List ℕ) → IsDocument it text → Appends text before after
+            → IsUndisturbed (status_of it) → IsAllowed it 0 → EndsPlanning files dir nodes (status_of it) before after
+        by (outcome.Planned answer) says text is written undisturbed allowed =
+            let same = same_plan says.1.dir says.1.nodes says.1.rounds says.1.asked in
+            planned_answered says.0 answer (subst (λ (d : List ℕ). day_in files d ≡ Ok says.0) same.0 says.2)
+            (subst (λ (n : ℕ). IsHeadline says.0 n answer) same.1 says.1.headline)
+            (subst (λ (t : List ℕ). Appends t before after) is written)
+        by (outcome.Tried seed trips answer) says text is written undisturbed allowed = absurd (omega (arith, allowed))
+        by (outcome.Runs money) says text is written undisturbed allowed = absurd (omega (arith, allowed))
+        by (outcome.Stops fault) says text is written undisturbed allowed = absurd (omega (arith, allowed))
+        by (outcome.Checked head verdict) says text is written undisturbed allowed = absurd (omega (arith, allowed.0))
+        by (outcome.Reported report) says text is written undisturbed allowed = absurd (omega (arith, allowed.0))
+        by outcome.NoPlan says text is written undisturbed allowed = absurd (omega (arith, allowed.0))
+        by outcome.Usage says text is written undisturbed allowed = absurd allowed
+        by (outcome.NoInputs (Refused why)) (OfDayAndPlan other asked' refused) text is written undisturbed allowed =
+            let same = one_command words (command.Plan dir nodes rounds) (command.Simulate other) asked asked' in absurd cc
+        by (outcome.NoInputs (Refused why)) (OfDay other about plain refused) text is written undisturbed allowed =
+            planned_refused why (subst (λ (d : List ℕ). day_in files d ≡ Err why)
+            (about_folder words dir other (command.Plan dir nodes rounds) asked refl about) refused)
+        by (outcome.NoInputs (CannotRead table)) says text is written undisturbed allowed = absurd (undisturbed.0 refl)
+        by (outcome.NoInputs NoMemory) says text is written undisturbed allowed = absurd (undisturbed.2 refl)
+        by (outcome.NoAnswer error) says text is written undisturbed allowed = absurd (omega (arith, allowed.0))

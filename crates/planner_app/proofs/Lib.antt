@@ -17,6 +17,8 @@ pub mod OpenLeaves
 pub mod Refuting
 pub mod Rechecking
 pub mod Asking
+pub mod Allowed
 pub mod Endings
+pub mod ReportEndings
 pub mod Outcomes
 pub mod Statuses

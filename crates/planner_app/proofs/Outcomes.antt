@@ -1,12 +1,15 @@
 -- Outcomes of errors, by what a call that reads the folder answers.
-use Rattle.std.proofs.Common.{◌≡◌, ◌∙◌, ℕ, ◌⊎◌, inl, inr, Bool, List, Option, Some, None, Ok, Err, refl, ap}
+use Rattle.std.proofs.Common.{◌≡◌, ℕ, ◌⊎◌, inl, inr, Bool, List, Option, Some, None, Ok, Err, refl, sym, subst}
 use Rattle.std.specs.Prelude.{◌≢◌, true, false}
 use Rattle.rail_io.specs.Folders.{Files}
 use Rattle.rail_csv.specs.declared.rows.Table.{Table}
 use Rattle.rail_csv.specs.declared.rows.Table.TheVariants as table
 use Rattle.rail_base.specs.declared.numbers.Money.{Money}
 use Rattle.timetable.specs.Cost.{plan_cost}
+use Rattle.timetable.specs.Build.{day_of}
 use Rattle.timetable.specs.Day.{Day}
+use Rattle.trial_day.specs.Trial.{trial_tables_of}
+use Rattle.answer_text.specs.Limits.{has_plan}
 use Rattle.day_files.specs.declared.errors.ReadError.{ReadError}
 use Rattle.day_files.specs.declared.errors.ReadError.TheVariants.{CannotRead, Refused, NoMemory}
 use Rattle.day_files.specs.declared.inputs.Inputs.{Inputs}
@@ -22,26 +25,47 @@ use Rattle.answer_text.specs.declared.answer.Head.{Head}
 use Rattle.planner_app.specs.declared.answer_file.AnswerError.{AnswerError}
 use Rattle.planner_app.specs.declared.checking.AnswerVerdict.{AnswerVerdict}
 use Rattle.planner_app.specs.declared.command.Command.TheVariants as command
-use Rattle.planner_app.specs.declared.command.Command.{Command}
 use Rattle.planner_app.specs.declared.outcome.Outcome.{Outcome}
-use Rattle.planner_app.specs.declared.outcome.Outcome.TheVariants.{Planned, Runs, Stops, Checked, Usage, NoInputs, NoAnswer}
+use Rattle.planner_app.specs.declared.outcome.Outcome.TheVariants.{Planned, Tried, Runs, Stops, Checked, Reported, NoPlan, Usage, NoInputs, NoAnswer}
 use Rattle.planner_app.specs.AnswerFiles.{IsAnswerCaused, IsWrongAnswer}
-use Rattle.planner_app.specs.Headline.{IsHeadline}
-use Rattle.planner_app.specs.Outcomes.{AreAnswered, AskAbout, AskInVain, AskToCheck, AskToPlan, AskToSimulate, HasCause, IsOutcome}
-use Rattle.planner_app.specs.Outcomes.{IsPlanned, IsRefusedFor, IsVerdictOn, OfDay, OfDayAndPlan, PlanRuns, Says, can_run, reads_plan}
-use Rattle.planner_app.specs.PlainForm.{IsPlainForm}
-use Rattle.planner_app.proofs.Asking.{not_vain, one_command}
+use Rattle.planner_app.specs.declared.checking.AnswerVerdict.TheVariants.{Valid}
+use Rattle.planner_app.specs.declared.reports.Report.{Report}
+use Rattle.planner_app.specs.declared.reports.Report.TheVariants as report
+use Rattle.planner_app.specs.Headline.{IsHeadline, IsValid}
+use Rattle.planner_app.specs.Outcomes.{AreAnswered, AskAbout, AskInVain, AskToCheck, AskToPlan, AskToReport, AskToSimulate}
+use Rattle.planner_app.specs.Outcomes.{AskToTry, HasCause, IsOutcome, IsPlanned, IsRefusedFor, IsReportOf, IsTried, IsVerdictOn}
+use Rattle.planner_app.specs.Outcomes.{OfDay, OfDayAndPlan, PlanRuns, Says, command_for, folder_of, reads_answer, reads_plan}
+use Rattle.planner_app.specs.Reporting.{IsReportOutcome, IsTrialOutcome}
 
--- the commands that can be run are about their folders
+-- commands are about their folders
 abbrev about_planned : (words : List (List ℕ)) (dir : List ℕ) (nodes rounds : ℕ) → AskToPlan words dir nodes rounds → AskAbout words dir
 about_planned words dir nodes rounds asked =
-    record { named = command.Plan dir nodes rounds; asked = asked; folder = refl; runs = refl }
+    record { named = command.Plan dir nodes rounds; asked = asked; folder = refl }
 
 abbrev about_simulated : (words : List (List ℕ)) (dir : List ℕ) → AskToSimulate words dir → AskAbout words dir
-about_simulated words dir asked = record { named = command.Simulate dir; asked = asked; folder = refl; runs = refl }
+about_simulated words dir asked = record { named = command.Simulate dir; asked = asked; folder = refl }
 
 abbrev about_checked : (words : List (List ℕ)) (dir : List ℕ) → AskToCheck words dir → AskAbout words dir
-about_checked words dir asked = record { named = command.Check dir; asked = asked; folder = refl; runs = refl }
+about_checked words dir asked = record { named = command.Check dir; asked = asked; folder = refl }
+
+report_folder : (kind : Report) (dir : List ℕ) → folder_of (command_for kind dir) ≡ Some dir
+report_folder report.Duties dir = refl
+report_folder report.Yards dir = refl
+report_folder report.Costs dir = refl
+
+report_plain : (kind : Report) (dir : List ℕ) → reads_plan (command_for kind dir) ≡ false
+report_plain report.Duties dir = refl
+report_plain report.Yards dir = refl
+report_plain report.Costs dir = refl
+
+report_reads : (kind : Report) (dir : List ℕ) → reads_answer (command_for kind dir) ≡ true
+report_reads report.Duties dir = refl
+report_reads report.Yards dir = refl
+report_reads report.Costs dir = refl
+
+abbrev about_reported : (words : List (List ℕ)) (dir : List ℕ) (kind : Report) → AskToReport words kind dir → AskAbout words dir
+about_reported words dir kind asked =
+    record { named = command_for kind dir; asked = asked; folder = report_folder kind dir }
 
 module _ {F : Type 0} (holds : F → Option Files) (may_fail : F → List ℕ → Bool) (faults taken : F → ℕ) (words : List (List ℕ)) (before after : F) (dir : List ℕ) where
   abbrev Caused : ReadError → Type 0
@@ -63,7 +87,7 @@ module _ {F : Type 0} (holds : F → Option Files) (may_fail : F → List ℕ �
     caused = tt;
   }
 
-  -- the words ask for nothing that can be run
+  -- the words ask for nothing
   pub in_vain : AskInVain words → Comes Usage
   in_vain vain = record {
     told = λ files tells. vain;
@@ -72,10 +96,6 @@ module _ {F : Type 0} (holds : F → Option Files) (may_fail : F → List ℕ �
     understood = λ asked. inl refl;
     caused = tt;
   }
-
-  -- the words ask for a command that can't be run
-  pub not_run : (named : Command) → can_run named ≡ false → IsPlainForm words named → Comes Usage
-  not_run named none form = in_vain (λ asked form'. ap can_run (one_command words asked named form' form) ∙ none)
 
   plan_cause : (error : ReadError) → AskToSimulate words dir → Caused error → HasCause may_fail faults taken words before after (NoInputs error)
   plan_cause (Refused why) asked caused = (dir, about_simulated words dir asked, caused)
@@ -89,7 +109,7 @@ module _ {F : Type 0} (holds : F → Option Files) (may_fail : F → List ℕ �
     told = λ files tells. says error files (told files tells);
     sound = tt;
     usage = λ e. absurd cc;
-    understood = λ vain. absurd (not_vain words (command.Simulate dir) asked refl vain);
+    understood = λ vain. absurd (vain (command.Simulate dir) asked);
     caused = plan_cause error asked caused;
   }
     where
@@ -113,7 +133,7 @@ module _ {F : Type 0} (holds : F → Option Files) (may_fail : F → List ℕ �
       told = λ files tells. says error files unread (told files tells);
       sound = tt;
       usage = λ e. absurd cc;
-      understood = λ vain. absurd (not_vain words about.named about.asked about.runs vain);
+      understood = λ vain. absurd (vain about.named about.asked);
       caused = day_cause error unread caused;
     }
       where
@@ -132,6 +152,10 @@ module _ {F : Type 0} (holds : F → Option Files) (may_fail : F → List ℕ �
       → IsUnreadOf (λ read. read ≢ table.Plan) error → Caused error → Comes (NoInputs error)
   day_not_checked error asked = no_day (about_checked words dir asked) refl error
 
+  pub day_not_reported : (kind : Report) (error : ReadError) → AskToReport words kind dir → Given error
+      → IsUnreadOf (λ read. read ≢ table.Plan) error → Caused error → Comes (NoInputs error)
+  day_not_reported kind error asked = no_day (about_reported words dir kind asked) (report_plain kind dir) error
+
   pub planned : (nodes rounds : ℕ) (day : Day) (answer : Answer) → AskToPlan words dir nodes rounds
       → ((files : Files) → holds before ≡ Some files → day_in files dir ≡ Ok day)
       → IsHeadline day nodes answer → Comes (Planned answer)
@@ -141,29 +165,57 @@ module _ {F : Type 0} (holds : F → Option Files) (may_fail : F → List ℕ �
         told = λ files tells. (day, is, told files tells);
         sound = (day, is);
         usage = λ e. absurd cc;
-        understood = λ vain. absurd (not_vain words (command.Plan dir nodes rounds) asked refl vain);
+        understood = λ vain. absurd (vain (command.Plan dir nodes rounds) asked);
         caused = tt;
       }
+
+  -- the answer of a command that reads it is not read
+  answer_not_read : (about : AskAbout words dir) → reads_answer about.named ≡ true → (error : AnswerError) (day : Day)
+      → ((files : Files) → holds before ≡ Some files → (day_in files dir ≡ Ok day) × IsWrongAnswer files dir error)
+      → IsAnswerCaused may_fail faults taken dir before after error → Comes (NoAnswer error)
+  answer_not_read about reads error day told caused = record {
+    told = λ files tells. record {
+      dir = dir;
+      asked = about;
+      reads = reads;
+      day = day;
+      accepted = (told files tells).0;
+      wrong = (told files tells).1;
+    };
+    sound = tt;
+    usage = λ e. absurd cc;
+    understood = λ vain. absurd (vain about.named about.asked);
+    caused = (dir, about, reads, caused);
+  }
 
   pub no_answer : (error : AnswerError) (day : Day) → AskToCheck words dir
       → ((files : Files) → holds before ≡ Some files → (day_in files dir ≡ Ok day) × IsWrongAnswer files dir error)
       → IsAnswerCaused may_fail faults taken dir before after error → Comes (NoAnswer error)
-  no_answer error day asked told caused = record {
-    told = λ files tells. record { dir = dir; asked = about_checked words dir asked; reads = refl; day = day; accepted = (told files tells).0; wrong = (told files tells).1 };
-    sound = tt;
-    usage = λ e. absurd cc;
-    understood = λ vain. absurd (not_vain words (command.Check dir) asked refl vain);
-    caused = (dir, about_checked words dir asked, refl, caused);
-  }
+  no_answer error day asked = answer_not_read (about_checked words dir asked) refl error day
+
+  pub answer_not_reported : (kind : Report) (error : AnswerError) (day : Day) → AskToReport words kind dir
+      → ((files : Files) → holds before ≡ Some files → (day_in files dir ≡ Ok day) × IsWrongAnswer files dir error)
+      → IsAnswerCaused may_fail faults taken dir before after error → Comes (NoAnswer error)
+  answer_not_reported kind error day asked =
+      answer_not_read (about_reported words dir kind asked) (report_reads kind dir) error day
 
   pub checked : (head : Head) (verdict : AnswerVerdict) (day : Day) (answer : Answer) → AskToCheck words dir
       → ((files : Files) → holds before ≡ Some files → AreAnswered files dir day answer)
       → IsVerdictOn day answer head verdict → Comes (Checked head verdict)
   checked head verdict day answer asked told on = record {
-    told = λ files tells. record { dir = dir; asked = asked; day = day; answer = answer; accepted = told files tells; on = on };
-    sound = (day, answer, on);
+    told = λ files tells. record {
+      dir = dir;
+      asked = about_checked words dir asked;
+      reads = refl;
+      alone = λ is. asked;
+      day = day;
+      answer = answer;
+      accepted = told files tells;
+      on = on;
+    };
+    sound = (dir, about_checked words dir asked, refl, day, answer, on);
     usage = λ e. absurd cc;
-    understood = λ vain. absurd (not_vain words (command.Check dir) asked refl vain);
+    understood = λ vain. absurd (vain (command.Check dir) asked);
     caused = tt;
   }
 
@@ -172,9 +224,9 @@ module _ {F : Type 0} (holds : F → Option Files) (may_fail : F → List ℕ �
       → PlanRuns inputs → IsCost (plan_cost inputs.instance inputs.plan) money → Comes (Runs money)
   plan_runs inputs money asked told runs cost = record {
     told = λ files tells. (inputs, record { dir = dir; asked = asked; accepted = told files tells }, runs, cost);
-    sound = (plan_cost inputs.instance inputs.plan, cost);
+    sound = (dir, asked, plan_cost inputs.instance inputs.plan, cost);
     usage = λ e. absurd cc;
-    understood = λ vain. absurd (not_vain words (command.Simulate dir) asked refl vain);
+    understood = λ vain. absurd (vain (command.Simulate dir) asked);
     caused = tt;
   }
 
@@ -183,8 +235,123 @@ module _ {F : Type 0} (holds : F → Option Files) (may_fail : F → List ℕ �
       → ¬ (PlanRuns inputs) → simulation inputs.instance inputs.plan ≡ Err fault → IsInTurn fault → Comes (Stops fault)
   plan_stops inputs fault asked told stops is in_turn = record {
     told = λ files tells. (inputs, record { dir = dir; asked = asked; accepted = told files tells }, stops, is, in_turn);
-    sound = in_turn;
+    sound = (dir, asked, in_turn);
     usage = λ e. absurd cc;
-    understood = λ vain. absurd (not_vain words (command.Simulate dir) asked refl vain);
+    understood = λ vain. absurd (vain (command.Simulate dir) asked);
     caused = tt;
   }
+
+  -- ---- a report
+
+  rejected : (kind : Report) (head : Head) (verdict : AnswerVerdict) (day : Day) (answer : Answer) → AskToReport words kind dir
+      → ((files : Files) → holds before ≡ Some files → AreAnswered files dir day answer)
+      → IsVerdictOn day answer head verdict → verdict ≢ Valid → Comes (Checked head verdict)
+  rejected kind head verdict day answer asked told on wrong = record {
+    told = λ files tells. record {
+      dir = dir;
+      asked = about_reported words dir kind asked;
+      reads = report_reads kind dir;
+      alone = λ is. absurd (wrong is);
+      day = day;
+      answer = answer;
+      accepted = told files tells;
+      on = on;
+    };
+    sound = (dir, about_reported words dir kind asked, report_reads kind dir, day, answer, on);
+    usage = λ e. absurd cc;
+    understood = λ vain. absurd (vain (command_for kind dir) asked);
+    caused = tt;
+  }
+
+  reported : (kind : Report) (text : List ℕ) (day : Day) (answer : Answer) → AskToReport words kind dir
+      → ((files : Files) → holds before ≡ Some files → AreAnswered files dir day answer)
+      → IsReportOf kind day answer text → Comes (Reported text)
+  reported kind text day answer asked told of = record {
+    told = λ files tells. record {
+      dir = dir;
+      kind = kind;
+      asked = asked;
+      day = day;
+      answer = answer;
+      accepted = told files tells;
+      of = of;
+    };
+    sound = (dir, kind, asked, day, answer, of);
+    usage = λ e. absurd cc;
+    understood = λ vain. absurd (vain (command_for kind dir) asked);
+    caused = tt;
+  }
+
+  without_plan : (kind : Report) (day : Day) (answer : Answer) → AskToReport words kind dir
+      → ((files : Files) → holds before ≡ Some files → AreAnswered files dir day answer)
+      → IsValid day answer → has_plan answer.head ≡ false → Comes NoPlan
+  without_plan kind day answer asked told valid none = record {
+    told = λ files tells. record {
+      dir = dir;
+      kind = kind;
+      asked = asked;
+      day = day;
+      answer = answer;
+      accepted = told files tells;
+      valid = valid;
+      none = none;
+    };
+    sound = (dir, kind, asked);
+    usage = λ e. absurd cc;
+    understood = λ vain. absurd (vain (command_for kind dir) asked);
+    caused = tt;
+  }
+
+  pub report_comes : (kind : Report) (it : Outcome) (day : Day) (answer : Answer) → AskToReport words kind dir
+      → ((files : Files) → holds before ≡ Some files → AreAnswered files dir day answer)
+      → IsReportOutcome kind day answer it → Comes it
+  report_comes kind (Checked head verdict) day answer asked told is =
+      rejected kind head verdict day answer asked told is.0 is.1
+  report_comes kind (Reported text) day answer asked told is = reported kind text day answer asked told is
+  report_comes kind NoPlan day answer asked told is = without_plan kind day answer asked told is.0 is.1
+  report_comes kind (Planned planned) day answer asked told is = absurd is
+  report_comes kind (Tried seed trips tried) day answer asked told is = absurd is
+  report_comes kind (Runs money) day answer asked told is = absurd is
+  report_comes kind (Stops fault) day answer asked told is = absurd is
+  report_comes kind Usage day answer asked told is = absurd is
+  report_comes kind (NoInputs error) day answer asked told is = absurd is
+  report_comes kind (NoAnswer error) day answer asked told is = absurd is
+
+  -- ---- a trial day
+
+  tried : (seed trips nodes rounds : ℕ) (day : Day) (answer : Answer) → AskToTry words seed trips nodes rounds
+      → day_of (trial_tables_of seed trips) ≡ Ok day → IsHeadline day nodes answer → Comes (Tried seed trips answer)
+  tried seed trips nodes rounds day answer asked made headline =
+      let is : IsTried words seed trips answer = record {
+        nodes = nodes;
+        rounds = rounds;
+        asked = asked;
+        day = day;
+        made = made;
+        headline = headline;
+      } in
+      record {
+        told = λ files tells. is;
+        sound = is;
+        usage = λ e. absurd cc;
+        understood = λ vain. absurd (vain (command.Trial seed trips nodes rounds) asked);
+        caused = tt;
+      }
+
+  pub trial_comes : (seed trips nodes rounds : ℕ) (it : Outcome) → AskToTry words seed trips nodes rounds
+      → IsTrialOutcome seed trips nodes it → Comes it
+  trial_comes seed trips nodes rounds (Tried seed' trips' answer) asked is =
+      subst (λ (s : ℕ). Comes (Tried s trips' answer)) (sym is.0)
+      (subst (λ (t : ℕ). Comes (Tried seed t answer)) (sym is.1)
+      (tried seed trips nodes rounds is.2 answer asked is.3 is.4))
+  trial_comes seed trips nodes rounds (NoInputs NoMemory) asked is = no_memory
+  trial_comes seed trips nodes rounds (NoInputs (Refused why)) asked is = absurd is
+  trial_comes seed trips nodes rounds (NoInputs (CannotRead read)) asked is = absurd is
+  trial_comes seed trips nodes rounds (Planned answer) asked is = absurd is
+  trial_comes seed trips nodes rounds (Runs money) asked is = absurd is
+  trial_comes seed trips nodes rounds (Stops fault) asked is = absurd is
+  trial_comes seed trips nodes rounds (Checked head verdict) asked is = absurd is
+  trial_comes seed trips nodes rounds (Reported text) asked is = absurd is
+  trial_comes seed trips nodes rounds NoPlan asked is = absurd is
+  trial_comes seed trips nodes rounds Usage asked is = absurd is
+  trial_comes seed trips nodes rounds (NoAnswer error) asked is = absurd is

@@ -10,11 +10,14 @@ use Rattle.planner_app.specs.declared.checking.AnswerVerdict.{AnswerVerdict}
 use Rattle.planner_app.specs.declared.checking.AnswerVerdict.TheVariants.{Valid, RunsDiffer, UnknownUnit}
 use Rattle.planner_app.specs.declared.checking.AnswerVerdict.TheVariants as verdict
 use Rattle.planner_app.specs.declared.outcome.Outcome.{Outcome}
-use Rattle.planner_app.specs.declared.outcome.Outcome.TheVariants.{Planned, Runs, Stops, Checked, Usage, NoInputs, NoAnswer}
+use Rattle.planner_app.specs.declared.outcome.Outcome.TheVariants.{Planned, Tried, Runs, Stops, Checked, Reported, NoPlan, Usage, NoInputs, NoAnswer}
 use Rattle.planner_app.specs.Headline.{status_said}
-use Rattle.planner_app.specs.Outcomes.{AskInVain, AskToCheck, AskToPlan, AskToSimulate, HasCause, IsOutcome}
-use Rattle.planner_app.specs.Statuses.{EndsCheck, EndsPlanning, EndsSimulation, IsUndisturbed, status_of, status_of_verdict, Wrote, Whole, Part, Nothing}
+use Rattle.planner_app.specs.Outcomes.{AskInVain, AskToCheck, AskToPlan, AskToReport, AskToSimulate, AskToTry, HasCause, IsOutcome}
+use Rattle.planner_app.specs.Statuses.{EndsCheck, EndsPlanning, EndsReport, EndsSimulation, EndsTrial, IsUndisturbed}
+use Rattle.planner_app.specs.Statuses.{status_of, status_of_verdict, Wrote, Whole, Part, Nothing}
+use Rattle.planner_app.specs.declared.reports.Report.{Report}
 use Rattle.planner_app.proofs.Endings.{check_ends, planning_ends, simulation_ends}
+use Rattle.planner_app.proofs.ReportEndings.{report_ends, trial_ended}
 
 -- a verdict has no status but 0 and 1
 few_of_verdict : (found : AnswerVerdict) (n : ℕ) → status_of_verdict found ≡ n → (n ≡ 0) ⊎ (n ≡ 1)
@@ -38,6 +41,9 @@ few_of_head (BoundedPlan bound cost) n e = (λ two. omega (arith, e, two), λ fi
 rose_by : {F : Type 0} (may_fail : F → List ℕ → Bool) (faults taken : F → ℕ) (words : List (List ℕ)) (before after : F) (outcome : Outcome)
     → status_of outcome ≡ 5 → HasCause may_fail faults taken words before after outcome → Rose (faults before) (faults after)
 rose_by may_fail faults taken words before after (Planned answer) e cause = absurd ((few_of_head answer.head 5 e).1 refl)
+rose_by may_fail faults taken words before after (Tried seed trips answer) e cause = absurd ((few_of_head answer.head 5 e).1 refl)
+rose_by may_fail faults taken words before after (Reported text) e cause = absurd (omega (arith, e))
+rose_by may_fail faults taken words before after NoPlan e cause = absurd (omega (arith, e))
 rose_by may_fail faults taken words before after (Runs money) e cause = absurd (omega (arith, e))
 rose_by may_fail faults taken words before after (Stops fault) e cause = absurd (omega (arith, e))
 rose_by may_fail faults taken words before after (Checked head found) e cause = absurd (no_such found 3 e)
@@ -56,6 +62,9 @@ rose_by may_fail faults taken words before after (NoAnswer (answer_error.Refused
 -- only words that are not understood end with status 2
 usage_by : (outcome : Outcome) → status_of outcome ≡ 2 → outcome ≡ Usage
 usage_by (Planned answer) e = absurd ((few_of_head answer.head 2 e).0 refl)
+usage_by (Tried seed trips answer) e = absurd ((few_of_head answer.head 2 e).0 refl)
+usage_by (Reported text) e = absurd (omega (arith, e))
+usage_by NoPlan e = absurd (omega (arith, e))
 usage_by (Runs money) e = absurd (omega (arith, e))
 usage_by (Stops fault) e = absurd (omega (arith, e))
 usage_by (Checked head found) e = absurd (no_such found 0 e)
@@ -102,6 +111,28 @@ module _ {F : Type 0} (holds : F → Option Files) (may_fail : F → List ℕ �
       by (Whole text d appends e) = subst (λ (n : ℕ). EndsPlanning files dir nodes n written written') (sym e)
           (planning_ends words files dir nodes rounds asked written written' outcome (is.told files tells) text d appends
           (own_undisturbed undisturbed))
+      by (Part text d appends rose six) = absurd (undisturbed.1 six)
+      by (Nothing same seven) = absurd (undisturbed.2 seven)
+
+  pub ends_report : (files : Files) (dir : List ℕ) (kind : Report) → holds before ≡ Some files → AskToReport words kind dir
+      → IsUndisturbed status → EndsReport files dir kind status written written'
+  ends_report files dir kind tells asked undisturbed = by wrote
+    where
+      by : Wrote outcome status written written' faults faults' → EndsReport files dir kind status written written'
+      by (Whole text d appends e) = subst (λ (n : ℕ). EndsReport files dir kind n written written') (sym e)
+          (report_ends words files dir kind asked written written' outcome (is.told files tells) text d appends
+          (own_undisturbed undisturbed))
+      by (Part text d appends rose six) = absurd (undisturbed.1 six)
+      by (Nothing same seven) = absurd (undisturbed.2 seven)
+
+  pub ends_trial : (seed trips nodes rounds : ℕ) → AskToTry words seed trips nodes rounds → IsUndisturbed status
+      → EndsTrial seed trips nodes status written written'
+  ends_trial seed trips nodes rounds asked undisturbed = by wrote
+    where
+      by : Wrote outcome status written written' faults faults' → EndsTrial seed trips nodes status written written'
+      by (Whole text d appends e) = subst (λ (n : ℕ). EndsTrial seed trips nodes n written written') (sym e)
+          (trial_ended words seed trips nodes rounds asked written written' holds may_fail counted taken before after outcome is text d
+          appends (own_undisturbed undisturbed))
       by (Part text d appends rose six) = absurd (undisturbed.1 six)
       by (Nothing same seven) = absurd (undisturbed.2 seven)
 

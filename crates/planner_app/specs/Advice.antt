@@ -2,7 +2,7 @@
 use Rattle.std.specs.Prelude.{ℕ, ◌+◌, ◌*◌, Bool, List, ⊤}
 use Rattle.search.specs.Asking.{AreAsked, in_rounds}
 use Rattle.planner_app.specs.declared.outcome.Outcome.{Outcome}
-use Rattle.planner_app.specs.declared.outcome.Outcome.TheVariants.{Planned}
+use Rattle.planner_app.specs.declared.outcome.Outcome.TheVariants.{Planned, Tried}
 use Rattle.planner_app.specs.Headline.{open_leaves}
 
 -- Where an answer comes of so many rounds, each advisor that has not quit was asked once at least for each branching and
@@ -10,6 +10,9 @@ use Rattle.planner_app.specs.Headline.{open_leaves}
 -- branching.
 abbrev pub AreAskedFor : {A : Type 0} → ℕ → Outcome → List A → List A → (A → ℕ) → (A → Bool) → Type 0
 AreAskedFor rounds (Planned answer) before after asked has_quit =
+    AreAsked before after asked has_quit (in_rounds rounds (answer.branchings + open_leaves answer))
+    (rounds * (2 * answer.branchings + 1))
+AreAskedFor rounds (Tried seed trips answer) before after asked has_quit =
     AreAsked before after asked has_quit (in_rounds rounds (answer.branchings + open_leaves answer))
     (rounds * (2 * answer.branchings + 1))
 AreAskedFor rounds other before after asked has_quit = ⊤

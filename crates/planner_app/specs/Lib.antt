@@ -9,8 +9,11 @@ pub mod AnswerFiles
 -- the lines that are written
 pub mod Lines
 pub mod CheckTexts
+pub mod ReportTexts
+pub mod TrialTexts
 -- what a run comes to, and the document and the status of it
 pub mod Outcomes
+pub mod Reporting
 pub mod Texts
 pub mod Statuses
 pub mod Advice

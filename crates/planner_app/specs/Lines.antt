@@ -43,9 +43,24 @@ runs_line cost = codes "runs " ++ (decimal cost ++ line_end)
 abbrev pub stops_line : StepFault → List ℕ
 stops_line fault = codes "stops: " ++ (fault_text fault ++ line_end)
 
--- the words ask for nothing that can be done
-abbrev pub usage_line : List ℕ
-usage_line = codes "usage" ++ line_end
+-- how the program is used: the commands, one a line
+abbrev pub usage_text : List ℕ
+usage_text =
+    codes "usage: railplan plan DIR [--nodes N] [--rounds K]\n"
+    ++ (codes "       railplan simulate DIR\n"
+    ++ (codes "       railplan check DIR\n"
+    ++ (codes "       railplan duties DIR\n"
+    ++ (codes "       railplan yards DIR\n"
+    ++ (codes "       railplan costs DIR\n"
+    ++ codes "       railplan trial SEED TRIPS [--nodes N] [--rounds K]\n")))))
+
+-- a valid answer has no plan to report on
+abbrev pub no_plan_line : List ℕ
+no_plan_line = codes "no plan" ++ line_end
+
+-- which trial day was planned
+abbrev pub trial_line : ℕ → ℕ → List ℕ
+trial_line seed trips = codes "trial " ++ (decimal seed ++ (codes " " ++ (decimal trips ++ line_end)))
 
 -- a file is refused, by its name and why
 abbrev pub file_refused_line : List ℕ → List ℕ → List ℕ

@@ -3,6 +3,7 @@ use Rattle.std.specs.Prelude.{ℕ, ◌≡◌, ◌⊎◌, List, Bool, true, false
 use Rattle.rail_csv.specs.declared.rows.Table.{Table}
 use Rattle.rail_csv.specs.declared.rows.Table.TheVariants as table
 use Rattle.rail_io.specs.Folders.{Files}
+use Rattle.timetable.specs.Build.{day_of}
 use Rattle.timetable.specs.Day.{Day}
 use Rattle.timetable.specs.Running as running
 use Rattle.timetable.specs.Cost.{plan_cost}
@@ -18,21 +19,27 @@ use Rattle.day_simulator.specs.Finish.{simulation}
 use Rattle.day_simulator.specs.Laws.{IsInTurn}
 use Rattle.answer_text.specs.declared.answer.Answer.{Answer}
 use Rattle.answer_text.specs.declared.answer.Head.{Head}
+use Rattle.answer_text.specs.Limits.{has_plan}
+use Rattle.trial_day.specs.Trial.{trial_tables_of}
 use Rattle.planner_app.specs.declared.answer_file.AnswerError.{AnswerError}
 use Rattle.planner_app.specs.declared.checking.AnswerVerdict.{AnswerVerdict}
 use Rattle.planner_app.specs.declared.checking.AnswerVerdict.TheVariants.{Valid}
 use Rattle.planner_app.specs.declared.command.Command.{Command}
 use Rattle.planner_app.specs.declared.command.Command.TheVariants as command
 use Rattle.planner_app.specs.declared.outcome.Outcome.{Outcome}
-use Rattle.planner_app.specs.declared.outcome.Outcome.TheVariants.{Planned, Runs, Stops, Checked, Usage, NoInputs, NoAnswer}
+use Rattle.planner_app.specs.declared.outcome.Outcome.TheVariants.{Planned, Tried, Runs, Stops, Checked, Reported, NoPlan, Usage, NoInputs, NoAnswer}
 use Rattle.planner_app.specs.AnswerFiles.{IsAnswerCaused, IsAnswerOf, IsWrongAnswer, answer_bytes}
-use Rattle.planner_app.specs.Headline.{IsHeadline, IsTrueOf}
+use Rattle.planner_app.specs.declared.reports.Report.{Report}
+use Rattle.planner_app.specs.declared.reports.Report.TheVariants as report
+use Rattle.planner_app.specs.Headline.{IsHeadline, IsTrueOf, IsValid}
 use Rattle.planner_app.specs.PlainForm.{IsPlainForm}
+use Rattle.planner_app.specs.ReportTexts.{report_text}
 use Rattle.planner_app.specs.Verdicts.{IsAnswerVerdict}
 
 -- ---- what the words ask for
 
--- to plan the day of a folder, to run the plan of a folder, or to check the answer of a folder
+-- to plan the day of a folder, to run the plan of a folder, to check the answer of a folder, to report on its plan, or to
+-- plan a trial day
 abbrev pub AskToPlan : List (List ℕ) → List ℕ → ℕ → ℕ → Type 0
 AskToPlan words dir nodes rounds = IsPlainForm words (command.Plan dir nodes rounds)
 
@@ -42,16 +49,26 @@ AskToSimulate words dir = IsPlainForm words (command.Simulate dir)
 abbrev pub AskToCheck : List (List ℕ) → List ℕ → Type 0
 AskToCheck words dir = IsPlainForm words (command.Check dir)
 
--- the commands that can be run
-abbrev pub can_run : Command → Bool
-can_run (command.Plan dir nodes rounds) = true
-can_run (command.Simulate dir) = true
-can_run (command.Check dir) = true
-can_run other = false
+-- the command of a report on the answer of a folder
+abbrev pub command_for : Report → List ℕ → Command
+command_for report.Duties dir = command.Duties dir
+command_for report.Yards dir = command.Yards dir
+command_for report.Costs dir = command.Costs dir
 
--- the words are the plain form of no command, or ask for what can't be run
+abbrev pub AskToReport : List (List ℕ) → Report → List ℕ → Type 0
+AskToReport words kind dir = IsPlainForm words (command_for kind dir)
+
+abbrev pub AskToTry : List (List ℕ) → ℕ → ℕ → ℕ → ℕ → Type 0
+AskToTry words seed trips nodes rounds = IsPlainForm words (command.Trial seed trips nodes rounds)
+
+-- the words are the plain form of no command
 abbrev pub AskInVain : List (List ℕ) → Type 0
-AskInVain words = (asked : Command) → IsPlainForm words asked → can_run asked ≡ false
+AskInVain words = (asked : Command) → ¬ IsPlainForm words asked
+
+-- the words grant so many branchings and so many rounds to the search for a plan
+abbrev pub Grants : List (List ℕ) → ℕ → ℕ → Type 0
+Grants words nodes rounds = ((dir : List ℕ) × AskToPlan words dir nodes rounds)
+    ⊎ ((seed : ℕ) × (trips : ℕ) × AskToTry words seed trips nodes rounds)
 
 -- the folder that a command works on
 abbrev pub folder_of : Command → Option (List ℕ)
@@ -71,14 +88,16 @@ reads_plan other = false
 -- whether a command reads the answer of its folder, beside the tables of its day
 abbrev pub reads_answer : Command → Bool
 reads_answer (command.Check dir) = true
+reads_answer (command.Duties dir) = true
+reads_answer (command.Yards dir) = true
+reads_answer (command.Costs dir) = true
 reads_answer other = false
 
--- the words ask for a command on this folder, one that can be run
+-- the words ask for a command on this folder
 pub record AskAbout (words : List (List ℕ)) (dir : List ℕ) : Type 0 where
   pub named : Command
   pub asked : IsPlainForm words named
   pub folder : folder_of named ≡ Some dir
-  pub runs : can_run named ≡ true
 
 -- ---- what an outcome says of the files
 
@@ -88,6 +107,15 @@ pub record IsPlanned (words : List (List ℕ)) (day : Day) (answer : Answer) : T
   pub nodes : ℕ
   pub rounds : ℕ
   pub asked : AskToPlan words dir nodes rounds
+  pub headline : IsHeadline day nodes answer
+
+-- An answer to the trial day of a seed and a number of trips, likewise.
+pub record IsTried (words : List (List ℕ)) (seed trips : ℕ) (answer : Answer) : Type 0 where
+  pub nodes : ℕ
+  pub rounds : ℕ
+  pub asked : AskToTry words seed trips nodes rounds
+  pub day : Day
+  pub made : day_of (trial_tables_of seed trips) ≡ Ok day
   pub headline : IsHeadline day nodes answer
 
 -- the files are accepted as this day and this plan of it
@@ -111,14 +139,43 @@ pub record IsVerdictOn (day : Day) (answer : Answer) (head : Head) (verdict : An
   pub is : IsAnswerVerdict day answer verdict
   pub holds : verdict ≡ Valid → IsTrueOf day answer
 
--- the answer of the files was checked
+-- the answer of the files was checked, alone or before a report, which is told only where the answer is valid
 pub record IsChecked (words : List (List ℕ)) (files : Files) (head : Head) (verdict : AnswerVerdict) : Type 0 where
   pub dir : List ℕ
-  pub asked : AskToCheck words dir
+  pub asked : AskAbout words dir
+  pub reads : reads_answer asked.named ≡ true
+  pub alone : verdict ≡ Valid → AskToCheck words dir
   pub day : Day
   pub answer : Answer
   pub accepted : AreAnswered files dir day answer
   pub on : IsVerdictOn day answer head verdict
+
+-- a report on the plan of a valid answer of a day
+pub record IsReportOf (kind : Report) (day : Day) (answer : Answer) (text : List ℕ) : Type 0 where
+  pub valid : IsValid day answer
+  pub planned : IsTrue (has_plan answer.head)
+  pub is : text ≡ report_text kind day answer.runs
+
+-- the report on the answer of the files
+pub record IsReported (words : List (List ℕ)) (files : Files) (text : List ℕ) : Type 0 where
+  pub dir : List ℕ
+  pub kind : Report
+  pub asked : AskToReport words kind dir
+  pub day : Day
+  pub answer : Answer
+  pub accepted : AreAnswered files dir day answer
+  pub of : IsReportOf kind day answer text
+
+-- the answer of the files is valid, and has no plan to report on
+pub record HasNoPlan (words : List (List ℕ)) (files : Files) : Type 0 where
+  pub dir : List ℕ
+  pub kind : Report
+  pub asked : AskToReport words kind dir
+  pub day : Day
+  pub answer : Answer
+  pub accepted : AreAnswered files dir day answer
+  pub valid : IsValid day answer
+  pub none : has_plan answer.head ≡ false
 
 -- the day of the files is accepted, and its answer isn't
 pub record IsAnswerRefused (words : List (List ℕ)) (files : Files) (error : AnswerError) : Type 0 where
@@ -150,24 +207,32 @@ pub record IsReached (words : List (List ℕ)) (files : Files) (read : Table) : 
 abbrev pub Says : List (List ℕ) → Files → Outcome → Type 0
 Says words files (Planned answer) =
     (day : Day) × (planned : IsPlanned words day answer) × (day_in files planned.dir ≡ Ok day)
+Says words files (Tried seed trips answer) = IsTried words seed trips answer
 Says words files (Runs money) =
     (inputs : Inputs) × AreInputs words files inputs × PlanRuns inputs × IsCost (plan_cost inputs.instance inputs.plan) money
 Says words files (Stops fault) =
     (inputs : Inputs) × AreInputs words files inputs × ¬ (PlanRuns inputs) × (simulation inputs.instance inputs.plan ≡ Err fault) × IsInTurn fault
 Says words files (Checked head verdict) = IsChecked words files head verdict
+Says words files (Reported text) = IsReported words files text
+Says words files NoPlan = HasNoPlan words files
 Says words files Usage = AskInVain words
 Says words files (NoInputs (Refused why)) = IsRefusedFor words files why
 Says words files (NoInputs (CannotRead table)) = IsReached words files table
 Says words files (NoInputs NoMemory) = ⊤
 Says words files (NoAnswer error) = IsAnswerRefused words files error
 
--- what an outcome says whatever the files are: an answer meets the headline for some day, a cost is never negative, a plan
--- stops for a cause of its own, and a verdict is that on an answer of a day
+-- what an outcome says whatever the files are: it is one of the command that is asked for, an answer meets the headline for some day, a cost is never negative, a plan
+-- stops for a cause of its own, a verdict is that on an answer of a day, and a report is of the plan of a valid answer
 abbrev pub IsSound : List (List ℕ) → Outcome → Type 0
 IsSound words (Planned answer) = (day : Day) × IsPlanned words day answer
-IsSound words (Runs money) = (cost : ℕ) × IsCost cost money
-IsSound words (Stops fault) = IsInTurn fault
-IsSound words (Checked head verdict) = (day : Day) × (answer : Answer) × IsVerdictOn day answer head verdict
+IsSound words (Tried seed trips answer) = IsTried words seed trips answer
+IsSound words (Runs money) = (dir : List ℕ) × AskToSimulate words dir × (cost : ℕ) × IsCost cost money
+IsSound words (Stops fault) = (dir : List ℕ) × AskToSimulate words dir × IsInTurn fault
+IsSound words (Checked head verdict) = (dir : List ℕ) × (about : AskAbout words dir) × (reads_answer about.named ≡ true)
+    × (day : Day) × (answer : Answer) × IsVerdictOn day answer head verdict
+IsSound words (Reported text) = (dir : List ℕ) × (kind : Report) × AskToReport words kind dir
+    × (day : Day) × (answer : Answer) × IsReportOf kind day answer text
+IsSound words NoPlan = (dir : List ℕ) × (kind : Report) × AskToReport words kind dir
 IsSound words Usage = ⊤
 IsSound words (NoInputs error) = ⊤
 IsSound words (NoAnswer error) = ⊤

@@ -1,8 +1,9 @@
 -- The status that a run ends with, and what it wrote.
-use Rattle.std.specs.Prelude.{ℕ, ◌≡◌, ◌≢◌, ◌⊎◌, ◌≤◌, ◌<◌, ◌↔◌, List, length, Option, Ok, Err, Bool, true, false, if◌then◌else◌}
+use Rattle.std.specs.Prelude.{ℕ, ◌≡◌, ◌≢◌, ◌⊎◌, ◌≤◌, ◌<◌, ◌↔◌, List, length, Option, Ok, Err, Bool, true, false, IsTrue, if◌then◌else◌}
 use Rattle.rail_base.specs.declared.limits.TheConstants.{MOST_FILE_BYTES}
 use Rattle.rail_io.specs.Folders.{Files, Rose}
 use Rattle.rail_io.specs.Sinks.{Appends, AppendsPart}
+use Rattle.timetable.specs.Build.{day_of}
 use Rattle.timetable.specs.Day.{Day}
 use Rattle.day_files.specs.declared.errors.Refusal.{Refusal}
 use Rattle.day_files.specs.declared.errors.ReadError.TheVariants.{CannotRead, Refused, NoMemory}
@@ -12,16 +13,21 @@ use Rattle.answer_text.specs.declared.answer.Answer.{Answer}
 use Rattle.answer_text.specs.declared.refusal.AnswerRefusal.{AnswerRefusal}
 use Rattle.answer_text.specs.declared.refusal.AnswerRefusal.TheVariants as answer_refusal
 use Rattle.answer_text.specs.Grammar.{IsRefused}
+use Rattle.answer_text.specs.Limits.{has_plan}
 use Rattle.answer_text.specs.Texts.{text_of}
+use Rattle.trial_day.specs.Trial.{trial_tables_of}
 use Rattle.planner_app.specs.declared.answer_file.AnswerError.TheVariants as answer_error
 use Rattle.planner_app.specs.declared.checking.AnswerVerdict.{AnswerVerdict}
 use Rattle.planner_app.specs.declared.checking.AnswerVerdict.TheVariants.{Valid}
 use Rattle.planner_app.specs.declared.outcome.Outcome.{Outcome}
-use Rattle.planner_app.specs.declared.outcome.Outcome.TheVariants.{Planned, Runs, Stops, Checked, Usage, NoInputs, NoAnswer}
+use Rattle.planner_app.specs.declared.outcome.Outcome.TheVariants.{Planned, Tried, Runs, Stops, Checked, Reported, NoPlan, Usage, NoInputs, NoAnswer}
+use Rattle.planner_app.specs.declared.reports.Report.{Report}
 use Rattle.planner_app.specs.AnswerFiles.{answer_bytes}
 use Rattle.planner_app.specs.Headline.{IsHeadline, IsTrueOf, IsValid, status_said}
 use Rattle.planner_app.specs.Outcomes.{AreAnswered, PlanRuns}
+use Rattle.planner_app.specs.ReportTexts.{report_text}
 use Rattle.planner_app.specs.Texts.{IsDocument}
+use Rattle.planner_app.specs.TrialTexts.{trial_text}
 
 -- ---- what the files say of the status
 
@@ -57,6 +63,11 @@ pub record EndsSimulation (files : Files) (dir : List ℕ) (status : ℕ) : Type
 abbrev pub IsAnswerFileRefused : List ℕ → Type 0
 IsAnswerFileRefused bytes = (MOST_FILE_BYTES < length bytes) ⊎ ((refusal : AnswerRefusal) × IsRefused bytes refusal)
 
+-- a table is refused, or the answer is
+abbrev pub IsAnswerRefusedIn : Files → List ℕ → Type 0
+IsAnswerRefusedIn files dir = ((why : Refusal) × (day_in files dir ≡ Err why))
+    ⊎ ((day : Day) × (day_in files dir ≡ Ok day) × IsAnswerFileRefused (answer_bytes files dir))
+
 -- the status with which an answer of a folder is checked
 pub record EndsCheck (files : Files) (dir : List ℕ) (status : ℕ) : Type 0 where
   -- 0 exactly where the files are accepted, and the answer is valid
@@ -66,8 +77,32 @@ pub record EndsCheck (files : Files) (dir : List ℕ) (status : ℕ) : Type 0 wh
   -- 1 exactly where they are accepted, and it isn't
   pub invalid : (status ≡ 1) ↔ ((day : Day) × (answer : Answer) × AreAnswered files dir day answer × ¬ (IsValid day answer))
   -- 3 exactly where a table or the answer is refused
-  pub refused : (status ≡ 3) ↔ (((why : Refusal) × (day_in files dir ≡ Err why))
-      ⊎ ((day : Day) × (day_in files dir ≡ Ok day) × IsAnswerFileRefused (answer_bytes files dir)))
+  pub refused : (status ≡ 3) ↔ IsAnswerRefusedIn files dir
+
+-- the status with which a report on the answer of a folder ends, and what was written
+pub record EndsReport (files : Files) (dir : List ℕ) (kind : Report) (status : ℕ)
+    (before after : Option (List ℕ)) : Type 0 where
+  -- 0 exactly where the files are accepted, and the answer is valid and has a plan
+  pub reported : (status ≡ 0) ↔ ((day : Day) × (answer : Answer) × AreAnswered files dir day answer × IsValid day answer
+      × IsTrue (has_plan answer.head))
+  -- then the report on this plan was written
+  pub written : status ≡ 0 → (day : Day) × (answer : Answer) × AreAnswered files dir day answer
+      × Appends (report_text kind day answer.runs) before after
+  -- 1 exactly where they are accepted, and the answer isn't valid or has no plan
+  pub none : (status ≡ 1) ↔ ((day : Day) × (answer : Answer) × AreAnswered files dir day answer
+      × ((¬ IsValid day answer) ⊎ (has_plan answer.head ≡ false)))
+  -- 3 exactly where a table or the answer is refused
+  pub refused : (status ≡ 3) ↔ IsAnswerRefusedIn files dir
+
+-- the status with which a trial day is planned, and what was written: the summary of an answer to the day of the trial's
+-- tables, which meets the headline
+pub record EndsTrial (seed trips nodes status : ℕ) (before after : Option (List ℕ)) : Type 0 where
+  pub day : Day
+  pub made : day_of (trial_tables_of seed trips) ≡ Ok day
+  pub answer : Answer
+  pub headline : IsHeadline day nodes answer
+  pub says : status ≡ status_said answer.head
+  pub written : Appends (trial_text seed trips answer) before after
 
 -- the statuses that there are
 abbrev pub IsStatus : ℕ → Type 0
@@ -83,9 +118,12 @@ status_of_verdict other = 1
 -- the status of an outcome whose document was written, and of want of memory
 abbrev pub status_of : Outcome → ℕ
 status_of (Planned answer) = status_said answer.head
+status_of (Tried seed trips answer) = status_said answer.head
 status_of (Runs cost) = 0
 status_of (Stops fault) = 1
 status_of (Checked head verdict) = status_of_verdict verdict
+status_of (Reported text) = 0
+status_of NoPlan = 1
 status_of Usage = 2
 status_of (NoInputs (Refused why)) = 3
 status_of (NoInputs (CannotRead table)) = 5

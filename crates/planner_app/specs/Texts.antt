@@ -5,17 +5,22 @@ use Rattle.answer_text.specs.Texts.{text_of}
 use Rattle.answer_text.specs.declared.refusal.AnswerRefusal.TheVariants as answer_refusal
 use Rattle.planner_app.specs.declared.answer_file.AnswerError.TheVariants as answer_error
 use Rattle.planner_app.specs.declared.outcome.Outcome.{Outcome}
-use Rattle.planner_app.specs.declared.outcome.Outcome.TheVariants.{Planned, Runs, Stops, Checked, Usage, NoInputs, NoAnswer}
+use Rattle.planner_app.specs.declared.outcome.Outcome.TheVariants.{Planned, Tried, Runs, Stops, Checked, Reported, NoPlan, Usage, NoInputs, NoAnswer}
 use Rattle.planner_app.specs.CheckTexts.{check_line}
-use Rattle.planner_app.specs.Lines.{answer_file, answer_refusal_text, cannot_read_line, file_refused_line, file_unread_line, refused_line, runs_line, stops_line, too_long_text, usage_line}
+use Rattle.planner_app.specs.Lines.{answer_file, answer_refusal_text, cannot_read_line, file_refused_line, file_unread_line, no_plan_line}
+use Rattle.planner_app.specs.Lines.{refused_line, runs_line, stops_line, too_long_text, usage_text}
+use Rattle.planner_app.specs.TrialTexts.{trial_text}
 
 -- the document of an outcome; there is none for want of memory, and a cost is never negative
 abbrev pub IsDocument : Outcome → List ℕ → Type 0
 IsDocument (Planned answer) text = text ≡ text_of answer
+IsDocument (Tried seed trips answer) text = text ≡ trial_text seed trips answer
 IsDocument (Runs money) text = (cost : ℕ) → money.0 ≡ pos cost → text ≡ runs_line cost
 IsDocument (Stops fault) text = text ≡ stops_line fault
 IsDocument (Checked head verdict) text = text ≡ check_line head verdict
-IsDocument Usage text = text ≡ usage_line
+IsDocument (Reported report) text = text ≡ report
+IsDocument NoPlan text = text ≡ no_plan_line
+IsDocument Usage text = text ≡ usage_text
 IsDocument (NoInputs (Refused refusal)) text = text ≡ refused_line refusal
 IsDocument (NoInputs (CannotRead table)) text = text ≡ cannot_read_line table
 IsDocument (NoInputs NoMemory) text = ⊥

@@ -112,7 +112,7 @@ fn are_known(instance: &Instance, units: &[UnitNo]) -> bool
 }
 
 /// The same lists again.
-fn copy_of(alloc: Global, lists: &[UnitList]) -> Result<Vec<UnitList>, NoMemory>
+pub(crate) fn copy_of(alloc: Global, lists: &[UnitList]) -> Result<Vec<UnitList>, NoMemory>
     ensures { IfOk result (λ copy. copy.items ≡ lists.now) }
 {
     let mut copy = Vec::new(alloc);
@@ -132,7 +132,11 @@ fn list_again(alloc: Global, list: &UnitList) -> Result<UnitList, NoMemory>
 }
 
 /// The picks of a plan that runs: the compositions of its lists.
-fn picks_of_plan(alloc: Global, instance: &Instance, plan: &NamedPlan) -> Result<Picks, NoMemory>
+pub(crate) fn picks_of_plan(
+    alloc: Global,
+    instance: &Instance,
+    plan: &NamedPlan,
+) -> Result<Picks, NoMemory>
     requires runs { running.Runs instance.now plan.now }
     ensures { IfOk result (RunsByPicks instance.now plan.now) }
 {

@@ -1,33 +1,86 @@
-//! The document of an outcome: an answer, or one line with the text of a refusal or a fault.
+//! The document of an outcome: an answer, a report, or one line with the text of a refusal or a fault.
 
-ghost use Rattle.std.specs.Prelude.{◌≡◌, ℕ, pos, IfOk, string_bytes};
-ghost use Rattle.planner_app.specs.Lines.{answer_file, answer_refusal_text, balance_text, cannot_read_line, fault_text, file_refused_line, not_ready_text, refused_line, runs_line, stops_line};
+ghost use Rattle.std.specs.Prelude.{◌≡◌, ◌++◌, ℕ, pos, IfOk, string_bytes};
+ghost use Rattle.answer_text.specs.Texts.{head_line};
+ghost use Rattle.planner_app.specs.Lines.{answer_file, answer_refusal_text, balance_text, cannot_read_line, fault_text, file_refused_line, line_end, not_ready_text};
+ghost use Rattle.planner_app.specs.Lines.{refused_line, runs_line, stops_line, usage_text};
 ghost use Rattle.planner_app.specs.Texts.{IsDocument};
+ghost use Rattle.planner_app.specs.TrialTexts.{summary_by, trial_text};
 
 use crate::answer_file::AnswerError;
 use crate::check_lines::check_line;
 use crate::outcome::Outcome;
-use answer_text::{AnswerRefusal, print};
+use answer_text::{Answer, AnswerRefusal, Head, print, write_head};
 use day_files::{ReadError, Refusal, file_name};
 use day_simulator::StepFault;
 use rail_base::{Money, NoMemory, StationNo, TripNo, TypeNo, UnitNo};
 use rail_csv::Table;
 use std::alloc::Global;
 
-/// The document that a run writes for its outcome: the text of an answer, or one line with its line feed. There is none
-/// for want of memory, which is the only refusal.
+/// The document that a run writes for its outcome: the text of an answer, a report, how the program is used, or one line
+/// with its line feed. There is none for want of memory, which is the only refusal.
 pub(crate) fn document(alloc: Global, outcome: &Outcome) -> Result<Vec<u8>, NoMemory>
     ensures { IfOk result (λ text. IsDocument outcome.now text.items) }
 {
     match outcome {
         Outcome::Planned(answer) => print(alloc, answer),
+        Outcome::Tried {
+            seed,
+            trips,
+            answer,
+        } => trial_text(alloc, *seed, *trips, answer),
         Outcome::Runs(cost) => Ok(runs_line(alloc, *cost)?.into_bytes()),
         Outcome::Stops(fault) => Ok(stops_line(alloc, fault)?.into_bytes()),
         Outcome::Checked { head, verdict } => Ok(check_line(alloc, head, verdict)?.into_bytes()),
-        Outcome::Usage => Ok(String::from_str(alloc, "usage\n")?.into_bytes()),
+        Outcome::Reported(report) => Ok(report.items().to_vec(alloc)?),
+        Outcome::NoPlan => Ok(String::from_str(alloc, "no plan\n")?.into_bytes()),
+        Outcome::Usage => Ok(usage_text(alloc)?.into_bytes()),
         Outcome::NoInputs(error) => Ok(no_inputs_line(alloc, error)?.into_bytes()),
         Outcome::NoAnswer(error) => Ok(no_answer_line(alloc, error)?.into_bytes()),
     }
+}
+
+/// How the program is used.
+fn usage_text(alloc: Global) -> Result<String, NoMemory>
+    ensures { IfOk result (λ text. string_bytes text ≡ usage_text) }
+{
+    let mut text = String::from_str(alloc, "usage: railplan plan DIR [--nodes N] [--rounds K]\n")?;
+    text.push_str("       railplan simulate DIR\n")?;
+    text.push_str("       railplan check DIR\n")?;
+    text.push_str("       railplan duties DIR\n")?;
+    text.push_str("       railplan yards DIR\n")?;
+    text.push_str("       railplan costs DIR\n")?;
+    text.push_str("       railplan trial SEED TRIPS [--nodes N] [--rounds K]\n")?;
+    Ok(text)
+}
+
+/// The text of a trial day that was planned: which day it is, and what the answer says where that is all, else the answer.
+fn trial_text(alloc: Global, seed: u32, trips: u32, answer: &Answer) -> Result<Vec<u8>, NoMemory>
+    ensures { IfOk result (λ text. text.items ≡ trial_text seed trips answer.now) }
+{
+    let mut text = format!(in alloc; "trial {seed} {trips}\n")?.into_bytes();
+    let summary = summary_of(alloc, answer)?;
+    text.extend_from_slice(summary.as_slice())?;
+    Ok(text)
+}
+
+/// What an answer says, in a line, where it says all of the day; else the whole answer.
+fn summary_of(alloc: Global, answer: &Answer) -> Result<Vec<u8>, NoMemory>
+    ensures { IfOk result (λ text. text.items ≡ summary_by answer.now.head answer.now) }
+{
+    match answer.head {
+        Head::Optimal { .. } | Head::Infeasible => head_line(alloc, &answer.head),
+        Head::Bounded { .. } | Head::BoundedPlan { .. } => print(alloc, answer),
+    }
+}
+
+/// The line that tells what an answer says.
+fn head_line(alloc: Global, head: &Head) -> Result<Vec<u8>, NoMemory>
+    ensures { IfOk result (λ text. text.items ≡ head_line head.now ++ line_end) }
+{
+    let mut line = String::new(alloc);
+    write_head(&mut line, head)?;
+    Ok(line.into_bytes())
 }
 
 /// The line of a day or a plan that was not read. There is none for want of memory.

@@ -1,4 +1,4 @@
-//! The program's one call: it reads a day, and says whether a plan of it runs, or whether an answer to it is valid.
+//! The program's one call: it reads a day, plans it, and says whether a plan of it runs, or whether an answer to it is valid.
 #![tactic(auto)]
 
 pub mod answer_file;
@@ -11,6 +11,7 @@ mod document;
 mod numbers;
 pub mod outcome;
 mod planning;
+pub mod reports;
 mod run;
 mod taken_words;
 mod top;
@@ -19,5 +20,8 @@ pub use answer_file::AnswerError;
 pub use checking::{AnswerVerdict, check_answer};
 pub use command::{Command, Text};
 pub use command_words::{WordsRefusal, read_words};
+pub use day_reports::{costs_table, duties_table, yards_table};
 pub use outcome::Outcome;
+pub use reports::Report;
 pub use top::railplan;
+pub use trial_day::trial_tables;

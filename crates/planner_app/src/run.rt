@@ -4,9 +4,11 @@ ghost use Rattle.std.specs.Prelude.{ℕ, List, ◌≡◌, ◌≤◌, ◌+◌, �
 ghost use Rattle.rail_base.specs.declared.limits.TheConstants.{MOST_BRANCHINGS, MOST_ROUNDS, MOST_TRIPS};
 ghost use Rattle.rail_io.specs.Folders.{OnlyReads};
 ghost use Rattle.search.specs.Asking.{AreAsked};
+ghost use Rattle.trial_day.specs.Trial.{IsTrialSize};
 ghost use Rattle.planner_app.specs.Advice.{AreAskedFor};
 ghost use Rattle.planner_app.specs.Headline.{IsTrueOf};
-ghost use Rattle.planner_app.specs.Outcomes.{AskToCheck, AskToPlan, AskToSimulate, IsOutcome};
+ghost use Rattle.planner_app.specs.Outcomes.{AskToCheck, AskToPlan, AskToSimulate, Grants, IsOutcome};
+ghost use Rattle.planner_app.specs.Reporting.{IsTrialOutcome};
 ghost use Rattle.planner_app.specs.Verdicts.{IsAnswerVerdict};
 
 use crate::answer_file::answer_in;
@@ -15,6 +17,7 @@ use crate::command::Command;
 use crate::command_words::{WordsRefusal, read_words};
 use crate::outcome::Outcome;
 use crate::planning::answer_for;
+use crate::reports::{Report, reported};
 use advisors::Advisor;
 use answer_text::Answer;
 use day_files::{ReadError, day_in, inputs_in};
@@ -24,6 +27,7 @@ use rail_io::Folder;
 use std::alloc::Global;
 use timetable::Instance;
 use transitions::Graphs;
+use trial_day::trial_instance;
 
 /// What the words and the folder come to.
 pub(crate) fn outcome_of<F: Folder>(
@@ -35,11 +39,11 @@ pub(crate) fn outcome_of<F: Folder>(
     requires asked { All (λ advisor. asked advisor ≤ 2 ^ 63) advisors.old.items }
     ensures outcome { IsOutcome F.holds F.may_fail F.faults F.taken words.now folder.old folder.new result }
     ensures only_reads { OnlyReads F.holds F.may_fail F.faults F.taken folder.old folder.new }
-    ensures asked { (dir : List ℕ) (nodes rounds : ℕ) → AskToPlan words.now dir nodes rounds
+    ensures asked { (nodes rounds : ℕ) → Grants words.now nodes rounds
         → AreAsked advisors.old.items advisors.new.items asked has_quit 0 (rounds * (2 * nodes + 1)) }
-    ensures asked_for { (dir : List ℕ) (nodes rounds : ℕ) → AskToPlan words.now dir nodes rounds
+    ensures asked_for { (nodes rounds : ℕ) → Grants words.now nodes rounds
         → AreAskedFor rounds result advisors.old.items advisors.new.items asked has_quit }
-    ensures unasked { ((dir : List ℕ) (nodes rounds : ℕ) → ¬ AskToPlan words.now dir nodes rounds)
+    ensures unasked { ((nodes rounds : ℕ) → ¬ Grants words.now nodes rounds)
         → advisors.new.items ≡ advisors.old.items }
 {
     match read_words(alloc, words) {
@@ -48,10 +52,17 @@ pub(crate) fn outcome_of<F: Folder>(
         }
         Ok(Command::Simulate { dir }) => simulated(alloc, folder, dir.as_str()),
         Ok(Command::Check { dir }) => checked(alloc, folder, dir.as_str()),
-        Ok(Command::Duties { .. }) => Outcome::Usage,
-        Ok(Command::Yards { .. }) => Outcome::Usage,
-        Ok(Command::Costs { .. }) => Outcome::Usage,
-        Ok(Command::Trial { .. }) => Outcome::Usage,
+        Ok(Command::Duties { dir }) => reported(alloc, folder, dir.as_str(), Report::Duties),
+        Ok(Command::Yards { dir }) => reported(alloc, folder, dir.as_str(), Report::Yards),
+        Ok(Command::Costs { dir }) => reported(alloc, folder, dir.as_str(), Report::Costs),
+        Ok(
+            Command::Trial {
+                seed,
+                trips,
+                nodes,
+                rounds,
+            },
+        ) => tried(alloc, seed, trips, nodes, rounds, advisors),
         Err(WordsRefusal::NotUnderstood) => Outcome::Usage,
         Err(WordsRefusal::NoMemory) => Outcome::NoInputs(ReadError::NoMemory),
     }
@@ -81,6 +92,36 @@ fn planned<F: Folder>(
     };
     match answer_for(alloc, &instance, nodes, rounds, advisors) {
         Ok(answer) => Outcome::Planned(answer),
+        Err(NoMemory) => Outcome::NoInputs(ReadError::NoMemory),
+    }
+}
+
+/// Plans the trial day of a seed and a number of trips.
+fn tried(
+    alloc: Global,
+    seed: u32,
+    trips: u32,
+    nodes: u32,
+    rounds: u8,
+    advisors: &mut Vec<Box<dyn Advisor>>,
+) -> Outcome
+    requires size { IsTrialSize trips }
+    requires nodes { nodes ≤ MOST_BRANCHINGS }
+    requires rounds { rounds ≤ MOST_ROUNDS }
+    requires asked { All (λ advisor. asked advisor ≤ 2 ^ 63) advisors.old.items }
+    ensures outcome { IsTrialOutcome seed trips nodes result }
+    ensures asked { AreAsked advisors.old.items advisors.new.items asked has_quit 0 (rounds * (2 * nodes + 1)) }
+    ensures asked_for { AreAskedFor rounds result advisors.old.items advisors.new.items asked has_quit }
+{
+    let Ok(instance) = trial_instance(alloc, seed, trips) else {
+        return Outcome::NoInputs(ReadError::NoMemory);
+    };
+    match answer_for(alloc, &instance, nodes, rounds, advisors) {
+        Ok(answer) => Outcome::Tried {
+            seed,
+            trips,
+            answer,
+        },
         Err(NoMemory) => Outcome::NoInputs(ReadError::NoMemory),
     }
 }
@@ -126,7 +167,7 @@ fn checked<F: Folder>(alloc: Global, folder: &mut F, dir: &str) -> Outcome
 }
 
 /// The verdict on an answer of the day.
-fn verdict_on(
+pub(crate) fn verdict_on(
     alloc: Global,
     instance: &Instance,
     answer: &Answer,

@@ -4,10 +4,13 @@ ghost use Rattle.std.specs.Prelude.{ℕ, List, ◌≡◌, ◌≤◌, ◌+◌, �
 ghost use Rattle.rail_io.specs.Folders.{Files, OnlyReads, Rose};
 ghost use Rattle.search.specs.Asking.{AreAsked};
 ghost use Rattle.planner_app.specs.declared.outcome.Outcome.{Outcome};
+ghost use Rattle.planner_app.specs.declared.reports.Report.{Report};
 ghost use Rattle.planner_app.specs.Advice.{AreAskedFor};
 ghost use Rattle.planner_app.specs.Headline.{status_said};
-ghost use Rattle.planner_app.specs.Outcomes.{AskInVain, AskToCheck, AskToPlan, AskToSimulate, IsOutcome};
-ghost use Rattle.planner_app.specs.Statuses.{EndsCheck, EndsPlanning, EndsSimulation, IsStatus, IsUndisturbed};
+ghost use Rattle.planner_app.specs.Outcomes.{AskInVain, AskToCheck, AskToPlan, AskToReport, AskToSimulate, AskToTry};
+ghost use Rattle.planner_app.specs.Outcomes.{Grants, IsOutcome};
+ghost use Rattle.planner_app.specs.Statuses.{EndsCheck, EndsPlanning, EndsReport, EndsSimulation, EndsTrial};
+ghost use Rattle.planner_app.specs.Statuses.{IsStatus, IsUndisturbed};
 ghost use Rattle.planner_app.specs.Statuses.{Wrote, status_of};
 
 use crate::answer_file::AnswerError;
@@ -38,10 +41,12 @@ fn status_of(outcome: &Outcome) -> u8
     ensures { result ≡ status_of outcome.now }
 {
     match outcome {
-        Outcome::Planned(answer) => status_said(answer.head),
+        Outcome::Planned(answer) | Outcome::Tried { answer, .. } => status_said(answer.head),
         Outcome::Runs(_) => 0,
         Outcome::Stops(_) => 1,
         Outcome::Checked { verdict, .. } => u8::from(*verdict != AnswerVerdict::Valid),
+        Outcome::Reported(_) => 0,
+        Outcome::NoPlan => 1,
         Outcome::Usage => 2,
         Outcome::NoInputs(ReadError::Refused(_)) => 3,
         Outcome::NoInputs(ReadError::CannotRead(_)) => 5,
@@ -68,8 +73,8 @@ fn write_outcome<K: Sink>(alloc: Global, outcome: &Outcome, out: &mut K) -> u8
 
 /// Runs the command that the words name over a folder, writes one document to the sink and answers the status.
 ///
-/// The first word stands for the program's name and is not looked at. Each command reads the six tables of a day,
-/// `types.csv`, `stations.csv`, `stock.csv`, `trips.csv`, `links.csv` and `weights.csv` in DIR.
+/// The first word stands for the program's name and is not looked at. Each command but `trial` reads the six tables of a
+/// day, `types.csv`, `stations.csv`, `stock.csv`, `trips.csv`, `links.csv` and `weights.csv` in DIR.
 ///
 /// - `plan DIR --nodes N --rounds K` plans the day by a search of at most N branchings, 200 where no N is given, and writes
 ///   an answer: the plan of named units, its cost, and a tree that proves what is said of all other plans. The advisors are
@@ -78,17 +83,20 @@ fn write_outcome<K: Sink>(alloc: Global, outcome: &Outcome, out: &mut K) -> u8
 /// - `simulate DIR` reads `plan.csv` as well, and says whether the plan runs and what it costs.
 /// - `check DIR` reads `answer.txt` as well, and says whether the answer is valid: its plan, if it has one, runs, and its
 ///   tree proves what it says of all plans.
+/// - `duties DIR`, `yards DIR` and `costs DIR` check `answer.txt` likewise, and write a report on its plan as a table.
+/// - `trial SEED TRIPS --nodes N --rounds K` makes a day of the seed, plans it like `plan`, and writes what the answer says,
+///   or the whole answer where it is bounded.
 ///
-/// | Status | Comes | Document |
-/// |---|---|---|
-/// | 0 | exactly where the files are accepted, and the answer found is optimal, the plan runs or the answer is valid | the answer, `runs` and the cost, or `valid` and what the answer says |
-/// | 1 | exactly where they are accepted, and no plan runs, the plan doesn't or the answer isn't valid | the answer, `stops:` and the first fault of the day, or `invalid:` and the first thing that is wrong |
-/// | 2 | exactly where the words are none of these commands | `usage` |
-/// | 3 | exactly where a file is refused | `refused`, the first such file and why |
-/// | 4 | exactly where the files are accepted, and the answer found is bounded: all branchings that are granted were made, and a leaf is open | the answer |
-/// | 5 | only where the count of failed reads rose in this call | `cannot read` and the file, one that is reached and may fail |
-/// | 6 | only where the count of failed writes rose in this call | a front of the document, and not all of it |
-/// | 7 | want of memory | nothing was written |
+/// | Status | Comes |
+/// |---|---|
+/// | 0 | exactly where the files are accepted, and the answer found is optimal, the plan runs, the answer is valid, or it is valid and has a plan to report on |
+/// | 1 | exactly where they are accepted, and no plan runs, the plan doesn't, the answer isn't valid, or it has no plan to report on |
+/// | 2 | exactly where the words are none of these commands |
+/// | 3 | exactly where a file is refused |
+/// | 4 | exactly where they are accepted, and the answer found is bounded: all granted branchings were made, and a leaf is open |
+/// | 5 | only where the count of failed reads rose in this call |
+/// | 6 | only where the count of failed writes rose in this call; a front of the document was written, and not all of it |
+/// | 7 | want of memory; nothing was written |
 ///
 /// Each "exactly where" yields to statuses 5, 6 and 7. What is said of the files holds where the folder tells what it
 /// holds, and what is said of the document where the sink tells what was written.
@@ -115,6 +123,11 @@ pub fn railplan<F: Folder, K: Sink>(
         → IsUndisturbed result → EndsSimulation files dir result }
     ensures check { (files : Files) (dir : List ℕ) → F.holds folder.old ≡ Some files → AskToCheck words.now dir
         → IsUndisturbed result → EndsCheck files dir result }
+    ensures report { (files : Files) (dir : List ℕ) (kind : Report) → F.holds folder.old ≡ Some files
+        → AskToReport words.now kind dir → IsUndisturbed result
+        → EndsReport files dir kind result (K.written out.old) (K.written out.new) }
+    ensures trial { (seed trips nodes rounds : ℕ) → AskToTry words.now seed trips nodes rounds → IsUndisturbed result
+        → EndsTrial seed trips nodes result (K.written out.old) (K.written out.new) }
     ensures usage { IsUndisturbed result → (result ≡ 2) ↔ AskInVain words.now }
 
     // The other statuses, and that there are no more.
@@ -127,13 +140,13 @@ pub fn railplan<F: Folder, K: Sink>(
     // it is an answer, the advisors were asked as it tells.
     ensures document { (outcome : Outcome) × IsOutcome F.holds F.may_fail F.faults F.taken words.now folder.old folder.new outcome
         × Wrote outcome result (K.written out.old) (K.written out.new) (K.faults out.old) (K.faults out.new)
-        × ((dir : List ℕ) (nodes rounds : ℕ) → AskToPlan words.now dir nodes rounds
+        × ((nodes rounds : ℕ) → Grants words.now nodes rounds
         → AreAskedFor rounds outcome advisors.old.items advisors.new.items asked has_quit) }
 
     // How often the advisors were asked, whatever the status is.
-    ensures asked { (dir : List ℕ) (nodes rounds : ℕ) → AskToPlan words.now dir nodes rounds
+    ensures asked { (nodes rounds : ℕ) → Grants words.now nodes rounds
         → AreAsked advisors.old.items advisors.new.items asked has_quit 0 (rounds * (2 * nodes + 1)) }
-    ensures unasked { ((dir : List ℕ) (nodes rounds : ℕ) → ¬ AskToPlan words.now dir nodes rounds)
+    ensures unasked { ((nodes rounds : ℕ) → ¬ Grants words.now nodes rounds)
         → advisors.new.items ≡ advisors.old.items }
 
     // What stays: the folder is only read, and no count falls.

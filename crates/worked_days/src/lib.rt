@@ -18,4 +18,6 @@ mod plan_tests;
 #[cfg(test)]
 mod refusal_tests;
 #[cfg(test)]
+mod report_tests;
+#[cfg(test)]
 mod simulate_tests;

@@ -204,13 +204,22 @@ fn a_sink_that_fails_keeps_a_front(rt: HostRuntime) -> Result<(), Fail> {
     Ok(())
 }
 
+const USAGE: &str = "usage: railplan plan DIR [--nodes N] [--rounds K]
+       railplan simulate DIR
+       railplan check DIR
+       railplan duties DIR
+       railplan yards DIR
+       railplan costs DIR
+       railplan trial SEED TRIPS [--nodes N] [--rounds K]
+";
+
 /// Asserts that words are not of the plain form.
 fn expect_usage(rt: &impl Abort, alloc: Global, texts: &[&str]) -> Result<(), NoMemory> {
     let words = words_of(rt, alloc, texts)?;
     let mut folder = folder_of(rt, alloc, &two_trips(), Vec::new(alloc))?;
     let mut out = MemorySink::new(alloc, 1000, 1000, Vec::new(alloc))?;
     assert!(rt; run(alloc, &words, &mut folder, &mut out)? == 2);
-    assert!(rt; out.written() == b"usage\n".as_slice());
+    assert!(rt; out.written() == USAGE.as_bytes());
     Ok(())
 }
 

@@ -1,11 +1,12 @@
-use Rattle.std.proofs.Common.{ℕ, List, [], Ok, ◌+◌, ◌*◌, ◌≡◌, refl, rules, sym, subst}
+use Rattle.std.proofs.Common.{ℕ, List, [], inl, inr, ◌+◌, ◌*◌, rules, subst}
 use Rattle.search.specs.Asking.{AreAsked}
 use Rattle.search.proofs.Asking.{are_unasked}
 use Rattle.planner_app.specs.declared.command.Command.TheVariants as command
 use Rattle.planner_app.specs.Advice.{AreAskedFor}
-use Rattle.planner_app.specs.Outcomes.{AskInVain, AskToCheck, AskToPlan, AskToSimulate}
-use Rattle.planner_app.proofs.Asking.{same_grant}
-use Rattle.planner_app.proofs.Outcomes.{in_vain, not_run}
+use Rattle.planner_app.specs.declared.reports.Report.TheVariants as report
+use Rattle.planner_app.specs.Outcomes.{AskToCheck, AskToPlan, AskToReport, AskToSimulate}
+use Rattle.planner_app.proofs.Asking.{plan_grants, trial_grants, trial_size, trial_within}
+use Rattle.planner_app.proofs.Outcomes.{in_vain, trial_comes}
 use Rattle.planner_app.proofs.run.outcome_of.Goals as goal
 
 pub returns-in-Ok-Plan-clause-outcome : goal.returns-in-Ok-Plan-clause-outcome
@@ -15,9 +16,9 @@ returns-in-Ok-Plan-clause-outcome g c =
     (c.in-Ok-Plan.ensures.meaning.understood (command.Plan c.in-Ok-Plan.dir c.in-Ok-Plan.nodes c.in-Ok-Plan.rounds) (search rules)))
 
 pub returns-in-Ok-Plan-clause-asked : goal.returns-in-Ok-Plan-clause-asked
-returns-in-Ok-Plan-clause-asked g c dir nodes rounds form =
-    let same = same_grant c.args.words.now c.in-Ok-Plan.dir dir c.in-Ok-Plan.nodes c.in-Ok-Plan.rounds nodes rounds
-    (c.in-Ok-Plan.ensures.meaning.understood (command.Plan c.in-Ok-Plan.dir c.in-Ok-Plan.nodes c.in-Ok-Plan.rounds) (search rules)) form in
+returns-in-Ok-Plan-clause-asked g c nodes rounds grants =
+    let same = plan_grants c.args.words.now c.in-Ok-Plan.dir c.in-Ok-Plan.nodes c.in-Ok-Plan.rounds nodes rounds
+    (c.in-Ok-Plan.ensures.meaning.understood (command.Plan c.in-Ok-Plan.dir c.in-Ok-Plan.nodes c.in-Ok-Plan.rounds) (search rules)) grants in
     subst (λ (k : ℕ). AreAsked c.args.advisors.now.items c.planned.new.advisors.items
     (λ b. (goal.Advisor-dyn g (b.vtable, b.value)).asked b.value)
     (λ b. (goal.Advisor-dyn g (b.vtable, b.value)).has_quit b.value) 0 (k * (2 * nodes + 1))) same.1
@@ -27,17 +28,54 @@ returns-in-Ok-Plan-clause-asked g c dir nodes rounds form =
     c.planned.ensures.asked)
 
 pub returns-in-Ok-Plan-clause-asked_for : goal.returns-in-Ok-Plan-clause-asked_for
-returns-in-Ok-Plan-clause-asked_for g c dir nodes rounds form =
-    let same = same_grant c.args.words.now c.in-Ok-Plan.dir dir c.in-Ok-Plan.nodes c.in-Ok-Plan.rounds nodes rounds
-    (c.in-Ok-Plan.ensures.meaning.understood (command.Plan c.in-Ok-Plan.dir c.in-Ok-Plan.nodes c.in-Ok-Plan.rounds) (search rules)) form in
+returns-in-Ok-Plan-clause-asked_for g c nodes rounds grants =
+    let same = plan_grants c.args.words.now c.in-Ok-Plan.dir c.in-Ok-Plan.nodes c.in-Ok-Plan.rounds nodes rounds
+    (c.in-Ok-Plan.ensures.meaning.understood (command.Plan c.in-Ok-Plan.dir c.in-Ok-Plan.nodes c.in-Ok-Plan.rounds) (search rules)) grants in
     subst (λ (k : ℕ). AreAskedFor k c.planned.result c.args.advisors.now.items c.planned.new.advisors.items
     (λ b. (goal.Advisor-dyn g (b.vtable, b.value)).asked b.value)
     (λ b. (goal.Advisor-dyn g (b.vtable, b.value)).has_quit b.value)) same.1 c.planned.ensures.asked_for
 
 pub returns-in-Ok-Plan-clause-unasked : goal.returns-in-Ok-Plan-clause-unasked
 returns-in-Ok-Plan-clause-unasked g c never =
-    absurd (never c.in-Ok-Plan.dir c.in-Ok-Plan.nodes c.in-Ok-Plan.rounds
-    (c.in-Ok-Plan.ensures.meaning.understood (command.Plan c.in-Ok-Plan.dir c.in-Ok-Plan.nodes c.in-Ok-Plan.rounds) (search rules)))
+    absurd (never c.in-Ok-Plan.nodes c.in-Ok-Plan.rounds
+    (inl (
+      c.in-Ok-Plan.dir,
+      (c.in-Ok-Plan.ensures.meaning.understood (command.Plan c.in-Ok-Plan.dir c.in-Ok-Plan.nodes c.in-Ok-Plan.rounds) (search rules)),
+    )))
+
+pub returns-in-Ok-Trial-clause-asked : goal.returns-in-Ok-Trial-clause-asked
+returns-in-Ok-Trial-clause-asked g c nodes rounds grants =
+    let same = trial_grants c.args.words.now c.in-Ok-Trial.seed c.in-Ok-Trial.trips c.in-Ok-Trial.nodes c.in-Ok-Trial.rounds nodes rounds
+    (c.in-Ok-Trial.ensures.meaning.understood (command.Trial c.in-Ok-Trial.seed c.in-Ok-Trial.trips c.in-Ok-Trial.nodes c.in-Ok-Trial.rounds) (search rules)) grants in
+    subst (λ (k : ℕ). AreAsked c.args.advisors.now.items c.tried.new.advisors.items
+    (λ b. (goal.Advisor-dyn g (b.vtable, b.value)).asked b.value)
+    (λ b. (goal.Advisor-dyn g (b.vtable, b.value)).has_quit b.value) 0 (k * (2 * nodes + 1))) same.1
+    (subst (λ (n : ℕ). AreAsked c.args.advisors.now.items c.tried.new.advisors.items
+    (λ b. (goal.Advisor-dyn g (b.vtable, b.value)).asked b.value)
+    (λ b. (goal.Advisor-dyn g (b.vtable, b.value)).has_quit b.value) 0 (c.in-Ok-Trial.rounds * (2 * n + 1))) same.0
+    c.tried.ensures.asked)
+
+pub returns-in-Ok-Trial-clause-asked_for : goal.returns-in-Ok-Trial-clause-asked_for
+returns-in-Ok-Trial-clause-asked_for g c nodes rounds grants =
+    let same = trial_grants c.args.words.now c.in-Ok-Trial.seed c.in-Ok-Trial.trips c.in-Ok-Trial.nodes c.in-Ok-Trial.rounds nodes rounds
+    (c.in-Ok-Trial.ensures.meaning.understood (command.Trial c.in-Ok-Trial.seed c.in-Ok-Trial.trips c.in-Ok-Trial.nodes c.in-Ok-Trial.rounds) (search rules)) grants in
+    subst (λ (k : ℕ). AreAskedFor k c.tried.result c.args.advisors.now.items c.tried.new.advisors.items
+    (λ b. (goal.Advisor-dyn g (b.vtable, b.value)).asked b.value)
+    (λ b. (goal.Advisor-dyn g (b.vtable, b.value)).has_quit b.value)) same.1 c.tried.ensures.asked_for
+
+pub returns-in-Ok-Trial-clause-unasked : goal.returns-in-Ok-Trial-clause-unasked
+returns-in-Ok-Trial-clause-unasked g c never =
+    absurd (never c.in-Ok-Trial.nodes c.in-Ok-Trial.rounds
+    (inr (
+      c.in-Ok-Trial.seed,
+      c.in-Ok-Trial.trips,
+      (c.in-Ok-Trial.ensures.meaning.understood (command.Trial c.in-Ok-Trial.seed c.in-Ok-Trial.trips c.in-Ok-Trial.nodes c.in-Ok-Trial.rounds) (search rules)),
+    )))
+
+pub returns-in-Ok-Trial-clause-outcome : goal.returns-in-Ok-Trial-clause-outcome
+returns-in-Ok-Trial-clause-outcome g c =
+    trial_comes _ _ _ _ c.args.words.now _ _ [] c.in-Ok-Trial.seed c.in-Ok-Trial.trips c.in-Ok-Trial.nodes c.in-Ok-Trial.rounds
+    c.tried.result (c.in-Ok-Trial.ensures.meaning.understood (command.Trial c.in-Ok-Trial.seed c.in-Ok-Trial.trips c.in-Ok-Trial.nodes c.in-Ok-Trial.rounds) (search rules)) c.tried.ensures.outcome
 
 pub returns-in-Ok-Simulate-clause-outcome : goal.returns-in-Ok-Simulate-clause-outcome
 returns-in-Ok-Simulate-clause-outcome g c =
@@ -51,48 +89,55 @@ returns-in-Ok-Check-clause-outcome g c =
 
 pub returns-in-Err-NotUnderstood-clause-outcome : goal.returns-in-Err-NotUnderstood-clause-outcome
 returns-in-Err-NotUnderstood-clause-outcome g c =
-    in_vain _ _ _ _ c.args.words.now _ _ [] (λ asked form. absurd (c.in-Err-NotUnderstood.ensures.meaning.refused (search rules) asked form))
+    in_vain _ _ _ _ c.args.words.now _ _ [] (c.in-Err-NotUnderstood.ensures.meaning.refused (search rules))
 
 pub returns-in-Err-NotUnderstood-clause-asked : goal.returns-in-Err-NotUnderstood-clause-asked
-returns-in-Err-NotUnderstood-clause-asked g c dir nodes rounds form = are_unasked _ _ (rounds * (2 * nodes + 1)) c.args.advisors.now.items
+returns-in-Err-NotUnderstood-clause-asked g c nodes rounds grants = are_unasked _ _ (rounds * (2 * nodes + 1)) c.args.advisors.now.items
 
-pub returns-clause-asked : goal.returns-clause-asked
-returns-clause-asked g c dir nodes rounds form = are_unasked _ _ (rounds * (2 * nodes + 1)) c.args.advisors.now.items
+pub returns-in-Err-NoMemory-clause-asked : goal.returns-in-Err-NoMemory-clause-asked
+returns-in-Err-NoMemory-clause-asked g c nodes rounds grants = are_unasked _ _ (rounds * (2 * nodes + 1)) c.args.advisors.now.items
 
 pub returns-in-Ok-Duties-clause-outcome : goal.returns-in-Ok-Duties-clause-outcome
 returns-in-Ok-Duties-clause-outcome g c =
-    not_run _ _ _ _ c.args.words.now _ _ [] (command.Duties c.in-Ok-Duties.field-0-0) refl
-    (c.in-Ok-Duties.ensures.meaning.understood (command.Duties c.in-Ok-Duties.field-0-0) (search rules))
+    c.reported.ensures.outcome c.args.words.now (subst (AskToReport c.args.words.now report.Duties) (search rules)
+    (c.in-Ok-Duties.ensures.meaning.understood (command.Duties c.in-Ok-Duties.dir) (search rules)))
 
 pub returns-in-Ok-Duties-clause-asked : goal.returns-in-Ok-Duties-clause-asked
-returns-in-Ok-Duties-clause-asked g c dir nodes rounds form = are_unasked _ _ (rounds * (2 * nodes + 1)) c.args.advisors.now.items
+returns-in-Ok-Duties-clause-asked g c nodes rounds grants = are_unasked _ _ (rounds * (2 * nodes + 1)) c.args.advisors.now.items
 
 pub returns-in-Ok-Yards-clause-outcome : goal.returns-in-Ok-Yards-clause-outcome
 returns-in-Ok-Yards-clause-outcome g c =
-    not_run _ _ _ _ c.args.words.now _ _ [] (command.Yards c.in-Ok-Yards.field-0-0) refl
-    (c.in-Ok-Yards.ensures.meaning.understood (command.Yards c.in-Ok-Yards.field-0-0) (search rules))
+    c.reported-in-Ok-Yards.ensures.outcome c.args.words.now (subst (AskToReport c.args.words.now report.Yards) (search rules)
+    (c.in-Ok-Yards.ensures.meaning.understood (command.Yards c.in-Ok-Yards.dir) (search rules)))
 
 pub returns-in-Ok-Yards-clause-asked : goal.returns-in-Ok-Yards-clause-asked
-returns-in-Ok-Yards-clause-asked g c dir nodes rounds form = are_unasked _ _ (rounds * (2 * nodes + 1)) c.args.advisors.now.items
+returns-in-Ok-Yards-clause-asked g c nodes rounds grants = are_unasked _ _ (rounds * (2 * nodes + 1)) c.args.advisors.now.items
 
 pub returns-in-Ok-Costs-clause-outcome : goal.returns-in-Ok-Costs-clause-outcome
 returns-in-Ok-Costs-clause-outcome g c =
-    not_run _ _ _ _ c.args.words.now _ _ [] (command.Costs c.in-Ok-Costs.field-0-0) refl
-    (c.in-Ok-Costs.ensures.meaning.understood (command.Costs c.in-Ok-Costs.field-0-0) (search rules))
+    c.reported-in-Ok-Costs.ensures.outcome c.args.words.now (subst (AskToReport c.args.words.now report.Costs) (search rules)
+    (c.in-Ok-Costs.ensures.meaning.understood (command.Costs c.in-Ok-Costs.dir) (search rules)))
 
 pub returns-in-Ok-Costs-clause-asked : goal.returns-in-Ok-Costs-clause-asked
-returns-in-Ok-Costs-clause-asked g c dir nodes rounds form = are_unasked _ _ (rounds * (2 * nodes + 1)) c.args.advisors.now.items
-
-pub returns-in-Ok-Trial-clause-outcome : goal.returns-in-Ok-Trial-clause-outcome
-returns-in-Ok-Trial-clause-outcome g c =
-    not_run _ _ _ _ c.args.words.now _ _ [] (command.Trial c.in-Ok-Trial.field-0-0 c.in-Ok-Trial.field-0-1 c.in-Ok-Trial.field-0-2 c.in-Ok-Trial.field-0-3) refl
-    (c.in-Ok-Trial.ensures.meaning.understood (command.Trial c.in-Ok-Trial.field-0-0 c.in-Ok-Trial.field-0-1 c.in-Ok-Trial.field-0-2 c.in-Ok-Trial.field-0-3) (search rules))
-
-pub returns-in-Ok-Trial-clause-asked : goal.returns-in-Ok-Trial-clause-asked
-returns-in-Ok-Trial-clause-asked g c dir nodes rounds form = are_unasked _ _ (rounds * (2 * nodes + 1)) c.args.advisors.now.items
+returns-in-Ok-Costs-clause-asked g c nodes rounds grants = are_unasked _ _ (rounds * (2 * nodes + 1)) c.args.advisors.now.items
 
 pub returns-in-Ok-Simulate-clause-asked : goal.returns-in-Ok-Simulate-clause-asked
-returns-in-Ok-Simulate-clause-asked g c dir nodes rounds form = are_unasked _ _ (rounds * (2 * nodes + 1)) c.args.advisors.now.items
+returns-in-Ok-Simulate-clause-asked g c nodes rounds grants = are_unasked _ _ (rounds * (2 * nodes + 1)) c.args.advisors.now.items
 
 pub returns-in-Ok-Check-clause-asked : goal.returns-in-Ok-Check-clause-asked
-returns-in-Ok-Check-clause-asked g c dir nodes rounds form = are_unasked _ _ (rounds * (2 * nodes + 1)) c.args.advisors.now.items
+returns-in-Ok-Check-clause-asked g c nodes rounds grants = are_unasked _ _ (rounds * (2 * nodes + 1)) c.args.advisors.now.items
+
+pub tried-requires-clause-size : goal.tried-requires-clause-size
+tried-requires-clause-size g c =
+    trial_size c.args.words.now c.in-Ok-Trial.seed c.in-Ok-Trial.trips c.in-Ok-Trial.nodes c.in-Ok-Trial.rounds
+    (c.in-Ok-Trial.ensures.meaning.understood (command.Trial c.in-Ok-Trial.seed c.in-Ok-Trial.trips c.in-Ok-Trial.nodes c.in-Ok-Trial.rounds) (search rules))
+
+pub tried-requires-clause-nodes : goal.tried-requires-clause-nodes
+tried-requires-clause-nodes g c =
+    (trial_within c.args.words.now c.in-Ok-Trial.seed c.in-Ok-Trial.trips c.in-Ok-Trial.nodes c.in-Ok-Trial.rounds
+    (c.in-Ok-Trial.ensures.meaning.understood (command.Trial c.in-Ok-Trial.seed c.in-Ok-Trial.trips c.in-Ok-Trial.nodes c.in-Ok-Trial.rounds) (search rules))).0
+
+pub tried-requires-clause-rounds : goal.tried-requires-clause-rounds
+tried-requires-clause-rounds g c =
+    (trial_within c.args.words.now c.in-Ok-Trial.seed c.in-Ok-Trial.trips c.in-Ok-Trial.nodes c.in-Ok-Trial.rounds
+    (c.in-Ok-Trial.ensures.meaning.understood (command.Trial c.in-Ok-Trial.seed c.in-Ok-Trial.trips c.in-Ok-Trial.nodes c.in-Ok-Trial.rounds) (search rules))).1

@@ -1,4 +1,4 @@
-use Rattle.planner_app.proofs.Statuses.{ends_check, ends_in_usage, ends_planning, ends_simulation, unread_rose}
+use Rattle.planner_app.proofs.Statuses.{ends_check, ends_in_usage, ends_planning, ends_report, ends_simulation, ends_trial, unread_rose}
 use Rattle.planner_app.proofs.top.railplan.Goals as goal
 
 pub returns-clause-plan : goal.returns-clause-plan
@@ -13,3 +13,11 @@ returns-clause-check g c files dir = ends_check _ _ _ _ _ _ _ _ _ _ _ _ _ c.outc
 
 pub returns-clause-usage : goal.returns-clause-usage
 returns-clause-usage g c = ends_in_usage _ _ _ _ _ _ _ _ _ _ _ _ _ c.outcome_of-outcome.ensures.outcome c.write_outcome.ensures.wrote
+
+pub returns-clause-report : goal.returns-clause-report
+returns-clause-report g c files dir kind =
+    ends_report _ _ _ _ _ _ _ _ _ _ _ _ _ c.outcome_of-outcome.ensures.outcome c.write_outcome.ensures.wrote files dir kind
+
+pub returns-clause-trial : goal.returns-clause-trial
+returns-clause-trial g c seed trips nodes rounds =
+    ends_trial _ _ _ _ _ _ _ _ _ _ _ _ _ c.outcome_of-outcome.ensures.outcome c.write_outcome.ensures.wrote seed trips nodes rounds

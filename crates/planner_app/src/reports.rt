@@ -1,0 +1,104 @@
+//! Reports on the plan of a folder's answer, once it is found valid.
+
+ghost use Rattle.std.specs.Prelude.{ℕ, List, ◌≡◌, ◌≤◌, IfOk, IsTrue, length};
+ghost use Rattle.rail_base.specs.declared.limits.TheConstants.{MOST_TRIPS};
+ghost use Rattle.rail_io.specs.Folders.{OnlyReads};
+ghost use Rattle.timetable.specs.Running as running;
+ghost use Rattle.answer_text.specs.Limits.{has_plan};
+ghost use Rattle.planner_app.specs.Headline.{IsValid};
+ghost use Rattle.planner_app.specs.Outcomes.{AskToReport, IsOutcome};
+ghost use Rattle.planner_app.specs.Reporting.{IsReportOutcome};
+ghost use Rattle.planner_app.specs.ReportTexts.{report_text};
+
+use crate::answer_file::answer_in;
+use crate::answered_plan::{copy_of, picks_of_plan};
+use crate::checking::AnswerVerdict;
+use crate::outcome::Outcome;
+use crate::run::verdict_on;
+use answer_text::Answer;
+use day_files::{ReadError, day_in};
+use day_reports::{costs_table, duties_table, yards_table};
+use rail_base::{Bytes, NoMemory};
+use rail_io::Folder;
+use std::alloc::Global;
+use timetable::{Instance, NamedPlan};
+
+/// What a report tells of a plan.
+#[derive(Clone, Copy, Debug, PartialEq, Eq)]
+pub enum Report {
+    /// The trips of each unit.
+    Duties,
+    /// The units in the yards of the stations.
+    Yards,
+    /// What the plan costs, in parts.
+    Costs,
+}
+
+/// Reports on the answer of a folder.
+pub(crate) fn reported<F: Folder>(alloc: Global, folder: &mut F, dir: &str, kind: Report) -> Outcome
+    ensures outcome { (words : List (List ℕ)) → AskToReport words kind dir.now
+        → IsOutcome F.holds F.may_fail F.faults F.taken words folder.old folder.new result }
+    ensures only_reads { OnlyReads F.holds F.may_fail F.faults F.taken folder.old folder.new }
+{
+    let instance = match day_in(alloc, folder, dir) {
+        Ok(instance) => instance,
+        Err(error) => return Outcome::NoInputs(error),
+    };
+    let answer = match answer_in(alloc, folder, dir) {
+        Ok(answer) => answer,
+        Err(error) => return Outcome::NoAnswer(error),
+    };
+    match report_on(alloc, &instance, &answer, kind) {
+        Ok(outcome) => outcome,
+        Err(NoMemory) => Outcome::NoInputs(ReadError::NoMemory),
+    }
+}
+
+/// What a report on an answer of the day comes to: what is wrong with it, that it has no plan, or the report.
+fn report_on(
+    alloc: Global,
+    instance: &Instance,
+    answer: &Answer,
+    kind: Report,
+) -> Result<Outcome, NoMemory>
+    requires { length answer.now.runs ≤ MOST_TRIPS }
+    ensures { IfOk result (IsReportOutcome kind instance.now answer.now) }
+{
+    let verdict = verdict_on(alloc, instance, answer)?;
+    if verdict != AnswerVerdict::Valid {
+        return Ok(Outcome::Checked {
+            head: answer.head,
+            verdict,
+        });
+    }
+    if !answer.head.has_plan() {
+        return Ok(Outcome::NoPlan);
+    }
+    let text = table_of(alloc, instance, answer, kind)?;
+    Ok(Outcome::Reported(Bytes::of(text)))
+}
+
+/// The report on the plan of a valid answer.
+fn table_of(
+    alloc: Global,
+    instance: &Instance,
+    answer: &Answer,
+    kind: Report,
+) -> Result<Vec<u8>, NoMemory>
+    requires few { length answer.now.runs ≤ MOST_TRIPS }
+    requires runs { running.Runs instance.now answer.now.runs }
+    ensures { IfOk result (λ text. text.items ≡ report_text kind instance.now answer.now.runs) }
+{
+    let plan = NamedPlan::of(copy_of(alloc, answer.runs.items())?);
+    match kind {
+        Report::Duties => duties_table(alloc, instance, &plan),
+        Report::Yards => {
+            let picks = picks_of_plan(alloc, instance, &plan)?;
+            yards_table(alloc, instance, &picks)
+        }
+        Report::Costs => {
+            let picks = picks_of_plan(alloc, instance, &plan)?;
+            costs_table(alloc, instance, &picks)
+        }
+    }
+}
