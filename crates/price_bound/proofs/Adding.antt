@@ -3,7 +3,8 @@ use Rattle.std.proofs.Common.{◌≡◌, ◌≢◌, ℕ, zero, suc, ◌+◌, ◌
 use Rattle.std.specs.Prelude.{◌==◌, if◌then◌else◌, min}
 use Rattle.std.specs.Int.{saturate_to_bits}
 use Rattle.std.proofs.lemmas.Bool.{cases_eq, eq-eqb, ne_eqb}
-use Rattle.std.proofs.lemmas.Int.{ints}
+use Rattle.std.proofs.Common.{to_z, of_z, w64}
+use Rattle.std.proofs.lemmas.Int.{ints, fits_signed_from_abs, to_z-of_z}
 use Rattle.std.proofs.lemmas.List.{get_or-replicate, get_or-set_same, get_or-set_other, length-map, length-replicate}
 use Rattle.branch_tree.specs.IntSums.{int_sum}
 use Rattle.inventory.specs.CountTable.{changed_at, changed_in, plus}
@@ -27,6 +28,14 @@ small_more a b x le p = record { above = omega (arith, ints, le, p.above); below
 pub small_by_size : (a : ℕ) (x : ℤ) → unsigned_abs x ≤ a → IsSmall a x
 small_by_size a (pos n) le = record { above = omega (arith, ints); below = omega (arith, ints, le) }
 small_by_size a (negsuc n) le = record { above = omega (arith, ints, le); below = omega (arith, ints) }
+
+-- a small number is read as it is
+pub read_is : (b : ℕ) (x : ℤ) → b ≤ 4000000000000000000 → IsSmall b x → to_z w64 (of_z w64 x) ≡ x
+read_is b x le small = to_z-of_z w64 x (fits_signed_from_abs w64 x (below x (small_more b 4000000000000000000 x le small)))
+  where
+    below : (z : ℤ) → IsSmall 4000000000000000000 z → unsigned_abs z < 2 ^ 63
+    below (pos n) few = (let le = few.below in omega (arith, ints))
+    below (negsuc n) few = (let le = few.above in omega (arith, ints))
 
 plus_is : (x y : ℤ) → IsSmall 4000000000000000000 (x +ℤ y) → plus x y ≡ x +ℤ y
 plus_is x y small = of_sum (x +ℤ y) small

@@ -37,6 +37,7 @@ mod Filling
 mod Walking
 mod DayPrices
 mod Summing
+mod Crediting
 mod Bounding
 mod ChainSteps
 mod ChainCells

@@ -1,9 +1,10 @@
 -- Sums over the units of a list, read off the tables of prices.
-use Rattle.std.proofs.Common.{◌≡◌, ℕ, ◌-◌, ◌<◌, ◌≤◌, List, [], ◌∷◌, length, get_or, true, refl, sym, ap, ◌∙◌, subst, arith, ℤ, pos, ◌+ℤ◌, ◌-ℤ◌, length-take, length-drop}
+use Rattle.std.proofs.Common.{◌≡◌, ℕ, ◌-◌, ◌<◌, ◌≤◌, List, [], ◌∷◌, length, get_or, true, refl, sym, ap, ◌∙◌, subst, arith, ℤ, pos, ◌+ℤ◌, ◌-ℤ◌, take, drop, length-take, length-drop}
 use Rattle.std.specs.Prelude.{nat_lt}
 use Rattle.std.specs.List.{All}
 use Rattle.std.proofs.lemmas.Bool.{and_parts, ltb-true}
 use Rattle.std.proofs.lemmas.Int.{ints}
+use Rattle.std.proofs.lemmas.List.{take-append-drop}
 use Rattle.std.proofs.lemmas.List.Elements.{All-nil, All-cons, All-head, All-tail, All-take, All-drop}
 use Rattle.compositions.specs.declared.types.UnitType.{UnitType}
 use Rattle.compositions.specs.Composition.{are_types}
@@ -15,11 +16,12 @@ use Rattle.branch_tree.specs.declared.multipliers.Entry.{Entry}
 use Rattle.branch_tree.specs.Entries.{AreMultipliers}
 use Rattle.branch_tree.specs.IntSums.{int_sum}
 use Rattle.price_bound.specs.declared.price_tables.PriceTables.{PriceTables}
-use Rattle.price_bound.specs.EdgeValues.{stayed}
+use Rattle.price_bound.specs.EdgeValues.{came, stayed}
 use Rattle.price_bound.specs.PriceTables.{ArePrices}
 use Rattle.price_bound.specs.CellSizes.{IsSmall}
 use Rattle.price_bound.specs.YardPrices.{giving, taking, yard_price}
 use Rattle.price_bound.proofs.Filling.{are_few, yard_small}
+use Rattle.price_bound.proofs.IntLaws.{sum_append}
 
 -- the types of a composition are below the number of types
 pub types_below : (types : List UnitType) (ms : List ℕ) → are_types types ms ≡ true → All (λ m. m < length types) ms
@@ -28,16 +30,32 @@ types_below types (m ∷ ms) known =
     let both = and_parts (nat_lt m (length types)) (are_types types ms) known in
     All-cons (λ m. m < length types) m ms (ltb-true m (length types) both.0) (types_below types ms both.1)
 
--- so are those that stayed
-pub stayed_below : (n : ℕ) (end : End) (units : ℕ) (ms : List ℕ) → All (λ m. m < n) ms → All (λ m. m < n) (stayed end units ms)
-stayed_below n at.None units ms known = known
-stayed_below n at.Rear units ms known = All-take (λ m. m < n) (length ms - units) ms known
-stayed_below n at.Front units ms known = All-drop (λ m. m < n) units ms known
+-- so are those that came
+pub came_below : (n : ℕ) (end : End) (units : ℕ) (ms : List ℕ) → All (λ m. m < n) ms → All (λ m. m < n) (came end units ms)
+came_below n at.None units ms known = All-nil (λ m. m < n)
+came_below n at.Rear units ms known = All-drop (λ m. m < n) (length ms - units) ms known
+came_below n at.Front units ms known = All-take (λ m. m < n) units ms known
 
-pub stayed_few : (end : End) (units : ℕ) (ms : List ℕ) (most : ℕ) → length ms ≤ most → length (stayed end units ms) ≤ most
-stayed_few at.None units ms most few = few
-stayed_few at.Rear units ms most few = omega (arith, few, length-take (length ms - units) ms)
-stayed_few at.Front units ms most few = omega (arith, few, length-drop units ms)
+pub came_few : (end : End) (units : ℕ) (ms : List ℕ) (most : ℕ) → length ms ≤ most → length (came end units ms) ≤ most
+came_few at.None units ms most few = omega arith
+came_few at.Rear units ms most few = omega (arith, few, length-drop (length ms - units) ms)
+came_few at.Front units ms most few = omega (arith, few, length-take units ms)
+
+-- what departs is what stayed and what came
+pub parted : (f : ℕ → ℤ) (end : End) (units : ℕ) (ms : List ℕ)
+    → int_sum f ms ≡ int_sum f (stayed end units ms) +ℤ int_sum f (came end units ms)
+parted f at.None units ms = none (int_sum f ms)
+  where
+    none : (a : ℤ) → a ≡ a +ℤ pos 0
+    none a = omega (arith, ints)
+parted f at.Rear units ms =
+    ap (int_sum f) (sym (take-append-drop (length ms - units) ms)) ∙ sum_append f (take (length ms - units) ms) (drop (length ms - units) ms)
+parted f at.Front units ms =
+    ap (int_sum f) (sym (take-append-drop units ms)) ∙ sum_append f (take units ms) (drop units ms)
+    ∙ exchanged (int_sum f (take units ms)) (int_sum f (drop units ms))
+  where
+    exchanged : (a b : ℤ) → a +ℤ b ≡ b +ℤ a
+    exchanged a b = omega (arith, ints)
 
 sums_on : (f g : ℕ → ℤ) (n : ℕ) (ms : List ℕ) → ((m : ℕ) → m < n → f m ≡ g m) → All (λ m. m < n) ms → int_sum f ms ≡ int_sum g ms
 sums_on f g n [] each known = refl
@@ -65,12 +83,20 @@ module _ (day : Day) (entries : List Entry) (tables : PriceTables) (prices : Are
         subst (IsSmall 1000000000000000) (sym (prices.gives t m below (omega (arith, lt, prices.sized.gives.widths t below))))
         (yard_small day entries (to_of day t) (ready_at day t) m (are_few day entries multipliers))
 
--- what a turn adds is small, by its parts
-pub turn_small : (cost takes takes_less gives gives_less taken given charged whole : ℤ) → IsSmall 1000000000000 cost
-    → IsSmall 6000000000000000 takes → IsSmall 6000000000000000 takes_less → IsSmall 6000000000000000 gives
-    → IsSmall 6000000000000000 gives_less → taken ≡ takes -ℤ takes_less → given ≡ gives -ℤ gives_less
+-- what a turn adds, by its parts: the prices of what departs are those of what stayed and those of what came
+pub turn_is : (cost takes stay_takes came_takes from_gives gives stay_gives came_gives paid taken all came stayed before given charged whole : ℤ)
+    → takes ≡ stay_takes +ℤ came_takes → gives ≡ stay_gives +ℤ came_gives → paid ≡ cost → taken ≡ came_takes → all ≡ gives
+    → came ≡ came_gives → stayed ≡ all -ℤ came → before ≡ from_gives → given ≡ before -ℤ stayed → charged ≡ paid +ℤ taken
+    → whole ≡ charged -ℤ given → whole ≡ cost +ℤ (takes -ℤ stay_takes) -ℤ (from_gives -ℤ stay_gives)
+turn_is cost takes stay_takes came_takes from_gives gives stay_gives came_gives paid taken all came stayed before given charged whole
+    e f g h i j k l m n o = omega (arith, ints, e, f, g, h, i, j, k, l, m, n, o)
+
+-- and it is small, as they are
+pub turn_small : (cost taken to_gives came_gives stayed from_gives given charged whole : ℤ) → IsSmall 1000000000000 cost
+    → IsSmall 6000000000000000 taken → IsSmall 6000000000000000 to_gives → IsSmall 6000000000000000 came_gives
+    → IsSmall 6000000000000000 from_gives → stayed ≡ to_gives -ℤ came_gives → given ≡ from_gives -ℤ stayed
     → charged ≡ cost +ℤ taken → whole ≡ charged -ℤ given → IsSmall 30000000000000000 whole
-turn_small cost takes takes_less gives gives_less taken given charged whole p q r s t e f g h = record {
-  above = omega (arith, ints, p.above, q.above, r.below, s.below, t.above, e, f, g, h);
-  below = omega (arith, ints, p.below, q.below, r.above, s.above, t.below, e, f, g, h);
+turn_small cost taken to_gives came_gives stayed from_gives given charged whole p q r s t e f g h = record {
+  above = omega (arith, ints, p.above, q.above, r.above, s.below, t.below, e, f, g, h);
+  below = omega (arith, ints, p.below, q.below, r.below, s.above, t.above, e, f, g, h);
 }

@@ -1,6 +1,6 @@
 -- What an edge of a link adds to a priced value: the cost of shunting, the prices of the units that are taken and given,
 -- and the multiplier of the part at a hand-over.
-use Rattle.std.specs.Prelude.{ℕ, ◌-◌, List, length, take, drop, ◌&&◌, ◌==◌, Option, Some, None, ℤ, pos, ◌+ℤ◌, ◌-ℤ◌}
+use Rattle.std.specs.Prelude.{ℕ, ◌-◌, List, [], length, take, drop, ◌&&◌, ◌==◌, Option, Some, None, ℤ, pos, ◌+ℤ◌, ◌-ℤ◌}
 use Rattle.rail_csv.specs.declared.rows.End.{End}
 use Rattle.rail_csv.specs.declared.rows.End.TheVariants as at
 use Rattle.timetable.specs.declared.day.records.LinkKind.{LinkKind}
@@ -36,6 +36,12 @@ abbrev pub stayed : End → ℕ → List ℕ → List ℕ
 stayed at.None units types = types
 stayed at.Rear units types = take (length types - units) types
 stayed at.Front units types = drop units types
+
+-- and what came there
+abbrev pub came : End → ℕ → List ℕ → List ℕ
+came at.None units types = []
+came at.Rear units types = drop (length types - units) types
+came at.Front units types = take units types
 
 abbrev pub stays_by : Day → End → Edge → List ℕ
 stays_by day couple edge = stayed couple (coupled edge.shunt) (composition_at day edge.to)

@@ -32,6 +32,7 @@ pub mod FirstPaths
 -- how they are found: tables of prices, and rows of cells
 pub mod CellSizes
 pub mod PriceTables
+pub mod Credits
 pub mod CellRows
 pub mod Pricing
 pub mod Rooms

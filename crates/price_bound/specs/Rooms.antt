@@ -9,11 +9,12 @@ use Rattle.price_bound.specs.declared.workspaces.Workspace.{Workspace}
 use Rattle.price_bound.specs.CellRows.{HaveRoom}
 use Rattle.price_bound.specs.ChangedDays.{AreChanges}
 use Rattle.price_bound.specs.DayMeanings.{IsWorkedOn}
-use Rattle.price_bound.specs.PriceTables.{AreSized}
+use Rattle.price_bound.specs.PriceTables.{AreSized, HasSize}
 
 -- the room has the sizes of a day
 pub record IsRoomFor (day : Day) (room : Workspace) : Type 0 where
   pub tables : AreSized day room.tables
+  pub credits : HasSize (length day.trips) (length (compositions_of day)) room.credits
   pub rows : HaveRoom (length day.trips) (length (compositions_of day)) room.rows
   pub choice : length room.choice ≡ length day.trips
 

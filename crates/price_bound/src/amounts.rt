@@ -1,7 +1,8 @@
 //! Tables of amounts by row and column.
 
-ghost use Rattle.std.specs.Prelude.{ℕ, ◌≡◌, ◌<◌, ◌^◌, [], map, length, get_or, replicate, pos, IfOk};
+ghost use Rattle.std.specs.Prelude.{ℕ, ◌≡◌, ◌<◌, ◌^◌, [], map, length, get_or, set, replicate, pos, IfOk};
 ghost use Rattle.inventory.specs.CountTable.{changed_at, changed_in};
+ghost use Rattle.price_bound.specs.Credits.{put_in};
 ghost use Rattle.price_bound.specs.PriceTables.{amount_at, cleared_table, with_amounts};
 
 use rail_base::{Money, NoMemory};
@@ -64,6 +65,15 @@ impl AmountRow {
         }
     }
 
+    /// Changes the amount of a column, if there is one.
+    fn put(&mut self, column: usize, amount: i64)
+        ensures { self.new ≡ set self.old column amount }
+    {
+        if column < self.amounts.len() {
+            self.amounts[column] = amount;
+        }
+    }
+
     /// The amounts.
     pub(crate) fn items(&self) -> &[i64]
         ensures { result.now ≡ self.now }
@@ -99,6 +109,15 @@ impl AmountTable {
     {
         if row < self.rows.len() {
             self.rows[row].add(column, amount);
+        }
+    }
+
+    /// Changes the amount of a row and a column, if there is one.
+    pub(crate) fn put(&mut self, row: usize, column: usize, amount: i64)
+        ensures { self.new ≡ put_in row column amount self.old }
+    {
+        if row < self.rows.len() {
+            self.rows[row].put(column, amount);
         }
     }
 

@@ -1,5 +1,6 @@
 //! What is priced, with the prices at hand.
 
+use crate::amounts::AmountTable;
 use crate::changes::Change;
 use crate::price_tables::PriceTables;
 use branch_tree::{Multipliers, Region, Weight};
@@ -17,4 +18,6 @@ pub(crate) struct Pricing<'a> {
     pub weight: Weight,
     pub region: &'a Region,
     pub tables: &'a PriceTables,
+    /// The price of each composition's units, where a trip gives them.
+    pub credits: &'a AmountTable,
 }

@@ -14,10 +14,12 @@ ghost use Rattle.price_bound.specs.Regrouped.{constant_by, constant_of};
 ghost use Rattle.price_bound.specs.Rooms.{IsRoomFor};
 ghost use Rattle.price_bound.specs.YardPrices.{by_place};
 
+use crate::amounts::AmountTable;
 use crate::cells::Cell;
 use crate::chain_rows::ChainRows;
 use crate::changes::Change;
 use crate::choices::copy_picks;
+use crate::credits::fill_sums;
 use crate::price_tables::PriceTables;
 use crate::priced::Pricing;
 use crate::worths::added;
@@ -32,6 +34,8 @@ use transitions::Graphs;
 pub(crate) struct Workspace {
     /// The prices under the multipliers of a bound.
     pub tables: PriceTables,
+    /// For each trip and composition the price of the composition's units, where the trip gives them.
+    pub credits: AmountTable,
     /// The cells of one chain.
     pub rows: ChainRows,
     /// The picks that are found.
@@ -44,10 +48,13 @@ impl Workspace {
         ensures { IfOk result (λ room. IsRoomFor instance.now room) }
     {
         let tables = PriceTables::new(alloc, instance)?;
+        let trips = instance.trips() as usize;
+        let credits = AmountTable::new(alloc, trips, instance.catalogue().len() as usize)?;
         let rows = ChainRows::new(alloc, instance)?;
         let choice = Picks::new(alloc, instance.trips())?;
         Ok(Workspace {
             tables,
+            credits,
             rows,
             choice,
         })
@@ -80,6 +87,7 @@ impl Workspace {
         let _chains = instance.chains();
         let _links = instance.links();
         self.tables.fill(instance, multipliers);
+        fill_sums(instance, &self.tables.gives, &mut self.credits);
         let pricing = Pricing {
             instance,
             graphs,
@@ -88,6 +96,7 @@ impl Workspace {
             weight,
             region,
             tables: &self.tables,
+            credits: &self.credits,
         };
         match first_paths(&pricing, &mut self.rows, &mut self.choice) {
             Some(value) => {

@@ -11,7 +11,8 @@ ghost use Rattle.branch_tree.specs.IntSums.{int_sum};
 ghost use Rattle.branch_tree.specs.Meanings.{weighted};
 ghost use Rattle.price_bound.specs.ChainStages.{cost_on, may_have, part_is_in, price_of, worth_of};
 ghost use Rattle.price_bound.specs.Changes.{changed_cost};
-ghost use Rattle.price_bound.specs.EdgeValues.{coupled, edge_value, part_multiplier, part_value, shunt_cost, stayed, turn_value};
+ghost use Rattle.price_bound.specs.Credits.{AreSmallAmounts, sum_in};
+ghost use Rattle.price_bound.specs.EdgeValues.{came, coupled, edge_value, part_multiplier, part_value, shunt_cost, turn_value};
 ghost use Rattle.price_bound.specs.Pricing.{ArePriced, IsListed, priced_by};
 ghost use Rattle.price_bound.specs.Regrouped.{second_price, trip_value};
 ghost use Rattle.price_bound.specs.CellSizes.{IsSmall};
@@ -25,7 +26,7 @@ use cost_model::trip_cost;
 use rail_base::limits::{MOST_COMPOSITION, MOST_COMPOSITIONS};
 use rail_base::{CompNo, LinkNo, Money, TripNo, TypeNo};
 use rail_csv::End;
-use timetable::LinkKind;
+use timetable::{Instance, LinkKind};
 use transitions::{Edge, Shunt};
 
 impl<'a> Pricing<'a> {
@@ -80,7 +81,7 @@ impl<'a> Pricing<'a> {
         ensures value { result.0 ≡ weighted self.now.weight (pos (cost_on (priced_by self.now) trip comp)) }
         ensures small { IsSmall 1000000000000 result.0 }
     {
-        let cost = trip_cost(self.instance, trip, self.types_of(comp));
+        let cost = trip_cost(self.instance, trip, types_of(self.instance, comp));
         let change = change_cost(self.changes, trip, comp);
         weighted(self.weight, cost + u64::from(change))
     }
@@ -107,7 +108,7 @@ impl<'a> Pricing<'a> {
         if self.instance.incoming(trip).is_some() {
             return Money(0);
         }
-        self.taking(trip, self.types_of(comp))
+        self.taking(trip, types_of(self.instance, comp))
     }
 
     /// The price of the units of a trip that no link leads on from.
@@ -121,7 +122,7 @@ impl<'a> Pricing<'a> {
         if self.instance.outgoing(trip).is_some() {
             return Money(0);
         }
-        self.giving(trip, self.types_of(comp))
+        self.credit(trip, comp)
     }
 
     /// The price of units that a trip takes, by their types.
@@ -133,7 +134,7 @@ impl<'a> Pricing<'a> {
         ensures value { result.0 ≡ taking self.now.instance.now self.now.multipliers.now trip types.now }
         ensures small { IsSmall 6000000000000000 result.0 }
     {
-        sum_of(self.tables.takes.row(trip.place()), types)
+        wide(sum_of(self.tables.takes.row(trip.place()), types))
     }
 
     /// The price of units that a trip gives, by their types.
@@ -145,18 +146,18 @@ impl<'a> Pricing<'a> {
         ensures value { result.0 ≡ giving self.now.instance.now self.now.multipliers.now trip types.now }
         ensures small { IsSmall 6000000000000000 result.0 }
     {
-        sum_of(self.tables.gives.row(trip.place()), types)
+        wide(sum_of(self.tables.gives.row(trip.place()), types))
     }
 
-    /// The types of a composition, front to rear.
-    fn types_of(&self, comp: CompNo) -> &[TypeNo]
-        requires { comp < length (compositions_of self.now.instance.now) }
-        ensures value { result.now ≡ composition_at self.now.instance.now comp }
-        ensures few { length result.now ≤ MOST_COMPOSITION }
-        ensures known { All (λ m. m < length self.now.instance.now.types) result.now }
-        ensures listed { IsTrue (are_types self.now.instance.now.types result.now) }
+    /// The price of a composition's units, where a trip gives them.
+    fn credit(&self, trip: TripNo, comp: CompNo) -> Money
+        requires priced { ArePriced self.now }
+        requires trip { trip < length self.now.instance.now.trips }
+        requires comp { comp < length (compositions_of self.now.instance.now) }
+        ensures value { result.0 ≡ giving self.now.instance.now self.now.multipliers.now trip (composition_at self.now.instance.now comp) }
+        ensures small { IsSmall 6000000000000000 result.0 }
     {
-        self.instance.catalogue().get(comp).units()
+        self.credits.get(trip.place(), comp.place())
     }
 
     /// What an edge of a link is priced, or nothing where it has a part that is not in the region.
@@ -245,11 +246,11 @@ impl<'a> Pricing<'a> {
         ensures small { IsSmall 30000000000000000 result.0 }
     {
         let cost = weighted(self.weight, self.shunt_cost(edge.shunt));
-        let before = self.types_of(edge.from);
-        let after = self.types_of(edge.to);
-        let stays = stayed(couple, coupled(edge.shunt), after);
-        let taken = less(self.taking(departing, after), self.taking(departing, stays));
-        let given = less(self.giving(arriving, before), self.giving(arriving, stays));
+        let after = types_of(self.instance, edge.to);
+        let came = came(couple, coupled(edge.shunt), after);
+        let taken = self.taking(departing, came);
+        let stayed = less(self.credit(arriving, edge.to), self.giving(arriving, came));
+        let given = less(self.credit(arriving, edge.from), stayed);
         let charged = added(cost, taken);
         less(charged, given)
     }
@@ -267,6 +268,17 @@ impl<'a> Pricing<'a> {
             Shunt::Exchange { .. } => u64::from(weights.shunting),
         }
     }
+}
+
+/// The types of a composition, front to rear.
+pub(crate) fn types_of(instance: &Instance, comp: CompNo) -> &[TypeNo]
+    requires { comp < length (compositions_of instance.now) }
+    ensures value { result.now ≡ composition_at instance.now comp }
+    ensures few { length result.now ≤ MOST_COMPOSITION }
+    ensures known { All (λ m. m < length instance.now.types) result.now }
+    ensures listed { IsTrue (are_types instance.now.types result.now) }
+{
+    instance.catalogue().get(comp).units()
 }
 
 /// A cost under a weight.
@@ -293,40 +305,56 @@ fn coupled(shunt: Shunt) -> usize
     }
 }
 
-/// What stayed in the train of the types that depart, where so many units were coupled at this end.
-fn stayed(couple: End, units: usize, types: &[TypeNo]) -> &[TypeNo]
-    ensures { result.now ≡ stayed couple units types.now }
+/// What came to the train, of the types that depart, where so many units were coupled at this end.
+fn came(couple: End, units: usize, types: &[TypeNo]) -> &[TypeNo]
+    ensures { result.now ≡ came couple units types.now }
 {
     match couple {
-        End::None => types,
-        End::Rear => &types[..types.len().saturating_sub(units)],
-        End::Front => &types[units.min(types.len())..],
+        End::None => &types[..0],
+        End::Rear => &types[types.len().saturating_sub(units)..],
+        End::Front => &types[..units.min(types.len())],
     }
 }
 
 /// The sum of what a row has for each of these types.
-fn sum_of(row: &AmountRow, types: &[TypeNo]) -> Money
+pub(crate) fn sum_of(row: &AmountRow, types: &[TypeNo]) -> i64
     requires few { length types.now ≤ MOST_COMPOSITION }
     requires known { All (λ m. m < length row.now) types.now }
-    requires small { (m : ℕ) → m < length row.now → IsSmall 1000000000000000 (get_or row.now m (pos 0)) }
-    ensures value { result.0 ≡ int_sum (λ m. get_or row.now m (pos 0)) types.now }
-    ensures small { IsSmall 6000000000000000 result.0 }
+    requires small { AreSmallAmounts row.now }
+    ensures value { result ≡ sum_in row.now types.now }
+    ensures small { IsSmall 6000000000000000 result }
 {
-    let mut sum = Money(0);
+    let mut sum = 0;
     for place in 0..types.len() {
         let amount = amount_of(row, types[place]);
-        sum = added(sum, amount);
+        sum = plus(sum, amount);
     }
     sum
 }
 
 /// What a row has for a type.
-fn amount_of(row: &AmountRow, unit_type: TypeNo) -> Money
+fn amount_of(row: &AmountRow, unit_type: TypeNo) -> i64
     requires { unit_type < length row.now }
-    ensures { result.0 ≡ get_or row.now unit_type (pos 0) }
+    ensures { result ≡ get_or row.now unit_type (pos 0) }
 {
     let amounts = row.items();
-    Money(i128::from(amounts[unit_type.place()]))
+    amounts[unit_type.place()]
+}
+
+/// An amount, which can then be added to larger ones.
+fn wide(amount: i64) -> Money
+    ensures { result.0 ≡ amount }
+{
+    Money(i128::from(amount))
+}
+
+/// An amount and another.
+fn plus(amount: i64, more: i64) -> i64
+    requires amount { IsSmall 1000000000000000000 amount }
+    requires more { IsSmall 1000000000000000000 more }
+    ensures { result ≡ amount +ℤ more }
+{
+    amount + more
 }
 
 /// Two amounts together.

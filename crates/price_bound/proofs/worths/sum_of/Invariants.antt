@@ -6,4 +6,4 @@ use Rattle.price_bound.proofs.worths.sum_of.Given as goal
 
 abbrev pub invariant-loop-place : goal.invariant-loop-place
 invariant-loop-place l =
-    (l.sum.0 ≡ int_sum (λ m. get_or l.row m (pos 0)) (take l.place l.types)) × IsSmall (l.place * 1000000000000000) l.sum.0
+    (l.sum ≡ int_sum (λ m. get_or l.row m (pos 0)) (take l.place l.types)) × IsSmall (l.place * 1000000000000000) l.sum

@@ -3,6 +3,7 @@ use Rattle.std.proofs.Common.{◌≡◌, ◌<◌, List, [], ℕ, ℤ, ap, arith,
 use Rattle.std.specs.List.{All}
 use Rattle.branch_tree.specs.IntSums.{int_sum}
 use Rattle.price_bound.specs.CellSizes.{IsSmall}
+use Rattle.price_bound.proofs.Adding.{read_is}
 use Rattle.price_bound.proofs.Summing.{giving_is, gives_small}
 use Rattle.price_bound.proofs.priced.Pricing.giving.Goals as goal
 
@@ -24,5 +25,11 @@ sum_of-requires-clause-small c =
 pub returns-clause-value : goal.returns-clause-value
 returns-clause-value c =
     let row : c.row.result.now ≡ get_or c.args.self.now.tables.now.gives c.args.trip [] = c.row.ensures ∙ ap (λ (k : ℕ). get_or c.args.self.now.tables.now.gives k []) c.place.ensures.number in
-    c.sum_of.ensures.value ∙ ap (λ (xs : List ℤ). int_sum (λ m. get_or xs m (pos 0)) c.args.types.now) row
+    c.wide.ensures ∙ read_is 6000000000000000 c.sum_of.result (omega arith) c.sum_of.ensures.small
+    ∙ c.sum_of.ensures.value ∙ ap (λ (xs : List ℤ). int_sum (λ m. get_or xs m (pos 0)) c.args.types.now) row
     ∙ giving_is c.args.self.now.instance.now c.args.self.now.multipliers.now c.args.self.now.tables.now c.requires.priced.prices c.args.trip c.requires.trip c.args.types.now c.requires.known
+
+pub returns-clause-small : goal.returns-clause-small
+returns-clause-small c =
+    subst (IsSmall 6000000000000000) (sym (c.wide.ensures ∙ read_is 6000000000000000 c.sum_of.result (omega arith) c.sum_of.ensures.small))
+    c.sum_of.ensures.small

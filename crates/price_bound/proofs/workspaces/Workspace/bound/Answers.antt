@@ -1,12 +1,29 @@
 -- What is found along the chains is the bound.
-use Rattle.std.proofs.Common.{◌≡◌, ℕ, List, Option, Some, None, length, ℤ, ◌+ℤ◌, ap, sym, subst, ◌∙◌}
+use Rattle.std.proofs.Common.{arith, ◌≡◌, ℕ, List, Option, Some, None, length, ℤ, ◌+ℤ◌, ap, sym, subst, ◌∙◌}
 use Rattle.rail_base.specs.declared.numbers.Money.{Money}
 use Rattle.price_bound.specs.ChainStages.{Priced}
 use Rattle.price_bound.specs.ChangedDays.{changed_day, changed_meanings}
 use Rattle.price_bound.specs.FirstPaths.{AreFound}
 use Rattle.price_bound.proofs.Bounding.{found_bound, none_bound}
+use Rattle.price_bound.proofs.Crediting.{credits_are}
 use Rattle.price_bound.proofs.DayPrices.{day_priced}
+use Rattle.price_bound.proofs.Summing.{gives_small}
 use Rattle.price_bound.proofs.workspaces.Workspace.bound.Goals as goal
+
+pub fill_sums-requires-clause-small : goal.fill_sums-requires-clause-small
+fill_sums-requires-clause-small c t lt =
+    gives_small c.args.instance.now c.args.multipliers.now c.fill.new.self c.fill.ensures t
+    (omega (arith, lt, c.fill.ensures.sized.gives.height)) c.entries-entries.ensures.multipliers
+
+pub first_paths-requires-clause-priced : goal.first_paths-requires-clause-priced
+first_paths-requires-clause-priced c = record {
+  graphs_are = c.requires.graphs;
+  multipliers_are = c.entries-entries.ensures.multipliers;
+  prices = c.fill.ensures;
+  credits = credits_are c.args.instance.now c.args.multipliers.now c.fill.new.self c.fill_sums.new.sums c.fill.ensures
+      c.fill_sums.ensures.room c.fill_sums.ensures.sums;
+  over = c.requires.region;
+}
 
 pub returns-in-Some-clause-bound : goal.returns-in-Some-clause-bound
 returns-in-Some-clause-bound c =

@@ -1,0 +1,108 @@
+-- A table that is filled row by row with sums has the credits.
+use Rattle.std.proofs.Common.{◌≡◌, ◌≢◌, ℕ, ◌+◌, ◌<◌, List, [], length, set, get_or, Option, refl, sym, ap, ◌∙◌, subst, arith, ℤ, pos, inl, inr, length-set, unwrap_or}
+use Rattle.std.specs.List.{All}
+use Rattle.std.proofs.lemmas.Bool.{cases_eq}
+use Rattle.std.proofs.lemmas.List.{get_or-set_same, get_or-set_other}
+use Rattle.timetable.specs.Compositions.{compositions_of, composition_at, greatest_platform}
+use Rattle.timetable.specs.Day.{Day}
+use Rattle.timetable.proofs.Picking.{types_known}
+use Rattle.branch_tree.specs.declared.multipliers.Entry.{Entry}
+use Rattle.price_bound.specs.declared.price_tables.PriceTables.{PriceTables}
+use Rattle.price_bound.specs.CellSizes.{IsSmall}
+use Rattle.price_bound.specs.Credits.{AreCredits, AreRowsBut, AreSumsBelow, AreSumsIn, put_in, sum_in}
+use Rattle.price_bound.specs.PriceTables.{ArePrices, HasSize, amount_at}
+use Rattle.price_bound.proofs.Steps.{entry_below}
+use Rattle.price_bound.proofs.Summing.{giving_is, types_below}
+
+-- ---- one amount changed
+
+module _ (rows columns : ℕ) (table : List (List ℤ)) (size : HasSize rows columns table) (r0 c0 : ℕ) (x : ℤ) where
+  abbrev row : List ℤ
+  row = set (get_or table r0 []) c0 x
+
+  row_here : (r : ℕ) → r < rows → r ≡ r0 → get_or (put_in r0 c0 x table) r [] ≡ row
+  row_here r below same = subst (λ (k : ℕ). get_or (put_in r0 c0 x table) k [] ≡ row) (sym same)
+      (get_or-set_same table r0 row [] (omega (arith, below, same, size.height)))
+
+  pub row_other : (r : ℕ) → r ≢ r0 → get_or (put_in r0 c0 x table) r [] ≡ get_or table r []
+  row_other r differ = get_or-set_other table r0 r row [] differ
+
+  pub put_size : HasSize rows columns (put_in r0 c0 x table)
+  put_size = record {
+    height = length-set table r0 row ∙ size.height;
+    widths = λ r below. elim (cases_eq r r0) [
+      | inl same ↦ ap length (row_here r below same) ∙ length-set (get_or table r0 []) c0 x ∙ size.widths r0 (omega (arith, below, same))
+      | inr differ ↦ ap length (row_other r differ) ∙ size.widths r below
+    ];
+  }
+
+  module _ (below : r0 < rows) where
+    pub put_here : c0 < columns → amount_at (put_in r0 c0 x table) r0 c0 ≡ x
+    put_here lt = ap (λ (xs : List ℤ). get_or xs c0 (pos 0)) (row_here r0 below refl)
+        ∙ get_or-set_same (get_or table r0 []) c0 x (pos 0) (omega (arith, lt, size.widths r0 below))
+
+    pub put_beside : (c : ℕ) → c ≢ c0 → amount_at (put_in r0 c0 x table) r0 c ≡ amount_at table r0 c
+    put_beside c differ = ap (λ (xs : List ℤ). get_or xs c (pos 0)) (row_here r0 below refl)
+        ∙ get_or-set_other (get_or table r0 []) c0 c x (pos 0) differ
+
+-- ---- the sums of a row, and of all rows
+
+-- one sum more
+pub sums_more : (day : Day) (rows columns : ℕ) (table : List (List ℤ)) (amounts : List ℤ) (t comp : ℕ) (sum : ℤ) → HasSize rows columns table
+    → t < rows → comp < columns → AreSumsIn day amounts t comp table → sum ≡ sum_in amounts (composition_at day comp)
+    → IsSmall 6000000000000000 sum → AreSumsIn day amounts t (comp + 1) (put_in t comp sum table)
+sums_more day rows columns table amounts t comp sum size below lt done is small = record {
+  values = λ c before. elim (cases_eq c comp) [
+    | inl same ↦ subst (λ (k : ℕ). amount_at (put_in t comp sum table) t k ≡ sum_in amounts (composition_at day k)) (sym same)
+        (put_here rows columns table size t comp sum below lt ∙ is)
+    | inr differ ↦ put_beside rows columns table size t comp sum below c differ ∙ done.values c (omega (arith, before, differ))
+  ];
+  small = λ c before. elim (cases_eq c comp) [
+    | inl same ↦ subst (λ (k : ℕ). IsSmall 6000000000000000 (amount_at (put_in t comp sum table) t k)) (sym same)
+        (subst (IsSmall 6000000000000000) (sym (put_here rows columns table size t comp sum below lt)) small)
+    | inr differ ↦ subst (IsSmall 6000000000000000) (sym (put_beside rows columns table size t comp sum below c differ))
+        (done.small c (omega (arith, before, differ)))
+  ];
+}
+
+pub others_more : (rows columns : ℕ) (table old : List (List ℤ)) (t comp : ℕ) (sum : ℤ) → HasSize rows columns table
+    → AreRowsBut t old table → AreRowsBut t old (put_in t comp sum table)
+others_more rows columns table old t comp sum size same other differ =
+    row_other rows columns table size t comp sum other differ ∙ same other differ
+
+-- no sum yet
+pub sums_none : (day : Day) (amounts : List ℤ) (t : ℕ) (table : List (List ℤ)) → AreSumsIn day amounts t 0 table
+sums_none day amounts t table = record { values = λ c lt. absurd (omega (arith, lt)); small = λ c lt. absurd (omega (arith, lt)) }
+
+-- one row more
+pub below_more : (day : Day) (amounts table new : List (List ℤ)) (trip : ℕ) → AreSumsBelow day amounts trip table
+    → AreSumsIn day (get_or amounts trip []) trip (length (compositions_of day)) new → AreRowsBut trip table new
+    → AreSumsBelow day amounts (trip + 1) new
+below_more day amounts table new trip done here others t lt = elim (cases_eq t trip) [
+  | inl same ↦ subst (λ (k : ℕ). AreSumsIn day (get_or amounts k []) k (length (compositions_of day)) new) (sym same) here
+  | inr differ ↦
+      let row : get_or new t [] ≡ get_or table t [] = others t differ in
+      let before : AreSumsIn day (get_or amounts t []) t (length (compositions_of day)) table = done t (omega (arith, lt, differ)) in
+      record {
+        values = λ c below. ap (λ (xs : List ℤ). get_or xs c (pos 0)) row ∙ before.values c below;
+        small = λ c below. subst (λ (xs : List ℤ). IsSmall 6000000000000000 (get_or xs c (pos 0))) (sym row) (before.small c below);
+      }
+]
+
+-- ---- the credits
+
+known : (day : Day) (c : ℕ) → c < length (compositions_of day) → All (λ m. m < length day.types) (composition_at day c)
+known day c below =
+    let (ms, at) = entry_below (compositions_of day) c below in
+    subst (All (λ (m : ℕ). m < length day.types)) (sym (ap (λ (o : Option (List ℕ)). unwrap_or o []) at))
+    (types_below day.types ms (types_known day.types (greatest_platform day) c ms at))
+
+pub credits_are : (day : Day) (entries : List Entry) (tables : PriceTables) (table : List (List ℤ)) → ArePrices day entries tables
+    → HasSize (length day.trips) (length (compositions_of day)) table → AreSumsBelow day tables.gives (length day.trips) table
+    → AreCredits day entries table
+credits_are day entries tables table prices size sums = record {
+  sized = size;
+  values = λ t c lt below. (sums t lt).values c below
+      ∙ giving_is day entries tables prices t lt (composition_at day c) (known day c below);
+  small = λ t c lt below. (sums t lt).small c below;
+}

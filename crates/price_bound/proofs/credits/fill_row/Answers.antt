@@ -1,0 +1,32 @@
+-- One sum more.
+use Rattle.std.proofs.Common.{to_z, of_z, w64, ◌≡◌, ◌<◌, ◌+◌, ℕ, ℤ, length, ap, sym, subst, arith, ◌∙◌}
+use Rattle.timetable.specs.Compositions.{compositions_of, composition_at}
+use Rattle.timetable.specs.Day.{Day}
+use Rattle.price_bound.specs.Credits.{AreRowsBut, AreSumsIn, put_in, sum_in}
+use Rattle.price_bound.specs.PriceTables.{HasSize}
+use Rattle.price_bound.proofs.Adding.{read_is}
+use Rattle.price_bound.proofs.Crediting.{others_more, put_size, sums_more}
+use Rattle.price_bound.proofs.credits.fill_row.Goals as goal
+
+pub loop-comp-preserved : goal.loop-comp-preserved
+loop-comp-preserved c =
+    let day : Day = c.args.instance.now in
+    let comps : ℕ = length (compositions_of day) in
+    let read : to_z w64 (of_z w64 c.sum_of-sum.result) ≡ c.sum_of-sum.result =
+    read_is 6000000000000000 c.sum_of-sum.result (omega arith) c.sum_of-sum.ensures.small in
+    let put : c.put.new.self ≡ put_in c.args.row c.loop-comp.comp c.sum_of-sum.result c.loop-comp.sums =
+    c.put.ensures ∙ ap (λ (x : ℤ). put_in c.args.row c.loop-comp.comp x c.loop-comp.sums) read in
+    let is : c.sum_of-sum.result ≡ sum_in c.args.amounts.now (composition_at day c.loop-comp.comp) =
+    c.sum_of-sum.ensures.value ∙ ap (sum_in c.args.amounts.now) c.types_of.ensures.value in
+    let below : c.loop-comp.comp < comps =
+    omega (arith, ap length c.catalogue.ensures, c.loop-comp-test.true, c.len-comp-end.ensures.value) in
+    record {
+      room = subst (HasSize (length day.trips) comps) (sym put)
+          (put_size (length day.trips) comps c.loop-comp.sums c.loop-comp.invariant.room c.args.row c.loop-comp.comp c.sum_of-sum.result);
+      sums = subst (AreSumsIn day c.args.amounts.now c.args.row (c.loop-comp.comp + 1)) (sym put)
+          (sums_more day (length day.trips) comps c.loop-comp.sums c.args.amounts.now c.args.row c.loop-comp.comp c.sum_of-sum.result
+          c.loop-comp.invariant.room c.requires.row below c.loop-comp.invariant.sums is c.sum_of-sum.ensures.small);
+      others = subst (AreRowsBut c.args.row c.args.sums.now) (sym put)
+          (others_more (length day.trips) comps c.loop-comp.sums c.args.sums.now c.args.row c.loop-comp.comp c.sum_of-sum.result
+          c.loop-comp.invariant.room c.loop-comp.invariant.others);
+    }

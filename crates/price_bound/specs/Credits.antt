@@ -1,0 +1,43 @@
+-- Credits: for each trip and composition the price of the composition's units, where the trip gives them.
+use Rattle.std.specs.Prelude.{ℕ, ◌≡◌, ◌≢◌, ◌<◌, List, [], length, get_or, set, ℤ, pos}
+use Rattle.timetable.specs.Compositions.{compositions_of, composition_at}
+use Rattle.timetable.specs.Day.{Day}
+use Rattle.branch_tree.specs.declared.multipliers.Entry.{Entry}
+use Rattle.branch_tree.specs.IntSums.{int_sum}
+use Rattle.price_bound.specs.CellSizes.{IsSmall}
+use Rattle.price_bound.specs.PriceTables.{HasSize, amount_at}
+use Rattle.price_bound.specs.YardPrices.{giving}
+
+-- a table with another amount in a row and a column
+abbrev pub put_in : ℕ → ℕ → ℤ → List (List ℤ) → List (List ℤ)
+put_in row column amount table = set table row (set (get_or table row []) column amount)
+
+-- the sum of what a row has for types
+abbrev pub sum_in : List ℤ → List ℕ → ℤ
+sum_in row types = int_sum (λ m. get_or row m (pos 0)) types
+
+-- the amounts of a row are small
+abbrev pub AreSmallAmounts : List ℤ → Type 0
+AreSmallAmounts row = (m : ℕ) → m < length row → IsSmall 1000000000000000 (get_or row m (pos 0))
+
+-- a table has, in the columns of a row below a number, the sums over the types of compositions
+pub record AreSumsIn (day : Day) (amounts : List ℤ) (t comps : ℕ) (table : List (List ℤ)) : Type 0 where
+  pub values : (c : ℕ) → c < comps → amount_at table t c ≡ sum_in amounts (composition_at day c)
+  pub small : (c : ℕ) → c < comps → IsSmall 6000000000000000 (amount_at table t c)
+
+-- it has them in the rows below a number
+abbrev pub AreSumsBelow : Day → List (List ℤ) → ℕ → List (List ℤ) → Type 0
+AreSumsBelow day amounts trips table =
+    (t : ℕ) → t < trips → AreSumsIn day (get_or amounts t []) t (length (compositions_of day)) table
+
+-- the rows of a table but one are those of another
+abbrev pub AreRowsBut : ℕ → List (List ℤ) → List (List ℤ) → Type 0
+AreRowsBut t table new = (other : ℕ) → other ≢ t → get_or new other [] ≡ get_or table other []
+
+-- the credits under multipliers
+pub record AreCredits (day : Day) (entries : List Entry) (table : List (List ℤ)) : Type 0 where
+  pub sized : HasSize (length day.trips) (length (compositions_of day)) table
+  pub values : (t c : ℕ) → t < length day.trips → c < length (compositions_of day)
+      → amount_at table t c ≡ giving day entries t (composition_at day c)
+  pub small : (t c : ℕ) → t < length day.trips → c < length (compositions_of day)
+      → IsSmall 6000000000000000 (amount_at table t c)
