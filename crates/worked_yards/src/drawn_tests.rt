@@ -6,9 +6,8 @@ ghost use Rattle.timetable.specs.Picking.{ArePicks};
 ghost use Rattle.transitions.specs.Edges.{AreGraphs};
 ghost use Rattle.unit_duties.specs.Broken.{AreAdmissible};
 
-use crate::drawn_days::{Draws, drawn_day};
-use crate::drawn_picks::{drawn_picks, pick_of};
 use day_simulator::simulate;
+use drawn_days::{Draws, drawn_day, drawn_picks, pick_of};
 use inventory::{Ledger, StockFault};
 use rail_base::{CompNo, LinkNo, TripNo};
 use sample_picks::may_run;
@@ -88,19 +87,49 @@ fn is_wanted(wanted: &Option<DutyRefusal>, refusal: DutyRefusal) -> bool {
     }
 }
 
+/// Draws picks for a day, and counts what they come to where they may run. The answer says whether all is as it is
+/// wanted.
+fn draw_picks(
+    alloc: Global,
+    day: &Instance,
+    graphs: &Graphs,
+    draws: &mut Draws,
+    counts: &mut Counts,
+) -> Result<bool, Fail>
+    requires { AreGraphs day.now graphs.now }
+{
+    let picks = drawn_picks(alloc, day, graphs, draws)?;
+    if !may_run(day, &picks) {
+        return Ok(true);
+    }
+    count(alloc, day, graphs, &picks, counts)
+}
+
+/// Draws some picks for a day, one after another. The answer says whether all is as it is wanted.
+fn draw_some(
+    alloc: Global,
+    day: &Instance,
+    graphs: &Graphs,
+    draws: &mut Draws,
+    counts: &mut Counts,
+) -> Result<bool, Fail>
+    requires { AreGraphs day.now graphs.now }
+{
+    for _ in 0..25 {
+        if !draw_picks(alloc, day, graphs, draws, counts)? {
+            return Ok(false);
+        }
+    }
+    Ok(true)
+}
+
 /// Draws a day and some picks for it, and counts what they come to. The answer says whether all is as it is wanted.
 fn draw(alloc: Global, draws: &mut Draws, counts: &mut Counts) -> Result<bool, Fail> {
     let Some(day) = drawn_day(alloc, draws)? else {
         return Ok(false);
     };
     let graphs = Graphs::build(alloc, &day)?;
-    for _ in 0..25 {
-        let picks = drawn_picks(alloc, &day, &graphs, draws)?;
-        if may_run(&day, &picks) && !count(alloc, &day, &graphs, &picks, counts)? {
-            return Ok(false);
-        }
-    }
-    Ok(true)
+    draw_some(alloc, &day, &graphs, draws, counts)
 }
 
 #[test]

@@ -2,10 +2,6 @@
 #![tactic(auto)]
 
 #[cfg(test)]
-mod drawn_days;
-#[cfg(test)]
-mod drawn_picks;
-#[cfg(test)]
 mod drawn_tests;
 #[cfg(test)]
 mod duty_tests;
