@@ -24,12 +24,12 @@ amount_rows parts total =
     ∷ []
 
 -- the parts of what a day costs whose trips have these lists of types
-abbrev pub parts_of : Day → List (List ℕ) → CostParts
-parts_of day lists = record {
+abbrev pub cost_parts : Day → List (List ℕ) → CostParts
+cost_parts day lists = record {
   carriage = record { 0 = pos (carriage_of day lists) };
   shortage = record { 0 = pos (shortage_of day lists) };
   shunting = record { 0 = pos (shunting_of day lists) };
 }
 
 unfoldable pub costs_text : Day → List (List ℕ) → List ℕ
-costs_text day lists = rows_text (cost_header ∷ amount_rows (parts_of day lists) (pos (cost_of day lists)))
+costs_text day lists = rows_text (cost_header ∷ amount_rows (cost_parts day lists) (pos (cost_of day lists)))
