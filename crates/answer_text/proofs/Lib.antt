@@ -16,3 +16,5 @@ pub mod Placing
 pub mod Running
 pub mod Ruling
 pub mod Exact
+pub mod Texts
+pub mod Sizes
