@@ -22,3 +22,4 @@ pub mod Endings
 pub mod ReportEndings
 pub mod Outcomes
 pub mod Statuses
+pub mod Rereading

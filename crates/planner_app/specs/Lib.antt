@@ -17,3 +17,5 @@ pub mod Reporting
 pub mod Texts
 pub mod Statuses
 pub mod Advice
+-- what holds of every answer that is found
+pub mod Laws

@@ -8,6 +8,7 @@ pub mod checking;
 pub mod command;
 pub mod command_words;
 mod document;
+pub mod laws;
 mod numbers;
 pub mod outcome;
 mod planning;

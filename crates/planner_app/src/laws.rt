@@ -1,0 +1,11 @@
+//! What holds of every answer that is found to a day.
+//!
+//! A law is the contract of a function that does nothing.
+
+ghost use Rattle.planner_app.specs.Laws.{HeadlinesAreValid};
+
+/// What `plan DIR` writes is valid: where `answer.txt` in a folder is the text of an answer that meets the headline of
+/// the day in that folder, `check DIR` ends with status 0, unless it ends with 5, 6 or 7.
+pub fn headlines_are_valid()
+    ensures law { HeadlinesAreValid }
+{}
