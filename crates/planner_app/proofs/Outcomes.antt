@@ -213,7 +213,7 @@ module _ {F : Type 0} (holds : F → Option Files) (may_fail : F → List ℕ �
       accepted = told files tells;
       on = on;
     };
-    sound = (dir, about_checked words dir asked, refl, day, answer, on);
+    sound = (dir, about_checked words dir asked, refl, λ is. asked, day, answer, on);
     usage = λ e. absurd cc;
     understood = λ vain. absurd (vain (command.Check dir) asked);
     caused = tt;
@@ -224,7 +224,7 @@ module _ {F : Type 0} (holds : F → Option Files) (may_fail : F → List ℕ �
       → PlanRuns inputs → IsCost (plan_cost inputs.instance inputs.plan) money → Comes (Runs money)
   plan_runs inputs money asked told runs cost = record {
     told = λ files tells. (inputs, record { dir = dir; asked = asked; accepted = told files tells }, runs, cost);
-    sound = (dir, asked, plan_cost inputs.instance inputs.plan, cost);
+    sound = (dir, asked, inputs, runs, cost);
     usage = λ e. absurd cc;
     understood = λ vain. absurd (vain (command.Simulate dir) asked);
     caused = tt;
@@ -235,7 +235,7 @@ module _ {F : Type 0} (holds : F → Option Files) (may_fail : F → List ℕ �
       → ¬ (PlanRuns inputs) → simulation inputs.instance inputs.plan ≡ Err fault → IsInTurn fault → Comes (Stops fault)
   plan_stops inputs fault asked told stops is in_turn = record {
     told = λ files tells. (inputs, record { dir = dir; asked = asked; accepted = told files tells }, stops, is, in_turn);
-    sound = (dir, asked, in_turn);
+    sound = (dir, asked, inputs, stops, is, in_turn);
     usage = λ e. absurd cc;
     understood = λ vain. absurd (vain (command.Simulate dir) asked);
     caused = tt;
@@ -257,7 +257,7 @@ module _ {F : Type 0} (holds : F → Option Files) (may_fail : F → List ℕ �
       accepted = told files tells;
       on = on;
     };
-    sound = (dir, about_reported words dir kind asked, report_reads kind dir, day, answer, on);
+    sound = (dir, about_reported words dir kind asked, report_reads kind dir, λ is. absurd (wrong is), day, answer, on);
     usage = λ e. absurd cc;
     understood = λ vain. absurd (vain (command_for kind dir) asked);
     caused = tt;
@@ -296,7 +296,7 @@ module _ {F : Type 0} (holds : F → Option Files) (may_fail : F → List ℕ �
       valid = valid;
       none = none;
     };
-    sound = (dir, kind, asked);
+    sound = (dir, kind, asked, day, answer, valid, none);
     usage = λ e. absurd cc;
     understood = λ vain. absurd (vain (command_for kind dir) asked);
     caused = tt;

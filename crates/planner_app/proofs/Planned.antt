@@ -161,6 +161,7 @@ module _ (day : Day) (accepted : IsAccepted day) (served : HaveCompositions day)
           holds = valid_answers_are_true day answer (relaxes day accepted) comps valid;
           valid = valid;
           branchings = says.branchings;
+          granted = subst (λ (nodes : List Node). branchings_of nodes ≤ granted) (sym says.tree) solved.granted;
           spent = spent;
           left_open = left_open;
           enough = λ many. no_bound answer.head (λ some. enough_leave_none_open day (relaxes day accepted) served comps

@@ -9,7 +9,7 @@ use Rattle.answer_text.proofs.Sizes.{texts_fit_files}
 use Rattle.answer_text.proofs.Texts.{texts_are_not_refused, texts_are_of_one_answer}
 use Rattle.planner_app.specs.AnswerFiles.{IsAnswerOf, answer_bytes}
 use Rattle.planner_app.specs.Headline.{IsHeadline}
-use Rattle.planner_app.specs.Laws.{HeadlinesAreValid}
+use Rattle.planner_app.specs.Laws.{HeadlinesAreReported, HeadlinesAreValid}
 
 -- bytes that are the text of an answer that meets the headline are read as that answer
 pub is_answer_of : (day : Day) (granted : ℕ) (answer : Answer) (bytes : List ℕ) → bytes ≡ text_of answer
@@ -28,3 +28,8 @@ pub headlines_are_valid : HeadlinesAreValid
 headlines_are_valid files dir day granted answer status accepted is headline ends =
     let is_read = is_answer_of day granted answer (answer_bytes files dir) is headline in
     ends.valid.1 (day, answer, record { of_tables = accepted; of_file = is_read }, headline.valid)
+
+pub headlines_are_reported : HeadlinesAreReported
+headlines_are_reported files dir day granted answer kind status before after accepted is headline planned ends =
+    let is_read = is_answer_of day granted answer (answer_bytes files dir) is headline in
+    ends.reported.1 (day, answer, record { of_tables = accepted; of_file = is_read }, headline.valid, planned)

@@ -94,7 +94,7 @@ abbrev pub open_leaves : Answer → ℕ
 open_leaves answer = open_leaves_of (plan_said answer []) answer.tree
 
 -- What is said with an answer to a day for which so many branchings were granted.
-pub record IsHeadline (day : Day) (granted : ℕ) (answer : Answer) : Type 0 where
+pub record IsHeadline (day : Day) (grant : ℕ) (answer : Answer) : Type 0 where
   -- what the head says is true of every plan that runs; and the plan of the answer, where it has one, runs and costs
   -- what is said
   pub holds : IsTrueOf day answer
@@ -102,12 +102,14 @@ pub record IsHeadline (day : Day) (granted : ℕ) (answer : Answer) : Type 0 whe
   pub valid : IsValid day answer
   -- the branchings that are said are those of the tree
   pub branchings : answer.branchings ≡ branchings_of answer.tree
+  -- no more branchings were made than were granted
+  pub granted : branchings_of answer.tree ≤ grant
   -- `bounded`: exactly the granted branchings were made
-  pub spent : IsSome (bound_said answer.head) → branchings_of answer.tree ≡ granted
+  pub spent : IsSome (bound_said answer.head) → branchings_of answer.tree ≡ grant
   -- `bounded`: a leaf is open
   pub left_open : IsSome (bound_said answer.head) → HasOpenLeaf (plan_said answer valid.picks) answer.tree
   -- `bounded` never comes where as many branchings are granted as the trips have choices of compositions, less one
-  pub enough : choices_of (root_of day) ≤ granted + 1 → bound_said answer.head ≡ None
+  pub enough : choices_of (root_of day) ≤ grant + 1 → bound_said answer.head ≡ None
   -- no open leaf has an evident end, and no bound is below the one without multipliers
   pub evident : EndsInTime (meanings_of day) (root_of day) (plan_said answer valid.picks) answer.tree
   -- its text can be read again

@@ -221,18 +221,22 @@ Says words files (NoInputs (CannotRead table)) = IsReached words files table
 Says words files (NoInputs NoMemory) = ⊤
 Says words files (NoAnswer error) = IsAnswerRefused words files error
 
--- what an outcome says whatever the files are: it is one of the command that is asked for, an answer meets the headline for some day, a cost is never negative, a plan
--- stops for a cause of its own, a verdict is that on an answer of a day, and a report is of the plan of a valid answer
+-- What an outcome says whatever the files are: it is one of the command that is asked for; an answer meets the headline for
+-- some day; a plan of some day runs at this cost, or stops with this fault; a verdict is that on an answer of some day, and is
+-- told by a check alone where the answer is valid; and a report, or that there is none, is of a valid answer.
 abbrev pub IsSound : List (List ℕ) → Outcome → Type 0
 IsSound words (Planned answer) = (day : Day) × IsPlanned words day answer
 IsSound words (Tried seed trips answer) = IsTried words seed trips answer
-IsSound words (Runs money) = (dir : List ℕ) × AskToSimulate words dir × (cost : ℕ) × IsCost cost money
-IsSound words (Stops fault) = (dir : List ℕ) × AskToSimulate words dir × IsInTurn fault
+IsSound words (Runs money) = (dir : List ℕ) × AskToSimulate words dir
+    × (inputs : Inputs) × PlanRuns inputs × IsCost (plan_cost inputs.instance inputs.plan) money
+IsSound words (Stops fault) = (dir : List ℕ) × AskToSimulate words dir
+    × (inputs : Inputs) × ¬ (PlanRuns inputs) × (simulation inputs.instance inputs.plan ≡ Err fault) × IsInTurn fault
 IsSound words (Checked head verdict) = (dir : List ℕ) × (about : AskAbout words dir) × (reads_answer about.named ≡ true)
-    × (day : Day) × (answer : Answer) × IsVerdictOn day answer head verdict
+    × (verdict ≡ Valid → AskToCheck words dir) × (day : Day) × (answer : Answer) × IsVerdictOn day answer head verdict
 IsSound words (Reported text) = (dir : List ℕ) × (kind : Report) × AskToReport words kind dir
     × (day : Day) × (answer : Answer) × IsReportOf kind day answer text
 IsSound words NoPlan = (dir : List ℕ) × (kind : Report) × AskToReport words kind dir
+    × (day : Day) × (answer : Answer) × IsValid day answer × (has_plan answer.head ≡ false)
 IsSound words Usage = ⊤
 IsSound words (NoInputs error) = ⊤
 IsSound words (NoAnswer error) = ⊤

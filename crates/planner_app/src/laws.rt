@@ -2,10 +2,17 @@
 //!
 //! A law is the contract of a function that does nothing.
 
-ghost use Rattle.planner_app.specs.Laws.{HeadlinesAreValid};
+ghost use Rattle.planner_app.specs.Laws.{HeadlinesAreReported, HeadlinesAreValid, ValidAnswersAreFound};
 
 /// What `plan DIR` writes is valid: where `answer.txt` in a folder is the text of an answer that meets the headline of
 /// the day in that folder, `check DIR` ends with status 0, unless it ends with 5, 6 or 7.
+/// A report on it ends likewise, where the answer has a plan.
 pub fn headlines_are_valid()
-    ensures law { HeadlinesAreValid }
+    ensures check { HeadlinesAreValid }
+    ensures report { HeadlinesAreReported }
+{}
+
+/// Of a valid answer `check_answer` finds that it is valid, or memory is wanting: no other verdict on it is right.
+pub fn valid_answers_are_found()
+    ensures law { ValidAnswersAreFound }
 {}

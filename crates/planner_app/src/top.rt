@@ -102,9 +102,9 @@ fn write_outcome<K: Sink>(alloc: Global, outcome: &Outcome, out: &mut K) -> u8
 /// holds, and what is said of the document where the sink tells what was written.
 ///
 /// Each advisor was asked at most 2^63 times before. The advisors stay in the list at their places, whatever the status is.
-/// One that has quit is not asked; each is asked at most K times at the root and at both sides of each branching, and once
-/// at least, where K is not 0, for each branching of the answer and for each of its open leaves. Other commands leave the
-/// list as it is.
+/// One that has quit is not asked; each is asked at most K times at the root and at both sides of each branching; and one
+/// that has not quit at the end was asked once at least, where K is not 0, for each branching of the answer and for each of
+/// its open leaves. Other commands leave the list as it is.
 #[tactic(auto, using(crate::proofs::Statuses::unread_rose))]
 pub fn railplan<F: Folder, K: Sink>(
     alloc: Global,
