@@ -1,8 +1,14 @@
 -- What a call that reads a folder answers.
-use Rattle.std.specs.Prelude.{ℕ, ◌≡◌, List, Bool, IsTrue, if◌then◌else◌, Result, Ok, Err, ⊤}
+use Rattle.std.specs.Prelude.{ℕ, ◌≡◌, List, Bool, false, IsTrue, if◌then◌else◌, Result, Ok, Err, ⊤}
 use Rattle.rail_base.specs.declared.limits.TheConstants.{MOST_TABLE_BYTES}
 use Rattle.rail_io.specs.Folders.{Rose, RosePast}
+use Rattle.rail_csv.specs.declared.rows.PlanRow.{PlanRow}
 use Rattle.rail_csv.specs.declared.rows.Table.{Table}
+use Rattle.rail_csv.specs.declared.rows.Table.TheVariants.{Plan}
+use Rattle.timetable.specs.declared.building.tables.Tables.{Tables}
+use Rattle.timetable.specs.Day.{Day}
+use Rattle.timetable.specs.Build.{day_of}
+use Rattle.timetable.specs.Plans.{plan_of}
 use Rattle.day_files.specs.declared.errors.Refusal.{Refusal}
 use Rattle.day_files.specs.declared.errors.Refusal.TheVariants.{TooLong, WrongTable, NoDay, NoPlan}
 use Rattle.day_files.specs.declared.errors.ReadError.{ReadError}
@@ -27,10 +33,17 @@ IsCaused may_fail faults taken dir before after (CannotRead table) =
 IsCaused may_fail faults taken dir before after (Refused (TooLong table)) = RosePast MOST_TABLE_BYTES (taken before) (taken after)
 IsCaused may_fail faults taken dir before after _ = ⊤
 
--- a file that could not be read is one of these
-abbrev pub IsUnreadOf : (Table → Type 0) → ReadError → Type 0
-IsUnreadOf AreRead (CannotRead table) = AreRead table
-IsUnreadOf AreRead _ = ⊤
+-- What an error says whatever the folder tells, where a call reads these tables: a file that could not be read, or that is
+-- refused as it stands, is one of theirs; some tables make no day, or some rows no plan of a day, for the reason that is told;
+-- and no refusal is want of memory.
+abbrev pub IsErrorOf : (Table → Type 0) → ReadError → Type 0
+IsErrorOf AreRead (CannotRead table) = AreRead table
+IsErrorOf AreRead (Refused (TooLong table)) = AreRead table
+IsErrorOf AreRead (Refused (WrongTable table why)) = AreRead table × (is_memory why ≡ false)
+IsErrorOf AreRead (Refused (NoDay why)) = (tables : Tables) × (day_of tables ≡ Err why)
+IsErrorOf AreRead (Refused (NoPlan why)) =
+    AreRead Plan × (day : Day) × (rows : List PlanRow) × (plan_of day rows ≡ Err why)
+IsErrorOf AreRead NoMemory = ⊤
 
 -- what the refusal of a table comes to
 abbrev pub error_of : Table → TableRefusal → ReadError

@@ -1,6 +1,6 @@
 //! The day and the plan of a folder: the tables, the day that they make, and the plan of it.
 
-ghost use Rattle.std.specs.Prelude.{◌≡◌, ◌≢◌, [], Some, Result, IfOk, IfErr};
+ghost use Rattle.std.specs.Prelude.{◌≡◌, ◌≢◌, [], Some, Result, IfOk, IfErr, ⊤};
 ghost use Rattle.rail_csv.specs.declared.rows.Table.TheVariants.{Plan};
 ghost use Rattle.rail_io.specs.Folders.{Files, OnlyReads};
 ghost use Rattle.rail_csv.specs.Rows.{ArePlanRows};
@@ -10,7 +10,7 @@ ghost use Rattle.timetable.specs.Running.{IsPlan};
 ghost use Rattle.day_files.specs.Tables.{AreTables};
 ghost use Rattle.day_files.specs.Inputs.{as_day, as_plan, day_in, inputs_in, tables_in};
 ghost use Rattle.day_files.specs.Order.{Reaches};
-ghost use Rattle.day_files.specs.Answers.{Reads, IsCaused, IsMade, IsUnreadOf};
+ghost use Rattle.day_files.specs.Answers.{Reads, IsCaused, IsMade, IsErrorOf};
 
 use crate::errors::{ReadError, Refusal};
 use crate::tables::table_in;
@@ -33,7 +33,7 @@ pub struct Inputs {
 fn tables_in<F: Folder>(alloc: Global, folder: &mut F, dir: &str) -> Result<Tables, ReadError>
     ensures told { (files : Files) → F.holds folder.old ≡ Some files → Reads (Reaches files dir.now) result (tables_in files dir.now) }
     ensures within { IfOk result AreTables }
-    ensures unread { IfErr result (IsUnreadOf (λ table. table ≢ Plan)) }
+    ensures says { IfErr result (IsErrorOf (λ table. table ≢ Plan)) }
     ensures caused { IfErr result (IsCaused F.may_fail F.faults F.taken dir.now folder.old folder.new) }
     ensures only_reads { OnlyReads F.holds F.may_fail F.faults F.taken folder.old folder.new }
 {
@@ -52,6 +52,7 @@ fn day_of(alloc: Global, tables: Tables) -> Result<Instance, ReadError>
     requires { AreTables tables }
     ensures told { Reads (λ _. ⊥) result (as_day (day_of tables)) }
     ensures made { IfErr result IsMade }
+    ensures says { IfErr result (IsErrorOf (λ _. ⊥)) }
 {
     match Instance::build(alloc, tables) {
         Ok(instance) => Ok(instance),
@@ -65,6 +66,7 @@ fn plan_of(alloc: Global, instance: &Instance, rows: &[PlanRow]) -> Result<Named
     requires { ArePlanRows rows.now }
     ensures told { Reads (λ _. ⊥) result (as_plan (plan_of instance.now rows.now)) }
     ensures made { IfErr result IsMade }
+    ensures says { IfErr result (IsErrorOf (λ table. table ≡ Plan)) }
     ensures is_plan { IfOk result (λ plan. IsPlan instance.now plan) }
 {
     match NamedPlan::build(alloc, instance, rows) {
@@ -80,12 +82,12 @@ fn plan_of(alloc: Global, instance: &Instance, rows: &[PlanRow]) -> Result<Named
 ///
 /// - `CannotRead`: the count of failed reads rose, a read of that file may fail, and each file before it is accepted. It is
 ///   never the file of the plan, which isn't read.
-/// - `Refused`: a file is refused, and it is the first; or the tables make no day.
+/// - `Refused`: a file is refused, and it is the first; or the tables make no day. It is never want of memory.
 /// - `NoMemory`: want of memory.
 #[tactic(auto, unfolding(crate::specs::Inputs::day_in))]
 pub fn day_in<F: Folder>(alloc: Global, folder: &mut F, dir: &str) -> Result<Instance, ReadError>
     ensures told { (files : Files) → F.holds folder.old ≡ Some files → Reads (Reaches files dir.now) result (day_in files dir.now) }
-    ensures unread { IfErr result (IsUnreadOf (λ table. table ≢ Plan)) }
+    ensures says { IfErr result (IsErrorOf (λ table. table ≢ Plan)) }
     ensures caused { IfErr result (IsCaused F.may_fail F.faults F.taken dir.now folder.old folder.new) }
     ensures only_reads { OnlyReads F.holds F.may_fail F.faults F.taken folder.old folder.new }
 {
@@ -98,12 +100,14 @@ pub fn day_in<F: Folder>(alloc: Global, folder: &mut F, dir: &str) -> Result<Ins
 ///
 /// - `CannotRead`: the count of failed reads rose, a read of that file may fail, and each file before it is accepted; where it is that of the plan, the
 ///   tables make a day.
-/// - `Refused`: a file is refused, and it is the first; or the tables make no day, or the rows of the plan no plan of it.
+/// - `Refused`: a file is refused, and it is the first; or the tables make no day, or the rows of the plan no plan of it. It is
+///   never want of memory.
 /// - `NoMemory`: want of memory.
 #[tactic(auto, using(crate::proofs::Reached::plan_ended), unfolding(crate::specs::Inputs::inputs_in))]
 pub fn inputs_in<F: Folder>(alloc: Global, folder: &mut F, dir: &str) -> Result<Inputs, ReadError>
     ensures told { (files : Files) → F.holds folder.old ≡ Some files → Reads (Reaches files dir.now) result (inputs_in files dir.now) }
     ensures is_plan { IfOk result (λ inputs. IsPlan inputs.instance inputs.plan) }
+    ensures says { IfErr result (IsErrorOf (λ _. ⊤)) }
     ensures caused { IfErr result (IsCaused F.may_fail F.faults F.taken dir.now folder.old folder.new) }
     ensures only_reads { OnlyReads F.holds F.may_fail F.faults F.taken folder.old folder.new }
 {

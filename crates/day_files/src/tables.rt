@@ -7,7 +7,7 @@ ghost use Rattle.rail_csv.specs.Tables.{is_memory};
 ghost use Rattle.rail_csv.specs.declared.rows.Table.{Table};
 ghost use Rattle.rail_csv.specs.declared.refusal.TableRefusal.{TableRefusal};
 ghost use Rattle.day_files.specs.Tables.{bytes_in, read_by};
-ghost use Rattle.day_files.specs.Answers.{Reads, IsCaused, IsUnreadOf, error_of};
+ghost use Rattle.day_files.specs.Answers.{Reads, IsCaused, IsErrorOf, error_of};
 
 use crate::errors::{ReadError, Refusal};
 use crate::names::path_of;
@@ -54,7 +54,7 @@ fn bytes_of<F: Folder>(
     ensures told { (files : Files) → F.holds folder.old ≡ Some files
         → Reads (λ other. other ≡ table) result (bytes_in files dir.now table) }
     ensures few { IfOk result (λ bytes. length bytes ≤ MOST_TABLE_BYTES) }
-    ensures unread { IfErr result (IsUnreadOf (λ other. other ≡ table)) }
+    ensures says { IfErr result (IsErrorOf (λ other. other ≡ table)) }
     ensures caused { IfErr result (IsCaused F.may_fail F.faults F.taken dir.now folder.old folder.new) }
     ensures only_reads { OnlyReads F.holds F.may_fail F.faults F.taken folder.old folder.new }
 {
@@ -69,7 +69,8 @@ fn bytes_of<F: Folder>(
 
 /// What the refusal of a table comes to.
 fn why(table: Table, refusal: TableRefusal) -> ReadError
-    ensures { result ≡ error_of table refusal }
+    ensures value { result ≡ error_of table refusal }
+    ensures says { IsErrorOf (λ other. other ≡ table) result }
 {
     match refusal {
         TableRefusal::NoMemory => ReadError::NoMemory,
@@ -87,7 +88,7 @@ pub(crate) fn table_in<F: Folder, T: DayTable>(
     ensures told { (files : Files) → F.holds folder.old ≡ Some files
         → Reads (λ other. other ≡ T.table) result (read_by T.reading files dir.now T.table) }
     ensures within { IfOk result T.is_within }
-    ensures unread { IfErr result (IsUnreadOf (λ other. other ≡ T.table)) }
+    ensures says { IfErr result (IsErrorOf (λ other. other ≡ T.table)) }
     ensures caused { IfErr result (IsCaused F.may_fail F.faults F.taken dir.now folder.old folder.new) }
     ensures only_reads { OnlyReads F.holds F.may_fail F.faults F.taken folder.old folder.new }
 {

@@ -1,6 +1,6 @@
 -- Outcomes of errors, by what a call that reads the folder answers.
 use Rattle.std.proofs.Common.{◌≡◌, ℕ, ◌⊎◌, inl, inr, Bool, List, Option, Some, None, Ok, Err, refl, sym, subst}
-use Rattle.std.specs.Prelude.{◌≢◌, true, false}
+use Rattle.std.specs.Prelude.{◌≢◌, true, false, ⊤}
 use Rattle.rail_io.specs.Folders.{Files}
 use Rattle.rail_csv.specs.declared.rows.Table.{Table}
 use Rattle.rail_csv.specs.declared.rows.Table.TheVariants as table
@@ -15,7 +15,9 @@ use Rattle.day_files.specs.declared.errors.ReadError.TheVariants.{CannotRead, Re
 use Rattle.day_files.specs.declared.inputs.Inputs.{Inputs}
 use Rattle.day_files.specs.Inputs.{day_in, inputs_in}
 use Rattle.day_files.specs.Order.{Reaches}
-use Rattle.day_files.specs.Answers.{Reads, IsCaused, IsUnreadOf}
+use Rattle.day_files.specs.Answers.{Reads, IsCaused, IsErrorOf}
+use Rattle.day_files.specs.declared.errors.Refusal.TheVariants.{TooLong, WrongTable}
+use Rattle.day_files.specs.declared.errors.Refusal.TheVariants as refusal
 use Rattle.day_simulator.specs.declared.events.StepFault.{StepFault}
 use Rattle.day_simulator.specs.Calls.{IsCost}
 use Rattle.day_simulator.specs.Finish.{simulation}
@@ -33,7 +35,7 @@ use Rattle.planner_app.specs.declared.reports.Report.{Report}
 use Rattle.planner_app.specs.declared.reports.Report.TheVariants as report
 use Rattle.planner_app.specs.Headline.{IsHeadline, IsValid}
 use Rattle.planner_app.specs.Outcomes.{AreAnswered, AskAbout, AskInVain, AskToCheck, AskToPlan, AskToReport, AskToSimulate}
-use Rattle.planner_app.specs.Outcomes.{AskToTry, HasCause, IsOutcome, IsPlanned, IsRefusedFor, IsReportOf, IsTried, IsVerdictOn}
+use Rattle.planner_app.specs.Outcomes.{AskToTry, HasCause, IsOutcome, IsReadBy, IsPlanned, IsRefusedFor, IsReportOf, IsTried, IsVerdictOn}
 use Rattle.planner_app.specs.Outcomes.{OfDay, OfDayAndPlan, PlanRuns, Says, command_for, folder_of, reads_answer, reads_plan}
 use Rattle.planner_app.specs.Reporting.{IsReportOutcome, IsTrialOutcome}
 
@@ -67,6 +69,15 @@ abbrev about_reported : (words : List (List ℕ)) (dir : List ℕ) (kind : Repor
 about_reported words dir kind asked =
     record { named = command_for kind dir; asked = asked; folder = report_folder kind dir }
 
+-- an error of some tables is one of more tables
+of_more : {A B : Table → Type 0} → ((read : Table) → A read → B read) → (error : ReadError) → IsErrorOf A error → IsErrorOf B error
+of_more more (CannotRead read) of = more read of
+of_more more (Refused (TooLong read)) of = more read of
+of_more more (Refused (WrongTable read why)) of = (more read of.0, of.1)
+of_more more (Refused (refusal.NoDay why)) of = of
+of_more more (Refused (refusal.NoPlan why)) of = (more table.Plan of.0, of.1, of.2, of.3)
+of_more more NoMemory of = tt
+
 module _ {F : Type 0} (holds : F → Option Files) (may_fail : F → List ℕ → Bool) (faults taken : F → ℕ) (words : List (List ℕ)) (before after : F) (dir : List ℕ) where
   abbrev Caused : ReadError → Type 0
   Caused error = IsCaused may_fail faults taken dir before after error
@@ -97,20 +108,22 @@ module _ {F : Type 0} (holds : F → Option Files) (may_fail : F → List ℕ �
     caused = tt;
   }
 
-  plan_cause : (error : ReadError) → AskToSimulate words dir → Caused error → HasCause may_fail faults taken words before after (NoInputs error)
-  plan_cause (Refused why) asked caused = (dir, about_simulated words dir asked, caused)
-  plan_cause (CannotRead read) asked caused = (dir, record { about = about_simulated words dir asked; plan = λ is. refl }, caused)
-  plan_cause NoMemory asked caused = tt
+  -- an error of tables that a command reads has its cause
+  cause_of : (error : ReadError) (about : AskAbout words dir) → IsErrorOf (IsReadBy about.named) error → Caused error
+      → HasCause may_fail faults taken words before after (NoInputs error)
+  cause_of (Refused why) about says caused = (dir, about, says, caused)
+  cause_of (CannotRead read) about says caused = (dir, about, says, caused)
+  cause_of NoMemory about says caused = tt
 
   pub no_plan : (error : ReadError) → AskToSimulate words dir
       → ((files : Files) → holds before ≡ Some files → Reads {Y = Inputs} (Reaches files dir) (Err error) (inputs_in files dir))
-      → Caused error → Comes (NoInputs error)
-  no_plan error asked told caused = record {
+      → IsErrorOf (λ _. ⊤) error → Caused error → Comes (NoInputs error)
+  no_plan error asked told unread caused = record {
     told = λ files tells. says error files (told files tells);
     sound = tt;
     usage = λ e. absurd cc;
     understood = λ vain. absurd (vain (command.Simulate dir) asked);
-    caused = plan_cause error asked caused;
+    caused = cause_of error (about_simulated words dir asked) (of_more (λ read any is. refl) error unread) caused;
   }
     where
       says : (error : ReadError) (files : Files) → Reads {Y = Inputs} (Reaches files dir) (Err error) (inputs_in files dir) → Says words files (NoInputs error)
@@ -121,23 +134,17 @@ module _ {F : Type 0} (holds : F → Option Files) (may_fail : F → List ℕ �
 
   -- the day of a command that reads no plan is not read
   module _ (about : AskAbout words dir) (plain : reads_plan about.named ≡ false) where
-    day_cause : (error : ReadError) → IsUnreadOf (λ read. read ≢ table.Plan) error → Caused error
-        → HasCause may_fail faults taken words before after (NoInputs error)
-    day_cause (Refused why) unread caused = (dir, about, caused)
-    day_cause (CannotRead read) unread caused = (dir, record { about = about; plan = λ is. absurd (unread is) }, caused)
-    day_cause NoMemory unread caused = tt
-
-    pub no_day : (error : ReadError) → Given error → IsUnreadOf (λ read. read ≢ table.Plan) error → Caused error
+    pub no_day : (error : ReadError) → Given error → IsErrorOf (λ read. read ≢ table.Plan) error → Caused error
         → Comes (NoInputs error)
     no_day error told unread caused = record {
       told = λ files tells. says error files unread (told files tells);
       sound = tt;
       usage = λ e. absurd cc;
       understood = λ vain. absurd (vain about.named about.asked);
-      caused = day_cause error unread caused;
+      caused = cause_of error about (of_more (λ read other is. absurd (other is)) error unread) caused;
     }
       where
-        says : (error : ReadError) → (files : Files) → IsUnreadOf (λ read. read ≢ table.Plan) error
+        says : (error : ReadError) → (files : Files) → IsErrorOf (λ read. read ≢ table.Plan) error
             → Reads {Y = Day} (Reaches files dir) (Err error) (day_in files dir) → Says words files (NoInputs error)
         says (Refused why) files unread given = OfDay dir about plain given
         says (CannotRead read) files unread given =
@@ -145,15 +152,15 @@ module _ {F : Type 0} (holds : F → Option Files) (may_fail : F → List ℕ �
         says NoMemory files unread given = tt
 
   pub day_not_planned : (nodes rounds : ℕ) (error : ReadError) → AskToPlan words dir nodes rounds → Given error
-      → IsUnreadOf (λ read. read ≢ table.Plan) error → Caused error → Comes (NoInputs error)
+      → IsErrorOf (λ read. read ≢ table.Plan) error → Caused error → Comes (NoInputs error)
   day_not_planned nodes rounds error asked = no_day (about_planned words dir nodes rounds asked) refl error
 
   pub day_not_checked : (error : ReadError) → AskToCheck words dir → Given error
-      → IsUnreadOf (λ read. read ≢ table.Plan) error → Caused error → Comes (NoInputs error)
+      → IsErrorOf (λ read. read ≢ table.Plan) error → Caused error → Comes (NoInputs error)
   day_not_checked error asked = no_day (about_checked words dir asked) refl error
 
   pub day_not_reported : (kind : Report) (error : ReadError) → AskToReport words kind dir → Given error
-      → IsUnreadOf (λ read. read ≢ table.Plan) error → Caused error → Comes (NoInputs error)
+      → IsErrorOf (λ read. read ≢ table.Plan) error → Caused error → Comes (NoInputs error)
   day_not_reported kind error asked = no_day (about_reported words dir kind asked) (report_plain kind dir) error
 
   pub planned : (nodes rounds : ℕ) (day : Day) (answer : Answer) → AskToPlan words dir nodes rounds

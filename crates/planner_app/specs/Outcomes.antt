@@ -13,7 +13,7 @@ use Rattle.day_files.specs.declared.errors.ReadError.TheVariants.{CannotRead, Re
 use Rattle.day_files.specs.declared.inputs.Inputs.{Inputs}
 use Rattle.day_files.specs.Inputs.{day_in, inputs_in}
 use Rattle.day_files.specs.Order.{Reaches}
-use Rattle.day_files.specs.Answers.{IsCaused}
+use Rattle.day_files.specs.Answers.{IsCaused, IsErrorOf}
 use Rattle.day_simulator.specs.Calls.{IsCost}
 use Rattle.day_simulator.specs.Finish.{simulation}
 use Rattle.day_simulator.specs.Laws.{IsInTurn}
@@ -192,10 +192,14 @@ pub data IsRefusedFor (words : List (List ℕ)) (files : Files) (why : Refusal) 
   OfDay : (dir : List ℕ) (asked : AskAbout words dir) → reads_plan asked.named ≡ false → day_in files dir ≡ Err why
       → IsRefusedFor words files why
 
--- the words ask for a command on this folder that reads this table; the plan is read by few commands
+-- a table that a command reads: each but the plan, which few commands read
+abbrev pub IsReadBy : Command → Table → Type 0
+IsReadBy named read = read ≡ table.Plan → reads_plan named ≡ true
+
+-- the words ask for a command on this folder that reads this table
 pub record AskToRead (words : List (List ℕ)) (dir : List ℕ) (read : Table) : Type 0 where
   pub about : AskAbout words dir
-  pub plan : read ≡ table.Plan → reads_plan about.named ≡ true
+  pub plan : IsReadBy about.named read
 
 -- a file that is reached
 pub record IsReached (words : List (List ℕ)) (files : Files) (read : Table) : Type 0 where
@@ -241,13 +245,12 @@ IsSound words Usage = ⊤
 IsSound words (NoInputs error) = ⊤
 IsSound words (NoAnswer error) = ⊤
 
--- what an error is caused by is seen in the counts of the folder
+-- An error is one of the tables that the command reads, and what it is caused by is seen in the counts of the folder.
 abbrev pub HasCause : {F : Type 0} → (F → List ℕ → Bool) → (F → ℕ) → (F → ℕ) → List (List ℕ) → F → F → Outcome → Type 0
 HasCause may_fail faults taken words before after (NoInputs NoMemory) = ⊤
-HasCause may_fail faults taken words before after (NoInputs (CannotRead read)) =
-    (dir : List ℕ) × AskToRead words dir read × IsCaused may_fail faults taken dir before after (CannotRead read)
-HasCause may_fail faults taken words before after (NoInputs (Refused why)) =
-    (dir : List ℕ) × AskAbout words dir × IsCaused may_fail faults taken dir before after (Refused why)
+HasCause may_fail faults taken words before after (NoInputs error) =
+    (dir : List ℕ) × (about : AskAbout words dir) × IsErrorOf (IsReadBy about.named) error
+    × IsCaused may_fail faults taken dir before after error
 HasCause may_fail faults taken words before after (NoAnswer error) =
     (dir : List ℕ) × (about : AskAbout words dir) × (reads_answer about.named ≡ true)
     × IsAnswerCaused may_fail faults taken dir before after error

@@ -5,7 +5,7 @@ use Rattle.planner_app.proofs.reports.reported.Goals as goal
 pub returns-in-Err-clause-outcome : goal.returns-in-Err-clause-outcome
 returns-in-Err-clause-outcome g c words asked =
     day_not_reported _ _ _ _ words _ _ c.args.dir.now c.args.kind c.in-Err.error asked c.in-Err.ensures.told
-    c.in-Err.ensures.unread c.in-Err.ensures.caused
+    c.in-Err.ensures.says c.in-Err.ensures.caused
 
 pub returns-in-Err-answer_in-clause-outcome : goal.returns-in-Err-answer_in-clause-outcome
 returns-in-Err-answer_in-clause-outcome g c words asked =

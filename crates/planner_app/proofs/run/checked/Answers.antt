@@ -4,7 +4,7 @@ use Rattle.planner_app.proofs.run.checked.Goals as goal
 
 pub returns-in-Err-clause-outcome : goal.returns-in-Err-clause-outcome
 returns-in-Err-clause-outcome g c words asked =
-    day_not_checked _ _ _ _ words _ _ c.args.dir.now c.in-Err.error asked c.in-Err.ensures.told c.in-Err.ensures.unread
+    day_not_checked _ _ _ _ words _ _ c.args.dir.now c.in-Err.error asked c.in-Err.ensures.told c.in-Err.ensures.says
     c.in-Err.ensures.caused
 
 pub returns-in-Err-answer_in-clause-outcome : goal.returns-in-Err-answer_in-clause-outcome

@@ -6,7 +6,7 @@ use Rattle.planner_app.proofs.run.planned.Goals as goal
 pub returns-in-Err-clause-outcome : goal.returns-in-Err-clause-outcome
 returns-in-Err-clause-outcome g c words asked =
     day_not_planned _ _ _ _ words _ _ c.args.dir.now c.args.nodes c.args.rounds c.in-Err.error asked
-    c.in-Err.ensures.told c.in-Err.ensures.unread c.in-Err.ensures.caused
+    c.in-Err.ensures.told c.in-Err.ensures.says c.in-Err.ensures.caused
 
 pub returns-in-Err-clause-asked : goal.returns-in-Err-clause-asked
 returns-in-Err-clause-asked g c =
