@@ -139,4 +139,5 @@ def main():
         print(f"{size:,} bytes: status {status}, {said.decode().strip()}, {seconds:.2f} s, {memory:,} kB")
 
 
-main()
+if __name__ == "__main__":
+    main()
