@@ -5,10 +5,12 @@ pub mod disk;
 pub mod folder;
 pub mod memory;
 pub mod sink;
+pub mod sure;
 pub mod whole;
 
 pub use disk::{DiskFolder, StdoutSink};
 pub use folder::{Failed, Folder};
 pub use memory::{MemoryFile, MemoryFolder, MemorySink};
 pub use sink::Sink;
+pub use sure::{SureFolder, SureSink};
 pub use whole::{FileRefusal, read_file, write_all};

@@ -63,7 +63,7 @@ impl Model for MemoryFolder {
 }
 
 /// The bytes of the first file with a path.
-fn find_file<'a>(files: &'a [MemoryFile], path: &str) -> Option<&'a [u8]>
+pub(crate) fn find_file<'a>(files: &'a [MemoryFile], path: &str) -> Option<&'a [u8]>
     ensures { MatchOption result (map.get (files_of files.now) path.now ≡ None)
         (λ bytes. map.get (files_of files.now) path.now ≡ Some bytes.now) }
 {
@@ -76,7 +76,7 @@ fn find_file<'a>(files: &'a [MemoryFile], path: &str) -> Option<&'a [u8]>
 }
 
 /// Copies what a file has from a place on, as far as there is room, and answers how many bytes that was.
-fn copy_from(file: &[u8], from: u64, into: &mut [u8]) -> usize
+pub(crate) fn copy_from(file: &[u8], from: u64, into: &mut [u8]) -> usize
     ensures read { IsReadFrom file.now from result into.new }
     ensures room { result ≤ length into.new }
 {
