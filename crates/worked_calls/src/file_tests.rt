@@ -4,12 +4,21 @@ use rail_base::NoMemory;
 use rail_base::name::is_name;
 use rail_io::{
     DiskFolder, Failed, FileRefusal, Folder, MemoryFile, MemoryFolder, MemorySink, Sink,
-    StdoutSink, read_file, write_all,
+    StdoutSink, SureFolder, SureSink, read_file, write_all,
 };
 use std::alloc::Global;
+use std::cell::Cell;
+use std::fmt::Display;
+use std::io::{ErrorKind, Print};
 use std::process::Abort;
 use std::test::Fail;
-use std::{env, fs};
+use std::{env, fs, io};
+
+/// A file in memory.
+fn file(rt: &impl Abort, alloc: Global, path: &str, bytes: &[u8]) -> Result<MemoryFile, NoMemory> {
+    assert!(rt; is_name(path.as_bytes()));
+    MemoryFile::new(alloc, path, bytes)
+}
 
 /// A folder in memory with one file, whose reads fail at these numbers.
 fn folder_with(
@@ -19,9 +28,8 @@ fn folder_with(
     bytes: &[u8],
     failing: Vec<u64>,
 ) -> Result<MemoryFolder, NoMemory> {
-    assert!(rt; is_name(path.as_bytes()));
     let mut files = Vec::new(alloc);
-    files.push(MemoryFile::new(alloc, path, bytes)?)?;
+    files.push(file(rt, alloc, path, bytes)?)?;
     MemoryFolder::new(alloc, files, failing)
 }
 
@@ -82,6 +90,33 @@ fn keeps_what_was_written_before_the_failure(rt: HostRuntime) -> Result<(), Fail
     Ok(())
 }
 
+#[test]
+fn a_sure_folder_reads_every_path(rt: HostRuntime) -> Result<(), Fail> {
+    let alloc = rt.alloc();
+    let mut files = Vec::new(alloc);
+    files.push(file(&rt, alloc, "types.csv", b"first")?)?;
+    files.push(file(&rt, alloc, "types.csv", b"second")?)?;
+    let mut folder = SureFolder::new(alloc, files)?;
+    let bytes = read_file(alloc, &mut folder, "types.csv", 5)?;
+    assert!(rt; bytes.as_slice() == b"first".as_slice());
+    let refusal = read_file(alloc, &mut folder, "types.csv", 4).err();
+    assert!(rt; refusal == Some(FileRefusal::TooLong));
+    assert!(rt; read_file(alloc, &mut folder, "links.csv", 5)?.is_empty());
+    Ok(())
+}
+
+#[test]
+fn a_sure_sink_takes_every_piece(rt: HostRuntime) -> Result<(), Fail> {
+    let mut sink = SureSink::new(rt.alloc(), 8)?;
+    assert!(rt; sink.write(b"runs ") == Ok(5));
+    assert!(rt; sink.written() == Some(b"runs ".as_slice()));
+    assert!(rt; sink.write(b"60\n") == Ok(3));
+    assert!(rt; sink.written() == Some(b"runs 60\n".as_slice()));
+    assert!(rt; sink.write(b"stops") == Ok(5));
+    assert!(rt; sink.written() == None);
+    Ok(())
+}
+
 /// Bytes that differ from their neighbours: the ten digits in turn.
 fn digits(alloc: Global, count: u32) -> Result<Vec<u8>, NoMemory> {
     let ten = *b"0123456789";
@@ -138,6 +173,78 @@ fn reads_a_file_as_it_was_opened(rt: HostRuntime) -> Result<(), Fail> {
     fs::remove_file(&rt, path.as_path())?;
     assert!(rt; folder.read_at("no such file", 0, &mut piece) == Err(Failed));
     assert!(rt; folder.read_at(path.as_str(), 3, &mut piece) == Err(Failed));
+    Ok(())
+}
+
+#[test]
+fn a_seek_that_fails_is_told(rt: HostRuntime) -> Result<(), Fail> {
+    let alloc = rt.alloc();
+    let name = format!(in alloc; "rail_io-{}.sought", std::process::id(rt.process()))?;
+    let path = env::temp_dir(&rt)?.join(alloc, name.as_str())?;
+    fs::write(&rt, path.as_path(), b"runs 60\n")?;
+    let mut folder = DiskFolder::new(&rt);
+    let mut piece = [0; 4];
+    // No file of the system has a place past 2^63.
+    assert!(rt; folder.read_at(path.as_str(), u64::MAX, &mut piece) == Err(Failed));
+    assert!(rt; folder.read_at(path.as_str(), 4, &mut piece) == Ok(4));
+    assert!(rt; folder.read_at(path.as_str(), u64::MAX, &mut piece) == Err(Failed));
+    assert!(rt; folder.read_at(path.as_str(), 5, &mut piece) == Ok(3));
+    assert!(rt; &piece[..3] == b"60\n".as_slice());
+    fs::remove_file(&rt, path.as_path())?;
+    Ok(())
+}
+
+#[test]
+fn a_folder_is_no_file(rt: HostRuntime) -> Result<(), Fail> {
+    let alloc = rt.alloc();
+    let path = env::temp_dir(&rt)?;
+    let mut folder = DiskFolder::new(&rt);
+    let refusal = read_file(alloc, &mut folder, path.as_str(), 100).err();
+    assert!(rt; refusal == Some(FileRefusal::ReadFault));
+    Ok(())
+}
+
+/// A standard output that takes one byte at a call, where it is the one that is wanted next.
+#[derive(Drop)]
+struct OneByte<'a> {
+    wanted: &'a [u8],
+    taken: Cell<usize>,
+}
+
+impl Print for OneByte<'_> {
+    fn print<D: Display + Drop>(&self, _value: D) -> io::Result<()> {
+        Err(io::Error::from(ErrorKind::Unsupported))
+    }
+
+    fn println<D: Display + Drop>(&self, _value: D) -> io::Result<()> {
+        Err(io::Error::from(ErrorKind::Unsupported))
+    }
+
+    fn write_all(&self, _bytes: &[u8]) -> io::Result<()> {
+        Err(io::Error::from(ErrorKind::Unsupported))
+    }
+
+    fn write_some(&self, bytes: &[u8]) -> io::Result<usize> {
+        let taken = self.taken.get();
+        if bytes.is_empty() || bytes.first() != self.wanted.get(taken) {
+            return Err(io::Error::from(ErrorKind::InvalidData));
+        }
+        self.taken.set(taken.saturating_add(1));
+        Ok(1)
+    }
+}
+
+#[test]
+fn a_short_write_is_no_whole_one(rt: HostRuntime) -> Result<(), Fail> {
+    let output = OneByte {
+        wanted: b"runs 60\n",
+        taken: Cell::new(0),
+    };
+    let mut sink = StdoutSink::new(&output);
+    assert!(rt; sink.write(b"runs 60\n") == Ok(1));
+    assert!(rt; write_all(&mut sink, b"uns 60\n") == Ok(()));
+    assert!(rt; output.taken.get() == 8);
+    assert!(rt; write_all(&mut sink, b"runs 60\n") == Err(Failed));
     Ok(())
 }
 
