@@ -154,6 +154,59 @@ fn trees_that_are_wrong(rt: HostRuntime) -> Result<(), Fail> {
     Ok(())
 }
 
+/// An answer that says that no plan runs, without its title: so many branchings are said, and its tree has so many
+/// branches that cut the first trip to its first composition, and after them so many leaves that say they are empty.
+fn cut_alike(
+    alloc: Global,
+    branchings: u32,
+    branches: u32,
+    leaves: u32,
+) -> Result<String, NoMemory> {
+    let mut text = format!(in alloc; "infeasible\nbranchings {branchings}\ntree\n")?;
+    for _ in 0..branches {
+        text.push_str("only 0 0\n")?;
+    }
+    for _ in 0..leaves {
+        text.push_str("empty\n")?;
+    }
+    text.push_str("end\n")?;
+    Ok(text)
+}
+
+#[test]
+fn trees_of_the_most_nodes(rt: HostRuntime) -> Result<(), Fail> {
+    let alloc = rt.alloc();
+    let whole = cut_alike(alloc, 4000, 4000, 4001)?;
+    expect_invalid(&rt, alloc, whole.as_str(), "invalid: node 1 cuts nothing\n")?;
+    let short = cut_alike(alloc, 4000, 4000, 4000)?;
+    expect_invalid(
+        &rt,
+        alloc,
+        short.as_str(),
+        "invalid: tree breaks at node 8000\n",
+    )?;
+    let unsaid = cut_alike(alloc, 0, 4000, 4001)?;
+    let line = "invalid: 0 branchings said, 4000 found\n";
+    expect_invalid(&rt, alloc, unsaid.as_str(), line)?;
+    let long = cut_alike(alloc, 4000, 4000, 4002)?;
+    let line = "refused answer.txt: too many nodes\n";
+    expect_there(&rt, alloc, long.as_str(), 3, line)?;
+    Ok(())
+}
+
+#[test]
+fn rays_that_are_wrong(rt: HostRuntime) -> Result<(), Fail> {
+    let alloc = rt.alloc();
+    let index = "infeasible\nbranchings 0\ntree\nray 1 4:1\nend\n";
+    let line = "invalid: node 0 has a wrong multiplier\n";
+    expect_invalid(&rt, alloc, index, line)?;
+    let negative = "infeasible\nbranchings 0\ntree\nray 1 0:-1\nend\n";
+    expect_invalid(&rt, alloc, negative, line)?;
+    let zero = "infeasible\nbranchings 0\ntree\nray 1 3:1\nend\n";
+    expect_invalid(&rt, alloc, zero, "invalid: ray of node 0 is 0\n")?;
+    Ok(())
+}
+
 #[test]
 fn heads_that_are_wrong(rt: HostRuntime) -> Result<(), Fail> {
     let alloc = rt.alloc();

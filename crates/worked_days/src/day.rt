@@ -1,10 +1,13 @@
 //! A day in memory, with one text a file, and what a run over it comes to.
 
+ghost use Rattle.std.specs.Prelude.{◌≡◌, ◌≢◌, IfOk};
+ghost use Rattle.rail_io.specs.Folders.{Rose};
+
 use advisors::{Advisor, Diver, Subgradient};
 use planner_app::railplan;
 use rail_base::name::is_name;
 use rail_base::{NoMemory, Words};
-use rail_io::{MemoryFile, MemoryFolder, MemorySink};
+use rail_io::{Folder, MemoryFile, MemoryFolder, MemorySink, Sink, SureFolder, SureSink};
 use std::alloc::Global;
 use std::process::Abort;
 
@@ -18,6 +21,7 @@ pub(crate) struct Day<'a> {
     pub(crate) links: Option<&'a str>,
     pub(crate) weights: Option<&'a str>,
     pub(crate) plan: Option<&'a str>,
+    pub(crate) answer: Option<&'a str>,
 }
 
 /// A status and what was written.
@@ -39,6 +43,7 @@ pub(crate) fn two_trips() -> Day<'static> {
         links: Some("kind,arriving,arriving2,departing,departing2,reverse,uncouple,couple\n"),
         weights: Some("carriage,shortage,shunting\n1,1,100\n"),
         plan: Some("trip,units\nT1,0\nT2,0\n"),
+        answer: None,
     }
 }
 
@@ -54,6 +59,14 @@ pub(crate) fn base_day() -> Day<'static> {
         ),
         plan: Some("trip,units\nT1,0 1\nT2,1 0\n"),
         ..two_trips()
+    }
+}
+
+/// The base day with cheap shunting. Its plans run with one unit or with both, and come back whole.
+pub(crate) fn cheap_shunting() -> Day<'static> {
+    Day {
+        weights: Some("carriage,shortage,shunting\n1,1,10\n"),
+        ..base_day()
     }
 }
 
@@ -125,6 +138,7 @@ pub(crate) fn northport() -> Day<'static> {
         ),
         weights: Some("carriage,shortage,shunting\r\n10,10,500\r\n"),
         plan: Some("trip,units\r\n101,0 1\r\n102,0\r\n103,0\r\n104,0 1\r\n"),
+        answer: None,
     }
 }
 
@@ -156,7 +170,15 @@ fn add_day(
     add(rt, alloc, files, "day/trips.csv", day.trips)?;
     add(rt, alloc, files, "day/links.csv", day.links)?;
     add(rt, alloc, files, "day/weights.csv", day.weights)?;
-    add(rt, alloc, files, "day/plan.csv", day.plan)
+    add(rt, alloc, files, "day/plan.csv", day.plan)?;
+    add(rt, alloc, files, "day/answer.txt", day.answer)
+}
+
+/// The files of a day that are there.
+fn files_of(rt: &impl Abort, alloc: Global, day: &Day) -> Result<Vec<MemoryFile>, NoMemory> {
+    let mut files = Vec::new(alloc);
+    add_day(rt, alloc, &mut files, day)?;
+    Ok(files)
 }
 
 /// The folder of a day, whose reads fail at these numbers.
@@ -166,9 +188,18 @@ pub(crate) fn folder_of(
     day: &Day,
     failing: Vec<u64>,
 ) -> Result<MemoryFolder, NoMemory> {
-    let mut files = Vec::new(alloc);
-    add_day(rt, alloc, &mut files, day)?;
+    let files = files_of(rt, alloc, day)?;
     MemoryFolder::new(alloc, files, failing)
+}
+
+/// The folder of a day, whose reads never fail.
+pub(crate) fn sure_folder_of(
+    rt: &impl Abort,
+    alloc: Global,
+    day: &Day,
+) -> Result<SureFolder, NoMemory> {
+    let files = files_of(rt, alloc, day)?;
+    SureFolder::new(alloc, files)
 }
 
 /// The folder of a day in which the file of a path has these bytes, which need not be a text. Of two files with one
@@ -197,17 +228,35 @@ pub(crate) fn words_of(rt: &impl Abort, alloc: Global, texts: &[&str]) -> Result
     Ok(words)
 }
 
-/// The status of the words over a folder and a sink, with the advisors that the program has.
-pub(crate) fn run(
+/// The status of the words over a folder and a sink, with the advisors that the program has. It tells of a failed read
+/// or a failed write only where a count of faults rose.
+pub(crate) fn run<F: Folder, K: Sink>(
     alloc: Global,
     words: &Words,
-    folder: &mut MemoryFolder,
-    out: &mut MemorySink,
-) -> Result<u8, NoMemory> {
+    folder: &mut F,
+    out: &mut K,
+) -> Result<u8, NoMemory>
+    ensures unread { IfOk result (λ status. status ≡ 5 → Rose (F.faults folder.old) (F.faults folder.new)) }
+    ensures unwritten { IfOk result (λ status. status ≡ 6 → Rose (K.faults out.old) (K.faults out.new)) }
+{
     let mut advisors: Vec<Box<dyn Advisor>> = Vec::new(alloc);
     advisors.push(Box::new(alloc, Subgradient::new())?)?;
     advisors.push(Box::new(alloc, Diver::new())?)?;
     Ok(railplan(alloc, words, folder, out, &mut advisors))
+}
+
+/// The status of the words over a folder and a sink whose calls never fail: it tells of no failed read and of no failed
+/// write.
+pub(crate) fn run_surely(
+    alloc: Global,
+    words: &Words,
+    folder: &mut SureFolder,
+    out: &mut SureSink,
+) -> Result<u8, NoMemory>
+    ensures read { IfOk result (λ status. status ≢ 5) }
+    ensures written { IfOk result (λ status. status ≢ 6) }
+{
+    run(alloc, words, folder, out)
 }
 
 /// What `simulate day` comes to over a folder and a sink.
@@ -215,9 +264,20 @@ pub(crate) fn simulated_with(
     rt: &impl Abort,
     alloc: Global,
     folder: &mut MemoryFolder,
+    out: MemorySink,
+) -> Result<Ending, NoMemory> {
+    ending_of(rt, alloc, &["railplan", "simulate", "day"], folder, out)
+}
+
+/// What words come to over a folder and a sink.
+pub(crate) fn ending_of(
+    rt: &impl Abort,
+    alloc: Global,
+    words: &[&str],
+    folder: &mut MemoryFolder,
     mut out: MemorySink,
 ) -> Result<Ending, NoMemory> {
-    let words = words_of(rt, alloc, &["railplan", "simulate", "day"])?;
+    let words = words_of(rt, alloc, words)?;
     let status = run(alloc, &words, folder, &mut out)?;
     let written = out.written().to_vec(alloc)?;
     Ok(Ending { status, written })

@@ -1,23 +1,150 @@
 //! Each read and each write of a run fails in turn: the answer is the one that says so, or the one that the run has
-//! where it never comes to that call.
+//! where it never comes to that call. Over a folder and a sink that never fail the run has its answer too.
 
-use crate::day::{Day, Ending, folder_of, ring, simulated_with};
+use crate::day::{
+    Day, Ending, base_day, ending_of, folder_of, one_stays, ring, run_surely, sure_folder_of,
+    two_trips, words_of,
+};
+use crate::report_tests::{COSTS, DUTIES, ONE_RETURNS, YARDS};
 use rail_base::NoMemory;
-use rail_io::MemorySink;
+use rail_io::{MemorySink, SureSink};
 use std::alloc::Global;
 use std::process::Abort;
 use std::test::Fail;
 
-/// The day of the ring whose last train is joined in the wrong order.
-fn joined_in_the_wrong_order() -> Day<'static> {
-    Day {
-        plan: Some("trip,units\nT1,0 1 2\nT2,0 1\nT3,2\nT4,0 1 2\n"),
-        ..ring()
+/// A command over a day, the file that it reads after the six tables, how many reads it makes, and what it comes to
+/// where none of its calls fails.
+#[derive(Clone, Copy)]
+struct Case<'a> {
+    words: &'a [&'a str],
+    day: Day<'a>,
+    last: &'a str,
+    reads: u64,
+    status: u8,
+    document: &'a str,
+}
+
+/// A plan of the day of a turn. It reads six files.
+fn planned() -> Case<'static> {
+    Case {
+        words: &["railplan", "plan", "day"],
+        day: base_day(),
+        last: "",
+        reads: 12,
+        status: 0,
+        document: "railplan answer 1\noptimal 120\nbranchings 0\nrun 0 0 1\nrun 1 1 0\ntree\ncost 120 0\nend\n",
+    }
+}
+
+/// A run of the plan of the ring. It reads seven files.
+fn simulated() -> Case<'static> {
+    Case {
+        words: &["railplan", "simulate", "day"],
+        day: ring(),
+        last: "plan.csv",
+        reads: 14,
+        status: 0,
+        document: "runs 1270\n",
+    }
+}
+
+/// A run of a plan in which the last train of the ring is joined in the wrong order.
+fn stopped() -> Case<'static> {
+    Case {
+        day: Day {
+            plan: Some("trip,units\nT1,0 1 2\nT2,0 1\nT3,2\nT4,0 1 2\n"),
+            ..ring()
+        },
+        status: 1,
+        document: "stops: link 1 is broken\n",
+        ..simulated()
+    }
+}
+
+/// A run where a table is refused as it is read. The tables after it are not read.
+fn refused_at_once() -> Case<'static> {
+    Case {
+        day: Day {
+            trips: Some("trip\n"),
+            ..ring()
+        },
+        reads: 8,
+        status: 3,
+        document: "refused trips.csv: wrong header\n",
+        ..simulated()
+    }
+}
+
+/// A run where a table is refused once all six are read. The plan is not read.
+fn refused_as_a_day() -> Case<'static> {
+    Case {
+        day: Day {
+            types: Some("type,carriages,seats,metres,family\nA,3,200,241,regional\n"),
+            ..ring()
+        },
+        reads: 12,
+        status: 3,
+        document: "refused trips.csv: row 1: no composition fits\n",
+        ..simulated()
+    }
+}
+
+/// A check of the answer to the day on which one unit stays. It reads seven files.
+fn checked() -> Case<'static> {
+    Case {
+        words: &["railplan", "check", "day"],
+        day: Day {
+            answer: Some(ONE_RETURNS),
+            ..one_stays()
+        },
+        last: "answer.txt",
+        reads: 14,
+        status: 0,
+        document: "valid optimal 190\n",
+    }
+}
+
+/// The report of the units' trips on that answer.
+fn duties() -> Case<'static> {
+    Case {
+        words: &["railplan", "duties", "day"],
+        document: DUTIES,
+        ..checked()
+    }
+}
+
+/// The report of the stations' counts on that answer.
+fn yards() -> Case<'static> {
+    Case {
+        words: &["railplan", "yards", "day"],
+        document: YARDS,
+        ..checked()
+    }
+}
+
+/// The report of the cost of that answer.
+fn costs() -> Case<'static> {
+    Case {
+        words: &["railplan", "costs", "day"],
+        document: COSTS,
+        ..checked()
+    }
+}
+
+/// A trial day that is planned. It reads no file.
+fn tried() -> Case<'static> {
+    Case {
+        words: &["railplan", "trial", "7", "2", "--nodes", "224"],
+        day: two_trips(),
+        last: "",
+        reads: 0,
+        status: 0,
+        document: "trial 7 2\noptimal 640\n",
     }
 }
 
 /// The file of a read. A short file takes two, one for its bytes and one that finds its end.
-fn file_of(read: u64) -> &'static str {
+fn file_of<'a>(case: &Case<'a>, read: u64) -> &'a str {
     match read {
         0 | 1 => "types.csv",
         2 | 3 => "stations.csv",
@@ -25,106 +152,146 @@ fn file_of(read: u64) -> &'static str {
         6 | 7 => "trips.csv",
         8 | 9 => "links.csv",
         10 | 11 => "weights.csv",
-        _ => "plan.csv",
+        _ => case.last,
     }
 }
 
-/// What a day comes to where these reads and these writes fail, and a write takes one byte.
-fn ending_of(
+/// What a case comes to where these reads and these writes fail, and a write takes one byte.
+fn ending_where(
     rt: &impl Abort,
     alloc: Global,
-    day: &Day,
+    case: &Case,
     reads: Vec<u64>,
     writes: Vec<u64>,
 ) -> Result<Ending, NoMemory> {
-    let mut folder = folder_of(rt, alloc, day, reads)?;
+    let mut folder = folder_of(rt, alloc, &case.day, reads)?;
     let out = MemorySink::new(alloc, 1000, 1, writes)?;
-    simulated_with(rt, alloc, &mut folder, out)
+    ending_of(rt, alloc, case.words, &mut folder, out)
 }
 
-/// Asserts that a run names the file of the read that fails, and that nothing but its first `reads` reads counts.
-fn expect_reads_named(
-    rt: &impl Abort,
-    alloc: Global,
-    day: &Day,
-    reads: u64,
-    status: u8,
-    document: &str,
-) -> Result<(), NoMemory> {
-    for read in 0..reads {
-        let file = file_of(read);
-        let unread = format!(in alloc; "cannot read {file}\n")?;
-        let ending = ending_of(rt, alloc, day, vec![in alloc; read]?, Vec::new(alloc))?;
-        assert!(rt; ending.status == 5);
-        assert!(rt; ending.written.as_slice() == unread.as_bytes());
-    }
-    for read in reads..15 {
-        let ending = ending_of(rt, alloc, day, vec![in alloc; read]?, Vec::new(alloc))?;
-        assert!(rt; ending.status == status);
-        assert!(rt; ending.written.as_slice() == document.as_bytes());
+/// Asserts the status and the document of a run.
+fn expect_ending(rt: &impl Abort, ending: &Ending, status: u8, document: &[u8]) {
+    assert!(rt; ending.status == status);
+    assert!(rt; ending.written.as_slice() == document);
+}
+
+/// Asserts that a run names the file of the read that fails, and that nothing but the reads of the case counts.
+fn expect_reads_named(rt: &impl Abort, alloc: Global, case: &Case) -> Result<(), NoMemory> {
+    for read in 0..15 {
+        let ending = ending_where(rt, alloc, case, vec![in alloc; read]?, Vec::new(alloc))?;
+        if read < case.reads {
+            let file = file_of(case, read);
+            let unread = format!(in alloc; "cannot read {file}\n")?;
+            expect_ending(rt, &ending, 5, unread.as_bytes());
+        } else {
+            expect_ending(rt, &ending, case.status, case.document.as_bytes());
+        }
     }
     Ok(())
 }
 
-/// Asserts that a run writes what comes before the write that fails, and its whole document where none does.
-fn expect_writes_cut(
-    rt: &impl Abort,
-    alloc: Global,
-    day: &Day,
-    status: u8,
-    document: &str,
-) -> Result<(), NoMemory> {
-    let text = document.as_bytes();
+/// Asserts that a run writes what comes before the write that fails, and its whole document where none does; and all
+/// but its last byte where there is no room for that.
+fn expect_writes_cut(rt: &impl Abort, alloc: Global, case: &Case) -> Result<(), NoMemory> {
+    let text = case.document.as_bytes();
     for write in 0..text.len() {
         let failing = vec![in alloc; write as u64]?;
-        let ending = ending_of(rt, alloc, day, Vec::new(alloc), failing)?;
-        assert!(rt; ending.status == 6);
-        assert!(rt; ending.written.as_slice() == &text[..write]);
+        let ending = ending_where(rt, alloc, case, Vec::new(alloc), failing)?;
+        expect_ending(rt, &ending, 6, &text[..write]);
     }
     let past = vec![in alloc; text.len() as u64]?;
-    let ending = ending_of(rt, alloc, day, Vec::new(alloc), past)?;
-    assert!(rt; ending.status == status);
-    assert!(rt; ending.written.as_slice() == text);
+    let ending = ending_where(rt, alloc, case, Vec::new(alloc), past)?;
+    expect_ending(rt, &ending, case.status, text);
+    let Some((_, front)) = text.split_last() else {
+        panic!(rt; "a document is not empty");
+    };
+    let narrow = MemorySink::new(alloc, front.len(), 1000, Vec::new(alloc))?;
+    let mut folder = folder_of(rt, alloc, &case.day, Vec::new(alloc))?;
+    let ending = ending_of(rt, alloc, case.words, &mut folder, narrow)?;
+    expect_ending(rt, &ending, 6, front);
+    Ok(())
+}
+
+/// Asserts that a run ends as ever over a folder and a sink that never fail; and where the sink has no room for the
+/// last byte too, though it doesn't tell then what was written.
+fn expect_sure(rt: &impl Abort, alloc: Global, case: &Case) -> Result<(), NoMemory> {
+    let text = case.document.as_bytes();
+    let mut folder = sure_folder_of(rt, alloc, &case.day)?;
+    let words = words_of(rt, alloc, case.words)?;
+    let mut out = SureSink::new(alloc, text.len())?;
+    assert!(rt; run_surely(alloc, &words, &mut folder, &mut out)? == case.status);
+    assert!(rt; out.written() == Some(text));
+    let mut narrow = SureSink::new(alloc, text.len().saturating_sub(1))?;
+    assert!(rt; run_surely(alloc, &words, &mut folder, &mut narrow)? == case.status);
+    assert!(rt; narrow.written() == None);
     Ok(())
 }
 
 #[test]
-fn each_read_fails_in_turn(rt: HostRuntime) -> Result<(), Fail> {
-    let alloc = rt.alloc();
-    expect_reads_named(&rt, alloc, &ring(), 14, 0, "runs 1270\n")?;
-    let stops = "stops: link 1 is broken\n";
-    expect_reads_named(&rt, alloc, &joined_in_the_wrong_order(), 14, 1, stops)?;
-    let no_header = Day {
-        trips: Some("trip\n"),
-        ..ring()
-    };
-    let refused = "refused trips.csv: wrong header\n";
-    expect_reads_named(&rt, alloc, &no_header, 8, 3, refused)?;
-    let long_units = Day {
-        types: Some("type,carriages,seats,metres,family\nA,3,200,241,regional\n"),
-        ..ring()
-    };
-    let refused = "refused trips.csv: row 1: no composition fits\n";
-    expect_reads_named(&rt, alloc, &long_units, 12, 3, refused)?;
+fn each_read_of_a_simulation_fails_in_turn(rt: HostRuntime) -> Result<(), Fail> {
+    for case in [
+        simulated(),
+        stopped(),
+        refused_at_once(),
+        refused_as_a_day(),
+    ] {
+        expect_reads_named(&rt, rt.alloc(), &case)?;
+    }
     Ok(())
 }
 
 #[test]
-fn each_write_fails_in_turn(rt: HostRuntime) -> Result<(), Fail> {
-    let alloc = rt.alloc();
-    expect_writes_cut(&rt, alloc, &ring(), 0, "runs 1270\n")?;
-    let stops = "stops: link 1 is broken\n";
-    expect_writes_cut(&rt, alloc, &joined_in_the_wrong_order(), 1, stops)?;
-    let no_header = Day {
-        trips: Some("trip\n"),
-        ..ring()
+fn each_read_of_the_other_commands_fails_in_turn(rt: HostRuntime) -> Result<(), Fail> {
+    for case in [planned(), checked(), duties(), yards(), costs(), tried()] {
+        expect_reads_named(&rt, rt.alloc(), &case)?;
+    }
+    Ok(())
+}
+
+#[test]
+fn each_write_of_a_simulation_fails_in_turn(rt: HostRuntime) -> Result<(), Fail> {
+    let unread = Case {
+        day: Day {
+            plan: None,
+            ..ring()
+        },
+        status: 5,
+        document: "cannot read plan.csv\n",
+        ..simulated()
     };
-    let refused = "refused trips.csv: wrong header\n";
-    expect_writes_cut(&rt, alloc, &no_header, 3, refused)?;
-    let no_plan = Day {
-        plan: None,
-        ..ring()
-    };
-    expect_writes_cut(&rt, alloc, &no_plan, 5, "cannot read plan.csv\n")?;
+    for case in [simulated(), stopped(), refused_at_once(), unread] {
+        expect_writes_cut(&rt, rt.alloc(), &case)?;
+    }
+    Ok(())
+}
+
+#[test]
+fn each_write_of_a_plan_and_of_a_trial_fails_in_turn(rt: HostRuntime) -> Result<(), Fail> {
+    expect_writes_cut(&rt, rt.alloc(), &planned())?;
+    expect_writes_cut(&rt, rt.alloc(), &tried())?;
+    Ok(())
+}
+
+#[test]
+fn each_write_of_a_check_and_of_a_report_fails_in_turn(rt: HostRuntime) -> Result<(), Fail> {
+    for case in [checked(), duties(), yards(), costs()] {
+        expect_writes_cut(&rt, rt.alloc(), &case)?;
+    }
+    Ok(())
+}
+
+#[test]
+fn sure_folders_and_sinks_end_as_ever(rt: HostRuntime) -> Result<(), Fail> {
+    for case in [
+        planned(),
+        simulated(),
+        checked(),
+        duties(),
+        yards(),
+        costs(),
+        tried(),
+    ] {
+        expect_sure(&rt, rt.alloc(), &case)?;
+    }
     Ok(())
 }

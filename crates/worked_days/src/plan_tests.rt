@@ -1,8 +1,8 @@
 //! Planning a day: worked days and the answers to them, as the text that is written.
 
 use crate::day::{
-    Day, base_day, both_stay, folder_of, northport, one_stays, ring, run, two_trips, two_types,
-    words_of,
+    Day, base_day, both_stay, cheap_shunting, folder_of, northport, one_stays, ring, run,
+    two_trips, two_types, words_of,
 };
 use rail_base::NoMemory;
 use rail_io::MemorySink;
@@ -108,11 +108,14 @@ fn branchings_and_rounds_are_granted(rt: HostRuntime) -> Result<(), Fail> {
     expect_answer(&rt, alloc, &one_stays(), &granted("2", "0"), 0, closed)?;
     let plan_and_bound =
         "bounded 100 plan 1060\nbranchings 1\nrun 0 0\nrun 1 0\ntree\nonly 0 1\ncost 100 0\ncost 1060 0\nend\n";
-    let cheap = Day {
-        weights: Some("carriage,shortage,shunting\n1,1,10\n"),
-        ..base_day()
-    };
-    expect_answer(&rt, alloc, &cheap, &granted("1", "0"), 4, plan_and_bound)?;
+    expect_answer(
+        &rt,
+        alloc,
+        &cheap_shunting(),
+        &granted("1", "0"),
+        4,
+        plan_and_bound,
+    )?;
     Ok(())
 }
 

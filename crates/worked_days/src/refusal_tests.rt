@@ -496,6 +496,7 @@ fn files_are_read_in_order(rt: HostRuntime) -> Result<(), Fail> {
         links: wrong,
         weights: wrong,
         plan: None,
+        answer: None,
     };
     expect_refused(&rt, alloc, &day, "types.csv: wrong header")?;
     day.types = None;

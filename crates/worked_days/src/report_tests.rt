@@ -7,18 +7,18 @@ use std::alloc::Global;
 use std::process::Abort;
 use std::test::Fail;
 
-const ONE_RETURNS: &str =
+pub(crate) const ONE_RETURNS: &str =
     "railplan answer 1\noptimal 190\nbranchings 0\nrun 0 0 1\nrun 1 1\ntree\ncost 190 2 2:-45 3:45\nend\n";
 
 const FIRST_BOUND: &str = "railplan answer 1\nbounded 120\nbranchings 0\ntree\ncost 120 0\nend\n";
 
-const DUTIES: &str =
+pub(crate) const DUTIES: &str =
     "unit,type,home,trip,from,departure,to,arrival,position\n0,A,X,T1,X,08:00,Y,09:00,0\n1,A,X,T1,X,08:00,Y,09:00,1\n1,A,X,T2,Y,09:10,X,10:10,0\n";
 
-const YARDS: &str =
+pub(crate) const YARDS: &str =
     "station,type,time,taken,ready,count\nX,A,start,0,0,2\nX,A,08:00,2,0,0\nX,A,end,0,1,1\nY,A,start,0,0,0\nY,A,09:10,0,0,0\nY,A,end,0,1,1\n";
 
-const COSTS: &str = "part,amount\ncarriage,90\nshortage,0\nshunting,100\ntotal,190\n";
+pub(crate) const COSTS: &str = "part,amount\ncarriage,90\nshortage,0\nshunting,100\ntotal,190\n";
 
 /// Asserts the status and the document of a command on the day on which one unit stays, whose answer is this text.
 fn expect_report(
