@@ -21,3 +21,5 @@ mod refusal_tests;
 mod report_tests;
 #[cfg(test)]
 mod simulate_tests;
+#[cfg(test)]
+mod spoiled_tests;

@@ -1,0 +1,298 @@
+//! Printed answers that are read again: as they are, they are valid. Spoiled at a byte or a line, they are valid only
+//! where what they say is still true, and else they are refused or found wrong.
+
+use crate::day::{
+    Day, Ending, base_day, both_stay, cheap_shunting, ending_of, folder_of, folder_with_bytes,
+    northport, one_stays, ring, two_trips, two_types,
+};
+use rail_base::NoMemory;
+use rail_io::MemorySink;
+use std::alloc::Global;
+use std::process::Abort;
+use std::test::Fail;
+
+/// The bytes that are put in place of another.
+const OTHERS: [u8; 4] = *b"09-\n";
+
+/// A day, and the costs of its plans that run, as they are found by hand; there is none where no plan runs.
+#[derive(Clone, Copy, Debug)]
+struct Known<'a> {
+    day: Day<'a>,
+    costs: &'a [i64],
+}
+
+/// What is written of a day that is planned by these words.
+fn printed(rt: &impl Abort, alloc: Global, day: &Day, words: &[&str]) -> Result<Vec<u8>, NoMemory> {
+    let mut folder = folder_of(rt, alloc, day, Vec::new(alloc))?;
+    let out = MemorySink::new(alloc, 10_000, 10_000, Vec::new(alloc))?;
+    let ending = ending_of(rt, alloc, words, &mut folder, out)?;
+    Ok(ending.written)
+}
+
+/// What a check of these bytes as the answer to a day comes to.
+fn checked(rt: &impl Abort, alloc: Global, day: &Day, answer: &[u8]) -> Result<Ending, NoMemory> {
+    let mut folder = folder_with_bytes(rt, alloc, day, "day/answer.txt", answer)?;
+    let out = MemorySink::new(alloc, 1000, 1000, Vec::new(alloc))?;
+    ending_of(rt, alloc, &["railplan", "check", "day"], &mut folder, out)
+}
+
+/// The bytes as a text.
+fn text_of<'a>(rt: &impl Abort, bytes: &'a [u8]) -> &'a str {
+    let Ok(text) = str::from_utf8(bytes) else {
+        panic!(rt; "what is written is a text");
+    };
+    text
+}
+
+/// Asserts that what is written of a day is valid when it is read again, and that its second line is told.
+fn expect_valid(rt: &impl Abort, alloc: Global, day: &Day, words: &[&str]) -> Result<(), NoMemory> {
+    let answer = printed(rt, alloc, day, words)?;
+    let ending = checked(rt, alloc, day, answer.as_slice())?;
+    assert!(rt; ending.status == 0);
+    let Some(head) = text_of(rt, answer.as_slice()).lines().nth(1) else {
+        panic!(rt; "an answer has a second line");
+    };
+    let told = format!(in alloc; "valid {head}\n")?;
+    assert!(rt; ending.written.as_slice() == told.as_bytes());
+    Ok(())
+}
+
+/// Whether no plan that runs costs less than this number.
+fn is_bound(costs: &[i64], number: &str) -> bool {
+    let Ok(bound) = number.parse::<i64>() else {
+        return false;
+    };
+    for cost in costs {
+        if *cost < bound {
+            return false;
+        }
+    }
+    true
+}
+
+/// Whether some plan that runs costs this number.
+fn is_cost(costs: &[i64], number: &str) -> bool {
+    match number.parse::<i64>() {
+        Ok(cost) => costs.contains(&cost),
+        Err(_) => false,
+    }
+}
+
+/// Whether the second line of an answer is true of plans that have these costs.
+fn is_true(costs: &[i64], head: &str) -> bool {
+    if head == "infeasible" {
+        return costs.is_empty();
+    }
+    if let Some(cost) = head.strip_prefix("optimal ") {
+        return is_bound(costs, cost) && is_cost(costs, cost);
+    }
+    let Some(bounds) = head.strip_prefix("bounded ") else {
+        return false;
+    };
+    match bounds.split_once(" plan ") {
+        Some((bound, cost)) => is_bound(costs, bound) && is_cost(costs, cost),
+        None => is_bound(costs, bounds),
+    }
+}
+
+/// Whether a line says that an answer is valid, and what it says of the answer is true.
+fn is_valid_and_true(costs: &[i64], line: &str) -> bool {
+    let Some(head) = line.strip_prefix("valid ") else {
+        return false;
+    };
+    match head.strip_suffix("\n") {
+        Some(head) => is_true(costs, head),
+        None => false,
+    }
+}
+
+/// Asserts that bytes are refused as an answer to a day, or are invalid, or say what is true.
+fn expect_nothing_false(
+    rt: &impl Abort,
+    alloc: Global,
+    known: &Known,
+    answer: &[u8],
+) -> Result<(), NoMemory> {
+    let ending = checked(rt, alloc, &known.day, answer)?;
+    let line = text_of(rt, ending.written.as_slice());
+    let status = ending.status;
+    match status {
+        0 => assert!(rt; is_valid_and_true(known.costs, line)),
+        1 => assert!(rt; line.starts_with("invalid: ")),
+        3 => assert!(rt; line.starts_with("refused answer.txt: ")),
+        _ => panic!(rt; "a check has no other status"),
+    }
+    Ok(())
+}
+
+/// Asserts that an answer says nothing false which has other bytes in place of one.
+fn expect_spoiled_byte(
+    rt: &impl Abort,
+    alloc: Global,
+    known: &Known,
+    front: &[u8],
+    others: &[u8],
+    back: &[u8],
+) -> Result<(), NoMemory> {
+    let mut answer = front.to_vec(alloc)?;
+    answer.extend_from_slice(others)?;
+    answer.extend_from_slice(back)?;
+    expect_nothing_false(rt, alloc, known, answer.as_slice())
+}
+
+/// Asserts that an answer says nothing false where any one byte is another, or is left out.
+fn expect_spoiled_bytes(
+    rt: &impl Abort,
+    alloc: Global,
+    known: &Known,
+    answer: &[u8],
+) -> Result<(), NoMemory> {
+    for place in 0..answer.len() {
+        let (front, rest) = answer.split_at(place);
+        let Some((_, back)) = rest.split_first() else {
+            return Ok(());
+        };
+        for other in OTHERS {
+            expect_spoiled_byte(rt, alloc, known, front, &[other], back)?;
+        }
+        expect_spoiled_byte(rt, alloc, known, front, &[], back)?;
+    }
+    Ok(())
+}
+
+/// Asserts that an answer says nothing false where the line at a place stands so often.
+fn expect_repeated_line(
+    rt: &impl Abort,
+    alloc: Global,
+    known: &Known,
+    lines: &[&str],
+    place: usize,
+    times: u32,
+) -> Result<(), NoMemory> {
+    let mut answer = String::new(alloc);
+    for (at, line) in lines.iter().enumerate() {
+        let times = if at == place { times } else { 1 };
+        for _ in 0..times {
+            answer.push_str(line)?;
+            answer.push('\n')?;
+        }
+    }
+    expect_nothing_false(rt, alloc, known, answer.as_bytes())
+}
+
+/// Asserts that an answer says nothing false where two lines stand at one another's places.
+fn expect_exchanged_lines(
+    rt: &impl Abort,
+    alloc: Global,
+    known: &Known,
+    lines: &[&str],
+    one: usize,
+    other: usize,
+) -> Result<(), NoMemory> {
+    let mut answer = String::new(alloc);
+    for (at, line) in lines.iter().enumerate() {
+        let from = if at == one {
+            other
+        } else if at == other {
+            one
+        } else {
+            at
+        };
+        answer.push_str(lines.get(from).unwrap_or(line))?;
+        answer.push('\n')?;
+    }
+    expect_nothing_false(rt, alloc, known, answer.as_bytes())
+}
+
+/// Asserts that an answer says nothing false where any one line is left out or stands twice, and where any two lines
+/// stand at one another's places.
+fn expect_spoiled_lines(
+    rt: &impl Abort,
+    alloc: Global,
+    known: &Known,
+    answer: &str,
+) -> Result<(), NoMemory> {
+    let mut lines = Vec::new(alloc);
+    for line in answer.lines() {
+        lines.push(line)?;
+    }
+    for one in 0..lines.len() {
+        expect_repeated_line(rt, alloc, known, lines.as_slice(), one, 0)?;
+        expect_repeated_line(rt, alloc, known, lines.as_slice(), one, 2)?;
+        for other in 0..one {
+            expect_exchanged_lines(rt, alloc, known, lines.as_slice(), one, other)?;
+        }
+    }
+    Ok(())
+}
+
+/// Asserts that what is written of a day begins with this line under its title, and says nothing false however it is
+/// spoiled.
+fn expect_spoiled(
+    rt: &impl Abort,
+    alloc: Global,
+    known: &Known,
+    words: &[&str],
+    head: &str,
+) -> Result<(), NoMemory> {
+    let answer = printed(rt, alloc, &known.day, words)?;
+    let front = format!(in alloc; "railplan answer 1\n{head}\n")?;
+    assert!(rt; answer.as_slice().starts_with(front.as_bytes()));
+    expect_spoiled_bytes(rt, alloc, known, answer.as_slice())?;
+    expect_spoiled_lines(rt, alloc, known, text_of(rt, answer.as_slice()))
+}
+
+#[test]
+fn printed_answers_are_valid(rt: HostRuntime) -> Result<(), Fail> {
+    let alloc = rt.alloc();
+    let days = [
+        base_day(),
+        one_stays(),
+        both_stay(),
+        two_trips(),
+        two_types(),
+        ring(),
+        northport(),
+    ];
+    for day in &days {
+        expect_valid(&rt, alloc, day, &["railplan", "plan", "day"])?;
+    }
+    let few = ["railplan", "plan", "day", "--nodes", "1", "--rounds", "0"];
+    for day in [one_stays(), both_stay(), cheap_shunting(), northport()] {
+        expect_valid(&rt, alloc, &day, &few)?;
+    }
+    Ok(())
+}
+
+#[test]
+fn a_spoiled_optimal_answer_says_nothing_false(rt: HostRuntime) -> Result<(), Fail> {
+    let known = Known {
+        day: one_stays(),
+        costs: &[190],
+    };
+    let usual = ["railplan", "plan", "day"];
+    expect_spoiled(&rt, rt.alloc(), &known, &usual, "optimal 190")?;
+    Ok(())
+}
+
+#[test]
+fn a_spoiled_bounded_answer_says_nothing_false(rt: HostRuntime) -> Result<(), Fail> {
+    let known = Known {
+        day: cheap_shunting(),
+        costs: &[120, 1060],
+    };
+    let few = ["railplan", "plan", "day", "--nodes", "1", "--rounds", "0"];
+    expect_spoiled(&rt, rt.alloc(), &known, &few, "bounded 100 plan 1060")?;
+    Ok(())
+}
+
+#[test]
+fn a_spoiled_infeasible_answer_says_nothing_false(rt: HostRuntime) -> Result<(), Fail> {
+    let known = Known {
+        day: both_stay(),
+        costs: &[],
+    };
+    let usual = ["railplan", "plan", "day"];
+    expect_spoiled(&rt, rt.alloc(), &known, &usual, "infeasible")?;
+    Ok(())
+}
