@@ -18,8 +18,9 @@ from simulate import clock, instructions_of, run, write_tables
 # The trips of the days that grow, and the seed from which their demands are drawn.
 DAYS = (40, 100, 200, 400)
 SEED = 7
-# How often a bound is found in one run, where the time is measured.
+# How often a bound is found in one run, at least, and over how many edges, where the time is measured.
 TIMES = 20
+TIMED_EDGES = 5_000_000
 # The most multipliers of a list.
 MOST_ENTRIES = 1000
 
@@ -279,6 +280,7 @@ def of_one(measured, ours, theirs, times):
 def measure(program, other, day, is_priced, name):
     """A row of a table: a day, and what a bound of it takes."""
     entries = day.multipliers(is_priced)
+    edges = sum(len(day.edges(reverse)) * sum(link[2] == reverse for link in day.links) for reverse in (False, True))
     with tempfile.TemporaryDirectory() as folder:
         day.write(folder)
         with open(os.path.join(folder, "problem.txt"), "w") as problem:
@@ -290,9 +292,8 @@ def measure(program, other, day, is_priced, name):
         value, picks = run(theirs(1))[0].split()
         assert run(ours(1))[0].split() == [str(int(value) + day.constant(entries)), picks], (run(ours(1)), value, picks)
         ours_count, theirs_count = of_one(instructions_of, ours, theirs, 2)
-        ours_time, theirs_time = of_one(seconds_of, ours, theirs, TIMES)
+        ours_time, theirs_time = of_one(seconds_of, ours, theirs, max(TIMES, TIMED_EDGES // edges))
         os.chdir("/")
-    edges = sum(len(day.edges(reverse)) * sum(link[2] == reverse for link in day.links) for reverse in (False, True))
     print(f"| {name} | {len(entries)} | {edges:,} | {ours_count:,.0f} | {ours_count / edges:,.0f} "
           f"| {theirs_count / edges:,.1f} | {ours_count / theirs_count:.1f} "
           f"| {ours_time / max(theirs_time, 1e-9):.1f} |", flush=True)
