@@ -1,7 +1,6 @@
 //! What tests ask of a relaxation of a day. What may not be asked fails the test.
 
 use branch_tree::{BoundAnswer, Entry, Multipliers, Region, Relaxation, Settled, Slacks, Weight};
-use price_bound::DayBounds;
 use rail_base::{CompNo, TripNo};
 use std::alloc::Global;
 use std::test::Fail;
@@ -15,9 +14,9 @@ pub(crate) struct Bound {
 }
 
 /// What the bound of a region answers.
-pub(crate) fn bound_of(
+pub(crate) fn bound_of<R: Relaxation>(
     alloc: Global,
-    bounds: &mut DayBounds<'_>,
+    bounds: &mut R,
     region: &Region,
     multipliers: &Multipliers,
     weight: Weight,
@@ -38,8 +37,13 @@ pub(crate) fn bound_of(
     Ok(Bound { answer, best })
 }
 
+/// Whether there is a pick for each trip, and the picks follow.
+pub(crate) fn do_follow<R: Relaxation>(bounds: &R, picks: &Picks) -> bool {
+    picks.len() == bounds.trips() && bounds.follows(picks)
+}
+
 /// What settling answers for picks that follow.
-pub(crate) fn settled(bounds: &mut DayBounds<'_>, picks: &Picks) -> Result<Settled, Fail> {
+pub(crate) fn settled<R: Relaxation>(bounds: &mut R, picks: &Picks) -> Result<Settled, Fail> {
     if picks.len() != bounds.trips() || !bounds.follows(picks) {
         return Err(Fail::new("the picks do not follow"));
     }
@@ -47,9 +51,9 @@ pub(crate) fn settled(bounds: &mut DayBounds<'_>, picks: &Picks) -> Result<Settl
 }
 
 /// The slacks of picks that follow.
-pub(crate) fn slacks_of(
+pub(crate) fn slacks_of<R: Relaxation>(
     alloc: Global,
-    bounds: &mut DayBounds<'_>,
+    bounds: &mut R,
     picks: &Picks,
 ) -> Result<Slacks, Fail> {
     if picks.len() != bounds.trips() || !bounds.follows(picks) {

@@ -1,17 +1,19 @@
-//! Drawn days: what bounds, settling and slacks answer on three thousand days, against lists of all choices, slacks
-//! that are counted trip by trip, and plans of named units.
+//! Drawn days: what bounds, settling and slacks answer on three thousand days, two in three of them under changes,
+//! against lists of all choices, slacks that are counted trip by trip, and plans of named units.
 
+ghost use Rattle.timetable.specs.Picking.{ArePicks};
 ghost use Rattle.transitions.specs.Edges.{AreGraphs};
+ghost use Rattle.unit_duties.specs.Broken.{AreAdmissible};
 
-use crate::asking::{Bound, bound_of, settled, slacks_of};
+use crate::asking::{Bound, bound_of, do_follow, settled, slacks_of};
+use crate::changed::{bounds_under, cost_under, drawn_changes};
 use crate::drawn_questions::{drawn_multipliers, drawn_region};
 use crate::link_rule::lead_on;
 use crate::listing::{Choices, Listing, Question, choices_of, first_of, list};
 use crate::plain_slacks::{are_slacks, plain_slacks};
 use branch_tree::{BoundAnswer, Multipliers, Region, Relaxation, Settled, Weight};
-use cost_model::cost;
 use drawn_days::{Draws, drawn_day, drawn_picks};
-use price_bound::DayBounds;
+use price_bound::Change;
 use rail_base::TripNo;
 use sample_picks::may_run;
 use std::alloc::Global;
@@ -19,6 +21,14 @@ use std::test::Fail;
 use timetable::{Instance, Picks};
 use transitions::Graphs;
 use unit_duties::name_units;
+
+/// A day with its edges, and the changes under which it is asked about.
+#[derive(Clone, Copy)]
+struct Asked<'a> {
+    day: &'a Instance,
+    graphs: &'a Graphs,
+    changes: &'a [Change],
+}
 
 /// How many drawn bounds and picks came to what.
 #[derive(Clone, Copy)]
@@ -150,117 +160,207 @@ fn is_negative(slacks: &[i64], index: u32) -> bool {
     }
 }
 
-/// Whether the relaxation tells of picks what the rule of links, plain slacks and the naming of units tell.
-fn is_told(
+/// What is found of picks that lead on without the relaxation: their slacks, what they cost under changes, and whether
+/// units can be named for them.
+#[derive(Drop)]
+struct Plain {
+    slacks: Vec<i64>,
+    costs: i128,
+    is_named: bool,
+}
+
+/// What is found of picks without the relaxation.
+fn plainly(alloc: Global, asked: &Asked<'_>, picks: &Picks) -> Result<Plain, Fail>
+    requires graphs { AreGraphs asked.now.day.now asked.now.graphs.now }
+    requires picks { ArePicks asked.now.day.now picks.now }
+    requires admissible { AreAdmissible asked.now.day.now picks.now }
+{
+    let slacks = plain_slacks(alloc, asked.day, picks)?;
+    let costs = cost_under(asked.day, asked.changes, picks);
+    let is_named = is_named(alloc, asked, picks);
+    Ok(Plain {
+        slacks,
+        costs,
+        is_named,
+    })
+}
+
+/// Whether units can be named for picks.
+fn is_named(alloc: Global, asked: &Asked<'_>, picks: &Picks) -> bool
+    requires graphs { AreGraphs asked.now.day.now asked.now.graphs.now }
+    requires picks { ArePicks asked.now.day.now picks.now }
+    requires admissible { AreAdmissible asked.now.day.now picks.now }
+{
+    name_units(alloc, asked.day, asked.graphs, picks).is_ok()
+}
+
+/// Whether settling tells the cost of picks that units can be named for, and of others where they are broken.
+fn is_settled(told: Settled, broken: Option<(u32, i8)>, plain: &Plain) -> bool {
+    match (told, broken) {
+        (Settled::Costs(value), None) => plain.is_named && value.0 == plain.costs,
+        (Settled::Broken { index, sign }, Some(at)) => !plain.is_named && at == (index, sign),
+        _ => false,
+    }
+}
+
+/// Whether the relaxation tells of picks that lead on what is found without it.
+fn is_told_plainly<R: Relaxation>(
     alloc: Global,
     day: &Instance,
-    graphs: &Graphs,
-    bounds: &mut DayBounds<'_>,
+    bounds: &mut R,
     picks: &Picks,
+    plain: &Plain,
     counts: &mut Counts,
-) -> Result<bool, Fail>
-    requires { AreGraphs day.now graphs.now }
-{
-    if !may_run(day, picks) || picks.len() != bounds.trips() {
-        return Ok(true);
-    }
-    if !lead_on(day, &Region::root(alloc, day)?, picks) {
-        counts.apart = counts.apart.wrapping_add(1);
-        return Ok(!bounds.follows(picks));
-    }
-    let slacks = plain_slacks(alloc, day, picks)?;
+) -> Result<bool, Fail> {
+    let slacks = plain.slacks.as_slice();
     let found = slacks_of(alloc, bounds, picks)?;
-    let is_named = name_units(alloc, day, graphs, picks).is_ok();
-    let is_settled = match (
-        settled(bounds, picks)?,
-        broken_at(day, slacks.as_slice(), counts),
-    ) {
-        (Settled::Costs(value), None) => is_named && value == cost(day, picks),
-        (Settled::Broken { index, sign }, Some(at)) => !is_named && at == (index, sign),
-        _ => false,
-    };
+    let told = settled(bounds, picks)?;
+    let broken = broken_at(day, slacks, counts);
     Ok(
-        is_settled
-            && are_slacks(&found, slacks.as_slice())
-            && slacks.len() == day.indices() as usize,
+        slacks.len() == day.indices() as usize
+            && are_slacks(&found, slacks)
+            && is_settled(told, broken, plain),
     )
 }
 
-/// Asks for the bounds of a region under both weights. The answer says whether all is as it is wanted.
-fn ask(
+/// Whether picks lead on by the rule of links.
+fn do_lead_on(alloc: Global, day: &Instance, picks: &Picks) -> Result<bool, Fail> {
+    let root = Region::root(alloc, day)?;
+    Ok(lead_on(day, &root, picks))
+}
+
+/// Whether the relaxation tells of picks what the rule of links, plain slacks and the naming of units tell.
+fn is_told<R: Relaxation>(
     alloc: Global,
-    day: &Instance,
-    graphs: &Graphs,
-    bounds: &mut DayBounds<'_>,
+    asked: &Asked<'_>,
+    bounds: &mut R,
+    picks: &Picks,
+    counts: &mut Counts,
+) -> Result<bool, Fail>
+    requires { AreGraphs asked.now.day.now asked.now.graphs.now }
+{
+    if !may_run(asked.day, picks) {
+        return Ok(true);
+    }
+    if !do_lead_on(alloc, asked.day, picks)? {
+        counts.apart = counts.apart.wrapping_add(1);
+        return Ok(!do_follow(bounds, picks));
+    }
+    let plain = plainly(alloc, asked, picks)?;
+    is_told_plainly(alloc, asked.day, bounds, picks, &plain, counts)
+}
+
+/// Asks for a bound. The answer says whether all is as it is wanted.
+fn ask<R: Relaxation>(
+    alloc: Global,
+    asked: &Asked<'_>,
+    bounds: &mut R,
+    question: &Question<'_>,
+    counts: &mut Counts,
+) -> Result<bool, Fail>
+    requires { AreGraphs asked.now.day.now asked.now.graphs.now }
+{
+    let bound = bound_of(
+        alloc,
+        bounds,
+        question.region,
+        question.multipliers,
+        question.weight,
+    )?;
+    if !is_listed(alloc, question, &bound, counts)? {
+        return Ok(false);
+    }
+    is_told(alloc, asked, bounds, &bound.best, counts)
+}
+
+/// Asks for the bounds of a region under both weights. The answer says whether all is as it is wanted.
+fn ask_both<R: Relaxation>(
+    alloc: Global,
+    asked: &Asked<'_>,
+    bounds: &mut R,
     region: &Region,
     multipliers: &Multipliers,
     counts: &mut Counts,
 ) -> Result<bool, Fail>
-    requires { AreGraphs day.now graphs.now }
+    requires { AreGraphs asked.now.day.now asked.now.graphs.now }
 {
-    for weight in [Weight::Cost, Weight::NoCost] {
-        let bound = bound_of(alloc, bounds, region, multipliers, weight)?;
-        let question = Question {
-            day,
-            region,
-            multipliers,
-            weight,
-        };
-        if !is_listed(alloc, &question, &bound, counts)?
-            || !is_told(alloc, day, graphs, bounds, &bound.best, counts)?
-        {
-            return Ok(false);
-        }
+    let mut question = Question {
+        day: asked.day,
+        changes: asked.changes,
+        region,
+        multipliers,
+        weight: Weight::Cost,
+    };
+    if !ask(alloc, asked, bounds, &question, counts)? {
+        return Ok(false);
     }
-    Ok(true)
+    question.weight = Weight::NoCost;
+    ask(alloc, asked, bounds, &question, counts)
 }
 
 /// Draws multipliers and a region for a day with some picks, and asks for bounds. The answer says whether all is as it
 /// is wanted.
-fn ask_some(
+fn ask_some<R: Relaxation>(
     alloc: Global,
-    day: &Instance,
-    graphs: &Graphs,
-    bounds: &mut DayBounds<'_>,
+    asked: &Asked<'_>,
+    bounds: &mut R,
     picks: &Picks,
     draws: &mut Draws,
     counts: &mut Counts,
 ) -> Result<bool, Fail>
-    requires { AreGraphs day.now graphs.now }
+    requires { AreGraphs asked.now.day.now asked.now.graphs.now }
 {
-    let multipliers = drawn_multipliers(alloc, day, draws)?;
-    let Some(region) = drawn_region(alloc, day, picks, draws)? else {
+    let multipliers = drawn_multipliers(alloc, asked.day, draws)?;
+    let Some(region) = drawn_region(alloc, asked.day, picks, draws)? else {
         return Ok(true);
     };
-    ask(alloc, day, graphs, bounds, &region, &multipliers, counts)
+    ask_both(alloc, asked, bounds, &region, &multipliers, counts)
 }
 
 /// Draws picks for a day, asks what is told of them, and then for bounds. The answer says whether all is as it is
 /// wanted.
-fn ask_all(
+fn ask_all<R: Relaxation>(
     alloc: Global,
-    day: &Instance,
-    graphs: &Graphs,
+    asked: &Asked<'_>,
+    bounds: &mut R,
     draws: &mut Draws,
     counts: &mut Counts,
 ) -> Result<bool, Fail>
-    requires { AreGraphs day.now graphs.now }
+    requires { AreGraphs asked.now.day.now asked.now.graphs.now }
 {
-    let mut bounds = DayBounds::new(alloc, day, graphs)?;
-    let picks = drawn_picks(alloc, day, graphs, draws)?;
-    if !is_told(alloc, day, graphs, &mut bounds, &picks, counts)? {
+    let picks = drawn_picks(alloc, asked.day, asked.graphs, draws)?;
+    if !is_told(alloc, asked, bounds, &picks, counts)? {
         return Ok(false);
     }
-    ask_some(alloc, day, graphs, &mut bounds, &picks, draws, counts)
+    ask_some(alloc, asked, bounds, &picks, draws, counts)
 }
 
-/// Draws a day, and asks of it. The answer says whether all is as it is wanted.
+/// Makes the relaxation of a day, and asks of it. The answer says whether all is as it is wanted.
+fn try_day(
+    alloc: Global,
+    asked: &Asked<'_>,
+    draws: &mut Draws,
+    counts: &mut Counts,
+) -> Result<bool, Fail>
+    requires { AreGraphs asked.now.day.now asked.now.graphs.now }
+{
+    let mut bounds = bounds_under(alloc, asked.day, asked.graphs, asked.changes)?;
+    ask_all(alloc, asked, &mut bounds, draws, counts)
+}
+
+/// Draws a day and changes, and asks of it. The answer says whether all is as it is wanted.
 fn draw(alloc: Global, draws: &mut Draws, counts: &mut Counts) -> Result<bool, Fail> {
     let Some(day) = drawn_day(alloc, draws)? else {
         return Ok(false);
     };
     let graphs = Graphs::build(alloc, &day)?;
-    ask_all(alloc, &day, &graphs, draws, counts)
+    let changes = drawn_changes(alloc, &day, draws)?;
+    let asked = Asked {
+        day: &day,
+        graphs: &graphs,
+        changes: changes.as_slice(),
+    };
+    try_day(alloc, &asked, draws, counts)
 }
 
 /// Nothing counted.

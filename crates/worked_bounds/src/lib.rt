@@ -4,6 +4,8 @@
 #[cfg(test)]
 mod asking;
 #[cfg(test)]
+mod changed;
+#[cfg(test)]
 mod drawn_questions;
 #[cfg(test)]
 mod drawn_tests;

@@ -1,9 +1,12 @@
 //! All choices of a region one after another, by number, and the first of least value among those that are near.
 
+ghost use Rattle.timetable.specs.Picking.{ArePicks};
+
+use crate::changed::cost_under;
 use crate::link_rule::{has, lead_on};
 use crate::plain_slacks::plain_slacks;
 use branch_tree::{Multipliers, Region, Weight};
-use cost_model::cost;
+use price_bound::Change;
 use rail_base::{CompNo, TripNo};
 use sample_picks::may_run;
 use std::alloc::Global;
@@ -17,6 +20,7 @@ pub(crate) const MOST_CHOICES: u32 = 120;
 #[derive(Drop)]
 pub(crate) struct Question<'a> {
     pub(crate) day: &'a Instance,
+    pub(crate) changes: &'a [Change],
     pub(crate) region: &'a Region,
     pub(crate) multipliers: &'a Multipliers,
     pub(crate) weight: Weight,
@@ -146,23 +150,36 @@ pub(crate) fn first_of(
     Ok(picks)
 }
 
-/// The priced value of a choice: its cost, if that counts, and the sum of multiplier times slack. Nothing where it is
-/// not near the region.
+/// The priced value of a choice: its cost and what changes add, if that counts, and the sum of multiplier times slack.
+/// Nothing where it is not near the region.
 fn near_value(alloc: Global, question: &Question<'_>, picks: &Picks) -> Result<Option<i128>, Fail> {
     let day = question.day;
     if !may_run(day, picks) || !lead_on(day, question.region, picks) {
         return Ok(None);
     }
-    let mut value = match question.weight {
-        Weight::Cost => cost(day, picks).0,
-        Weight::NoCost => 0,
-    };
     let slacks = plain_slacks(alloc, day, picks)?;
-    for entry in question.multipliers.entries() {
-        let slack = slack_at(slacks.as_slice(), entry.index);
+    let priced = priced(question.multipliers, slacks.as_slice());
+    Ok(Some(weighed_cost(question, picks).wrapping_add(priced)))
+}
+
+/// What the cost of picks counts.
+fn weighed_cost(question: &Question<'_>, picks: &Picks) -> i128
+    requires { ArePicks question.now.day.now picks.now }
+{
+    match question.weight {
+        Weight::Cost => cost_under(question.day, question.changes, picks),
+        Weight::NoCost => 0,
+    }
+}
+
+/// The sum of multiplier times slack.
+fn priced(multipliers: &Multipliers, slacks: &[i64]) -> i128 {
+    let mut value: i128 = 0;
+    for entry in multipliers.entries() {
+        let slack = slack_at(slacks, entry.index);
         value = value.wrapping_add(i128::from(entry.value).wrapping_mul(slack));
     }
-    Ok(Some(value))
+    value
 }
 
 /// The slack at an index of a list.
