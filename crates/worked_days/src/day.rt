@@ -47,6 +47,17 @@ pub(crate) fn two_trips() -> Day<'static> {
     }
 }
 
+/// The day on which the unit is ready at the minute of its arrival, which is that of the next departure.
+pub(crate) fn ready_at_once() -> Day<'static> {
+    Day {
+        stations: Some("station,platform,reallocation\nX,200,30\nY,200,0\n"),
+        trips: Some(
+            "trip,from,departure,to,arrival,km,demand\nT1,X,08:00,Y,09:00,10,150\nT2,Y,09:00,X,10:00,10,150\n",
+        ),
+        ..two_trips()
+    }
+}
+
 /// The day of a turn: two units go out and come back on one link, with ten minutes between.
 pub(crate) fn base_day() -> Day<'static> {
     Day {

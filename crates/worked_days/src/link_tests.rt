@@ -1,6 +1,8 @@
 //! Running plans with turns, joins and splits: worked days with their lines.
 
-use crate::day::{Day, base_day, expect_document, northport, ring, two_trips, two_types};
+use crate::day::{
+    Day, base_day, expect_document, northport, ready_at_once, ring, two_trips, two_types,
+};
 use std::test::Fail;
 
 /// The base day with another plan.
@@ -51,14 +53,7 @@ fn a_coupled_unit_comes_from_the_yard(rt: HostRuntime) -> Result<(), Fail> {
 #[test]
 fn arrivals_come_before_departures(rt: HostRuntime) -> Result<(), Fail> {
     let alloc = rt.alloc();
-    let day = Day {
-        stations: Some("station,platform,reallocation\nX,200,30\nY,200,0\n"),
-        trips: Some(
-            "trip,from,departure,to,arrival,km,demand\nT1,X,08:00,Y,09:00,10,150\nT2,Y,09:00,X,10:00,10,150\n",
-        ),
-        ..two_trips()
-    };
-    expect_document(&rt, alloc, &day, 0, "runs 60\n")?;
+    expect_document(&rt, alloc, &ready_at_once(), 0, "runs 60\n")?;
     Ok(())
 }
 
