@@ -1,5 +1,5 @@
 -- Which commands an outcome can be that of.
-use Rattle.std.proofs.Common.{◌≡◌, ℕ, ◌≤◌, List, true, false, ap, sym, ◌∙◌, arith}
+use Rattle.std.proofs.Common.{◌≡◌, ℕ, ◌≤◌, List, true, ap, arith}
 use Rattle.std.specs.Prelude.{⊤}
 use Rattle.rail_io.specs.Folders.{Files}
 use Rattle.planner_app.specs.declared.command.Command.{Command}
@@ -9,7 +9,8 @@ use Rattle.planner_app.specs.declared.outcome.Outcome.TheVariants.{Planned, Trie
 use Rattle.planner_app.specs.declared.reports.Report.{Report}
 use Rattle.planner_app.specs.declared.reports.Report.TheVariants as report
 use Rattle.planner_app.specs.Outcomes.{AskAbout, Says, command_for, reads_answer}
-use Rattle.planner_app.specs.PlainForm.{IsPlainForm, WordList}
+use Rattle.planner_app.specs.PlainForm.{IsPlainForm}
+use Rattle.command_line.specs.Items.{WordList}
 use Rattle.planner_app.proofs.Asking.{one_command}
 
 -- a number for each command word

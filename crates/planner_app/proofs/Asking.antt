@@ -1,13 +1,15 @@
 -- What words ask for is one command, and its numbers are within their limits.
-use Rattle.std.proofs.Common.{◌≡◌, ℕ, ◌≤◌, List, [], ◌∷◌, Option, Some, ◌⊎◌, inl, inr, sym, ap, ◌∙◌, arith}
+use Rattle.std.proofs.Common.{◌≡◌, ℕ, ◌≤◌, List, [], ◌∷◌, Option, Some, inl, inr, sym, ap, ◌∙◌, arith, Bool, true, false}
+use Rattle.std.proofs.lemmas.Bool.{both_ways}
 use Rattle.rail_base.specs.declared.limits.TheConstants.{MOST_BRANCHINGS, MOST_ROUNDS}
 use Rattle.trial_day.specs.Trial.{IsTrialSize}
-use Rattle.planner_app.specs.declared.command.Choice.TheVariants.{Nodes, Rounds}
+use Rattle.command_line.specs.declared.form.Choice.TheVariants.{Nodes, Rounds}
+use Rattle.command_line.specs.Items.{WordList, values_in}
 use Rattle.planner_app.specs.declared.command.Command.{Command}
 use Rattle.planner_app.specs.declared.command.Command.TheVariants as command
 use Rattle.planner_app.specs.declared.command.TheConstants.{USUAL_NODES, USUAL_ROUNDS}
 use Rattle.planner_app.specs.Outcomes.{AskAbout, AskToPlan, AskToTry, Grants, folder_of}
-use Rattle.planner_app.specs.PlainForm.{IsOption, IsPlainForm, IsSearch, WordList, values_in}
+use Rattle.planner_app.specs.PlainForm.{IsOption, IsPlainForm, IsSearch}
 use Rattle.planner_app.proofs.Meanings.{plain}
 
 -- words are the plain form of one command at most
@@ -66,3 +68,23 @@ trial_grants words seed trips nodes rounds n k form (inl other) =
     let same = one_command words (command.Trial seed trips nodes rounds) (command.Plan other.0 n k) form other.1 in absurd cc
 trial_grants words seed trips nodes rounds n k form (inr other) =
     let same = one_command words (command.Trial seed trips nodes rounds) (command.Trial other.0 other.1 n k) form other.2 in (cc, cc)
+
+abbrev searches : Command → Bool
+searches (command.Plan dir nodes rounds) = true
+searches (command.Trial seed trips nodes rounds) = true
+searches (command.Simulate dir) = false
+searches (command.Check dir) = false
+searches (command.Duties dir) = false
+searches (command.Yards dir) = false
+searches (command.Costs dir) = false
+
+-- words of a command that doesn't search grant nothing
+pub grants_nothing : (words : WordList) (named : Command) (n k : ℕ) → searches named ≡ false → IsPlainForm words named
+    → Grants words n k → ⊥
+grants_nothing words named n k none form (inl other) =
+    let same : named ≡ command.Plan other.0 n k = one_command words named (command.Plan other.0 n k) form other.1 in
+    both_ways (searches named) none (ap searches same)
+grants_nothing words named n k none form (inr other) =
+    let same : named ≡ command.Trial other.0 other.1 n k =
+    one_command words named (command.Trial other.0 other.1 n k) form other.2 in
+    both_ways (searches named) none (ap searches same)

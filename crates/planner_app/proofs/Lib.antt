@@ -1,6 +1,4 @@
 pub mod Digits
-pub mod Turns
-pub mod PlainForms
 pub mod Meanings
 pub mod Readings
 pub mod KnownUnits

@@ -6,7 +6,8 @@ use Rattle.planner_app.specs.declared.command.Command.{Command}
 use Rattle.planner_app.specs.declared.command_words.WordsRefusal.{WordsRefusal}
 use Rattle.planner_app.specs.declared.command_words.WordsRefusal.TheVariants.{NotUnderstood, NoMemory}
 use Rattle.planner_app.specs.Commands.{command_of, is_memory}
-use Rattle.planner_app.specs.PlainForm.{WordList, Reads}
+use Rattle.planner_app.specs.PlainForm.{Reads}
+use Rattle.command_line.specs.Items.{WordList}
 use Rattle.planner_app.proofs.Meanings.{plain, understood}
 
 one_of : (o : Option Command) (command : Command)

@@ -1,76 +1,14 @@
 -- The plain form: how a command is written as words.
-use Rattle.std.specs.Prelude.{ℕ, ◌≡◌, ◌⊎◌, ◌≤◌, ◌%◌, ◌++◌, List, [], ◌∷◌, length, true, codes, Result, Ok, Err, ⊤}
+use Rattle.std.specs.Prelude.{ℕ, ◌≡◌, ◌⊎◌, ◌≤◌, ◌%◌, List, [], ◌∷◌, length, true, codes, Result, Ok, Err}
 use Rattle.rail_base.specs.declared.limits.TheConstants.{MOST_BRANCHINGS, MOST_ROUNDS, MOST_TRIPS}
 use Rattle.rail_csv.specs.Fields.{are_digits, number_of}
-use Rattle.planner_app.specs.declared.command.Choice.{Choice}
-use Rattle.planner_app.specs.declared.command.Choice.TheVariants.{Nodes, Rounds}
+use Rattle.command_line.specs.declared.form.Choice.TheVariants.{Nodes, Rounds}
+use Rattle.command_line.specs.Items.{HaveTheirForm, Item, WordList, positional_in, values_in, words_of}
 use Rattle.planner_app.specs.declared.command.Command.{Command}
 use Rattle.planner_app.specs.declared.command.Command.TheVariants.{Plan, Simulate, Check, Duties, Yards, Costs, Trial}
 use Rattle.planner_app.specs.declared.command.TheConstants.{MOST_SEED, USUAL_NODES, USUAL_ROUNDS}
 use Rattle.planner_app.specs.declared.command_words.WordsRefusal.{WordsRefusal}
 use Rattle.planner_app.specs.declared.command_words.WordsRefusal.TheVariants.{NotUnderstood, NoMemory}
-use Rattle.planner_app.specs.Commands.{is_positional}
-
-abbrev pub WordList : Type 0
-WordList = List (List ℕ)
-
--- ---- what stands after the command word
-
--- a positional word, or an option and its value, as two words (`--nodes 5`) or as one (`--nodes=5`)
-pub data Item : Type 0 where
-  Positional : List ℕ → Item
-  TwoWords : Choice → List ℕ → Item
-  OneWord : Choice → List ℕ → Item
-
-abbrev pub option_name : Choice → List ℕ
-option_name Nodes = codes "--nodes"
-option_name Rounds = codes "--rounds"
-
--- the item's words, before other words
-abbrev pub item_before : Item → WordList → WordList
-item_before (Positional word) words = word ∷ words
-item_before (TwoWords choice value) words = option_name choice ∷ value ∷ words
-item_before (OneWord choice value) words = (option_name choice ++ (codes "=" ++ value)) ∷ words
-
-abbrev pub words_of : List Item → WordList
-words_of [] = []
-words_of (item ∷ items) = item_before item (words_of items)
-
--- a positional word is not empty and doesn't begin with `-`
-abbrev pub HasItsForm : Item → Type 0
-HasItsForm (Positional word) = is_positional word ≡ true
-HasItsForm (TwoWords choice value) = ⊤
-HasItsForm (OneWord choice value) = ⊤
-
-abbrev pub HaveTheirForm : List Item → Type 0
-HaveTheirForm [] = ⊤
-HaveTheirForm (item ∷ items) = HasItsForm item × HaveTheirForm items
-
-abbrev pub positional_before : Item → WordList → WordList
-positional_before (Positional word) words = word ∷ words
-positional_before (TwoWords choice value) words = words
-positional_before (OneWord choice value) words = words
-
--- the positional words, in their order
-abbrev pub positional_in : List Item → WordList
-positional_in [] = []
-positional_in (item ∷ items) = positional_before item (positional_in items)
-
-abbrev pub value_before : Choice → Choice → List ℕ → WordList → WordList
-value_before Nodes Nodes value values = value ∷ values
-value_before Nodes Rounds value values = values
-value_before Rounds Nodes value values = values
-value_before Rounds Rounds value values = value ∷ values
-
-abbrev pub values_before : Choice → Item → WordList → WordList
-values_before asked (Positional word) values = values
-values_before asked (TwoWords choice value) values = value_before asked choice value values
-values_before asked (OneWord choice value) values = value_before asked choice value values
-
--- the values that an option is given, in their order
-abbrev pub values_in : Choice → List Item → WordList
-values_in asked [] = []
-values_in asked (item ∷ items) = values_before asked item (values_in asked items)
 
 -- ---- what it means
 

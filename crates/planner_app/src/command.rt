@@ -84,15 +84,6 @@ pub enum Command {
     },
 }
 
-/// An option of a command line, which has one value.
-#[derive(Clone, Copy, Debug, PartialEq, Eq)]
-pub enum Choice {
-    /// `--nodes`: the branchings that are granted.
-    Nodes,
-    /// `--rounds`: the rounds of advice at each node.
-    Rounds,
-}
-
 /// The greatest number that a generated day may be made from.
 pub const MOST_SEED: u32 = 4_294_967_295;
 /// Branchings that are granted where the words say nothing of them.

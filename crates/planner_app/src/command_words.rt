@@ -1,17 +1,18 @@
 //! The command that the words of a command line make.
 
-ghost use Rattle.std.specs.Prelude.{◌≡◌, IfOk, map};
+ghost use Rattle.std.specs.Prelude.{◌≡◌, IfOk};
 ghost use Rattle.std.specs.Option.{ok_or};
 ghost use Rattle.rail_base.specs.Answers.{Gives};
 ghost use Rattle.planner_app.specs.declared.command_words.WordsRefusal.TheVariants.{NotUnderstood};
 ghost use Rattle.planner_app.specs.PlainForm.{Reads};
-ghost use Rattle.planner_app.specs.Commands.{command_of, day_of, in_folder, is_memory, named, plan_of, trial_of};
-ghost use Rattle.planner_app.specs.Commands.{trips_of};
+ghost use Rattle.command_line.specs.Texts.{texts_in};
+ghost use Rattle.planner_app.specs.Commands.{command_of, day_of, form_of, in_folder, is_memory, named, nodes_of};
+ghost use Rattle.planner_app.specs.Commands.{plan_of, rounds_of, trial_of, trips_of};
 
-use crate::command::{Command, MOST_SEED, Text};
-use crate::numbers::number;
-use crate::taken_words::{TakenWords, only, take_apart};
-use rail_base::limits::MOST_TRIPS;
+use crate::command::{Command, MOST_SEED, Text, USUAL_NODES, USUAL_ROUNDS};
+use crate::numbers::{number, option_number};
+use command_line::{Form, Taken, is_plain, take_apart, words_after};
+use rail_base::limits::{MOST_BRANCHINGS, MOST_ROUNDS, MOST_TRIPS};
 use rail_base::{NoMemory, Words};
 use std::alloc::Global;
 use thiserror::Error;
@@ -58,23 +59,39 @@ pub fn read_words(alloc: Global, words: &Words) -> Result<Command, WordsRefusal>
     command(alloc, words)
 }
 
-/// The command of the words, as the words taken apart make it.
+/// The command of the words: `clap` takes apart those that are of the plain form.
 fn command(alloc: Global, words: &Words) -> Result<Command, WordsRefusal>
     ensures { Gives is_memory result (ok_or (command_of words.now) NotUnderstood) }
 {
     if words.len() < 2 {
         return Err(WordsRefusal::NotUnderstood);
     }
-    let taken = take_apart(alloc, words)?;
-    if !taken.is_whole() {
+    let word = words.at(1);
+    let form = form_of(word);
+    let rest = words_after(alloc, words, 2)?;
+    if !is_plain(form, rest.as_slice()) {
         return Err(WordsRefusal::NotUnderstood);
     }
-    named(alloc, words.at(1), &taken)
+    let taken = take_apart(alloc, form, rest.as_slice())?;
+    named(alloc, word, taken)
 }
 
-/// The command of a command word and the parts of what comes after it.
-fn named(alloc: Global, word: &str, taken: &TakenWords<'_>) -> Result<Command, WordsRefusal>
-    ensures { Gives is_memory result (ok_or (named word.now taken.now) NotUnderstood) }
+/// What is to come after a command word.
+fn form_of(word: &str) -> Form
+    ensures { result ≡ form_of word.now }
+{
+    if word == "plan" {
+        return Form::FolderSearch;
+    }
+    if word == "trial" {
+        return Form::DaySearch;
+    }
+    Form::Folder
+}
+
+/// The command of a command word and the texts after it.
+fn named(alloc: Global, word: &str, taken: Taken<'_>) -> Result<Command, WordsRefusal>
+    ensures { Gives is_memory result (ok_or (named word.now (texts_in taken.entry)) NotUnderstood) }
 {
     if word == "plan" {
         return plan(alloc, taken);
@@ -82,7 +99,7 @@ fn named(alloc: Global, word: &str, taken: &TakenWords<'_>) -> Result<Command, W
     if word == "trial" {
         return trial(taken);
     }
-    match taken.folder_alone() {
+    match taken.first {
         Some(dir) => in_folder(alloc, word, dir),
         None => Err(WordsRefusal::NotUnderstood),
     }
@@ -112,16 +129,16 @@ fn in_folder(alloc: Global, word: &str, dir: &str) -> Result<Command, WordsRefus
 }
 
 /// The command `plan DIR`.
-fn plan(alloc: Global, taken: &TakenWords<'_>) -> Result<Command, WordsRefusal>
-    ensures { Gives is_memory result (ok_or (plan_of taken.now) NotUnderstood) }
+fn plan(alloc: Global, taken: Taken<'_>) -> Result<Command, WordsRefusal>
+    ensures { Gives is_memory result (ok_or (plan_of (texts_in taken.entry)) NotUnderstood) }
 {
-    let Some(dir) = only(taken.positional()) else {
+    let Some(dir) = taken.first else {
         return Err(WordsRefusal::NotUnderstood);
     };
-    let Some(nodes) = taken.nodes() else {
+    let Some(nodes) = nodes_of(taken) else {
         return Err(WordsRefusal::NotUnderstood);
     };
-    let Some(rounds) = taken.rounds() else {
+    let Some(rounds) = rounds_of(taken) else {
         return Err(WordsRefusal::NotUnderstood);
     };
     let dir = text(alloc, dir)?;
@@ -129,16 +146,16 @@ fn plan(alloc: Global, taken: &TakenWords<'_>) -> Result<Command, WordsRefusal>
 }
 
 /// The command `trial SEED TRIPS`.
-fn trial(taken: &TakenWords<'_>) -> Result<Command, WordsRefusal>
-    ensures { result ≡ ok_or (trial_of taken.now) NotUnderstood }
+fn trial(taken: Taken<'_>) -> Result<Command, WordsRefusal>
+    ensures { result ≡ ok_or (trial_of (texts_in taken.entry)) NotUnderstood }
 {
-    let Some((seed, trips)) = day(taken.positional()) else {
+    let Some((seed, trips)) = day(taken) else {
         return Err(WordsRefusal::NotUnderstood);
     };
-    let Some(nodes) = taken.nodes() else {
+    let Some(nodes) = nodes_of(taken) else {
         return Err(WordsRefusal::NotUnderstood);
     };
-    let Some(rounds) = taken.rounds() else {
+    let Some(rounds) = rounds_of(taken) else {
         return Err(WordsRefusal::NotUnderstood);
     };
     Ok(Command::Trial {
@@ -149,11 +166,31 @@ fn trial(taken: &TakenWords<'_>) -> Result<Command, WordsRefusal>
     })
 }
 
-/// What a generated day is made from, and its trips.
-fn day(words: &[&str]) -> Option<(u32, u32)>
-    ensures { result ≡ day_of (map (λ word. word.now) words.now) }
+/// The branchings that are granted.
+fn nodes_of(taken: Taken<'_>) -> Option<u32>
+    ensures { result ≡ nodes_of (texts_in taken.entry) }
 {
-    let [seed, trips] = words else {
+    option_number(taken.nodes, USUAL_NODES, MOST_BRANCHINGS)
+}
+
+/// The rounds of advice at each node.
+fn rounds_of(taken: Taken<'_>) -> Option<u8>
+    ensures { result ≡ rounds_of (texts_in taken.entry) }
+{
+    match option_number(taken.rounds, USUAL_ROUNDS, MOST_ROUNDS) {
+        Some(rounds) => Some(rounds as u8),
+        None => None,
+    }
+}
+
+/// What a generated day is made from, and its trips.
+fn day(taken: Taken<'_>) -> Option<(u32, u32)>
+    ensures { result ≡ day_of (texts_in taken.entry) }
+{
+    let Some(seed) = taken.first else {
+        return None;
+    };
+    let Some(trips) = taken.second else {
         return None;
     };
     let Some(seed) = number(seed.as_bytes(), MOST_SEED) else {

@@ -14,7 +14,6 @@ pub mod outcome;
 mod planning;
 pub mod reports;
 mod run;
-mod taken_words;
 mod top;
 
 pub use answer_file::AnswerError;

@@ -1,19 +1,18 @@
 //! Numbers on the command line.
 
-ghost use Rattle.std.specs.Prelude.{◌≡◌, ◌≤◌, length, Some, None, if◌then◌else◌, map, IfSome};
+ghost use Rattle.std.specs.Prelude.{◌≡◌, ◌≤◌, length, Some, None, if◌then◌else◌, option_map, IfSome};
 ghost use Rattle.rail_csv.specs.Fields.{are_digits, number_of};
-ghost use Rattle.planner_app.specs.Commands.{number_up_to, one_number};
+ghost use Rattle.planner_app.specs.Commands.{number_up_to, option_number};
 
-/// The number of an option, which is given at most once.
-pub(crate) fn one_number(values: &[&[u8]], usual: u32, most: u32) -> Option<u32>
+/// The number of an option, which has its usual number where it is not given.
+pub(crate) fn option_number(text: Option<&str>, usual: u32, most: u32) -> Option<u32>
     requires { usual ≤ most }
-    ensures value { result ≡ one_number usual most (map (λ value. value.now) values.now) }
+    ensures value { result ≡ option_number usual most (option_map (λ text. text.now) text.entry) }
     ensures limit { IfSome result (λ number. number ≤ most) }
 {
-    match values {
-        [] => Some(usual),
-        [text] => number(text, most),
-        _ => None,
+    match text {
+        Some(text) => number(text.as_bytes(), most),
+        None => Some(usual),
     }
 }
 

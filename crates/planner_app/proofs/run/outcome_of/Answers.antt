@@ -1,11 +1,11 @@
-use Rattle.std.proofs.Common.{ℕ, List, [], inl, inr, ◌+◌, ◌*◌, rules, subst}
+use Rattle.std.proofs.Common.{ℕ, List, [], refl, inl, inr, ◌+◌, ◌*◌, rules, subst}
 use Rattle.search.specs.Asking.{AreAsked}
 use Rattle.search.proofs.Asking.{are_unasked}
 use Rattle.planner_app.specs.declared.command.Command.TheVariants as command
 use Rattle.planner_app.specs.Advice.{AreAskedFor}
 use Rattle.planner_app.specs.declared.reports.Report.TheVariants as report
 use Rattle.planner_app.specs.Outcomes.{AskToCheck, AskToPlan, AskToReport, AskToSimulate}
-use Rattle.planner_app.proofs.Asking.{plan_grants, trial_grants, trial_size, trial_within}
+use Rattle.planner_app.proofs.Asking.{grants_nothing, plan_grants, plan_within, trial_grants, trial_size, trial_within}
 use Rattle.planner_app.proofs.Outcomes.{in_vain, trial_comes}
 use Rattle.planner_app.proofs.run.outcome_of.Goals as goal
 
@@ -141,3 +141,38 @@ pub tried-requires-clause-rounds : goal.tried-requires-clause-rounds
 tried-requires-clause-rounds g c =
     (trial_within c.args.words.now c.in-Ok-Trial.seed c.in-Ok-Trial.trips c.in-Ok-Trial.nodes c.in-Ok-Trial.rounds
     (c.in-Ok-Trial.ensures.meaning.understood (command.Trial c.in-Ok-Trial.seed c.in-Ok-Trial.trips c.in-Ok-Trial.nodes c.in-Ok-Trial.rounds) (search rules))).1
+
+pub planned-requires-clause-nodes : goal.planned-requires-clause-nodes
+planned-requires-clause-nodes g c =
+    (plan_within c.args.words.now c.in-Ok-Plan.dir c.in-Ok-Plan.nodes c.in-Ok-Plan.rounds
+    (c.in-Ok-Plan.ensures.meaning.understood (command.Plan c.in-Ok-Plan.dir c.in-Ok-Plan.nodes c.in-Ok-Plan.rounds) (search rules))).0
+
+pub planned-requires-clause-rounds : goal.planned-requires-clause-rounds
+planned-requires-clause-rounds g c =
+    (plan_within c.args.words.now c.in-Ok-Plan.dir c.in-Ok-Plan.nodes c.in-Ok-Plan.rounds
+    (c.in-Ok-Plan.ensures.meaning.understood (command.Plan c.in-Ok-Plan.dir c.in-Ok-Plan.nodes c.in-Ok-Plan.rounds) (search rules))).1
+
+pub returns-in-Ok-Simulate-clause-asked_for : goal.returns-in-Ok-Simulate-clause-asked_for
+returns-in-Ok-Simulate-clause-asked_for g c nodes rounds grants =
+    absurd (grants_nothing c.args.words.now (command.Simulate c.in-Ok-Simulate.dir) nodes rounds refl
+    (c.in-Ok-Simulate.ensures.meaning.understood (command.Simulate c.in-Ok-Simulate.dir) (search rules)) grants)
+
+pub returns-in-Ok-Check-clause-asked_for : goal.returns-in-Ok-Check-clause-asked_for
+returns-in-Ok-Check-clause-asked_for g c nodes rounds grants =
+    absurd (grants_nothing c.args.words.now (command.Check c.in-Ok-Check.dir) nodes rounds refl
+    (c.in-Ok-Check.ensures.meaning.understood (command.Check c.in-Ok-Check.dir) (search rules)) grants)
+
+pub returns-in-Ok-Duties-clause-asked_for : goal.returns-in-Ok-Duties-clause-asked_for
+returns-in-Ok-Duties-clause-asked_for g c nodes rounds grants =
+    absurd (grants_nothing c.args.words.now (command.Duties c.in-Ok-Duties.dir) nodes rounds refl
+    (c.in-Ok-Duties.ensures.meaning.understood (command.Duties c.in-Ok-Duties.dir) (search rules)) grants)
+
+pub returns-in-Ok-Yards-clause-asked_for : goal.returns-in-Ok-Yards-clause-asked_for
+returns-in-Ok-Yards-clause-asked_for g c nodes rounds grants =
+    absurd (grants_nothing c.args.words.now (command.Yards c.in-Ok-Yards.dir) nodes rounds refl
+    (c.in-Ok-Yards.ensures.meaning.understood (command.Yards c.in-Ok-Yards.dir) (search rules)) grants)
+
+pub returns-in-Ok-Costs-clause-asked_for : goal.returns-in-Ok-Costs-clause-asked_for
+returns-in-Ok-Costs-clause-asked_for g c nodes rounds grants =
+    absurd (grants_nothing c.args.words.now (command.Costs c.in-Ok-Costs.dir) nodes rounds refl
+    (c.in-Ok-Costs.ensures.meaning.understood (command.Costs c.in-Ok-Costs.dir) (search rules)) grants)

@@ -1,0 +1,128 @@
+-- What stands after a command word, taken apart one word after another.
+use Rattle.std.specs.Prelude.{ℕ, ◌<◌, ◌+◌, ◌^◌, List, [], ◌∷◌, ◌++◌, drop, take, length, fold}
+use Rattle.std.specs.Prelude.{Bool, true, false, not, ◌&&◌, ◌==◌, nat_le, if◌then◌else◌}
+use Rattle.std.specs.Prelude.{Option, Some, None, is_some, codes}
+use Rattle.std.specs.Str.{bytes_eq}
+use Rattle.command_line.specs.declared.form.Choice.{Choice}
+use Rattle.command_line.specs.declared.form.Choice.TheVariants.{Nodes, Rounds}
+use Rattle.command_line.specs.declared.form.Form.{Form}
+use Rattle.command_line.specs.declared.form.Form.TheVariants.{Folder, FolderSearch, DaySearch}
+use Rattle.command_line.specs.declared.form.Kind.{Kind}
+use Rattle.command_line.specs.declared.form.Kind.TheVariants.{Plain, Name, Whole, Other}
+pub use Rattle.command_line.specs.Items.{is_positional}
+
+-- ---- one word
+
+abbrev pub begins_with : List ℕ → List ℕ → Bool
+begins_with front word = bytes_eq (take (length front) word) front
+
+-- what a word is, where no option waits for its value
+abbrev pub kind_of : List ℕ → Kind
+kind_of word = if is_positional word then Plain
+    else (if bytes_eq word (codes "--nodes") then Name Nodes
+    else (if bytes_eq word (codes "--rounds") then Name Rounds
+    else (if begins_with (codes "--nodes=") word then Whole Nodes
+    else (if begins_with (codes "--rounds=") word then Whole Rounds else Other))))
+
+-- the value behind an option's name and `=`
+abbrev pub value_of : Choice → List ℕ → List ℕ
+value_of Nodes word = drop 8 word
+value_of Rounds word = drop 9 word
+
+-- ---- the words, taken apart
+
+-- the positional words in their order, the values of each option in their order, an option whose value is still to
+-- come, and whether there is a word that is none of these
+pub record Parts : Type 0 where
+  pub positional : List (List ℕ)
+  pub nodes : List (List ℕ)
+  pub rounds : List (List ℕ)
+  pub waiting : Option Choice
+  pub has_others : Bool
+
+abbrev pub no_parts : Parts
+no_parts = record { positional = []; nodes = []; rounds = []; waiting = None; has_others = false }
+
+-- one more value of an option
+abbrev pub with_value : Choice → List ℕ → Parts → Parts
+with_value Nodes value parts = record parts { nodes = parts.nodes ++ value ∷ [] }
+with_value Rounds value parts = record parts { rounds = parts.rounds ++ value ∷ [] }
+
+-- one more word, which is of this kind
+abbrev pub stepped : Option Choice → Kind → List ℕ → Parts → Parts
+stepped (Some choice) Plain word parts = with_value choice word (record parts { waiting = None })
+stepped None Plain word parts = record parts { positional = parts.positional ++ word ∷ [] }
+stepped None (Name choice) word parts = record parts { waiting = Some choice }
+stepped None (Whole choice) word parts = with_value choice (value_of choice word) parts
+stepped _ _ word parts = record parts { has_others = true }
+
+unfoldable pub with_word : Parts → List ℕ → Parts
+with_word parts word = stepped parts.waiting (kind_of word) word parts
+
+abbrev pub parts_of : List (List ℕ) → Parts
+parts_of words = fold with_word no_parts words
+
+-- every word is one that a command line may have, and no option is without its value
+abbrev pub is_whole : Parts → Bool
+is_whole parts = not parts.has_others && not (is_some parts.waiting)
+
+-- ---- how many there are
+
+pub record Counts : Type 0 where
+  pub positional : ℕ
+  pub nodes : ℕ
+  pub rounds : ℕ
+  pub waiting : Option Choice
+  pub has_others : Bool
+
+abbrev pub no_counts : Counts
+no_counts = record { positional = 0; nodes = 0; rounds = 0; waiting = None; has_others = false }
+
+abbrev pub counts_of : Parts → Counts
+counts_of parts = record {
+  positional = length parts.positional;
+  nodes = length parts.nodes;
+  rounds = length parts.rounds;
+  waiting = parts.waiting;
+  has_others = parts.has_others;
+}
+
+abbrev pub with_option : Choice → Counts → Counts
+with_option Nodes counts = record counts { nodes = counts.nodes + 1 }
+with_option Rounds counts = record counts { rounds = counts.rounds + 1 }
+
+abbrev pub counted : Option Choice → Kind → Counts → Counts
+counted (Some choice) Plain counts = with_option choice (record counts { waiting = None })
+counted None Plain counts = record counts { positional = counts.positional + 1 }
+counted None (Name choice) counts = record counts { waiting = Some choice }
+counted None (Whole choice) counts = with_option choice counts
+counted _ _ counts = record counts { has_others = true }
+
+-- each can be counted once more
+pub record HasRoom (counts : Counts) : Type 0 where
+  pub positional : counts.positional + 1 < 2 ^ 64
+  pub nodes : counts.nodes + 1 < 2 ^ 64
+  pub rounds : counts.rounds + 1 < 2 ^ 64
+
+-- ---- what a form wants
+
+-- how many positional words there are
+abbrev pub places : Form → ℕ
+places Folder = 1
+places FolderSearch = 1
+places DaySearch = 2
+
+-- how often an option may stand
+abbrev pub times : Form → ℕ
+times Folder = 0
+times FolderSearch = 1
+times DaySearch = 1
+
+abbrev pub fitting : Form → Counts → Bool
+fitting form counts = (not counts.has_others && not (is_some counts.waiting))
+    && ((counts.positional == places form)
+    && (nat_le counts.nodes (times form) && nat_le counts.rounds (times form)))
+
+-- the parts are whole, and as many as the form wants
+abbrev pub fits : Form → Parts → Bool
+fits form parts = fitting form (counts_of parts)

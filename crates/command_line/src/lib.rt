@@ -1,0 +1,11 @@
+//! The words of a command line after its command word: whether they are of the plain form, and what they say.
+#![tactic(auto)]
+
+pub mod form;
+mod options;
+pub mod plain;
+pub mod taken;
+
+pub use form::{Choice, Form};
+pub use plain::is_plain;
+pub use taken::{Taken, take_apart, words_after};

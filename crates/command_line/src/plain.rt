@@ -1,0 +1,155 @@
+//! The test of the plain form.
+
+ghost use Rattle.std.specs.Prelude.{◌≡◌, map};
+ghost use Rattle.command_line.specs.Parts.{HasRoom, counted, fits, is_positional, kind_of, no_counts, parts_of, times};
+ghost use Rattle.command_line.specs.Parts.{fitting, places, with_option};
+
+use crate::form::{Choice, Form, Kind};
+use std::marker::Model;
+
+/// How many words of each kind were seen.
+#[derive(Drop)]
+struct Seen {
+    positional: usize,
+    nodes: usize,
+    rounds: usize,
+    waiting: Option<Choice>,
+    has_others: bool,
+}
+
+impl Model for Seen {
+    ghost use Rattle.command_line.specs.Parts.{Counts};
+
+    ghost Value = { Counts };
+
+    ghost view = { λ a. record {
+      positional = a.positional;
+      nodes = a.nodes;
+      rounds = a.rounds;
+      waiting = a.waiting;
+      has_others = a.has_others;
+    } };
+}
+
+/// Whether the words after a command word are of the plain form: as many positional words as there are to be, which are
+/// not empty and don't begin with `-`, and in any mixture with them each option that there may be at most once, as one
+/// word (`--nodes=5`) or as two (`--nodes 5`), of which the second is not empty and doesn't begin with `-`.
+pub fn is_plain(form: Form, words: &[&str]) -> bool
+    ensures { result ≡ fits form (parts_of (map (λ word. word.now) words.now)) }
+{
+    let mut seen = Seen::none();
+    for place in 0..words.len() {
+        seen.word(words[place]);
+    }
+    seen.fits(form)
+}
+
+impl Seen {
+    /// Nothing was seen.
+    fn none() -> Seen
+        ensures { result ≡ no_counts }
+    {
+        Seen {
+            positional: 0,
+            nodes: 0,
+            rounds: 0,
+            waiting: None,
+            has_others: false,
+        }
+    }
+
+    /// One more word was seen.
+    fn word(&mut self, word: &str)
+        requires { HasRoom self.old }
+        ensures { self.new ≡ counted self.old.waiting (kind_of word.now) self.old }
+    {
+        match (self.waiting, kind_of(word)) {
+            (Some(choice), Kind::Plain) => {
+                self.waiting = None;
+                self.value(choice);
+            }
+            (None, Kind::Plain) => self.positional += 1,
+            (None, Kind::Name(choice)) => self.waiting = Some(choice),
+            (None, Kind::Whole(choice)) => self.value(choice),
+            _ => self.has_others = true,
+        }
+    }
+
+    /// One more value of an option was seen.
+    fn value(&mut self, choice: Choice)
+        requires { HasRoom self.old }
+        ensures { self.new ≡ with_option choice self.old }
+    {
+        match choice {
+            Choice::Nodes => self.nodes += 1,
+            Choice::Rounds => self.rounds += 1,
+        }
+    }
+
+    /// Whether what was seen is what the form wants.
+    fn fits(&self, form: Form) -> bool
+        ensures { result ≡ fitting form self.now }
+    {
+        if self.has_others {
+            return false;
+        }
+        if self.waiting.is_some() {
+            return false;
+        }
+        self.positional == places(form) && self.nodes <= times(form) && self.rounds <= times(form)
+    }
+}
+
+/// How many positional words there are.
+fn places(form: Form) -> usize
+    ensures { result ≡ places form }
+{
+    match form {
+        Form::Folder => 1,
+        Form::FolderSearch => 1,
+        Form::DaySearch => 2,
+    }
+}
+
+/// How often an option may stand.
+fn times(form: Form) -> usize
+    ensures { result ≡ times form }
+{
+    match form {
+        Form::Folder => 0,
+        Form::FolderSearch => 1,
+        Form::DaySearch => 1,
+    }
+}
+
+/// What a word is.
+fn kind_of(word: &str) -> Kind
+    ensures { result ≡ kind_of word.now }
+{
+    if is_positional(word) {
+        return Kind::Plain;
+    }
+    if word == "--nodes" {
+        return Kind::Name(Choice::Nodes);
+    }
+    if word == "--rounds" {
+        return Kind::Name(Choice::Rounds);
+    }
+    if word.as_bytes().starts_with(b"--nodes=") {
+        return Kind::Whole(Choice::Nodes);
+    }
+    if word.as_bytes().starts_with(b"--rounds=") {
+        return Kind::Whole(Choice::Rounds);
+    }
+    Kind::Other
+}
+
+/// Whether a word is not empty and doesn't begin with `-`.
+fn is_positional(word: &str) -> bool
+    ensures { result ≡ is_positional word.now }
+{
+    match word.as_bytes() {
+        [] => false,
+        [first, ..] => *first != b'-',
+    }
+}

@@ -1,0 +1,64 @@
+//! The words after a command word, taken apart by `clap`.
+
+ghost use Rattle.std.specs.Prelude.{◌≡◌, IfOk, drop, map, true};
+ghost use Rattle.command_line.specs.Parts.{fits, parts_of};
+ghost use Rattle.command_line.specs.Texts.{SaysItems, texts_in, texts_of};
+
+use crate::form::Form;
+use crate::options::{command, first_id};
+use clap::error::ErrorKind;
+use rail_base::{NoMemory, Words};
+use std::alloc::Global;
+
+/// The texts of a command line: positional words, and the values of options.
+#[derive(Clone, Copy, Debug)]
+pub struct Taken<'a> {
+    /// The first positional word: a folder, or what a day is made from.
+    pub first: Option<&'a str>,
+    /// The second positional word: the trips of a day.
+    pub second: Option<&'a str>,
+    /// The value of `--nodes`.
+    pub nodes: Option<&'a str>,
+    /// The value of `--rounds`.
+    pub rounds: Option<&'a str>,
+}
+
+/// Takes apart words of the plain form. The only refusal is want of memory.
+pub fn take_apart<'a>(
+    alloc: Global,
+    form: Form,
+    words: &'a [&'a str],
+) -> Result<Taken<'a>, NoMemory>
+    requires { fits form (parts_of (map (λ word. word.now) words.now)) ≡ true }
+    ensures value { IfOk result (λ taken. texts_in taken ≡ texts_of (parts_of (map (λ word. word.now) words.now))) }
+    ensures meaning { IfOk result (λ taken. SaysItems (map (λ word. word.now) words.now) (texts_in taken)) }
+{
+    let command = command(alloc, form)?;
+    match command.try_get_matches_from(words) {
+        Ok(matches) => Ok(Taken {
+            first: matches.get_str(first_id(form)),
+            second: matches.get_str("trips"),
+            nodes: matches.get_str("nodes"),
+            rounds: matches.get_str("rounds"),
+        }),
+        Err(error) => match error.kind() {
+            ErrorKind::OutOfMemory => Err(NoMemory),
+            _ => unreachable!(),
+        },
+    }
+}
+
+/// The words from a place on, counted from 0.
+pub fn words_after<'a>(
+    alloc: Global,
+    words: &'a Words,
+    place: u32,
+) -> Result<Vec<&'a str>, NoMemory>
+    ensures { IfOk result (λ rest. map (λ word. word.now) rest.items ≡ drop place words.now) }
+{
+    let mut rest = Vec::new(alloc);
+    for next in place..words.len() {
+        rest.push(words.at(next))?;
+    }
+    Ok(rest)
+}
