@@ -19,3 +19,5 @@ pub mod Statuses
 pub mod Advice
 -- what holds of every answer that is found
 pub mod Laws
+-- what the limits are
+pub mod Limits

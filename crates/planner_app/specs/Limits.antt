@@ -1,0 +1,60 @@
+-- The numbers that tables, words, files and answers are held to, each as it is. All other clauses call them by their names.
+use Rattle.std.specs.Prelude.{◌≡◌}
+use Rattle.rail_base.specs.declared.limits.TheConstants.{MOST_FILE_BYTES, MOST_TABLE_BYTES, MOST_NAME_BYTES}
+use Rattle.rail_base.specs.declared.limits.TheConstants.{MOST_LINKS, MOST_PLAN_ROWS, MOST_STATIONS, MOST_STOCK_ROWS, MOST_TRIPS, MOST_TYPES, MOST_WEIGHT_ROWS}
+use Rattle.rail_base.specs.declared.limits.TheConstants.{MOST_CARRIAGES, MOST_FIRST_SEATS, MOST_METRES, MOST_PLATFORM, MOST_REALLOCATION, MOST_SEATS, MOST_STOCK}
+use Rattle.rail_base.specs.declared.limits.TheConstants.{MOST_DEMAND, MOST_FIRST_DEMAND, MOST_KM, MOST_MINUTES, MOST_WEIGHT}
+use Rattle.rail_base.specs.declared.limits.TheConstants.{MOST_COMPOSITION, MOST_COMPOSITIONS, MOST_EXCHANGED, MOST_UNITS}
+use Rattle.rail_base.specs.declared.limits.TheConstants.{MOST_BRANCHINGS, MOST_ENTRIES, MOST_MULTIPLIER, MOST_NODES, MOST_ROUNDS}
+use Rattle.price_bound.specs.declared.sizes.TheConstants.{MOST_VALUE}
+use Rattle.answer_text.specs.declared.limits.TheConstants.{MOST_AMOUNT, MOST_INDEX}
+use Rattle.planner_app.specs.declared.command.TheConstants.{MOST_SEED, USUAL_NODES, USUAL_ROUNDS}
+
+-- the rows of each table
+pub record AreRowLimits : Type 0 where
+  pub types : MOST_TYPES ≡ 6
+  pub stations : MOST_STATIONS ≡ 60
+  pub stock : MOST_STOCK_ROWS ≡ 360
+  pub trips : MOST_TRIPS ≡ 400
+  pub links : MOST_LINKS ≡ 400
+  pub weights : MOST_WEIGHT_ROWS ≡ 1
+  pub plan : MOST_PLAN_ROWS ≡ 400
+
+-- the columns of the tables
+pub record AreColumnLimits : Type 0 where
+  pub name_bytes : MOST_NAME_BYTES ≡ 64
+  pub carriages : MOST_CARRIAGES ≡ 20
+  pub seats : MOST_SEATS ≡ 2000
+  pub first_seats : MOST_FIRST_SEATS ≡ 2000
+  pub metres : MOST_METRES ≡ 500
+  pub platform : MOST_PLATFORM ≡ 1000
+  pub reallocation : MOST_REALLOCATION ≡ 600
+  pub stock : MOST_STOCK ≡ 2000
+  pub minutes : MOST_MINUTES ≡ 2880
+  pub km : MOST_KM ≡ 1000
+  pub demand : MOST_DEMAND ≡ 10000
+  pub first_demand : MOST_FIRST_DEMAND ≡ 10000
+  pub weight : MOST_WEIGHT ≡ 10000
+
+-- a day
+pub record AreDayLimits : Type 0 where
+  pub units : MOST_UNITS ≡ 2000
+  pub compositions : MOST_COMPOSITIONS ≡ 1000
+  pub composition : MOST_COMPOSITION ≡ 6
+  pub exchanged : MOST_EXCHANGED ≡ 2
+
+-- words and options that are not given, files, and answers
+pub record AreRunLimits : Type 0 where
+  pub usual_nodes : USUAL_NODES ≡ 200
+  pub usual_rounds : USUAL_ROUNDS ≡ 20
+  pub branchings : MOST_BRANCHINGS ≡ 4000
+  pub rounds : MOST_ROUNDS ≡ 100
+  pub seed : MOST_SEED ≡ 4294967295
+  pub table_bytes : MOST_TABLE_BYTES ≡ 4194304
+  pub file_bytes : MOST_FILE_BYTES ≡ 134217728
+  pub nodes : MOST_NODES ≡ 8001
+  pub entries : MOST_ENTRIES ≡ 1000
+  pub multiplier : MOST_MULTIPLIER ≡ 1000000000000
+  pub index : MOST_INDEX ≡ 999999
+  pub amount : MOST_AMOUNT ≡ 100000000000000000000
+  pub value : MOST_VALUE ≡ 100000000000000000000
