@@ -1,6 +1,6 @@
 //! The commands of the program.
 
-ghost use Rattle.std.specs.Prelude.{◌≡◌, string_bytes};
+ghost use Rattle.std.specs.Prelude.{◌≡◌, IsUtf8};
 
 use std::marker::Model;
 
@@ -19,11 +19,22 @@ impl Model for Text {
 }
 
 impl Text {
-    /// This text. It takes no memory.
-    pub fn of(text: String) -> Text
-        ensures { result ≡ string_bytes text }
+    /// The text of these bytes, which are UTF-8. It takes no memory.
+    pub fn of(items: Vec<u8>) -> Text
+        requires { IsUtf8 items.items }
+        ensures { result ≡ items.items }
     {
-        Text { text }
+        match String::from_utf8(items) {
+            Ok(text) => Text { text },
+            Err(_) => unreachable!(),
+        }
+    }
+
+    /// Its bytes. They take no memory.
+    pub fn items(&self) -> &[u8]
+        ensures { result.now ≡ self.now }
+    {
+        self.text.as_bytes()
     }
 
     /// The text. It takes no memory.

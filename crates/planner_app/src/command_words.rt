@@ -222,5 +222,5 @@ fn trips_of(word: &str) -> Option<u32>
 fn text(alloc: Global, word: &str) -> Result<Text, NoMemory>
     ensures { IfOk result (λ text. text ≡ word.now) }
 {
-    Ok(Text::of(String::from_str(alloc, word)?))
+    Ok(Text::of(String::from_str(alloc, word)?.into_bytes()))
 }
