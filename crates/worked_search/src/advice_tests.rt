@@ -170,6 +170,23 @@ const RAY: &[Call] = &[Call {
     ..SILENT
 }];
 
+/// Proposes a multiplier at its first call and has enough of that node, and proposes no more.
+const ONCE: &[Call] = &[
+    Call {
+        puts: &[(1, 1)],
+        word: Word::Enough,
+        ..SILENT
+    },
+    SILENT,
+];
+
+/// Proposes a multiplier that is a ray by itself.
+const LONG_RAY: &[Call] = &[Call {
+    puts: &[(2, 1000)],
+    word: Word::Enough,
+    ..SILENT
+}];
+
 #[test]
 fn what_an_advisor_is_shown(rt: HostRuntime) -> Result<(), Fail> {
     let wanted = "optimal 190 by 1 0; only 0 1; cost 190 3:70; ray 2:-1; asked 6";
@@ -237,5 +254,29 @@ fn multipliers_show_that_there_is_none(rt: HostRuntime) -> Result<(), Fail> {
     };
     let wanted = "infeasible; ray 1:1 2:1; asked 1";
     expect(&rt, rt.alloc(), early, RAY, wanted)?;
+    Ok(())
+}
+
+// A node whose first bound is as dear as the best solution is closed before it is evaluated under what it inherits.
+#[test]
+fn a_node_that_is_closed_inherits_nothing(rt: HostRuntime) -> Result<(), Fail> {
+    let level = Task {
+        sample: Sample::LevelBack,
+        ..granting(2, 1)
+    };
+    let wanted = "optimal 120 by 1 1; only 0 0; only 1 1; ray 1:1; cost 120; cost 120; asked 2";
+    expect(&rt, rt.alloc(), level, ONCE, wanted)?;
+    Ok(())
+}
+
+// Of two rays the one that is named for the picks comes before the multipliers themselves.
+#[test]
+fn the_named_ray_comes_first(rt: HostRuntime) -> Result<(), Fail> {
+    let few = Task {
+        sample: Sample::TooFew,
+        ..granting(0, 1)
+    };
+    let wanted = "infeasible; ray 2:1; asked 1";
+    expect(&rt, rt.alloc(), few, LONG_RAY, wanted)?;
     Ok(())
 }

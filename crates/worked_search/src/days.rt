@@ -1,5 +1,8 @@
 //! The days that are searched.
 
+ghost use Rattle.std.specs.Prelude.{◌≤◌, length};
+ghost use Rattle.rail_base.specs.declared.limits.TheConstants.{MOST_TABLE_BYTES};
+
 use sample_days::{Texts, day_of};
 use std::alloc::Global;
 use std::test::Fail;
@@ -16,6 +19,12 @@ pub(crate) enum Sample {
     TwoAlike,
     /// The same, where with A alone on T1 no plan can cost less than that with AA on both, which is the cheapest.
     NoCheaper,
+    /// Two trips without a link, where two units leave X, one of them is wanted at Y, and leaves on both sides are as low.
+    Level,
+    /// The same, where both units are wanted at X at the end.
+    LevelBack,
+    /// Two trips without a link, where more units are wanted at X at the end than there can be.
+    TooFew,
     /// Two trips without a link, of which the second leaves before the units of the first are ready.
     EarlyBack,
 }
@@ -44,6 +53,9 @@ pub(crate) fn day(alloc: Global, sample: Sample) -> Result<Instance, Fail> {
         Sample::Apart => apart(alloc),
         Sample::TwoAlike => two_alike(alloc),
         Sample::NoCheaper => no_cheaper(alloc),
+        Sample::Level => level(alloc, ONE_AT_Y),
+        Sample::LevelBack => level(alloc, BOTH_AT_X),
+        Sample::TooFew => too_few(alloc),
         Sample::EarlyBack => early_back(alloc),
     }
 }
@@ -100,6 +112,36 @@ fn no_cheaper(alloc: Global) -> Result<Instance, Fail> {
             stations: FOR_TWO,
             stock: BOTH_AT_X,
             trips: b"trip,from,departure,to,arrival,km,demand\nT1,X,08:00,Y,09:00,10,203\nT2,Y,09:40,X,10:40,10,206\n",
+            links: NO_LINKS,
+        },
+    )
+}
+
+/// T1 costs 30 with A, 60 with AA and 90 with AAA; T2 costs 120 with A, 60 with AA and 90 with AAA.
+fn level(alloc: Global, stock: &[u8]) -> Result<Instance, Fail>
+    requires { length stock.now ≤ MOST_TABLE_BYTES }
+{
+    day_of(
+        alloc,
+        &Texts {
+            types: ONE_TYPE,
+            stations: FOR_THREE,
+            stock,
+            trips: b"trip,from,departure,to,arrival,km,demand\nT1,X,08:00,Y,09:00,10,150\nT2,Y,09:40,X,10:40,10,209\n",
+            links: NO_LINKS,
+        },
+    )
+}
+
+/// One unit is at X, where T1 costs less with two; two at most are there at the end, and five are wanted.
+fn too_few(alloc: Global) -> Result<Instance, Fail> {
+    day_of(
+        alloc,
+        &Texts {
+            types: ONE_TYPE,
+            stations: FOR_TWO,
+            stock: b"station,type,start,end\nX,A,1,5\nY,A,2,0\n",
+            trips: b"trip,from,departure,to,arrival,km,demand\nT1,X,08:00,Y,09:00,10,300\nT2,Y,09:40,X,10:40,10,150\n",
             links: NO_LINKS,
         },
     )

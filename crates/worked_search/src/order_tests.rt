@@ -34,6 +34,19 @@ fn the_least_bound_is_next(rt: HostRuntime) -> Result<(), Fail> {
     Ok(())
 }
 
+// Of two leaves of bound 120 on the two sides of the first branching, the one that was made first is branched next.
+#[test]
+fn of_equal_bounds_on_two_sides_the_earlier_node_is_next(rt: HostRuntime) -> Result<(), Fail> {
+    let level = Task {
+        sample: Sample::Level,
+        grant: 3,
+        rounds: 0,
+    };
+    let wanted = "bounded 120; only 0 0; only 1 1; ray 1:1; cost 120; only 0 1; cost 120; ray 0:1";
+    expect_unadvised(&rt, rt.alloc(), level, wanted)?;
+    Ok(())
+}
+
 // (AA, AA) is found on the right side of the first branching, and (A, A) of the same cost later, on the left side.
 #[test]
 fn the_solution_that_is_found_first_is_kept(rt: HostRuntime) -> Result<(), Fail> {
