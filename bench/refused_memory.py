@@ -4,7 +4,7 @@
     refused_memory.py BIN FOLDER
 
 BIN is the program as `rt run` builds it, and FOLDER has the days of crates/railplan/data. It needs a C compiler. The
-README.md beside it says what a run may come to.
+refused_memory.md beside it says what a run may come to.
 """
 import collections
 import os

@@ -1,4 +1,4 @@
--- The numbers that tables, words, files and answers are held to, each as it is. All other clauses call them by their names.
+-- The numbers that tables, words, files and answers are held to, each as it is. Clauses call them by their names.
 use Rattle.std.specs.Prelude.{◌≡◌}
 use Rattle.rail_base.specs.declared.limits.TheConstants.{MOST_FILE_BYTES, MOST_TABLE_BYTES, MOST_NAME_BYTES}
 use Rattle.rail_base.specs.declared.limits.TheConstants.{MOST_LINKS, MOST_PLAN_ROWS, MOST_STATIONS, MOST_STOCK_ROWS, MOST_TRIPS, MOST_TYPES, MOST_WEIGHT_ROWS}
