@@ -1,6 +1,6 @@
 -- The numbers that tables, words, files and answers are held to, each as it is. Clauses call them by their names.
 use Rattle.std.specs.Prelude.{◌≡◌}
-use Rattle.rail_base.specs.declared.limits.TheConstants.{MOST_FILE_BYTES, MOST_TABLE_BYTES, MOST_NAME_BYTES}
+use Rattle.rail_base.specs.declared.limits.TheConstants.{MOST_CHANGE, MOST_FILE_BYTES, MOST_NAME_BYTES, MOST_SLACKS, MOST_TABLE_BYTES, MOST_WORDS}
 use Rattle.rail_base.specs.declared.limits.TheConstants.{MOST_LINKS, MOST_PLAN_ROWS, MOST_STATIONS, MOST_STOCK_ROWS, MOST_TRIPS, MOST_TYPES, MOST_WEIGHT_ROWS}
 use Rattle.rail_base.specs.declared.limits.TheConstants.{MOST_CARRIAGES, MOST_FIRST_SEATS, MOST_METRES, MOST_PLATFORM, MOST_REALLOCATION, MOST_SEATS, MOST_STOCK}
 use Rattle.rail_base.specs.declared.limits.TheConstants.{MOST_DEMAND, MOST_FIRST_DEMAND, MOST_KM, MOST_MINUTES, MOST_WEIGHT}
@@ -43,8 +43,9 @@ pub record AreDayLimits : Type 0 where
   pub composition : MOST_COMPOSITION ≡ 6
   pub exchanged : MOST_EXCHANGED ≡ 2
 
--- words and options that are not given, files, and answers
+-- words and options that are not given, files, answers, and what bounds are asked for
 pub record AreRunLimits : Type 0 where
+  pub words : MOST_WORDS ≡ 1000000
   pub usual_nodes : USUAL_NODES ≡ 200
   pub usual_rounds : USUAL_ROUNDS ≡ 20
   pub branchings : MOST_BRANCHINGS ≡ 4000
@@ -55,6 +56,8 @@ pub record AreRunLimits : Type 0 where
   pub nodes : MOST_NODES ≡ 8001
   pub entries : MOST_ENTRIES ≡ 1000
   pub multiplier : MOST_MULTIPLIER ≡ 1000000000000
+  pub slacks : MOST_SLACKS ≡ 4000
+  pub change : MOST_CHANGE ≡ 1000000
   pub index : MOST_INDEX ≡ 999999
   pub amount : MOST_AMOUNT ≡ 100000000000000000000
   pub value : MOST_VALUE ≡ 100000000000000000000
