@@ -295,3 +295,65 @@ fn sure_folders_and_sinks_end_as_ever(rt: HostRuntime) -> Result<(), Fail> {
     }
     Ok(())
 }
+
+/// A types table with one row, whose name is a letter repeated so often that the table has so many bytes.
+fn table_of_one_name(alloc: Global, bytes: usize) -> Result<String, NoMemory> {
+    let header = "type,carriages,seats,metres,family\n";
+    let others = ",3,200,80,regional\n";
+    let letters = bytes
+        .saturating_sub(header.len())
+        .saturating_sub(others.len());
+    let mut table = String::from_str(alloc, header)?;
+    for _ in 0..letters {
+        table.push('a')?;
+    }
+    table.push_str(others)?;
+    Ok(table)
+}
+
+/// A plan of the day of a turn with another table of types, which is refused.
+fn refused_plan<'a>(types: &'a str, document: &'a str) -> Case<'a> {
+    Case {
+        day: Day {
+            types: Some(types),
+            ..base_day()
+        },
+        status: 3,
+        document,
+        ..planned()
+    }
+}
+
+/// Asserts how a run ends in which no call fails.
+fn expect_case(rt: &impl Abort, alloc: Global, case: &Case) -> Result<(), NoMemory> {
+    let ending = ending_where(rt, alloc, case, Vec::new(alloc), Vec::new(alloc))?;
+    expect_ending(rt, &ending, case.status, case.document.as_bytes());
+    Ok(())
+}
+
+#[test]
+fn a_name_may_not_fill_a_table(rt: HostRuntime) -> Result<(), Fail> {
+    let alloc = rt.alloc();
+    let table = table_of_one_name(alloc, 4_194_304)?;
+    let wrong = "refused types.csv: row 1, column type: not a name\n";
+    expect_case(&rt, alloc, &refused_plan(table.as_str(), wrong))?;
+    let longer = table_of_one_name(alloc, 4_194_305)?;
+    let too_long = "refused types.csv: too long\n";
+    expect_case(&rt, alloc, &refused_plan(longer.as_str(), too_long))?;
+    Ok(())
+}
+
+#[test]
+fn a_plan_names_the_file_that_is_not_there(rt: HostRuntime) -> Result<(), Fail> {
+    let unread = Case {
+        day: Day {
+            trips: None,
+            ..base_day()
+        },
+        status: 5,
+        document: "cannot read trips.csv\n",
+        ..planned()
+    };
+    expect_case(&rt, rt.alloc(), &unread)?;
+    Ok(())
+}

@@ -170,40 +170,6 @@ fn a_table_may_have_4194304_bytes(rt: HostRuntime) -> Result<(), Fail> {
     Ok(())
 }
 
-/// A types table with one row, whose name is a letter repeated so often that the table has so many bytes.
-fn table_of_one_name(alloc: Global, bytes: usize) -> Result<String, NoMemory> {
-    let header = "type,carriages,seats,metres,family\n";
-    let others = ",3,200,80,regional\n";
-    let letters = bytes
-        .saturating_sub(header.len())
-        .saturating_sub(others.len());
-    let mut table = String::from_str(alloc, header)?;
-    for _ in 0..letters {
-        table.push('a')?;
-    }
-    table.push_str(others)?;
-    Ok(table)
-}
-
-#[test]
-fn a_name_may_not_fill_a_table(rt: HostRuntime) -> Result<(), Fail> {
-    let alloc = rt.alloc();
-    let table = table_of_one_name(alloc, 4_194_304)?;
-    let day = Day {
-        types: Some(table.as_str()),
-        ..two_trips()
-    };
-    let refused = "refused types.csv: row 1, column type: not a name\n";
-    expect_document(&rt, alloc, &day, 3, refused)?;
-    let longer = table_of_one_name(alloc, 4_194_305)?;
-    let day = Day {
-        types: Some(longer.as_str()),
-        ..two_trips()
-    };
-    expect_document(&rt, alloc, &day, 3, "refused types.csv: too long\n")?;
-    Ok(())
-}
-
 #[test]
 fn a_file_that_cannot_be_read_is_named(rt: HostRuntime) -> Result<(), Fail> {
     let alloc = rt.alloc();
@@ -266,7 +232,11 @@ fn other_words_are_refused(rt: HostRuntime) -> Result<(), Fail> {
     expect_usage(&rt, alloc, &["railplan", "simulate", ""])?;
     expect_usage(&rt, alloc, &["railplan", "simulate", "-day"])?;
     expect_usage(&rt, alloc, &["railplan", "simulate", "day", "day"])?;
+    expect_usage(&rt, alloc, &["railplan", "plan"])?;
+    expect_usage(&rt, alloc, &["railplan", "help"])?;
     expect_usage(&rt, alloc, &["railplan", "plan", "day", "day"])?;
+    expect_usage(&rt, alloc, &["railplan", "plan", "day", "--nodes"])?;
+    expect_usage(&rt, alloc, &["railplan", "plan", "day", "--nodes="])?;
     expect_usage(&rt, alloc, &["railplan", "plan", "day", "--nodes", "4001"])?;
     expect_usage(&rt, alloc, &["railplan", "--help"])?;
     Ok(())
