@@ -1,5 +1,6 @@
 -- How far multipliers are moved, and where to.
-use Rattle.std.specs.Prelude.{ℕ, ◌+◌, ◌/◌, max, ℤ, pos, ◌+ℤ◌, ◌*ℤ◌, neg_ℤ, unsigned_abs, Bool, if◌then◌else◌, List, [], ◌∷◌}
+use Rattle.std.specs.Prelude.{ℕ, ◌+◌, ◌/◌, max, ℤ, pos, ◌+ℤ◌, ◌*ℤ◌, neg_ℤ, unsigned_abs, Bool, if◌then◌else◌, List, []}
+use Rattle.std.specs.Prelude.{◌∷◌}
 use Rattle.std.specs.Int.{int_max, int_min}
 use Rattle.rail_base.specs.declared.limits.TheConstants.{MOST_MULTIPLIER}
 use Rattle.branch_tree.specs.declared.multipliers.Entry.{Entry}

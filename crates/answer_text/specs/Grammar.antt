@@ -3,7 +3,8 @@ use Rattle.std.specs.Prelude.{ℕ, ◌+◌, ◌≡◌, ◌≢◌, Bool, true, fa
 use Rattle.rail_base.specs.declared.limits.TheConstants.{MOST_NODES}
 use Rattle.answer_text.specs.declared.answer.Answer.{Answer}
 use Rattle.answer_text.specs.declared.refusal.AnswerRefusal.{AnswerRefusal}
-use Rattle.answer_text.specs.declared.refusal.AnswerRefusal.TheVariants.{BadLine, MissingEnd, Trailing, TooManyNodes, NoMemory}
+use Rattle.answer_text.specs.declared.refusal.AnswerRefusal.TheVariants.{BadLine, MissingEnd, Trailing, TooManyNodes}
+use Rattle.answer_text.specs.declared.refusal.AnswerRefusal.TheVariants.{NoMemory}
 use Rattle.answer_text.specs.Limits.{IsWithin}
 use Rattle.answer_text.specs.Lines.{line_feed, text_of_lines}
 use Rattle.answer_text.specs.Texts.{lines_of, text_of}

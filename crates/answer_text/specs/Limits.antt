@@ -1,6 +1,7 @@
 -- The limits within which answers are read.
 use Rattle.std.specs.Prelude.{ℕ, ◌<◌, ◌≤◌, ◌≡◌, List, [], length, All, ℤ, unsigned_abs, Bool, true, false}
-use Rattle.rail_base.specs.declared.limits.TheConstants.{MOST_BRANCHINGS, MOST_COMPOSITION, MOST_COMPOSITIONS, MOST_TRIPS, MOST_TYPES, MOST_UNITS}
+use Rattle.rail_base.specs.declared.limits.TheConstants.{MOST_BRANCHINGS, MOST_COMPOSITION, MOST_COMPOSITIONS}
+use Rattle.rail_base.specs.declared.limits.TheConstants.{MOST_TRIPS, MOST_TYPES, MOST_UNITS}
 use Rattle.branch_tree.specs.declared.cuts.Cut.{Cut}
 use Rattle.branch_tree.specs.declared.cuts.Cut.TheVariants.{Only, AtMost}
 use Rattle.branch_tree.specs.declared.multipliers.Entry.{Entry}

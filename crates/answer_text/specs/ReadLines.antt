@@ -1,8 +1,11 @@
 -- What a line is read as, word by word.
-use Rattle.std.specs.Prelude.{ℕ, zero, suc, ℤ, ◌-◌, ◌+◌, ◌==◌, ◌<◌, nat_lt, List, [], ◌∷◌, ◌++◌, length, codes, if◌then◌else◌, Option, Some, None}
+use Rattle.std.specs.Prelude.{ℕ, zero, suc, ℤ, ◌-◌, ◌+◌, ◌==◌, ◌<◌, nat_lt, List, [], ◌∷◌, ◌++◌, length, codes}
+use Rattle.std.specs.Prelude.{if◌then◌else◌, Option, Some, None}
 use Rattle.std.specs.List.{AllByRecursion}
 use Rattle.std.specs.Str.{bytes_eq}
-use Rattle.rail_base.specs.declared.limits.TheConstants.{MOST_BRANCHINGS, MOST_COMPOSITION, MOST_COMPOSITIONS, MOST_ENTRIES, MOST_MULTIPLIER, MOST_TRIPS, MOST_TYPES, MOST_UNITS}
+use Rattle.rail_base.specs.declared.limits.TheConstants.{MOST_BRANCHINGS, MOST_COMPOSITION, MOST_COMPOSITIONS}
+use Rattle.rail_base.specs.declared.limits.TheConstants.{MOST_ENTRIES, MOST_MULTIPLIER, MOST_TRIPS, MOST_TYPES}
+use Rattle.rail_base.specs.declared.limits.TheConstants.{MOST_UNITS}
 use Rattle.branch_tree.specs.declared.cuts.Cut.TheVariants.{Only, AtMost}
 use Rattle.branch_tree.specs.declared.multipliers.Entry.{Entry}
 use Rattle.branch_tree.specs.declared.tree.Node.{Node}

@@ -1,5 +1,6 @@
 -- Reading by lines: what was read so far, which line fits next, and what becomes of a document.
-use Rattle.std.specs.Prelude.{ℕ, ◌+◌, ◌≡◌, ◌==◌, nat_lt, List, [], ◌∷◌, ◌++◌, length, if◌then◌else◌, Option, Some, None, is_some, Result, Ok, Err}
+use Rattle.std.specs.Prelude.{ℕ, ◌+◌, ◌≡◌, ◌==◌, nat_lt, List, [], ◌∷◌, ◌++◌, length, if◌then◌else◌, Option, Some, None}
+use Rattle.std.specs.Prelude.{is_some, Result, Ok, Err}
 use Rattle.std.specs.Str.{bytes_eq}
 use Rattle.rail_base.specs.declared.limits.TheConstants.{MOST_NODES, MOST_TRIPS}
 use Rattle.branch_tree.specs.declared.tree.Node.{Node}
@@ -12,7 +13,8 @@ use Rattle.answer_text.specs.Lines.{line_feed}
 use Rattle.answer_text.specs.Numbers.{◌>>=◌}
 use Rattle.answer_text.specs.Pieces.{pieces, words_of}
 use Rattle.answer_text.specs.ReadLines.{head_in, branchings_in, run_in, node_in}
-use Rattle.answer_text.specs.Texts.{title_line, tree_line, end_line, head_line, opening_lines, run_lines, body_lines, lines_of}
+use Rattle.answer_text.specs.Texts.{title_line, tree_line, end_line, head_line, opening_lines, run_lines, body_lines}
+use Rattle.answer_text.specs.Texts.{lines_of}
 
 -- what was read of a document
 pub data Place : Type 0 where

@@ -3,7 +3,8 @@
 ghost use Rattle.std.specs.Prelude.{◌≡◌, ◌==◌, ◌-◌, [], length, if◌then◌else◌, Some, None, IfOk, option_map};
 ghost use Rattle.answer_text.specs.Numbers.{number_in};
 ghost use Rattle.answer_text.specs.Pieces.{words_after, words_of};
-ghost use Rattle.answer_text.specs.ReadLines.{bounded_in, bounded_plan_in, branchings_in, head_in, next_is, optimal_in, run_in, units_in};
+ghost use Rattle.answer_text.specs.ReadLines.{bounded_in, bounded_plan_in, branchings_in, head_in, next_is, optimal_in};
+ghost use Rattle.answer_text.specs.ReadLines.{run_in, units_in};
 
 use crate::answer::Head;
 use crate::numbers::{next_amount, next_number, number_in};

@@ -4,7 +4,8 @@ ghost use Rattle.std.specs.Prelude.{◌≡◌, ◌≤◌, ◌==◌, length, Some
 ghost use Rattle.std.specs.Str.{all_ascii_digits};
 ghost use Rattle.std.specs.Str.Parse.{digits_value};
 ghost use Rattle.answer_text.specs.Pieces.{words_after};
-ghost use Rattle.answer_text.specs.Numbers.{has_leading_zero, next_number, next_signed, nonzero_in, number_in, signed_in, signed_of};
+ghost use Rattle.answer_text.specs.Numbers.{has_leading_zero, next_number, next_signed, nonzero_in, number_in};
+ghost use Rattle.answer_text.specs.Numbers.{signed_in, signed_of};
 
 use crate::limits::{MOST_AMOUNT, MOST_DIGITS};
 use crate::pieces::next_piece;

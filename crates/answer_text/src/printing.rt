@@ -2,7 +2,8 @@
 
 ghost use Rattle.std.specs.Prelude.{◌≡◌, ◌++◌, ◌∷◌, [], IfOk, OnOk, string_bytes};
 ghost use Rattle.answer_text.specs.Lines.{Adds};
-ghost use Rattle.answer_text.specs.Texts.{branchings_line, entries_end, head_line, node_line, node_lines, run_line, run_lines, text_of};
+ghost use Rattle.answer_text.specs.Texts.{branchings_line, entries_end, head_line, node_line, node_lines, run_line};
+ghost use Rattle.answer_text.specs.Texts.{run_lines, text_of};
 
 use crate::answer::{Answer, Head};
 use branch_tree::{Cut, Entry, Node, Tree};

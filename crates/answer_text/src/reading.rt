@@ -8,7 +8,8 @@ ghost use Rattle.answer_text.specs.declared.refusal.AnswerRefusal.{AnswerRefusal
 ghost use Rattle.answer_text.specs.Grammar.{IsRefused, IsText, is_memory};
 ghost use Rattle.answer_text.specs.Lines.{line_feed};
 ghost use Rattle.answer_text.specs.Pieces.{pieces};
-ghost use Rattle.answer_text.specs.ReadPlaces.{at_branchings, at_head, at_nodes, at_runs, at_title, HasNone, IsNext, most_runs, reading, whole};
+ghost use Rattle.answer_text.specs.ReadPlaces.{at_branchings, at_head, at_nodes, at_runs, at_title, HasNone, IsNext};
+ghost use Rattle.answer_text.specs.ReadPlaces.{most_runs, reading, whole};
 
 use crate::answer::{Answer, Head, Runs};
 use crate::lines::{branchings_in, head_in, run_in};

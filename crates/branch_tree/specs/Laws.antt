@@ -33,8 +33,8 @@ CutsKeep = (catalogue : List (List ℕ)) (cut : Cut) (side : Side) (region : Lis
     trip_of cut < length region → has (side_of catalogue cut side region) trip comp ≡
     (has region trip comp && (if trip == trip_of cut then is_on catalogue cut side comp else true))
 
--- picks of a region are on exactly one side of a cut, the one on which the pick of its trip is, and picks on a side are in the
--- region
+-- picks of a region are on exactly one side of a cut, the one on which the pick of its trip is, and picks on a side are
+-- in the region
 pub record IsDivided (catalogue : List (List ℕ)) (cut : Cut) (region : List (List Bool)) (picks : List ℕ) : Type 0 where
   pub one : IsTrue (are_in picks region) →
       are_in picks (side_of catalogue cut Left region) ≡ not (are_in picks (side_of catalogue cut Right region))

@@ -1,5 +1,6 @@
 -- The catalogue: all compositions that fit, in one order.
-use Rattle.std.specs.Prelude.{ℕ, zero, suc, Bool, false, ◌&&◌, ◌||◌, ◌==◌, IsTrue, List, [], ◌∷◌, ◌++◌, length, nat_lt, filter, All, AllPairs, Contains}
+use Rattle.std.specs.Prelude.{ℕ, zero, suc, Bool, false, ◌&&◌, ◌||◌, ◌==◌, IsTrue, List, [], ◌∷◌, ◌++◌, length, nat_lt}
+use Rattle.std.specs.Prelude.{filter, All, AllPairs, Contains}
 use Rattle.std.specs.List.{flat_map}
 use Rattle.rail_base.specs.declared.limits.TheConstants.{MOST_COMPOSITION}
 use Rattle.compositions.specs.declared.types.UnitType.{UnitType}

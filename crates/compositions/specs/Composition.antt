@@ -1,5 +1,6 @@
 -- What a composition is: the types of a train's units, front to rear, each a number into the list of unit types.
-use Rattle.std.specs.Prelude.{ℕ, ◌+◌, List, [], ◌∷◌, Bool, true, ◌&&◌, option_map, unwrap_or, slice_get, length, nat_lt, nat_le}
+use Rattle.std.specs.Prelude.{ℕ, ◌+◌, List, [], ◌∷◌, Bool, true, ◌&&◌, option_map, unwrap_or, slice_get, length, nat_lt}
+use Rattle.std.specs.Prelude.{nat_le}
 use Rattle.std.specs.List.{list_all}
 use Rattle.std.specs.Str.{bytes_eq}
 use Rattle.rail_base.specs.declared.limits.TheConstants.{MOST_COMPOSITION}

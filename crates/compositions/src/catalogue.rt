@@ -1,6 +1,7 @@
 //! The catalogue: all compositions that fit the longest platform, numbered in one order.
 
-ghost use Rattle.std.specs.Prelude.{List, AllPairs, slice_index_or, false, ◌≡◌, ◌<◌, ◌≤◌, ◌+◌, ◌++◌, ℕ, [], ◌∷◌, ◌↔◌, IsTrue, IsNone, IfSome, IfOk, OnOk, IfErr, Some, length, slice_get, Contains};
+ghost use Rattle.std.specs.Prelude.{List, AllPairs, slice_index_or, false, ◌≡◌, ◌<◌, ◌≤◌, ◌+◌, ◌++◌, ℕ, [], ◌∷◌, ◌↔◌};
+ghost use Rattle.std.specs.Prelude.{IsTrue, IsNone, IfSome, IfOk, OnOk, IfErr, Some, length, slice_get, Contains};
 ghost use Rattle.compositions.specs.Catalogue.{IsCatalogue, catalogue_of, comes_before};
 ghost use Rattle.compositions.specs.Composition.{fits_in};
 ghost use Rattle.compositions.specs.Extensions.{where_it_fits, extensions};
@@ -45,8 +46,9 @@ impl Model for Catalogue {
 }
 
 impl Catalogue {
-    /// The catalogue of the compositions that are no longer than so many metres. It is refused as `TooMany` exactly where
-    /// more than 1,000 fit, and takes no more time then than for the first 1,001; the other refusal is want of memory.
+    /// The catalogue of the compositions that are no longer than so many metres. It is refused as `TooMany` exactly
+    /// where more than 1,000 fit, and takes no more time then than for the first 1,001; the other refusal is want of
+    /// memory.
     pub fn build(
         alloc: Global,
         types: &UnitTypes,

@@ -1,10 +1,12 @@
 //! Compositions: the units of one train, front to rear.
 
-ghost use Rattle.std.specs.Prelude.{[], ◌∷◌, ◌≡◌, ◌<◌, ◌≤◌, ◌+◌, ◌-◌, ◌++◌, ◌==◌, ◌⊎◌, ◌↔◌, IsTrue, IsNone, IfSome, Some, length, slice_get, take, drop, reverse, count_by};
+ghost use Rattle.std.specs.Prelude.{[], ◌∷◌, ◌≡◌, ◌<◌, ◌≤◌, ◌+◌, ◌-◌, ◌++◌, ◌==◌, ◌⊎◌, ◌↔◌, IsTrue, IsNone, IfSome};
+ghost use Rattle.std.specs.Prelude.{Some, length, slice_get, take, drop, reverse, count_by};
 ghost use Rattle.std.specs.List.{list_all};
 ghost use Rattle.std.specs.Str.{bytes_eq};
 ghost use Rattle.compositions.specs.Catalogue.{comes_before};
-ghost use Rattle.compositions.specs.Composition.{metres_of, seats_of, first_seats_of, carriages_of, family_of, is_one_family, are_types, fits_in, sum_over};
+ghost use Rattle.compositions.specs.Composition.{metres_of, seats_of, first_seats_of, carriages_of, family_of};
+ghost use Rattle.compositions.specs.Composition.{is_one_family, are_types, fits_in, sum_over};
 ghost use Rattle.compositions.specs.Measure.{measure_of};
 ghost use Rattle.compositions.specs.UnitTypes.{is_within_limits};
 
@@ -103,8 +105,8 @@ impl Composition {
         self.units() == other.units()
     }
 
-    /// Whether this composition comes before another in the order of the catalogue: by number of units, and then by type
-    /// numbers from the front.
+    /// Whether this composition comes before another in the order of the catalogue: by number of units, and then by
+    /// type numbers from the front.
     pub fn is_before(&self, other: &Composition) -> bool
         ensures { result ≡ comes_before self.now other.now }
     {

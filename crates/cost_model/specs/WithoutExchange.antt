@@ -1,6 +1,7 @@
--- What a day costs whose turns are without exchange and keep their rule over types. Such a turn does not both uncouple and couple
--- units, so that units are shunted at it exactly where its two lists differ in length.
-use Rattle.std.specs.Prelude.{ℕ, ◌+◌, ◌≡◌, List, length, Bool, true, false, ◌==◌, if◌then◌else◌, option_map, unwrap_or, slice_get, Some, ⊤}
+-- What a day costs whose turns are without exchange and keep their rule over types. Such a turn does not both uncouple
+-- and couple units, so that units are shunted at it exactly where its two lists differ in length.
+use Rattle.std.specs.Prelude.{ℕ, ◌+◌, ◌≡◌, List, length, Bool, true, false, ◌==◌, if◌then◌else◌, option_map, unwrap_or}
+use Rattle.std.specs.Prelude.{slice_get, Some, ⊤}
 use Rattle.timetable.specs.declared.day.records.Link.{Link}
 use Rattle.timetable.specs.declared.day.records.LinkKind.{LinkKind}
 use Rattle.timetable.specs.declared.day.records.LinkKind.TheVariants.{Turn, Join, Split}

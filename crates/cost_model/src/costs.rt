@@ -40,8 +40,8 @@ pub fn cost(instance: &Instance, picks: &Picks) -> Money
     whole_cost(instance, picks)
 }
 
-/// The parts of the cost of picks. There is one for each trip, and each is the number of a composition of the catalogue;
-/// they need neither fit the platforms nor follow the rules of the links. It takes no memory.
+/// The parts of the cost of picks. There is one for each trip, and each is the number of a composition of the
+/// catalogue; they need neither fit the platforms nor follow the rules of the links. It takes no memory.
 pub fn parts(instance: &Instance, picks: &Picks) -> CostParts
     requires { ArePicks instance.now picks.now }
     ensures carriage { result.carriage.0 ≡ pos (carriage_of instance.now (picked instance.now picks.now)) }

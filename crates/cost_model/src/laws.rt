@@ -10,8 +10,8 @@ pub fn parts_add_up()
     ensures law { AddUp }
 {}
 
-/// Where no turn has an exchange and every turn keeps its rule over the types of its trips, a day costs shunting once for each
-/// turn whose two lists differ in length, and for no other.
+/// Where no turn has an exchange and every turn keeps its rule over the types of its trips, a day costs shunting once
+/// for each turn whose two lists differ in length, and for no other.
 pub fn turns_cost_by_length()
     ensures law { CostsByLength }
 {}

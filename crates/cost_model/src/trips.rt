@@ -20,14 +20,16 @@ pub const MOST_CARRIAGE_COST: u64 = MOST_WEIGHT as u64
     * MOST_KM as u64;
 /// The most seats that are missing on a trip: the most demand of both classes.
 const MOST_MISSING_SEATS: u32 = MOST_FIRST_DEMAND + MOST_DEMAND;
-/// The most that the missing seats of a trip cost: the most weight, for the most missing seats, for the most kilometres.
+/// The most that the missing seats of a trip cost: the most weight, for the most missing seats, for the most
+/// kilometres.
 pub const MOST_SHORTAGE_COST: u64 = MOST_WEIGHT as u64 * MOST_MISSING_SEATS as u64 * MOST_KM as u64;
 /// The most that a trip costs.
 pub const MOST_TRIP_COST: u64 = MOST_CARRIAGE_COST + MOST_SHORTAGE_COST;
 
-/// What a trip costs with units of these types: the weight of a carriage for each of its carriages and kilometres, and the
-/// weight of a missing seat for each seat that is missing, in first and in second class, and each kilometre. The trip is below `trips`;
-/// the types, at most six, are those of the day, and need not fit the platforms. It takes no memory.
+/// What a trip costs with units of these types: the weight of a carriage for each of its carriages and kilometres, and
+/// the weight of a missing seat for each seat that is missing, in first and in second class, and each kilometre. The
+/// trip is below `trips`; the types, at most six, are those of the day, and need not fit the platforms. It takes no
+/// memory.
 #[tactic(auto, unfolding(timetable::specs::Cost::trip_cost))]
 pub fn trip_cost(instance: &Instance, trip: TripNo, types: &[TypeNo]) -> u64
     requires trip { trip < length instance.now.trips }
@@ -67,8 +69,8 @@ pub(crate) fn shortage_cost(instance: &Instance, trip: TripNo, types: &[TypeNo])
     u64::from(weight) * u64::from(missing) * u64::from(instance.trip(trip).km)
 }
 
-/// The seats that are missing on a trip, of both classes: in each as many as are wanted beyond its seats. What one class has
-/// to spare does not help the other.
+/// The seats that are missing on a trip, of both classes: in each as many as are wanted beyond its seats. What one
+/// class has to spare does not help the other.
 #[tactic(auto, unfolding(timetable::specs::Cost::missing_seats, timetable::specs::Day::demand_of, timetable::specs::Day::first_demand_of))]
 fn missing_seats(instance: &Instance, trip: TripNo, types: &[TypeNo]) -> u32
     requires trip { trip < length instance.now.trips }

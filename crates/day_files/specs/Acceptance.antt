@@ -30,7 +30,8 @@ pub record AreFilesOf (files : Files) (dir : List ℕ) (tables : Tables) : Type 
   pub links : IsFileOf files dir table.Links tables.links
   pub weights : IsFileOf files dir table.Weights tables.weights
 
--- The files are accepted as a day and a plan of it: the six tables make the day, and the rows of the seventh make the plan.
+-- The files are accepted as a day and a plan of it: the six tables make the day, and the rows of the seventh make the
+-- plan.
 pub record AreAccepted (files : Files) (dir : List ℕ) (inputs : Inputs) : Type 0 where
   pub tables : Tables
   pub table_files : AreFilesOf files dir tables
@@ -39,8 +40,8 @@ pub record AreAccepted (files : Files) (dir : List ℕ) (inputs : Inputs) : Type
   pub plan_file : IsFileOf files dir table.Plan rows
   pub plan : plan_of inputs.instance rows ≡ Ok inputs.plan
 
--- The first file that is refused, and why: the reading reaches it, and it is too long, or no such table; or the six tables are
--- read and make no day; or the rows of the plan are read and make no plan of the day.
+-- The first file that is refused, and why: the reading reaches it, and it is too long, or no such table; or the six
+-- tables are read and make no day; or the rows of the plan are read and make no plan of the day.
 abbrev pub IsFirstRefused : Files → List ℕ → Refusal → Type 0
 IsFirstRefused files dir (TooLong table) = Reaches files dir table × (MOST_TABLE_BYTES < length (bytes_of files dir table))
 IsFirstRefused files dir (WrongTable table why) =

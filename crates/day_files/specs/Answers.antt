@@ -17,25 +17,26 @@ use Rattle.rail_csv.specs.declared.refusal.TableRefusal.{TableRefusal}
 use Rattle.rail_csv.specs.Tables.{is_memory}
 use Rattle.day_files.specs.Names.{path_of}
 
--- A call reads what the files hold: its answer is theirs, and its refusal too. A file that could not be read is one that is
--- reached. Want of memory says nothing of the files.
+-- A call reads what the files hold: its answer is theirs, and its refusal too. A file that could not be read is one
+-- that is reached. Want of memory says nothing of the files.
 abbrev pub Reads : {Y : Type 0} → (Table → Type 0) → Result Y ReadError → Result Y Refusal → Type 0
 Reads IsReached (Ok y) said = said ≡ Ok y
 Reads IsReached (Err (Refused why)) said = said ≡ Err why
 Reads IsReached (Err (CannotRead table)) said = IsReached table
 Reads IsReached (Err NoMemory) said = ⊤
 
--- What an error says of the folder before and after. A file could not be read only where the count of faults rose and a read of
--- it may fail. A file was too long only where more bytes were taken than a table may have, or the count of them was at 2^63.
+-- What an error says of the folder before and after. A file could not be read only where the count of faults rose and a
+-- read of it may fail. A file was too long only where more bytes were taken than a table may have, or the count of them
+-- was at 2^63.
 abbrev pub IsCaused : {F : Type 0} → (F → List ℕ → Bool) → (F → ℕ) → (F → ℕ) → List ℕ → F → F → ReadError → Type 0
 IsCaused may_fail faults taken dir before after (CannotRead table) =
     Rose (faults before) (faults after) × IsTrue (may_fail before (path_of dir table))
 IsCaused may_fail faults taken dir before after (Refused (TooLong table)) = RosePast MOST_TABLE_BYTES (taken before) (taken after)
 IsCaused may_fail faults taken dir before after _ = ⊤
 
--- What an error says whatever the folder tells, where a call reads these tables: a file that could not be read, or that is
--- refused as it stands, is one of theirs; some tables make no day, or some rows no plan of a day, for the reason that is told;
--- and no refusal is want of memory.
+-- What an error says whatever the folder tells, where a call reads these tables: a file that could not be read, or that
+-- is refused as it stands, is one of theirs; some tables make no day, or some rows no plan of a day, for the reason
+-- that is told; and no refusal is want of memory.
 abbrev pub IsErrorOf : (Table → Type 0) → ReadError → Type 0
 IsErrorOf AreRead (CannotRead table) = AreRead table
 IsErrorOf AreRead (Refused (TooLong table)) = AreRead table

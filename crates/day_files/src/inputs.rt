@@ -77,10 +77,11 @@ fn plan_of(alloc: Global, instance: &Instance, rows: &[PlanRow]) -> Result<Named
 }
 
 /// The day that the six tables of a folder make: `types.csv`, `stations.csv`, `stock.csv`, `trips.csv`, `links.csv` and
-/// `weights.csv`, read in this order. The first file that is refused or cannot be read ends the reading, and the rules of
-/// the day come after the six files.
+/// `weights.csv`, read in this order. The first file that is refused or cannot be read ends the reading, and the rules
+/// of the day come after the six files.
 ///
-/// - `CannotRead`: the count of failed reads rose, a read of that file may fail, and each file before it is accepted. It is
+/// - `CannotRead`: the count of failed reads rose, a read of that file may fail, and each file before it is accepted.
+///   It is
 ///   never the file of the plan, which isn't read.
 /// - `Refused`: a file is refused, and it is the first; or the tables make no day. It is never want of memory.
 /// - `NoMemory`: want of memory.
@@ -95,12 +96,14 @@ pub fn day_in<F: Folder>(alloc: Global, folder: &mut F, dir: &str) -> Result<Ins
     day_of(alloc, tables)
 }
 
-/// The day and the plan of a folder: the day of its six tables, and then the plan of it that `plan.csv` makes. The first
-/// file that is refused or cannot be read ends the reading.
+/// The day and the plan of a folder: the day of its six tables, and then the plan of it that `plan.csv` makes. The
+/// first file that is refused or cannot be read ends the reading.
 ///
-/// - `CannotRead`: the count of failed reads rose, a read of that file may fail, and each file before it is accepted; where it is that of the plan, the
+/// - `CannotRead`: the count of failed reads rose, a read of that file may fail, and each file before it is accepted;
+///   where it is that of the plan, the
 ///   tables make a day.
-/// - `Refused`: a file is refused, and it is the first; or the tables make no day, or the rows of the plan no plan of it. It is
+/// - `Refused`: a file is refused, and it is the first; or the tables make no day, or the rows of the plan no plan of
+///   it. It is
 ///   never want of memory.
 /// - `NoMemory`: want of memory.
 #[tactic(auto, using(crate::proofs::Reached::plan_ended), unfolding(crate::specs::Inputs::inputs_in))]

@@ -1,4 +1,5 @@
--- The report of yards: for each station and each type, what is taken, what becomes ready, and how many units stand there.
+-- The report of yards: for each station and each type, what is taken, what becomes ready, and how many units stand
+-- there.
 use Rattle.std.specs.Prelude.{ℕ, List, [], ◌∷◌, length, Bool, true, ◌==◌, ◌&&◌, if◌then◌else◌, nat_lt, nat_le, codes}
 use Rattle.std.specs.Prelude.{Option, Some, None, ℤ, pos}
 use Rattle.std.specs.Fmt.{decimal, signed_decimal}
@@ -82,7 +83,8 @@ end_row yard before =
     yard_row yard (codes "end") 0 (ready_between yard before None)
     (last_of yard.day yard.lists yard.station yard.unit_type)
 
--- the rows of departure minutes and of the end, behind a row of a minute, or behind the row of the start, which has none
+-- the rows of departure minutes and of the end, behind a row of a minute, or behind the row of the start, which has
+-- none
 abbrev pub rows_after : YardOf → Option ℕ → List ℕ → List (List (List ℕ))
 rows_after yard before [] = end_row yard before ∷ []
 rows_after yard before (minute ∷ minutes) = minute_row yard before minute ∷ rows_after yard (Some minute) minutes

@@ -11,9 +11,9 @@ use std::alloc::Global;
 use timetable::{Instance, Picks};
 
 /// The report of what picks cost, as a table of comma-separated values with the columns `part,amount`: the rows
-/// `carriage`, `shortage` and `shunting` with the parts of the cost, and the row `total` with their sum. There is one pick
-/// for each trip, and each is the number of a composition of the catalogue; they need not be those of a plan that runs. The
-/// error is want of memory.
+/// `carriage`, `shortage` and `shunting` with the parts of the cost, and the row `total` with their sum. There is one
+/// pick for each trip, and each is the number of a composition of the catalogue; they need not be those of a plan that
+/// runs. The error is want of memory.
 #[tactic(auto, unfolding(crate::specs::CostRows::costs_text))]
 pub fn costs_table(alloc: Global, instance: &Instance, picks: &Picks) -> Result<Vec<u8>, NoMemory>
     requires { ArePicks instance.now picks.now }

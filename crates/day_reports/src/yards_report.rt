@@ -3,7 +3,8 @@
 ghost use Rattle.std.specs.Prelude.{◌≡◌, ◌<◌, ◌++◌, ◌∷◌, [], length, get_or, IfOk, OnOk};
 ghost use Rattle.timetable.specs.Minutes.{minutes_of};
 ghost use Rattle.timetable.specs.Picking.{ArePicks, picked};
-ghost use Rattle.day_reports.specs.YardRows.{end_row, minute_row, start_row, station_rows, yard_row, yard_rows, yards_text};
+ghost use Rattle.day_reports.specs.YardRows.{end_row, minute_row, start_row, station_rows, yard_row, yard_rows};
+ghost use Rattle.day_reports.specs.YardRows.{yards_text};
 
 use crate::names::{station_name, type_name};
 use crate::report::{Report, digits_of};
@@ -14,15 +15,15 @@ use std::alloc::Global;
 use timetable::{Instance, Picks};
 
 /// The report of the yards of a day whose trips have picked compositions, as a table of comma-separated values with the
-/// columns `station,type,time,taken,ready,count`. For each station and then each type there is a row `start` with the units
-/// that stand there at the start, a row for each minute at which trips leave the station, and a row `end` with the units
-/// that stand there at the end. In the row of a minute, `taken` are the units that are taken then, `ready` those that became
-/// ready after the minute of the row before and by this minute, and `count` those that stand there after the takes. In the
-/// row `end`, `ready` are those that become ready after the last of these minutes. Behind the row `start` no minute has
-/// passed, so that every ready minute counts.
+/// columns `station,type,time,taken,ready,count`. For each station and then each type there is a row `start` with the
+/// units that stand there at the start, a row for each minute at which trips leave the station, and a row `end` with
+/// the units that stand there at the end. In the row of a minute, `taken` are the units that are taken then, `ready`
+/// those that became ready after the minute of the row before and by this minute, and `count` those that stand there
+/// after the takes. In the row `end`, `ready` are those that become ready after the last of these minutes. Behind the
+/// row `start` no minute has passed, so that every ready minute counts.
 ///
-/// There is one pick for each trip, and each is the number of a composition of the catalogue. No count is below zero where
-/// they are those of a plan that runs. The error is want of memory.
+/// There is one pick for each trip, and each is the number of a composition of the catalogue. No count is below zero
+/// where they are those of a plan that runs. The error is want of memory.
 #[tactic(auto, unfolding(crate::specs::YardRows::yards_text))]
 pub fn yards_table(alloc: Global, instance: &Instance, picks: &Picks) -> Result<Vec<u8>, NoMemory>
     requires { ArePicks instance.now picks.now }

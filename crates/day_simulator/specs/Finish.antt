@@ -1,5 +1,7 @@
--- The end of the day: what it costs, the first event that is missing, or the first count that differs from what is wanted.
-use Rattle.std.specs.Prelude.{ℕ, List, [], ◌∷◌, Bool, ◌==◌, ◌&&◌, not, if◌then◌else◌, Option, Some, None, length, Result, Ok, Err}
+-- The end of the day: what it costs, the first event that is missing, or the first count that differs from what is
+-- wanted.
+use Rattle.std.specs.Prelude.{ℕ, List, [], ◌∷◌, Bool, ◌==◌, ◌&&◌, not, if◌then◌else◌, Option, Some, None, length}
+use Rattle.std.specs.Prelude.{Result, Ok, Err}
 use Rattle.timetable.specs.Day.{Day, type_of, unit_count, wanted_of}
 use Rattle.timetable.specs.Cost.{plan_cost}
 use Rattle.timetable.specs.Lists.{below, count_below}

@@ -33,8 +33,8 @@ abbrev pub NeverFalls : Day → List DayEvent → Type 0
 NeverFalls day [] = Unit {0}
 NeverFalls day (e ∷ es) = AllFrom day (moment_of day e) es × NeverFalls day es
 
--- An order of the day: each trip departs once and arrives once, minutes never fall, and in each minute arrivals come before
--- departures. Events of one kind in one minute may come in any order.
+-- An order of the day: each trip departs once and arrives once, minutes never fall, and in each minute arrivals come
+-- before departures. Events of one kind in one minute may come in any order.
 pub record IsOrder (day : Day) (events : List DayEvent) : Type 0 where
   pub departs_once : (t : ℕ) → t < length day.trips → departures t events ≡ 1
   pub arrives_once : (t : ℕ) → t < length day.trips → arrivals t events ≡ 1
@@ -52,8 +52,8 @@ abbrev pub RisesByTrip : Day → List DayEvent → Type 0
 RisesByTrip day [] = Unit {0}
 RisesByTrip day (e ∷ es) = LaterTrips day e es × RisesByTrip day es
 
--- when a unit is ready that was ready at a minute and then runs on these trips, the last of which gives it to the yard; on from the
--- others it may be kept in the train
+-- when a unit is ready that was ready at a minute and then runs on these trips, the last of which gives it to the yard;
+-- on from the others it may be kept in the train
 abbrev pub ready_after : Day → ℕ → List ℕ → ℕ
 ready_after day ready [] = ready
 ready_after day ready (t ∷ ts) = ready_after day (arrives day t + reallocation_of day (to_of day t)) ts

@@ -1,5 +1,6 @@
 -- Where the units and trips of a day are, and the moment that it has come to.
-use Rattle.std.specs.Prelude.{ℕ, ◌+◌, ◌*◌, List, [], ◌∷◌, Bool, true, false, ◌==◌, ◌&&◌, map, slice_get, slice_set, unwrap_or, nat_le}
+use Rattle.std.specs.Prelude.{ℕ, ◌+◌, ◌*◌, List, [], ◌∷◌, Bool, true, false, ◌==◌, ◌&&◌, map, slice_get, slice_set}
+use Rattle.std.specs.Prelude.{unwrap_or, nat_le}
 use Rattle.timetable.specs.Day.{Day, leaves, arrives, units_of}
 use Rattle.day_simulator.specs.declared.events.DayEvent.{DayEvent}
 use Rattle.day_simulator.specs.declared.events.DayEvent.TheVariants.{Depart, Arrive}

@@ -1,5 +1,7 @@
 -- One step of the day: its first fault, and the state after it.
-use Rattle.std.specs.Prelude.{ℕ, ◌+◌, List, [], ◌∷◌, Bool, true, false, not, ◌&&◌, ◌==◌, if◌then◌else◌, Option, Some, None, option_map, option_and_then, unwrap_or, slice_get, slice_set, nat_le, length, Result, Ok, Err}
+use Rattle.std.specs.Prelude.{ℕ, ◌+◌, List, [], ◌∷◌, Bool, true, false, not, ◌&&◌, ◌==◌, if◌then◌else◌, Option, Some}
+use Rattle.std.specs.Prelude.{None, option_map, option_and_then, unwrap_or, slice_get, slice_set, nat_le, length}
+use Rattle.std.specs.Prelude.{Result, Ok, Err}
 use Rattle.std.specs.List.{list_all}
 use Rattle.timetable.specs.declared.day.records.LinkKind.{LinkKind}
 use Rattle.timetable.specs.declared.day.records.LinkKind.TheVariants.{Turn, Join, Split}
@@ -13,8 +15,10 @@ use Rattle.day_simulator.specs.declared.events.Place.{Place}
 use Rattle.day_simulator.specs.declared.events.Place.TheVariants.{Yard, Aboard, Standing}
 use Rattle.day_simulator.specs.declared.events.Stage.TheVariants as stage
 use Rattle.day_simulator.specs.declared.events.StepFault.{StepFault}
-use Rattle.day_simulator.specs.declared.events.StepFault.TheVariants.{NotNow, NoUnits, NotAdmissible, LinkBroken, NotInYard}
-use Rattle.day_simulator.specs.State.{State, place_of, stage_of, is_waiting, is_under_way, has_arrived, is_ready, moment_of, put_all}
+use Rattle.day_simulator.specs.declared.events.StepFault.TheVariants.{NotNow, NoUnits, NotAdmissible, LinkBroken}
+use Rattle.day_simulator.specs.declared.events.StepFault.TheVariants.{NotInYard}
+use Rattle.day_simulator.specs.State.{State, place_of, stage_of, is_waiting, is_under_way, has_arrived, is_ready}
+use Rattle.day_simulator.specs.State.{moment_of, put_all}
 
 -- the trips that arrive for the link into a trip
 abbrev pub feeders : Day → ℕ → List ℕ
@@ -67,8 +71,8 @@ fault_of day plan state (Arrive t) =
     if not (is_now day state (Arrive t)) then Some (NotNow (Arrive t))
     else option_map (λ l. LinkBroken l) (broken_out day plan t)
 
--- the state after an event: a trip that leaves has its units aboard; one that arrives gives what no link keeps to the yard,
--- ready once the reallocation time is over, and the others stand in its train
+-- the state after an event: a trip that leaves has its units aboard; one that arrives gives what no link keeps to the
+-- yard, ready once the reallocation time is over, and the others stand in its train
 unfoldable pub after : Day → List (List ℕ) → State → DayEvent → State
 after day plan state (Depart t) = record {
   places = put_all state.places (list_of plan t) (Aboard t);

@@ -3,7 +3,8 @@
 ghost use Rattle.std.specs.Prelude.{◌≡◌, ◌<◌, length, ◌&&◌, ◌==◌};
 ghost use Rattle.timetable.specs.Day.{unit_count, type_of};
 ghost use Rattle.day_simulator.specs.State.{State, stage_of, is_in_yard};
-ghost use Rattle.day_simulator.specs.Finish.{is_made, first_not_made, yard_count, first_differing_type, first_differing};
+ghost use Rattle.day_simulator.specs.Finish.{is_made, first_not_made, yard_count, first_differing_type};
+ghost use Rattle.day_simulator.specs.Finish.{first_differing};
 ghost use Rattle.timetable.specs.Lists.{below};
 
 use crate::events::{DayEvent, Place, Stage, StepFault};

@@ -71,8 +71,8 @@ impl<'a> Day<'a> {
         })
     }
 
-    /// Where a unit of the day is: in a yard with the minute from which it is ready, under way, or standing in a train that
-    /// has arrived.
+    /// Where a unit of the day is: in a yard with the minute from which it is ready, under way, or standing in a train
+    /// that has arrived.
     pub fn place(&self, unit: UnitNo) -> Place
         requires { unit < unit_count self.now.day }
         ensures { slice_get self.now.state.places unit ≡ Some result }
@@ -192,8 +192,8 @@ impl<'a> Day<'a> {
     }
 }
 
-/// What is wrong with the train that a trip leaves with, if anything is: it has no units, it may not run on the trip, it does
-/// not keep the rule of the join into the trip, or a unit that the trip takes is not in the yard and ready.
+/// What is wrong with the train that a trip leaves with, if anything is: it has no units, it may not run on the trip,
+/// it does not keep the rule of the join into the trip, or a unit that the trip takes is not in the yard and ready.
 fn train_fault(
     instance: &Instance,
     plan: &NamedPlan,

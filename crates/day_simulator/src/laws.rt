@@ -4,15 +4,16 @@
 
 ghost use Rattle.day_simulator.specs.Laws.{IsInFixedOrder, InEveryOrder, RunInFixedOrder, InTurn};
 
-/// The fixed order, in which a whole day is stepped, is an order of the day: each trip departs once and arrives once, minutes
-/// never fall, and in each minute arrivals come before departures. Arrivals of one minute come by rising trip number, and so
-/// do departures.
+/// The fixed order, in which a whole day is stepped, is an order of the day: each trip departs once and arrives once,
+/// minutes never fall, and in each minute arrivals come before departures. Arrivals of one minute come by rising trip
+/// number, and so do departures.
 pub fn is_in_fixed_order()
     ensures law { IsInFixedOrder }
 {}
 
-/// In every order of the day's events, all of them go through to the end exactly where the plan runs. Then each unit is in
-/// the yard of its last place, ready at the same minute, and the day costs what the plan costs, whichever the order was.
+/// In every order of the day's events, all of them go through to the end exactly where the plan runs. Then each unit is
+/// in the yard of its last place, ready at the same minute, and the day costs what the plan costs, whichever the order
+/// was.
 pub fn runs_in_every_order()
     ensures law { InEveryOrder }
 {}

@@ -12,8 +12,8 @@ use crate::events::Stage;
 use rail_base::{LinkNo, TripNo};
 use timetable::{Instance, LinkKind, NamedPlan};
 
-/// Whether a link's rule is tested at departures, or else at arrivals: a join where its trip leaves, a turn and a split where
-/// their trip arrives.
+/// Whether a link's rule is tested at departures, or else at arrivals: a join where its trip leaves, a turn and a split
+/// where their trip arrives.
 fn is_tested_at(departure: bool, kind: LinkKind) -> bool
     ensures { result ≡ is_tested_at departure kind }
 {

@@ -13,8 +13,8 @@ use rail_base::{NoMemory, TripNo};
 use std::alloc::Global;
 use timetable::Instance;
 
-/// When an event comes: twice its minute, and one more for a departure, since in each minute arrivals come first. A trip
-/// that isn't there leaves at 0 and arrives at 1.
+/// When an event comes: twice its minute, and one more for a departure, since in each minute arrivals come first. A
+/// trip that isn't there leaves at 0 and arrives at 1.
 #[tactic(auto, unfolding(crate::specs::State::moment_of))]
 pub(crate) fn moment_of(instance: &Instance, event: DayEvent) -> u32
     ensures { result ≡ moment_of instance.now event }

@@ -1,6 +1,8 @@
--- A table of counts while it is filled: for each station and type one number for each departure minute of the station, and one
--- for the end of the day. First a number is what is given and ready between two minutes, less what is taken; then these are added up.
-use Rattle.std.specs.Prelude.{ℕ, zero, suc, ◌+◌, ◌≤◌, List, [], ◌∷◌, length, map, set, get_or, replicate, if◌then◌else◌, nat_lt, ℤ, pos, negsuc, ◌+ℤ◌}
+-- A table of counts while it is filled: for each station and type one number for each departure minute of the station,
+-- and one for the end of the day. First a number is what is given and ready between two minutes, less what is taken;
+-- then these are added up.
+use Rattle.std.specs.Prelude.{ℕ, zero, suc, ◌+◌, ◌≤◌, List, [], ◌∷◌, length, map, set, get_or, replicate, if◌then◌else◌}
+use Rattle.std.specs.Prelude.{nat_lt, ℤ, pos, negsuc, ◌+ℤ◌}
 use Rattle.std.specs.Int.{saturate_to_bits}
 use Rattle.rail_base.specs.declared.limits.TheConstants.{MOST_COMPOSITION}
 use Rattle.timetable.specs.Day.{Day, leaves, from_of, to_of}

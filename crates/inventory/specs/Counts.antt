@@ -1,5 +1,7 @@
--- How many units of a type stand at a station, read off lists of types: at the start, less those that trips took, and those that they gave.
-use Rattle.std.specs.Prelude.{ℕ, ◌+◌, ◌≡◌, ◌<◌, ◌≤◌, List, length, true, ◌==◌, ◌&&◌, if◌then◌else◌, nat_le, slice_get, get_or, Some, ℤ, pos, ◌-ℤ◌}
+-- How many units of a type stand at a station, read off lists of types: at the start, less those that trips took, and
+-- those that they gave.
+use Rattle.std.specs.Prelude.{ℕ, ◌+◌, ◌≡◌, ◌<◌, ◌≤◌, List, length, true, ◌==◌, ◌&&◌, if◌then◌else◌, nat_le, slice_get}
+use Rattle.std.specs.Prelude.{get_or, Some, ℤ, pos, ◌-ℤ◌}
 use Rattle.timetable.specs.declared.day.records.Link.{Link}
 use Rattle.timetable.specs.Admissible.{is_admissible}
 use Rattle.timetable.specs.Day.{Day, leaves, arrives, from_of, to_of, reallocation_of, wanted_of}
@@ -19,7 +21,8 @@ gives_of day lists m t = count_of m (given_with itself day lists t)
 abbrev pub ready_at : Day → ℕ → ℕ
 ready_at day t = arrives day t + reallocation_of day (to_of day t)
 
--- units of a type that were taken at a station at a minute or earlier, and that were given there and are ready at the minute
+-- units of a type that were taken at a station at a minute or earlier, and that were given there and are ready at the
+-- minute
 unfoldable pub taken_until : Day → List (List ℕ) → ℕ → ℕ → ℕ → ℕ
 taken_until day lists s m minute = sum_below (λ t. if (from_of day t == s) && nat_le (leaves day t) minute then takes_of day lists m t else 0) (length day.trips)
 
@@ -45,8 +48,8 @@ count_of_place day lists s m k = count_at day lists s m (get_or (minutes_of day 
 abbrev pub last_of : Day → List (List ℕ) → ℕ → ℕ → ℤ
 last_of day lists s m = pos (start_of day s m + all_given day lists s m) -ℤ pos (all_taken day lists s m)
 
--- The yards serve the compositions: each may run on its trip, each link's rule holds, no yard is ever short of a unit, and every
--- end count is the one that is wanted.
+-- The yards serve the compositions: each may run on its trip, each link's rule holds, no yard is ever short of a unit,
+-- and every end count is the one that is wanted.
 pub record AreServed (day : Day) (lists : List (List ℕ)) : Type 0 where
   pub trips : length lists ≡ length day.trips
   pub admissible : (t : ℕ) → t < length day.trips → is_admissible day t (list_of lists t) ≡ true

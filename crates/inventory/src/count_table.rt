@@ -1,14 +1,18 @@
-//! A table of counts: for each station and type one for each departure minute of the station, and one for the end of the day.
+//! A table of counts: for each station and type one for each departure minute of the station, and one for the end of
+//! the day.
 //!
-//! It is filled in two passes. The first notes each unit that is given or taken at the first minute at which it counts, the
-//! second adds these numbers up, from the units at the start. So the time grows with the units of all trains and the size of the table.
+//! It is filled in two passes. The first notes each unit that is given or taken at the first minute at which it counts,
+//! the second adds these numbers up, from the units at the start. So the time grows with the units of all trains and
+//! the size of the table.
 
 ghost use Rattle.std.specs.Prelude.{ℕ, ◌≡◌, ◌<◌, ◌≤◌, ◌+◌, ◌^◌, [], map, length, get_or, take, drop, pos, OnOk, IfOk};
 ghost use Rattle.std.specs.List.{AllPairs};
 ghost use Rattle.timetable.specs.Links.{itself, given_with, taken_with};
 ghost use Rattle.timetable.specs.Picking.{ArePicks, picked};
 ghost use Rattle.inventory.specs.Counts.{ready_at};
-ghost use Rattle.inventory.specs.CountTable.{earlier, changed_at, changed_in, changed, changed_for, with_given, with_taken, with_trips, sums_from, zeros, zeros_for, zero_table, cleared, sums_for, all_sums, MoveFew};
+ghost use Rattle.inventory.specs.CountTable.{earlier, changed_at, changed_in, changed, changed_for, with_given};
+ghost use Rattle.inventory.specs.CountTable.{with_taken, with_trips, sums_from, zeros, zeros_for, zero_table, cleared};
+ghost use Rattle.inventory.specs.CountTable.{sums_for, all_sums, MoveFew};
 
 use rail_base::limits::{MOST_COMPOSITION, MOST_TYPES};
 use rail_base::{Minute, NoMemory, StationNo, TripNo, TypeNo};

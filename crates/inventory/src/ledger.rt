@@ -15,9 +15,9 @@ use std::alloc::Global;
 use std::marker::Model;
 use timetable::{Instance, Picks};
 
-/// The counts of the yards of a day, for the compositions that were loaded: for each station and type, how many units stand
-/// there after each departure minute of the station, and at the end of the day. A contract sees the day, and the types of
-/// the compositions, trip by trip. Before a load these are none, so that nothing is taken or given.
+/// The counts of the yards of a day, for the compositions that were loaded: for each station and type, how many units
+/// stand there after each departure minute of the station, and at the end of the day. A contract sees the day, and the
+/// types of the compositions, trip by trip. Before a load these are none, so that nothing is taken or given.
 #[derive(Debug, Drop)]
 pub struct Ledger<'a> {
     instance: &'a Instance,
@@ -40,7 +40,8 @@ impl<'a> Model for Ledger<'a> {
 }
 
 impl<'a> Ledger<'a> {
-    /// The ledger of a day with nothing taken or given. It takes all the room that it needs; the error is want of memory.
+    /// The ledger of a day with nothing taken or given. It takes all the room that it needs; the error is want of
+    /// memory.
     pub fn new(alloc: Global, instance: &'a Instance) -> Result<Ledger<'a>, NoMemory>
         ensures { IfOk result (λ ledger. ledger ≡ record { day = instance.now; lists = [] }) }
     {
@@ -55,9 +56,9 @@ impl<'a> Ledger<'a> {
         })
     }
 
-    /// Loads the compositions that are picked for the trips, in place of those that were loaded before. There is one pick for
-    /// each trip, a composition of the catalogue. Where the rule of a turn is broken, all of its two lists is given and
-    /// taken. It takes no memory, and time that grows with the units of all trains and the number of counts.
+    /// Loads the compositions that are picked for the trips, in place of those that were loaded before. There is one
+    /// pick for each trip, a composition of the catalogue. Where the rule of a turn is broken, all of its two lists is
+    /// given and taken. It takes no memory, and time that grows with the units of all trains and the number of counts.
     pub fn load(&mut self, picks: &Picks)
         requires { ArePicks self.old.day picks.now }
         ensures { self.new ≡ record { day = self.old.day; lists = picked self.old.day picks.now } }
@@ -67,9 +68,10 @@ impl<'a> Ledger<'a> {
         self.counts.fill(self.instance, picks);
     }
 
-    /// How many units of a type stand at a station after the departures of a minute: those at the start and those that were
-    /// given there and are ready at that minute, less those that were taken there at that minute or earlier. It is below zero
-    /// where more are taken than there are. The place is that of the minute among the station's departure minutes.
+    /// How many units of a type stand at a station after the departures of a minute: those at the start and those that
+    /// were given there and are ready at that minute, less those that were taken there at that minute or earlier. It is
+    /// below zero where more are taken than there are. The place is that of the minute among the station's departure
+    /// minutes.
     pub fn count_after(&self, station: StationNo, unit_type: TypeNo, place: u32) -> i64
         requires station { station < length self.now.day.stations }
         requires unit_type { unit_type < length self.now.day.types }
@@ -79,8 +81,8 @@ impl<'a> Ledger<'a> {
         self.counts.get(station, unit_type, place as usize)
     }
 
-    /// How many units of a type stand at a station at the end of the day: those at the start and all that are given there,
-    /// less all that are taken there.
+    /// How many units of a type stand at a station at the end of the day: those at the start and all that are given
+    /// there, less all that are taken there.
     pub fn end(&self, station: StationNo, unit_type: TypeNo) -> i64
         requires station { station < length self.now.day.stations }
         requires unit_type { unit_type < length self.now.day.types }
@@ -90,8 +92,9 @@ impl<'a> Ledger<'a> {
         self.counts.get(station, unit_type, end)
     }
 
-    /// The first fault: the first count below zero, by station, type and minute; or, where none is, the first end that is not
-    /// the one that is wanted, by station and type; or nothing, where the yards serve all trips and every end is met.
+    /// The first fault: the first count below zero, by station, type and minute; or, where none is, the first end that
+    /// is not the one that is wanted, by station and type; or nothing, where the yards serve all trips and every end is
+    /// met.
     pub fn first_fault(&self) -> Option<StockFault>
         ensures { IsFirstFault self.now.day self.now.lists result }
     {

@@ -4,13 +4,14 @@
 
 ghost use Rattle.inventory.specs.NamingLaws.{NamedPlansRun, RunningPlansAreNamed, ServedPlansRun, UnitsAreTakenInTurn};
 
-/// Compositions that the links and the yards allow are the types of a plan that runs: the one that is named by the rule.
+/// Compositions that the links and the yards allow are the types of a plan that runs: the one that is named by the
+/// rule.
 pub fn served_plans_run()
     ensures law { ServedPlansRun }
 {}
 
-/// The same from any minute on: where the trips that depart before the minute are named as the rules demand it, naming the
-/// others by the rule gives a plan that runs, and leaves those as they are.
+/// The same from any minute on: where the trips that depart before the minute are named as the rules demand it, naming
+/// the others by the rule gives a plan that runs, and leaves those as they are.
 pub fn named_plans_run()
     ensures law { NamedPlansRun }
 {}

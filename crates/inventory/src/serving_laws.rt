@@ -4,13 +4,15 @@
 
 ghost use Rattle.inventory.specs.ServingLaws.{PlansAreServed, DeparturesAreEnough};
 
-/// A plan that runs is served by the yards: its compositions may run on their trips, the rule of each link holds over their
-/// types, no yard is ever short of a unit, and at the end of the day each station has as many units of each type as are wanted.
+/// A plan that runs is served by the yards: its compositions may run on their trips, the rule of each link holds over
+/// their types, no yard is ever short of a unit, and at the end of the day each station has as many units of each type
+/// as are wanted.
 pub fn plans_are_served()
     ensures law { PlansAreServed }
 {}
 
-/// A yard that is not short of units of a type at the minutes at which trips leave its station, is short of them at no minute.
+/// A yard that is not short of units of a type at the minutes at which trips leave its station, is short of them at no
+/// minute.
 pub fn departures_are_enough()
     ensures law { DeparturesAreEnough }
 {}

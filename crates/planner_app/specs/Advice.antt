@@ -5,8 +5,8 @@ use Rattle.planner_app.specs.declared.outcome.Outcome.{Outcome}
 use Rattle.planner_app.specs.declared.outcome.Outcome.TheVariants.{Planned, Tried}
 use Rattle.planner_app.specs.Headline.{open_leaves}
 
--- Where an answer comes of so many rounds, each advisor that has not quit was asked once at least for each branching and
--- for each open leaf, unless there are no rounds, and once a round at most at the root and at both sides of each
+-- Where an answer comes of so many rounds, each advisor that has not quit was asked once at least for each branching
+-- and for each open leaf, unless there are no rounds, and once a round at most at the root and at both sides of each
 -- branching.
 abbrev pub AreAskedFor : {A : Type 0} → ℕ → Outcome → List A → List A → (A → ℕ) → (A → Bool) → Type 0
 AreAskedFor rounds (Planned answer) before after asked has_quit =

@@ -5,9 +5,11 @@ use Rattle.rail_base.specs.declared.numbers.Money.{Money}
 use Rattle.answer_text.specs.declared.answer.Head.{Head}
 use Rattle.answer_text.specs.Texts.{head_line}
 use Rattle.cert_check.specs.declared.verdict.Reason.{Reason}
-use Rattle.cert_check.specs.declared.verdict.Reason.TheVariants.{TreeShape, BranchingsDiffer, NotProper, MultiplierIndex}
+use Rattle.cert_check.specs.declared.verdict.Reason.TheVariants.{TreeShape, BranchingsDiffer, NotProper}
+use Rattle.cert_check.specs.declared.verdict.Reason.TheVariants.{MultiplierIndex}
 use Rattle.cert_check.specs.declared.verdict.Reason.TheVariants.{BoundDiffers, RayNotPositive, NotEmpty, PicksFail}
-use Rattle.cert_check.specs.declared.verdict.Reason.TheVariants.{CostDiffers, LeafBelowCost, CostLeafLeft, LeastBoundDiffers}
+use Rattle.cert_check.specs.declared.verdict.Reason.TheVariants.{CostDiffers, LeafBelowCost, CostLeafLeft}
+use Rattle.cert_check.specs.declared.verdict.Reason.TheVariants.{LeastBoundDiffers}
 use Rattle.planner_app.specs.declared.checking.AnswerVerdict.{AnswerVerdict}
 use Rattle.planner_app.specs.declared.checking.AnswerVerdict.TheVariants.{Valid, RunsDiffer, UnknownUnit, Stops, Claim}
 use Rattle.planner_app.specs.Lines.{fault_text, line_end}

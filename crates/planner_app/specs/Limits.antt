@@ -1,11 +1,17 @@
 -- The numbers that tables, words, files and answers are held to, each as it is. Clauses call them by their names.
 use Rattle.std.specs.Prelude.{◌≡◌}
-use Rattle.rail_base.specs.declared.limits.TheConstants.{MOST_CHANGE, MOST_FILE_BYTES, MOST_NAME_BYTES, MOST_SLACKS, MOST_TABLE_BYTES, MOST_WORDS}
-use Rattle.rail_base.specs.declared.limits.TheConstants.{MOST_LINKS, MOST_PLAN_ROWS, MOST_STATIONS, MOST_STOCK_ROWS, MOST_TRIPS, MOST_TYPES, MOST_WEIGHT_ROWS}
-use Rattle.rail_base.specs.declared.limits.TheConstants.{MOST_CARRIAGES, MOST_FIRST_SEATS, MOST_METRES, MOST_PLATFORM, MOST_REALLOCATION, MOST_SEATS, MOST_STOCK}
-use Rattle.rail_base.specs.declared.limits.TheConstants.{MOST_DEMAND, MOST_FIRST_DEMAND, MOST_KM, MOST_MINUTES, MOST_WEIGHT}
-use Rattle.rail_base.specs.declared.limits.TheConstants.{MOST_COMPOSITION, MOST_COMPOSITIONS, MOST_EXCHANGED, MOST_UNITS}
-use Rattle.rail_base.specs.declared.limits.TheConstants.{MOST_BRANCHINGS, MOST_ENTRIES, MOST_MULTIPLIER, MOST_NODES, MOST_ROUNDS}
+use Rattle.rail_base.specs.declared.limits.TheConstants.{MOST_CHANGE, MOST_FILE_BYTES, MOST_NAME_BYTES, MOST_SLACKS}
+use Rattle.rail_base.specs.declared.limits.TheConstants.{MOST_TABLE_BYTES, MOST_WORDS}
+use Rattle.rail_base.specs.declared.limits.TheConstants.{MOST_LINKS, MOST_PLAN_ROWS, MOST_STATIONS, MOST_STOCK_ROWS}
+use Rattle.rail_base.specs.declared.limits.TheConstants.{MOST_TRIPS, MOST_TYPES, MOST_WEIGHT_ROWS}
+use Rattle.rail_base.specs.declared.limits.TheConstants.{MOST_CARRIAGES, MOST_FIRST_SEATS, MOST_METRES, MOST_PLATFORM}
+use Rattle.rail_base.specs.declared.limits.TheConstants.{MOST_REALLOCATION, MOST_SEATS, MOST_STOCK}
+use Rattle.rail_base.specs.declared.limits.TheConstants.{MOST_DEMAND, MOST_FIRST_DEMAND, MOST_KM, MOST_MINUTES}
+use Rattle.rail_base.specs.declared.limits.TheConstants.{MOST_WEIGHT}
+use Rattle.rail_base.specs.declared.limits.TheConstants.{MOST_COMPOSITION, MOST_COMPOSITIONS, MOST_EXCHANGED}
+use Rattle.rail_base.specs.declared.limits.TheConstants.{MOST_UNITS}
+use Rattle.rail_base.specs.declared.limits.TheConstants.{MOST_BRANCHINGS, MOST_ENTRIES, MOST_MULTIPLIER, MOST_NODES}
+use Rattle.rail_base.specs.declared.limits.TheConstants.{MOST_ROUNDS}
 use Rattle.price_bound.specs.declared.sizes.TheConstants.{MOST_VALUE}
 use Rattle.answer_text.specs.declared.limits.TheConstants.{MOST_AMOUNT, MOST_INDEX}
 use Rattle.planner_app.specs.declared.command.TheConstants.{MOST_SEED, USUAL_NODES, USUAL_ROUNDS}

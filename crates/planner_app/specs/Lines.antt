@@ -6,9 +6,11 @@ use Rattle.day_files.specs.declared.errors.Refusal.{Refusal}
 use Rattle.day_files.specs.Names.{file_name}
 use Rattle.day_files.specs.Texts.{refusal_file, refusal_text}
 use Rattle.answer_text.specs.declared.refusal.AnswerRefusal.{AnswerRefusal}
-use Rattle.answer_text.specs.declared.refusal.AnswerRefusal.TheVariants.{BadLine, MissingEnd, Trailing, TooManyNodes, NoMemory}
+use Rattle.answer_text.specs.declared.refusal.AnswerRefusal.TheVariants.{BadLine, MissingEnd, Trailing, TooManyNodes}
+use Rattle.answer_text.specs.declared.refusal.AnswerRefusal.TheVariants.{NoMemory}
 use Rattle.day_simulator.specs.declared.events.StepFault.{StepFault}
-use Rattle.day_simulator.specs.declared.events.StepFault.TheVariants.{NotNow, NoUnits, NotAdmissible, LinkBroken, NotInYard, Balance}
+use Rattle.day_simulator.specs.declared.events.StepFault.TheVariants.{NotNow, NoUnits, NotAdmissible, LinkBroken}
+use Rattle.day_simulator.specs.declared.events.StepFault.TheVariants.{NotInYard, Balance}
 
 -- ---- why a plan stops
 

@@ -27,7 +27,8 @@ use Rattle.planner_app.specs.declared.checking.AnswerVerdict.TheVariants.{Valid}
 use Rattle.planner_app.specs.declared.command.Command.{Command}
 use Rattle.planner_app.specs.declared.command.Command.TheVariants as command
 use Rattle.planner_app.specs.declared.outcome.Outcome.{Outcome}
-use Rattle.planner_app.specs.declared.outcome.Outcome.TheVariants.{Planned, Tried, Runs, Stops, Checked, Reported, NoPlan, Usage, NoInputs, NoAnswer}
+use Rattle.planner_app.specs.declared.outcome.Outcome.TheVariants.{Planned, Tried, Runs, Stops, Checked, Reported}
+use Rattle.planner_app.specs.declared.outcome.Outcome.TheVariants.{NoPlan, Usage, NoInputs, NoAnswer}
 use Rattle.planner_app.specs.AnswerFiles.{IsAnswerCaused, IsAnswerOf, IsWrongAnswer, answer_bytes}
 use Rattle.planner_app.specs.declared.reports.Report.{Report}
 use Rattle.planner_app.specs.declared.reports.Report.TheVariants as report
@@ -38,8 +39,8 @@ use Rattle.planner_app.specs.Verdicts.{IsAnswerVerdict}
 
 -- ---- what the words ask for
 
--- to plan the day of a folder, to run the plan of a folder, to check the answer of a folder, to report on its plan, or to
--- plan a trial day
+-- to plan the day of a folder, to run the plan of a folder, to check the answer of a folder, to report on its plan, or
+-- to plan a trial day
 abbrev pub AskToPlan : List (List ℕ) → List ℕ → ℕ → ℕ → Type 0
 AskToPlan words dir nodes rounds = IsPlainForm words (command.Plan dir nodes rounds)
 
@@ -225,9 +226,10 @@ Says words files (NoInputs (CannotRead table)) = IsReached words files table
 Says words files (NoInputs NoMemory) = ⊤
 Says words files (NoAnswer error) = IsAnswerRefused words files error
 
--- What an outcome says whatever the files are: it is one of the command that is asked for; an answer meets the headline for
--- some day; a plan of some day runs at this cost, or stops with this fault; a verdict is that on an answer of some day, and is
--- told by a check alone where the answer is valid; and a report, or that there is none, is of a valid answer.
+-- What an outcome says whatever the files are: it is one of the command that is asked for; an answer meets the headline
+-- for some day; a plan of some day runs at this cost, or stops with this fault; a verdict is that on an answer of some
+-- day, and is told by a check alone where the answer is valid; and a report, or that there is none, is of a valid
+-- answer.
 abbrev pub IsSound : List (List ℕ) → Outcome → Type 0
 IsSound words (Planned answer) = (day : Day) × IsPlanned words day answer
 IsSound words (Tried seed trips answer) = IsTried words seed trips answer
@@ -256,9 +258,9 @@ HasCause may_fail faults taken words before after (NoAnswer error) =
     × IsAnswerCaused may_fail faults taken dir before after error
 HasCause may_fail faults taken words before after _ = ⊤
 
--- An outcome of a run, from a folder before it to the same folder after it. Where the folder tells what it holds, the outcome is
--- what the files say. Whether or not it tells, an outcome is such as a day can have, the words alone decide whether they are
--- understood, and what an error is caused by is seen in the counts of the folder.
+-- An outcome of a run, from a folder before it to the same folder after it. Where the folder tells what it holds, the
+-- outcome is what the files say. Whether or not it tells, an outcome is such as a day can have, the words alone decide
+-- whether they are understood, and what an error is caused by is seen in the counts of the folder.
 pub record IsOutcome {F : Type 0} (holds : F → Option Files) (may_fail : F → List ℕ → Bool) (faults taken : F → ℕ)
     (words : List (List ℕ)) (before after : F) (outcome : Outcome) : Type 0 where
   pub told : (files : Files) → holds before ≡ Some files → Says words files outcome

@@ -72,8 +72,8 @@ pub record IsPlainForm (words : WordList) (command : Command) : Type 0 where
   pub written : words ≡ program ∷ command_word command ∷ words_of items
   pub meant : Means (positional_in items) (values_in Nodes items) (values_in Rounds items) command
 
--- The answer of the reading: a command exactly where the words are its plain form, and `NotUnderstood` exactly where they
--- are of no plain form. Want of memory is free.
+-- The answer of the reading: a command exactly where the words are its plain form, and `NotUnderstood` exactly where
+-- they are of no plain form. Want of memory is free.
 pub record Reads (words : WordList) (result : Result Command WordsRefusal) : Type 0 where
   pub understood : (command : Command) → result ≡ Ok command → IsPlainForm words command
   pub refused : result ≡ Err NotUnderstood → (command : Command) → ¬ (IsPlainForm words command)

@@ -1,5 +1,6 @@
 -- The status that a run ends with, and what it wrote.
-use Rattle.std.specs.Prelude.{ℕ, ◌≡◌, ◌≢◌, ◌⊎◌, ◌≤◌, ◌<◌, ◌↔◌, List, length, Option, Ok, Err, Bool, true, false, IsTrue, if◌then◌else◌}
+use Rattle.std.specs.Prelude.{ℕ, ◌≡◌, ◌≢◌, ◌⊎◌, ◌≤◌, ◌<◌, ◌↔◌, List, length, Option, Ok, Err, Bool, true, false, IsTrue}
+use Rattle.std.specs.Prelude.{if◌then◌else◌}
 use Rattle.rail_base.specs.declared.limits.TheConstants.{MOST_FILE_BYTES}
 use Rattle.rail_io.specs.Folders.{Files, Rose}
 use Rattle.rail_io.specs.Sinks.{Appends, AppendsPart}
@@ -20,7 +21,8 @@ use Rattle.planner_app.specs.declared.answer_file.AnswerError.TheVariants as ans
 use Rattle.planner_app.specs.declared.checking.AnswerVerdict.{AnswerVerdict}
 use Rattle.planner_app.specs.declared.checking.AnswerVerdict.TheVariants.{Valid}
 use Rattle.planner_app.specs.declared.outcome.Outcome.{Outcome}
-use Rattle.planner_app.specs.declared.outcome.Outcome.TheVariants.{Planned, Tried, Runs, Stops, Checked, Reported, NoPlan, Usage, NoInputs, NoAnswer}
+use Rattle.planner_app.specs.declared.outcome.Outcome.TheVariants.{Planned, Tried, Runs, Stops, Checked, Reported}
+use Rattle.planner_app.specs.declared.outcome.Outcome.TheVariants.{NoPlan, Usage, NoInputs, NoAnswer}
 use Rattle.planner_app.specs.declared.reports.Report.{Report}
 use Rattle.planner_app.specs.AnswerFiles.{answer_bytes}
 use Rattle.planner_app.specs.Headline.{IsHeadline, IsTrueOf, IsValid, status_said}
@@ -35,8 +37,8 @@ use Rattle.planner_app.specs.TrialTexts.{trial_text}
 abbrev pub IsUndisturbed : ℕ → Type 0
 IsUndisturbed status = (status ≢ 5) × (status ≢ 6) × (status ≢ 7)
 
--- What was written is the text of an answer to a day, with so many branchings granted, and nothing else; the answer meets
--- the headline, and the status is that of what it says: 0 of `optimal`, 1 of `infeasible`, 4 of `bounded`.
+-- What was written is the text of an answer to a day, with so many branchings granted, and nothing else; the answer
+-- meets the headline, and the status is that of what it says: 0 of `optimal`, 1 of `infeasible`, 4 of `bounded`.
 pub record IsAnswered (day : Day) (nodes status : ℕ) (before after : Option (List ℕ)) : Type 0 where
   pub answer : Answer
   pub headline : IsHeadline day nodes answer
@@ -94,8 +96,8 @@ pub record EndsReport (files : Files) (dir : List ℕ) (kind : Report) (status :
   -- 3 exactly where a table or the answer is refused
   pub refused : (status ≡ 3) ↔ IsAnswerRefusedIn files dir
 
--- the status with which a trial day is planned, and what was written: the summary of an answer to the day of the trial's
--- tables, which meets the headline
+-- the status with which a trial day is planned, and what was written: the summary of an answer to the day of the
+-- trial's tables, which meets the headline
 pub record EndsTrial (seed trips nodes status : ℕ) (before after : Option (List ℕ)) : Type 0 where
   pub day : Day
   pub made : day_of (trial_tables_of seed trips) ≡ Ok day
@@ -133,8 +135,8 @@ status_of (NoAnswer answer_error.TooLong) = 3
 status_of (NoAnswer (answer_error.Refused answer_refusal.NoMemory)) = 7
 status_of (NoAnswer (answer_error.Refused refusal)) = 3
 
--- What was written of an outcome, and the status that says so: its whole document; or a front of it, where a write failed; or
--- nothing, where memory ran out.
+-- What was written of an outcome, and the status that says so: its whole document; or a front of it, where a write
+-- failed; or nothing, where memory ran out.
 pub data Wrote (outcome : Outcome) (status : ℕ) (before after : Option (List ℕ)) (faults faults' : ℕ) : Type 0 where
   Whole : (text : List ℕ) → IsDocument outcome text → Appends text before after → status ≡ status_of outcome → Wrote outcome status before after faults faults'
   Part : (text : List ℕ) → IsDocument outcome text → AppendsPart text before after → Rose faults faults' → status ≡ 6 → Wrote outcome status before after faults faults'

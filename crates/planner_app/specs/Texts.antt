@@ -5,9 +5,11 @@ use Rattle.answer_text.specs.Texts.{text_of}
 use Rattle.answer_text.specs.declared.refusal.AnswerRefusal.TheVariants as answer_refusal
 use Rattle.planner_app.specs.declared.answer_file.AnswerError.TheVariants as answer_error
 use Rattle.planner_app.specs.declared.outcome.Outcome.{Outcome}
-use Rattle.planner_app.specs.declared.outcome.Outcome.TheVariants.{Planned, Tried, Runs, Stops, Checked, Reported, NoPlan, Usage, NoInputs, NoAnswer}
+use Rattle.planner_app.specs.declared.outcome.Outcome.TheVariants.{Planned, Tried, Runs, Stops, Checked, Reported}
+use Rattle.planner_app.specs.declared.outcome.Outcome.TheVariants.{NoPlan, Usage, NoInputs, NoAnswer}
 use Rattle.planner_app.specs.CheckTexts.{check_line}
-use Rattle.planner_app.specs.Lines.{answer_file, answer_refusal_text, cannot_read_line, file_refused_line, file_unread_line, no_plan_line}
+use Rattle.planner_app.specs.Lines.{answer_file, answer_refusal_text, cannot_read_line, file_refused_line}
+use Rattle.planner_app.specs.Lines.{file_unread_line, no_plan_line}
 use Rattle.planner_app.specs.Lines.{refused_line, runs_line, stops_line, too_long_text, usage_text}
 use Rattle.planner_app.specs.TrialTexts.{trial_text}
 

@@ -62,8 +62,8 @@ pub record IsRefuted (day : Day) (answer : Answer) (reason : Reason) : Type 0 wh
   pub is_claim : IsClaimOf day answer claim
   pub verdict : IsVerdict (meanings_of day) (root_of day) claim (Invalid reason)
 
--- The verdict is right: the answer is valid; or this is the first thing that is wrong with it. A tree is looked at only where
--- the plan, if there is one, runs.
+-- The verdict is right: the answer is valid; or this is the first thing that is wrong with it. A tree is looked at only
+-- where the plan, if there is one, runs.
 abbrev pub IsAnswerVerdict : Day → Answer → AnswerVerdict → Type 0
 IsAnswerVerdict day answer Valid = IsValid day answer
 IsAnswerVerdict day answer (RunsDiffer said found) = HasPlan answer × DoRunsDiffer day answer.runs said found

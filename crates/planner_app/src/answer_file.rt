@@ -37,7 +37,8 @@ fn path_of(alloc: Global, dir: &str) -> Result<String, NoMemory>
 /// The answer that the file `answer.txt` of a folder is.
 ///
 /// - `CannotRead`: the count of failed reads rose, and a read of that file may fail.
-/// - `TooLong`: more bytes were handed out than an answer may have, or their count had reached 2^63; the file is longer.
+/// - `TooLong`: more bytes were handed out than an answer may have, or their count had reached 2^63; the file is
+///   longer.
 /// - `Refused`: the bytes are no answer, for the first wrong line; or memory ran out.
 pub(crate) fn answer_in<F: Folder>(
     alloc: Global,

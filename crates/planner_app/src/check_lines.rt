@@ -1,7 +1,9 @@
 //! The line of a check: what a valid answer says, or the first thing that is wrong with it.
 
 ghost use Rattle.std.specs.Prelude.{◌≡◌, IfOk, string_bytes};
-ghost use Rattle.planner_app.specs.CheckTexts.{below_text, bound_text, branchings_text, check_line, cost_text, found_text, invalid_line, least_text, ray_text, reason_text, runs_differ_text, unknown_unit_text};
+ghost use Rattle.planner_app.specs.CheckTexts.{below_text, bound_text, branchings_text, check_line, cost_text};
+ghost use Rattle.planner_app.specs.CheckTexts.{found_text, invalid_line, least_text, ray_text, reason_text};
+ghost use Rattle.planner_app.specs.CheckTexts.{runs_differ_text, unknown_unit_text};
 
 use crate::checking::AnswerVerdict;
 use crate::document::fault_text;

@@ -2,7 +2,8 @@
 
 ghost use Rattle.std.specs.Prelude.{◌≡◌, ◌++◌, ℕ, pos, IfOk, string_bytes};
 ghost use Rattle.answer_text.specs.Texts.{head_line};
-ghost use Rattle.planner_app.specs.Lines.{answer_file, answer_refusal_text, balance_text, cannot_read_line, fault_text, file_refused_line, line_end, not_ready_text};
+ghost use Rattle.planner_app.specs.Lines.{answer_file, answer_refusal_text, balance_text, cannot_read_line, fault_text};
+ghost use Rattle.planner_app.specs.Lines.{file_refused_line, line_end, not_ready_text};
 ghost use Rattle.planner_app.specs.Lines.{refused_line, runs_line, stops_line, usage_text};
 ghost use Rattle.planner_app.specs.Texts.{IsDocument};
 ghost use Rattle.planner_app.specs.TrialTexts.{summary_by, trial_text};
@@ -17,8 +18,8 @@ use rail_base::{Money, NoMemory, StationNo, TripNo, TypeNo, UnitNo};
 use rail_csv::Table;
 use std::alloc::Global;
 
-/// The document that a run writes for its outcome: the text of an answer, a report, how the program is used, or one line
-/// with its line feed. There is none for want of memory, which is the only refusal.
+/// The document that a run writes for its outcome: the text of an answer, a report, how the program is used, or one
+/// line with its line feed. There is none for want of memory, which is the only refusal.
 pub(crate) fn document(alloc: Global, outcome: &Outcome) -> Result<Vec<u8>, NoMemory>
     ensures { IfOk result (λ text. IsDocument outcome.now text.items) }
 {
@@ -54,7 +55,8 @@ fn usage_text(alloc: Global) -> Result<String, NoMemory>
     Ok(text)
 }
 
-/// The text of a trial day that was planned: which day it is, and what the answer says where that is all, else the answer.
+/// The text of a trial day that was planned: which day it is, and what the answer says where that is all, else the
+/// answer.
 fn trial_text(alloc: Global, seed: u32, trips: u32, answer: &Answer) -> Result<Vec<u8>, NoMemory>
     ensures { IfOk result (λ text. text.items ≡ trial_text seed trips answer.now) }
 {

@@ -1,4 +1,5 @@
-//! The program's one call: it reads a day, plans it, and says whether a plan of it runs, or whether an answer to it is valid.
+//! The program's one call: it reads a day, plans it, and says whether a plan of it runs, or whether an answer to it is
+//! valid.
 #![tactic(auto)]
 
 pub mod answer_file;

@@ -73,18 +73,21 @@ fn write_outcome<K: Sink>(alloc: Global, outcome: &Outcome, out: &mut K) -> u8
 
 /// Runs the command that the words name over a folder, writes one document to the sink and answers the status.
 ///
-/// The first word stands for the program's name and is not looked at. Each command but `trial` reads the six tables of a
-/// day, `types.csv`, `stations.csv`, `stock.csv`, `trips.csv`, `links.csv` and `weights.csv` in DIR.
+/// The first word stands for the program's name and is not looked at. Each command but `trial` reads the six tables of
+/// a day, `types.csv`, `stations.csv`, `stock.csv`, `trips.csv`, `links.csv` and `weights.csv` in DIR.
 ///
-/// - `plan DIR --nodes N --rounds K` plans the day by a search of at most N branchings, 200 where no N is given, and writes
+/// - `plan DIR --nodes N --rounds K` plans the day by a search of at most N branchings, 200 where no N is given, and
+///   writes
 ///   an answer: the plan of named units, its cost, and a tree that proves what is said of all other plans. The advisors are
 ///   asked for proposals in at most K rounds at each node, 20 where no K is given. Whatever they propose, what the answer
 ///   says is true.
 /// - `simulate DIR` reads `plan.csv` as well, and says whether the plan runs and what it costs.
-/// - `check DIR` reads `answer.txt` as well, and says whether the answer is valid: its plan, if it has one, runs, and its
+/// - `check DIR` reads `answer.txt` as well, and says whether the answer is valid: its plan, if it has one, runs, and
+///   its
 ///   tree proves what it says of all plans.
 /// - `duties DIR`, `yards DIR` and `costs DIR` check `answer.txt` likewise, and write a report on its plan as a table.
-/// - `trial SEED TRIPS --nodes N --rounds K` makes a day of the seed, plans it like `plan`, and writes what the answer says,
+/// - `trial SEED TRIPS --nodes N --rounds K` makes a day of the seed, plans it like `plan`, and writes what the answer
+///   says,
 ///   or the whole answer where it is bounded.
 ///
 /// | Status | Comes |
@@ -101,10 +104,10 @@ fn write_outcome<K: Sink>(alloc: Global, outcome: &Outcome, out: &mut K) -> u8
 /// Each "exactly where" yields to statuses 5, 6 and 7. What is said of the files holds where the folder tells what it
 /// holds, and what is said of the document where the sink tells what was written.
 ///
-/// Each advisor was asked at most 2^63 times before. The advisors stay in the list at their places, whatever the status is.
-/// One that has quit is not asked; each is asked at most K times at the root and at both sides of each branching; and one
-/// that has not quit at the end was asked once at least, where K is not 0, for each branching of the answer and for each of
-/// its open leaves. Other commands leave the list as it is.
+/// Each advisor was asked at most 2^63 times before. The advisors stay in the list at their places, whatever the status
+/// is. One that has quit is not asked; each is asked at most K times at the root and at both sides of each branching;
+/// and one that has not quit at the end was asked once at least, where K is not 0, for each branching of the answer and
+/// for each of its open leaves. Other commands leave the list as it is.
 #[tactic(auto, using(crate::proofs::Statuses::unread_rose))]
 pub fn railplan<F: Folder, K: Sink>(
     alloc: Global,
@@ -136,8 +139,8 @@ pub fn railplan<F: Folder, K: Sink>(
     ensures nothing { result ≡ 7 → K.written out.new ≡ K.written out.old }
     ensures statuses { IsStatus result }
 
-    // What was written is the document of an outcome of these words and this folder, whose status is the result; and where
-    // it is an answer, the advisors were asked as it tells.
+    // What was written is the document of an outcome of these words and this folder, whose status is the result; and
+    // where it is an answer, the advisors were asked as it tells.
     ensures document { (outcome : Outcome) × IsOutcome F.holds F.may_fail F.faults F.taken words.now folder.old folder.new outcome
         × Wrote outcome result (K.written out.old) (K.written out.new) (K.faults out.old) (K.faults out.new)
         × ((nodes rounds : ℕ) → Grants words.now nodes rounds

@@ -50,8 +50,8 @@ pub record IsAccepted (day : Day) : Type 0 where
 abbrev pub DaysAreRelaxations : Type 0
 DaysAreRelaxations = (day : Day) → IsAccepted day → IsRelaxation (meanings_of day)
 
--- what is kept while a day is worked on: its edges, a ledger of its yards, its trips by chain, and room for a pick of each
--- trip
+-- what is kept while a day is worked on: its edges, a ledger of its yards, its trips by chain, and room for a pick of
+-- each trip
 pub record IsWorkedOn (day : Day) (graphs : List (List Edge)) (ledger : Loaded) (order choice : List ℕ) : Type 0 where
   pub accepted : IsAccepted day
   pub graphs_are : AreGraphs day graphs

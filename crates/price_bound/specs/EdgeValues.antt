@@ -1,5 +1,5 @@
--- What an edge of a link adds to a priced value: the cost of shunting, the prices of the units that are taken and given,
--- and the multiplier of the part at a hand-over.
+-- What an edge of a link adds to a priced value: the cost of shunting, the prices of the units that are taken and
+-- given, and the multiplier of the part at a hand-over.
 use Rattle.std.specs.Prelude.{ℕ, ◌-◌, List, [], length, take, drop, ◌&&◌, ◌==◌, Option, Some, None, ℤ, pos, ◌+ℤ◌, ◌-ℤ◌}
 use Rattle.rail_csv.specs.declared.rows.End.{End}
 use Rattle.rail_csv.specs.declared.rows.End.TheVariants as at

@@ -9,8 +9,8 @@ use Rattle.price_bound.specs.Near.{AreNear}
 use Rattle.price_bound.specs.Paths.{IsPath}
 use Rattle.price_bound.specs.Regrouped.{regrouped}
 
--- A problem is that of what is priced: picks are near as they are on the day, in the order of its chains, and are priced as
--- they are regrouped.
+-- A problem is that of what is priced: picks are near as they are on the day, in the order of its chains, and are
+-- priced as they are regrouped.
 pub record IsPricedBy (problem : meanings.Meanings) (priced : Priced) : Type 0 where
   pub order : problem.order ≡ trips_by_chain priced.day
   pub to_day : (picks : List ℕ) → problem.AreNear picks priced.region → AreNear priced.day picks priced.region
@@ -26,8 +26,8 @@ pub record LacksPath (priced : Priced) : Type 0 where
   pub at : slice_get (chains_of priced.day) number ≡ Some chain
   pub none : (path : List ℕ) (value : ℤ) → IsPath (stages_of priced chain) path value → ⊥
 
--- what is found: along each chain the first path of least value, with the sum of their values; or nothing, where a chain
--- has no path
+-- what is found: along each chain the first path of least value, with the sum of their values; or nothing, where a
+-- chain has no path
 abbrev pub AreFound : Priced → Option Money → List ℕ → Type 0
 AreFound priced found choice =
     MatchOption found (LacksPath priced) (λ value. AreFirstPaths priced (chains_of priced.day) choice value.0)

@@ -8,7 +8,8 @@ use Rattle.price_bound.specs.ChainStages.{Priced}
 use Rattle.price_bound.specs.Credits.{AreCredits}
 use Rattle.price_bound.specs.PriceTables.{ArePrices}
 
--- the edges are the day's, the tables hold the prices under the multipliers and the credits, and the region has a set for each trip
+-- the edges are the day's, the tables hold the prices under the multipliers and the credits, and the region has a set
+-- for each trip
 pub record ArePriced (pricing : Pricing) : Type 0 where
   pub graphs_are : AreGraphs pricing.instance.now pricing.graphs.now
   pub multipliers_are : AreMultipliers pricing.multipliers.now

@@ -28,8 +28,8 @@ use Rattle.price_bound.specs.YardPrices.{by_place, giving, taking}
 
 -- ---- the constant
 
--- what a multiplier adds whatever the picks: its value times minus the units at the start, or times the wanted units less
--- those at the start
+-- what a multiplier adds whatever the picks: its value times minus the units at the start, or times the wanted units
+-- less those at the start
 abbrev pub constant_by : Day → Place → ℤ → ℤ
 constant_by day (Lambda s m k) value = value *ℤ neg_ℤ (pos (start_of day s m))
 constant_by day (Mu s m) value = value *ℤ (pos (wanted_of day s m) -ℤ pos (start_of day s m))
@@ -52,8 +52,8 @@ unfoldable pub second_price : Day → List Entry → ℕ → ℕ → ℤ
 second_price day entries t comp =
     int_sum (by_place day (of_handover day (λ handover c. (handover.second == t) && (comp == c)))) entries
 
--- what a trip adds by its composition: its cost; the price of all its units where no link leads into it, less their price
--- where none leads on from it; and less the multipliers of the composition at the hand-overs to the trip
+-- what a trip adds by its composition: its cost; the price of all its units where no link leads into it, less their
+-- price where none leads on from it; and less the multipliers of the composition at the hand-overs to the trip
 unfoldable pub trip_value : Day → (ℕ → ℕ → ℕ) → List Entry → Weight → ℕ → ℕ → ℤ
 trip_value day trip_cost entries weight t comp =
     weighted weight (pos (trip_cost t comp))
@@ -69,8 +69,8 @@ part_price day entries l part =
     int_sum (by_place day (of_handover day (λ handover c. (handover.link == l) && same part (composition_at day c))))
     entries
 
--- what the link of a number adds by the lists of its trips: the cost of shunting; the price of the units that are taken,
--- less that of the units that are given; and the multiplier of the part at the hand-over
+-- what the link of a number adds by the lists of its trips: the cost of shunting; the price of the units that are
+-- taken, less that of the units that are given; and the multiplier of the part at the hand-over
 abbrev pub value_at_link : Day → List Entry → Weight → List (List ℕ) → ℕ → Link → ℤ
 value_at_link day entries weight lists l link =
     weighted weight (pos (kind_cost day link.kind link.reverse lists))

@@ -32,7 +32,8 @@ price_by day s minute m (Sigma h c) value = pos 0
 unfoldable pub yard_price : Day → List Entry → ℕ → ℕ → ℕ → ℤ
 yard_price day entries s minute m = int_sum (by_place day (price_by day s minute m)) entries
 
--- the price of units that a trip takes, by their types: at its departure; and of those that it gives: when they are ready
+-- the price of units that a trip takes, by their types: at its departure; and of those that it gives: when they are
+-- ready
 abbrev pub taking : Day → List Entry → ℕ → List ℕ → ℤ
 taking day entries t types = int_sum (yard_price day entries (from_of day t) (leaves day t)) types
 

@@ -1,7 +1,8 @@
-//! Cells: the least value from a composition of a trip to the end of the trip's chain, and the next step of the first path that
-//! has it.
+//! Cells: the least value from a composition of a trip to the end of the trip's chain, and the next step of the first
+//! path that has it.
 
-ghost use Rattle.std.specs.Prelude.{ℕ, ◌≡◌, ◌<◌, ◌+◌, map, length, get_or, set, replicate, pos, IfOk, IfSome, Some, None, option_map};
+ghost use Rattle.std.specs.Prelude.{ℕ, ◌≡◌, ◌<◌, ◌+◌, map, length, get_or, set, replicate, pos, IfOk, IfSome, Some};
+ghost use Rattle.std.specs.Prelude.{None, option_map};
 ghost use Rattle.price_bound.specs.CellRows.{lower_at};
 ghost use Rattle.price_bound.specs.Paths.{entered, least_from, lower_cell, offer_by, with_worth};
 ghost use Rattle.price_bound.specs.CellSizes.{AreSmallCells, IsSmall};
@@ -101,8 +102,8 @@ impl CellRow {
         self.cells[place] = with_worth(worth, self.cells[place]);
     }
 
-    /// The least value of the cells, of which there are so many, with the first composition that has it in place of the next
-    /// one; nothing where there is no cell.
+    /// The least value of the cells, of which there are so many, with the first composition that has it in place of the
+    /// next one; nothing where there is no cell.
     pub(crate) fn least(&self, comps: u32) -> Option<Cell>
         requires { comps ≡ length self.now }
         ensures { result ≡ least_from 0 None self.now }

@@ -24,8 +24,8 @@ use std::marker::Model;
 use timetable::{Instance, Picks};
 use transitions::Graphs;
 
-/// A day under changes with its edges, and the room in which its bounds are found and its yards are counted. A contract sees
-/// the day and the changes.
+/// A day under changes with its edges, and the room in which its bounds are found and its yards are counted. A contract
+/// sees the day and the changes.
 #[derive(Drop)]
 pub struct DayBounds<'a> {
     instance: &'a Instance,
@@ -50,7 +50,8 @@ impl<'a> Model for DayBounds<'a> {
 }
 
 impl<'a> DayBounds<'a> {
-    /// The relaxation of a day that nothing is changed on; the graphs are those of the day. The error is want of memory.
+    /// The relaxation of a day that nothing is changed on; the graphs are those of the day. The error is want of
+    /// memory.
     pub fn new(
         alloc: Global,
         instance: &'a Instance,
@@ -63,9 +64,10 @@ impl<'a> DayBounds<'a> {
         DayBounds::with_changes(alloc, instance, graphs, none)
     }
 
-    /// The relaxation of a day under changes: picks cost what their compositions cost, and the cost of each change whose
-    /// trip has another composition than its base. The graphs are those of the day. The trips of the changes rise and are
-    /// the day's, each base is in the catalogue, and each cost is at most 1,000,000. The error is want of memory.
+    /// The relaxation of a day under changes: picks cost what their compositions cost, and the cost of each change
+    /// whose trip has another composition than its base. The graphs are those of the day. The trips of the changes rise
+    /// and are the day's, each base is in the catalogue, and each cost is at most 1,000,000. The error is want of
+    /// memory.
     pub fn with_changes(
         alloc: Global,
         instance: &'a Instance,
@@ -93,9 +95,10 @@ impl<'a> DayBounds<'a> {
         })
     }
 
-    /// The same as `bound` of the day that nothing is changed on, found by looking at every choice of compositions in the
-    /// order in which choices are compared. Its time grows with the number of choices of the region: it is the plain way, with which
-    /// a faster one can be compared. It takes no memory. The region and `best` have a set and a pick for each trip.
+    /// The same as `bound` of the day that nothing is changed on, found by looking at every choice of compositions in
+    /// the order in which choices are compared. Its time grows with the number of choices of the region: it is the
+    /// plain way, with which a faster one can be compared. It takes no memory. The region and `best` have a set and a
+    /// pick for each trip.
     pub fn bound_by_choices(
         &mut self,
         region: &Region,

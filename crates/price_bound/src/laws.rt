@@ -5,11 +5,12 @@
 ghost use Rattle.price_bound.specs.BrokenLaws.{BrokenAtFirstFault, BrokenAtFirstMissed, BrokenPicksAreClosed};
 ghost use Rattle.price_bound.specs.BrokenLaws.{PartsAreMissedOrNot, SolvedWithoutFault};
 ghost use Rattle.price_bound.specs.DayMeanings.{DaysAreRelaxations};
-ghost use Rattle.price_bound.specs.PlanBounds.{NoSolutionsNoPlans, PlansArePricedLow, PlansHavePicks, SolutionsBoundPlans};
+ghost use Rattle.price_bound.specs.PlanBounds.{NoSolutionsNoPlans, PlansArePricedLow, PlansHavePicks};
+ghost use Rattle.price_bound.specs.PlanBounds.{SolutionsBoundPlans};
 ghost use Rattle.price_bound.specs.Sizes.{SlacksAreSmall, ValuesAreSmall};
 
-/// Every accepted day is a relaxation of its solutions, which are the picks that are the types of a plan that runs: what
-/// is said of a solution's slacks, of near picks and of picks that are no solution holds of the day.
+/// Every accepted day is a relaxation of its solutions, which are the picks that are the types of a plan that runs:
+/// what is said of a solution's slacks, of near picks and of picks that are no solution holds of the day.
 pub fn days_are_relaxations()
     ensures law { DaysAreRelaxations }
 {}
@@ -21,8 +22,8 @@ pub fn solutions_stand_for_plans()
     ensures none { NoSolutionsNoPlans }
 {}
 
-/// Every plan that runs has picks, and weak duality: under multipliers that fit these are priced at the cost of the plan or
-/// lower.
+/// Every plan that runs has picks, and weak duality: under multipliers that fit these are priced at the cost of the
+/// plan or lower.
 pub fn plans_are_priced_low()
     ensures picks { PlansHavePicks }
     ensures law { PlansArePricedLow }

@@ -7,7 +7,8 @@ ghost use Rattle.timetable.specs.Day.{from_of, leaves, to_of};
 ghost use Rattle.timetable.specs.Indices.{IsPlace, lambdas_of, places_of};
 ghost use Rattle.inventory.specs.Counts.{ready_at};
 ghost use Rattle.branch_tree.specs.Entries.{DoFit};
-ghost use Rattle.price_bound.specs.PriceTables.{AreSized, ArePrices, cleared, is_given_at, is_taken_at, with_amounts, with_entry, with_handover, with_place};
+ghost use Rattle.price_bound.specs.PriceTables.{AreSized, ArePrices, cleared, is_given_at, is_taken_at, with_amounts};
+ghost use Rattle.price_bound.specs.PriceTables.{with_entry, with_handover, with_place};
 
 use crate::amounts::AmountTable;
 use branch_tree::{Entry, Multipliers};
@@ -48,8 +49,8 @@ impl PriceTables {
         })
     }
 
-    /// Puts the prices under multipliers in place of those that were there. The indices of the multipliers are the day's. It
-    /// takes no memory.
+    /// Puts the prices under multipliers in place of those that were there. The indices of the multipliers are the
+    /// day's. It takes no memory.
     pub(crate) fn fill(&mut self, instance: &Instance, multipliers: &Multipliers)
         requires fit { DoFit (length (places_of instance.now)) (length (lambdas_of instance.now)) multipliers.now }
         requires sized { AreSized instance.now self.old }

@@ -7,8 +7,8 @@ use branch_tree::{Multipliers, Region, Weight};
 use timetable::Instance;
 use transitions::Graphs;
 
-/// What is priced: a day and its edges under changes, a region of it, multipliers and their weight; with the prices under the
-/// multipliers at hand.
+/// What is priced: a day and its edges under changes, a region of it, multipliers and their weight; with the prices
+/// under the multipliers at hand.
 #[derive(Drop)]
 pub(crate) struct Pricing<'a> {
     pub instance: &'a Instance,

@@ -58,8 +58,8 @@ fn slack_sum(question: &Question<'_>, picks: &Picks, ledger: &Ledger<'_>) -> i12
     sum
 }
 
-/// The multiplier of an entry times the slack at its index, of picks that follow, whose counts the ledger has. The entry is
-/// one of those that are asked about.
+/// The multiplier of an entry times the slack at its index, of picks that follow, whose counts the ledger has. The
+/// entry is one of those that are asked about.
 fn product_at(question: &Question<'_>, picks: &Picks, ledger: &Ledger<'_>, entry: &Entry) -> i128
     requires follow { Follow question.now.day picks.now }
     requires ledger { ledger.now ≡ record { day = question.now.day; lists = picked question.now.day picks.now } }

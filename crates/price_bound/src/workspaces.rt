@@ -60,10 +60,10 @@ impl Workspace {
         })
     }
 
-    /// The least priced value of the picks that are near a region of a day, under changes and under multipliers that fit.
-    /// It is `Empty` exactly where no picks are near the region, and `best` is then as before. Else `best` is, among those
-    /// of least value, the first by the list of compositions read chain by chain. It takes no memory, and time that grows
-    /// with the edges of the day.
+    /// The least priced value of the picks that are near a region of a day, under changes and under multipliers that
+    /// fit. It is `Empty` exactly where no picks are near the region, and `best` is then as before. Else `best` is,
+    /// among those of least value, the first by the list of compositions read chain by chain. It takes no memory, and
+    /// time that grows with the edges of the day.
     pub(crate) fn bound(
         &mut self,
         instance: &Instance,

@@ -1,6 +1,7 @@
 //! What compositions are worth on trips, and what edges are priced, under multipliers.
 
-ghost use Rattle.std.specs.Prelude.{ℕ, ◌≡◌, ◌<◌, ◌≤◌, ◌+◌, ◌*◌, ◌+ℤ◌, ◌-ℤ◌, [], length, get_or, take, drop, pos, All, IfSome, IsTrue, Some, is_none, if◌then◌else◌, option_map, slice_get};
+ghost use Rattle.std.specs.Prelude.{ℕ, ◌≡◌, ◌<◌, ◌≤◌, ◌+◌, ◌*◌, ◌+ℤ◌, ◌-ℤ◌, [], length, get_or, take, drop, pos, All};
+ghost use Rattle.std.specs.Prelude.{IfSome, IsTrue, Some, is_none, if◌then◌else◌, option_map, slice_get};
 ghost use Rattle.compositions.specs.Composition.{are_types};
 ghost use Rattle.timetable.specs.Compositions.{compositions_of, composition_at};
 ghost use Rattle.timetable.specs.Day.{from_of, leaves, to_of};
@@ -12,7 +13,8 @@ ghost use Rattle.branch_tree.specs.Meanings.{weighted};
 ghost use Rattle.price_bound.specs.ChainStages.{cost_on, may_have, part_is_in, price_of, worth_of};
 ghost use Rattle.price_bound.specs.Changes.{changed_cost};
 ghost use Rattle.price_bound.specs.Credits.{AreSmallAmounts, sum_in};
-ghost use Rattle.price_bound.specs.EdgeValues.{came, coupled, edge_value, part_multiplier, part_value, shunt_cost, turn_value};
+ghost use Rattle.price_bound.specs.EdgeValues.{came, coupled, edge_value, part_multiplier, part_value, shunt_cost};
+ghost use Rattle.price_bound.specs.EdgeValues.{turn_value};
 ghost use Rattle.price_bound.specs.Pricing.{ArePriced, IsListed, priced_by};
 ghost use Rattle.price_bound.specs.Regrouped.{second_price, trip_value};
 ghost use Rattle.price_bound.specs.CellSizes.{IsSmall};
@@ -235,8 +237,8 @@ impl<'a> Pricing<'a> {
         self.tables.parts.get(link.place(), part.place())
     }
 
-    /// What an edge of a turn adds: the cost of shunting, and the price of the units that are taken less that of the units that
-    /// are given.
+    /// What an edge of a turn adds: the cost of shunting, and the price of the units that are taken less that of the
+    /// units that are given.
     fn turn_value(&self, arriving: TripNo, departing: TripNo, couple: End, edge: &Edge) -> Money
         requires priced { ArePriced self.now }
         requires arriving { arriving < length self.now.instance.now.trips }

@@ -158,7 +158,8 @@ impl NodeNo {
     }
 }
 
-/// A minute of the planned day and the day after it, counted from 0 at the first midnight; a time of a timetable is below 2880.
+/// A minute of the planned day and the day after it, counted from 0 at the first midnight; a time of a timetable is
+/// below 2880.
 #[derive(Clone, Copy, Debug, Default, PartialEq, Eq, Hash, PartialOrd, Ord)]
 pub struct Minute(pub u16);
 
@@ -180,6 +181,7 @@ impl Minute {
     }
 }
 
-/// An amount of cost, in the unit of the weights table: one carriage kilometre at weight 1. It may be negative, as a bound is.
+/// An amount of cost, in the unit of the weights table: one carriage kilometre at weight 1. It may be negative, as a
+/// bound is.
 #[derive(Clone, Copy, Debug, PartialEq, Eq, Hash, PartialOrd, Ord)]
 pub struct Money(pub i128);

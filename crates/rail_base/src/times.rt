@@ -6,8 +6,8 @@ ghost use Rattle.rail_base.specs.Times.{clock_text};
 use crate::Minute;
 use crate::limits::MOST_MINUTES;
 
-/// The minute, which is below 2,880, as the two digits of its hour, a colon and the two digits of its minute. The hours of
-/// the second day go on from 24 to 47.
+/// The minute, which is below 2,880, as the two digits of its hour, a colon and the two digits of its minute. The hours
+/// of the second day go on from 24 to 47.
 pub fn clock(minute: Minute) -> [u8; 5]
     requires { minute < MOST_MINUTES }
     ensures { result ≡ clock_text minute }

@@ -1,5 +1,6 @@
 -- Tables in the words of their subject: what an accepted table is, and what the first wrong thing of a refused one is.
-use Rattle.std.specs.Prelude.{ℕ, ◌+◌, ◌<◌, ◌≤◌, ◌≡◌, ◌⊎◌, List, [], length, take, slice_index_or, Some, Result, Ok, Err, IsOk}
+use Rattle.std.specs.Prelude.{ℕ, ◌+◌, ◌<◌, ◌≤◌, ◌≡◌, ◌⊎◌, List, [], length, take, slice_index_or, Some, Result, Ok, Err}
+use Rattle.std.specs.Prelude.{IsOk}
 use Rattle.std.specs.List.{slice_get}
 use Rattle.rail_csv.specs.declared.refusal.TableRefusal.{TableRefusal}
 use Rattle.rail_csv.specs.declared.refusal.TableRefusal.TheVariants.{WrongHeader, TooManyRows}
@@ -16,8 +17,8 @@ pub record HasHeader (words : List (List ℕ)) (fewest width : ℕ) (records : L
 abbrev pub row_at : {Row : Type 0} → ℕ → Columns Row → List (List (List ℕ)) → ℕ → Result Row TableRefusal
 row_at width columns records row = row_of width columns row (slice_index_or records row [])
 
--- The records are a table of these rows, in the version with so many columns: its header, and at most as many rows as the
--- table may have, each of them what its record reads as.
+-- The records are a table of these rows, in the version with so many columns: its header, and at most as many rows as
+-- the table may have, each of them what its record reads as.
 pub record IsTableOf {Row : Type 0} (words : List (List ℕ)) (fewest width limit : ℕ) (columns : Columns Row) (records : List (List (List ℕ))) (rows : List Row) : Type 0 where
   pub first : HasHeader words fewest width records
   pub count : length records ≡ length rows + 1

@@ -1,7 +1,8 @@
 -- The records that csv still has to read.
 use Rattle.std.specs.Prelude.{◌≡◌, ◌<◌, ◌≤◌, ◌+◌, ℕ, List, [], length, Option, Some, unwrap_or}
 use Rattle.std.specs.Borrow.{Bor}
-use Rattle.csv.specs.Reading.{records_from, default_config, source_of, Ready, reader_trim, reader_config, reader_state, owned_rows_reader, owned_rows_left}
+use Rattle.csv.specs.Reading.{records_from, default_config, source_of, Ready, reader_trim, reader_config, reader_state}
+use Rattle.csv.specs.Reading.{owned_rows_reader, owned_rows_left}
 use Rattle.csv.specs.declared.parser.State.{State}
 use Rattle.csv.specs.declared.reader.Trim.TheVariants as trim
 use Rattle.rail_base.specs.declared.limits.TheConstants.{MOST_TABLE_BYTES}

@@ -2,7 +2,12 @@
 use Rattle.std.specs.Prelude.{ℕ, List, length, ◌≤◌, ◌<◌, IsTrue, IfSome}
 use Rattle.std.specs.List.{All}
 use Rattle.rail_base.specs.Names.{is_name}
-use Rattle.rail_base.specs.declared.limits.TheConstants.{MOST_TYPES, MOST_STATIONS, MOST_STOCK_ROWS, MOST_TRIPS, MOST_LINKS, MOST_PLAN_ROWS, MOST_CARRIAGES, MOST_SEATS, MOST_FIRST_SEATS, MOST_METRES, MOST_PLATFORM, MOST_REALLOCATION, MOST_STOCK, MOST_MINUTES, MOST_KM, MOST_DEMAND, MOST_FIRST_DEMAND, MOST_WEIGHT, MOST_COMPOSITION, MOST_UNITS}
+use Rattle.rail_base.specs.declared.limits.TheConstants.{MOST_TYPES, MOST_STATIONS, MOST_STOCK_ROWS, MOST_TRIPS}
+use Rattle.rail_base.specs.declared.limits.TheConstants.{MOST_LINKS, MOST_PLAN_ROWS, MOST_CARRIAGES, MOST_SEATS}
+use Rattle.rail_base.specs.declared.limits.TheConstants.{MOST_FIRST_SEATS, MOST_METRES, MOST_PLATFORM}
+use Rattle.rail_base.specs.declared.limits.TheConstants.{MOST_REALLOCATION, MOST_STOCK, MOST_MINUTES, MOST_KM}
+use Rattle.rail_base.specs.declared.limits.TheConstants.{MOST_DEMAND, MOST_FIRST_DEMAND, MOST_WEIGHT, MOST_COMPOSITION}
+use Rattle.rail_base.specs.declared.limits.TheConstants.{MOST_UNITS}
 use Rattle.rail_csv.specs.declared.rows.TypeRow.{TypeRow}
 use Rattle.rail_csv.specs.declared.rows.StationRow.{StationRow}
 use Rattle.rail_csv.specs.declared.rows.StockRow.{StockRow}

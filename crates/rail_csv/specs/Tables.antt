@@ -1,11 +1,13 @@
 -- What a table is read as: its rows, or the first thing that is wrong in it.
-use Rattle.std.specs.Prelude.{ℕ, ◌+◌, List, [], ◌∷◌, length, take, nat_le, Bool, true, false, ◌&&◌, ◌==◌, nat_lt, Result, Ok, Err, if◌then◌else◌, codes}
+use Rattle.std.specs.Prelude.{ℕ, ◌+◌, List, [], ◌∷◌, length, take, nat_le, Bool, true, false, ◌&&◌, ◌==◌, nat_lt}
+use Rattle.std.specs.Prelude.{Result, Ok, Err, if◌then◌else◌, codes}
 use Rattle.std.specs.List.{list_all}
 use Rattle.std.specs.Str.{bytes_eq, is_utf8}
 use Rattle.std.specs.Cmp.Lexicographic.{pointwise}
 use Rattle.csv.specs.Reading.{default_config, strip_bom, records}
 use Rattle.rail_csv.specs.declared.refusal.TableRefusal.{TableRefusal}
-use Rattle.rail_csv.specs.declared.refusal.TableRefusal.TheVariants.{NotUtf8, WrongHeader, FieldCount, TooManyRows, NoRow, NoMemory}
+use Rattle.rail_csv.specs.declared.refusal.TableRefusal.TheVariants.{NotUtf8, WrongHeader, FieldCount, TooManyRows}
+use Rattle.rail_csv.specs.declared.refusal.TableRefusal.TheVariants.{NoRow, NoMemory}
 use Rattle.rail_csv.specs.declared.rows.TypeRow.{TypeRow}
 use Rattle.rail_csv.specs.declared.rows.StationRow.{StationRow}
 use Rattle.rail_csv.specs.declared.rows.StockRow.{StockRow}
@@ -16,8 +18,13 @@ use Rattle.rail_csv.specs.declared.rows.PlanRow.{PlanRow}
 use Rattle.rail_csv.specs.declared.rows.Table.{Table}
 use Rattle.rail_csv.specs.declared.rows.Table.TheVariants.{Types, Stations, Stock, Trips, Links, Weights, Plan}
 use Rattle.rail_base.specs.Answers.{◌>>=◌}
-use Rattle.rail_base.specs.declared.limits.TheConstants.{MOST_TYPES, MOST_STATIONS, MOST_STOCK_ROWS, MOST_TRIPS, MOST_LINKS, MOST_WEIGHT_ROWS, MOST_PLAN_ROWS, MOST_CARRIAGES, MOST_SEATS, MOST_FIRST_SEATS, MOST_METRES, MOST_PLATFORM, MOST_REALLOCATION, MOST_STOCK, MOST_KM, MOST_DEMAND, MOST_FIRST_DEMAND, MOST_WEIGHT}
-use Rattle.rail_csv.specs.Columns.{field, field_or, number_column, time_column, name_column, optional_name_column, kind_column, answer_column, end_column, units_column}
+use Rattle.rail_base.specs.declared.limits.TheConstants.{MOST_TYPES, MOST_STATIONS, MOST_STOCK_ROWS, MOST_TRIPS}
+use Rattle.rail_base.specs.declared.limits.TheConstants.{MOST_LINKS, MOST_WEIGHT_ROWS, MOST_PLAN_ROWS, MOST_CARRIAGES}
+use Rattle.rail_base.specs.declared.limits.TheConstants.{MOST_SEATS, MOST_FIRST_SEATS, MOST_METRES, MOST_PLATFORM}
+use Rattle.rail_base.specs.declared.limits.TheConstants.{MOST_REALLOCATION, MOST_STOCK, MOST_KM, MOST_DEMAND}
+use Rattle.rail_base.specs.declared.limits.TheConstants.{MOST_FIRST_DEMAND, MOST_WEIGHT}
+use Rattle.rail_csv.specs.Columns.{field, field_or, number_column, time_column, name_column, optional_name_column}
+use Rattle.rail_csv.specs.Columns.{kind_column, answer_column, end_column, units_column}
 
 -- ---- every table
 
@@ -64,7 +71,8 @@ abbrev pub is_memory : TableRefusal → Bool
 is_memory NoMemory = true
 is_memory why = false
 
--- ---- the seven tables, each with the words of all its columns; a column that the first version lacks is read by `field_or`
+-- ---- the seven tables, each with the words of all its columns; a column that the first version lacks is read by
+-- `field_or`
 
 abbrev pub type_header : List (List ℕ)
 type_header = codes "type" ∷ codes "carriages" ∷ codes "seats" ∷ codes "metres" ∷ codes "family" ∷ codes "first" ∷ []

@@ -3,8 +3,10 @@
 
 ghost use Rattle.std.specs.Prelude.{◌≡◌, ◌≤◌, length, Some, None, if◌then◌else◌, IfOk, option_map, nat_le};
 ghost use Rattle.std.specs.List.{list_all};
-ghost use Rattle.rail_csv.specs.Fields.{are_digits, number_of, is_number, is_time, time_of, is_unit, numbers_of, pieces_of};
-ghost use Rattle.rail_csv.specs.Columns.{number_column, time_column, name_column, optional_name_column, kind_column, answer_column, end_column, units_column};
+ghost use Rattle.rail_csv.specs.Fields.{are_digits, number_of, is_number, is_time, time_of, is_unit, numbers_of};
+ghost use Rattle.rail_csv.specs.Fields.{pieces_of};
+ghost use Rattle.rail_csv.specs.Columns.{number_column, time_column, name_column, optional_name_column, kind_column};
+ghost use Rattle.rail_csv.specs.Columns.{answer_column, end_column, units_column};
 ghost use Rattle.rail_csv.specs.Tables.{is_memory};
 ghost use Rattle.rail_base.specs.Answers.{Gives};
 

@@ -2,8 +2,10 @@
 
 ghost use Rattle.std.specs.Prelude.{◌≤◌, length, IfOk};
 ghost use Rattle.rail_base.specs.Answers.{Gives, GivesRows};
-ghost use Rattle.rail_csv.specs.Rows.{AreLinkRows, ArePlanRows, AreStationRows, AreStockRows, AreTripRows, AreTypeRows, IsWeightsRow};
-ghost use Rattle.rail_csv.specs.Tables.{is_memory, links_of, plan_of, stations_of, stock_of, trips_of, types_of, weights_of};
+ghost use Rattle.rail_csv.specs.Rows.{AreLinkRows, ArePlanRows, AreStationRows, AreStockRows, AreTripRows, AreTypeRows};
+ghost use Rattle.rail_csv.specs.Rows.{IsWeightsRow};
+ghost use Rattle.rail_csv.specs.Tables.{is_memory, links_of, plan_of, stations_of, stock_of, trips_of, types_of};
+ghost use Rattle.rail_csv.specs.Tables.{weights_of};
 
 use crate::header_words::header;
 use crate::reading::read_table;
@@ -44,8 +46,8 @@ pub fn stations(alloc: Global, bytes: &[u8]) -> Result<Vec<StationRow>, TableRef
     )
 }
 
-/// Reads the stock table, of at most `MOST_STOCK_ROWS` rows: its rows, or the first thing that is wrong. Its columns are
-/// `station,type,start,end`. The bytes are at most `MOST_TABLE_BYTES`.
+/// Reads the stock table, of at most `MOST_STOCK_ROWS` rows: its rows, or the first thing that is wrong. Its columns
+/// are `station,type,start,end`. The bytes are at most `MOST_TABLE_BYTES`.
 #[tactic(auto, unfolding(crate::specs::Tables::stock_of))]
 pub fn stock(alloc: Global, bytes: &[u8]) -> Result<Vec<StockRow>, TableRefusal>
     requires { length bytes.now ≤ MOST_TABLE_BYTES }
@@ -74,8 +76,8 @@ pub fn trips(alloc: Global, bytes: &[u8]) -> Result<Vec<TripRow>, TableRefusal>
 }
 
 /// Reads the links table, of at most `MOST_LINKS` rows: its rows, or the first thing that is wrong. Its columns are
-/// `kind,arriving,arriving2,departing,departing2,reverse,uncouple,couple`, and `exchange` in its second version; a row of
-/// the first version has `no` there. The bytes are at most `MOST_TABLE_BYTES`.
+/// `kind,arriving,arriving2,departing,departing2,reverse,uncouple,couple`, and `exchange` in its second version; a row
+/// of the first version has `no` there. The bytes are at most `MOST_TABLE_BYTES`.
 #[tactic(auto, unfolding(crate::specs::Tables::links_of))]
 pub fn links(alloc: Global, bytes: &[u8]) -> Result<Vec<LinkRow>, TableRefusal>
     requires { length bytes.now ≤ MOST_TABLE_BYTES }
@@ -85,8 +87,8 @@ pub fn links(alloc: Global, bytes: &[u8]) -> Result<Vec<LinkRow>, TableRefusal>
     read_table(alloc, header(Table::Links), 8, MOST_LINKS as u32, bytes)
 }
 
-/// Reads the weights table: its one row, or the first thing that is wrong. Its columns are `carriage,shortage,shunting`.
-/// The bytes are at most `MOST_TABLE_BYTES`.
+/// Reads the weights table: its one row, or the first thing that is wrong. Its columns are
+/// `carriage,shortage,shunting`. The bytes are at most `MOST_TABLE_BYTES`.
 pub fn weights(alloc: Global, bytes: &[u8]) -> Result<WeightsRow, TableRefusal>
     requires { length bytes.now ≤ MOST_TABLE_BYTES }
     ensures exact { Gives is_memory result (weights_of bytes.now) }

@@ -117,8 +117,8 @@ fn records_in(alloc: Global, bytes: &[u8]) -> ByteRecordsIntoIter<&[u8]>
         .into_byte_records()
 }
 
-/// Reads the rows under a header of so many columns, at most `limit`. No more records are read than it takes to know the
-/// answer.
+/// Reads the rows under a header of so many columns, at most `limit`. No more records are read than it takes to know
+/// the answer.
 fn read_rows<T: TableRow>(
     alloc: Global,
     width: usize,
@@ -143,8 +143,8 @@ fn read_rows<T: TableRow>(
 }
 
 /// Reads a table: the words of its columns, how many of them its first version has, and the most rows. Its header tells
-/// its version. A byte order mark at the front is dropped once, and empty lines are no records. There can't be more rows
-/// than bytes, so no limit needs to be over the one on bytes.
+/// its version. A byte order mark at the front is dropped once, and empty lines are no records. There can't be more
+/// rows than bytes, so no limit needs to be over the one on bytes.
 #[tactic(auto, unfolding(crate::specs::Tables::table_of))]
 pub fn read_table<T: TableRow>(
     alloc: Global,

@@ -44,7 +44,8 @@ pub record SinkInMemory : Type 0 where
 abbrev pub write_takes : SinkInMemory → List ℕ → ℕ
 write_takes sink piece = min (length piece) (min sink.most (sink.room - length sink.written))
 
--- whether the next write of a piece fails: the piece is not empty, and no room is left or its number is among those that fail
+-- whether the next write of a piece fails: the piece is not empty, and no room is left or its number is among those
+-- that fail
 abbrev pub write_fails : SinkInMemory → List ℕ → Bool
 write_fails sink piece =
     nat_lt 0 (length piece) && (nat_le sink.room (length sink.written) || list_any (λ number. number == sink.calls) sink.failing)

@@ -41,8 +41,8 @@ impl<F: Read + Seek + Drop> OpenFile<F> {
         !path.is_empty() && self.path.as_slice() == path.as_bytes()
     }
 
-    /// Reads some bytes from a place on, and answers how many: 0 only at the file's end. It seeks only where the place is
-    /// not that of the next read.
+    /// Reads some bytes from a place on, and answers how many: 0 only at the file's end. It seeks only where the place
+    /// is not that of the next read.
     fn read_from(&mut self, from: u64, into: &mut [u8]) -> io::Result<usize>
         ensures { IfOk result (λ n. n ≤ length into.new) }
     {
@@ -56,9 +56,9 @@ impl<F: Read + Seek + Drop> OpenFile<F> {
 }
 
 /// The files of the system, over the runtime that main is given. A path is taken from the folder that the program runs
-/// in. A file stays open while reads go on in it, so that one that is replaced meanwhile is read as it was opened; a read
-/// of another path, the file's end and an error close it. Each error of the system raises the count of faults, which
-/// stays at its last value. A contract sees the counts of faults and of bytes handed out.
+/// in. A file stays open while reads go on in it, so that one that is replaced meanwhile is read as it was opened; a
+/// read of another path, the file's end and an error close it. Each error of the system raises the count of faults,
+/// which stays at its last value. A contract sees the counts of faults and of bytes handed out.
 #[derive(Drop)]
 pub struct DiskFolder<'a, R: Files> {
     rt: &'a R,

@@ -1,6 +1,7 @@
 //! A folder and a sink in memory, whose calls fail where they are told to. They are for tests.
 
-ghost use Rattle.std.specs.Prelude.{◌≡◌, ◌<◌, ◌≤◌, ◌++◌, [], length, take, IsTrue, MatchOption, None, Some, IfOk, OnErr, if◌then◌else◌};
+ghost use Rattle.std.specs.Prelude.{◌≡◌, ◌<◌, ◌≤◌, ◌++◌, [], length, take, IsTrue, MatchOption, None, Some, IfOk};
+ghost use Rattle.std.specs.Prelude.{OnErr, if◌then◌else◌};
 ghost use Rattle.std.specs.Result.{is_err};
 ghost use Rattle.std.specs.FinMap as map;
 ghost use Rattle.rail_base.specs.Names.{is_name};

@@ -1,6 +1,7 @@
 //! A folder and a sink in memory whose calls never fail. They are for tests.
 
-ghost use Rattle.std.specs.Prelude.{◌≡◌, ◌+◌, ◌≤◌, ◌++◌, ◌||◌, nat_lt, [], length, take, false, None, Some, Ok, IsTrue, MatchOption, IfOk};
+ghost use Rattle.std.specs.Prelude.{◌≡◌, ◌+◌, ◌≤◌, ◌++◌, ◌||◌, nat_lt, [], length, take, false, None, Some, Ok, IsTrue};
+ghost use Rattle.std.specs.Prelude.{MatchOption, IfOk};
 ghost use Rattle.std.specs.Result.{is_ok};
 ghost use Rattle.rail_io.specs.Folders.{IsReadFrom, RoseBy, file_at};
 ghost use Rattle.rail_io.specs.MemoryFiles.{files_of};

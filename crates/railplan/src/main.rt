@@ -30,8 +30,8 @@ fn name_alone(alloc: Global) -> Result<Words, NoMemory> {
     Ok(words)
 }
 
-/// Runs the command of the words with the advisors that the program has, in the order in which they are asked. The error
-/// is want of memory for their boxes.
+/// Runs the command of the words with the advisors that the program has, in the order in which they are asked. The
+/// error is want of memory for their boxes.
 fn run<F: Folder, K: Sink>(
     alloc: Global,
     words: &Words,

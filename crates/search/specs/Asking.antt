@@ -1,5 +1,6 @@
 -- How the advisors of a search are asked.
-use Rattle.std.specs.Prelude.{ℕ, zero, suc, ◌+◌, ◌<◌, ◌≤◌, ◌^◌, ◌≡◌, List, [], ◌∷◌, length, get_or, All, Bool, true, false}
+use Rattle.std.specs.Prelude.{ℕ, zero, suc, ◌+◌, ◌<◌, ◌≤◌, ◌^◌, ◌≡◌, List, [], ◌∷◌, length, get_or, All, Bool, true}
+use Rattle.std.specs.Prelude.{false}
 use Rattle.std.specs.List.{AllZip}
 
 -- An advisor that has not quit was asked so many times at least, and each was asked so many times at most. One that has

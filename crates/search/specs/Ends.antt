@@ -1,5 +1,6 @@
 -- How a search ends: the least bound of its tree, and what is found by it.
-use Rattle.std.specs.Prelude.{ℕ, ◌≡◌, ◌+◌, ◌≤◌, ◌⊎◌, List, fold, Bool, true, false, if◌then◌else◌, int_lt, Option, Some, None}
+use Rattle.std.specs.Prelude.{ℕ, ◌≡◌, ◌+◌, ◌≤◌, ◌⊎◌, List, fold, Bool, true, false, if◌then◌else◌, int_lt, Option, Some}
+use Rattle.std.specs.Prelude.{None}
 use Rattle.rail_base.specs.declared.numbers.Money.{Money}
 use Rattle.branch_tree.specs.declared.tree.Node.{Node}
 use Rattle.branch_tree.specs.declared.tree.Node.TheVariants.{CostLeaf}

@@ -1,5 +1,6 @@
 -- A node in work: what its evaluations have given.
-use Rattle.std.specs.Prelude.{ℕ, ◌≡◌, [], Bool, true, false, ◌≤ℤ◌, Option, Some, None, MatchOption, if◌then◌else◌, int_lt}
+use Rattle.std.specs.Prelude.{ℕ, ◌≡◌, [], Bool, true, false, ◌≤ℤ◌, Option, Some, None, MatchOption, if◌then◌else◌}
+use Rattle.std.specs.Prelude.{int_lt}
 use Rattle.branch_tree.specs.declared.cuts.Cut.{Cut}
 use Rattle.branch_tree.specs.declared.relaxation.Weight.TheVariants.{Cost}
 use Rattle.branch_tree.specs.Bounds.{IsChainValue}

@@ -1,9 +1,14 @@
 -- What is known of every day that was accepted.
-use Rattle.std.specs.Prelude.{ℕ, ◌+◌, ◌<◌, ◌≤◌, ◌≡◌, length, List, [], ◌∷◌, ◌==◌, ◌&&◌, true, if◌then◌else◌, All, IsTrue, Some, slice_get}
-use Rattle.rail_base.specs.declared.limits.TheConstants.{MOST_CARRIAGES, MOST_SEATS, MOST_FIRST_SEATS, MOST_METRES, MOST_MINUTES, MOST_KM, MOST_DEMAND, MOST_FIRST_DEMAND, MOST_PLATFORM, MOST_REALLOCATION, MOST_STOCK, MOST_TYPES, MOST_STATIONS, MOST_TRIPS, MOST_LINKS, MOST_UNITS, MOST_WEIGHT}
+use Rattle.std.specs.Prelude.{ℕ, ◌+◌, ◌<◌, ◌≤◌, ◌≡◌, length, List, [], ◌∷◌, ◌==◌, ◌&&◌, true, if◌then◌else◌, All}
+use Rattle.std.specs.Prelude.{IsTrue, Some, slice_get}
+use Rattle.rail_base.specs.declared.limits.TheConstants.{MOST_CARRIAGES, MOST_SEATS, MOST_FIRST_SEATS, MOST_METRES}
+use Rattle.rail_base.specs.declared.limits.TheConstants.{MOST_MINUTES, MOST_KM, MOST_DEMAND, MOST_FIRST_DEMAND}
+use Rattle.rail_base.specs.declared.limits.TheConstants.{MOST_PLATFORM, MOST_REALLOCATION, MOST_STOCK, MOST_TYPES}
+use Rattle.rail_base.specs.declared.limits.TheConstants.{MOST_STATIONS, MOST_TRIPS, MOST_LINKS, MOST_UNITS, MOST_WEIGHT}
 use Rattle.compositions.specs.declared.types.UnitType.{UnitType}
 use Rattle.timetable.specs.Admissible.{is_admissible}
-use Rattle.timetable.specs.Day.{Day, leaves, arrives, from_of, to_of, km_of, demand_of, first_demand_of, home_of, type_of, unit_count, platform_of, reallocation_of, wanted_of}
+use Rattle.timetable.specs.Day.{Day, leaves, arrives, from_of, to_of, km_of, demand_of, first_demand_of, home_of}
+use Rattle.timetable.specs.Day.{type_of, unit_count, platform_of, reallocation_of, wanted_of}
 use Rattle.timetable.specs.Links.{arriving_in, departing_in}
 use Rattle.timetable.specs.Lists.{count_of, has}
 use Rattle.timetable.specs.declared.day.records.Link.{Link}
@@ -17,7 +22,8 @@ pub record IsUnitType (t : UnitType) : Type 0 where
   pub metres : t.metres ≤ MOST_METRES
   pub first : t.first ≤ MOST_FIRST_SEATS
 
--- every trip arrives after it leaves and on the second day at the latest, what it names is there, and each number is within its limit
+-- every trip arrives after it leaves and on the second day at the latest, what it names is there, and each number is
+-- within its limit
 pub record IsDay (day : Day) : Type 0 where
   pub time : (t : ℕ) → t < length day.trips → leaves day t < arrives day t
   pub late : (t : ℕ) → t < length day.trips → arrives day t < MOST_MINUTES
@@ -49,7 +55,8 @@ abbrev pub times_named : (LinkKind → List ℕ) → List Link → ℕ → ℕ
 times_named side [] t = 0
 times_named side (link ∷ links) t = count_of t (side link.kind) + times_named side links t
 
--- no trip arrives for two links or departs by two, each link names trips of the day, and none departs before one that it goes on from arrives
+-- no trip arrives for two links or departs by two, each link names trips of the day, and none departs before one that
+-- it goes on from arrives
 pub record AreLinks (day : Day) : Type 0 where
   pub arriving_once : (t : ℕ) → times_named arriving_in day.links t ≤ 1
   pub departing_once : (t : ℕ) → times_named departing_in day.links t ≤ 1

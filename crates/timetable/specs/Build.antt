@@ -1,5 +1,7 @@
--- What the tables make: the day, or the first test that fails. Rows are tested in order, each by what the rows before it gave.
-use Rattle.std.specs.Prelude.{ℕ, ◌+◌, List, [], ◌∷◌, length, Bool, true, false, ◌&&◌, ◌==◌, nat_le, nat_lt, min, if◌then◌else◌, Result, Ok, Err}
+-- What the tables make: the day, or the first test that fails. Rows are tested in order, each by what the rows before
+-- it gave.
+use Rattle.std.specs.Prelude.{ℕ, ◌+◌, List, [], ◌∷◌, length, Bool, true, false, ◌&&◌, ◌==◌, nat_le, nat_lt, min}
+use Rattle.std.specs.Prelude.{if◌then◌else◌, Result, Ok, Err}
 use Rattle.std.specs.List.{list_any}
 use Rattle.rail_base.specs.Answers.{◌>>=◌}
 use Rattle.rail_base.specs.declared.limits.TheConstants.{MOST_UNITS, MOST_COMPOSITIONS}
@@ -17,7 +19,11 @@ use Rattle.timetable.specs.declared.day.records.Trip.{Trip}
 use Rattle.timetable.specs.declared.day.records.Weights.{Weights}
 use Rattle.timetable.specs.declared.building.tables.Tables.{Tables}
 use Rattle.timetable.specs.declared.building.refusal.InstanceRefusal.{InstanceRefusal}
-use Rattle.timetable.specs.declared.building.refusal.InstanceRefusal.TheVariants.{RepeatedName, UnknownName, RepeatedStock, ArrivalNotAfterDeparture, SameStation, NoComposition, TooManyUnits, TooManyCompositions, NoMemory}
+use Rattle.timetable.specs.declared.building.refusal.InstanceRefusal.TheVariants.{RepeatedName, UnknownName}
+use Rattle.timetable.specs.declared.building.refusal.InstanceRefusal.TheVariants.{RepeatedStock}
+use Rattle.timetable.specs.declared.building.refusal.InstanceRefusal.TheVariants.{ArrivalNotAfterDeparture, SameStation}
+use Rattle.timetable.specs.declared.building.refusal.InstanceRefusal.TheVariants.{NoComposition, TooManyUnits}
+use Rattle.timetable.specs.declared.building.refusal.InstanceRefusal.TheVariants.{TooManyCompositions, NoMemory}
 use Rattle.timetable.specs.Compositions.{greatest_in}
 use Rattle.timetable.specs.Day.{Day}
 use Rattle.timetable.specs.LinkRows.{links_in}
@@ -122,7 +128,8 @@ trips_in stations types rows = accept_each (accept_trip stations types) [] rows
 abbrev pub weights_in : WeightsRow → Weights
 weights_in row = record { carriage = row.carriage; shortage = row.shortage; shunting = row.shunting }
 
--- The day that tables make: types, stations, stock, the number of units, the number of compositions, trips, and then links.
+-- The day that tables make: types, stations, stock, the number of units, the number of compositions, trips, and then
+-- links.
 unfoldable pub day_of : Tables → Result Day InstanceRefusal
 day_of tables = do
   types ← types_in tables.types

@@ -1,5 +1,6 @@
 -- The chains of a day: links lead from trip to trip, and every trip lies in one chain.
-use Rattle.std.specs.Prelude.{ℕ, zero, suc, ◌+◌, ◌≡◌, ◌<◌, ◌≤◌, List, [], ◌∷◌, ◌++◌, length, Bool, false, ◌==◌, if◌then◌else◌, Option, Some, None, option_map, option_and_then, unwrap_or, slice_get}
+use Rattle.std.specs.Prelude.{ℕ, zero, suc, ◌+◌, ◌≡◌, ◌<◌, ◌≤◌, List, [], ◌∷◌, ◌++◌, length, Bool, false, ◌==◌}
+use Rattle.std.specs.Prelude.{if◌then◌else◌, Option, Some, None, option_map, option_and_then, unwrap_or, slice_get}
 use Rattle.std.specs.List.{All, AllPairs}
 use Rattle.timetable.specs.declared.day.records.Link.{Link}
 use Rattle.timetable.specs.declared.day.records.LinkKind.{LinkKind}
@@ -10,8 +11,8 @@ use Rattle.timetable.specs.LinkTables.{link_naming}
 use Rattle.timetable.specs.Lists.{count_of}
 use Rattle.timetable.specs.Running.{EachFollows}
 
--- A turn leads a chain from its arriving to its departing trip, a join from its first arriving trip to its departing trip, and
--- a split from its arriving trip to its first departing trip.
+-- A turn leads a chain from its arriving to its departing trip, a join from its first arriving trip to its departing
+-- trip, and a split from its arriving trip to its first departing trip.
 abbrev pub leads_from : LinkKind → ℕ
 leads_from (Turn a b uncouple couple exchange) = a
 leads_from (Join a1 a2 b) = a1
@@ -58,8 +59,8 @@ abbrev pub first_of : List ℕ → ℕ
 first_of [] = 0
 first_of (t ∷ ts) = t
 
--- These lists are the chains of the day: each is whole, every trip of the day is in one of them, and there once, and they are
--- numbered by their first trips in rising order.
+-- These lists are the chains of the day: each is whole, every trip of the day is in one of them, and there once, and
+-- they are numbered by their first trips in rising order.
 pub record AreChains (day : Day) (chains : List (List ℕ)) : Type 0 where
   pub each : All (IsChain day) chains
   pub once : (t : ℕ) → t < length day.trips → times_in chains t ≡ 1

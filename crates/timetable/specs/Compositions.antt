@@ -1,4 +1,5 @@
--- The compositions of a day: those that fit the greatest platform of its stations, numbered in the order of the catalogue.
+-- The compositions of a day: those that fit the greatest platform of its stations, numbered in the order of the
+-- catalogue.
 use Rattle.std.specs.Prelude.{ℕ, List, [], ◌∷◌, max, slice_get, unwrap_or}
 use Rattle.compositions.specs.Catalogue.{catalogue_of}
 use Rattle.timetable.specs.declared.day.records.Station.{Station}

@@ -1,5 +1,6 @@
 -- What a plan costs. It depends on the types of its lists alone.
-use Rattle.std.specs.Prelude.{ℕ, ◌+◌, ◌-◌, ◌*◌, List, map, length, Bool, not, ◌&&◌, ◌==◌, if◌then◌else◌, option_map, unwrap_or, slice_get}
+use Rattle.std.specs.Prelude.{ℕ, ◌+◌, ◌-◌, ◌*◌, List, map, length, Bool, not, ◌&&◌, ◌==◌, if◌then◌else◌, option_map}
+use Rattle.std.specs.Prelude.{unwrap_or, slice_get}
 use Rattle.rail_csv.specs.declared.rows.End.{End}
 use Rattle.compositions.specs.Composition.{carriages_of, seats_of, first_seats_of}
 use Rattle.timetable.specs.declared.day.records.LinkKind.{LinkKind}
@@ -9,8 +10,8 @@ use Rattle.timetable.specs.Links.{list_of, turned}
 use Rattle.timetable.specs.Lists.{sum_below}
 use Rattle.timetable.specs.Turns.{kept_count}
 
--- the seats that are missing on a trip with this composition, of first and of second class: none of a class that has enough,
--- whatever the other class has to spare
+-- the seats that are missing on a trip with this composition, of first and of second class: none of a class that has
+-- enough, whatever the other class has to spare
 unfoldable pub missing_seats : Day → ℕ → List ℕ → ℕ
 missing_seats day t types = (first_demand_of day t - first_seats_of day.types types) + (demand_of day t - seats_of day.types types)
 
@@ -20,8 +21,8 @@ trip_cost day t types =
     day.weights.carriage * carriages_of day.types types * km_of day t
     + day.weights.shortage * missing_seats day t types * km_of day t
 
--- whether a place of the arriving or of the departing list of a turn is outside the kept places; the arriving list is the one
--- after a reversal
+-- whether a place of the arriving or of the departing list of a turn is outside the kept places; the arriving list is
+-- the one after a reversal
 abbrev pub is_shunted : End → End → List ℕ → List ℕ → Bool
 is_shunted uncouple couple arriving departing =
     not ((kept_count uncouple couple arriving departing == length arriving) && (kept_count uncouple couple arriving departing == length departing))

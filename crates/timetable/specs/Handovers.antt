@@ -21,8 +21,8 @@ pub record IsHandover (links : List Link) (handover : Handover) : Type 0 where
   pub at : slice_get links handover.link ≡ Some link
   pub second : second_of link.kind ≡ Some handover.second
 
--- These are the hand-overs of the day: each is that of its link, every join and every split has one, and they are numbered in
--- the order of the links, so that no link has two.
+-- These are the hand-overs of the day: each is that of its link, every join and every split has one, and they are
+-- numbered in the order of the links, so that no link has two.
 pub record AreHandovers (day : Day) (handovers : List Handover) : Type 0 where
   pub each : All (IsHandover day.links) handovers
   pub all : (l t : ℕ) (link : Link) → slice_get day.links l ≡ Some link → second_of link.kind ≡ Some t → Contains handovers (record { link = l; second = t })

@@ -41,8 +41,9 @@ IsLambda (Lambda s m k) = ⊤
 IsLambda (Mu s m) = ⊥
 IsLambda (Sigma h c) = ⊥
 
--- A place comes before another: those of departure minutes come first, by station, then by type, then by minute; then those of
--- stations and types, by station, then by type; then those of hand-overs and compositions, by hand-over, then by composition.
+-- A place comes before another: those of departure minutes come first, by station, then by type, then by minute; then
+-- those of stations and types, by station, then by type; then those of hand-overs and compositions, by hand-over, then
+-- by composition.
 abbrev pub Precedes : Place → Place → Type 0
 Precedes (Lambda s m k) (Lambda s' m' k') = (s < s') ⊎ ((s ≡ s') × ((m < m') ⊎ ((m ≡ m') × (k < k'))))
 Precedes (Lambda s m k) (Mu s' m') = ⊤
@@ -54,8 +55,8 @@ Precedes (Sigma h c) (Lambda s m k) = ⊥
 Precedes (Sigma h c) (Mu s m) = ⊥
 Precedes (Sigma h c) (Sigma h' c') = (h < h') ⊎ ((h ≡ h') × (c < c'))
 
--- Each place that is there has one index, and nothing else has an index. The indices are in order, and the first of them, so many,
--- are those of departure minutes.
+-- Each place that is there has one index, and nothing else has an index. The indices are in order, and the first of
+-- them, so many, are those of departure minutes.
 pub record HaveMultipliers (day : Day) (places : List Place) (first : ℕ) : Type 0 where
   pub each : (place : Place) → Contains places place → IsPlace day place
   pub all : (place : Place) → IsPlace day place → Contains places place

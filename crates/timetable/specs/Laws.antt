@@ -1,5 +1,5 @@
--- Which tables make a day and which rows make a plan, decided by tests in their order; that a day's chains are no others; what a
--- turn keeps, gives and takes; and what has a multiplier.
+-- Which tables make a day and which rows make a plan, decided by tests in their order; that a day's chains are no
+-- others; what a turn keeps, gives and takes; and what has a multiplier.
 use Rattle.std.specs.Prelude.{ℕ, ◌≡◌, ◌↔◌, List, Bool, Result, Ok, Err, IsOk, Some, length}
 use Rattle.rail_csv.specs.declared.rows.End.{End}
 use Rattle.rail_csv.specs.declared.rows.PlanRow.{PlanRow}
@@ -44,6 +44,7 @@ abbrev pub HaveParts : Type 0
 HaveParts = (type_of : ℕ → ℕ) (uncouple couple : End) (exchange : Bool) (arriving departing : List ℕ) (parts : Parts)
     → (turn_parts type_of uncouple couple exchange arriving departing ≡ Some parts) ↔ AreParts type_of uncouple couple exchange arriving departing parts
 
--- each place that is there has one multiplier, and nothing else has; they are in order, those of departure minutes first
+-- each place that is there has one multiplier, and nothing else has; they are in order, those of departure minutes
+-- first
 abbrev pub PlacesHaveMultipliers : Type 0
 PlacesHaveMultipliers = (day : Day) → HaveMultipliers day (places_of day) (length (lambdas_of day))

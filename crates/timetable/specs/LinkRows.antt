@@ -1,5 +1,7 @@
--- What the rows of the links make: the links, or the first test that fails. Each row is tested by what the rows before it gave.
-use Rattle.std.specs.Prelude.{ℕ, List, [], Bool, true, false, not, ◌&&◌, ◌||◌, ◌==◌, nat_le, ◌<◌, if◌then◌else◌, Option, Some, None, Result, Ok, Err}
+-- What the rows of the links make: the links, or the first test that fails. Each row is tested by what the rows before
+-- it gave.
+use Rattle.std.specs.Prelude.{ℕ, List, [], Bool, true, false, not, ◌&&◌, ◌||◌, ◌==◌, nat_le, ◌<◌, if◌then◌else◌, Option}
+use Rattle.std.specs.Prelude.{Some, None, Result, Ok, Err}
 use Rattle.std.specs.List.{list_any}
 use Rattle.rail_base.specs.Answers.{◌>>=◌}
 use Rattle.rail_csv.specs.declared.rows.End.{End}
@@ -13,7 +15,9 @@ use Rattle.timetable.specs.declared.day.records.LinkKind.{LinkKind}
 use Rattle.timetable.specs.declared.day.records.LinkKind.TheVariants.{Turn, Join, Split}
 use Rattle.timetable.specs.declared.day.records.Trip.{Trip}
 use Rattle.timetable.specs.declared.building.refusal.InstanceRefusal.{InstanceRefusal}
-use Rattle.timetable.specs.declared.building.refusal.InstanceRefusal.TheVariants.{UnknownName, TripUsedTwice, WrongStation, TooEarly, WrongLinkFields}
+use Rattle.timetable.specs.declared.building.refusal.InstanceRefusal.TheVariants.{UnknownName, TripUsedTwice}
+use Rattle.timetable.specs.declared.building.refusal.InstanceRefusal.TheVariants.{WrongStation, TooEarly}
+use Rattle.timetable.specs.declared.building.refusal.InstanceRefusal.TheVariants.{WrongLinkFields}
 use Rattle.timetable.specs.Links.{arriving_in, departing_in}
 use Rattle.timetable.specs.Lists.{of_entry, has}
 use Rattle.timetable.specs.Naming.{find_name, found_or}

@@ -1,6 +1,7 @@
--- The rule of a link, over lists of units with their types or over lists of types, and which of the units stay in the train.
--- A function tells the type of each entry of a list: of units, their types; of types, the types themselves.
-use Rattle.std.specs.Prelude.{ℕ, List, [], ◌∷◌, ◌++◌, length, reverse, Bool, ◌&&◌, ◌==◌, if◌then◌else◌, nat_le, Option, is_some, option_map, unwrap_or, option_and_then, slice_get, position}
+-- The rule of a link, over lists of units with their types or over lists of types, and which of the units stay in the
+-- train. A function tells the type of each entry of a list: of units, their types; of types, the types themselves.
+use Rattle.std.specs.Prelude.{ℕ, List, [], ◌∷◌, ◌++◌, length, reverse, Bool, ◌&&◌, ◌==◌, if◌then◌else◌, nat_le, Option}
+use Rattle.std.specs.Prelude.{is_some, option_map, unwrap_or, option_and_then, slice_get, position}
 use Rattle.rail_csv.specs.declared.rows.End.{End}
 use Rattle.timetable.specs.declared.day.records.Link.{Link}
 use Rattle.timetable.specs.declared.day.records.LinkKind.{LinkKind}
@@ -73,8 +74,8 @@ abbrev pub turn_of : (ℕ → ℕ) → End → End → Bool → List ℕ → Lis
 turn_of type_of uncouple couple exchange arriving departing =
     unwrap_or (turn_parts type_of uncouple couple exchange arriving departing) (record { kept = []; given = arriving; taken = departing })
 
--- what stays in the train from an arriving trip to a departing trip of a link: at a turn the units at the kept places, at a
--- join the whole arriving list, at a split the whole departing list
+-- what stays in the train from an arriving trip to a departing trip of a link: at a turn the units at the kept places,
+-- at a join the whole arriving list, at a split the whole departing list
 abbrev pub kept_by : (ℕ → ℕ) → LinkKind → Bool → List (List ℕ) → ℕ → ℕ → List ℕ
 kept_by type_of (Turn a b uncouple couple exchange) r lists from to =
     if (from == a) && (to == b) then (turn_of type_of uncouple couple exchange (turned r (list_of lists a)) (list_of lists b)).kept else []

@@ -1,5 +1,6 @@
 -- Words on lists of numbers: how often a number is there, and sums over numbers below a bound.
-use Rattle.std.specs.Prelude.{ℕ, zero, suc, ◌+◌, ◌≤◌, List, [], ◌∷◌, ◌++◌, Bool, ◌==◌, if◌then◌else◌, nat_le, option_map, unwrap_or, slice_get}
+use Rattle.std.specs.Prelude.{ℕ, zero, suc, ◌+◌, ◌≤◌, List, [], ◌∷◌, ◌++◌, Bool, ◌==◌, if◌then◌else◌, nat_le}
+use Rattle.std.specs.Prelude.{option_map, unwrap_or, slice_get}
 
 -- a number of the entry at a place, and a default where there is none
 abbrev pub of_entry : {X : Type 0} → (X → ℕ) → List X → ℕ → ℕ → ℕ

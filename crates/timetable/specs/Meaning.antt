@@ -1,5 +1,5 @@
--- What it means that a day is the day of tables, in the tables' own words: the rows in order, with what they name, and no
--- rule broken.
+-- What it means that a day is the day of tables, in the tables' own words: the rows in order, with what they name, and
+-- no rule broken.
 use Rattle.std.specs.Prelude.{ℕ, ◌≡◌, ◌≢◌, ◌<◌, ◌≤◌, List, map, length, Bool, true, false, Some, None, slice_get}
 use Rattle.std.specs.List.{AllZip, AllPairs}
 use Rattle.rail_base.specs.declared.limits.TheConstants.{MOST_UNITS, MOST_COMPOSITIONS}

@@ -13,8 +13,8 @@ pub record LeavesAt (day : Day) (s m : ℕ) : Type 0 where
   pub station : from_of day trip ≡ s
   pub minute : leaves day trip ≡ m
 
--- These are the departure minutes of the station: trips leave it at each of them, and at no other minute, and they are in rising
--- order, so that none is there twice.
+-- These are the departure minutes of the station: trips leave it at each of them, and at no other minute, and they are
+-- in rising order, so that none is there twice.
 pub record AreMinutes (day : Day) (s : ℕ) (minutes : List ℕ) : Type 0 where
   pub rise : AllPairs (λ a b. a < b) minutes
   pub left : (m : ℕ) → Contains minutes m → LeavesAt day s m

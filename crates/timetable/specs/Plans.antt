@@ -1,12 +1,14 @@
 -- The plan that rows make of a day, or the first row that is wrong.
-use Rattle.std.specs.Prelude.{ℕ, ◌≡◌, ◌≤◌, ◌<◌, List, [], ◌∷◌, ◌++◌, length, map, Bool, true, false, nat_lt, if◌then◌else◌, Option, Some, None, Result, Ok, Err, slice_get}
+use Rattle.std.specs.Prelude.{ℕ, ◌≡◌, ◌≤◌, ◌<◌, List, [], ◌∷◌, ◌++◌, length, map, Bool, true, false, nat_lt}
+use Rattle.std.specs.Prelude.{if◌then◌else◌, Option, Some, None, Result, Ok, Err, slice_get}
 use Rattle.std.specs.List.{All, Any, list_all}
 use Rattle.std.specs.Str.{bytes_eq}
 use Rattle.rail_base.specs.Answers.{◌>>=◌}
 use Rattle.rail_csv.specs.declared.rows.PlanRow.{PlanRow}
 use Rattle.timetable.specs.declared.day.records.Trip.{Trip}
 use Rattle.timetable.specs.declared.building.refusal.PlanRefusal.{PlanRefusal}
-use Rattle.timetable.specs.declared.building.refusal.PlanRefusal.TheVariants.{WrongTrip, UnknownUnit, MissingTrip, NoMemory}
+use Rattle.timetable.specs.declared.building.refusal.PlanRefusal.TheVariants.{WrongTrip, UnknownUnit, MissingTrip}
+use Rattle.timetable.specs.declared.building.refusal.PlanRefusal.TheVariants.{NoMemory}
 use Rattle.timetable.specs.Day.{Day, unit_count}
 use Rattle.timetable.specs.Rowwise.{row_after, accept_each}
 use Rattle.timetable.specs.Tests.{Test, ◌when◌, row_tests}
@@ -17,7 +19,8 @@ use Rattle.timetable.specs.Tests.{Test, ◌when◌, row_tests}
 abbrev pub NamesTrip : Day → ℕ → PlanRow → Type 0
 NamesTrip day t row = slice_get (map (λ trip. trip.name) day.trips) t ≡ Some row.trip
 
--- Rows that are right: in order, each names the trip of its number, and its units are units of the day. Trips may be left.
+-- Rows that are right: in order, each names the trip of its number, and its units are units of the day. Trips may be
+-- left.
 pub record AreRunRows (day : Day) (rows : List PlanRow) : Type 0 where
   pub trips : (t : ℕ) (row : PlanRow) → slice_get rows t ≡ Some row → NamesTrip day t row
   pub units : All (λ row. All (λ u. u < unit_count day) row.units) rows

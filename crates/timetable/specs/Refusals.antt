@@ -1,5 +1,6 @@
 -- The tests that tables undergo, in their order. A refusal is that of the first that fails.
-use Rattle.std.specs.Prelude.{ℕ, ◌≡◌, ◌≢◌, ◌+◌, ◌≤◌, ◌<◌, ◌⊎◌, List, [], ◌∷◌, ◌++◌, length, map, min, Bool, true, false, Option, Some, None, slice_get}
+use Rattle.std.specs.Prelude.{ℕ, ◌≡◌, ◌≢◌, ◌+◌, ◌≤◌, ◌<◌, ◌⊎◌, List, [], ◌∷◌, ◌++◌, length, map, min, Bool, true, false}
+use Rattle.std.specs.Prelude.{Option, Some, None, slice_get}
 use Rattle.std.specs.List.{All, Any}
 use Rattle.rail_base.specs.declared.limits.TheConstants.{MOST_UNITS, MOST_COMPOSITIONS}
 use Rattle.compositions.specs.Catalogue.{catalogue_of}
@@ -15,7 +16,12 @@ use Rattle.rail_csv.specs.declared.rows.TripRow.{TripRow}
 use Rattle.rail_csv.specs.declared.rows.TypeRow.{TypeRow}
 use Rattle.rail_csv.specs.declared.rows.Table.TheVariants as names
 use Rattle.timetable.specs.declared.building.refusal.InstanceRefusal.{InstanceRefusal}
-use Rattle.timetable.specs.declared.building.refusal.InstanceRefusal.TheVariants.{RepeatedName, UnknownName, RepeatedStock, ArrivalNotAfterDeparture, SameStation, TripUsedTwice, WrongStation, TooEarly, WrongLinkFields, NoComposition, TooManyUnits, TooManyCompositions}
+use Rattle.timetable.specs.declared.building.refusal.InstanceRefusal.TheVariants.{RepeatedName, UnknownName}
+use Rattle.timetable.specs.declared.building.refusal.InstanceRefusal.TheVariants.{RepeatedStock}
+use Rattle.timetable.specs.declared.building.refusal.InstanceRefusal.TheVariants.{ArrivalNotAfterDeparture, SameStation}
+use Rattle.timetable.specs.declared.building.refusal.InstanceRefusal.TheVariants.{TripUsedTwice, WrongStation, TooEarly}
+use Rattle.timetable.specs.declared.building.refusal.InstanceRefusal.TheVariants.{WrongLinkFields, NoComposition}
+use Rattle.timetable.specs.declared.building.refusal.InstanceRefusal.TheVariants.{TooManyUnits, TooManyCompositions}
 use Rattle.timetable.specs.declared.building.tables.Tables.{Tables}
 use Rattle.timetable.specs.Build.{type_in, station_in}
 use Rattle.timetable.specs.Compositions.{greatest_in}
@@ -95,8 +101,8 @@ trip_tests tables number before row =
 
 -- ---- links
 
--- the fields of a link row fit its kind: a turn has no second names, and two ends where units are exchanged; a join and a split
--- have one second name, no ends and no exchange
+-- the fields of a link row fit its kind: a turn has no second names, and two ends where units are exchanged; a join and
+-- a split have one second name, no ends and no exchange
 abbrev pub FitsKind : KindWord → Option (List ℕ) → Option (List ℕ) → End → End → Bool → Type 0
 FitsKind words.Turn None None uncouple couple false = Unit {0}
 FitsKind words.Turn None None uncouple couple true = (uncouple ≢ at.None) × (couple ≢ at.None)

@@ -1,7 +1,9 @@
 -- Which plans run.
-use Rattle.std.specs.Prelude.{ℕ, ◌+◌, ◌≡◌, ◌<◌, ◌≤◌, ◌⊎◌, List, [], ◌∷◌, length, true, ◌==◌, ◌&&◌, IsTrue, slice_get, Some, ⊤}
+use Rattle.std.specs.Prelude.{ℕ, ◌+◌, ◌≡◌, ◌<◌, ◌≤◌, ◌⊎◌, List, [], ◌∷◌, length, true, ◌==◌, ◌&&◌, IsTrue, slice_get}
+use Rattle.std.specs.Prelude.{Some, ⊤}
 use Rattle.timetable.specs.declared.day.records.Link.{Link}
-use Rattle.timetable.specs.Day.{Day, leaves, arrives, from_of, to_of, home_of, type_of, types_of, unit_count, reallocation_of, wanted_of}
+use Rattle.timetable.specs.Day.{Day, leaves, arrives, from_of, to_of, home_of, type_of, types_of, unit_count}
+use Rattle.timetable.specs.Day.{reallocation_of, wanted_of}
 use Rattle.timetable.specs.Admissible.{is_admissible}
 use Rattle.timetable.specs.Links.{list_of, link_holds, kept, given, taken}
 use Rattle.timetable.specs.Duties.{duty, last_place}
@@ -21,7 +23,8 @@ pub record MayRun (day : Day) (trip : ℕ) (units : List ℕ) : Type 0 where
   pub distinct : IsDistinct units
   pub admissible : is_admissible day trip (types_of day units) ≡ true
 
--- the unit goes through the yard from trip a to trip b: it is given by the one, taken by the other at the same station, and ready
+-- the unit goes through the yard from trip a to trip b: it is given by the one, taken by the other at the same station,
+-- and ready
 pub record GoesByYard (day : Day) (plan : List (List ℕ)) (u a b : ℕ) : Type 0 where
   pub given : IsTrue (has u (given day plan a))
   pub taken : IsTrue (has u (taken day plan b))

@@ -1,6 +1,9 @@
--- The rule of a turn: which units stay in the train. A turn has an end at which it may uncouple units, and one at which it may
--- couple units. Which places of the two lists stay is read off the types; that the same units stand there is the rule.
-use Rattle.std.specs.Prelude.{ℕ, zero, suc, ◌-◌, ◌≡◌, ◌≤◌, List, [], ◌++◌, length, take, drop, map, Bool, ◌&&◌, ◌||◌, ◌==◌, if◌then◌else◌, nat_le, Option, Some, None, option_and_then, unwrap_or, MatchOption, IsTrue}
+-- The rule of a turn: which units stay in the train. A turn has an end at which it may uncouple units, and one at which
+-- it may couple units. Which places of the two lists stay is read off the types; that the same units stand there is the
+-- rule.
+use Rattle.std.specs.Prelude.{ℕ, zero, suc, ◌-◌, ◌≡◌, ◌≤◌, List, [], ◌++◌, length, take, drop, map, Bool, ◌&&◌, ◌||◌}
+use Rattle.std.specs.Prelude.{◌==◌, if◌then◌else◌, nat_le, Option, Some, None, option_and_then, unwrap_or, MatchOption}
+use Rattle.std.specs.Prelude.{IsTrue}
 use Rattle.std.specs.Str.{bytes_eq}
 use Rattle.rail_base.specs.declared.limits.TheConstants.{MOST_EXCHANGED}
 use Rattle.rail_csv.specs.declared.rows.End.{End}
@@ -10,15 +13,16 @@ use Rattle.timetable.specs.declared.day.records.LinkKind.TheVariants.{Turn, Join
 
 -- ---- what a turn keeps
 
--- the part is what a list is without some of it at this end: the front of it where its rear may go, the rear of it where its
--- front may, and all of it where neither may
+-- the part is what a list is without some of it at this end: the front of it where its rear may go, the rear of it
+-- where its front may, and all of it where neither may
 abbrev pub IsWithout : End → List ℕ → List ℕ → Type 0
 IsWithout at.None whole part = part ≡ whole
 IsWithout at.Rear whole part = (gone : List ℕ) × (part ++ gone ≡ whole)
 IsWithout at.Front whole part = (gone : List ℕ) × (gone ++ part ≡ whole)
 
--- A list of types fits a turn from arriving to departing types: it is not empty, it is what is left of the arriving types after
--- the uncoupling end lost none or more, and the departing types are it with none or more at the coupling end.
+-- A list of types fits a turn from arriving to departing types: it is not empty, it is what is left of the arriving
+-- types after the uncoupling end lost none or more, and the departing types are it with none or more at the coupling
+-- end.
 pub record Fits (uncouple couple : End) (arriving departing types : List ℕ) : Type 0 where
   pub some : 1 ≤ length types
   pub uncoupled : IsWithout uncouple arriving types
@@ -106,9 +110,9 @@ Consists at.None whole stays goes = (whole ≡ stays) × (goes ≡ [])
 Consists at.Rear whole stays goes = whole ≡ stays ++ goes
 Consists at.Front whole stays goes = whole ≡ goes ++ stays
 
--- These are the parts of a turn: the units that stay are the same in both lists, and their types are the kept list; the arriving
--- list is they and the units that are given, the departing list is they and the units that are taken, each at the end of the
--- turn; and no more are given and taken than may be.
+-- These are the parts of a turn: the units that stay are the same in both lists, and their types are the kept list; the
+-- arriving list is they and the units that are given, the departing list is they and the units that are taken, each at
+-- the end of the turn; and no more are given and taken than may be.
 pub record AreParts (type_of : ℕ → ℕ) (uncouple couple : End) (exchange : Bool) (arriving departing : List ℕ) (parts : Parts) : Type 0 where
   pub types : IsKeptList uncouple couple (map type_of arriving) (map type_of departing) (map type_of parts.kept)
   pub arrive : Consists uncouple arriving parts.kept parts.given
@@ -117,15 +121,16 @@ pub record AreParts (type_of : ℕ → ℕ) (uncouple couple : End) (exchange : 
 
 -- ---- the same by numbers: the parts
 
--- the parts of a turn that keeps so many: none where other units stand at the kept places, or where too many are shunted
+-- the parts of a turn that keeps so many: none where other units stand at the kept places, or where too many are
+-- shunted
 abbrev pub parts_at : End → End → Bool → List ℕ → List ℕ → ℕ → Option Parts
 parts_at uncouple couple exchange arriving departing n =
     if same (staying uncouple arriving n) (staying couple departing n) && may_shunt exchange (length arriving - n) (length departing - n)
     then Some (record { kept = staying uncouple arriving n; given = beyond uncouple arriving n; taken = beyond couple departing n })
     else None
 
--- The parts of a turn, of units whose types are told by a function (of types, by the one that changes nothing), or nothing where
--- its rule is broken. The arriving list is the one after a reversal.
+-- The parts of a turn, of units whose types are told by a function (of types, by the one that changes nothing), or
+-- nothing where its rule is broken. The arriving list is the one after a reversal.
 unfoldable pub turn_parts : (ℕ → ℕ) → End → End → Bool → List ℕ → List ℕ → Option Parts
 turn_parts type_of uncouple couple exchange arriving departing =
     option_and_then (parts_at uncouple couple exchange arriving departing) (kept_length uncouple couple (map type_of arriving) (map type_of departing))

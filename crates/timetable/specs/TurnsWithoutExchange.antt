@@ -1,7 +1,8 @@
--- Turns without exchange, said apart: the departing list is the arriving one, or what is left of it after units were uncoupled at
--- the uncoupling end, or the arriving one with units coupled at the coupling end. Where no list is empty, the rule of a turn says
--- the same.
-use Rattle.std.specs.Prelude.{ℕ, ◌-◌, ◌≡◌, ◌≤◌, List, [], length, take, drop, Bool, false, ◌&&◌, if◌then◌else◌, nat_le, nat_lt, Option, Some, None}
+-- Turns without exchange, said apart: the departing list is the arriving one, or what is left of it after units were
+-- uncoupled at the uncoupling end, or the arriving one with units coupled at the coupling end. Where no list is empty,
+-- the rule of a turn says the same.
+use Rattle.std.specs.Prelude.{ℕ, ◌-◌, ◌≡◌, ◌≤◌, List, [], length, take, drop, Bool, false, ◌&&◌, if◌then◌else◌, nat_le}
+use Rattle.std.specs.Prelude.{nat_lt, Option, Some, None}
 use Rattle.rail_csv.specs.declared.rows.End.{End}
 use Rattle.rail_csv.specs.declared.rows.End.TheVariants as at
 use Rattle.timetable.specs.Turns.{same, Parts, turn_parts}

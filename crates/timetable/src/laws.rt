@@ -2,7 +2,8 @@
 //!
 //! Each law is the contract of a function that does nothing.
 
-ghost use Rattle.timetable.specs.Laws.{DaysAreMade, PlansAreMade, ChainsAreOne, KeepTheLongest, HaveParts, PlacesHaveMultipliers};
+ghost use Rattle.timetable.specs.Laws.{DaysAreMade, PlansAreMade, ChainsAreOne, KeepTheLongest, HaveParts};
+ghost use Rattle.timetable.specs.Laws.{PlacesHaveMultipliers};
 ghost use Rattle.timetable.specs.TurnsWithoutExchange.{IsPlainTurn};
 
 /// Tables make a day exactly where no test on them fails, and then it is the day of the tables; a refusal is that of

@@ -1,5 +1,6 @@
 -- The edges of a link: which compositions follow one another by it.
-use Rattle.std.specs.Prelude.{ℕ, ◌≡◌, ◌<◌, ◌⊎◌, ◌↔◌, Bool, IsTrue, List, length, Some, None, slice_get, AllPairs, Contains}
+use Rattle.std.specs.Prelude.{ℕ, ◌≡◌, ◌<◌, ◌⊎◌, ◌↔◌, Bool, IsTrue, List, length, Some, None, slice_get, AllPairs}
+use Rattle.std.specs.Prelude.{Contains}
 use Rattle.rail_csv.specs.declared.rows.End.{End}
 use Rattle.timetable.specs.declared.day.records.Link.{Link}
 use Rattle.timetable.specs.declared.day.records.LinkKind.{LinkKind}
@@ -19,16 +20,16 @@ pub record MayRun (day : Day) (t comp : ℕ) : Type 0 where
   pub admissible : IsTrue (is_admissible day t (composition_at day comp))
 
 -- A turn of trip a into trip b: the types that depart are those that arrive, or what is left of them after units were
--- uncoupled at the uncoupling end, or they with units coupled at the coupling end; or, with exchange, what is left of them with
--- units coupled. The shunt says which, and how many units.
+-- uncoupled at the uncoupling end, or they with units coupled at the coupling end; or, with exchange, what is left of
+-- them with units coupled. The shunt says which, and how many units.
 pub record IsTurnEdge (day : Day) (reversed : Bool) (a b : ℕ) (uncouple couple : End) (exchange : Bool) (edge : Edge) : Type 0 where
   pub arriving : MayRun day a edge.from
   pub departing : MayRun day b edge.to
   pub rule : turn_shunt uncouple couple exchange (turned reversed (composition_at day edge.from)) (composition_at day edge.to) ≡ Some edge.shunt
   pub no_part : edge.part ≡ None
 
--- A join of trips a1 and a2 into trip b: the types that depart are those of the first train and then those of the second,
--- whose composition is the part.
+-- A join of trips a1 and a2 into trip b: the types that depart are those of the first train and then those of the
+-- second, whose composition is the part.
 pub record IsJoinEdge (day : Day) (reversed : Bool) (a1 a2 b : ℕ) (edge : Edge) : Type 0 where
   pub part : ℕ
   pub is_part : edge.part ≡ Some part
@@ -38,8 +39,8 @@ pub record IsJoinEdge (day : Day) (reversed : Bool) (a1 a2 b : ℕ) (edge : Edge
   pub rule : IsTrue (join_holds (turned reversed (composition_at day edge.from)) (turned reversed (composition_at day part)) (composition_at day edge.to))
   pub kept : edge.shunt ≡ Keep
 
--- A split of trip a into trips b1 and b2: the types that arrive are those of the first train and then those of the second,
--- whose composition is the part.
+-- A split of trip a into trips b1 and b2: the types that arrive are those of the first train and then those of the
+-- second, whose composition is the part.
 pub record IsSplitEdge (day : Day) (reversed : Bool) (a b1 b2 : ℕ) (edge : Edge) : Type 0 where
   pub part : ℕ
   pub is_part : edge.part ≡ Some part

@@ -52,8 +52,8 @@ pub record MayRunAll (day : Day) (link : Link) (edge : Edge) : Type 0 where
   pub departing : MayRun day (leads_to link.kind) edge.to
   pub second : (t part : ℕ) → second_of link.kind ≡ Some t → edge.part ≡ Some part → MayRun day t part
 
--- An edge is allowed by a link, with some shunt, exactly where its compositions may run on the link's trips and the link's rule
--- holds of their types.
+-- An edge is allowed by a link, with some shunt, exactly where its compositions may run on the link's trips and the
+-- link's rule holds of their types.
 abbrev pub EdgesByRule : Type 0
 EdgesByRule = (day : Day) (l : ℕ) (link : Link) (edge : Edge) (lists : List (List ℕ)) → slice_get day.links l ≡ Some link → AreOn day lists link edge
     → (MayRunAll day link edge × IsTrue (link_holds itself link lists)) ↔ ((shunt : Shunt) × IsEdge day l (record edge { shunt = shunt }))

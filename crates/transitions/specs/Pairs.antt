@@ -1,5 +1,5 @@
--- How the edges of a link are found: from each departing composition those of which it may be made, and from each arriving one
--- those that may be left of it. At an exchange the arriving one is what stays with one or two units more.
+-- How the edges of a link are found: from each departing composition those of which it may be made, and from each
+-- arriving one those that may be left of it. At an exchange the arriving one is what stays with one or two units more.
 use Rattle.std.specs.Prelude.{ℕ, ◌≡◌, ◌<◌, ◌≤◌, ◌-◌, ◌⊎◌, ◌++◌, Bool, true, false, List, length, map, Some}
 use Rattle.std.specs.List.{All, Contains}
 use Rattle.rail_base.specs.declared.limits.TheConstants.{MOST_EXCHANGED}
@@ -29,8 +29,8 @@ pub record AreAdmitted (day : Day) (kind : LinkKind) (admitted : Admitted) : Typ
   pub departing : admitted.departing.items ≡ runs_on day (leads_to kind)
   pub second : (t : ℕ) → second_of kind ≡ Some t → admitted.second.items ≡ runs_on day t
 
--- the ends at which a link takes units from the arriving train and adds units to it: the second train of a split goes from the
--- rear, and that of a join comes to it
+-- the ends at which a link takes units from the arriving train and adds units to it: the second train of a split goes
+-- from the rear, and that of a join comes to it
 abbrev pub uncoupled_at : LinkKind → End
 uncoupled_at (Turn a b uncouple couple exchange) = uncouple
 uncoupled_at (Join a1 a2 b) = at.None
@@ -83,8 +83,8 @@ pub record IsJoined (day : Day) (reversed : Bool) (end : End) (units : List ℕ)
   pub below : part < few
   pub is : composition_at day pair.from ≡ turned reversed (joined_at end units (composition_at day part))
 
--- the arriving composition, after a reversal, is what the departing one was before up to so many of its units were coupled, with
--- one of the first so many compositions that is uncoupled
+-- the arriving composition, after a reversal, is what the departing one was before up to so many of its units were
+-- coupled, with one of the first so many compositions that is uncoupled
 pub record IsExchanged (day : Day) (reversed : Bool) (uncouple couple : End) (few most : ℕ) (pair : Pair) : Type 0 where
   pub coupled : ℕ
   pub some : 1 ≤ coupled

@@ -19,7 +19,8 @@ shunt_by_units given taken =
 abbrev pub shunt_of : Parts → Shunt
 shunt_of parts = shunt_by_units (length parts.given) (length parts.taken)
 
--- the shunt of a turn from an arriving list of types, after a reversal, to a departing one; none where the rule is broken
+-- the shunt of a turn from an arriving list of types, after a reversal, to a departing one; none where the rule is
+-- broken
 unfoldable pub turn_shunt : End → End → Bool → List ℕ → List ℕ → Option Shunt
 turn_shunt uncouple couple exchange arriving departing = option_map shunt_of (turn_parts itself uncouple couple exchange arriving departing)
 

@@ -71,8 +71,8 @@ pub(crate) fn may_run(runs: &[bool], comp: CompNo) -> bool
     runs[comp.place()]
 }
 
-/// The edge of a link between the compositions of a pair, which are in the catalogue, or nothing where the link does not allow
-/// it.
+/// The edge of a link between the compositions of a pair, which are in the catalogue, or nothing where the link does
+/// not allow it.
 pub(crate) fn edge_between(
     instance: &Instance,
     link: &Link,
@@ -113,8 +113,8 @@ fn turn_edge(instance: &Instance, link: &Link, from: CompNo, to: CompNo) -> Opti
     })
 }
 
-/// The edge of a join from the first train's composition to the joined one, which may run on their trips. The part is the
-/// composition of the second train.
+/// The edge of a join from the first train's composition to the joined one, which may run on their trips. The part is
+/// the composition of the second train.
 fn join_edge(
     instance: &Instance,
     reversed: bool,
@@ -134,8 +134,8 @@ fn join_edge(
     Some(kept(from, to, part))
 }
 
-/// The edge of a split from the arriving composition to the first train's, which may run on their trips. The part is the
-/// composition of the second train.
+/// The edge of a split from the arriving composition to the first train's, which may run on their trips. The part is
+/// the composition of the second train.
 fn split_edge(
     instance: &Instance,
     reversed: bool,

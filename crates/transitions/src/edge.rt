@@ -11,8 +11,8 @@ pub enum Shunt {
     Uncouple { units: u8 },
     /// So many units are coupled, which were taken from the yard.
     Couple { units: u8 },
-    /// So many units are uncoupled and given to the yard, and so many are coupled, which were taken from it. The end may be one
-    /// and the same.
+    /// So many units are uncoupled and given to the yard, and so many are coupled, which were taken from it. The end
+    /// may be one and the same.
     Exchange { uncouple: u8, couple: u8 },
 }
 
@@ -25,8 +25,8 @@ pub struct Edge {
     pub to: CompNo,
     /// What a turn does, and `Keep` at a join or a split.
     pub shunt: Shunt,
-    /// The composition of the second arriving trip of a join or of the second departing trip of a split, in that trip's own
-    /// driving direction; nothing at a turn.
+    /// The composition of the second arriving trip of a join or of the second departing trip of a split, in that trip's
+    /// own driving direction; nothing at a turn.
     pub part: Option<CompNo>,
 }
 

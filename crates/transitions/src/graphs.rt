@@ -1,6 +1,7 @@
 //! The edges of all links of a day.
 
-ghost use Rattle.std.specs.Prelude.{ℕ, List, ◌≡◌, ◌<◌, ◌≤◌, ◌+◌, ◌↔◌, Some, None, length, slice_get, option_map, IfOk, All, AllPairs, Contains};
+ghost use Rattle.std.specs.Prelude.{ℕ, List, ◌≡◌, ◌<◌, ◌≤◌, ◌+◌, ◌↔◌, Some, None, length, slice_get, option_map, IfOk};
+ghost use Rattle.std.specs.Prelude.{All, AllPairs, Contains};
 ghost use Rattle.transitions.specs.Pairs.{AreAdmitted, IsKnown, HaveEdges, IsBeforePair};
 ghost use Rattle.transitions.specs.declared.edge.Edge.{Edge};
 ghost use Rattle.transitions.specs.declared.edge.Shunt.{Shunt};
@@ -50,10 +51,10 @@ impl Model for Graphs {
 }
 
 impl Graphs {
-    /// The edges of all links of a day. For each link it looks at pairs of which one composition is the other or some of its
-    /// units, one or two for each unit of each composition, and not at all pairs. Where a turn may exchange units it also looks at
-    /// each composition that is some of another's units with one or two units more. An edge takes 20 bytes, and the list of a
-    /// link gives back the room that it does not need. The error is want of memory.
+    /// The edges of all links of a day. For each link it looks at pairs of which one composition is the other or some
+    /// of its units, one or two for each unit of each composition, and not at all pairs. Where a turn may exchange
+    /// units it also looks at each composition that is some of another's units with one or two units more. An edge
+    /// takes 20 bytes, and the list of a link gives back the room that it does not need. The error is want of memory.
     pub fn build(alloc: Global, instance: &Instance) -> Result<Graphs, NoMemory>
         ensures { IfOk result (λ graphs. AreGraphs instance.now graphs) }
     {
@@ -65,8 +66,8 @@ impl Graphs {
         Ok(Graphs { lists })
     }
 
-    /// The edges that a link allows, by the composition that they go from and then by the one that they go to, each once. The
-    /// link is below the number of links of the day.
+    /// The edges that a link allows, by the composition that they go from and then by the one that they go to, each
+    /// once. The link is below the number of links of the day.
     pub fn edges(&self, link: LinkNo) -> &[Edge]
         requires { link < length self.now }
         ensures value { slice_get self.now link ≡ Some result.now }
@@ -75,8 +76,8 @@ impl Graphs {
         self.lists[link.place()].items()
     }
 
-    /// The edge of a link from one composition to another, or nothing where there is no such edge, by a binary search. The link
-    /// is below the number of links of the day.
+    /// The edge of a link from one composition to another, or nothing where there is no such edge, by a binary search.
+    /// The link is below the number of links of the day.
     pub fn find(&self, link: LinkNo, from: CompNo, to: CompNo) -> Option<Edge>
         requires { link < length self.now }
         ensures { (edge : Edge) → (result ≡ Some edge) ↔ IsFound self.now link from to edge }
@@ -84,8 +85,8 @@ impl Graphs {
         find_edge(self.edges(link), from, to)
     }
 
-    /// The shunt of the edge of a link from one composition to another, or nothing where there is no such edge. The link is
-    /// below the number of links of the day.
+    /// The shunt of the edge of a link from one composition to another, or nothing where there is no such edge. The
+    /// link is below the number of links of the day.
     pub fn allowed(&self, link: LinkNo, from: CompNo, to: CompNo) -> Option<Shunt>
         requires { link < length self.now }
         ensures { (shunt : Shunt) → (result ≡ Some shunt) ↔ IsAllowed self.now link from to shunt }

@@ -4,8 +4,8 @@
 
 ghost use Rattle.transitions.specs.Laws.{TypesFollow, EdgesFound, EdgesByRule};
 
-/// At each link the types of a plan that runs follow an edge that the link allows, with the shunt that the plan does there
-/// and the second train's composition as its part.
+/// At each link the types of a plan that runs follow an edge that the link allows, with the shunt that the plan does
+/// there and the second train's composition as its part.
 pub fn types_follow_edges()
     ensures law { TypesFollow }
 {}
@@ -15,7 +15,8 @@ pub fn edges_are_found()
     ensures law { EdgesFound }
 {}
 
-/// A link allows an edge between compositions exactly where they may run on its trips and its rule holds of their types.
+/// A link allows an edge between compositions exactly where they may run on its trips and its rule holds of their
+/// types.
 pub fn edges_are_by_rule()
     ensures law { EdgesByRule }
 {}

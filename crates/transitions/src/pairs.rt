@@ -1,10 +1,13 @@
 //! The pairs of compositions between which a link may have an edge.
 
-ghost use Rattle.std.specs.Prelude.{ℕ, ◌≡◌, ◌<◌, ◌≤◌, ◌↔◌, List, [], Some, All, AllPairs, length, IfOk, OnOk, IfSome, IsNone, Contains};
+ghost use Rattle.std.specs.Prelude.{ℕ, ◌≡◌, ◌<◌, ◌≤◌, ◌↔◌, List, [], Some, All, AllPairs, length, IfOk, OnOk, IfSome};
+ghost use Rattle.std.specs.Prelude.{IsNone, Contains};
 ghost use Rattle.timetable.specs.Compositions.{compositions_of, composition_at};
 ghost use Rattle.timetable.specs.Links.{turned};
 ghost use Rattle.timetable.specs.Turns.{staying};
-ghost use Rattle.transitions.specs.Pairs.{AreAdmitted, uncoupled_at, coupled_at, may_exchange, joined_at, AreAmongFirst, IsKnown, IsFront, IsLeft, IsJoined, IsExchanged, IsMade, Grown, HaveEdges, IsBeforePair};
+ghost use Rattle.transitions.specs.Pairs.{AreAdmitted, uncoupled_at, coupled_at, may_exchange, joined_at};
+ghost use Rattle.transitions.specs.Pairs.{AreAmongFirst, IsKnown, IsFront, IsLeft, IsJoined, IsExchanged, IsMade};
+ghost use Rattle.transitions.specs.Pairs.{Grown, HaveEdges, IsBeforePair};
 ghost use Rattle.transitions.specs.declared.pairs.Pair.{Pair};
 
 use crate::allowed::{Admitted, may_run, number_of};
@@ -113,8 +116,8 @@ fn may_exchange(kind: LinkKind) -> bool
     }
 }
 
-/// How many compositions stand in the catalogue before the first of more units than an exchange may uncouple: all of no more
-/// units are among them.
+/// How many compositions stand in the catalogue before the first of more units than an exchange may uncouple: all of no
+/// more units are among them.
 fn uncoupled_parts(instance: &Instance) -> u32
     ensures { AreAmongFirst instance.now result }
 {
@@ -139,8 +142,8 @@ fn joined_at(end: End, units: &Composition, others: &Composition) -> Option<Comp
     }
 }
 
-/// The number of the composition that, before a reversal, is units with others at this end, or nothing where it is not in the
-/// catalogue.
+/// The number of the composition that, before a reversal, is units with others at this end, or nothing where it is not
+/// in the catalogue.
 fn number_of_joined(
     instance: &Instance,
     reversed: bool,
@@ -154,8 +157,8 @@ fn number_of_joined(
     number_of(instance, &turned(reversed, &joined))
 }
 
-/// Adds the pairs of a departing composition with each arriving one that, after a reversal, is these units with one of the first
-/// so many compositions at an end.
+/// Adds the pairs of a departing composition with each arriving one that, after a reversal, is these units with one of
+/// the first so many compositions at an end.
 fn add_joined(
     pairs: &mut Vec<Pair>,
     instance: &Instance,
@@ -179,8 +182,8 @@ fn add_joined(
     Ok(())
 }
 
-/// Adds the pairs of a departing composition with each arriving one from which an exchange uncouples one of the first so many
-/// compositions.
+/// Adds the pairs of a departing composition with each arriving one from which an exchange uncouples one of the first
+/// so many compositions.
 fn add_exchanged(
     pairs: &mut Vec<Pair>,
     instance: &Instance,
@@ -224,9 +227,9 @@ fn add_made(
     Ok(())
 }
 
-/// The pairs of compositions, each once and in order, between which the link may have an edge. It looks for each of the units of each
-/// composition once or twice in the catalogue, and where the link has exchange for what stays of each composition with each list
-/// of one or two units.
+/// The pairs of compositions, each once and in order, between which the link may have an edge. It looks for each of the
+/// units of each composition once or twice in the catalogue, and where the link has exchange for what stays of each
+/// composition with each list of one or two units.
 pub(crate) fn pairs_of(
     alloc: Global,
     instance: &Instance,

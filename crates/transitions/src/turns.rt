@@ -11,8 +11,8 @@ use rail_base::TypeNo;
 use rail_base::limits::MOST_COMPOSITION;
 use timetable::{LinkKind, may_shunt};
 
-/// The shunt of a turn between two lists of at most six types each, or nothing where the rule of the turn is broken, and at a
-/// join or a split. The arriving list is the one after a reversal.
+/// The shunt of a turn between two lists of at most six types each, or nothing where the rule of the turn is broken,
+/// and at a join or a split. The arriving list is the one after a reversal.
 pub(crate) fn turn_shunt(kind: LinkKind, arriving: &[TypeNo], departing: &[TypeNo]) -> Option<Shunt>
     requires arriving { length arriving.now ≤ MOST_COMPOSITION }
     requires departing { length departing.now ≤ MOST_COMPOSITION }
@@ -53,7 +53,8 @@ pub(crate) fn turned(reversed: bool, composition: &Composition) -> Composition
     }
 }
 
-/// What stands behind a front, or nothing where a whole of at most six types does not begin with the front or ends with it.
+/// What stands behind a front, or nothing where a whole of at most six types does not begin with the front or ends with
+/// it.
 pub(crate) fn rest_after(front: &[TypeNo], whole: &[TypeNo]) -> Option<Composition>
     requires { length whole.now ≤ MOST_COMPOSITION }
     ensures { (rest : List ℕ) → (result ≡ Some rest) ↔ ((front.now ++ rest ≡ whole.now) × (1 ≤ length rest)) }

@@ -4,7 +4,8 @@ ghost use Rattle.std.specs.Prelude.{◌≡◌, ◌<◌, ◌≤◌, ◌+◌, ◌+
 ghost use Rattle.std.specs.Fmt.{decimal};
 ghost use Rattle.rail_base.specs.Names.{is_name};
 ghost use Rattle.trial_day.specs.Draws.{next_state, number_from};
-ghost use Rattle.trial_day.specs.Trial.{back_name, back_row, begin_minute, out_name, out_row, trial_links, trial_stations, trial_stock, trial_trips, trial_types, turn_row};
+ghost use Rattle.trial_day.specs.Trial.{back_name, back_row, begin_minute, out_name, out_row, trial_links};
+ghost use Rattle.trial_day.specs.Trial.{trial_stations, trial_stock, trial_trips, trial_types, turn_row};
 
 use crate::draws::Draws;
 use rail_base::{Minute, Name, NoMemory};

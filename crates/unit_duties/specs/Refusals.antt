@@ -7,7 +7,8 @@ use Rattle.unit_duties.specs.declared.refusal.DutyRefusal.{DutyRefusal}
 use Rattle.unit_duties.specs.declared.refusal.DutyRefusal.TheVariants.{LinkBroken, Stock, NoMemory}
 use Rattle.unit_duties.specs.Broken.{EachHolds, IsFirstBroken}
 
--- the first link that is broken; or, where none is, the first fault of the yards; want of memory comes only where none is
+-- the first link that is broken; or, where none is, the first fault of the yards; want of memory comes only where none
+-- is
 abbrev pub IsRefusal : Day → List ℕ → DutyRefusal → Type 0
 IsRefusal day picks (LinkBroken l) = IsFirstBroken day (picked day picks) l
 IsRefusal day picks (Stock fault) = EachHolds day (picked day picks) × IsFault day (picked day picks) fault

@@ -15,7 +15,8 @@ Waits yards s m ready u = Contains yards.keys (record { station = s; unit_type =
 abbrev pub NoneReady : BTreeSet Waiting → ℕ → ℕ → ℕ → Type 0
 NoneReady yards s m minute = (ready u : ℕ) → Waits yards s m ready u → minute < ready
 
--- of those of the type in the yard it was ready first, and of these it has the smallest number; and it is ready at the minute
+-- of those of the type in the yard it was ready first, and of these it has the smallest number; and it is ready at the
+-- minute
 pub record IsFirstReady (yards : BTreeSet Waiting) (s m minute : ℕ) (found : Waiting) : Type 0 where
   pub there : Waits yards s m found.ready found.unit
   pub station : found.station ≡ s

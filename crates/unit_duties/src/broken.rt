@@ -29,8 +29,8 @@ pub(crate) fn first_broken(instance: &Instance, graphs: &Graphs, picks: &Picks) 
     None
 }
 
-/// Whether the rule of a link holds of the types of the picked compositions: an edge goes from that of the first arriving trip
-/// to that of the first departing one, and its part is that of the second train.
+/// Whether the rule of a link holds of the types of the picked compositions: an edge goes from that of the first
+/// arriving trip to that of the first departing one, and its part is that of the second train.
 fn holds(instance: &Instance, graphs: &Graphs, picks: &Picks, number: LinkNo) -> bool
     requires graphs { AreGraphs instance.now graphs.now }
     requires picks { ArePicks instance.now picks.now }

@@ -14,8 +14,8 @@ use rail_base::{NoMemory, TripNo, UnitNo};
 use std::alloc::Global;
 use timetable::{Instance, NamedPlan};
 
-/// The duties of a plan, which is one of this day: for each unit the trips whose lists have it, by departure minute and then by
-/// trip number, with its place in each. The plan need not run. The error is want of memory.
+/// The duties of a plan, which is one of this day: for each unit the trips whose lists have it, by departure minute and
+/// then by trip number, with its place in each. The plan need not run. The error is want of memory.
 pub fn duties(alloc: Global, instance: &Instance, plan: &NamedPlan) -> Result<Duties, NoMemory>
     requires { IsPlan instance.now plan.now }
     ensures list { IfOk result (λ duties. duties ≡ duties_of instance.now plan.now) }

@@ -5,15 +5,15 @@
 ghost use Rattle.inventory.specs.NamingLaws.{NamedPlansRun};
 ghost use Rattle.inventory.specs.SolutionLaws.{FaultsDecide};
 
-/// Picks are those of a plan that runs exactly where each composition may run on its trip, the rule of each link holds of their
-/// types, and the yards have no first fault.
+/// Picks are those of a plan that runs exactly where each composition may run on its trip, the rule of each link holds
+/// of their types, and the yards have no first fault.
 pub fn faults_decide()
     ensures law { FaultsDecide }
 {}
 
-/// Where compositions may run on their trips, the rule of each link holds of their types, no yard is ever short of a unit, every
-/// end count is the one that is wanted, and the trips that leave before a minute are named as the rules demand it, naming the
-/// others by the rule of `name_units` gives a plan that runs, and leaves those as they are.
+/// Where compositions may run on their trips, the rule of each link holds of their types, no yard is ever short of a
+/// unit, every end count is the one that is wanted, and the trips that leave before a minute are named as the rules
+/// demand it, naming the others by the rule of `name_units` gives a plan that runs, and leaves those as they are.
 pub fn named_plans_run()
     ensures law { NamedPlansRun }
 {}

@@ -22,9 +22,9 @@ use std::alloc::Global;
 use std::collections::BTreeSet;
 use timetable::{Instance, NamedPlan, Picks};
 
-/// The plan of units that are named by the rule. Trips are named by departure minute and then by trip number. Units that stay in a
-/// train keep their places; each other place, front to rear, gets the unit of its type that was ready earliest in the yard of the
-/// station, and of those the one with the smallest number.
+/// The plan of units that are named by the rule. Trips are named by departure minute and then by trip number. Units
+/// that stay in a train keep their places; each other place, front to rear, gets the unit of its type that was ready
+/// earliest in the yard of the station, and of those the one with the smallest number.
 pub(crate) fn named_plan(
     alloc: Global,
     instance: &Instance,
@@ -58,8 +58,8 @@ fn empty_lists(alloc: Global, trips: u32) -> Result<Vec<UnitList>, NoMemory>
     Ok(lists)
 }
 
-/// Takes the units for the places of a trip that are filled from the yard, front to rear. Where one is ready for each place, they
-/// are the units that the rule names.
+/// Takes the units for the places of a trip that are filled from the yard, front to rear. Where one is ready for each
+/// place, they are the units that the rule names.
 fn fetch(
     instance: &Instance,
     picks: &Picks,

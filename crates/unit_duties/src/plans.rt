@@ -16,13 +16,14 @@ use std::alloc::Global;
 use timetable::{Instance, NamedPlan, Picks};
 use transitions::Graphs;
 
-/// The plan of named units whose trips have the picked compositions. Trips are named by departure minute and then by trip number.
-/// Units that stay in a train keep their places; each other place, front to rear, gets the unit of its type that was ready earliest
-/// in the yard of the station, and of those the one with the smallest number. A unit at its home is ready from the first minute on.
-/// The graphs are those of the instance, and each picked composition may run on its trip.
+/// The plan of named units whose trips have the picked compositions. Trips are named by departure minute and then by
+/// trip number. Units that stay in a train keep their places; each other place, front to rear, gets the unit of its
+/// type that was ready earliest in the yard of the station, and of those the one with the smallest number. A unit at
+/// its home is ready from the first minute on. The graphs are those of the instance, and each picked composition may
+/// run on its trip.
 ///
-/// The picks are refused exactly where no plan that runs has them: by the first link whose rule the types break; or, where no link
-/// is broken, by the first fault of the yards. Want of memory is a refusal too.
+/// The picks are refused exactly where no plan that runs has them: by the first link whose rule the types break; or,
+/// where no link is broken, by the first fault of the yards. Want of memory is a refusal too.
 pub fn name_units(
     alloc: Global,
     instance: &Instance,

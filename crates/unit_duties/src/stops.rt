@@ -11,7 +11,8 @@ use std::marker::Model;
 pub struct Stop {
     /// The trip.
     pub trip: TripNo,
-    /// The place of the unit in the trip's list, counted from 0 at the front: the first one where the list has it twice.
+    /// The place of the unit in the trip's list, counted from 0 at the front: the first one where the list has it
+    /// twice.
     pub position: u32,
 }
 
@@ -46,8 +47,8 @@ impl Model for Duties {
 }
 
 impl Duties {
-    /// The trips of a unit by departure minute and then by trip number, with its place in each. The unit is below the number of
-    /// units of the day.
+    /// The trips of a unit by departure minute and then by trip number, with its place in each. The unit is below the
+    /// number of units of the day.
     pub fn stops(&self, unit: UnitNo) -> &[Stop]
         requires { unit < length self.now }
         ensures { slice_get self.now unit ≡ Some result.now }

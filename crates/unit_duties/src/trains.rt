@@ -1,4 +1,5 @@
-//! What becomes of the units of a train at the links of its trip, and what it takes from the yard, read off the types of picks.
+//! What becomes of the units of a train at the links of its trip, and what it takes from the yard, read off the types
+//! of picks.
 
 ghost use Rattle.std.specs.Prelude.{ℕ, ◌≡◌, ◌<◌, ◌≤◌, ◌∷◌, length, take, drop, option_to_list, IfOk, IfSome};
 ghost use Rattle.inventory.specs.Places.{going_on, going_by, given_places, put_together, coming};

@@ -9,8 +9,8 @@ use std::alloc::Global;
 use std::collections::BTreeSet;
 use timetable::Instance;
 
-/// A unit in the yard of a station. Units are in order by station, then by type, then by the minute from which they are ready,
-/// and then by number.
+/// A unit in the yard of a station. Units are in order by station, then by type, then by the minute from which they are
+/// ready, and then by number.
 #[derive(Clone, Copy, Debug, PartialEq, Eq, PartialOrd, Ord)]
 pub(crate) struct Waiting {
     /// The station.
@@ -23,7 +23,8 @@ pub(crate) struct Waiting {
     pub(crate) unit: UnitNo,
 }
 
-/// The units at their homes, ready from the first minute on. No two stock rows of the day are of one station and one type.
+/// The units at their homes, ready from the first minute on. No two stock rows of the day are of one station and one
+/// type.
 pub(crate) fn units_at_home(
     alloc: Global,
     instance: &Instance,
@@ -44,8 +45,8 @@ pub(crate) fn units_at_home(
     Ok(yards)
 }
 
-/// Takes a unit of a type from the yard of a station, where one is ready at a minute: the one that was ready earliest, and of
-/// those the one with the smallest number.
+/// Takes a unit of a type from the yard of a station, where one is ready at a minute: the one that was ready earliest,
+/// and of those the one with the smallest number.
 pub(crate) fn take(
     yards: &mut BTreeSet<Waiting>,
     station: StationNo,

@@ -1,4 +1,5 @@
-//! Whole files in and documents out: over memory with calls that fail on the way, over the disk and the standard output.
+//! Whole files in and documents out: over memory with calls that fail on the way, over the disk and the standard
+//! output.
 
 use rail_base::NoMemory;
 use rail_base::name::is_name;

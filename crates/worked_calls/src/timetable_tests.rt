@@ -1,7 +1,9 @@
-//! Days, plans and picks: days of two stations, read from their tables, and days of four trips with links; and what is refused.
+//! Days, plans and picks: days of two stations, read from their tables, and days of four trips with links; and what is
+//! refused.
 
 ghost use Rattle.std.specs.Prelude.{◌≡◌, ◌≤◌, length, IfOk};
-ghost use Rattle.rail_csv.specs.Rows.{AreTypeRows, AreStationRows, AreStockRows, AreTripRows, AreLinkRows, IsWeightsRow};
+ghost use Rattle.rail_csv.specs.Rows.{AreTypeRows, AreStationRows, AreStockRows, AreTripRows, AreLinkRows};
+ghost use Rattle.rail_csv.specs.Rows.{IsWeightsRow};
 
 use rail_base::limits::MOST_TABLE_BYTES;
 use rail_base::{CompNo, LinkNo, Name, StationNo, TripNo, TypeNo, UnitNo};
@@ -184,7 +186,8 @@ fn compositions_of_a_day(rt: HostRuntime) -> Result<(), Fail> {
     panic!(rt; "two compositions and two trips")
 }
 
-/// What a day of four trips with these links is refused for: T1 and T2 arrive, T3 leaves as T2 arrives, and T4 before it.
+/// What a day of four trips with these links is refused for: T1 and T2 arrive, T3 leaves as T2 arrives, and T4 before
+/// it.
 fn refused_with(rt: &HostRuntime, link_text: &[u8]) -> Result<Option<InstanceRefusal>, Fail>
     requires { length link_text.now ≤ MOST_TABLE_BYTES }
 {

@@ -1,4 +1,5 @@
-//! Checking an answer: worked documents that are valid, each thing that can be wrong with one, and files that are refused.
+//! Checking an answer: worked documents that are valid, each thing that can be wrong with one, and files that are
+//! refused.
 
 use crate::day::{Day, base_day, both_stay, folder_with_bytes, one_stays, ring, run, words_of};
 use rail_base::NoMemory;

@@ -223,7 +223,8 @@ fn exchange_at_both_ends(rt: HostRuntime) -> Result<(), Fail> {
     panic!(rt; "one link")
 }
 
-// AAB turns round into BAA, and B stays as BB leaves: two units for one. AAAB, composition 15, would give three for one.
+// AAB turns round into BAA, and B stays as BB leaves: two units for one. AAAB, composition 15, would give three for
+// one.
 #[test]
 fn units_of_an_exchange(rt: HostRuntime) -> Result<(), Fail> {
     let day = day_of(&rt, TWO_TYPES, LONGEST_STATIONS, EXCHANGE)?;
@@ -267,8 +268,8 @@ fn part_of_a_join(rt: HostRuntime) -> Result<(), Fail> {
     panic!(rt; "one link")
 }
 
-// The first train arrives as AB and turns round into BA: with A behind it the train is BAA, composition 10, and not ABA, which
-// is composition 8.
+// The first train arrives as AB and turns round into BA: with A behind it the train is BAA, composition 10, and not
+// ABA, which is composition 8.
 #[test]
 fn reversed_join(rt: HostRuntime) -> Result<(), Fail> {
     let day = day_of(&rt, TWO_TYPES, LONG_STATIONS, JOIN)?;

@@ -82,8 +82,8 @@ fn step(day: &mut Day<'_>, event: DayEvent) -> Result<(), StepFault>
     day.step(event)
 }
 
-/// Steps a day of four trips, of which the last two leave in the minute in which the first two arrive. The four events of
-/// that minute come in this order. It answers what the day cost.
+/// Steps a day of four trips, of which the last two leave in the minute in which the first two arrive. The four events
+/// of that minute come in this order. It answers what the day cost.
 fn step_all(
     day: &mut Day<'_>,
     first_in: TripNo,

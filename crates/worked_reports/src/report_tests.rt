@@ -26,8 +26,8 @@ fn day_of_two_trips(alloc: Global) -> Result<Instance, Fail> {
     )
 }
 
-/// Two units leave a station whose name has a comma, one of them goes on alone and back, and both come home together. A third
-/// unit, of another type, stays.
+/// Two units leave a station whose name has a comma, one of them goes on alone and back, and both come home together. A
+/// third unit, of another type, stays.
 fn day_of_four_trips(alloc: Global) -> Result<Instance, Fail> {
     day_of(
         alloc,

@@ -19,7 +19,8 @@ pub(crate) enum Sample {
     TwoAlike,
     /// The same, where with A alone on T1 no plan can cost less than that with AA on both, which is the cheapest.
     NoCheaper,
-    /// Two trips without a link, where two units leave X, one of them is wanted at Y, and leaves on both sides are as low.
+    /// Two trips without a link, where two units leave X, one of them is wanted at Y, and leaves on both sides are as
+    /// low.
     Level,
     /// The same, where both units are wanted at X at the end.
     LevelBack,
@@ -60,8 +61,8 @@ pub(crate) fn day(alloc: Global, sample: Sample) -> Result<Instance, Fail> {
     }
 }
 
-/// A day of one turn, on which (A, A) costs 1060, (AA, A) costs 190 and (AA, AA) costs 120. The indices are those of the
-/// departure minute of X, of that of Y, of the end of X and of the end of Y, as they are on the other days.
+/// A day of one turn, on which (A, A) costs 1060, (AA, A) costs 190 and (AA, AA) costs 120. The indices are those of
+/// the departure minute of X, of that of Y, of the end of X and of the end of Y, as they are on the other days.
 fn one_left(alloc: Global) -> Result<Instance, Fail> {
     day_of(
         alloc,

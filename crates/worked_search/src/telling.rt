@@ -1,5 +1,5 @@
-//! What is shown to advisors and what is found, as texts: what is found is the conclusion, the nodes of the tree, and how
-//! often each advisor was asked, each after a semicolon.
+//! What is shown to advisors and what is found, as texts: what is found is the conclusion, the nodes of the tree, and
+//! how often each advisor was asked, each after a semicolon.
 
 use advisors::{Advisor, Look};
 use branch_tree::{Cut, Multipliers, Node, Slacks, Tree};

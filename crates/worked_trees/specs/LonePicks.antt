@@ -11,8 +11,8 @@ lone = 0 ∷ 0 ∷ []
 abbrev pub is_short : List (List ℕ) → Bool
 is_short catalogue = nat_lt (length catalogue) 2
 
--- What the problem means: the picks of composition 0 cost 7, and there is one multiplier index, which may not be negative. Its
--- slack is 1 where the compositions are too few, and 0 else, when the picks are a solution.
+-- What the problem means: the picks of composition 0 cost 7, and there is one multiplier index, which may not be
+-- negative. Its slack is 1 where the compositions are too few, and 0 else, when the picks are a solution.
 abbrev pub lone_picks : List (List ℕ) → Meanings
 lone_picks catalogue = record {
   trips = 2;

@@ -7,7 +7,8 @@ use std::alloc::Global;
 use std::test::Fail;
 use timetable::Picks;
 
-/// A look in a round at a node whose bound with no multipliers is `first`. A multiplier may be negative from index 2 on.
+/// A look in a round at a node whose bound with no multipliers is `first`. A multiplier may be negative from index 2
+/// on.
 fn look<'a>(
     round: u8,
     first: i128,

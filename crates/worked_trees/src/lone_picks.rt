@@ -12,7 +12,8 @@ use compositions::Catalogue;
 use rail_base::{CompNo, Money, TripNo};
 use timetable::Picks;
 
-/// Two trips, for which composition 0 alone follows, at a cost of 7. They are a solution where the catalogue has two compositions.
+/// Two trips, for which composition 0 alone follows, at a cost of 7. They are a solution where the catalogue has two
+/// compositions.
 #[derive(Drop)]
 pub struct LonePicks<'a> {
     catalogue: &'a Catalogue,

@@ -1,7 +1,8 @@
 //! Regions and cuts, multipliers, slacks and trees.
 
 ghost use Rattle.std.specs.Prelude.{◌≡◌, IfOk};
-ghost use Rattle.rail_csv.specs.Rows.{AreTypeRows, AreStationRows, AreStockRows, AreTripRows, AreLinkRows, IsWeightsRow};
+ghost use Rattle.rail_csv.specs.Rows.{AreTypeRows, AreStationRows, AreStockRows, AreTripRows, AreLinkRows};
+ghost use Rattle.rail_csv.specs.Rows.{IsWeightsRow};
 
 use branch_tree::{Cut, Entry, Mark, Multipliers, Node, PutRefusal, Region, Side, Slacks, Tree};
 use compositions::Catalogue;

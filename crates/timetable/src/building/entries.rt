@@ -2,7 +2,9 @@
 
 ghost use Rattle.std.specs.Prelude.{◌≡◌, ◌+◌, ◌<◌, ◌≤◌, ◌++◌, ◌∷◌, [], length, nat_lt, min, false, IfSome, IfOk};
 ghost use Rattle.std.specs.Str.{bytes_eq};
-ghost use Rattle.timetable.specs.Build.{accept_type, accept_station, has_stock, accept_stock, starts_of, platform_at, has_fitting, accept_run, accept_trip, types_in, stations_in, stock_in, trips_in, catalogue_in, is_memory};
+ghost use Rattle.timetable.specs.Build.{accept_type, accept_station, has_stock, accept_stock, starts_of, platform_at};
+ghost use Rattle.timetable.specs.Build.{has_fitting, accept_run, accept_trip, types_in, stations_in, stock_in};
+ghost use Rattle.timetable.specs.Build.{trips_in, catalogue_in, is_memory};
 ghost use Rattle.rail_base.specs.Answers.{Gives, GivesRows};
 ghost use Rattle.compositions.specs.Catalogue.{catalogue_of};
 ghost use Rattle.timetable.specs.Compositions.{greatest_in};

@@ -3,7 +3,9 @@
 ghost use Rattle.std.specs.Prelude.{◌≡◌, ◌<◌, ◌≤◌, ◌&&◌, ◌||◌, length, IfOk, IfSome};
 ghost use Rattle.rail_base.specs.Answers.{GivesRows};
 ghost use Rattle.timetable.specs.Build.{is_memory};
-ghost use Rattle.timetable.specs.LinkRows.{trip_named, is_an_end, lacks_an_end, does_shunt, turn_in, join_in, split_in, kind_of, NamesBelow, names_again, do_meet, is_in_time, each_pair, accept_trips, accept_link, links_in};
+ghost use Rattle.timetable.specs.LinkRows.{trip_named, is_an_end, lacks_an_end, does_shunt, turn_in, join_in, split_in};
+ghost use Rattle.timetable.specs.LinkRows.{kind_of, NamesBelow, names_again, do_meet, is_in_time, each_pair};
+ghost use Rattle.timetable.specs.LinkRows.{accept_trips, accept_link, links_in};
 
 use crate::building::entries::row_after;
 use crate::building::linked::Linked;

@@ -11,8 +11,8 @@ use rail_base::{NoMemory, TripNo};
 use std::alloc::Global;
 use std::marker::Model;
 
-/// Links in order, and for each trip two flags: whether one of the links names it as arriving, and as departing. A contract
-/// sees the links and how many trips there are.
+/// Links in order, and for each trip two flags: whether one of the links names it as arriving, and as departing. A
+/// contract sees the links and how many trips there are.
 #[derive(Drop)]
 pub struct Linked {
     links: Vec<Link>,

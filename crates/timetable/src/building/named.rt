@@ -19,8 +19,8 @@ pub trait HasName: Drop {
         ensures { result.now ≡ name_of self.now };
 }
 
-/// Entries in order, no two of the same name. The number of a name is the place of its entry. A contract sees the list of
-/// the entries.
+/// Entries in order, no two of the same name. The number of a name is the place of its entry. A contract sees the list
+/// of the entries.
 #[derive(Drop)]
 pub struct Named<T: HasName> {
     entries: Vec<T>,
@@ -84,7 +84,8 @@ impl<T: HasName> Named<T> {
         self.names.get_index_of(name.as_str())
     }
 
-    /// Adds an entry at the end, whose name no entry has yet. The only refusal is want of memory, and nothing is added then.
+    /// Adds an entry at the end, whose name no entry has yet. The only refusal is want of memory, and nothing is added
+    /// then.
     pub fn push(&mut self, alloc: Global, entry: T) -> Result<(), NoMemory>
         requires { has_name T.name_of self.old (T.name_of entry) ≡ false }
         ensures added { OnOk result (self.new ≡ self.old ++ entry ∷ []) }

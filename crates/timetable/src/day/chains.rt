@@ -47,7 +47,8 @@ fn next_by(kind: LinkKind, trip: TripNo) -> Option<TripNo>
     }
 }
 
-/// The trip that follows a trip in its chain, by the table of the links that lead on from trips: none at the chain's end.
+/// The trip that follows a trip in its chain, by the table of the links that lead on from trips: none at the chain's
+/// end.
 fn next_in(links: &[Link], outgoing: &[Option<LinkNo>], trip: TripNo) -> Option<TripNo>
     requires table { outgoing.now ≡ link_table arriving_in links.now (length outgoing.now) }
     requires trip { trip < length outgoing.now }
@@ -103,8 +104,8 @@ fn chain_from(
     Ok(Chain { trips })
 }
 
-/// The chains, by the tables of the links that lead into trips and on from them: one for each trip that no link leads to, in
-/// the order of these trips.
+/// The chains, by the tables of the links that lead into trips and on from them: one for each trip that no link leads
+/// to, in the order of these trips.
 fn chains_of(
     alloc: Global,
     links: &[Link],

@@ -1,8 +1,10 @@
 //! The instance: a day that was accepted, with its units numbered.
 
-ghost use Rattle.std.specs.Prelude.{ℕ, ◌≡◌, ◌<◌, ◌≤◌, ◌*◌, [], ◌∷◌, ◌++◌, length, slice_get, Some, replicate, OnOk, IfOk, IfErr, IfSome};
+ghost use Rattle.std.specs.Prelude.{ℕ, ◌≡◌, ◌<◌, ◌≤◌, ◌*◌, [], ◌∷◌, ◌++◌, length, slice_get, Some, replicate, OnOk};
+ghost use Rattle.std.specs.Prelude.{IfOk, IfErr, IfSome};
 ghost use Rattle.std.specs.List.{All};
-ghost use Rattle.rail_csv.specs.Rows.{AreTypeRows, AreStationRows, AreStockRows, AreTripRows, AreLinkRows, IsWeightsRow};
+ghost use Rattle.rail_csv.specs.Rows.{AreTypeRows, AreStationRows, AreStockRows, AreTripRows, AreLinkRows};
+ghost use Rattle.rail_csv.specs.Rows.{IsWeightsRow};
 ghost use Rattle.timetable.specs.Accepted.{IsDay, AreLinks, IsStocked, HaveCompositions};
 ghost use Rattle.timetable.specs.Admissible.{is_admissible};
 ghost use Rattle.timetable.specs.Compositions.{compositions_of, composition_at};
@@ -159,8 +161,8 @@ impl Instance {
         self.links.len() as u32
     }
 
-    /// How many units there are. No two stock rows are of one station and one type, so of each type as many units are at home
-    /// at a station as `start` tells; and no row wants more units at the end than a stock row may say.
+    /// How many units there are. No two stock rows are of one station and one type, so of each type as many units are
+    /// at home at a station as `start` tells; and no row wants more units at the end than a stock row may say.
     pub fn units(&self) -> u32
         ensures value { result ≡ unit_count self.now }
         ensures few { result ≤ MOST_UNITS }

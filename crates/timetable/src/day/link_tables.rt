@@ -61,8 +61,8 @@ fn note_link(table: &mut Vec<Option<LinkNo>>, kind: LinkKind, side: Side, link: 
     }
 }
 
-/// For each trip the number of the first link that names it on one side. The links are noted from the last to the first,
-/// so that the first stays.
+/// For each trip the number of the first link that names it on one side. The links are noted from the last to the
+/// first, so that the first stays.
 pub fn links_by_trip(
     alloc: Global,
     links: &[Link],

@@ -3,7 +3,8 @@
 ghost use Rattle.std.specs.Prelude.{◌≡◌, ◌<◌, ◌≤◌, length, slice_get, IfOk, IfErr};
 ghost use Rattle.rail_base.specs.Answers.{Unless, Gives, GivesRows};
 ghost use Rattle.timetable.specs.Links.{list_of};
-ghost use Rattle.timetable.specs.Plans.{is_named, are_units, accept_list, lists_in, plan_of, IsPlanOf, plan_tests, is_memory};
+ghost use Rattle.timetable.specs.Plans.{is_named, are_units, accept_list, lists_in, plan_of, IsPlanOf, plan_tests};
+ghost use Rattle.timetable.specs.Plans.{is_memory};
 ghost use Rattle.timetable.specs.Tests.{NoneFailed, IsFirstFailed};
 ghost use Rattle.timetable.specs.Running.{IsPlan};
 
@@ -37,9 +38,9 @@ impl Model for NamedPlan {
 impl NamedPlan {
     /// The plan that rows make of a day: row k, counted from 1, is for trip k - 1. There is no condition on the rows.
     ///
-    /// Refusals, the first wrong row first: `WrongTrip`, where the row names another trip or there is no such trip; then
-    /// `UnknownUnit`, where a unit number is not below the number of units; after the last row `MissingTrip`, where trips
-    /// are left. `NoMemory` may come at any of them.
+    /// Refusals, the first wrong row first: `WrongTrip`, where the row names another trip or there is no such trip;
+    /// then `UnknownUnit`, where a unit number is not below the number of units; after the last row `MissingTrip`,
+    /// where trips are left. `NoMemory` may come at any of them.
     #[tactic(auto, unfolding(crate::specs::Plans::plan_of))]
     pub fn build(
         alloc: Global,
@@ -62,8 +63,8 @@ impl NamedPlan {
         Ok(NamedPlan { lists })
     }
 
-    /// The plan of these lists, one a trip in the order of the trips: at most 400. There is no condition on the units. It takes
-    /// no memory.
+    /// The plan of these lists, one a trip in the order of the trips: at most 400. There is no condition on the units.
+    /// It takes no memory.
     pub fn of(lists: Vec<UnitList>) -> NamedPlan
         requires { length lists.items ≤ MOST_TRIPS }
         ensures { result ≡ lists.items }

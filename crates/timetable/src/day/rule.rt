@@ -1,5 +1,5 @@
-//! The rule of a link: which trips it leads on from and to, which compositions or units may go on by it, and which units stay
-//! in the train, go to the yard and come from it.
+//! The rule of a link: which trips it leads on from and to, which compositions or units may go on by it, and which
+//! units stay in the train, go to the yard and come from it.
 
 ghost use Rattle.std.specs.Prelude.{◌≡◌, ◌<◌, ◌≤◌, ◌++◌, length, IfSome, IsTrue, option_and_then};
 ghost use Rattle.compositions.specs.Composition.{are_types};
@@ -7,7 +7,8 @@ ghost use Rattle.timetable.specs.Day.{type_of, types_of};
 ghost use Rattle.timetable.specs.Chains.{leads_from, leads_to};
 ghost use Rattle.timetable.specs.Handovers.{second_of};
 ghost use Rattle.timetable.specs.LinkRows.{NamesBelow};
-ghost use Rattle.timetable.specs.Links.{list_of, turned, link_holds, split_holds, given_by, taken_by, link_out, link_into, given, taken};
+ghost use Rattle.timetable.specs.Links.{list_of, turned, link_holds, split_holds, given_by, taken_by, link_out};
+ghost use Rattle.timetable.specs.Links.{link_into, given, taken};
 ghost use Rattle.timetable.specs.Running.{IsPlan, AreUnits};
 ghost use Rattle.timetable.specs.Turns.{same, kept_of, IsKept, parts_at};
 
@@ -54,8 +55,9 @@ impl LinkKind {
         }
     }
 
-    /// How many units a turn keeps, by the types of the arriving list after a reversal and of the departing list: the length of
-    /// the longest list of types that fits both of its ends. Nothing where no list fits, and at a join or a split.
+    /// How many units a turn keeps, by the types of the arriving list after a reversal and of the departing list: the
+    /// length of the longest list of types that fits both of its ends. Nothing where no list fits, and at a join or a
+    /// split.
     pub fn kept(&self, arriving: &[TypeNo], departing: &[TypeNo]) -> Option<usize>
         ensures number { result ≡ kept_of self.now arriving.now departing.now }
         ensures meaning { IsKept self.now arriving.now departing.now result }
@@ -144,7 +146,8 @@ fn turn_parts<'a>(
 }
 
 impl Link {
-    /// How many units a plan keeps in the train at a turn, by their types. The link's trips are trips of the plan's day.
+    /// How many units a plan keeps in the train at a turn, by their types. The link's trips are trips of the plan's
+    /// day.
     fn kept_on(&self, instance: &Instance, plan: &NamedPlan) -> Option<usize>
         requires trips { NamesBelow (length instance.now.trips) self.now.kind }
         requires plan { IsPlan instance.now plan.now }
@@ -206,7 +209,8 @@ impl Link {
         }
     }
 
-    /// What the link gives to the yard and takes from it: nothing at a join or a split, and all where the rule of a turn is broken.
+    /// What the link gives to the yard and takes from it: nothing at a join or a split, and all where the rule of a
+    /// turn is broken.
     fn yard_units(&self, instance: &Instance, plan: &NamedPlan) -> YardUnits
         requires trips { NamesBelow (length instance.now.trips) self.now.kind }
         requires plan { IsPlan instance.now plan.now }
@@ -297,8 +301,9 @@ impl NamedPlan {
         instance.types_of(self.units(trip))
     }
 
-    /// The units that a trip of the plan's day gives to the yard where it arrives, front to rear after a reversal: those that a
-    /// turn uncouples, all of them where no link leads on or the rule of the turn is broken, and none at a join or a split.
+    /// The units that a trip of the plan's day gives to the yard where it arrives, front to rear after a reversal:
+    /// those that a turn uncouples, all of them where no link leads on or the rule of the turn is broken, and none at a
+    /// join or a split.
     #[tactic(auto, unfolding(crate::specs::Links::given_with))]
     pub fn given(&self, instance: &Instance, trip: TripNo) -> ArrayVec<UnitNo, MOST_COMPOSITION>
         requires trip { trip < length instance.now.trips }
@@ -311,8 +316,9 @@ impl NamedPlan {
         }
     }
 
-    /// The units that a trip of the plan's day takes from the yard where it leaves, front to rear: those that a turn couples,
-    /// all of them where no link leads into it or the rule of the turn is broken, and none at a join or a split.
+    /// The units that a trip of the plan's day takes from the yard where it leaves, front to rear: those that a turn
+    /// couples, all of them where no link leads into it or the rule of the turn is broken, and none at a join or a
+    /// split.
     #[tactic(auto, unfolding(crate::specs::Links::taken_with))]
     pub fn taken(&self, instance: &Instance, trip: TripNo) -> ArrayVec<UnitNo, MOST_COMPOSITION>
         requires trip { trip < length instance.now.trips }

@@ -27,8 +27,8 @@ struct YardTypes {
     taken: ArrayVec<TypeNo, MOST_COMPOSITION>,
 }
 
-/// How many units stay at a turn between these types, or nothing where its rule is broken. The arriving list is the one after
-/// a reversal.
+/// How many units stay at a turn between these types, or nothing where its rule is broken. The arriving list is the one
+/// after a reversal.
 fn staying_units(
     uncouple: End,
     couple: End,
@@ -63,8 +63,8 @@ fn going(end: End, whole: &[TypeNo], staying: Option<usize>) -> ArrayVec<TypeNo,
 }
 
 impl Link {
-    /// The types that the link gives to the yard and takes from it: none at a join or a split, and all where the rule of a turn
-    /// is broken. The link's trips are trips of the picks' day.
+    /// The types that the link gives to the yard and takes from it: none at a join or a split, and all where the rule
+    /// of a turn is broken. The link's trips are trips of the picks' day.
     fn yard_types(&self, instance: &Instance, picks: &Picks) -> YardTypes
         requires trips { NamesBelow (length instance.now.trips) self.now.kind }
         requires picks { ArePicks instance.now picks.now }
@@ -113,9 +113,9 @@ impl Instance {
         self.catalogue().get(picks.get(trip))
     }
 
-    /// The types of the units that a trip gives to the yard where it arrives, front to rear after a reversal, where each trip
-    /// has the picked composition: those that a turn uncouples, all of them where no link leads on or the rule of the turn is
-    /// broken, and none at a join or a split. The trip is below `trips`. It takes no memory.
+    /// The types of the units that a trip gives to the yard where it arrives, front to rear after a reversal, where
+    /// each trip has the picked composition: those that a turn uncouples, all of them where no link leads on or the
+    /// rule of the turn is broken, and none at a join or a split. The trip is below `trips`. It takes no memory.
     #[tactic(auto, unfolding(crate::specs::Links::given_with))]
     pub fn given_types(&self, picks: &Picks, trip: TripNo) -> ArrayVec<TypeNo, MOST_COMPOSITION>
         requires picks { ArePicks self.now picks.now }
@@ -128,9 +128,9 @@ impl Instance {
         }
     }
 
-    /// The types of the units that a trip takes from the yard where it leaves, front to rear, where each trip has the picked
-    /// composition: those that a turn couples, all of them where no link leads into it or the rule of the turn is broken, and
-    /// none at a join or a split. The trip is below `trips`. It takes no memory.
+    /// The types of the units that a trip takes from the yard where it leaves, front to rear, where each trip has the
+    /// picked composition: those that a turn couples, all of them where no link leads into it or the rule of the turn
+    /// is broken, and none at a join or a split. The trip is below `trips`. It takes no memory.
     #[tactic(auto, unfolding(crate::specs::Links::taken_with))]
     pub fn taken_types(&self, picks: &Picks, trip: TripNo) -> ArrayVec<TypeNo, MOST_COMPOSITION>
         requires picks { ArePicks self.now picks.now }
