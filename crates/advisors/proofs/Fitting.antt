@@ -1,5 +1,6 @@
 -- Multipliers that fit still do after a put that is not refused, and after a refusal.
-use Rattle.std.proofs.Common.{◌≡◌, ℕ, ◌<◌, List, [], ◌∷◌, filter, nat_lt, Bool, true, false, ◌==◌, if◌then◌else◌, ℤ, pos, ◌≤ℤ◌, unsigned_abs, Result, Ok, Err, OnOk, OnErr, sym, subst}
+use Rattle.std.proofs.Common.{◌≡◌, ℕ, ◌<◌, List, [], ◌∷◌, filter, nat_lt, Bool, true, false, ◌==◌, if◌then◌else◌, ℤ}
+use Rattle.std.proofs.Common.{pos, ◌≤ℤ◌, unsigned_abs, Result, Ok, Err, OnOk, OnErr, sym, subst}
 use Rattle.std.proofs.lemmas.List.Elements.{All-append, All-filter, All-cons, All-nil}
 use Rattle.branch_tree.specs.declared.multipliers.Entry.{Entry}
 use Rattle.branch_tree.specs.declared.multipliers.PutRefusal.{PutRefusal}

@@ -1,5 +1,6 @@
 -- Sums that stop at the ends of their type are brought into a narrower range as the exact sums are.
-use Rattle.std.proofs.Common.{◌≡◌, ℕ, ◌+◌, ◌^◌, ◌<◌, ◌≤◌, ℤ, pos, negsuc, ◌+ℤ◌, ◌≤ℤ◌, neg_ℤ, ◌⊎◌, inl, inr, ◌∙◌, ap, arith, ◌-◌}
+use Rattle.std.proofs.Common.{◌≡◌, ℕ, ◌+◌, ◌^◌, ◌<◌, ◌≤◌, ℤ, pos, negsuc, ◌+ℤ◌, ◌≤ℤ◌, neg_ℤ, ◌⊎◌, inl, inr, ◌∙◌, ap}
+use Rattle.std.proofs.Common.{arith, ◌-◌}
 use Rattle.std.specs.Int.{int_max, int_min, saturate_to_bits}
 use Rattle.std.proofs.lemmas.Bool.{cases_lt}
 use Rattle.std.proofs.lemmas.Int.{ints, int_max_is, int_min_is}

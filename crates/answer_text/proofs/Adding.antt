@@ -1,5 +1,7 @@
 -- Entries that are added by rising index.
-use Rattle.std.proofs.Common.{◌≡◌, ◌≢◌, ℕ, zero, suc, ◌+◌, ◌-◌, ◌<◌, ◌≤◌, Bool, true, false, ◌||◌, cond, eqb, ltb, ℤ, pos, negsuc, List, [], ◌∷◌, ◌++◌, length, filter, Option, Some, None, Result, Ok, Err, w64, to_z, of_z, refl, sym, subst, ◌∙◌, arith}
+use Rattle.std.proofs.Common.{◌≡◌, ◌≢◌, ℕ, zero, suc, ◌+◌, ◌-◌, ◌<◌, ◌≤◌, Bool, true, false, ◌||◌, cond, eqb, ltb, ℤ}
+use Rattle.std.proofs.Common.{pos, negsuc, List, [], ◌∷◌, ◌++◌, length, filter, Option, Some, None, Result, Ok, Err}
+use Rattle.std.proofs.Common.{w64, to_z, of_z, refl, sym, subst, ◌∙◌, arith}
 use Rattle.std.specs.Prelude.{unsigned_abs, OnOk, nat_lt}
 use Rattle.std.specs.Result.{result_err, is_ok}
 use Rattle.std.specs.Fmt.{decimal, signed_decimal}

@@ -1,5 +1,6 @@
 -- The words of what is within the limits are read as that again.
-use Rattle.std.proofs.Common.{◌≡◌, ◌≢◌, ℕ, zero, suc, ◌+◌, ◌^◌, ◌<◌, ◌≤◌, true, false, eqb, ltb, ℤ, pos, List, [], ◌∷◌, ◌++◌, length, map, get_or, Some, refl, sym, ap, ◌∙◌, append_assoc, arith, inr}
+use Rattle.std.proofs.Common.{◌≡◌, ◌≢◌, ℕ, zero, suc, ◌+◌, ◌^◌, ◌<◌, ◌≤◌, true, false, eqb, ltb, ℤ, pos, List, [], ◌∷◌}
+use Rattle.std.proofs.Common.{◌++◌, length, map, get_or, Some, refl, sym, ap, ◌∙◌, append_assoc, arith, inr}
 use Rattle.std.specs.Prelude.{codes, unsigned_abs}
 use Rattle.std.specs.Fmt.{decimal, signed_decimal}
 use Rattle.std.specs.List.{AllByRecursion}
@@ -18,7 +19,9 @@ use Rattle.answer_text.specs.declared.limits.TheConstants.{MOST_AMOUNT}
 use Rattle.answer_text.specs.Limits.{AreEntries, IsAmount, IsHead, IsNode, IsRun}
 use Rattle.answer_text.specs.Numbers.{at_end, next_number, next_signed}
 use Rattle.answer_text.specs.Pieces.{pieces}
-use Rattle.answer_text.specs.ReadLines.{bounded_in, bounded_plan_in, branchings_in, cost_in, counted_in, empty_in, entries_in, entry_in, entry_of, head_in, most_in, next_entry, next_is, node_in, only_in, optimal_in, ray_in, run_in, units_in}
+use Rattle.answer_text.specs.ReadLines.{bounded_in, bounded_plan_in, branchings_in, cost_in, counted_in, empty_in}
+use Rattle.answer_text.specs.ReadLines.{entries_in, entry_in, entry_of, head_in, most_in, next_entry, next_is, node_in}
+use Rattle.answer_text.specs.ReadLines.{only_in, optimal_in, ray_in, run_in, units_in}
 use Rattle.answer_text.specs.Texts.{branchings_words, entries_words, entry_word, head_words, node_words, run_words}
 use Rattle.answer_text.proofs.Adding.{IsRead}
 use Rattle.answer_text.proofs.Clean.{decimal_lacks, signed_lacks}

@@ -1,5 +1,6 @@
 -- The words of a document have neither spaces nor line feeds.
-use Rattle.std.proofs.Common.{◌≡◌, ℕ, suc, ◌^◌, ◌<◌, ◌≤◌, true, false, eqb, ℤ, pos, negsuc, List, [], ◌∷◌, length, map, refl, arith, ◌⊎◌, inl, inr}
+use Rattle.std.proofs.Common.{◌≡◌, ℕ, suc, ◌^◌, ◌<◌, ◌≤◌, true, false, eqb, ℤ, pos, negsuc, List, [], ◌∷◌, length, map}
+use Rattle.std.proofs.Common.{refl, arith, ◌⊎◌, inl, inr}
 use Rattle.std.specs.Prelude.{codes, unsigned_abs}
 use Rattle.std.specs.Fmt.{decimal, signed_decimal}
 use Rattle.std.specs.List.{AllByRecursion}

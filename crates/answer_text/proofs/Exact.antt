@@ -1,16 +1,19 @@
 -- Each refusal comes exactly where its cause is so: the causes exclude one another.
-use Rattle.std.proofs.Common.{◌≡◌, ◌≢◌, ℕ, suc, ◌+◌, ◌≤◌, true, false, eqb, List, [], ◌∷◌, ◌++◌, length, Option, Some, None, Result, Err, refl, sym, ap, subst, ◌∙◌, append_assoc, arith}
+use Rattle.std.proofs.Common.{◌≡◌, ◌≢◌, ℕ, suc, ◌+◌, ◌≤◌, true, false, eqb, List, [], ◌∷◌, ◌++◌, length, Option, Some}
+use Rattle.std.proofs.Common.{None, Result, Err, refl, sym, ap, subst, ◌∙◌, append_assoc, arith}
 use Rattle.std.proofs.lemmas.Bool.Decides.{nat_tests}
 use Rattle.std.proofs.lemmas.List.{append-nil}
 use Rattle.rail_base.specs.Answers.{Gives}
 use Rattle.answer_text.specs.declared.answer.Answer.{Answer}
 use Rattle.answer_text.specs.declared.refusal.AnswerRefusal.{AnswerRefusal}
-use Rattle.answer_text.specs.declared.refusal.AnswerRefusal.TheVariants.{BadLine, MissingEnd, Trailing, TooManyNodes, NoMemory}
+use Rattle.answer_text.specs.declared.refusal.AnswerRefusal.TheVariants.{BadLine, MissingEnd, Trailing, TooManyNodes}
+use Rattle.answer_text.specs.declared.refusal.AnswerRefusal.TheVariants.{NoMemory}
 use Rattle.answer_text.specs.Grammar.{is_memory, AreUnfinished, Begin, GoOn, IsRefused}
 use Rattle.answer_text.specs.Lines.{text_of_lines}
 use Rattle.answer_text.specs.Numbers.{◌>>=◌}
 use Rattle.answer_text.specs.Pieces.{pieces}
-use Rattle.answer_text.specs.ReadPlaces.{Place, at_branchings, at_head, at_last, at_nodes, at_runs, at_title, after_line, fault_at, line_number, lines_before, reading}
+use Rattle.answer_text.specs.ReadPlaces.{Place, at_branchings, at_head, at_last, at_nodes, at_runs, at_title}
+use Rattle.answer_text.specs.ReadPlaces.{after_line, fault_at, line_number, lines_before, reading}
 use Rattle.answer_text.specs.Texts.{lines_of}
 use Rattle.answer_text.proofs.Cutting.{not_blank}
 use Rattle.answer_text.proofs.Placing.{leads}

@@ -1,5 +1,6 @@
 -- What a node line is read as: its words are the words of that node, which is within the limits.
-use Rattle.std.proofs.Common.{◌≡◌, ◌≢◌, ℕ, zero, suc, ◌+◌, ◌<◌, ◌≤◌, false, cond, ltb, pos, List, [], ◌∷◌, ◌++◌, length, map, Option, Some, None, refl, sym, ap, subst, ◌∙◌, append_assoc, arith, inl, inr}
+use Rattle.std.proofs.Common.{◌≡◌, ◌≢◌, ℕ, zero, suc, ◌+◌, ◌<◌, ◌≤◌, false, cond, ltb, pos, List, [], ◌∷◌, ◌++◌, length}
+use Rattle.std.proofs.Common.{map, Option, Some, None, refl, sym, ap, subst, ◌∙◌, append_assoc, arith, inl, inr}
 use Rattle.std.specs.Prelude.{codes, unsigned_abs}
 use Rattle.std.specs.Fmt.{decimal, signed_decimal}
 use Rattle.std.specs.List.{AllByRecursion}
@@ -17,7 +18,8 @@ use Rattle.answer_text.specs.declared.limits.TheConstants.{MOST_AMOUNT}
 use Rattle.answer_text.specs.Limits.{AreEntries, IsNode}
 use Rattle.answer_text.specs.Numbers.{◌>>=◌, at_end, next_number, next_signed}
 use Rattle.answer_text.specs.Pieces.{pieces}
-use Rattle.answer_text.specs.ReadLines.{cost_in, counted_in, empty_in, entries_in, most_in, next_entry, node_in, only_in, ray_in}
+use Rattle.answer_text.specs.ReadLines.{cost_in, counted_in, empty_in, entries_in, most_in, next_entry, node_in}
+use Rattle.answer_text.specs.ReadLines.{only_in, ray_in}
 use Rattle.answer_text.specs.Texts.{entries_words, entry_word, node_words}
 use Rattle.answer_text.proofs.Adding.{IsRead, next_entry_sound}
 use Rattle.answer_text.proofs.Signs.{bind_some, branch}

@@ -1,5 +1,6 @@
 -- One line after a place: what was read before and this line are what is read then, within the limits.
-use Rattle.std.proofs.Common.{◌≡◌, ℕ, ◌<◌, ◌≤◌, Bool, true, false, cond, eqb, ltb, List, [], ◌∷◌, ◌++◌, length, Some, None, refl, sym, ap, subst, ◌∙◌, append_assoc, arith, inl, inr}
+use Rattle.std.proofs.Common.{◌≡◌, ℕ, ◌<◌, ◌≤◌, Bool, true, false, cond, eqb, ltb, List, [], ◌∷◌, ◌++◌, length, Some}
+use Rattle.std.proofs.Common.{None, refl, sym, ap, subst, ◌∙◌, append_assoc, arith, inl, inr}
 use Rattle.std.specs.List.{AllByRecursion}
 use Rattle.std.specs.Str.{bytes_eq}
 use Rattle.std.proofs.lemmas.Bool.Decides.{nat_tests}
@@ -13,8 +14,10 @@ use Rattle.answer_text.specs.Limits.{has_plan, IsHead, IsNode, IsRun, IsWithin}
 use Rattle.answer_text.specs.Numbers.{◌>>=◌}
 use Rattle.answer_text.specs.Pieces.{words_of}
 use Rattle.answer_text.specs.ReadLines.{branchings_in, head_in, node_in, run_in}
-use Rattle.answer_text.specs.ReadPlaces.{Place, at_branchings, at_head, at_last, at_nodes, at_runs, at_title, after_line, after_node_line, after_run_line, lines_before, most_runs}
-use Rattle.answer_text.specs.Texts.{body_lines, end_line, head_line, node_line, node_lines, opening_lines, run_lines, title_line, tree_line, branchings_words, head_words, node_words, run_words}
+use Rattle.answer_text.specs.ReadPlaces.{Place, at_branchings, at_head, at_last, at_nodes, at_runs, at_title}
+use Rattle.answer_text.specs.ReadPlaces.{after_line, after_node_line, after_run_line, lines_before, most_runs}
+use Rattle.answer_text.specs.Texts.{body_lines, end_line, head_line, node_line, node_lines, opening_lines, run_lines}
+use Rattle.answer_text.specs.Texts.{title_line, tree_line, branchings_words, head_words, node_words, run_words}
 use Rattle.answer_text.proofs.Leaves.{node_sound}
 use Rattle.answer_text.proofs.Signs.{bind_some, branch}
 use Rattle.answer_text.proofs.Sound.{branchings_sound, equal_bytes, head_sound, none_some, run_sound, some_is}

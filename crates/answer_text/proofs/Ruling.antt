@@ -1,5 +1,7 @@
 -- What reading makes of a document: its answer has this text, and a refusal names the first wrong line.
-use Rattle.std.proofs.Common.{◌≡◌, ◌≢◌, ℕ, suc, ◌≤◌, Bool, true, false, ◌&&◌, cond, eqb, ltb, List, [], ◌∷◌, ◌++◌, length, Option, Some, None, Result, Ok, Err, refl, sym, ap, subst, ◌∙◌, append_assoc, arith}
+use Rattle.std.proofs.Common.{◌≡◌, ◌≢◌, ℕ, suc, ◌≤◌, Bool, true, false, ◌&&◌, cond, eqb, ltb, List, [], ◌∷◌, ◌++◌}
+use Rattle.std.proofs.Common.{length, Option, Some, None, Result, Ok, Err, refl, sym, ap, subst, ◌∙◌, append_assoc}
+use Rattle.std.proofs.Common.{arith}
 use Rattle.std.specs.Prelude.{not, is_some, IfErr, IfOk}
 use Rattle.std.specs.Str.{bytes_eq}
 use Rattle.std.proofs.lemmas.Bool.Decides.{nat_tests}
@@ -10,15 +12,19 @@ use Rattle.answer_text.specs.declared.answer.Answer.{Answer}
 use Rattle.answer_text.specs.declared.answer.Head.{Head}
 use Rattle.answer_text.specs.declared.answer.Head.TheVariants.{Infeasible}
 use Rattle.answer_text.specs.declared.refusal.AnswerRefusal.{AnswerRefusal}
-use Rattle.answer_text.specs.declared.refusal.AnswerRefusal.TheVariants.{BadLine, MissingEnd, Trailing, TooManyNodes, NoMemory}
+use Rattle.answer_text.specs.declared.refusal.AnswerRefusal.TheVariants.{BadLine, MissingEnd, Trailing, TooManyNodes}
+use Rattle.answer_text.specs.declared.refusal.AnswerRefusal.TheVariants.{NoMemory}
 use Rattle.answer_text.specs.Grammar.{is_memory, AreUnfinished, Begin, GoOn, IsBadLine, IsRefused, IsText}
 use Rattle.answer_text.specs.Limits.{IsWithin}
 use Rattle.answer_text.specs.Lines.{text_of_lines}
 use Rattle.answer_text.specs.Numbers.{◌>>=◌}
 use Rattle.answer_text.specs.Pieces.{pieces, with_byte, words_of}
 use Rattle.answer_text.specs.ReadLines.{node_in}
-use Rattle.answer_text.specs.ReadPlaces.{Place, at_branchings, at_head, at_last, at_nodes, at_runs, at_title, after_line, after_node_line, ending_at, fault_at, going_on, line_number, lines_before, reading}
-use Rattle.answer_text.specs.Texts.{branchings_line, end_line, head_line, lines_of, node_line, opening_lines, run_lines, text_of, title_line, tree_line}
+use Rattle.answer_text.specs.ReadPlaces.{Place, at_branchings, at_head, at_last, at_nodes, at_runs, at_title}
+use Rattle.answer_text.specs.ReadPlaces.{after_line, after_node_line, ending_at, fault_at, going_on, line_number}
+use Rattle.answer_text.specs.ReadPlaces.{lines_before, reading}
+use Rattle.answer_text.specs.Texts.{branchings_line, end_line, head_line, lines_of, node_line, opening_lines, run_lines}
+use Rattle.answer_text.specs.Texts.{text_of, title_line, tree_line}
 use Rattle.answer_text.proofs.Placing.{IsPlace, leads, whole_within}
 use Rattle.answer_text.proofs.Running.{answer_lacks, answer_steps, steps, steps-append}
 use Rattle.answer_text.proofs.Signs.{bind_some}

@@ -1,5 +1,6 @@
 -- Many lines after a place: the lines of an answer lead from the title to the whole answer.
-use Rattle.std.proofs.Common.{◌≡◌, ℕ, suc, ◌+◌, ◌<◌, ◌≤◌, true, false, eqb, ltb, List, [], ◌∷◌, ◌++◌, length, Option, Some, None, refl, sym, ap, ◌∙◌, append_assoc, arith, inl, inr}
+use Rattle.std.proofs.Common.{◌≡◌, ℕ, suc, ◌+◌, ◌<◌, ◌≤◌, true, false, eqb, ltb, List, [], ◌∷◌, ◌++◌, length, Option}
+use Rattle.std.proofs.Common.{Some, None, refl, sym, ap, ◌∙◌, append_assoc, arith, inl, inr}
 use Rattle.std.specs.List.{AllByRecursion}
 use Rattle.std.specs.Str.{bytes_eq}
 use Rattle.std.proofs.lemmas.Bool.Decides.{nat_tests}
@@ -16,8 +17,11 @@ use Rattle.answer_text.specs.Lines.{spaced}
 use Rattle.answer_text.specs.Numbers.{◌>>=◌}
 use Rattle.answer_text.specs.Pieces.{words_of}
 use Rattle.answer_text.specs.ReadLines.{branchings_in, head_in, node_in, run_in}
-use Rattle.answer_text.specs.ReadPlaces.{Place, at_last, at_nodes, at_runs, at_title, after_line, after_node_line, after_run_line, most_runs}
-use Rattle.answer_text.specs.Texts.{body_lines, branchings_line, branchings_words, end_line, head_line, head_words, lines_of, node_line, node_lines, node_words, opening_lines, run_line, run_lines, run_words, tree_line}
+use Rattle.answer_text.specs.ReadPlaces.{Place, at_last, at_nodes, at_runs, at_title, after_line, after_node_line}
+use Rattle.answer_text.specs.ReadPlaces.{after_run_line, most_runs}
+use Rattle.answer_text.specs.Texts.{body_lines, branchings_line, branchings_words, end_line, head_line, head_words}
+use Rattle.answer_text.specs.Texts.{lines_of, node_line, node_lines, node_words, opening_lines, run_line, run_lines}
+use Rattle.answer_text.specs.Texts.{run_words, tree_line}
 use Rattle.answer_text.proofs.Again.{branchings_again, head_again, node_again, run_again}
 use Rattle.answer_text.proofs.Clean.{branchings_lacks, head_lacks, node_lacks, run_lacks}
 use Rattle.answer_text.proofs.Splitting.{all_lack, both, lacks, spaced-lacks, words-spaced}

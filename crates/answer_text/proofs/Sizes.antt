@@ -1,5 +1,6 @@
 -- How long the text of an answer is at most.
-use Rattle.std.proofs.Common.{◌≡◌, ℕ, suc, ◌+◌, ◌*◌, ◌^◌, ◌<◌, ◌≤◌, ℤ, pos, negsuc, List, [], ◌∷◌, ◌++◌, length, map, arith, ap, refl, ◌∙◌}
+use Rattle.std.proofs.Common.{◌≡◌, ℕ, suc, ◌+◌, ◌*◌, ◌^◌, ◌<◌, ◌≤◌, ℤ, pos, negsuc, List, [], ◌∷◌, ◌++◌, length, map}
+use Rattle.std.proofs.Common.{arith, ap, refl, ◌∙◌}
 use Rattle.std.specs.Prelude.{codes, unsigned_abs}
 use Rattle.std.specs.Fmt.{decimal, signed_decimal}
 use Rattle.std.specs.List.{AllByRecursion}
@@ -18,7 +19,9 @@ use Rattle.answer_text.specs.declared.answer.Head.TheVariants.{Optimal, Infeasib
 use Rattle.answer_text.specs.Laws.{TextsFitFiles}
 use Rattle.answer_text.specs.Limits.{AreEntries, IsAmount, IsCut, IsHead, IsNode, IsRun}
 use Rattle.answer_text.specs.Lines.{after_spaces, spaced, text_of_lines}
-use Rattle.answer_text.specs.Texts.{branchings_line, cut_words, end_line, entries_words, entry_word, head_line, head_words, node_line, node_lines, opening_lines, run_line, run_lines, run_words, title_line, tree_line}
+use Rattle.answer_text.specs.Texts.{branchings_line, cut_words, end_line, entries_words, entry_word, head_line}
+use Rattle.answer_text.specs.Texts.{head_words, node_line, node_lines, opening_lines, run_line, run_lines, run_words}
+use Rattle.answer_text.specs.Texts.{title_line, tree_line}
 use Rattle.answer_text.proofs.Written.{text_of_lines-append}
 
 -- ---- words

@@ -1,5 +1,6 @@
 -- What the words of a line are read as: its words are the words of that, which is within the limits.
-use Rattle.std.proofs.Common.{◌≡◌, ℕ, zero, suc, ◌<◌, ◌≤◌, true, cond, eqb, ℤ, List, [], ◌∷◌, ◌++◌, length, map, All, Some, None, refl, sym, ap, subst, ◌∙◌, append_assoc, arith, inl, inr}
+use Rattle.std.proofs.Common.{◌≡◌, ℕ, zero, suc, ◌<◌, ◌≤◌, true, cond, eqb, ℤ, List, [], ◌∷◌, ◌++◌, length, map, All}
+use Rattle.std.proofs.Common.{Some, None, refl, sym, ap, subst, ◌∙◌, append_assoc, arith, inl, inr}
 use Rattle.std.specs.Prelude.{codes, unsigned_abs}
 use Rattle.std.specs.Fmt.{decimal, signed_decimal}
 use Rattle.std.specs.List.{AllByRecursion}
@@ -14,7 +15,8 @@ use Rattle.answer_text.specs.declared.answer.Head.TheVariants.{Optimal, Infeasib
 use Rattle.answer_text.specs.declared.limits.TheConstants.{MOST_AMOUNT}
 use Rattle.answer_text.specs.Limits.{IsAmount, IsHead, IsRun}
 use Rattle.answer_text.specs.Numbers.{◌>>=◌, at_end, next_number, next_signed, number_in, signed_in}
-use Rattle.answer_text.specs.ReadLines.{bounded_in, bounded_plan_in, branchings_in, head_in, next_is, optimal_in, run_in, units_in}
+use Rattle.answer_text.specs.ReadLines.{bounded_in, bounded_plan_in, branchings_in, head_in, next_is, optimal_in}
+use Rattle.answer_text.specs.ReadLines.{run_in, units_in}
 use Rattle.answer_text.specs.Texts.{branchings_words, head_words, run_words}
 use Rattle.answer_text.proofs.Numerals.{number_sound}
 use Rattle.answer_text.proofs.Signs.{bind_some, branch, signed_sound}

@@ -3,7 +3,9 @@ use Rattle.std.proofs.Common.{◌≡◌, ℕ, List, [], ◌∷◌, Some, None, R
 use Rattle.answer_text.specs.declared.answer.Answer.{Answer}
 use Rattle.answer_text.specs.declared.refusal.AnswerRefusal.{AnswerRefusal}
 use Rattle.answer_text.specs.declared.refusal.AnswerRefusal.TheVariants.{BadLine, TooManyNodes}
-use Rattle.answer_text.specs.ReadPlaces.{Place, at_title, at_head, at_branchings, at_runs, at_nodes, at_last, after_line, ending_at, fault_at, fault_of_rest, going_on, line_in, line_number, reading}
+use Rattle.answer_text.specs.ReadPlaces.{Place, at_title, at_head, at_branchings, at_runs, at_nodes, at_last}
+use Rattle.answer_text.specs.ReadPlaces.{after_line, ending_at, fault_at, fault_of_rest, going_on, line_in, line_number}
+use Rattle.answer_text.specs.ReadPlaces.{reading}
 
 -- a line is wanted yet
 abbrev pub IsOpen : Place → Type 0

@@ -1,5 +1,6 @@
 -- What a line at a place makes of the rest of a document, as the loops over lines see it.
-use Rattle.std.proofs.Common.{◌≡◌, ℕ, suc, ◌+◌, ◌<◌, ◌≤◌, Bool, true, false, cond, eqb, ltb, List, [], ◌∷◌, ◌++◌, length, Option, Some, None, Result, Ok, Err, refl, sym, ap, subst, ◌∙◌, arith}
+use Rattle.std.proofs.Common.{◌≡◌, ℕ, suc, ◌+◌, ◌<◌, ◌≤◌, Bool, true, false, cond, eqb, ltb, List, [], ◌∷◌, ◌++◌}
+use Rattle.std.proofs.Common.{length, Option, Some, None, Result, Ok, Err, refl, sym, ap, subst, ◌∙◌, arith}
 use Rattle.std.specs.Str.{bytes_eq}
 use Rattle.std.proofs.lemmas.Bool.Decides.{nat_tests}
 use Rattle.std.proofs.lemmas.List.{length-append}
@@ -12,7 +13,9 @@ use Rattle.answer_text.specs.declared.refusal.AnswerRefusal.TheVariants.{BadLine
 use Rattle.answer_text.specs.Grammar.{is_memory}
 use Rattle.answer_text.specs.Pieces.{pieces, words_of}
 use Rattle.answer_text.specs.ReadLines.{node_in, run_in, head_in, branchings_in}
-use Rattle.answer_text.specs.ReadPlaces.{Place, at_branchings, at_head, at_last, at_nodes, at_runs, at_title, after_line, after_node_line, after_run_line, line_in, line_number, most_runs, reading, whole}
+use Rattle.answer_text.specs.ReadPlaces.{Place, at_branchings, at_head, at_last, at_nodes, at_runs, at_title}
+use Rattle.answer_text.specs.ReadPlaces.{after_line, after_node_line, after_run_line, line_in, line_number, most_runs}
+use Rattle.answer_text.specs.ReadPlaces.{reading, whole}
 use Rattle.answer_text.specs.Texts.{body_lines, end_line, node_lines, run_lines, title_line, tree_line}
 use Rattle.answer_text.proofs.Cutting.{not_blank, some_pieces}
 use Rattle.answer_text.proofs.Steps.{step_cut, step_on, step_wrong, step_over}

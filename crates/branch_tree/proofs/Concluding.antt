@@ -1,5 +1,6 @@
 -- What a tree proves is true of all solutions in its root.
-use Rattle.std.proofs.Common.{◌≡◌, ℕ, suc, ◌<◌, List, [], ◌∷◌, ◌++◌, length, Bool, true, false, IsTrue, if◌then◌else◌, Some, Contains, All, ℤ, ◌≤ℤ◌, refl, ap, arith}
+use Rattle.std.proofs.Common.{◌≡◌, ℕ, suc, ◌<◌, List, [], ◌∷◌, ◌++◌, length, Bool, true, false, IsTrue, if◌then◌else◌}
+use Rattle.std.proofs.Common.{Some, Contains, All, ℤ, ◌≤ℤ◌, refl, ap, arith}
 use Rattle.std.proofs.lemmas.Int.{ints}
 use Rattle.std.proofs.lemmas.List.Elements.{All-contains}
 use Rattle.branch_tree.specs.declared.tree.Node.{Node}

@@ -1,5 +1,6 @@
 -- The leaves of a tree cover its root, each of the root's picks once.
-use Rattle.std.proofs.Common.{◌≡◌, ℕ, suc, ◌+◌, ◌*◌, ◌<◌, List, [], ◌∷◌, ◌++◌, length, Bool, true, false, not, cond, is_some, is_none, if◌then◌else◌, Option, Some, None, MatchOption, refl, ◌∙◌, ap, arith}
+use Rattle.std.proofs.Common.{◌≡◌, ℕ, suc, ◌+◌, ◌*◌, ◌<◌, List, [], ◌∷◌, ◌++◌, length, Bool, true, false, not, cond}
+use Rattle.std.proofs.Common.{is_some, is_none, if◌then◌else◌, Option, Some, None, MatchOption, refl, ◌∙◌, ap, arith}
 use Rattle.branch_tree.specs.declared.cuts.Cut.{Cut}
 use Rattle.branch_tree.specs.declared.cuts.Cut.TheVariants.{Only, AtMost}
 use Rattle.branch_tree.specs.declared.cuts.Side.TheVariants.{Left, Right}

@@ -1,5 +1,6 @@
 -- Cuts of regions: what a side has, which picks are on it, and what a set put back restores.
-use Rattle.std.proofs.Common.{◌≡◌, ℕ, zero, suc, ◌<◌, ◌≢◌, List, [], ◌∷◌, length, get_or, set, Bool, true, false, not, ◌&&◌, ◌==◌, if◌then◌else◌, eqb, ◌⊎◌, inl, inr, refl, sym, ◌∙◌, ap, arith}
+use Rattle.std.proofs.Common.{◌≡◌, ℕ, zero, suc, ◌<◌, ◌≢◌, List, [], ◌∷◌, length, get_or, set, Bool, true, false, not}
+use Rattle.std.proofs.Common.{◌&&◌, ◌==◌, if◌then◌else◌, eqb, ◌⊎◌, inl, inr, refl, sym, ◌∙◌, ap, arith}
 use Rattle.std.proofs.lemmas.Bool.Decides.{eqb_tells}
 use Rattle.std.proofs.lemmas.Grind.{get_or-set_at}
 use Rattle.std.proofs.lemmas.List.{get_or-set_other, set-get_or}

@@ -1,12 +1,15 @@
--- Weak duality: multipliers that fit price a solution at its cost or lower, so that priced values bound the costs of solutions.
-use Rattle.std.proofs.Common.{◌≡◌, ℕ, zero, suc, ◌*◌, ◌<◌, List, [], ◌∷◌, ℤ, pos, negsuc, ◌+ℤ◌, ◌*ℤ◌, ◌≤ℤ◌, ◌<ℤ◌, neg_ℤ, sym, subst, arith, ⊎_elim}
+-- Weak duality: multipliers that fit price a solution at its cost or lower, so that priced values bound the costs of
+-- solutions.
+use Rattle.std.proofs.Common.{◌≡◌, ℕ, zero, suc, ◌*◌, ◌<◌, List, [], ◌∷◌, ℤ, pos, negsuc, ◌+ℤ◌, ◌*ℤ◌, ◌≤ℤ◌, ◌<ℤ◌, neg_ℤ}
+use Rattle.std.proofs.Common.{sym, subst, arith, ⊎_elim}
 use Rattle.std.proofs.lemmas.Bool.{cases_lt}
 use Rattle.std.proofs.lemmas.Int.{ints}
 use Rattle.std.proofs.lemmas.List.Elements.{All-head, All-tail}
 use Rattle.branch_tree.specs.declared.multipliers.Entry.{Entry}
 use Rattle.branch_tree.specs.declared.relaxation.Weight.TheVariants.{Cost, NoCost}
 use Rattle.branch_tree.specs.Entries.{DoFit}
-use Rattle.branch_tree.specs.Laws.{SolutionsArePricedLow, BoundsAreChainValues, ChainValuesAreOne, EmptyHasNoChainValue, ChainValuesBound, EmptyHasNoSolution, RaysHaveNoSolution}
+use Rattle.branch_tree.specs.Laws.{SolutionsArePricedLow, BoundsAreChainValues, ChainValuesAreOne, EmptyHasNoChainValue}
+use Rattle.branch_tree.specs.Laws.{ChainValuesBound, EmptyHasNoSolution, RaysHaveNoSolution}
 use Rattle.branch_tree.specs.Meanings.{Meanings, IsRelaxation, IsMet, priced, slack_sum}
 
 -- the product of a number that is not negative and one that is not positive is not positive

@@ -1,5 +1,8 @@
--- Proper cuts make fewer branches than their root has picks, and one fewer leave one composition for each trip at every leaf.
-use Rattle.std.proofs.Common.{◌≡◌, ℕ, zero, suc, ◌+◌, ◌*◌, ◌<◌, ◌≤◌, List, [], ◌∷◌, ◌++◌, length, set, Bool, true, false, not, ◌&&◌, Option, Some, None, MatchOption, is_some, if◌then◌else◌, refl, sym, ◌∙◌, ap, subst, arith}
+-- Proper cuts make fewer branches than their root has picks, and one fewer leave one composition for each trip at every
+-- leaf.
+use Rattle.std.proofs.Common.{◌≡◌, ℕ, zero, suc, ◌+◌, ◌*◌, ◌<◌, ◌≤◌, List, [], ◌∷◌, ◌++◌, length, set, Bool, true}
+use Rattle.std.proofs.Common.{false, not, ◌&&◌, Option, Some, None, MatchOption, is_some, if◌then◌else◌, refl, sym, ◌∙◌}
+use Rattle.std.proofs.Common.{ap, subst, arith}
 use Rattle.std.proofs.Math.Nat.{mul-le-mul_left, mul_comm}
 use Rattle.std.proofs.lemmas.Grind.{get_or-set_at}
 use Rattle.std.proofs.lemmas.List.Elements.{All-cons, All-nil, All-head, All-tail, All-set}

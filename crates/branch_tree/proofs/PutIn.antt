@@ -1,5 +1,6 @@
 -- The entries after a put: those of lower indices, the new one, and those of higher indices.
-use Rattle.std.proofs.Common.{◌≡◌, ℕ, zero, suc, ◌<◌, ◌≤◌, List, [], ◌∷◌, ◌++◌, filter, nat_lt, get_or, All, Bool, true, false, cond, ◌==◌, if◌then◌else◌, ltb, eqb, ℤ, unsigned_abs, refl, sym, ◌∙◌, ap, arith}
+use Rattle.std.proofs.Common.{◌≡◌, ℕ, zero, suc, ◌<◌, ◌≤◌, List, [], ◌∷◌, ◌++◌, filter, nat_lt, get_or, All, Bool, true}
+use Rattle.std.proofs.Common.{false, cond, ◌==◌, if◌then◌else◌, ltb, eqb, ℤ, unsigned_abs, refl, sym, ◌∙◌, ap, arith}
 use Rattle.std.specs.List.{insert}
 use Rattle.std.proofs.lemmas.Bool.{eq-eqb, eqb-true, lt-ltb, ltb-true, false_from_ne_true}
 use Rattle.std.proofs.lemmas.List.Elements.{All-head, All-tail}

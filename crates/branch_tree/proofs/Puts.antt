@@ -1,5 +1,7 @@
 -- What a put leaves: the values at each index, and the entries in order.
-use Rattle.std.proofs.Common.{◌≡◌, ℕ, zero, suc, ◌<◌, ◌≤◌, ◌≢◌, List, [], ◌∷◌, length, get_or, set, take, drop, All, Bool, true, false, ◌||◌, ◌==◌, if◌then◌else◌, ltb, eqb, ℤ, pos, negsuc, unsigned_abs, Some, None, ◌⊎◌, inl, inr, refl, sym, ◌∙◌, ap, arith, ⊎_elim}
+use Rattle.std.proofs.Common.{◌≡◌, ℕ, zero, suc, ◌<◌, ◌≤◌, ◌≢◌, List, [], ◌∷◌, length, get_or, set, take, drop, All}
+use Rattle.std.proofs.Common.{Bool, true, false, ◌||◌, ◌==◌, if◌then◌else◌, ltb, eqb, ℤ, pos, negsuc, unsigned_abs}
+use Rattle.std.proofs.Common.{Some, None, ◌⊎◌, inl, inr, refl, sym, ◌∙◌, ap, arith, ⊎_elim}
 use Rattle.std.specs.List.{insert, remove}
 use Rattle.std.proofs.lemmas.Bool.{cases_lt, eq-eqb, eqb-true, lt-ltb, ltb-true, false_from_ne_true}
 use Rattle.std.proofs.Math.Bool.{or-true}

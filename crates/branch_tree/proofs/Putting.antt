@@ -7,7 +7,9 @@ use Rattle.branch_tree.specs.declared.multipliers.PutRefusal.TheVariants.{Full}
 use Rattle.branch_tree.specs.Entries.{AreMultipliers, IsPut, put_in, refusal_of}
 use Rattle.branch_tree.specs.Places.{IsAt, IsPlaceOf, changed}
 use Rattle.branch_tree.proofs.PutIn.{put_in-changed, put_in-new, put_in-none}
-use Rattle.branch_tree.proofs.Puts.{put_changed, put_new, put_nothing, none_there, multipliers-changed, multipliers-inserted, is_entered-there, is_entered-absent, not_refused_there, not_refused_zero, not_refused_room, refused_full}
+use Rattle.branch_tree.proofs.Puts.{put_changed, put_new, put_nothing, none_there, multipliers-changed}
+use Rattle.branch_tree.proofs.Puts.{multipliers-inserted, is_entered-there, is_entered-absent, not_refused_there}
+use Rattle.branch_tree.proofs.Puts.{not_refused_zero, not_refused_room, refused_full}
 
 -- the entries after a put that is not refused
 pub record PutDone (old : List Entry) (index : ℕ) (value : ℤ) (new : List Entry) : Type 0 where

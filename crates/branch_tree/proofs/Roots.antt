@@ -1,5 +1,6 @@
 -- The region of a day: it has a composition for each trip, and every solution lies in it.
-use Rattle.std.proofs.Common.{◌≡◌, ℕ, ◌<◌, ◌≤◌, List, [], map, length, get_or, slice_get, Some, Option, unwrap_or, Bool, true, sym, ◌∙◌, ap, arith}
+use Rattle.std.proofs.Common.{◌≡◌, ℕ, ◌<◌, ◌≤◌, List, [], map, length, get_or, slice_get, Some, Option, unwrap_or, Bool}
+use Rattle.std.proofs.Common.{true, sym, ◌∙◌, ap, arith}
 use Rattle.std.specs.Prelude.{option_map}
 use Rattle.std.proofs.lemmas.List.FromFn.{length-map-range_with_len, get_or-map-range_with_len}
 use Rattle.std.proofs.lemmas.Option.{slice_get-get_or, slice_get-map}

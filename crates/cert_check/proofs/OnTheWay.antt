@@ -1,5 +1,6 @@
 -- The nodes of a tree that are still to be tested, on the way through them in preorder.
-use Rattle.std.proofs.Common.{◌≡◌, ℕ, suc, List, Bool, [], ◌∷◌, ◌++◌, ◌+◌, ◌<◌, length, drop, slice_get, Some, refl, subst}
+use Rattle.std.proofs.Common.{◌≡◌, ℕ, suc, List, Bool, [], ◌∷◌, ◌++◌, ◌+◌, ◌<◌, length, drop, slice_get, Some, refl}
+use Rattle.std.proofs.Common.{subst}
 use Rattle.branch_tree.specs.declared.tree.Node.{Node}
 use Rattle.branch_tree.specs.Claims.{IsProvedAt}
 use Rattle.branch_tree.specs.Meanings.{Meanings}

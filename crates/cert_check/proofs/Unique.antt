@@ -1,5 +1,6 @@
 -- A claim has one verdict: each test is failed for one reason at most.
-use Rattle.std.proofs.Common.{◌≡◌, ℕ, suc, ◌<◌, ◌≤◌, List, Bool, [], ◌∷◌, ◌++◌, length, take, ℤ, Option, Some, None, refl, sym, ◌∙◌, ap, subst, arith, ⊎_elim}
+use Rattle.std.proofs.Common.{◌≡◌, ℕ, suc, ◌<◌, ◌≤◌, List, Bool, [], ◌∷◌, ◌++◌, length, take, ℤ, Option, Some, None}
+use Rattle.std.proofs.Common.{refl, sym, ◌∙◌, ap, subst, arith, ⊎_elim}
 use Rattle.std.specs.Prelude.{⊤}
 use Rattle.std.proofs.lemmas.Bool.{cases_lt}
 use Rattle.std.proofs.lemmas.List.{length-take-le, take-take}
@@ -15,10 +16,12 @@ use Rattle.branch_tree.specs.Meanings.{Meanings}
 use Rattle.branch_tree.specs.Trees.{IsWhole, bounds_of, cut_of, nodes_in}
 use Rattle.branch_tree.proofs.Duality.{chain_values_are_one}
 use Rattle.cert_check.specs.declared.verdict.Reason.{Reason}
-use Rattle.cert_check.specs.declared.verdict.Reason.TheVariants.{TreeShape, BoundDiffers, RayNotPositive, LeastBoundDiffers}
+use Rattle.cert_check.specs.declared.verdict.Reason.TheVariants.{TreeShape, BoundDiffers, RayNotPositive}
+use Rattle.cert_check.specs.declared.verdict.Reason.TheVariants.{LeastBoundDiffers}
 use Rattle.cert_check.specs.declared.verdict.Verdict.TheVariants.{Valid, Invalid}
 use Rattle.cert_check.specs.Laws.{VerdictsAreOne}
-use Rattle.cert_check.specs.Reasons.{IsAfterTree, IsMisshapen, IsFound, IsLeastOf, IsBelowCost, IsLeft, HasOtherLeast, money, node_tests, tests_from, plan_tests, leaf_tests, head_tests, claim_tests}
+use Rattle.cert_check.specs.Reasons.{IsAfterTree, IsMisshapen, IsFound, IsLeastOf, IsBelowCost, IsLeft, HasOtherLeast}
+use Rattle.cert_check.specs.Reasons.{money, node_tests, tests_from, plan_tests, leaf_tests, head_tests, claim_tests}
 use Rattle.cert_check.specs.Tests.{Test, FirstFails}
 use Rattle.cert_check.proofs.Proved.{found_least}
 use Rattle.cert_check.proofs.Shapes.{not_after}

@@ -1,5 +1,6 @@
 -- Families of the units of a composition.
-use Rattle.std.proofs.Common.{◌≡◌, ◌≢◌, ℕ, ◌+◌, ◌<◌, true, false, List, [], take, get_or, length, Option, Some, unwrap_or, ap, ◌∙◌, sym, subst, slice_get}
+use Rattle.std.proofs.Common.{◌≡◌, ◌≢◌, ℕ, ◌+◌, ◌<◌, true, false, List, [], take, get_or, length, Option, Some}
+use Rattle.std.proofs.Common.{unwrap_or, ap, ◌∙◌, sym, subst, slice_get}
 use Rattle.std.specs.Prelude.{option_map}
 use Rattle.std.specs.List.{list_all}
 use Rattle.std.specs.Str.{bytes_eq}

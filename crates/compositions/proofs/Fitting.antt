@@ -1,5 +1,6 @@
 -- What fits keeps fitting without its last unit, so that making longer what fits finds all that fits.
-use Rattle.std.proofs.Common.{◌≡◌, ℕ, zero, suc, ◌+◌, ◌<◌, ◌≤◌, Bool, true, ltb, ◌⊎◌, inl, inr, List, [], ◌∷◌, ◌++◌, get_or, length, refl, ap, ◌∙◌, sym, subst, arith, Contains, length-append}
+use Rattle.std.proofs.Common.{◌≡◌, ℕ, zero, suc, ◌+◌, ◌<◌, ◌≤◌, Bool, true, ltb, ◌⊎◌, inl, inr, List, [], ◌∷◌, ◌++◌}
+use Rattle.std.proofs.Common.{get_or, length, refl, ap, ◌∙◌, sym, subst, arith, Contains, length-append}
 use Rattle.std.specs.List.{flat_map}
 use Rattle.std.specs.Str.{bytes_eq}
 use Rattle.std.proofs.lemmas.Bool.{and_parts, and_from, leb-true, le-leb, ltb-true}
@@ -10,7 +11,8 @@ use Rattle.compositions.specs.declared.types.UnitType.{UnitType}
 use Rattle.compositions.specs.Catalogue.{FitInOrder, IsCatalogue}
 use Rattle.compositions.specs.Composition.{metres_of, family_of, are_types, is_one_family, fits_in}
 use Rattle.compositions.specs.Extensions.{extensions}
-use Rattle.compositions.proofs.Growth.{Grown, grown_fit, grown_in_order, extension_there, extensions_fit, extensions_ordered, flat_map_there}
+use Rattle.compositions.proofs.Growth.{Grown, grown_fit, grown_in_order, extension_there, extensions_fit}
+use Rattle.compositions.proofs.Growth.{extensions_ordered, flat_map_there}
 use Rattle.compositions.proofs.Order.{Ordered-from_pairs, pairs-from_Ordered, length_within, same_from_members}
 use Rattle.compositions.proofs.Sums.{sum_over_push}
 

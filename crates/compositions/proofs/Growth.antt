@@ -1,13 +1,17 @@
 -- The catalogue grows as each composition in turn is made longer by one unit at its rear.
-use Rattle.std.proofs.Common.{◌≡◌, ℕ, zero, suc, ◌+◌, ◌<◌, Bool, true, false, cond, inl, inr, List, [], ◌∷◌, ◌++◌, take, get_or, length, refl, ap, ◌∙◌, sym, subst, arith, All, Contains, length-append, length-take, append_assoc}
+use Rattle.std.proofs.Common.{◌≡◌, ℕ, zero, suc, ◌+◌, ◌<◌, Bool, true, false, cond, inl, inr, List, [], ◌∷◌, ◌++◌, take}
+use Rattle.std.proofs.Common.{get_or, length, refl, ap, ◌∙◌, sym, subst, arith, All, Contains, length-append}
+use Rattle.std.proofs.Common.{length-take, append_assoc}
 use Rattle.std.specs.List.{flat_map}
 use Rattle.std.proofs.lemmas.Bool.{cases_eq}
 use Rattle.std.proofs.lemmas.List.{take_more, take-append-le, append-nil, get_or-take, get_or_default}
 use Rattle.std.proofs.lemmas.List.Concat.{flat_map-append}
-use Rattle.std.proofs.lemmas.List.Elements.{All-from_get_or, Contains-get_or, Contains-append_left, Contains-append_right, Contains-append_cases}
+use Rattle.std.proofs.lemmas.List.Elements.{All-from_get_or, Contains-get_or, Contains-append_left}
+use Rattle.std.proofs.lemmas.List.Elements.{Contains-append_right, Contains-append_cases}
 use Rattle.compositions.specs.Catalogue.{comes_before}
 use Rattle.compositions.specs.Extensions.{where_it_fits, extensions}
-use Rattle.compositions.proofs.Order.{Ordered, Ordered-append, pairs-from_Ordered, before_shorter, before_push, before_last, contains_cons, contains_head, contains_tail, contains_none}
+use Rattle.compositions.proofs.Order.{Ordered, Ordered-append, pairs-from_Ordered, before_shorter, before_push}
+use Rattle.compositions.proofs.Order.{before_last, contains_cons, contains_head, contains_tail, contains_none}
 
 -- what holds of each member holds of all
 all_from_members : (P : List ℕ → Type 0) (xs : List (List ℕ)) → ((x : List ℕ) → Contains xs x → P x) → All P xs

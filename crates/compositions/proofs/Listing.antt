@@ -1,9 +1,11 @@
 -- The definition of the catalogue lists what fits, each composition once and in order.
-use Rattle.std.proofs.Common.{◌≡◌, ℕ, zero, suc, ◌<◌, ◌≤◌, Bool, true, false, cond, ltb, inl, inr, List, [], ◌∷◌, ◌++◌, filter, length, refl, ap, ◌∙◌, sym, subst, arith, Contains, length-append}
+use Rattle.std.proofs.Common.{◌≡◌, ℕ, zero, suc, ◌<◌, ◌≤◌, Bool, true, false, cond, ltb, inl, inr, List, [], ◌∷◌, ◌++◌}
+use Rattle.std.proofs.Common.{filter, length, refl, ap, ◌∙◌, sym, subst, arith, Contains, length-append}
 use Rattle.std.specs.List.{list_all, flat_map}
 use Rattle.std.proofs.lemmas.Bool.{and_parts, cases_eq}
 use Rattle.std.proofs.lemmas.List.Folds.{list_all-append}
-use Rattle.std.proofs.lemmas.List.Elements.{All-contains, filter_passes, Contains-append_left, Contains-append_right, Contains-append_cases}
+use Rattle.std.proofs.lemmas.List.Elements.{All-contains, filter_passes, Contains-append_left, Contains-append_right}
+use Rattle.std.proofs.lemmas.List.Elements.{Contains-append_cases}
 use Rattle.std.proofs.lemmas.List.Kept.{AllPairs-filter}
 use Rattle.std.proofs.lemmas.Bool.{ltb-true}
 use Rattle.compositions.specs.declared.types.UnitType.{UnitType}
@@ -11,8 +13,10 @@ use Rattle.compositions.specs.Catalogue.{comes_before, with_each, lists_of, list
 use Rattle.compositions.specs.Composition.{fits_in}
 use Rattle.compositions.specs.Extensions.{extensions}
 use Rattle.compositions.proofs.Fitting.{Fits, Fits-from_test, last_apart}
-use Rattle.compositions.proofs.Growth.{extension_member, extension_there, extensions_ordered, flat_map_member, flat_map_there}
-use Rattle.compositions.proofs.Order.{Ordered, Ordered-append, pairs-from_Ordered, before_shorter, before_push, contains_cons, contains_head, contains_tail, contains_none}
+use Rattle.compositions.proofs.Growth.{extension_member, extension_there, extensions_ordered, flat_map_member}
+use Rattle.compositions.proofs.Growth.{flat_map_there}
+use Rattle.compositions.proofs.Order.{Ordered, Ordered-append, pairs-from_Ordered, before_shorter, before_push}
+use Rattle.compositions.proofs.Order.{contains_cons, contains_head, contains_tail, contains_none}
 
 abbrev any : List ℕ → Bool
 any ms = true

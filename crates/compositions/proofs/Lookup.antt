@@ -1,5 +1,6 @@
 -- A composition is looked up among compositions in order.
-use Rattle.std.proofs.Common.{◌≡◌, ℕ, ◌+◌, ◌<◌, ◌≤◌, true, false, inl, inr, List, get_or, length, ◌∙◌, sym, subst, arith, AllPairs, Contains}
+use Rattle.std.proofs.Common.{◌≡◌, ℕ, ◌+◌, ◌<◌, ◌≤◌, true, false, inl, inr, List, get_or, length, ◌∙◌, sym, subst}
+use Rattle.std.proofs.Common.{arith, AllPairs, Contains}
 use Rattle.std.proofs.lemmas.Bool.{cases_eq, cases_order, both_ways}
 use Rattle.std.proofs.lemmas.List.{get_or_read}
 use Rattle.compositions.specs.Catalogue.{comes_before}

@@ -1,6 +1,9 @@
 -- The order of the catalogue is strict and total, and a list in order is known by its members.
-use Rattle.std.proofs.Common.{◌≡◌, ℕ, zero, suc, ◌+◌, ◌<◌, ◌≤◌, Bool, true, false, ◌&&◌, ◌||◌, eqb, ltb, ◌⊎◌, inl, inr, List, [], ◌∷◌, ◌++◌, get_or, length, refl, ap, ◌∙◌, Some, sym, subst, arith, All, AllPairs, Contains, length-append}
-use Rattle.std.proofs.lemmas.Bool.{ltb-true, lt-ltb, le-ltb, eqb-true, eq-eqb, or_cases, or_left, or_right, and_parts, and_from, cases_order, false≢true}
+use Rattle.std.proofs.Common.{◌≡◌, ℕ, zero, suc, ◌+◌, ◌<◌, ◌≤◌, Bool, true, false, ◌&&◌, ◌||◌, eqb, ltb, ◌⊎◌, inl, inr}
+use Rattle.std.proofs.Common.{List, [], ◌∷◌, ◌++◌, get_or, length, refl, ap, ◌∙◌, Some, sym, subst, arith, All}
+use Rattle.std.proofs.Common.{AllPairs, Contains, length-append}
+use Rattle.std.proofs.lemmas.Bool.{ltb-true, lt-ltb, le-ltb, eqb-true, eq-eqb, or_cases, or_left, or_right, and_parts}
+use Rattle.std.proofs.lemmas.Bool.{and_from, cases_order, false≢true}
 use Rattle.std.proofs.lemmas.Bool.Decides.{nat_tests}
 use Rattle.std.proofs.lemmas.Cmp.{same_from_slice_cmp_tested}
 use Rattle.std.specs.Cmp.Lexicographic.{slice_partial_cmp}

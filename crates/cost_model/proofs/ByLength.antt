@@ -1,5 +1,6 @@
 -- Where no turn exchanges units, units are shunted exactly where two lists differ in length.
-use Rattle.std.proofs.Common.{◌≡◌, ℕ, zero, suc, ◌+◌, ◌-◌, ◌≤◌, List, length, map, Bool, true, false, Option, Some, None, inl, inr, ◌⊎◌, ⊎_elim, refl, sym, ap, subst, ◌∙◌, arith, unwrap_or, slice_get}
+use Rattle.std.proofs.Common.{◌≡◌, ℕ, zero, suc, ◌+◌, ◌-◌, ◌≤◌, List, length, map, Bool, true, false, Option, Some}
+use Rattle.std.proofs.Common.{None, inl, inr, ◌⊎◌, ⊎_elim, refl, sym, ap, subst, ◌∙◌, arith, unwrap_or, slice_get}
 use Rattle.std.specs.Prelude.{option_map, is_some, not, ◌&&◌, ◌==◌, ◌||◌, if◌then◌else◌}
 use Rattle.std.proofs.lemmas.Bool.{and_from, and_parts, or_cases, eqb-true, eq-eqb, false≢true, cases_Bool}
 use Rattle.std.proofs.lemmas.List.{length-reverse, map-id}
@@ -13,7 +14,8 @@ use Rattle.timetable.specs.Links.{list_of, itself, turned}
 use Rattle.timetable.specs.Lists.{sum_below}
 use Rattle.timetable.specs.Turns.{Parts, staying, kept_length, kept_count, may_shunt, turn_parts}
 use Rattle.timetable.proofs.Turning.{is_staying, kept-is, turn_parts-some}
-use Rattle.cost_model.specs.WithoutExchange.{IsPlain, kind_cost_by_length, link_cost_by_length, cost_by_length, CostsByLength}
+use Rattle.cost_model.specs.WithoutExchange.{IsPlain, kind_cost_by_length, link_cost_by_length, cost_by_length}
+use Rattle.cost_model.specs.WithoutExchange.{CostsByLength}
 
 -- nothing is uncoupled, or nothing coupled
 one_side : (off on : ℕ) → may_shunt false off on ≡ true → (off ≡ 0) ⊎ (on ≡ 0)

@@ -1,4 +1,5 @@
--- The files of a folder are accepted as a day and a plan exactly where each of them is right, and together they make these.
+-- The files of a folder are accepted as a day and a plan exactly where each of them is right, and together they make
+-- these.
 use Rattle.std.proofs.Common.{◌≡◌, ℕ, Bool, true, false, cond, ltb, List, length, Result, Ok, Err, refl, sym, ap, subst}
 use Rattle.std.proofs.lemmas.Bool.{ltb-false, le-ltb}
 use Rattle.rail_base.specs.Answers.{◌>>=◌}

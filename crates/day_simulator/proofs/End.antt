@@ -1,5 +1,6 @@
 -- The end of the day: no event is missing, and each count of a yard is how many units end there.
-use Rattle.std.proofs.Common.{◌≡◌, ℕ, zero, suc, ◌<◌, ◌≤◌, List, [], ◌∷◌, length, true, false, eqb, Option, Some, None, Ok, refl, sym, ap, ◌∙◌, subst, arith, ◌≢◌, ⊎_elim}
+use Rattle.std.proofs.Common.{◌≡◌, ℕ, zero, suc, ◌<◌, ◌≤◌, List, [], ◌∷◌, length, true, false, eqb, Option, Some, None}
+use Rattle.std.proofs.Common.{Ok, refl, sym, ap, ◌∙◌, subst, arith, ◌≢◌, ⊎_elim}
 use Rattle.std.specs.Prelude.{if◌then◌else◌, ◌==◌, ◌&&◌, not}
 use Rattle.std.proofs.lemmas.Bool.{cases_eq, cases_lt, cond-true, cond-false, cases_Bool, eqb-true, eq-eqb}
 use Rattle.timetable.specs.Day.{Day, type_of, unit_count, wanted_of}
@@ -13,7 +14,8 @@ use Rattle.day_simulator.specs.declared.events.Stage.TheVariants as stage
 use Rattle.day_simulator.specs.declared.events.StepFault.{StepFault}
 use Rattle.day_simulator.specs.declared.events.StepFault.TheVariants.{Balance}
 use Rattle.day_simulator.specs.State.{State, place_of, stage_of, is_waiting, has_arrived, is_in_yard}
-use Rattle.day_simulator.specs.Finish.{first_not_made, yard_count, first_differing_type, or_else, first_differing, ended}
+use Rattle.day_simulator.specs.Finish.{first_not_made, yard_count, first_differing_type, or_else, first_differing}
+use Rattle.day_simulator.specs.Finish.{ended}
 use Rattle.timetable.proofs.Ones.{one_same, one_other, count_below_in, count_below_out}
 
 -- where every trip has arrived, each event was made

@@ -1,5 +1,6 @@
 -- The whole day on its way: what holds of each state along the fixed order, and that each event keeps it.
-use Rattle.std.proofs.Common.{◌≡◌, ℕ, zero, suc, ◌+◌, ◌<◌, ◌≤◌, List, [], ◌∷◌, length, map, Bool, true, false, cond, eqb, Option, Some, None, refl, sym, ◌∙◌, subst, arith, ◌≢◌, ⊎_elim}
+use Rattle.std.proofs.Common.{◌≡◌, ℕ, zero, suc, ◌+◌, ◌<◌, ◌≤◌, List, [], ◌∷◌, length, map, Bool, true, false, cond}
+use Rattle.std.proofs.Common.{eqb, Option, Some, None, refl, sym, ◌∙◌, subst, arith, ◌≢◌, ⊎_elim}
 use Rattle.std.specs.Prelude.{slice_get, unwrap_or, option_map, not}
 use Rattle.std.proofs.lemmas.Bool.{cases_eq, cases_lt, leb-true, le-leb, ne_eqb, and_parts}
 use Rattle.std.proofs.lemmas.List.{length-map}
@@ -15,17 +16,20 @@ use Rattle.day_simulator.specs.declared.events.DayEvent.TheVariants.{Depart, Arr
 use Rattle.day_simulator.specs.declared.events.Place.TheVariants.{Yard, Aboard, Standing}
 use Rattle.day_simulator.specs.declared.events.Stage.TheVariants as stage
 use Rattle.day_simulator.specs.declared.events.StepFault.{StepFault}
-use Rattle.day_simulator.specs.declared.events.StepFault.TheVariants.{NotNow, NoUnits, NotAdmissible, LinkBroken, NotInYard}
+use Rattle.day_simulator.specs.declared.events.StepFault.TheVariants.{NotNow, NoUnits, NotAdmissible, LinkBroken}
+use Rattle.day_simulator.specs.declared.events.StepFault.TheVariants.{NotInYard}
 use Rattle.day_simulator.specs.State.{State, start_of, place_of, stage_of, put_all}
 use Rattle.day_simulator.specs.Steps.{is_now, broken_into, broken_out, first_missing, fault_of, after}
 use Rattle.day_simulator.specs.Orders.{IsOrder, departures, arrivals, AllFrom}
 use Rattle.timetable.proofs.Ones.{one_other}
 use Rattle.day_simulator.proofs.Lawful.{Lawful, lawful_order}
-use Rattle.day_simulator.proofs.Timely.{Timely, timely_now_depart, timely_now_arrive, timely_depart, timely_arrive, timely_start}
+use Rattle.day_simulator.proofs.Timely.{Timely, timely_now_depart, timely_now_arrive, timely_depart, timely_arrive}
+use Rattle.day_simulator.proofs.Timely.{timely_start}
 use Rattle.day_simulator.proofs.Places.{HavePlaces, length-put_all, put_in, put_out, Served, served_from_none}
 use Rattle.day_simulator.proofs.Unbroken.{IsUnbroken}
 use Rattle.timetable.proofs.Accounts.{kept_arrives}
-use Rattle.day_simulator.proofs.Moves.{is_trip, Fits, DistinctSoFar, Boarding, fits_board, fits_pass_depart, fits_give, fits_keep, fits_pass_arrive, boarding_of, boards_once}
+use Rattle.day_simulator.proofs.Moves.{is_trip, Fits, DistinctSoFar, Boarding, fits_board, fits_pass_depart, fits_give}
+use Rattle.day_simulator.proofs.Moves.{fits_keep, fits_pass_arrive, boarding_of, boards_once}
 
 pub record Going (day : Day) (plan : List (List ℕ)) (state : State) (es : List DayEvent) : Type 0 where
   pub lawful : Lawful day es

@@ -1,5 +1,6 @@
 -- Along an order of the day no event is out of turn, and none is missing at the end, whatever the plan is.
-use Rattle.std.proofs.Common.{◌≡◌, ℕ, List, [], ◌∷◌, length, Bool, true, false, cond, eqb, Option, Some, None, Result, Ok, Err, refl, ap, ◌∙◌, subst}
+use Rattle.std.proofs.Common.{◌≡◌, ℕ, List, [], ◌∷◌, length, Bool, true, false, cond, eqb, Option, Some, None, Result}
+use Rattle.std.proofs.Common.{Ok, Err, refl, ap, ◌∙◌, subst}
 use Rattle.std.specs.Prelude.{IsErrOf, unwrap_or, option_map, not}
 use Rattle.timetable.specs.Admissible.{is_admissible}
 use Rattle.timetable.specs.Accepted.{IsDay, AreLinks}
@@ -11,16 +12,20 @@ use Rattle.day_simulator.specs.declared.events.DayEvent.{DayEvent}
 use Rattle.day_simulator.specs.declared.events.DayEvent.TheVariants.{Depart, Arrive}
 use Rattle.day_simulator.specs.declared.events.Stage.TheVariants as stage
 use Rattle.day_simulator.specs.declared.events.StepFault.{StepFault}
-use Rattle.day_simulator.specs.declared.events.StepFault.TheVariants.{NotNow, NoUnits, NotAdmissible, LinkBroken, NotInYard, Balance}
+use Rattle.day_simulator.specs.declared.events.StepFault.TheVariants.{NotNow, NoUnits, NotAdmissible, LinkBroken}
+use Rattle.day_simulator.specs.declared.events.StepFault.TheVariants.{NotInYard, Balance}
 use Rattle.day_simulator.specs.State.{State, start_of, stage_of, is_waiting, has_arrived}
-use Rattle.day_simulator.specs.Steps.{is_now, broken_into, broken_out, first_missing, fault_of, after, unless_fault, steps, fixed_order}
-use Rattle.day_simulator.specs.Finish.{is_made, first_not_made, yard_count, first_differing_type, first_differing, or_else, ended, finish_of, finish_after, simulation}
+use Rattle.day_simulator.specs.Steps.{is_now, broken_into, broken_out, first_missing, fault_of, after, unless_fault}
+use Rattle.day_simulator.specs.Steps.{steps, fixed_order}
+use Rattle.day_simulator.specs.Finish.{is_made, first_not_made, yard_count, first_differing_type, first_differing}
+use Rattle.day_simulator.specs.Finish.{or_else, ended, finish_of, finish_after, simulation}
 use Rattle.day_simulator.specs.Laws.{IsInTurn, InTurn}
 use Rattle.day_simulator.specs.declared.whole_day.Ran.{Ran}
 use Rattle.day_simulator.specs.declared.whole_day.SimulateRefusal.TheVariants.{Stops}
 use Rattle.day_simulator.proofs.Lawful.{fixed_is_order}
 use Rattle.day_simulator.proofs.Linked.{feeds_in_time}
-use Rattle.day_simulator.proofs.Timely.{Timely, FeedsInTime, timely_now_depart, timely_now_arrive, timely_depart, timely_arrive, timely_start}
+use Rattle.day_simulator.proofs.Timely.{Timely, FeedsInTime, timely_now_depart, timely_now_arrive, timely_depart}
+use Rattle.day_simulator.proofs.Timely.{timely_arrive, timely_start}
 
 -- ---- the fault of an event that may be made now
 

@@ -1,4 +1,5 @@
--- The links that lead into a trip and on from it: their trips are of the day, and so are the units that these give and take.
+-- The links that lead into a trip and on from it: their trips are of the day, and so are the units that these give and
+-- take.
 use Rattle.std.proofs.Common.{◌≡◌, ℕ, ◌<◌, ◌≤◌, List, length, Bool, Option, Some, None, refl, arith}
 use Rattle.std.specs.Prelude.{option_map, unwrap_or, IfSome}
 use Rattle.std.proofs.lemmas.Bool.{le-leb, leb-true}
@@ -8,7 +9,8 @@ use Rattle.timetable.specs.declared.day.records.LinkKind.{LinkKind}
 use Rattle.timetable.specs.declared.day.records.LinkKind.TheVariants.{Turn, Join, Split}
 use Rattle.timetable.specs.Day.{Day, unit_count, type_of}
 use Rattle.timetable.specs.Lists.{count_of, has}
-use Rattle.timetable.specs.Links.{list_of, incoming, outgoing, link_into, link_out, arriving_in, departing_in, turned, given_by, taken_by, given, taken, given_with, taken_with}
+use Rattle.timetable.specs.Links.{list_of, incoming, outgoing, link_into, link_out, arriving_in, departing_in, turned}
+use Rattle.timetable.specs.Links.{given_by, taken_by, given, taken, given_with, taken_with}
 use Rattle.timetable.specs.Running.{IsPlan, AreUnits}
 use Rattle.timetable.proofs.NamedTrips.{position_some}
 use Rattle.timetable.proofs.Shares.{turn_shares, count_of-turned}

@@ -1,5 +1,6 @@
 -- The first unit that is missing, found in a loop over the units.
-use Rattle.std.proofs.Common.{◌≡◌, ℕ, ◌+◌, ◌<◌, List, ◌∷◌, length, get_or, set, take, drop, Option, Some, unwrap_or, slice_get, Bool, true, false, cond, sym, ap, ◌∙◌}
+use Rattle.std.proofs.Common.{◌≡◌, ℕ, ◌+◌, ◌<◌, List, ◌∷◌, length, get_or, set, take, drop, Option, Some, unwrap_or}
+use Rattle.std.proofs.Common.{slice_get, Bool, true, false, cond, sym, ap, ◌∙◌}
 use Rattle.std.proofs.lemmas.List.{drop_more, get_or_read}
 use Rattle.timetable.specs.Day.{Day, leaves, from_of}
 use Rattle.timetable.specs.Lists.{has}

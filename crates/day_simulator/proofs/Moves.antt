@@ -1,7 +1,9 @@
 -- One unit along the events still to come: where it is, and which of its trips it may board next.
-use Rattle.std.proofs.Common.{◌≡◌, ℕ, ◌+◌, ◌*◌, ◌<◌, ◌≤◌, List, [], ◌∷◌, length, true, false, eqb, leb, refl, sym, ap, subst, arith, ◌≢◌, ⊎_elim, inl, inr}
+use Rattle.std.proofs.Common.{◌≡◌, ℕ, ◌+◌, ◌*◌, ◌<◌, ◌≤◌, List, [], ◌∷◌, length, true, false, eqb, leb, refl, sym, ap}
+use Rattle.std.proofs.Common.{subst, arith, ◌≢◌, ⊎_elim, inl, inr}
 use Rattle.std.specs.Prelude.{unwrap_or}
-use Rattle.std.proofs.lemmas.Bool.{cases_eq, cases_lt, leb-true, le-leb, eqb-true, eq-eqb, and_parts, and_from, false≢true}
+use Rattle.std.proofs.lemmas.Bool.{cases_eq, cases_lt, leb-true, le-leb, eqb-true, eq-eqb, and_parts, and_from}
+use Rattle.std.proofs.lemmas.Bool.{false≢true}
 use Rattle.std.proofs.lemmas.Option.{slice_get_past}
 use Rattle.timetable.specs.Day.{Day, leaves, arrives, from_of, to_of, reallocation_of}
 use Rattle.timetable.specs.Lists.{count_of, IsDistinct}
@@ -17,7 +19,8 @@ use Rattle.day_simulator.specs.Orders.{departures, arrivals}
 use Rattle.timetable.proofs.Ones.{one_same, one_other}
 use Rattle.day_simulator.proofs.Lawful.{Lawful, left_depart, left_arrive, arrived_before, departs_after, from_arrival}
 use Rattle.day_simulator.proofs.Unbroken.{IsUnbroken}
-use Rattle.timetable.proofs.Accounts.{kept_arrives, kept_departs, not_given_and_kept, not_taken_and_kept, kept_for_one, comes_from, goes_to}
+use Rattle.timetable.proofs.Accounts.{kept_arrives, kept_departs, not_given_and_kept, not_taken_and_kept, kept_for_one}
+use Rattle.timetable.proofs.Accounts.{comes_from, goes_to}
 
 -- a trip that has a unit is a trip of the day
 pub is_trip : (day : Day) (plan : List (List ℕ)) (u t : ℕ) → IsPlan day plan → 1 ≤ count_of u (list_of plan t) → t < length day.trips
@@ -31,8 +34,8 @@ is_trip day plan u t is_plan c =
     absurd (omega arith))
     (cases_lt t (length day.trips))
 
--- a unit is where the events still to come say: in the train of its trip that is under way, or of its trip that arrived and
--- whose next trip is still to depart, and else in a yard
+-- a unit is where the events still to come say: in the train of its trip that is under way, or of its trip that arrived
+-- and whose next trip is still to depart, and else in a yard
 pub record Fits (day : Day) (plan : List (List ℕ)) (u : ℕ) (place : Place) (es : List DayEvent) : Type 0 where
   pub under_way : (t : ℕ) → 1 ≤ count_of u (list_of plan t) → departures t es ≡ 0 → 1 ≤ arrivals t es → place ≡ Aboard t
   pub pending : (a b : ℕ) → 1 ≤ count_of u (kept day plan a b) → arrivals a es ≡ 0 → 1 ≤ departures b es → place ≡ Standing a
@@ -179,7 +182,8 @@ module _ (day : Day) (plan : List (List ℕ)) (is_day : IsDay day) (is_plan : Is
       let o = one_same t t refl in
       fits.pending a t k (arrived_before day a t es (accounted.accounts.time u a t k) lawful) (omega arith)
 
-  -- a unit of a trip that departs, where those that it takes are ready, comes from a yard or from a train that it is kept from
+  -- a unit of a trip that departs, where those that it takes are ready, comes from a yard or from a train that it is
+  -- kept from
   pub boarding_of : (u t : ℕ) (place : Place) (es : List DayEvent) → Lawful day (Depart t ∷ es) → 1 ≤ count_of u (list_of plan t) → (1 ≤ count_of u (taken day plan t) → is_ready (from_of day t) (leaves day t) place ≡ true) → Fits day plan u place (Depart t ∷ es) → Boarding day plan u t place
   boarding_of u t place es lawful mine ready fits =
       ⊎_elim (λ (c : 1 ≤ count_of u (taken day plan t)). from_yard place c (ready c))

@@ -1,5 +1,6 @@
 -- From the steps and the end of a day to the whole day.
-use Rattle.std.proofs.Common.{◌≡◌, ◌<◌, ℕ, zero, suc, ◌≤◌, List, [], ◌++◌, ◌∷◌, Result, Ok, Err, refl, sym, ap, ◌∙◌, subst, length, arith, pos}
+use Rattle.std.proofs.Common.{◌≡◌, ◌<◌, ℕ, zero, suc, ◌≤◌, List, [], ◌++◌, ◌∷◌, Result, Ok, Err, refl, sym, ap, ◌∙◌}
+use Rattle.std.proofs.Common.{subst, length, arith, pos}
 use Rattle.std.specs.Prelude.{MatchResult}
 use Rattle.std.specs.List.{All, AllByRecursion}
 use Rattle.std.proofs.lemmas.List.Elements.{All-from_recursion}

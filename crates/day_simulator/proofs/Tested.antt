@@ -1,5 +1,6 @@
 -- A day that goes through to its end has tested the rule of each link.
-use Rattle.std.proofs.Common.{◌≡◌, ℕ, ◌≤◌, List, [], ◌∷◌, length, Bool, true, false, cond, eqb, Option, Some, None, Ok, refl, sym, ap, ◌∙◌, subst, arith, ◌≢◌, ⊎_elim}
+use Rattle.std.proofs.Common.{◌≡◌, ℕ, ◌≤◌, List, [], ◌∷◌, length, Bool, true, false, cond, eqb, Option, Some, None, Ok}
+use Rattle.std.proofs.Common.{refl, sym, ap, ◌∙◌, subst, arith, ◌≢◌, ⊎_elim}
 use Rattle.std.specs.Prelude.{not, slice_get, unwrap_or, option_map}
 use Rattle.std.proofs.lemmas.Bool.{cases_eq, le-leb}
 use Rattle.timetable.specs.Day.{Day, type_of, types_of}
@@ -13,9 +14,11 @@ use Rattle.timetable.specs.Links.{list_of, link_holds, arriving_in, departing_in
 use Rattle.day_simulator.specs.declared.events.DayEvent.{DayEvent}
 use Rattle.day_simulator.specs.declared.events.DayEvent.TheVariants.{Depart, Arrive}
 use Rattle.day_simulator.specs.declared.events.StepFault.{StepFault}
-use Rattle.day_simulator.specs.declared.events.StepFault.TheVariants.{NotNow, NoUnits, NotAdmissible, LinkBroken, NotInYard}
+use Rattle.day_simulator.specs.declared.events.StepFault.TheVariants.{NotNow, NoUnits, NotAdmissible, LinkBroken}
+use Rattle.day_simulator.specs.declared.events.StepFault.TheVariants.{NotInYard}
 use Rattle.day_simulator.specs.State.{State, start_of}
-use Rattle.day_simulator.specs.Steps.{is_now, is_tested_at, broken, broken_into, broken_out, first_missing, fault_of, after, steps}
+use Rattle.day_simulator.specs.Steps.{is_now, is_tested_at, broken, broken_into, broken_out, first_missing, fault_of}
+use Rattle.day_simulator.specs.Steps.{after, steps}
 use Rattle.day_simulator.specs.Orders.{IsOrder, departures, arrivals}
 use Rattle.timetable.proofs.Ones.{one_same, one_other}
 use Rattle.timetable.proofs.NamedTrips.{place_is}

@@ -1,5 +1,6 @@
 -- The whole day: it goes through exactly where each list may run and each unit can board its trips one after another.
-use Rattle.std.proofs.Common.{◌≡◌, ◌+◌, ℕ, zero, suc, ◌<◌, ◌≤◌, List, [], ◌∷◌, Bool, true, Option, Some, None, Result, Ok, refl, sym, ap, ◌∙◌, subst, arith, ◌≢◌, ⊎_elim, ◌⊎◌, inl, inr}
+use Rattle.std.proofs.Common.{◌≡◌, ◌+◌, ℕ, zero, suc, ◌<◌, ◌≤◌, List, [], ◌∷◌, Bool, true, Option, Some, None, Result}
+use Rattle.std.proofs.Common.{Ok, refl, sym, ap, ◌∙◌, subst, arith, ◌≢◌, ⊎_elim, ◌⊎◌, inl, inr}
 use Rattle.std.proofs.lemmas.Bool.{cases_eq, le-leb, lt-leb, cond-true, cond-false}
 use Rattle.timetable.specs.Day.{Day, leaves, arrives, from_of, to_of, reallocation_of, unit_count}
 use Rattle.timetable.specs.Lists.{count_of, has}
@@ -21,8 +22,11 @@ use Rattle.day_simulator.proofs.Lawful.{left_arrive}
 use Rattle.day_simulator.proofs.Legs.{legs}
 use Rattle.day_simulator.proofs.Places.{none_from_served}
 use Rattle.day_simulator.proofs.Unbroken.{IsUnbroken}
-use Rattle.day_simulator.proofs.Moves.{Fits, BoardsAll, arrives_aboard, ready_from_boards, boards_all_give, boards_all_give_back, boards_all_keep, boards_all_keep_back}
-use Rattle.day_simulator.proofs.Going.{Going, Departs, departs_from_none, none_from_departs, none_from_arrives, taken_within, now_depart, now_arrive, place_aboard, place_stays, place_given, place_kept, place_remains, boarding, distinct_here, going_depart, going_arrive}
+use Rattle.day_simulator.proofs.Moves.{Fits, BoardsAll, arrives_aboard, ready_from_boards, boards_all_give}
+use Rattle.day_simulator.proofs.Moves.{boards_all_give_back, boards_all_keep, boards_all_keep_back}
+use Rattle.day_simulator.proofs.Going.{Going, Departs, departs_from_none, none_from_departs, none_from_arrives}
+use Rattle.day_simulator.proofs.Going.{taken_within, now_depart, now_arrive, place_aboard, place_stays, place_given}
+use Rattle.day_simulator.proofs.Going.{place_kept, place_remains, boarding, distinct_here, going_depart, going_arrive}
 
 -- whether a trip has a unit
 abbrev pub runs_on : List (List ℕ) → ℕ → ℕ → Bool

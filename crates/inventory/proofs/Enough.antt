@@ -1,13 +1,15 @@
--- Where the counts are never short, each trip finds enough units of each type in the yard; and at the end of the day each yard has
--- what is wanted.
-use Rattle.std.proofs.Common.{◌≡◌, ℕ, ◌+◌, ◌<◌, ◌≤◌, List, [], ◌∷◌, length, Bool, true, false, cond, refl, ap, ◌∙◌, subst, arith, inl, inr}
+-- Where the counts are never short, each trip finds enough units of each type in the yard; and at the end of the day
+-- each yard has what is wanted.
+use Rattle.std.proofs.Common.{◌≡◌, ℕ, ◌+◌, ◌<◌, ◌≤◌, List, [], ◌∷◌, length, Bool, true, false, cond, refl, ap, ◌∙◌}
+use Rattle.std.proofs.Common.{subst, arith, inl, inr}
 use Rattle.std.specs.Prelude.{if◌then◌else◌, ◌==◌, ◌&&◌, not, nat_le}
 use Rattle.std.proofs.lemmas.Bool.{cases_eq, cond-true, false≢true, and_parts, and_from, leb-true, le-leb, eq-eqb}
 use Rattle.timetable.specs.Accepted.{IsDay, AreLinks, IsStocked}
 use Rattle.timetable.specs.Day.{Day, leaves, from_of, to_of, type_of, unit_count, wanted_of}
 use Rattle.timetable.specs.Links.{itself, taken_with}
 use Rattle.timetable.specs.Lists.{count_of, has}
-use Rattle.inventory.specs.Counts.{AreServed, takes_of, gives_of, ready_at, taken_until, ready_until, all_taken, all_given}
+use Rattle.inventory.specs.Counts.{AreServed, takes_of, gives_of, ready_at, taken_until, ready_until, all_taken}
+use Rattle.inventory.specs.Counts.{all_given}
 use Rattle.inventory.specs.Naming.{standing, may_be_taken, latest_first}
 use Rattle.inventory.proofs.Sums.{one_same, one_other, sum_same, sum_le}
 use Rattle.inventory.proofs.Order.{in_list, AreInTurn, leaves_before, before_leaves, is_there, is_trip, latest_in_turn}

@@ -1,7 +1,10 @@
--- The units that are taken for the places of a trip: where the yard has enough of each type, each place gets a unit of its type.
-use Rattle.std.proofs.Common.{◌≡◌, ℕ, zero, suc, ◌+◌, ◌<◌, ◌≤◌, List, [], ◌∷◌, Bool, true, cond, Option, Some, None, refl, sym, ap, ◌∙◌, subst, arith, inl, inr, false}
+-- The units that are taken for the places of a trip: where the yard has enough of each type, each place gets a unit of
+-- its type.
+use Rattle.std.proofs.Common.{◌≡◌, ℕ, zero, suc, ◌+◌, ◌<◌, ◌≤◌, List, [], ◌∷◌, Bool, true, cond, Option, Some, None}
+use Rattle.std.proofs.Common.{refl, sym, ap, ◌∙◌, subst, arith, inl, inr, false}
 use Rattle.std.specs.Prelude.{if◌then◌else◌, ◌==◌, ◌&&◌, not, unwrap_or, nat_le, nat_lt}
-use Rattle.std.proofs.lemmas.Bool.{cases_eq, cases_lt, cases_Bool, cond-true, cond-false, false≢true, ltb-true, ltb-false, and_parts, and_from, eqb-true, eq-eqb, lt-leb}
+use Rattle.std.proofs.lemmas.Bool.{cases_eq, cases_lt, cases_Bool, cond-true, cond-false, false≢true, ltb-true}
+use Rattle.std.proofs.lemmas.Bool.{ltb-false, and_parts, and_from, eqb-true, eq-eqb, lt-leb}
 use Rattle.std.proofs.lemmas.Bool.Decides.{nat_tests}
 use Rattle.timetable.specs.Day.{Day, type_of, types_of, unit_count}
 use Rattle.timetable.specs.Lists.{count_of, has, count_below}

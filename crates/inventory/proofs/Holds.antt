@@ -1,5 +1,7 @@
 -- A table that was filled holds the counts of the yards.
-use Rattle.std.proofs.Common.{◌≡◌, ℕ, zero, suc, ◌+◌, ◌*◌, ◌<◌, ◌≤◌, List, [], ◌∷◌, length, map, replicate, get_or, Bool, true, false, cond, Option, Some, None, refl, sym, ap, subst, ◌∙◌, arith, inl, inr, pos, negsuc, ℤ, ◌-ℤ◌, length-append}
+use Rattle.std.proofs.Common.{◌≡◌, ℕ, zero, suc, ◌+◌, ◌*◌, ◌<◌, ◌≤◌, List, [], ◌∷◌, length, map, replicate, get_or}
+use Rattle.std.proofs.Common.{Bool, true, false, cond, Option, Some, None, refl, sym, ap, subst, ◌∙◌, arith, inl, inr}
+use Rattle.std.proofs.Common.{pos, negsuc, ℤ, ◌-ℤ◌, length-append}
 use Rattle.std.specs.Prelude.{if◌then◌else◌, ◌==◌, ◌&&◌, nat_le, nat_lt, unwrap_or, option_map}
 use Rattle.std.proofs.lemmas.Bool.{cases_Bool, cond-true, cond-false, lt-ltb, eqb-true}
 use Rattle.std.proofs.lemmas.List.{length-map, length-replicate}
@@ -19,7 +21,8 @@ use Rattle.timetable.specs.Starts.{start_in, start_of}
 use Rattle.timetable.specs.Turns.{kept_length, turn_parts}
 use Rattle.timetable.proofs.Listing.{length-listed, get_listed}
 use Rattle.timetable.proofs.Minutes.{are_minutes, few_minutes_of}
-use Rattle.inventory.specs.CountTable.{plus, earlier, sums_from, sums_for, all_sums, changed, changed_for, with_given, with_trips, zeros, zeros_for, zero_table, cleared, MoveFew}
+use Rattle.inventory.specs.CountTable.{plus, earlier, sums_from, sums_for, all_sums, changed, changed_for, with_given}
+use Rattle.inventory.specs.CountTable.{with_trips, zeros, zeros_for, zero_table, cleared, MoveFew}
 use Rattle.inventory.specs.Counted.{counts_of, number_at, HasPlaces, IsCountTable}
 use Rattle.inventory.specs.Counts.{ready_at, takes_of, gives_of, taken_until, ready_until, all_taken, all_given}
 use Rattle.inventory.proofs.Sums.{sum_same}

@@ -1,5 +1,6 @@
 -- The laws of naming.
-use Rattle.std.proofs.Common.{◌≡◌, ℕ, ◌<◌, List, [], ◌∷◌, length, Bool, false, refl, sym, ap, ◌∙◌, subst, arith, reverse}
+use Rattle.std.proofs.Common.{◌≡◌, ℕ, ◌<◌, List, [], ◌∷◌, length, Bool, false, refl, sym, ap, ◌∙◌, subst, arith}
+use Rattle.std.proofs.Common.{reverse}
 use Rattle.std.specs.Prelude.{filter, nat_lt}
 use Rattle.std.proofs.lemmas.Bool.{cond-false, le-ltb}
 use Rattle.timetable.specs.Day.{Day, leaves, home_of, unit_count}

@@ -1,5 +1,6 @@
 -- The places of each trip of a day with links: what goes on from a trip, what comes with the trains that lead into it.
-use Rattle.std.proofs.Common.{◌≡◌, ℕ, ◌+◌, ◌<◌, ◌≤◌, List, [], ◌∷◌, ◌++◌, length, map, Bool, true, eqb, Option, Some, None, refl, sym, ap, ◌∙◌, subst, arith, ◌≢◌, inl, inr}
+use Rattle.std.proofs.Common.{◌≡◌, ℕ, ◌+◌, ◌<◌, ◌≤◌, List, [], ◌∷◌, ◌++◌, length, map, Bool, true, eqb, Option, Some}
+use Rattle.std.proofs.Common.{None, refl, sym, ap, ◌∙◌, subst, arith, ◌≢◌, inl, inr}
 use Rattle.std.specs.Prelude.{option_map, option_and_then, unwrap_or, slice_get, position}
 use Rattle.std.specs.List.{flat_map}
 use Rattle.std.proofs.lemmas.Bool.{cases_eq, cases_lt, ne_eqb, le-leb, cond-false}
@@ -9,16 +10,20 @@ use Rattle.timetable.specs.declared.day.records.LinkKind.{LinkKind}
 use Rattle.timetable.specs.declared.day.records.LinkKind.TheVariants.{Turn, Join, Split}
 use Rattle.timetable.specs.Accepted.{AreLinks}
 use Rattle.timetable.specs.Day.{Day, leaves, arrives}
-use Rattle.timetable.specs.Links.{list_of, itself, turned, link_holds, kind_holds, arriving_in, departing_in, incoming, outgoing, link_out, link_into, kept_by, given_by, taken_by, kept_with, given_with, taken_with}
+use Rattle.timetable.specs.Links.{list_of, itself, turned, link_holds, kind_holds, arriving_in, departing_in, incoming}
+use Rattle.timetable.specs.Links.{outgoing, link_out, link_into, kept_by, given_by, taken_by, kept_with, given_with}
+use Rattle.timetable.specs.Links.{taken_with}
 use Rattle.timetable.specs.Lists.{count_of, has}
 use Rattle.timetable.specs.Turns.{kept_count, staying}
 use Rattle.timetable.proofs.NamedTrips.{IsNamed, named_or_not, named_here, place_is}
 use Rattle.timetable.proofs.Shares.{count_of-append}
-use Rattle.inventory.specs.Places.{going_by, left_by, come_by, fetched_by, coupled_by, going_on, given_places, kept_places, taken_places, put_together, feeding, coming}
+use Rattle.inventory.specs.Places.{going_by, left_by, come_by, fetched_by, coupled_by, going_on, given_places}
+use Rattle.inventory.specs.Places.{kept_places, taken_places, put_together, feeding, coming}
 use Rattle.inventory.proofs.Sums.{one_same}
 use Rattle.inventory.proofs.Order.{in_list}
 use Rattle.inventory.proofs.ByKind.{kind_given, kind_taken, kind_kept, kind_come, kind_back, kind_within}
-use Rattle.inventory.proofs.PlacesByKind.{kind_goes, kind_shares, going-map, left-map, fetched-map, IsPutTogether, put_together_is}
+use Rattle.inventory.proofs.PlacesByKind.{kind_goes, kind_shares, going-map, left-map, fetched-map, IsPutTogether}
+use Rattle.inventory.proofs.PlacesByKind.{put_together_is}
 
 -- what goes on from a trip goes on in one of two, and the rest is given
 pub record Goes (day : Day) (types : List (List ℕ)) (a : ℕ) : Type 0 where

@@ -1,5 +1,6 @@
 -- The named plan: each of its lists is the one that the rule names from the lists of the trips before it.
-use Rattle.std.proofs.Common.{◌≡◌, ℕ, zero, suc, ◌<◌, ◌≤◌, List, [], ◌∷◌, ◌++◌, length, map, eqb, Option, Some, refl, sym, ap, ◌∙◌, arith, ◌≢◌, ◌⊎◌, inl, inr, length-append}
+use Rattle.std.proofs.Common.{◌≡◌, ℕ, zero, suc, ◌<◌, ◌≤◌, List, [], ◌∷◌, ◌++◌, length, map, eqb, Option, Some, refl}
+use Rattle.std.proofs.Common.{sym, ap, ◌∙◌, arith, ◌≢◌, ◌⊎◌, inl, inr, length-append}
 use Rattle.std.specs.Prelude.{if◌then◌else◌, nat_lt, unwrap_or, slice_get}
 use Rattle.std.proofs.lemmas.Bool.{cases_eq, cases_lt, cond-true, cond-false, eq-eqb, ne_eqb}
 use Rattle.std.proofs.lemmas.List.{length-map, map-append}
@@ -9,7 +10,8 @@ use Rattle.timetable.specs.Accepted.{IsDay, AreLinks}
 use Rattle.timetable.specs.Day.{Day, leaves, from_of}
 use Rattle.timetable.specs.Links.{list_of, itself, taken_with}
 use Rattle.timetable.specs.Lists.{count_of, has, below}
-use Rattle.inventory.specs.Naming.{InYard, standing, after_trip, fetched, named_list, list_from, naming, latest_first, named_from}
+use Rattle.inventory.specs.Naming.{InYard, standing, after_trip, fetched, named_list, list_from, naming, latest_first}
+use Rattle.inventory.specs.Naming.{named_from}
 use Rattle.inventory.specs.Places.{coming, put_together}
 use Rattle.inventory.proofs.Sums.{one_same}
 use Rattle.inventory.proofs.Order.{IsTurn, AreInTurn, is_trip, latest_in_turn}

@@ -1,8 +1,10 @@
--- What one unit takes from the yards and gives to them along its duty, in a plan that runs: it is taken where it stands, and given
--- where it ends.
-use Rattle.std.proofs.Common.{◌≡◌, ℕ, ◌+◌, ◌<◌, ◌≤◌, List, [], ◌∷◌, length, map, Bool, true, false, cond, Option, refl, sym, ap, ◌∙◌, subst, arith, ⊎_elim, inl, inr, unwrap_or}
+-- What one unit takes from the yards and gives to them along its duty, in a plan that runs: it is taken where it
+-- stands, and given where it ends.
+use Rattle.std.proofs.Common.{◌≡◌, ℕ, ◌+◌, ◌<◌, ◌≤◌, List, [], ◌∷◌, length, map, Bool, true, false, cond, Option, refl}
+use Rattle.std.proofs.Common.{sym, ap, ◌∙◌, subst, arith, ⊎_elim, inl, inr, unwrap_or}
 use Rattle.std.specs.Prelude.{if◌then◌else◌, ◌==◌, ◌&&◌, nat_le, IsTrue, filter}
-use Rattle.std.proofs.lemmas.Bool.{cases_lt, cases_Bool, cond-true, cond-false, false≢true, and_parts, and_from, eqb-true, eq-eqb, leb-true, le-leb}
+use Rattle.std.proofs.lemmas.Bool.{cases_lt, cases_Bool, cond-true, cond-false, false≢true, and_parts, and_from}
+use Rattle.std.proofs.lemmas.Bool.{eqb-true, eq-eqb, leb-true, le-leb}
 use Rattle.std.proofs.lemmas.Option.{slice_get_past}
 use Rattle.timetable.specs.Accepted.{IsDay, AreLinks}
 use Rattle.timetable.specs.Day.{Day, leaves, from_of, to_of, home_of, type_of, types_of, unit_count}
@@ -14,8 +16,10 @@ use Rattle.timetable.proofs.ListedUnits.{list_of-types}
 use Rattle.inventory.specs.Counts.{ready_at}
 use Rattle.inventory.specs.Places.{going_on, given_places, kept_places, taken_places, coming}
 use Rattle.inventory.proofs.Sums.{one, one_same, one_other, sum_same}
-use Rattle.inventory.proofs.Order.{InLine, in_list, in_order_in_line, count_of-in_order, count_below_in, count_below_out, leaves_before, not_itself}
-use Rattle.inventory.proofs.Linked.{Goes, LeadsInto, AllHold, goes, going_feeds, feeds, coming_from, coming_has, places_share, come_is, taken_is, given_is, kept_is}
+use Rattle.inventory.proofs.Order.{InLine, in_list, in_order_in_line, count_of-in_order, count_below_in}
+use Rattle.inventory.proofs.Order.{count_below_out, leaves_before, not_itself}
+use Rattle.inventory.proofs.Linked.{Goes, LeadsInto, AllHold, goes, going_feeds, feeds, coming_from, coming_has}
+use Rattle.inventory.proofs.Linked.{places_share, come_is, taken_is, given_is, kept_is}
 use Rattle.inventory.proofs.Standing.{not_given, going_less}
 use Rattle.inventory.proofs.Yards.{list_sum, list_sum_below, cond_zero}
 
@@ -355,7 +359,8 @@ module _ (day : Day) (plan : List (List ℕ)) (is_day : IsDay day) (links : AreL
         ]))
       ])
 
-  -- a unit is taken at a station until a minute no more often than it was at home there, or was given there and is ready
+  -- a unit is taken at a station until a minute no more often than it was at home there, or was given there and is
+  -- ready
   pub until_unit : (s minute u : ℕ) → u < unit_count day → sum_below (takes_until s minute u) (length day.trips) ≤ at_home s u + sum_below (gives_until s minute u) (length day.trips)
   until_unit s minute u lt =
       let takes = of_duty u (takes_until s minute u) (λ t in_day none. cond_zero ((from_of day t == s) && nat_le (leaves day t) minute) (count_of u (taken day plan t)) (let less = taken_less t u in omega arith)) in

@@ -1,5 +1,7 @@
--- The order in which trips leave: by minute, and then by number. The latest first, each trip comes after all that leave before it.
-use Rattle.std.proofs.Common.{◌≡◌, ℕ, zero, suc, ◌+◌, ◌<◌, ◌≤◌, List, [], ◌∷◌, ◌++◌, length, reverse, Bool, true, false, cond, refl, sym, ap, ◌∙◌, subst, arith, ◌≢◌, ◌⊎◌, inl, inr}
+-- The order in which trips leave: by minute, and then by number. The latest first, each trip comes after all that leave
+-- before it.
+use Rattle.std.proofs.Common.{◌≡◌, ℕ, zero, suc, ◌+◌, ◌<◌, ◌≤◌, List, [], ◌∷◌, ◌++◌, length, reverse, Bool, true, false}
+use Rattle.std.proofs.Common.{cond, refl, sym, ap, ◌∙◌, subst, arith, ◌≢◌, ◌⊎◌, inl, inr}
 use Rattle.std.specs.Prelude.{if◌then◌else◌, ◌==◌, filter}
 use Rattle.std.proofs.lemmas.Bool.{cases_eq, cases_lt, cases_Bool, cond-true, cond-false, false≢true}
 use Rattle.std.proofs.lemmas.Bool.Decides.{nat_tests}
@@ -188,7 +190,8 @@ falls_reverse day (x ∷ ts) h once = subst (Falls day) (sym (reverse-append (x 
     (falls_more day x (reverse ts) (falls_reverse day ts h.1 (λ y. let c = once y in omega arith))
     (λ t c. let same = count_of-turned t true ts in is_total day t x (h.0 t (omega arith)) (λ e. let o = one_same x t (sym e) in let two = once t in absurd (omega arith))))
 
--- a trip that leaves next, once the trips of a list have left: the list has all those that leave before it, and no other
+-- a trip that leaves next, once the trips of a list have left: the list has all those that leave before it, and no
+-- other
 pub record IsTurn (day : Day) (b : ℕ) (before : List ℕ) : Type 0 where
   pub here : b < length day.trips
   pub fresh : count_of b before ≡ 0

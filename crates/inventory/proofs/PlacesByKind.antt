@@ -1,6 +1,8 @@
--- The places of a link, by its kind, whatever the lists are: each unit of an arriving train goes on or is given, each of a departing
--- one came with a train or is taken; and a list that is put together has its places where they should be.
-use Rattle.std.proofs.Common.{◌≡◌, ℕ, suc, ◌+◌, ◌-◌, ◌≤◌, List, [], ◌∷◌, ◌++◌, length, take, drop, map, Bool, true, false, cond, eqb, refl, sym, ap, ◌∙◌, subst, arith, ◌≢◌, length-append, length-drop}
+-- The places of a link, by its kind, whatever the lists are: each unit of an arriving train goes on or is given, each
+-- of a departing one came with a train or is taken; and a list that is put together has its places where they should
+-- be.
+use Rattle.std.proofs.Common.{◌≡◌, ℕ, suc, ◌+◌, ◌-◌, ◌≤◌, List, [], ◌∷◌, ◌++◌, length, take, drop, map, Bool, true}
+use Rattle.std.proofs.Common.{false, cond, eqb, refl, sym, ap, ◌∙◌, subst, arith, ◌≢◌, length-append, length-drop}
 use Rattle.std.proofs.lemmas.Bool.{cond-true, cond-false, eq-eqb, ne_eqb}
 use Rattle.std.proofs.lemmas.List.{take-append-drop, length-map, map-append, take-map, drop-map, length-take-le}
 use Rattle.std.proofs.Math.Seq.{take-append_seam, drop-append_seam}

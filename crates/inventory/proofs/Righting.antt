@@ -1,11 +1,14 @@
--- Each trip is right, one after another: those that were named before the minute by what is asked of them, and those that the rule
--- names, since the yard has enough.
-use Rattle.std.proofs.Common.{◌≡◌, ℕ, ◌+◌, ◌<◌, ◌≤◌, List, [], ◌∷◌, true, false, Option, Some, None, refl, sym, ap, ◌∙◌, subst, arith, inl, inr}
+-- Each trip is right, one after another: those that were named before the minute by what is asked of them, and those
+-- that the rule names, since the yard has enough.
+use Rattle.std.proofs.Common.{◌≡◌, ℕ, ◌+◌, ◌<◌, ◌≤◌, List, [], ◌∷◌, true, false, Option, Some, None, refl, sym, ap, ◌∙◌}
+use Rattle.std.proofs.Common.{subst, arith, inl, inr}
 use Rattle.std.specs.Prelude.{◌==◌, nat_le, nat_lt}
-use Rattle.std.proofs.lemmas.Bool.{cases_lt, cases_Bool, cond-true, cond-false, false≢true, and_from, leb-true, le-leb, lt-ltb, ltb-true, eq-eqb}
+use Rattle.std.proofs.lemmas.Bool.{cases_lt, cases_Bool, cond-true, cond-false, false≢true, and_from, leb-true, le-leb}
+use Rattle.std.proofs.lemmas.Bool.{lt-ltb, ltb-true, eq-eqb}
 use Rattle.std.proofs.lemmas.List.{map-id}
 use Rattle.timetable.specs.Accepted.{IsDay, AreLinks, IsStocked}
-use Rattle.timetable.specs.Day.{Day, leaves, arrives, from_of, to_of, home_of, type_of, types_of, unit_count, reallocation_of}
+use Rattle.timetable.specs.Day.{Day, leaves, arrives, from_of, to_of, home_of, type_of, types_of, unit_count}
+use Rattle.timetable.specs.Day.{reallocation_of}
 use Rattle.timetable.specs.Links.{list_of, itself, taken_with}
 use Rattle.timetable.specs.Lists.{count_of, has}
 use Rattle.inventory.specs.Counts.{AreServed}
@@ -14,8 +17,10 @@ use Rattle.inventory.specs.Naming.{after_trip, standing, may_be_taken, fetched, 
 use Rattle.inventory.specs.Places.{going_on, given_places, kept_places, taken_places, coming}
 use Rattle.inventory.proofs.Order.{in_list, AreInTurn, before_leaves}
 use Rattle.inventory.proofs.Fetching.{AreFetched, are_fetched}
-use Rattle.inventory.proofs.Linked.{IsListFor, going_feeds, coming_from, coming_has, coming_same, coming-map, coming_once, places_share, come_is, taken_is, put_is}
-use Rattle.inventory.proofs.Standing.{IsRight, AreRight, latest, latest_some, stands_after, after_none, after_some, standing_is, right_of, go_on, going_less, not_in_yard, fed_before, le_has}
+use Rattle.inventory.proofs.Linked.{IsListFor, going_feeds, coming_from, coming_has, coming_same, coming-map}
+use Rattle.inventory.proofs.Linked.{coming_once, places_share, come_is, taken_is, put_is}
+use Rattle.inventory.proofs.Standing.{IsRight, AreRight, latest, latest_some, stands_after, after_none, after_some}
+use Rattle.inventory.proofs.Standing.{standing_is, right_of, go_on, going_less, not_in_yard, fed_before, le_has}
 use Rattle.inventory.proofs.Enough.{all_hold, enough}
 use Rattle.inventory.proofs.Following.{last_in, given_trips, AreLed, IsLed, led_here, led_before, last_given}
 

@@ -1,7 +1,9 @@
 -- Where each trip is right, the plan runs.
-use Rattle.std.proofs.Common.{◌≡◌, ℕ, suc, ◌+◌, ◌<◌, ◌≤◌, List, [], ◌∷◌, length, map, reverse, Bool, true, false, cond, Option, Some, None, refl, sym, ap, ◌∙◌, subst, arith, ◌⊎◌, inl, inr}
+use Rattle.std.proofs.Common.{◌≡◌, ℕ, suc, ◌+◌, ◌<◌, ◌≤◌, List, [], ◌∷◌, length, map, reverse, Bool, true, false, cond}
+use Rattle.std.proofs.Common.{Option, Some, None, refl, sym, ap, ◌∙◌, subst, arith, ◌⊎◌, inl, inr}
 use Rattle.std.specs.Prelude.{if◌then◌else◌, ◌==◌, ◌&&◌, nat_le, filter, unwrap_or, option_map}
-use Rattle.std.proofs.lemmas.Bool.{cases_lt, cases_Bool, cond-true, cond-false, false≢true, and_parts, eqb-true, leb-true, le-leb}
+use Rattle.std.proofs.lemmas.Bool.{cases_lt, cases_Bool, cond-true, cond-false, false≢true, and_parts, eqb-true}
+use Rattle.std.proofs.lemmas.Bool.{leb-true, le-leb}
 use Rattle.std.proofs.lemmas.List.{length-map}
 use Rattle.std.proofs.lemmas.Option.{slice_get_past}
 use Rattle.rail_base.specs.declared.limits.TheConstants.{MOST_MINUTES, MOST_REALLOCATION}
@@ -17,12 +19,16 @@ use Rattle.inventory.specs.Counts.{AreServed, ready_at}
 use Rattle.inventory.specs.Naming.{after_trip, standing, may_be_taken, latest_first}
 use Rattle.inventory.specs.Places.{going_on, given_places, kept_places, taken_places, coming}
 use Rattle.inventory.proofs.Sums.{sum_same}
-use Rattle.inventory.proofs.Order.{in_list, AreInTurn, is_strict, not_itself, leaves_before, filter_in_order, is_there, is_trip, latest_in_turn}
-use Rattle.inventory.proofs.Linked.{Goes, AllHold, goes, feeds, going_feeds, coming_from, coming_has, places_share, kept_is, given_is, taken_is, rule_back}
-use Rattle.inventory.proofs.Standing.{AreRight, latest, latest_some, stands_after, after_none, after_some, standing_is, right_of, go_on, fed_before, le_has}
+use Rattle.inventory.proofs.Order.{in_list, AreInTurn, is_strict, not_itself, leaves_before, filter_in_order, is_there}
+use Rattle.inventory.proofs.Order.{is_trip, latest_in_turn}
+use Rattle.inventory.proofs.Linked.{Goes, AllHold, goes, feeds, going_feeds, coming_from, coming_has, places_share}
+use Rattle.inventory.proofs.Linked.{kept_is, given_is, taken_is, rule_back}
+use Rattle.inventory.proofs.Standing.{AreRight, latest, latest_some, stands_after, after_none, after_some, standing_is}
+use Rattle.inventory.proofs.Standing.{right_of, go_on, fed_before, le_has}
 use Rattle.inventory.proofs.Yards.{tally, yard_count, and_true}
 use Rattle.inventory.proofs.Enough.{all_hold, all_stand}
-use Rattle.inventory.proofs.Following.{last_in, last_some, follows_more, begins_more, reverse_twice, passing_here, passing_not, latest_is_last}
+use Rattle.inventory.proofs.Following.{last_in, last_some, follows_more, begins_more, reverse_twice, passing_here}
+use Rattle.inventory.proofs.Following.{passing_not, latest_is_last}
 
 -- ---- lists of lists
 

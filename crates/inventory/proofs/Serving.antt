@@ -1,5 +1,6 @@
 -- The counts of the yards in a plan that runs are those of its units, one by one.
-use Rattle.std.proofs.Common.{◌≡◌, ℕ, zero, suc, ◌+◌, ◌<◌, ◌≤◌, List, length, map, Bool, true, false, cond, refl, sym, ap, ◌∙◌, arith}
+use Rattle.std.proofs.Common.{◌≡◌, ℕ, zero, suc, ◌+◌, ◌<◌, ◌≤◌, List, length, map, Bool, true, false, cond, refl, sym}
+use Rattle.std.proofs.Common.{ap, ◌∙◌, arith}
 use Rattle.std.specs.Prelude.{if◌then◌else◌, ◌==◌, ◌&&◌, nat_le}
 use Rattle.std.proofs.lemmas.List.{length-map}
 use Rattle.timetable.specs.Accepted.{IsDay, AreLinks, IsStocked}
@@ -17,7 +18,8 @@ use Rattle.inventory.proofs.Sums.{sum_same, sum_add, sum_le, sum_zero, sum_of_ty
 use Rattle.inventory.proofs.Standing.{le_has}
 use Rattle.inventory.proofs.Stock.{at_home}
 use Rattle.inventory.proofs.Yards.{sum_if, both_if}
-use Rattle.inventory.proofs.OnDuty.{takes_until, gives_until, takes_here, gives_here, taken_less, given_less, until_unit, here_unit}
+use Rattle.inventory.proofs.OnDuty.{takes_until, gives_until, takes_here, gives_here, taken_less, given_less}
+use Rattle.inventory.proofs.OnDuty.{until_unit, here_unit}
 
 -- ---- sums over trips, and over units
 

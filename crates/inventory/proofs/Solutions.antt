@@ -1,5 +1,7 @@
--- Picks are a solution exactly where the yards serve them, and exactly where they keep the rules and the yards have no fault.
-use Rattle.std.proofs.Common.{◌≡◌, ℕ, ◌+◌, ◌<◌, ◌≤◌, List, [], ◌∷◌, length, get_or, Bool, true, false, cond, refl, sym, ap, subst, ◌∙◌, arith, inl, inr, pos, ◌-ℤ◌}
+-- Picks are a solution exactly where the yards serve them, and exactly where they keep the rules and the yards have no
+-- fault.
+use Rattle.std.proofs.Common.{◌≡◌, ℕ, ◌+◌, ◌<◌, ◌≤◌, List, [], ◌∷◌, length, get_or, Bool, true, false, cond, refl, sym}
+use Rattle.std.proofs.Common.{ap, subst, ◌∙◌, arith, inl, inr, pos, ◌-ℤ◌}
 use Rattle.std.specs.Prelude.{if◌then◌else◌, ◌==◌, ◌&&◌, nat_le, nat_lt, ◌≤ℤ◌}
 use Rattle.std.proofs.lemmas.Bool.{cases_lt, and_parts, ltb-true, ne_eqb}
 use Rattle.std.proofs.lemmas.Int.{ints}

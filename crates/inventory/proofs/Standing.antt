@@ -1,6 +1,7 @@
--- Where units stand once trips have run, the latest first: a unit that goes on in a train has run on no later trip, and each yard has
--- what stood there at the start, less what was taken, and what was given and is ready.
-use Rattle.std.proofs.Common.{◌≡◌, ℕ, ◌+◌, ◌<◌, ◌≤◌, List, [], ◌∷◌, Bool, true, false, cond, Option, Some, None, refl, sym, ap, ◌∙◌, subst, arith, ◌≢◌, ◌⊎◌, inl, inr}
+-- Where units stand once trips have run, the latest first: a unit that goes on in a train has run on no later trip, and
+-- each yard has what stood there at the start, less what was taken, and what was given and is ready.
+use Rattle.std.proofs.Common.{◌≡◌, ℕ, ◌+◌, ◌<◌, ◌≤◌, List, [], ◌∷◌, Bool, true, false, cond, Option, Some, None, refl}
+use Rattle.std.proofs.Common.{sym, ap, ◌∙◌, subst, arith, ◌≢◌, ◌⊎◌, inl, inr}
 use Rattle.std.specs.Prelude.{if◌then◌else◌}
 use Rattle.std.proofs.lemmas.Bool.{cases_eq, cases_lt, cond-true, cond-false, false≢true, le-leb, lt-leb}
 use Rattle.timetable.specs.Accepted.{IsDay, AreLinks}
@@ -19,8 +20,8 @@ le_has u us c = le-leb 1 (count_of u us) c
 pub none_has : (u : ℕ) (us : List ℕ) → count_of u us ≡ 0 → has u us ≡ false
 none_has u us c = lt-leb 1 (count_of u us) (omega arith)
 
--- trip b, once earlier trips have run, has units of the day, none twice, with its types; what came is what goes on to it, and what it
--- takes stands in the yard and is ready
+-- trip b, once earlier trips have run, has units of the day, none twice, with its types; what came is what goes on to
+-- it, and what it takes stands in the yard and is ready
 pub record IsRight (day : Day) (types : List (List ℕ)) (lists : ℕ → List ℕ) (b : ℕ) (before : List ℕ) : Type 0 where
   pub types_are : types_of day (lists b) ≡ list_of types b
   pub known : (u : ℕ) → 1 ≤ count_of u (lists b) → u < unit_count day

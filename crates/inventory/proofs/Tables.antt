@@ -1,15 +1,19 @@
 -- What a table of counts holds, once it is filled.
-use Rattle.std.proofs.Common.{◌≡◌, ◌≢◌, ℕ, zero, suc, ◌+◌, ◌*◌, ◌-◌, ◌^◌, ◌<◌, ◌≤◌, List, [], ◌∷◌, length, set, get_or, Bool, true, false, cond, refl, sym, ap, ◌∙◌, subst, arith, inl, inr, pos, negsuc, ℤ, ◌+ℤ◌, ◌-ℤ◌, length-set}
+use Rattle.std.proofs.Common.{◌≡◌, ◌≢◌, ℕ, zero, suc, ◌+◌, ◌*◌, ◌-◌, ◌^◌, ◌<◌, ◌≤◌, List, [], ◌∷◌, length, set, get_or}
+use Rattle.std.proofs.Common.{Bool, true, false, cond, refl, sym, ap, ◌∙◌, subst, arith, inl, inr, pos, negsuc, ℤ, ◌+ℤ◌}
+use Rattle.std.proofs.Common.{◌-ℤ◌, length-set}
 use Rattle.std.specs.Prelude.{if◌then◌else◌, ◌==◌, ◌&&◌, ◌≤ℤ◌, neg_ℤ, min}
 use Rattle.std.specs.Int.{saturate_to_bits}
-use Rattle.std.proofs.lemmas.Bool.{cases_eq, cases_Bool, cond-true, cond-false, false≢true, and_parts, and_from, eqb-true, eq-eqb}
+use Rattle.std.proofs.lemmas.Bool.{cases_eq, cases_Bool, cond-true, cond-false, false≢true, and_parts, and_from}
+use Rattle.std.proofs.lemmas.Bool.{eqb-true, eq-eqb}
 use Rattle.std.proofs.lemmas.Int.{ints}
 use Rattle.std.proofs.lemmas.List.{get_or-set_same, get_or-set_other}
 use Rattle.timetable.specs.Day.{Day, leaves, from_of, to_of}
 use Rattle.timetable.specs.Lists.{count_of, sum_below}
 use Rattle.timetable.specs.Links.{itself, given_with, taken_with}
 use Rattle.timetable.specs.Minutes.{minutes_of}
-use Rattle.inventory.specs.CountTable.{plus, earlier, changed_at, changed_in, changed, changed_for, with_given, with_trips, MoveFew}
+use Rattle.inventory.specs.CountTable.{plus, earlier, changed_at, changed_in, changed, changed_for, with_given}
+use Rattle.inventory.specs.CountTable.{with_trips, MoveFew}
 use Rattle.inventory.specs.Counted.{counts_of, number_at, HasPlaces}
 use Rattle.inventory.proofs.Sums.{one_same, one_other}
 use Rattle.inventory.specs.Counts.{ready_at, takes_of, gives_of}

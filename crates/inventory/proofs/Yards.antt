@@ -1,6 +1,7 @@
--- What stands in the yards, once trips have run, the latest first: what stood there at the start, less what was taken, and what was
--- given and is ready.
-use Rattle.std.proofs.Common.{◌≡◌, ℕ, ◌+◌, ◌<◌, ◌≤◌, List, [], ◌∷◌, map, Bool, true, false, cond, eqb, Option, Some, None, refl, sym, ap, ◌∙◌, arith, inl, inr}
+-- What stands in the yards, once trips have run, the latest first: what stood there at the start, less what was taken,
+-- and what was given and is ready.
+use Rattle.std.proofs.Common.{◌≡◌, ℕ, ◌+◌, ◌<◌, ◌≤◌, List, [], ◌∷◌, map, Bool, true, false, cond, eqb, Option, Some}
+use Rattle.std.proofs.Common.{None, refl, sym, ap, ◌∙◌, arith, inl, inr}
 use Rattle.std.specs.Prelude.{if◌then◌else◌, ◌==◌, ◌&&◌, nat_le}
 use Rattle.std.proofs.lemmas.Bool.{cases_lt, cond-true, cond-false, false≢true, and_parts, eqb-true, leb-true, le-leb}
 use Rattle.std.proofs.lemmas.List.{map-id}
@@ -14,8 +15,10 @@ use Rattle.inventory.specs.Places.{given_places, taken_places}
 use Rattle.inventory.specs.Naming.{InYard, after_trip, standing, may_be_taken}
 use Rattle.inventory.proofs.Sums.{one_same, one_other, sum_same, sum_add, sum_zero, sum_one_more, sum_of_type}
 use Rattle.inventory.proofs.Order.{IsTurn, AreInTurn}
-use Rattle.inventory.proofs.Linked.{Goes, AllHold, goes, coming_from, places_share, taken_is, given_is, taken_places-map, given_places-map}
-use Rattle.inventory.proofs.Standing.{IsRight, AreRight, stands_after, standing_is, latest_here, latest_before, right_of, go_on, not_in_yard, fed_before, none_has, le_has}
+use Rattle.inventory.proofs.Linked.{Goes, AllHold, goes, coming_from, places_share, taken_is, given_is}
+use Rattle.inventory.proofs.Linked.{taken_places-map, given_places-map}
+use Rattle.inventory.proofs.Standing.{IsRight, AreRight, stands_after, standing_is, latest_here, latest_before}
+use Rattle.inventory.proofs.Standing.{right_of, go_on, not_in_yard, fed_before, none_has, le_has}
 use Rattle.inventory.proofs.Stock.{at_home}
 
 -- ---- sums over trips of a list

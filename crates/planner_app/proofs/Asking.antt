@@ -1,5 +1,6 @@
 -- What words ask for is one command, and its numbers are within their limits.
-use Rattle.std.proofs.Common.{◌≡◌, ℕ, ◌≤◌, List, [], ◌∷◌, Option, Some, inl, inr, sym, ap, ◌∙◌, arith, Bool, true, false}
+use Rattle.std.proofs.Common.{◌≡◌, ℕ, ◌≤◌, List, [], ◌∷◌, Option, Some, inl, inr, sym, ap, ◌∙◌, arith, Bool, true}
+use Rattle.std.proofs.Common.{false}
 use Rattle.std.proofs.lemmas.Bool.{both_ways}
 use Rattle.rail_base.specs.declared.limits.TheConstants.{MOST_BRANCHINGS, MOST_ROUNDS}
 use Rattle.trial_day.specs.Trial.{IsTrialSize}

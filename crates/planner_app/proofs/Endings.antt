@@ -1,5 +1,6 @@
 -- The status of a command, by what its outcome says of the files.
-use Rattle.std.proofs.Common.{◌≡◌, ◌≢◌, ℕ, ◌<◌, ◌≤◌, ◌⊎◌, inl, inr, List, length, Bool, true, false, Option, Some, None, Result, Ok, Err, refl, sym, ◌∙◌, ap, subst, arith}
+use Rattle.std.proofs.Common.{◌≡◌, ◌≢◌, ℕ, ◌<◌, ◌≤◌, ◌⊎◌, inl, inr, List, length, Bool, true, false, Option, Some, None}
+use Rattle.std.proofs.Common.{Result, Ok, Err, refl, sym, ◌∙◌, ap, subst, arith}
 use Rattle.rail_io.specs.Folders.{Files}
 use Rattle.timetable.specs.Day.{Day}
 use Rattle.day_files.specs.declared.errors.Refusal.{Refusal}
@@ -25,11 +26,13 @@ use Rattle.planner_app.specs.declared.reports.Report.{Report}
 use Rattle.planner_app.specs.declared.reports.Report.TheVariants as report
 use Rattle.planner_app.specs.AnswerFiles.{IsAnswerOf, IsWrongAnswer, answer_bytes}
 use Rattle.planner_app.specs.Headline.{IsHeadline, IsTrueOf, IsValid, status_said}
-use Rattle.planner_app.specs.Outcomes.{AreAnswered, AskAbout, AskToCheck, AskToPlan, AskToReport, AskToSimulate, IsRefusedFor}
+use Rattle.planner_app.specs.Outcomes.{AreAnswered, AskAbout, AskToCheck, AskToPlan, AskToReport, AskToSimulate}
+use Rattle.planner_app.specs.Outcomes.{IsRefusedFor}
 use Rattle.planner_app.specs.Outcomes.{OfDay, OfDayAndPlan, PlanRuns, Says, command_for, folder_of, reads_plan}
 use Rattle.planner_app.specs.PlainForm.{IsPlainForm}
 use Rattle.rail_io.specs.Sinks.{Appends}
-use Rattle.planner_app.specs.Statuses.{EndsCheck, EndsPlanning, EndsSimulation, IsAnswerFileRefused, IsAnswerRefusedIn, IsUndisturbed}
+use Rattle.planner_app.specs.Statuses.{EndsCheck, EndsPlanning, EndsSimulation, IsAnswerFileRefused, IsAnswerRefusedIn}
+use Rattle.planner_app.specs.Statuses.{IsUndisturbed}
 use Rattle.planner_app.specs.Statuses.{status_of, status_of_verdict}
 use Rattle.planner_app.specs.Texts.{IsDocument}
 use Rattle.planner_app.proofs.Allowed.{IsAllowed, is_allowed}

@@ -28,15 +28,19 @@ use Rattle.planner_app.specs.declared.answer_file.AnswerError.{AnswerError}
 use Rattle.planner_app.specs.declared.checking.AnswerVerdict.{AnswerVerdict}
 use Rattle.planner_app.specs.declared.command.Command.TheVariants as command
 use Rattle.planner_app.specs.declared.outcome.Outcome.{Outcome}
-use Rattle.planner_app.specs.declared.outcome.Outcome.TheVariants.{Planned, Tried, Runs, Stops, Checked, Reported, NoPlan, Usage, NoInputs, NoAnswer}
+use Rattle.planner_app.specs.declared.outcome.Outcome.TheVariants.{Planned, Tried, Runs, Stops, Checked, Reported}
+use Rattle.planner_app.specs.declared.outcome.Outcome.TheVariants.{NoPlan, Usage, NoInputs, NoAnswer}
 use Rattle.planner_app.specs.AnswerFiles.{IsAnswerCaused, IsWrongAnswer}
 use Rattle.planner_app.specs.declared.checking.AnswerVerdict.TheVariants.{Valid}
 use Rattle.planner_app.specs.declared.reports.Report.{Report}
 use Rattle.planner_app.specs.declared.reports.Report.TheVariants as report
 use Rattle.planner_app.specs.Headline.{IsHeadline, IsValid}
-use Rattle.planner_app.specs.Outcomes.{AreAnswered, AskAbout, AskInVain, AskToCheck, AskToPlan, AskToReport, AskToSimulate}
-use Rattle.planner_app.specs.Outcomes.{AskToTry, HasCause, IsOutcome, IsReadBy, IsPlanned, IsRefusedFor, IsReportOf, IsTried, IsVerdictOn}
-use Rattle.planner_app.specs.Outcomes.{OfDay, OfDayAndPlan, PlanRuns, Says, command_for, folder_of, reads_answer, reads_plan}
+use Rattle.planner_app.specs.Outcomes.{AreAnswered, AskAbout, AskInVain, AskToCheck, AskToPlan, AskToReport}
+use Rattle.planner_app.specs.Outcomes.{AskToSimulate}
+use Rattle.planner_app.specs.Outcomes.{AskToTry, HasCause, IsOutcome, IsReadBy, IsPlanned, IsRefusedFor, IsReportOf}
+use Rattle.planner_app.specs.Outcomes.{IsTried, IsVerdictOn}
+use Rattle.planner_app.specs.Outcomes.{OfDay, OfDayAndPlan, PlanRuns, Says, command_for, folder_of, reads_answer}
+use Rattle.planner_app.specs.Outcomes.{reads_plan}
 use Rattle.planner_app.specs.Reporting.{IsReportOutcome, IsTrialOutcome}
 
 -- commands are about their folders

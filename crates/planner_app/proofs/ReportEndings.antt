@@ -1,5 +1,6 @@
 -- The status of a report and of a trial day, by what its outcome says of the files.
-use Rattle.std.proofs.Common.{◌≡◌, ◌≢◌, ℕ, ◌<◌, ◌≤◌, ◌⊎◌, inl, inr, List, length, Bool, true, false, Option, Some, None, Ok, Err}
+use Rattle.std.proofs.Common.{◌≡◌, ◌≢◌, ℕ, ◌<◌, ◌≤◌, ◌⊎◌, inl, inr, List, length, Bool, true, false, Option, Some, None}
+use Rattle.std.proofs.Common.{Ok, Err}
 use Rattle.std.proofs.Common.{refl, sym, subst, ap, ◌∙◌, arith}
 use Rattle.std.specs.Prelude.{IsTrue}
 use Rattle.rail_io.specs.Folders.{Files}
@@ -24,16 +25,19 @@ use Rattle.planner_app.specs.declared.outcome.Outcome.TheVariants as outcome
 use Rattle.planner_app.specs.declared.reports.Report.{Report}
 use Rattle.planner_app.specs.AnswerFiles.{IsWrongAnswer, answer_bytes}
 use Rattle.planner_app.specs.Headline.{IsHeadline, IsValid, status_said}
-use Rattle.planner_app.specs.Outcomes.{AreAnswered, AskToReport, AskToTry, IsTried, OfDay, OfDayAndPlan, Says, command_for}
+use Rattle.planner_app.specs.Outcomes.{AreAnswered, AskToReport, AskToTry, IsTried, OfDay, OfDayAndPlan, Says}
+use Rattle.planner_app.specs.Outcomes.{command_for}
 use Rattle.planner_app.specs.Outcomes.{AskAbout, AskInVain, HasCause, IsOutcome, IsSound, folder_of, reads_plan}
 use Rattle.planner_app.specs.PlainForm.{IsPlainForm}
 use Rattle.planner_app.specs.ReportTexts.{report_text}
-use Rattle.planner_app.specs.Statuses.{EndsReport, EndsTrial, IsAnswerRefusedIn, IsUndisturbed, status_of, status_of_verdict}
+use Rattle.planner_app.specs.Statuses.{EndsReport, EndsTrial, IsAnswerRefusedIn, IsUndisturbed, status_of}
+use Rattle.planner_app.specs.Statuses.{status_of_verdict}
 use Rattle.planner_app.specs.Texts.{IsDocument}
 use Rattle.planner_app.specs.TrialTexts.{trial_text}
 use Rattle.planner_app.proofs.Allowed.{IsAllowed, code, is_allowed, report_code}
 use Rattle.planner_app.proofs.Asking.{about_folder, one_command}
-use Rattle.planner_app.proofs.Endings.{answered_once, answered_right, at_answer, at_folder, day_or_not, folder_is, one_report}
+use Rattle.planner_app.proofs.Endings.{answered_once, answered_right, at_answer, at_folder, day_or_not, folder_is}
+use Rattle.planner_app.proofs.Endings.{one_report}
 use Rattle.planner_app.proofs.Endings.{only_valid, refused_answer, report_plain, same_answer}
 use Rattle.planner_app.proofs.Refuting.{valid_or_not}
 

@@ -1,5 +1,6 @@
 -- What a valid answer says is true of all plans, and it has one list of picks.
-use Rattle.std.proofs.Common.{◌≡◌, ℕ, zero, suc, ◌<◌, ◌≤◌, List, [], ◌∷◌, map, length, true, IsTrue, refl, sym, ◌∙◌, ap, subst, ℤ, pos}
+use Rattle.std.proofs.Common.{◌≡◌, ℕ, zero, suc, ◌<◌, ◌≤◌, List, [], ◌∷◌, map, length, true, IsTrue, refl, sym, ◌∙◌, ap}
+use Rattle.std.proofs.Common.{subst, ℤ, pos}
 use Rattle.rail_base.specs.declared.limits.TheConstants.{MOST_COMPOSITIONS}
 use Rattle.rail_base.specs.declared.numbers.Money.{Money}
 use Rattle.timetable.specs.Compositions.{compositions_of}

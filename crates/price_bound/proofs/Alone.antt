@@ -1,5 +1,6 @@
 -- The region of picks alone: these picks lie in it, and no others.
-use Rattle.std.proofs.Common.{◌≡◌, ◌<◌, ℕ, zero, suc, List, [], ◌∷◌, length, get_or, true, false, ◌==◌, refl, sym, ap, ◌∙◌, arith, ⊎_elim}
+use Rattle.std.proofs.Common.{◌≡◌, ◌<◌, ℕ, zero, suc, List, [], ◌∷◌, length, get_or, true, false, ◌==◌, refl, sym, ap}
+use Rattle.std.proofs.Common.{◌∙◌, arith, ⊎_elim}
 use Rattle.std.proofs.lemmas.Bool.{and_parts, cases_lt, eq-eqb, eqb-true}
 use Rattle.rail_base.specs.declared.limits.TheConstants.{MOST_COMPOSITIONS}
 use Rattle.branch_tree.specs.Regions.{alone, are_in, has}

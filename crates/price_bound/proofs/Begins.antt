@@ -1,11 +1,14 @@
--- The first path of least value through the stages of a chain begins where the first row has its first cell of least value.
-use Rattle.std.proofs.Common.{◌≡◌, ℕ, suc, ◌+◌, ◌<◌, ◌≤◌, ◌⊎◌, List, [], ◌∷◌, length, get_or, true, Option, Some, None, refl, sym, ap, ◌∙◌, subst, arith, ℤ, ◌<ℤ◌, ◌≤ℤ◌, inl, inr}
+-- The first path of least value through the stages of a chain begins where the first row has its first cell of least
+-- value.
+use Rattle.std.proofs.Common.{◌≡◌, ℕ, suc, ◌+◌, ◌<◌, ◌≤◌, ◌⊎◌, List, [], ◌∷◌, length, get_or, true, Option, Some, None}
+use Rattle.std.proofs.Common.{refl, sym, ap, ◌∙◌, subst, arith, ℤ, ◌<ℤ◌, ◌≤ℤ◌, inl, inr}
 use Rattle.std.specs.List.{All}
 use Rattle.std.proofs.lemmas.Bool.{cases_lt}
 use Rattle.std.proofs.lemmas.Int.{ints, by_lt_z}
 use Rattle.compositions.specs.Catalogue.{is_lower}
 use Rattle.price_bound.specs.declared.cells.Cell.{Cell}
-use Rattle.price_bound.specs.Paths.{Stage, IsPath, IsNoLaterPath, IsFirstPath, IsOver, begin_of, entered, least_from, lower_cell, row_by, rows_of, walked}
+use Rattle.price_bound.specs.Paths.{Stage, IsPath, IsNoLaterPath, IsFirstPath, IsOver, begin_of, entered, least_from}
+use Rattle.price_bound.specs.Paths.{lower_cell, row_by, rows_of, walked}
 use Rattle.price_bound.proofs.Offers.{kept, lower_cases, replaced}
 use Rattle.price_bound.proofs.Rows.{IsCellFor, IsFirstFrom, length-row, lower_head, rows_first, walk_begins}
 

@@ -1,5 +1,7 @@
 -- The index at which picks are broken, where there is one: the slack there has the sign that is said.
-use Rattle.std.proofs.Common.{◌≡◌, ◌<◌, ◌+◌, ℕ, zero, suc, List, ◌++◌, length, Option, Some, None, Bool, true, not, ◌&&◌, slice_get, get_or, unwrap_or, position, refl, sym, ap, subst, ◌∙◌, arith, ℤ, pos, negsuc, ◌*ℤ◌, ◌<ℤ◌, int_lt, inl, inr, ◌⊎◌, if◌then◌else◌}
+use Rattle.std.proofs.Common.{◌≡◌, ◌<◌, ◌+◌, ℕ, zero, suc, List, ◌++◌, length, Option, Some, None, Bool, true, not}
+use Rattle.std.proofs.Common.{◌&&◌, slice_get, get_or, unwrap_or, position, refl, sym, ap, subst, ◌∙◌, arith, ℤ, pos}
+use Rattle.std.proofs.Common.{negsuc, ◌*ℤ◌, ◌<ℤ◌, int_lt, inl, inr, ◌⊎◌, if◌then◌else◌}
 use Rattle.std.specs.Prelude.{option_map}
 use Rattle.std.proofs.lemmas.Bool.{lt-ltb}
 use Rattle.std.proofs.lemmas.Int.{ints}
@@ -13,7 +15,8 @@ use Rattle.timetable.proofs.Listing.{get_first, get_second}
 use Rattle.branch_tree.specs.declared.multipliers.Entry.{Entry}
 use Rattle.branch_tree.specs.Meanings.{IsBroken}
 use Rattle.price_bound.specs.DayMeanings.{meanings_of}
-use Rattle.price_bound.specs.Slacks.{broken_at, broken_index, first_from, is_none, is_positive, or_else, sign_of, slack_at, slack_of}
+use Rattle.price_bound.specs.Slacks.{broken_at, broken_index, first_from, is_none, is_positive, or_else, sign_of}
+use Rattle.price_bound.specs.Slacks.{slack_at, slack_of}
 
 -- ---- a number that is not 0, and its sign
 

@@ -11,7 +11,8 @@ use Rattle.price_bound.specs.BrokenLaws.{AreBrokenAt, BrokenAtFirstMissed, Broke
 use Rattle.price_bound.specs.DayMeanings.{IsAccepted, meanings_of}
 use Rattle.price_bound.specs.Settling.{fault_sign, place_of}
 use Rattle.price_bound.specs.Slacks.{broken_index, sign_of, slack_at}
-use Rattle.price_bound.proofs.SettledBy.{fault_first, fault_place, fault_signed, first_place, named, sigma_first, sigma_signed, solution}
+use Rattle.price_bound.proofs.SettledBy.{fault_first, fault_place, fault_signed, first_place, named, sigma_first}
+use Rattle.price_bound.proofs.SettledBy.{sigma_signed, solution}
 
 -- a place of the day has an index
 has_index : (day : Day) (place : Place) → IsPlace day place → IsIndexOf day place (index_in day place)

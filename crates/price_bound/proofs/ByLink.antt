@@ -1,5 +1,6 @@
 -- What links add, told at the trips that they lead from or to: a trip has what the one link adds that leads there.
-use Rattle.std.proofs.Common.{◌≡◌, ◌≢◌, ℕ, ◌<◌, ◌≤◌, List, length, Option, Some, sym, ap, ◌∙◌, subst, arith, ℤ, pos, inl, inr, unwrap_or, slice_get}
+use Rattle.std.proofs.Common.{◌≡◌, ◌≢◌, ℕ, ◌<◌, ◌≤◌, List, length, Option, Some, sym, ap, ◌∙◌, subst, arith, ℤ, pos}
+use Rattle.std.proofs.Common.{inl, inr, unwrap_or, slice_get}
 use Rattle.std.specs.Prelude.{option_map}
 use Rattle.std.proofs.lemmas.Bool.{cases_eq}
 use Rattle.timetable.specs.declared.day.records.Link.{Link}
@@ -8,7 +9,8 @@ use Rattle.timetable.specs.Accepted.{times_named}
 use Rattle.timetable.specs.Lists.{count_of}
 use Rattle.timetable.proofs.NamedTrips.{named_twice}
 use Rattle.price_bound.specs.IntBelow.{int_below}
-use Rattle.price_bound.proofs.IntLaws.{below_none, below_placed, below_same, only_at, only_here, only_other, only_within}
+use Rattle.price_bound.proofs.IntLaws.{below_none, below_placed, below_same, only_at, only_here, only_other}
+use Rattle.price_bound.proofs.IntLaws.{only_within}
 use Rattle.price_bound.proofs.Steps.{entry_below}
 use Rattle.std.proofs.lemmas.Option.{slice_get_within}
 

@@ -1,11 +1,14 @@
 -- The rows of a chain while they are made, from its last trip to its first, and the walk along them.
-use Rattle.std.proofs.Common.{◌≡◌, ◌≢◌, ℕ, zero, suc, ◌+◌, ◌++◌, ◌*◌, ◌<◌, ◌≤◌, List, [], ◌∷◌, length, get_or, set, replicate, map, take}
+use Rattle.std.proofs.Common.{◌≡◌, ◌≢◌, ℕ, zero, suc, ◌+◌, ◌++◌, ◌*◌, ◌<◌, ◌≤◌, List, [], ◌∷◌, length, get_or, set}
+use Rattle.std.proofs.Common.{replicate, map, take}
 use Rattle.std.proofs.Common.{drop, Option, Some, None, refl, sym, ap, ◌∙◌, subst, arith, ℤ, pos, inl, inr, slice_get}
 use Rattle.std.proofs.Common.{length-set, Bool, true, false, cond, Contains}
 use Rattle.std.specs.Prelude.{fold, int_lt, IfSome}
 use Rattle.std.proofs.Math.Seq.{drop-cons}
 use Rattle.std.proofs.lemmas.Bool.{cases_eq, cases_lt}
-use Rattle.std.proofs.lemmas.List.{append-nil, drop_all, get_or-append-add, get_or-replicate, get_or_append_left, get_or_default, set-append_left, get_or-set_same, get_or-set_other, get_or-take, get_or_past}
+use Rattle.std.proofs.lemmas.List.{append-nil, drop_all, get_or-append-add, get_or-replicate, get_or_append_left}
+use Rattle.std.proofs.lemmas.List.{get_or_default, set-append_left, get_or-set_same, get_or-set_other, get_or-take}
+use Rattle.std.proofs.lemmas.List.{get_or_past}
 use Rattle.std.proofs.lemmas.List.{length-replicate, length-take-le, take_all}
 use Rattle.transitions.specs.declared.edge.Edge.{Edge}
 use Rattle.transitions.specs.Edges.{AreEdges, AreGraphs, IsEdge, IsKindEdge}

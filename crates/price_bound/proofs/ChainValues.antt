@@ -1,6 +1,7 @@
--- Along a chain of the day: picks are a path through its stages exactly where they are near the region on its trips, and the path's
--- value is what its trips and the links between them add.
-use Rattle.std.proofs.Common.{◌≡◌, ℕ, ◌<◌, ◌≤◌, List, [], ◌∷◌, ◌⊎◌, length, ◌&&◌, Option, Some, None, IsTrue, refl, sym, ap, ◌∙◌, subst, arith, ℤ, pos, ◌+ℤ◌, inl, inr, unwrap_or, slice_get, Contains}
+-- Along a chain of the day: picks are a path through its stages exactly where they are near the region on its trips,
+-- and the path's value is what its trips and the links between them add.
+use Rattle.std.proofs.Common.{◌≡◌, ℕ, ◌<◌, ◌≤◌, List, [], ◌∷◌, ◌⊎◌, length, ◌&&◌, Option, Some, None, IsTrue, refl, sym}
+use Rattle.std.proofs.Common.{ap, ◌∙◌, subst, arith, ℤ, pos, ◌+ℤ◌, inl, inr, unwrap_or, slice_get, Contains}
 use Rattle.std.specs.Prelude.{nat_lt}
 use Rattle.std.proofs.lemmas.Bool.{and_from, and_parts, cases_eq, cond-true, lt-ltb, ltb-true}
 use Rattle.std.proofs.lemmas.Int.{ints}
@@ -22,7 +23,8 @@ use Rattle.transitions.specs.declared.edge.Edge.{Edge}
 use Rattle.transitions.specs.Edges.{AreGraphs, IsEdge, IsKindEdge, MayRun}
 use Rattle.branch_tree.specs.Regions.{has}
 use Rattle.branch_tree.specs.IntSums.{int_sum}
-use Rattle.price_bound.specs.ChainStages.{Priced, along, cost_on, edges_of, may_have, part_is_in, price_by_link, price_of, stage_of, stages_of, worth_of}
+use Rattle.price_bound.specs.ChainStages.{Priced, along, cost_on, edges_of, may_have, part_is_in, price_by_link}
+use Rattle.price_bound.specs.ChainStages.{price_of, stage_of, stages_of, worth_of}
 use Rattle.price_bound.specs.EdgeValues.{edge_value}
 use Rattle.price_bound.specs.Following.{IsStep, pick_of}
 use Rattle.price_bound.specs.Paths.{IsPath, IsStepAt}

@@ -1,5 +1,7 @@
 -- What is named for picks that are broken closes the region of these picks alone.
-use Rattle.std.proofs.Common.{◌≡◌, ◌<◌, ◌≤◌, ◌+◌, ℕ, List, [], ◌∷◌, ◌++◌, ◌-◌, length, Option, Some, None, true, not, slice_get, unwrap_or, position, refl, sym, ap, subst, ◌∙◌, arith, ℤ, pos, negsuc, ◌*ℤ◌, ◌≤ℤ◌, ◌<ℤ◌, ◌⊎◌, ⊎_elim}
+use Rattle.std.proofs.Common.{◌≡◌, ◌<◌, ◌≤◌, ◌+◌, ℕ, List, [], ◌∷◌, ◌++◌, ◌-◌, length, Option, Some, None, true, not}
+use Rattle.std.proofs.Common.{slice_get, unwrap_or, position, refl, sym, ap, subst, ◌∙◌, arith, ℤ, pos, negsuc, ◌*ℤ◌}
+use Rattle.std.proofs.Common.{◌≤ℤ◌, ◌<ℤ◌, ◌⊎◌, ⊎_elim}
 use Rattle.std.specs.Prelude.{option_map}
 use Rattle.std.proofs.lemmas.Int.{ints}
 use Rattle.std.proofs.lemmas.Option.{get_or_from_slice_get}
@@ -26,7 +28,8 @@ use Rattle.price_bound.specs.DayMeanings.{IsAccepted, meanings_of}
 use Rattle.price_bound.specs.Following.{Follow, part_of, pick_of}
 use Rattle.price_bound.specs.Near.{AreNear, LieIn}
 use Rattle.price_bound.specs.Parts.{IsPartAt, NoneMissed, second_pick}
-use Rattle.price_bound.specs.Slacks.{broken_at, broken_index, first_from, is_none, is_positive, or_else, sign_of, slack_at, slack_of}
+use Rattle.price_bound.specs.Slacks.{broken_at, broken_index, first_from, is_none, is_positive, or_else, sign_of}
+use Rattle.price_bound.specs.Slacks.{slack_at, slack_of}
 use Rattle.price_bound.proofs.Alone.{alone_at, alone_has, alone_same}
 use Rattle.price_bound.proofs.FirstBroken.{each_sigma, had}
 use Rattle.price_bound.proofs.PartsFound.{part_there}

@@ -1,5 +1,7 @@
 -- What an edge of a link adds is what the link adds, where the link's trips have the edge's compositions.
-use Rattle.std.proofs.Common.{◌≡◌, ℕ, ◌+◌, ◌-◌, ◌<◌, List, [], ◌∷◌, length, take, drop, map, reverse, Bool, true, false, not, ◌&&◌, Option, Some, None, refl, sym, ap, ◌∙◌, subst, arith, ℤ, pos, ◌+ℤ◌, ◌-ℤ◌, inl, inr, unwrap_or, slice_get, length-append}
+use Rattle.std.proofs.Common.{◌≡◌, ℕ, ◌+◌, ◌-◌, ◌<◌, List, [], ◌∷◌, length, take, drop, map, reverse, Bool, true, false}
+use Rattle.std.proofs.Common.{not, ◌&&◌, Option, Some, None, refl, sym, ap, ◌∙◌, subst, arith, ℤ, pos, ◌+ℤ◌, ◌-ℤ◌, inl}
+use Rattle.std.proofs.Common.{inr, unwrap_or, slice_get, length-append}
 use Rattle.std.specs.Prelude.{◌==◌, if◌then◌else◌, option_map}
 use Rattle.std.proofs.lemmas.Bool.{cases_Bool, cases_eq, eq-eqb, eqb-true, ne_eqb}
 use Rattle.std.proofs.lemmas.Int.{ints}
@@ -38,7 +40,8 @@ use Rattle.branch_tree.specs.declared.relaxation.Weight.{Weight}
 use Rattle.branch_tree.specs.declared.relaxation.Weight.TheVariants.{Cost, NoCost}
 use Rattle.branch_tree.specs.IntSums.{int_sum}
 use Rattle.branch_tree.specs.Meanings.{weighted}
-use Rattle.price_bound.specs.EdgeValues.{coupled, edge_value, part_multiplier, part_value, shunt_cost, stayed, stays_by, turn_value}
+use Rattle.price_bound.specs.EdgeValues.{coupled, edge_value, part_multiplier, part_value, shunt_cost, stayed, stays_by}
+use Rattle.price_bound.specs.EdgeValues.{turn_value}
 use Rattle.price_bound.specs.Following.{part_by}
 use Rattle.price_bound.specs.Regrouped.{of_handover, part_price, value_at_link}
 use Rattle.inventory.specs.Counts.{ready_at}

@@ -1,5 +1,6 @@
 -- What a day costs with picks is no more than the most.
-use Rattle.std.proofs.Common.{◌<◌, ◌≤◌, ◌+◌, ◌-◌, ◌*◌, ℕ, zero, suc, List, length, Bool, true, false, Option, Some, None, slice_get, unwrap_or, arith}
+use Rattle.std.proofs.Common.{◌<◌, ◌≤◌, ◌+◌, ◌-◌, ◌*◌, ℕ, zero, suc, List, length, Bool, true, false, Option, Some}
+use Rattle.std.proofs.Common.{None, slice_get, unwrap_or, arith}
 use Rattle.std.specs.Prelude.{option_map, if◌then◌else◌}
 use Rattle.std.proofs.Math.Nat.{mul-le-mul, suc-mul, zero-mul}
 use Rattle.compositions.specs.Composition.{carriages_of, seats_of, first_seats_of}

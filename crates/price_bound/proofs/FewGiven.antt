@@ -1,6 +1,7 @@
 -- A yard has few units at the start, and a trip gives no more than a composition has, so that no count of the yards is
 -- far above zero.
-use Rattle.std.proofs.Common.{◌≡◌, ◌≤◌, ◌+◌, ◌-◌, ℕ, List, [], ◌∷◌, length, map, Bool, true, false, Option, Some, None, unwrap_or, arith, inl, inr}
+use Rattle.std.proofs.Common.{◌≡◌, ◌≤◌, ◌+◌, ◌-◌, ℕ, List, [], ◌∷◌, length, map, Bool, true, false, Option, Some, None}
+use Rattle.std.proofs.Common.{unwrap_or, arith, inl, inr}
 use Rattle.std.specs.Prelude.{option_map, option_and_then, ◌==◌, ◌&&◌, if◌then◌else◌, nat_le, replicate}
 use Rattle.std.proofs.lemmas.Bool.{cases_Bool, cond-true, cond-false}
 use Rattle.std.proofs.lemmas.List.{length-append, length-replicate}

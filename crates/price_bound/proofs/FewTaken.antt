@@ -1,5 +1,7 @@
 -- A trip takes no more units than a composition has, so that no count of the yards is far below zero.
-use Rattle.std.proofs.Common.{◌≤◌, ◌+◌, ◌-◌, ◌*◌, ℕ, zero, suc, List, [], ◌∷◌, length, map, Bool, true, false, cond, Option, Some, None, unwrap_or, ap, arith, length-drop, length-take-le, pos, neg_ℤ, ◌-ℤ◌, ◌≤ℤ◌, inl, inr, ⊎_elim}
+use Rattle.std.proofs.Common.{◌≤◌, ◌+◌, ◌-◌, ◌*◌, ℕ, zero, suc, List, [], ◌∷◌, length, map, Bool, true, false, cond}
+use Rattle.std.proofs.Common.{Option, Some, None, unwrap_or, ap, arith, length-drop, length-take-le, pos, neg_ℤ, ◌-ℤ◌}
+use Rattle.std.proofs.Common.{◌≤ℤ◌, inl, inr, ⊎_elim}
 use Rattle.std.specs.Prelude.{option_map, option_and_then, ◌==◌, ◌&&◌, if◌then◌else◌, nat_le}
 use Rattle.std.proofs.lemmas.Bool.{cases_lt}
 use Rattle.std.proofs.lemmas.Int.{ints}

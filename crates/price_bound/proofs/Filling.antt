@@ -1,5 +1,7 @@
 -- Tables to which all multipliers are added hold the prices under them.
-use Rattle.std.proofs.Common.{◌≡◌, ℕ, ◌*◌, ◌<◌, ◌≤◌, ◌⊎◌, List, [], ◌∷◌, ◌++◌, length, get_or, Bool, true, false, ◌&&◌, Option, Some, None, refl, sym, ap, ◌∙◌, subst, arith, ℤ, pos, ◌+ℤ◌, inl, inr, unwrap_or, slice_get, append_assoc, length-append}
+use Rattle.std.proofs.Common.{◌≡◌, ℕ, ◌*◌, ◌<◌, ◌≤◌, ◌⊎◌, List, [], ◌∷◌, ◌++◌, length, get_or, Bool, true, false, ◌&&◌}
+use Rattle.std.proofs.Common.{Option, Some, None, refl, sym, ap, ◌∙◌, subst, arith, ℤ, pos, ◌+ℤ◌, inl, inr, unwrap_or}
+use Rattle.std.proofs.Common.{slice_get, append_assoc, length-append}
 use Rattle.std.specs.Prelude.{◌==◌, fold, if◌then◌else◌, nat_le, option_map}
 use Rattle.std.proofs.lemmas.Int.{ints}
 use Rattle.std.proofs.lemmas.List.{append-nil, get_or_append_left}
@@ -17,11 +19,13 @@ use Rattle.branch_tree.specs.Entries.{AreMultipliers}
 use Rattle.branch_tree.specs.IntSums.{int_sum}
 use Rattle.price_bound.specs.declared.price_tables.PriceTables.{PriceTables}
 use Rattle.price_bound.specs.EdgeValues.{part_multiplier}
-use Rattle.price_bound.specs.PriceTables.{AreSized, ArePrices, amount_at, cleared, is_given_at, is_taken_at, with_entry, with_handover, with_place}
+use Rattle.price_bound.specs.PriceTables.{AreSized, ArePrices, amount_at, cleared, is_given_at, is_taken_at, with_entry}
+use Rattle.price_bound.specs.PriceTables.{with_handover, with_place}
 use Rattle.price_bound.specs.Regrouped.{of_handover, second_price}
 use Rattle.price_bound.specs.CellSizes.{IsSmall}
 use Rattle.price_bound.specs.YardPrices.{by_place, of_type, price_by, yard_price}
-use Rattle.price_bound.proofs.Adding.{amounts_added, amounts_size, changed_amount, changed_size, cleared_amount, cleared_size, small_by_size, small_more, small_zero, sum_small}
+use Rattle.price_bound.proofs.Adding.{amounts_added, amounts_size, changed_amount, changed_size, cleared_amount}
+use Rattle.price_bound.proofs.Adding.{cleared_size, small_by_size, small_more, small_zero, sum_small}
 use Rattle.price_bound.proofs.IntLaws.{sum_append}
 
 module _ (day : Day) where

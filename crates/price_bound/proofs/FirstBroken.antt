@@ -1,5 +1,7 @@
 -- Where picks are broken first: at a hand-over, else at a fault of the yards.
-use Rattle.std.proofs.Common.{◌≡◌, ◌≢◌, ◌<◌, ◌≤◌, ◌+◌, ℕ, List, ◌++◌, length, get_or, Option, Some, None, Bool, true, false, ◌==◌, slice_get, unwrap_or, position, ltb, refl, sym, ap, subst, ◌∙◌, arith, pos, ◌-ℤ◌, int_lt, inl, inr, ◌⊎◌}
+use Rattle.std.proofs.Common.{◌≡◌, ◌≢◌, ◌<◌, ◌≤◌, ◌+◌, ℕ, List, ◌++◌, length, get_or, Option, Some, None, Bool, true}
+use Rattle.std.proofs.Common.{false, ◌==◌, slice_get, unwrap_or, position, ltb, refl, sym, ap, subst, ◌∙◌, arith, pos}
+use Rattle.std.proofs.Common.{◌-ℤ◌, int_lt, inl, inr, ◌⊎◌}
 use Rattle.std.specs.Prelude.{option_map}
 use Rattle.std.specs.List.{position_or_len}
 use Rattle.std.proofs.lemmas.Bool.{cases_eq, cond-true, eq-eqb, ne_eqb, false≢true, lt-ltb}

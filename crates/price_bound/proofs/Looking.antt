@@ -1,5 +1,6 @@
 -- What is found by looking at some picks, and then at more.
-use Rattle.std.proofs.Common.{◌≡◌, ℕ, List, Option, Some, None, ◌⊎◌, inl, inr, ⊎_elim, IsTrue, ℤ, ◌<ℤ◌, ◌≤ℤ◌, refl, sym, ◌∙◌, ap, subst, arith}
+use Rattle.std.proofs.Common.{◌≡◌, ℕ, List, Option, Some, None, ◌⊎◌, inl, inr, ⊎_elim, IsTrue, ℤ, ◌<ℤ◌, ◌≤ℤ◌, refl, sym}
+use Rattle.std.proofs.Common.{◌∙◌, ap, subst, arith}
 use Rattle.std.proofs.lemmas.Int.{ints, by_lt_z}
 use Rattle.compositions.specs.Catalogue.{is_lower}
 use Rattle.rail_base.specs.declared.numbers.Money.{Money}

@@ -1,6 +1,7 @@
--- Picks are near a region exactly where they are paths along all chains, and their priced value is then the constant and what the
--- paths come to.
-use Rattle.std.proofs.Common.{◌≡◌, ℕ, zero, suc, ◌+◌, ◌<◌, ◌≤◌, ◌⊎◌, List, [], ◌∷◌, length, Option, Some, None, IsTrue, refl, sym, ap, ◌∙◌, subst, arith, ℤ, pos, ◌+ℤ◌, inl, inr, slice_get}
+-- Picks are near a region exactly where they are paths along all chains, and their priced value is then the constant
+-- and what the paths come to.
+use Rattle.std.proofs.Common.{◌≡◌, ℕ, zero, suc, ◌+◌, ◌<◌, ◌≤◌, ◌⊎◌, List, [], ◌∷◌, length, Option, Some, None, IsTrue}
+use Rattle.std.proofs.Common.{refl, sym, ap, ◌∙◌, subst, arith, ℤ, pos, ◌+ℤ◌, inl, inr, slice_get}
 use Rattle.std.specs.Prelude.{◌==◌, if◌then◌else◌}
 use Rattle.std.specs.List.{All}
 use Rattle.std.proofs.lemmas.Bool.{cases_eq, cases_lt}
@@ -28,8 +29,10 @@ use Rattle.price_bound.specs.IntBelow.{int_below}
 use Rattle.price_bound.specs.Near.{AreNear, LieIn}
 use Rattle.price_bound.specs.Regrouped.{constant_of, link_value, regrouped}
 use Rattle.price_bound.proofs.ByLink.{adds_all}
-use Rattle.price_bound.proofs.ChainValues.{AreBelow, HasPath, IsNearAlong, IsNearAt, IsNearInto, IsNearOn, into, into_none, near_path, path_near, total_on, value_of_link, worth_on}
-use Rattle.price_bound.proofs.IntLaws.{below_add, below_none, below_same, only_at, only_here, only_other, only_within, sum_append}
+use Rattle.price_bound.proofs.ChainValues.{AreBelow, HasPath, IsNearAlong, IsNearAt, IsNearInto, IsNearOn, into}
+use Rattle.price_bound.proofs.ChainValues.{into_none, near_path, path_near, total_on, value_of_link, worth_on}
+use Rattle.price_bound.proofs.IntLaws.{below_add, below_none, below_same, only_at, only_here, only_other, only_within}
+use Rattle.price_bound.proofs.IntLaws.{sum_append}
 use Rattle.price_bound.proofs.Ordering.{count_joined}
 use Rattle.price_bound.proofs.Regrouping.{to_named}
 use Rattle.price_bound.proofs.Solving.{IsPart, LeadWithin, lead_within, list_picked, part_is, same_number}

@@ -1,5 +1,7 @@
 -- What one multiplier adds to a priced value, term by term: a constant, what each trip adds, and what each link adds.
-use Rattle.std.proofs.Common.{◌≡◌, ℕ, zero, suc, ◌+◌, ◌<◌, List, [], ◌∷◌, length, get_or, Bool, true, false, Option, Some, None, refl, sym, ap, ◌∙◌, subst, arith, ℤ, pos, neg_ℤ, ◌+ℤ◌, ◌-ℤ◌, ◌*ℤ◌, inl, inr, unwrap_or, slice_get}
+use Rattle.std.proofs.Common.{◌≡◌, ℕ, zero, suc, ◌+◌, ◌<◌, List, [], ◌∷◌, length, get_or, Bool, true, false, Option}
+use Rattle.std.proofs.Common.{Some, None, refl, sym, ap, ◌∙◌, subst, arith, ℤ, pos, neg_ℤ, ◌+ℤ◌, ◌-ℤ◌, ◌*ℤ◌, inl, inr}
+use Rattle.std.proofs.Common.{unwrap_or, slice_get}
 use Rattle.std.specs.Prelude.{◌==◌, ◌&&◌, if◌then◌else◌, nat_le, option_map}
 use Rattle.std.proofs.lemmas.Bool.{cases_eq, eq-eqb, ne_eqb}
 use Rattle.std.proofs.lemmas.Int.{ints}
@@ -27,7 +29,8 @@ use Rattle.price_bound.specs.IntBelow.{int_below}
 use Rattle.price_bound.specs.Regrouped.{constant_by, of_handover}
 use Rattle.price_bound.specs.Slacks.{handover_slack, is_part, one_if, slack_at}
 use Rattle.price_bound.specs.YardPrices.{of_type, price_by}
-use Rattle.price_bound.proofs.IntLaws.{below_add, below_neg, below_none, below_same, below_times, only_at, only_here, only_other, only_within, sum_none, times_add, times_neg, times_none, times_one}
+use Rattle.price_bound.proofs.IntLaws.{below_add, below_neg, below_none, below_same, below_times, only_at, only_here}
+use Rattle.price_bound.proofs.IntLaws.{only_other, only_within, sum_none, times_add, times_neg, times_none, times_one}
 use Rattle.price_bound.proofs.Solving.{second_within}
 
 -- ---- counted units

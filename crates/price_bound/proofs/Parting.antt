@@ -1,5 +1,6 @@
 -- The parts of hand-overs, where picks follow, and whether a region has them.
-use Rattle.std.proofs.Common.{◌≡◌, ◌<◌, ◌↔◌, ℕ, List, length, Option, Some, Bool, true, false, All, IsTrue, slice_get, get_or, unwrap_or, refl, sym, ap, subst, ◌∙◌, arith}
+use Rattle.std.proofs.Common.{◌≡◌, ◌<◌, ◌↔◌, ℕ, List, length, Option, Some, Bool, true, false, All, IsTrue, slice_get}
+use Rattle.std.proofs.Common.{get_or, unwrap_or, refl, sym, ap, subst, ◌∙◌, arith}
 use Rattle.std.specs.Prelude.{option_map}
 use Rattle.std.proofs.lemmas.Bool.{eq-eqb, eqb-true}
 use Rattle.std.proofs.lemmas.List.Elements.{All-contains, All-from_get_or, All-get_or}

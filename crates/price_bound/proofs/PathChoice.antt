@@ -1,6 +1,7 @@
--- Picks that are the first path of least value along each chain are the choice for a region, and where a chain has no path nothing is
--- near it.
-use Rattle.std.proofs.Common.{◌≡◌, ℕ, zero, suc, ◌<◌, ◌≤◌, ◌⊎◌, List, [], ◌∷◌, length, get_or, map, true, Some, refl, sym, ap, ◌∙◌, subst, arith, ℤ, ◌+ℤ◌, ◌<ℤ◌, inl, inr, slice_get}
+-- Picks that are the first path of least value along each chain are the choice for a region, and where a chain has no
+-- path nothing is near it.
+use Rattle.std.proofs.Common.{◌≡◌, ℕ, zero, suc, ◌<◌, ◌≤◌, ◌⊎◌, List, [], ◌∷◌, length, get_or, map, true, Some, refl}
+use Rattle.std.proofs.Common.{sym, ap, ◌∙◌, subst, arith, ℤ, ◌+ℤ◌, ◌<ℤ◌, inl, inr, slice_get}
 use Rattle.std.proofs.lemmas.Bool.{cases_eq}
 use Rattle.std.proofs.lemmas.Int.{ints}
 use Rattle.compositions.specs.Catalogue.{is_lower}

@@ -1,5 +1,6 @@
 -- The types of a plan that runs are the compositions of picks, and these are a solution in the region of the day.
-use Rattle.std.proofs.Common.{◌≡◌, ℕ, zero, suc, ◌<◌, List, [], ◌∷◌, map, length, get_or, true, refl, sym, ◌∙◌, ap, subst, arith, ℤ, pos, ◌≤ℤ◌}
+use Rattle.std.proofs.Common.{◌≡◌, ℕ, zero, suc, ◌<◌, List, [], ◌∷◌, map, length, get_or, true, refl, sym, ◌∙◌, ap}
+use Rattle.std.proofs.Common.{subst, arith, ℤ, pos, ◌≤ℤ◌}
 use Rattle.std.specs.Prelude.{All}
 use Rattle.std.proofs.lemmas.List.{get_or-map, length-map}
 use Rattle.timetable.specs.Admissible.{is_admissible}
@@ -17,7 +18,8 @@ use Rattle.branch_tree.specs.Regions.{root_of}
 use Rattle.branch_tree.proofs.Duality.{solutions_are_priced_low}
 use Rattle.branch_tree.proofs.Roots.{solutions_lie_in_roots}
 use Rattle.price_bound.specs.DayMeanings.{meanings_of}
-use Rattle.price_bound.specs.PlanBounds.{PlansCostAtLeast, NoPlanRuns, SolutionsBoundPlans, NoSolutionsNoPlans, IsPickedBy, PlansHavePicks, PlansArePricedLow}
+use Rattle.price_bound.specs.PlanBounds.{PlansCostAtLeast, NoPlanRuns, SolutionsBoundPlans, NoSolutionsNoPlans}
+use Rattle.price_bound.specs.PlanBounds.{IsPickedBy, PlansHavePicks, PlansArePricedLow}
 use Rattle.price_bound.proofs.Solving.{list_read}
 use Rattle.price_bound.proofs.Whole.{relaxes}
 

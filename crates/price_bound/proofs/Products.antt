@@ -1,6 +1,7 @@
--- Chains do not depend on one another: picks that are the first path of least value along each chain are the first of all picks
--- that are paths along each chain, in the order of the chains.
-use Rattle.std.proofs.Common.{◌≡◌, ℕ, suc, ◌⊎◌, List, [], ◌∷◌, ◌++◌, length, true, false, eqb, ltb, ◌&&◌, refl, sym, ap, ◌∙◌, subst, arith, ℤ, pos, ◌+ℤ◌, ◌<ℤ◌, ◌≤ℤ◌, inl, inr}
+-- Chains do not depend on one another: picks that are the first path of least value along each chain are the first of
+-- all picks that are paths along each chain, in the order of the chains.
+use Rattle.std.proofs.Common.{◌≡◌, ℕ, suc, ◌⊎◌, List, [], ◌∷◌, ◌++◌, length, true, false, eqb, ltb, ◌&&◌, refl, sym, ap}
+use Rattle.std.proofs.Common.{◌∙◌, subst, arith, ℤ, pos, ◌+ℤ◌, ◌<ℤ◌, ◌≤ℤ◌, inl, inr}
 use Rattle.std.proofs.lemmas.Bool.{and_from, and_parts, eq-eqb, or_cases, or_left, or_right}
 use Rattle.std.proofs.lemmas.Int.{ints, by_lt_z}
 use Rattle.compositions.specs.Catalogue.{is_lower}

@@ -1,6 +1,8 @@
--- Priced values are regrouped: over all multipliers what each adds at a trip is the price of the units that the trip takes and
--- gives, and what links give and take is told link by link.
-use Rattle.std.proofs.Common.{◌≡◌, ℕ, zero, suc, ◌+◌, ◌≤◌, List, [], ◌∷◌, length, Bool, Option, Some, None, refl, sym, ap, ◌∙◌, subst, arith, ℤ, pos, neg_ℤ, ◌+ℤ◌, ◌-ℤ◌, ◌*ℤ◌, inl, inr, unwrap_or, slice_get, ⊎_elim}
+-- Priced values are regrouped: over all multipliers what each adds at a trip is the price of the units that the trip
+-- takes and gives, and what links give and take is told link by link.
+use Rattle.std.proofs.Common.{◌≡◌, ℕ, zero, suc, ◌+◌, ◌≤◌, List, [], ◌∷◌, length, Bool, Option, Some, None, refl, sym}
+use Rattle.std.proofs.Common.{ap, ◌∙◌, subst, arith, ℤ, pos, neg_ℤ, ◌+ℤ◌, ◌-ℤ◌, ◌*ℤ◌, inl, inr, unwrap_or, slice_get}
+use Rattle.std.proofs.Common.{⊎_elim}
 use Rattle.std.specs.Prelude.{if◌then◌else◌, is_none, option_map, option_and_then}
 use Rattle.std.proofs.lemmas.Bool.{cases_eq}
 use Rattle.std.proofs.lemmas.Int.{ints}
@@ -11,7 +13,8 @@ use Rattle.timetable.specs.Accepted.{AreLinks}
 use Rattle.timetable.specs.Chains.{leads_from, leads_to}
 use Rattle.timetable.specs.Cost.{kind_cost, link_cost}
 use Rattle.timetable.specs.Day.{Day}
-use Rattle.timetable.specs.Links.{arriving_in, departing_in, given_by, given_with, incoming, itself, link_into, link_out, list_of, outgoing, taken_by, taken_with}
+use Rattle.timetable.specs.Links.{arriving_in, departing_in, given_by, given_with, incoming, itself, link_into}
+use Rattle.timetable.specs.Links.{link_out, list_of, outgoing, taken_by, taken_with}
 use Rattle.timetable.specs.Lists.{count_of, sum_below}
 use Rattle.timetable.specs.Picking.{picked}
 use Rattle.timetable.proofs.LinkNames.{names_below}
@@ -24,7 +27,8 @@ use Rattle.branch_tree.specs.IntSums.{int_sum}
 use Rattle.branch_tree.specs.Meanings.{weighted}
 use Rattle.price_bound.specs.Following.{part_of, pick_of}
 use Rattle.price_bound.specs.IntBelow.{int_below}
-use Rattle.price_bound.specs.Regrouped.{AreRegrouped, constant_of, link_value, part_price, regrouped, second_price, trip_value, value_at_link}
+use Rattle.price_bound.specs.Regrouped.{AreRegrouped, constant_of, link_value, part_price, regrouped, second_price}
+use Rattle.price_bound.specs.Regrouped.{trip_value, value_at_link}
 use Rattle.price_bound.specs.Slacks.{slack_of}
 use Rattle.price_bound.specs.YardPrices.{giving, taking}
 use Rattle.price_bound.proofs.ByLink.{adds_all, adds_at, adds_none, adds_one, adds_to}

@@ -1,6 +1,8 @@
--- The rows of a chain's stages hold first paths: a cell has the value of the first path of least value from its composition on,
--- and the path goes from cell to cell.
-use Rattle.std.proofs.Common.{◌≡◌, ℕ, zero, suc, ◌+◌, ◌<◌, ◌≤◌, ◌⊎◌, List, [], ◌∷◌, length, get_or, replicate, true, Option, Some, None, refl, sym, ap, ◌∙◌, subst, arith, ℤ, pos, ◌+ℤ◌, ◌<ℤ◌, ◌≤ℤ◌, inl, inr, Contains, length-set}
+-- The rows of a chain's stages hold first paths: a cell has the value of the first path of least value from its
+-- composition on, and the path goes from cell to cell.
+use Rattle.std.proofs.Common.{◌≡◌, ℕ, zero, suc, ◌+◌, ◌<◌, ◌≤◌, ◌⊎◌, List, [], ◌∷◌, length, get_or, replicate, true}
+use Rattle.std.proofs.Common.{Option, Some, None, refl, sym, ap, ◌∙◌, subst, arith, ℤ, pos, ◌+ℤ◌, ◌<ℤ◌, ◌≤ℤ◌, inl, inr}
+use Rattle.std.proofs.Common.{Contains, length-set}
 use Rattle.std.specs.Prelude.{fold}
 use Rattle.std.specs.List.{All}
 use Rattle.std.proofs.lemmas.Bool.{and_from, cases_eq, eq-eqb, lt-ltb, or_left, or_right}
@@ -10,7 +12,8 @@ use Rattle.std.proofs.lemmas.List.Elements.{All-head, All-tail}
 use Rattle.compositions.specs.Catalogue.{is_lower}
 use Rattle.transitions.specs.declared.edge.Edge.{Edge}
 use Rattle.price_bound.specs.declared.cells.Cell.{Cell}
-use Rattle.price_bound.specs.Paths.{Stage, IsStepAt, IsPath, IsNoLaterPath, IsOver, last_row, next_of, offer, offer_by, offered, row_before, row_by, rows_of, walked, with_worth, with_worths}
+use Rattle.price_bound.specs.Paths.{Stage, IsStepAt, IsPath, IsNoLaterPath, IsOver, last_row, next_of, offer, offer_by}
+use Rattle.price_bound.specs.Paths.{offered, row_before, row_by, rows_of, walked, with_worth, with_worths}
 use Rattle.price_bound.proofs.Offers.{IsLeastOffer, IsOffered, row_offered}
 
 -- ---- lists in order

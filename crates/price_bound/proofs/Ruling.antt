@@ -1,5 +1,6 @@
 -- Picks that follow keep the rule of every link where no part of a hand-over differs from the second trip's pick.
-use Rattle.std.proofs.Common.{◌≡◌, ◌<◌, ◌+◌, ℕ, List, length, Option, Some, None, Bool, true, false, ◌==◌, slice_get, unwrap_or, position, refl, sym, ap, subst, ◌∙◌, arith, pos, ◌-ℤ◌, int_lt}
+use Rattle.std.proofs.Common.{◌≡◌, ◌<◌, ◌+◌, ℕ, List, length, Option, Some, None, Bool, true, false, ◌==◌, slice_get}
+use Rattle.std.proofs.Common.{unwrap_or, position, refl, sym, ap, subst, ◌∙◌, arith, pos, ◌-ℤ◌, int_lt}
 use Rattle.std.specs.Prelude.{option_map}
 use Rattle.std.proofs.lemmas.Bool.{eqb-true}
 use Rattle.std.proofs.lemmas.Option.{slice_get-get_or}

@@ -1,5 +1,7 @@
 -- What settling says of picks: where they are broken first, or that they are a solution.
-use Rattle.std.proofs.Common.{◌≡◌, ◌<◌, ◌≤◌, ◌+◌, ℕ, zero, suc, List, length, Option, Some, None, Bool, true, false, not, ◌&&◌, slice_get, unwrap_or, position, refl, sym, ap, subst, ◌∙◌, arith, ℤ, pos, negsuc, neg_ℤ, ◌-ℤ◌, ◌*ℤ◌, ◌≤ℤ◌, ◌<ℤ◌, int_lt, inl, inr, ⊎_elim, if◌then◌else◌}
+use Rattle.std.proofs.Common.{◌≡◌, ◌<◌, ◌≤◌, ◌+◌, ℕ, zero, suc, List, length, Option, Some, None, Bool, true, false}
+use Rattle.std.proofs.Common.{not, ◌&&◌, slice_get, unwrap_or, position, refl, sym, ap, subst, ◌∙◌, arith, ℤ, pos}
+use Rattle.std.proofs.Common.{negsuc, neg_ℤ, ◌-ℤ◌, ◌*ℤ◌, ◌≤ℤ◌, ◌<ℤ◌, int_lt, inl, inr, ⊎_elim, if◌then◌else◌}
 use Rattle.std.specs.Prelude.{option_map}
 use Rattle.std.proofs.lemmas.Bool.{cases_lt, eq-eqb, lt-ltb}
 use Rattle.std.proofs.lemmas.Int.{ints}
@@ -30,9 +32,12 @@ use Rattle.price_bound.specs.DayMeanings.{IsAccepted, meanings_of}
 use Rattle.price_bound.specs.Following.{Follow, part_of, pick_of}
 use Rattle.price_bound.specs.Parts.{HasPart, IsFirstMissed, Misses, NoneMissed, second_pick}
 use Rattle.price_bound.specs.Settling.{Names, fault_sign, place_of}
-use Rattle.price_bound.specs.Slacks.{broken_at, broken_index, first_from, is_none, is_part, is_positive, or_else, sign_of, slack_at, slack_of}
+use Rattle.price_bound.specs.Slacks.{broken_at, broken_index, first_from, is_none, is_part, is_positive, or_else}
+use Rattle.price_bound.specs.Slacks.{sign_of, slack_at, slack_of}
 use Rattle.price_bound.proofs.Breaking.{broken_there}
-use Rattle.price_bound.proofs.FirstBroken.{each_sigma, first_at, had_none, lambdas_before, missed, missed_none, mus_before, none_at, each_lambda, sigma_index, mu_index, lambda_index, sigmas_before}
+use Rattle.price_bound.proofs.FirstBroken.{each_sigma, first_at, had_none, lambdas_before, missed, missed_none}
+use Rattle.price_bound.proofs.FirstBroken.{mus_before, none_at, each_lambda, sigma_index, mu_index, lambda_index}
+use Rattle.price_bound.proofs.FirstBroken.{sigmas_before}
 use Rattle.price_bound.proofs.Meeting.{solution_met}
 use Rattle.price_bound.proofs.Ruling.{sigma_there}
 use Rattle.price_bound.proofs.Whole.{HaveParts, lambda_there, mu_there, solved}

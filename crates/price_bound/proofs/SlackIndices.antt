@@ -1,5 +1,7 @@
 -- The slack at each index, and the entries from one index to the next.
-use Rattle.std.proofs.Common.{◌≡◌, ◌≢◌, ◌<◌, ◌≤◌, ◌+◌, ◌-◌, ◌*◌, ℕ, zero, suc, List, ◌++◌, length, Option, Some, Bool, true, false, ◌==◌, slice_get, unwrap_or, refl, sym, ap, subst, ◌∙◌, arith, length-append, ℤ, pos, negsuc, ◌-ℤ◌}
+use Rattle.std.proofs.Common.{◌≡◌, ◌≢◌, ◌<◌, ◌≤◌, ◌+◌, ◌-◌, ◌*◌, ℕ, zero, suc, List, ◌++◌, length, Option, Some, Bool}
+use Rattle.std.proofs.Common.{true, false, ◌==◌, slice_get, unwrap_or, refl, sym, ap, subst, ◌∙◌, arith, length-append}
+use Rattle.std.proofs.Common.{ℤ, pos, negsuc, ◌-ℤ◌}
 use Rattle.std.specs.Prelude.{option_map}
 use Rattle.std.proofs.Math.Nat.{zero-mul, suc-mul}
 use Rattle.std.proofs.lemmas.Bool.{eq-eqb, ne_eqb}

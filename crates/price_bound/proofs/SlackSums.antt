@@ -1,6 +1,7 @@
--- The sum of multiplier times slack, over all multipliers: a constant, the prices of what trips take and give, and the multipliers
--- of parts and of second trips.
-use Rattle.std.proofs.Common.{◌≡◌, ℕ, List, length, Option, Some, None, refl, ap, ◌∙◌, arith, ℤ, pos, neg_ℤ, ◌+ℤ◌, ◌*ℤ◌, unwrap_or, slice_get}
+-- The sum of multiplier times slack, over all multipliers: a constant, the prices of what trips take and give, and the
+-- multipliers of parts and of second trips.
+use Rattle.std.proofs.Common.{◌≡◌, ℕ, List, length, Option, Some, None, refl, ap, ◌∙◌, arith, ℤ, pos, neg_ℤ, ◌+ℤ◌, ◌*ℤ◌}
+use Rattle.std.proofs.Common.{unwrap_or, slice_get}
 use Rattle.std.specs.Prelude.{option_map}
 use Rattle.std.proofs.lemmas.Int.{ints}
 use Rattle.timetable.specs.declared.day.indices.Place.{Place}
@@ -18,7 +19,8 @@ use Rattle.price_bound.specs.IntBelow.{int_below}
 use Rattle.price_bound.specs.Regrouped.{constant_by, constant_of, of_handover, part_price, second_price}
 use Rattle.price_bound.specs.Slacks.{slack_at, slack_of}
 use Rattle.price_bound.specs.YardPrices.{by_place, giving, price_by, taking, yard_price}
-use Rattle.price_bound.proofs.IntLaws.{below_none, below_same, below_sums, sum_add, sum_neg, sum_none, sum_same, sum_sums, times_none}
+use Rattle.price_bound.proofs.IntLaws.{below_none, below_same, below_sums, sum_add, sum_neg, sum_none, sum_same}
+use Rattle.price_bound.proofs.IntLaws.{sum_sums, times_none}
 use Rattle.price_bound.proofs.OneMultiplier.{has_part, is_second, place_taken}
 
 module _ (day : Day) (picks : List ℕ) (links : AreLinks day) where
@@ -83,7 +85,8 @@ module _ (day : Day) (picks : List ℕ) (links : AreLinks day) where
   unfolding yard_price
   units_total entries s minute types = sum_sums (λ entry m. by_place day (price_by day s minute m) entry) entries types
 
-  -- the price of what a trip takes, less that of what it gives, less the multipliers of its pick where it is the second trip
+  -- the price of what a trip takes, less that of what it gives, less the multipliers of its pick where it is the second
+  -- trip
   abbrev pub at_trips : List Entry → ℕ → ℤ
   at_trips entries t =
       taking day entries t (taken_with itself day lists t) +ℤ neg_ℤ (giving day entries t (given_with itself day lists t)) +ℤ neg_ℤ (second_price day entries t (pick_of picks t))

@@ -1,5 +1,6 @@
 -- A solution follows, and is near each region that it lies in.
-use Rattle.std.proofs.Common.{◌≡◌, ◌<◌, ℕ, List, [], ◌++◌, length, map, drop, Option, Some, Bool, true, IsTrue, slice_get, get_or, unwrap_or, sym, ap, subst, ◌∙◌, arith}
+use Rattle.std.proofs.Common.{◌≡◌, ◌<◌, ℕ, List, [], ◌++◌, length, map, drop, Option, Some, Bool, true, IsTrue}
+use Rattle.std.proofs.Common.{slice_get, get_or, unwrap_or, sym, ap, subst, ◌∙◌, arith}
 use Rattle.std.specs.Prelude.{option_map}
 use Rattle.std.proofs.lemmas.Bool.{and_parts}
 use Rattle.std.proofs.lemmas.Option.{slice_get-map, slice_get-get_or}

@@ -1,5 +1,7 @@
--- Picks that get the compositions of a path along a chain: along it they are the path, and other trips keep their picks.
-use Rattle.std.proofs.Common.{◌≡◌, ℕ, suc, ◌<◌, ◌≤◌, List, [], ◌∷◌, ◌++◌, length, set, Option, Some, None, refl, sym, ap, ◌∙◌, subst, arith, ℤ, pos, ◌+ℤ◌, inl, inr, slice_get, unwrap_or, length-set, Contains}
+-- Picks that get the compositions of a path along a chain: along it they are the path, and other trips keep their
+-- picks.
+use Rattle.std.proofs.Common.{◌≡◌, ℕ, suc, ◌<◌, ◌≤◌, List, [], ◌∷◌, ◌++◌, length, set, Option, Some, None, refl, sym}
+use Rattle.std.proofs.Common.{ap, ◌∙◌, subst, arith, ℤ, pos, ◌+ℤ◌, inl, inr, slice_get, unwrap_or, length-set, Contains}
 use Rattle.std.specs.Prelude.{◌&&◌, nat_lt}
 use Rattle.std.specs.List.{All}
 use Rattle.std.proofs.lemmas.Bool.{and_parts, cases_eq, ltb-true}
@@ -18,7 +20,8 @@ use Rattle.transitions.specs.Edges.{AreEdges, AreGraphs, IsEdge}
 use Rattle.branch_tree.specs.Regions.{has}
 use Rattle.price_bound.specs.declared.cells.Cell.{Cell}
 use Rattle.price_bound.specs.CellRows.{put_along}
-use Rattle.price_bound.specs.ChainStages.{Priced, along, AreFirstPaths, edges_of, may_have, stage_of, stages_of, worth_of}
+use Rattle.price_bound.specs.ChainStages.{Priced, along, AreFirstPaths, edges_of, may_have, stage_of, stages_of}
+use Rattle.price_bound.specs.ChainStages.{worth_of}
 use Rattle.price_bound.specs.Following.{pick_of}
 use Rattle.price_bound.specs.Paths.{IsFirstPath, IsOver, IsPath, begin_of, rows_of, walked}
 use Rattle.price_bound.proofs.Begins.{first_path}

@@ -1,5 +1,6 @@
 -- The rows of an accepted table are within the ranges of their columns, and no more than the limit.
-use Rattle.std.proofs.Common.{◌≡◌, ℕ, ◌+◌, ◌*◌, ◌≤◌, ◌<◌, Bool, true, false, cond, ltb, leb, eqb, ◌&&◌, List, [], ◌∷◌, length, Option, Some, None, Result, Ok, Err, refl, subst, arith}
+use Rattle.std.proofs.Common.{◌≡◌, ℕ, ◌+◌, ◌*◌, ◌≤◌, ◌<◌, Bool, true, false, cond, ltb, leb, eqb, ◌&&◌, List, [], ◌∷◌}
+use Rattle.std.proofs.Common.{length, Option, Some, None, Result, Ok, Err, refl, subst, arith}
 use Rattle.std.specs.Prelude.{IfOk, IfSome, codes}
 use Rattle.std.specs.Global.{Vec}
 use Rattle.std.specs.List.{All, AllByRecursion, list_all}
@@ -9,7 +10,12 @@ use Rattle.std.proofs.lemmas.Bool.Decides.{nat_tests}
 use Rattle.std.proofs.lemmas.List.Elements.{All-from_recursion}
 use Rattle.rail_base.specs.Answers.{◌>>=◌, Gives, GivesRows}
 use Rattle.rail_base.specs.Names.{is_name}
-use Rattle.rail_base.specs.declared.limits.TheConstants.{MOST_TYPES, MOST_STATIONS, MOST_STOCK_ROWS, MOST_TRIPS, MOST_LINKS, MOST_WEIGHT_ROWS, MOST_PLAN_ROWS, MOST_CARRIAGES, MOST_SEATS, MOST_FIRST_SEATS, MOST_METRES, MOST_PLATFORM, MOST_REALLOCATION, MOST_STOCK, MOST_MINUTES, MOST_KM, MOST_DEMAND, MOST_FIRST_DEMAND, MOST_WEIGHT, MOST_COMPOSITION, MOST_UNITS}
+use Rattle.rail_base.specs.declared.limits.TheConstants.{MOST_TYPES, MOST_STATIONS, MOST_STOCK_ROWS, MOST_TRIPS}
+use Rattle.rail_base.specs.declared.limits.TheConstants.{MOST_LINKS, MOST_WEIGHT_ROWS, MOST_PLAN_ROWS, MOST_CARRIAGES}
+use Rattle.rail_base.specs.declared.limits.TheConstants.{MOST_SEATS, MOST_FIRST_SEATS, MOST_METRES, MOST_PLATFORM}
+use Rattle.rail_base.specs.declared.limits.TheConstants.{MOST_REALLOCATION, MOST_STOCK, MOST_MINUTES, MOST_KM}
+use Rattle.rail_base.specs.declared.limits.TheConstants.{MOST_DEMAND, MOST_FIRST_DEMAND, MOST_WEIGHT, MOST_COMPOSITION}
+use Rattle.rail_base.specs.declared.limits.TheConstants.{MOST_UNITS}
 use Rattle.rail_csv.specs.declared.refusal.TableRefusal.{TableRefusal}
 use Rattle.rail_csv.specs.declared.rows.TypeRow.{TypeRow}
 use Rattle.rail_csv.specs.declared.rows.StationRow.{StationRow}
@@ -18,10 +24,17 @@ use Rattle.rail_csv.specs.declared.rows.TripRow.{TripRow}
 use Rattle.rail_csv.specs.declared.rows.LinkRow.{LinkRow}
 use Rattle.rail_csv.specs.declared.rows.WeightsRow.{WeightsRow}
 use Rattle.rail_csv.specs.declared.rows.PlanRow.{PlanRow}
-use Rattle.rail_csv.specs.Fields.{is_number, number_of, is_time, time_of, has_time_form, hour_text, minute_text, pieces_of, numbers_of, is_unit}
-use Rattle.rail_csv.specs.Columns.{field, field_or, number_column, time_column, name_column, optional_name_column, kind_column, answer_column, end_column, units_column}
-use Rattle.rail_csv.specs.Tables.{Columns, is_header, is_memory, row_of, rows_from, rows_under, records_of, table_of, the_row, type_header, type_columns, types_of, station_header, station_columns, stations_of, stock_header, stock_columns, stock_of, trip_header, trip_columns, trips_of, link_header, link_columns, links_of, weight_header, weight_columns, weights_of, plan_header, plan_columns, plan_of}
-use Rattle.rail_csv.specs.Rows.{IsName, IsWithin, IsMinute, AreRows, IsTypeRow, IsStationRow, IsStockRow, IsTripRow, IsLinkRow, IsWeightsRow, IsPlanRow}
+use Rattle.rail_csv.specs.Fields.{is_number, number_of, is_time, time_of, has_time_form, hour_text, minute_text}
+use Rattle.rail_csv.specs.Fields.{pieces_of, numbers_of, is_unit}
+use Rattle.rail_csv.specs.Columns.{field, field_or, number_column, time_column, name_column, optional_name_column}
+use Rattle.rail_csv.specs.Columns.{kind_column, answer_column, end_column, units_column}
+use Rattle.rail_csv.specs.Tables.{Columns, is_header, is_memory, row_of, rows_from, rows_under, records_of, table_of}
+use Rattle.rail_csv.specs.Tables.{the_row, type_header, type_columns, types_of, station_header, station_columns}
+use Rattle.rail_csv.specs.Tables.{stations_of, stock_header, stock_columns, stock_of, trip_header, trip_columns}
+use Rattle.rail_csv.specs.Tables.{trips_of, link_header, link_columns, links_of, weight_header, weight_columns}
+use Rattle.rail_csv.specs.Tables.{weights_of, plan_header, plan_columns, plan_of}
+use Rattle.rail_csv.specs.Rows.{IsName, IsWithin, IsMinute, AreRows, IsTypeRow, IsStationRow, IsStockRow, IsTripRow}
+use Rattle.rail_csv.specs.Rows.{IsLinkRow, IsWeightsRow, IsPlanRow}
 
 -- ---- steps that went well
 

@@ -1,8 +1,12 @@
 -- The records of a text, one read after the other.
-use Rattle.std.proofs.Common.{◌≡◌, ℕ, zero, suc, ◌+◌, ◌<◌, ◌≤◌, Bool, true, false, cond, List, [], ◌∷◌, ◌++◌, length, Option, Some, None, Ok, Bor, unwrap_or, refl, sym, ap, subst, ◌∙◌, arith, inl, inr, ◌⊎◌, add-one}
+use Rattle.std.proofs.Common.{◌≡◌, ℕ, zero, suc, ◌+◌, ◌<◌, ◌≤◌, Bool, true, false, cond, List, [], ◌∷◌, ◌++◌, length}
+use Rattle.std.proofs.Common.{Option, Some, None, Ok, Bor, unwrap_or, refl, sym, ap, subst, ◌∙◌, arith, inl, inr, ◌⊎◌}
+use Rattle.std.proofs.Common.{add-one}
 use Rattle.std.proofs.lemmas.List.{length_push}
 use Rattle.csv.specs.Machine.{Read, next_record, step, is_end, fields_after, field_after, ends_at_end}
-use Rattle.csv.specs.Reading.{records_from, records_next, default_config, strip_bom, source_of, is_bom, Reached, Ready, RowStep, reader_trim, reader_config, reader_state, reader_headers, names_headers, owned_rows_reader, owned_rows_left}
+use Rattle.csv.specs.Reading.{records_from, records_next, default_config, strip_bom, source_of, is_bom, Reached, Ready}
+use Rattle.csv.specs.Reading.{RowStep, reader_trim, reader_config, reader_state, reader_headers, names_headers}
+use Rattle.csv.specs.Reading.{owned_rows_reader, owned_rows_left}
 use Rattle.csv.specs.Records.{Row, fields_of}
 use Rattle.csv.specs.declared.parser.State.{State}
 use Rattle.csv.specs.declared.parser.State.TheVariants as st

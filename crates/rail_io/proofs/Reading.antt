@@ -1,12 +1,13 @@
 -- What holds of a file while it is read piece by piece.
-use Rattle.std.proofs.Common.{◌≡◌, ℕ, Bool, ◌+◌, ◌^◌, ◌<◌, ◌≤◌, List, ◌++◌, length, take, Option, Some, sym, ap, ◌∙◌, arith}
+use Rattle.std.proofs.Common.{◌≡◌, ℕ, Bool, ◌+◌, ◌^◌, ◌<◌, ◌≤◌, List, ◌++◌, length, take, Option, Some, sym, ap, ◌∙◌}
+use Rattle.std.proofs.Common.{arith}
 use Rattle.std.proofs.Math.Seq.{take-add}
 use Rattle.std.proofs.lemmas.List.{length-append, length-take-le}
 use Rattle.rail_io.specs.Folders.{Files, IsReadFrom, OnlyReads, RoseBy, file_at}
 use Rattle.rail_io.proofs.Calls.{OnlyReads-then}
 
--- after some reads: these bytes are the front of the file where the folder tells, and the count of bytes handed out rose by
--- their number
+-- after some reads: these bytes are the front of the file where the folder tells, and the count of bytes handed out
+-- rose by their number
 pub record IsReading {F : Type 0} (holds : F → Option Files) (may_fail : F → List ℕ → Bool) (faults taken : F → ℕ) (before now : F) (path bytes : List ℕ) (limit : ℕ) : Type 0 where
   pub front : (files : Files) → holds before ≡ Some files → bytes ≡ take (length bytes) (file_at files path)
   pub within : length bytes ≤ limit

@@ -1,5 +1,6 @@
 -- Picks of which each was found to be one that may run on its trip.
-use Rattle.std.proofs.Common.{◌≡◌, ◌∙◌, ◌<◌, ◌+◌, ℕ, List, [], length, Option, Some, get_or, slice_get, unwrap_or, ⊎_elim, sym, ap, subst, arith}
+use Rattle.std.proofs.Common.{◌≡◌, ◌∙◌, ◌<◌, ◌+◌, ℕ, List, [], length, Option, Some, get_or, slice_get, unwrap_or}
+use Rattle.std.proofs.Common.{⊎_elim, sym, ap, subst, arith}
 use Rattle.std.specs.Prelude.{IsTrue, option_map}
 use Rattle.std.proofs.lemmas.Bool.{cases_lt}
 use Rattle.std.proofs.lemmas.Option.{slice_get-get_or, slice_get-map}

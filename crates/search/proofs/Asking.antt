@@ -1,5 +1,6 @@
 -- How often advisors are asked, in one round and in several.
-use Rattle.std.proofs.Common.{◌≡◌, ℕ, zero, suc, ◌+◌, ◌<◌, ◌≤◌, ◌^◌, List, [], ◌∷◌, length, get_or, set, replicate, Bool, true, false, refl, sym, ap, subst, arith, add-one, ◌∙◌, ◌⊎◌, inl, inr}
+use Rattle.std.proofs.Common.{◌≡◌, ℕ, zero, suc, ◌+◌, ◌<◌, ◌≤◌, ◌^◌, List, [], ◌∷◌, length, get_or, set, replicate}
+use Rattle.std.proofs.Common.{Bool, true, false, refl, sym, ap, subst, arith, add-one, ◌∙◌, ◌⊎◌, inl, inr}
 use Rattle.std.proofs.lemmas.List.{get_or_default}
 use Rattle.std.proofs.lemmas.List.Elements.{All-cons, All-nil, All-head, All-tail}
 use Rattle.search.specs.Asking.{IsAsked, AreAsked, AreAskedUpTo, CanAsk, IsAskedAt, MayBeAsked, in_rounds, once}

@@ -1,5 +1,6 @@
 -- A node that can be branched has a proper cut.
-use Rattle.std.proofs.Common.{◌≡◌, ℕ, ◌<◌, ◌≤◌, List, [], length, get_or, slice_get, Some, Bool, true, IsTrue, subst, arith}
+use Rattle.std.proofs.Common.{◌≡◌, ℕ, ◌<◌, ◌≤◌, List, [], length, get_or, slice_get, Some, Bool, true, IsTrue, subst}
+use Rattle.std.proofs.Common.{arith}
 use Rattle.std.proofs.lemmas.List.{get_or_default}
 use Rattle.std.proofs.lemmas.Option.{get_or_from_slice_get}
 use Rattle.branch_tree.specs.declared.cuts.Cut.TheVariants.{Only}

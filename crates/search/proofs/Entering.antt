@@ -1,5 +1,6 @@
 -- Which nodes a frontier has, as ranks are put in and taken out and nodes are branched.
-use Rattle.std.proofs.Common.{◌≡◌, ℕ, zero, suc, ◌<◌, ◌&&◌, List, [], ◌∷◌, length, All, Bool, true, false, ℤ, IsSome, Option, Some, None, nat_eq, if◌then◌else◌, refl, sym, ap, subst, ◌∙◌, arith}
+use Rattle.std.proofs.Common.{◌≡◌, ℕ, zero, suc, ◌<◌, ◌&&◌, List, [], ◌∷◌, length, All, Bool, true, false, ℤ, IsSome}
+use Rattle.std.proofs.Common.{Option, Some, None, nat_eq, if◌then◌else◌, refl, sym, ap, subst, ◌∙◌, arith}
 use Rattle.std.proofs.lemmas.Bool.Decides.{Decides-int_eq}
 use Rattle.std.proofs.lemmas.Cmp.{int_eq_equiv, nat_eq_equiv}
 use Rattle.std.proofs.lemmas.List.Elements.{All-cons, All-head, All-tail}

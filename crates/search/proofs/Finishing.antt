@@ -1,5 +1,7 @@
 -- What a search finds is proved by its tree, once no leaf is opens or all branchings that were granted are made.
-use Rattle.std.proofs.Common.{◌≡◌, ℕ, zero, suc, ◌+◌, ◌*◌, ◌<◌, ◌≤◌, List, [], ◌∷◌, ◌++◌, length, reverse, All, Contains, Bool, true, false, if◌then◌else◌, Option, Some, None, MatchOption, refl, sym, ap, subst, arith, ◌∙◌, inl, inr, ◌⊎◌, ℤ, ◌≤ℤ◌, ◌<ℤ◌, int_lt}
+use Rattle.std.proofs.Common.{◌≡◌, ℕ, zero, suc, ◌+◌, ◌*◌, ◌<◌, ◌≤◌, List, [], ◌∷◌, ◌++◌, length, reverse, All}
+use Rattle.std.proofs.Common.{Contains, Bool, true, false, if◌then◌else◌, Option, Some, None, MatchOption, refl, sym}
+use Rattle.std.proofs.Common.{ap, subst, arith, ◌∙◌, inl, inr, ◌⊎◌, ℤ, ◌≤ℤ◌, ◌<ℤ◌, int_lt}
 use Rattle.std.specs.List.{fold}
 use Rattle.std.proofs.lemmas.Int.{ints}
 use Rattle.std.proofs.lemmas.List.{append-nil, append_assoc, length-append, length-map, length-reverse, reverse-append}
@@ -8,7 +10,9 @@ use Rattle.rail_base.specs.declared.numbers.Money.{Money}
 use Rattle.branch_tree.specs.declared.multipliers.Entry.{Entry}
 use Rattle.branch_tree.specs.declared.tree.Node.{Node}
 use Rattle.branch_tree.specs.declared.tree.Node.TheVariants.{Branch, CostLeaf, RayLeaf, EmptyLeaf}
-use Rattle.branch_tree.specs.Claims.{Priced, Conclusion, optimal, infeasible, plan_of, IsPlanIn, IsProved, IsProvedAt, IsRaisedAt, IsNotEvident, IsNotEvidentAt, IsLeast, DoBound, EndsInTime, HasOpenLeaf, is_open, is_below, open_leaves_of}
+use Rattle.branch_tree.specs.Claims.{Priced, Conclusion, optimal, infeasible, plan_of, IsPlanIn, IsProved, IsProvedAt}
+use Rattle.branch_tree.specs.Claims.{IsRaisedAt, IsNotEvident, IsNotEvidentAt, IsLeast, DoBound, EndsInTime}
+use Rattle.branch_tree.specs.Claims.{HasOpenLeaf, is_open, is_below, open_leaves_of}
 use Rattle.branch_tree.specs.Meanings.{Meanings}
 use Rattle.branch_tree.specs.Trees.{Walks, Covers, IsWhole, bounds_of, branchings_of, cut_of, regions_below}
 use Rattle.branch_tree.proofs.Covering.{leaves_exceed_branches}

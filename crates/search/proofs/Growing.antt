@@ -1,5 +1,7 @@
 -- The nodes of a search after a branching.
-use Rattle.std.proofs.Common.{◌≡◌, ℕ, zero, suc, ◌+◌, ◌<◌, ◌≤◌, List, [], ◌∷◌, ◌++◌, length, get_or, take, drop, set, Bool, true, false, IsTrue, if◌then◌else◌, Option, Some, None, refl, sym, ap, subst, arith, ◌∙◌, inl, inr, ◌⊎◌, ℤ}
+use Rattle.std.proofs.Common.{◌≡◌, ℕ, zero, suc, ◌+◌, ◌<◌, ◌≤◌, List, [], ◌∷◌, ◌++◌, length, get_or, take, drop, set}
+use Rattle.std.proofs.Common.{Bool, true, false, IsTrue, if◌then◌else◌, Option, Some, None, refl, sym, ap, subst, arith}
+use Rattle.std.proofs.Common.{◌∙◌, inl, inr, ◌⊎◌, ℤ}
 use Rattle.std.specs.List.{insert}
 use Rattle.std.proofs.lemmas.List.{append_assoc, length-set}
 use Rattle.std.proofs.Math.Seq.{split_at}
@@ -25,7 +27,8 @@ use Rattle.search.specs.declared.nodes.PendingNode.{PendingNode}
 use Rattle.search.specs.declared.nodes.SearchNode.{SearchNode}
 use Rattle.search.specs.declared.nodes.SearchNode.TheVariants.{Fixed, Pending}
 use Rattle.search.specs.Ends.{made_or_open}
-use Rattle.search.specs.Nodes.{IsLeafOf, IsNodeOf, IsDivision, IsDivisionAt, IsPending, IsPlaced, IsSearched, IsWithin, CanBranch, branched, cut_at, tree_node, tree_nodes}
+use Rattle.search.specs.Nodes.{IsLeafOf, IsNodeOf, IsDivision, IsDivisionAt, IsPending, IsPlaced, IsSearched, IsWithin}
+use Rattle.search.specs.Nodes.{CanBranch, branched, cut_at, tree_node, tree_nodes}
 use Rattle.search.specs.Offers.{HasPlanIn, IsOffered}
 use Rattle.search.proofs.Evaluating.{offered_again}
 

@@ -1,5 +1,7 @@
 -- Rows that are accepted one after another: what holds of each that is accepted holds of all.
-use Rattle.std.proofs.Common.{◌≡◌, inl, inr, ℕ, zero, suc, ◌+◌, ◌<◌, Bool, true, false, List, [], ◌∷◌, ◌++◌, length, get_or, refl, sym, ap, subst, ◌∙◌, append_assoc, append-nil, map, arith, length-append, Option, Some, None, Result, Ok, Err, cond, slice_get}
+use Rattle.std.proofs.Common.{◌≡◌, inl, inr, ℕ, zero, suc, ◌+◌, ◌<◌, Bool, true, false, List, [], ◌∷◌, ◌++◌, length}
+use Rattle.std.proofs.Common.{get_or, refl, sym, ap, subst, ◌∙◌, append_assoc, append-nil, map, arith, length-append}
+use Rattle.std.proofs.Common.{Option, Some, None, Result, Ok, Err, cond, slice_get}
 use Rattle.std.specs.List.{All, AllZip, AllPairs, Any, list_any}
 use Rattle.std.proofs.lemmas.Bool.{or_cases}
 use Rattle.std.proofs.lemmas.Option.{same_Some}

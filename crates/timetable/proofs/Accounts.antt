@@ -1,4 +1,5 @@
--- What becomes of the units that arrive, and where those that depart come from, by counts alone, where every link's rule holds.
+-- What becomes of the units that arrive, and where those that depart come from, by counts alone, where every link's
+-- rule holds.
 use Rattle.std.proofs.Common.{◌≡◌, ℕ, ◌+◌, ◌<◌, ◌≤◌, List, sym, ap, ◌∙◌, arith, ◌≢◌, ⊎_elim, ◌⊎◌, inl, inr}
 use Rattle.std.proofs.lemmas.Bool.{cases_eq, cases_lt}
 use Rattle.timetable.specs.Day.{Day, leaves, arrives}

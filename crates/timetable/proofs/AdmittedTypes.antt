@@ -1,5 +1,6 @@
 -- Types that may run on a trip are those of a composition of the day.
-use Rattle.std.proofs.Common.{◌≡◌, ℕ, zero, suc, ◌<◌, ◌≤◌, List, length, [], ◌∷◌, true, Option, ap, ◌∙◌, arith, unwrap_or, Contains}
+use Rattle.std.proofs.Common.{◌≡◌, ℕ, zero, suc, ◌<◌, ◌≤◌, List, length, [], ◌∷◌, true, Option, ap, ◌∙◌, arith}
+use Rattle.std.proofs.Common.{unwrap_or, Contains}
 use Rattle.std.proofs.lemmas.Bool.{and_parts, and_from, leb-true, le-leb}
 use Rattle.std.proofs.lemmas.Option.{slice_get-get_or}
 use Rattle.compositions.specs.declared.types.UnitType.{UnitType}

@@ -1,5 +1,6 @@
 -- The day of accepted entries keeps within the limits.
-use Rattle.std.proofs.Common.{◌≡◌, ℕ, suc, zero, ◌<◌, ◌≤◌, List, [], ◌∷◌, length, refl, sym, ap, subst, arith, length-append, Option, Some, Result, Ok, Err, slice_get, unwrap_or, replicate}
+use Rattle.std.proofs.Common.{◌≡◌, ℕ, suc, zero, ◌<◌, ◌≤◌, List, [], ◌∷◌, length, refl, sym, ap, subst, arith}
+use Rattle.std.proofs.Common.{length-append, Option, Some, Result, Ok, Err, slice_get, unwrap_or, replicate}
 use Rattle.std.specs.Prelude.{option_map, nat_lt, if◌then◌else◌}
 use Rattle.std.specs.List.{All}
 use Rattle.std.proofs.lemmas.List.{length-replicate}
@@ -20,12 +21,15 @@ use Rattle.timetable.specs.declared.building.tables.Tables.{Tables}
 use Rattle.timetable.specs.Accepted.{IsDay}
 use Rattle.rail_base.specs.Answers.{◌>>=◌}
 use Rattle.rail_base.specs.declared.limits.TheConstants.{MOST_UNITS, MOST_COMPOSITIONS}
-use Rattle.timetable.specs.Build.{starts_of, catalogue_in, types_in, stations_in, stock_in, trips_in, weights_in, day_of}
+use Rattle.timetable.specs.Build.{starts_of, catalogue_in, types_in, stations_in, stock_in, trips_in, weights_in}
+use Rattle.timetable.specs.Build.{day_of}
 use Rattle.timetable.specs.Compositions.{greatest_in}
-use Rattle.timetable.specs.Day.{Day, units_in, units_of, leaves, arrives, from_of, to_of, km_of, demand_of, first_demand_of, home_of, type_of, platform_of, reallocation_of}
+use Rattle.timetable.specs.Day.{Day, units_in, units_of, leaves, arrives, from_of, to_of, km_of, demand_of}
+use Rattle.timetable.specs.Day.{first_demand_of, home_of, type_of, platform_of, reallocation_of}
 use Rattle.timetable.specs.LinkRows.{accept_link, links_in}
 use Rattle.timetable.specs.Lists.{of_entry}
-use Rattle.timetable.specs.Within.{AreTypes, IsStation, AreStations, IsStockAt, IsUnitAt, IsTripAt, AreTrips, AreWeights}
+use Rattle.timetable.specs.Within.{AreTypes, IsStation, AreStations, IsStockAt, IsUnitAt, IsTripAt, AreTrips}
+use Rattle.timetable.specs.Within.{AreWeights}
 use Rattle.timetable.proofs.Accepting.{bind_ok, guard_ok, same_ok, accepted_length}
 use Rattle.timetable.proofs.Entries.{are_types, are_stations, are_stock, are_trips}
 

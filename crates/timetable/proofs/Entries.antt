@@ -1,5 +1,6 @@
 -- What each accepted row of a table is known to be.
-use Rattle.std.proofs.Common.{◌≡◌, ℕ, ◌<◌, ◌≤◌, Bool, true, false, List, [], length, get_or, refl, sym, subst, ◌∙◌, zero-add, arith, Option, Some, Result, Ok, Err, ltb}
+use Rattle.std.proofs.Common.{◌≡◌, ℕ, ◌<◌, ◌≤◌, Bool, true, false, List, [], length, get_or, refl, sym, subst, ◌∙◌}
+use Rattle.std.proofs.Common.{zero-add, arith, Option, Some, Result, Ok, Err, ltb}
 use Rattle.std.specs.Prelude.{min, nat_le, ◌==◌, if◌then◌else◌}
 use Rattle.std.specs.List.{All, position_or_len, list_all}
 use Rattle.std.specs.Prelude.{◌&&◌}
@@ -24,10 +25,15 @@ use Rattle.timetable.specs.declared.day.records.Trip.{Trip}
 use Rattle.timetable.specs.Accepted.{IsUnitType}
 use Rattle.rail_csv.specs.declared.rows.Table.TheVariants as tables
 use Rattle.timetable.specs.declared.building.refusal.InstanceRefusal.{InstanceRefusal}
-use Rattle.timetable.specs.declared.building.refusal.InstanceRefusal.TheVariants.{RepeatedName, UnknownName, RepeatedStock, ArrivalNotAfterDeparture, SameStation, NoComposition}
+use Rattle.timetable.specs.declared.building.refusal.InstanceRefusal.TheVariants.{RepeatedName, UnknownName}
+use Rattle.timetable.specs.declared.building.refusal.InstanceRefusal.TheVariants.{RepeatedStock}
+use Rattle.timetable.specs.declared.building.refusal.InstanceRefusal.TheVariants.{ArrivalNotAfterDeparture, SameStation}
+use Rattle.timetable.specs.declared.building.refusal.InstanceRefusal.TheVariants.{NoComposition}
 use Rattle.rail_base.specs.Answers.{◌>>=◌}
 use Rattle.timetable.specs.Rowwise.{row_after}
-use Rattle.timetable.specs.Build.{new_stock, trip_between, has_fitting, platform_at, accept_type, types_in, type_in, accept_station, stations_in, station_in, has_stock, accept_stock, stock_in, accept_trip, accept_run, trips_in}
+use Rattle.timetable.specs.Build.{new_stock, trip_between, has_fitting, platform_at, accept_type, types_in, type_in}
+use Rattle.timetable.specs.Build.{accept_station, stations_in, station_in, has_stock, accept_stock, stock_in}
+use Rattle.timetable.specs.Build.{accept_trip, accept_run, trips_in}
 use Rattle.timetable.specs.Naming.{has_name, find_name, found_or}
 use Rattle.timetable.specs.Within.{AreTypes, AreStations, IsStation, IsStockAt, IsTripAt, AreTrips}
 use Rattle.timetable.proofs.Accepting.{bind_ok, guard_ok, choice_ok, found_ok, same_ok, accepted_all, accepted_length}
@@ -134,7 +140,8 @@ are_stock stations types rows stock e =
 
 -- ---- trips
 
--- the trip that was accepted is that of its row: its name is new, its stations were found and differ, it takes time, and some type fits
+-- the trip that was accepted is that of its row: its name is new, its stations were found and differ, it takes time,
+-- and some type fits
 pub record IsTripOfRow (stations : List Station) (types : List UnitType) (before : List Trip) (row : TripRow) (trip : Trip) : Type 0 where
   pub new : has_name (λ t. t.name) before row.name ≡ false
   pub from : find_name (λ s. s.name) stations row.from ≡ Some trip.from

@@ -1,11 +1,14 @@
 -- Each place that is there has one index.
-use Rattle.std.proofs.Common.{◌≡◌, ◌↔◌, inl, inr, ◌⊎◌, ⊎_elim, ℕ, zero, suc, ◌+◌, ◌-◌, ◌*◌, ◌/◌, ◌%◌, ◌<◌, ◌≤◌, List, [], ◌∷◌, ◌++◌, length, get_or, refl, sym, ap, subst, ◌∙◌, arith, length-append, Some, slice_get}
+use Rattle.std.proofs.Common.{◌≡◌, ◌↔◌, inl, inr, ◌⊎◌, ⊎_elim, ℕ, zero, suc, ◌+◌, ◌-◌, ◌*◌, ◌/◌, ◌%◌, ◌<◌, ◌≤◌, List}
+use Rattle.std.proofs.Common.{[], ◌∷◌, ◌++◌, length, get_or, refl, sym, ap, subst, ◌∙◌, arith, length-append, Some}
+use Rattle.std.proofs.Common.{slice_get}
 use Rattle.std.specs.Prelude.{⊤}
 use Rattle.std.proofs.Math.Nat.{zero-mul, mul-zero, suc-mul, mod-lt, div-lt_iff_lt-mul}
 use Rattle.std.proofs.lemmas.Nat.{div-add-mod'}
 use Rattle.std.specs.List.{All, AllPairs}
 use Rattle.std.proofs.lemmas.Bool.{cases_lt}
-use Rattle.std.proofs.lemmas.List.Elements.{All-nil, All-cons, All-head, All-tail, All-push, All-append, All-weaker, All-contains}
+use Rattle.std.proofs.lemmas.List.Elements.{All-nil, All-cons, All-head, All-tail, All-push, All-append, All-weaker}
+use Rattle.std.proofs.lemmas.List.Elements.{All-contains}
 use Rattle.std.proofs.lemmas.List.Kept.{AllPairs-cons}
 use Rattle.std.proofs.lemmas.Option.{get_or_from_slice_get, slice_get_within}
 use Rattle.timetable.specs.declared.day.indices.Place.{Place}
@@ -13,7 +16,8 @@ use Rattle.timetable.specs.declared.day.indices.Place.TheVariants.{Lambda, Mu, S
 use Rattle.timetable.specs.Compositions.{compositions_of}
 use Rattle.timetable.specs.Day.{Day}
 use Rattle.timetable.specs.Handovers.{handovers_of}
-use Rattle.timetable.specs.Indices.{IsPlace, IsLambda, IsIndexOf, Precedes, lambdas_at, lambdas_of, mus_of, sigmas_of, places_of, HaveMultipliers}
+use Rattle.timetable.specs.Indices.{IsPlace, IsLambda, IsIndexOf, Precedes, lambdas_at, lambdas_of, mus_of, sigmas_of}
+use Rattle.timetable.specs.Indices.{places_of, HaveMultipliers}
 use Rattle.timetable.specs.Lists.{listed, joined, sum_below}
 use Rattle.timetable.specs.Minutes.{minutes_of}
 use Rattle.timetable.proofs.Listing.{get_first, get_second, get_listed, get_joined, length-listed}

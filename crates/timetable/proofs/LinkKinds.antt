@@ -1,11 +1,14 @@
 -- What a link of each kind gives, keeps and takes, by counts.
-use Rattle.std.proofs.Common.{◌≡◌, ℕ, suc, ◌+◌, ◌<◌, ◌≤◌, List, [], ◌∷◌, Bool, true, false, cond, eqb, refl, sym, ap, subst, arith, ◌≢◌, ⊎_elim, ◌⊎◌, inl, inr}
+use Rattle.std.proofs.Common.{◌≡◌, ℕ, suc, ◌+◌, ◌<◌, ◌≤◌, List, [], ◌∷◌, Bool, true, false, cond, eqb, refl, sym, ap}
+use Rattle.std.proofs.Common.{subst, arith, ◌≢◌, ⊎_elim, ◌⊎◌, inl, inr}
 use Rattle.std.specs.Prelude.{◌&&◌}
-use Rattle.std.proofs.lemmas.Bool.{cases_eq, cases_lt, leb-true, le-leb, eqb-true, eq-eqb, and_parts, and_from, cond-true}
+use Rattle.std.proofs.lemmas.Bool.{cases_eq, cases_lt, leb-true, le-leb, eqb-true, eq-eqb, and_parts, and_from}
+use Rattle.std.proofs.lemmas.Bool.{cond-true}
 use Rattle.timetable.specs.Lists.{count_of, has}
 use Rattle.timetable.specs.declared.day.records.LinkKind.{LinkKind}
 use Rattle.timetable.specs.declared.day.records.LinkKind.TheVariants.{Turn, Join, Split}
-use Rattle.timetable.specs.Links.{list_of, turned, turn_of, kind_holds, arriving_in, departing_in, kept_by, given_by, taken_by}
+use Rattle.timetable.specs.Links.{list_of, turned, turn_of, kind_holds, arriving_in, departing_in, kept_by, given_by}
+use Rattle.timetable.specs.Links.{taken_by}
 use Rattle.timetable.proofs.Ones.{one_same, one_other}
 use Rattle.timetable.proofs.Shares.{turn_shares, join_counts, split_counts, count_of-turned}
 

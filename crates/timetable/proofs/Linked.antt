@@ -1,12 +1,15 @@
 -- A day with links: where each link's rule holds, trips hand over to one another as they should.
-use Rattle.std.proofs.Common.{◌≡◌, ℕ, ◌≤◌, List, [], true, Option, Some, None, ap, ◌∙◌, subst, arith, ◌≢◌, ⊎_elim, inl, inr}
+use Rattle.std.proofs.Common.{◌≡◌, ℕ, ◌≤◌, List, [], true, Option, Some, None, ap, ◌∙◌, subst, arith, ◌≢◌, ⊎_elim, inl}
+use Rattle.std.proofs.Common.{inr}
 use Rattle.std.specs.Prelude.{slice_get, unwrap_or, option_map, option_and_then}
 use Rattle.std.proofs.lemmas.Bool.{cases_eq, le-leb}
 use Rattle.timetable.specs.Day.{Day, leaves, arrives, type_of}
 use Rattle.timetable.specs.Lists.{count_of}
 use Rattle.timetable.specs.Accepted.{AreLinks}
 use Rattle.timetable.specs.declared.day.records.Link.{Link}
-use Rattle.timetable.specs.Links.{list_of, link_holds, kind_holds, arriving_in, departing_in, incoming, outgoing, link_into, link_out, kept_by, given_by, taken_by, kept, given, taken, kept_with, given_with, taken_with}
+use Rattle.timetable.specs.Links.{list_of, link_holds, kind_holds, arriving_in, departing_in, incoming, outgoing}
+use Rattle.timetable.specs.Links.{link_into, link_out, kept_by, given_by, taken_by, kept, given, taken, kept_with}
+use Rattle.timetable.specs.Links.{given_with, taken_with}
 use Rattle.timetable.proofs.NamedTrips.{IsNamed, named_or_not, named_here, named_twice}
 use Rattle.timetable.proofs.LinkKinds.{kept_names, kept_zero, kind_gives, kind_takes, KindGives, KindTakes}
 use Rattle.timetable.proofs.Accounts.{AreAccounted, Gives, Takes}

@@ -1,8 +1,10 @@
 -- What each accepted row of the links is known to be, and what is known of all of them.
-use Rattle.std.proofs.Common.{◌≡◌, ◌≢◌, ◌⊎◌, inl, inr, ℕ, ◌+◌, ◌<◌, ◌≤◌, Bool, true, false, List, [], ◌∷◌, ◌++◌, length, refl, sym, subst, ◌∙◌, zero-add, arith, Option, Some, None, Result, Ok, Err, slice_get}
+use Rattle.std.proofs.Common.{◌≡◌, ◌≢◌, ◌⊎◌, inl, inr, ℕ, ◌+◌, ◌<◌, ◌≤◌, Bool, true, false, List, [], ◌∷◌, ◌++◌, length}
+use Rattle.std.proofs.Common.{refl, sym, subst, ◌∙◌, zero-add, arith, Option, Some, None, Result, Ok, Err, slice_get}
 use Rattle.std.specs.Prelude.{◌||◌, ◌==◌, nat_le, if◌then◌else◌}
 use Rattle.std.specs.List.{All, list_any}
-use Rattle.std.proofs.lemmas.Bool.{and_parts, or_parts, leb-true, leb-false, eqb-true, eqb-false, ne_eqb, eq-eqb, cases_eq}
+use Rattle.std.proofs.lemmas.Bool.{and_parts, or_parts, leb-true, leb-false, eqb-true, eqb-false, ne_eqb, eq-eqb}
+use Rattle.std.proofs.lemmas.Bool.{cases_eq}
 use Rattle.std.proofs.lemmas.List.Elements.{All-nil}
 use Rattle.std.proofs.lemmas.Option.{slice_get_within, same_Some}
 use Rattle.rail_csv.specs.declared.rows.End.{End}
@@ -16,10 +18,14 @@ use Rattle.timetable.specs.declared.day.records.LinkKind.{LinkKind}
 use Rattle.timetable.specs.declared.day.records.LinkKind.TheVariants.{Turn, Join, Split}
 use Rattle.timetable.specs.declared.day.records.Trip.{Trip}
 use Rattle.timetable.specs.declared.building.refusal.InstanceRefusal.{InstanceRefusal}
-use Rattle.timetable.specs.declared.building.refusal.InstanceRefusal.TheVariants.{UnknownName, TripUsedTwice, WrongStation, TooEarly, WrongLinkFields}
+use Rattle.timetable.specs.declared.building.refusal.InstanceRefusal.TheVariants.{UnknownName, TripUsedTwice}
+use Rattle.timetable.specs.declared.building.refusal.InstanceRefusal.TheVariants.{WrongStation, TooEarly}
+use Rattle.timetable.specs.declared.building.refusal.InstanceRefusal.TheVariants.{WrongLinkFields}
 use Rattle.timetable.specs.Accepted.{AreLinks, DoMeet, times_named}
 use Rattle.timetable.specs.Day.{Day, leaves, arrives, from_of, to_of}
-use Rattle.timetable.specs.LinkRows.{trip_named, is_an_end, lacks_an_end, does_shunt, turn_in, join_in, split_in, kind_of, NamesBelow, is_arriving, is_departing, names_again, do_meet, is_in_time, each_pair, accept_trips, accept_link, links_in}
+use Rattle.timetable.specs.LinkRows.{trip_named, is_an_end, lacks_an_end, does_shunt, turn_in, join_in, split_in}
+use Rattle.timetable.specs.LinkRows.{kind_of, NamesBelow, is_arriving, is_departing, names_again, do_meet, is_in_time}
+use Rattle.timetable.specs.LinkRows.{each_pair, accept_trips, accept_link, links_in}
 use Rattle.timetable.specs.Links.{arriving_in, departing_in}
 use Rattle.timetable.specs.Lists.{count_of, has}
 use Rattle.timetable.specs.Meaning.{IsKindOf}

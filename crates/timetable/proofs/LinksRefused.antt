@@ -1,5 +1,6 @@
 -- The tests on the links fail where their words say so, and in their order.
-use Rattle.std.proofs.Common.{◌≡◌, ◌≢◌, inl, inr, ℕ, ◌<◌, ◌≤◌, Bool, true, false, List, [], ◌∷◌, refl, sym, ap, subst, ◌∙◌, arith, Option, Some, None, Ok, slice_get}
+use Rattle.std.proofs.Common.{◌≡◌, ◌≢◌, inl, inr, ℕ, ◌<◌, ◌≤◌, Bool, true, false, List, [], ◌∷◌, refl, sym, ap, subst}
+use Rattle.std.proofs.Common.{◌∙◌, arith, Option, Some, None, Ok, slice_get}
 use Rattle.std.specs.Prelude.{◌||◌, ◌==◌}
 use Rattle.std.specs.List.{AllZip}
 use Rattle.std.proofs.lemmas.Bool.{and_cases, or_cases, or_parts, leb-true, leb-false, eqb-true, eqb-false, both_ways}
@@ -21,12 +22,15 @@ use Rattle.timetable.specs.declared.building.refusal.InstanceRefusal.{InstanceRe
 use Rattle.timetable.specs.declared.building.refusal.InstanceRefusal.TheVariants.{UnknownName, WrongLinkFields}
 use Rattle.timetable.specs.declared.building.tables.Tables.{Tables}
 use Rattle.timetable.specs.Build.{accept_trip, trips_in}
-use Rattle.timetable.specs.LinkRows.{lacks_an_end, does_shunt, turn_in, join_in, split_in, kind_of, is_arriving, is_departing, names_again, do_meet, is_in_time, each_pair, accept_trips, accept_link, links_in}
+use Rattle.timetable.specs.LinkRows.{lacks_an_end, does_shunt, turn_in, join_in, split_in, kind_of, is_arriving}
+use Rattle.timetable.specs.LinkRows.{is_departing, names_again, do_meet, is_in_time, each_pair, accept_trips}
+use Rattle.timetable.specs.LinkRows.{accept_link, links_in}
 use Rattle.timetable.specs.Links.{arriving_in, departing_in}
 use Rattle.timetable.specs.Lists.{of_entry, has}
 use Rattle.timetable.specs.Meaning.{IsKindOf}
 use Rattle.timetable.specs.Naming.{find_name}
-use Rattle.timetable.specs.Refusals.{IsNoTrip, FitsKind, NamesArriving, NamesDeparting, NamedBefore, UsesTwice, HasTripsThat, kind_tests, meeting_tests, link_tests}
+use Rattle.timetable.specs.Refusals.{IsNoTrip, FitsKind, NamesArriving, NamesDeparting, NamedBefore, UsesTwice}
+use Rattle.timetable.specs.Refusals.{HasTripsThat, kind_tests, meeting_tests, link_tests}
 use Rattle.timetable.specs.Tests.{Test, ◌when◌, row_tests}
 use Rattle.timetable.specs.Rowwise.{row_after}
 use Rattle.timetable.proofs.Accepting.{any_front, accepted_zip}
@@ -36,7 +40,8 @@ use Rattle.timetable.proofs.Linking.{IsFound, two_ends, kind_made, link_of_row, 
 use Rattle.timetable.proofs.LinkNames.{has_itself, has_first, has_second}
 use Rattle.timetable.proofs.RowNames.{same_name, zip_at, zip_entry, AreNamed, no_row, some_row, row_number}
 use Rattle.timetable.proofs.Said.{trips_apart}
-use Rattle.timetable.proofs.Tests.{Outcome, outcome_passed, outcome_guard, outcome_choice, outcome_found, outcome_then, outcome_each, outcome_ok, outcome_err, any_entries}
+use Rattle.timetable.proofs.Tests.{Outcome, outcome_passed, outcome_guard, outcome_choice, outcome_found, outcome_then}
+use Rattle.timetable.proofs.Tests.{outcome_each, outcome_ok, outcome_err, any_entries}
 
 -- ---- fields that fit no kind, and names that are unknown
 

@@ -1,5 +1,6 @@
 -- Entries and the names beside them: where the names are those of the entries, a name has one place among both.
-use Rattle.std.proofs.Common.{◌≡◌, ◌∙◌, ℕ, ◌+◌, Bool, false, cond, List, [], ◌∷◌, ◌++◌, map, length, position, Some, None, refl, sym, ap, ltb}
+use Rattle.std.proofs.Common.{◌≡◌, ◌∙◌, ℕ, ◌+◌, Bool, false, cond, List, [], ◌∷◌, ◌++◌, map, length, position, Some}
+use Rattle.std.proofs.Common.{None, refl, sym, ap, ltb}
 use Rattle.std.specs.Prelude.{not, ◌||◌, string_bytes, string_eq}
 use Rattle.std.specs.List.{list_any, position_or_len}
 use Rattle.std.specs.Str.{bytes_eq}

@@ -1,10 +1,14 @@
--- Links that are noted at the trips that they name, from the last link to the first: each trip has the first that names it.
-use Rattle.std.proofs.Common.{◌≡◌, ◌≢◌, ℕ, suc, ◌+◌, ◌-◌, ◌<◌, ◌≤◌, Bool, true, false, ltb, List, [], ◌∷◌, length, get_or, drop, set, replicate, refl, sym, ap, subst, ◌∙◌, arith, zero-add, Option, Some, None, inl, inr}
+-- Links that are noted at the trips that they name, from the last link to the first: each trip has the first that names
+-- it.
+use Rattle.std.proofs.Common.{◌≡◌, ◌≢◌, ℕ, suc, ◌+◌, ◌-◌, ◌<◌, ◌≤◌, Bool, true, false, ltb, List, [], ◌∷◌, length}
+use Rattle.std.proofs.Common.{get_or, drop, set, replicate, refl, sym, ap, subst, ◌∙◌, arith, zero-add, Option, Some}
+use Rattle.std.proofs.Common.{None, inl, inr}
 use Rattle.std.specs.Prelude.{option_map, position, if◌then◌else◌}
 use Rattle.std.specs.List.{position_or_len}
 use Rattle.std.proofs.lemmas.Bool.{cases_lt, cases_eq, lt-ltb, le-ltb, le-leb, lt-leb, eq-eqb, ne_eqb}
 use Rattle.std.proofs.Math.Seq.{drop-cons}
-use Rattle.std.proofs.lemmas.List.{get_or-set_same, get_or-set_other, get_or-replicate, length-set, ext_get_or, length-replicate, drop_all}
+use Rattle.std.proofs.lemmas.List.{get_or-set_same, get_or-set_other, get_or-replicate, length-set, ext_get_or}
+use Rattle.std.proofs.lemmas.List.{length-replicate, drop_all}
 use Rattle.timetable.specs.declared.day.records.Link.{Link}
 use Rattle.timetable.specs.declared.day.records.LinkKind.{LinkKind}
 use Rattle.timetable.specs.LinkTables.{link_naming, link_table, noted}

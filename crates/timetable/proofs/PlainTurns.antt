@@ -1,13 +1,16 @@
 -- Where no list is empty, a turn without exchange is one of three: all units stay, or some go, or some come.
-use Rattle.std.proofs.Common.{◌≡◌, ℕ, ◌-◌, ◌<◌, ◌≤◌, List, [], ◌++◌, length, take, drop, map, true, false, Option, Some, None, inl, inr, ◌⊎◌, ⊎_elim, refl, sym, ap, subst, ◌∙◌, arith}
+use Rattle.std.proofs.Common.{◌≡◌, ℕ, ◌-◌, ◌<◌, ◌≤◌, List, [], ◌++◌, length, take, drop, map, true, false, Option, Some}
+use Rattle.std.proofs.Common.{None, inl, inr, ◌⊎◌, ⊎_elim, refl, sym, ap, subst, ◌∙◌, arith}
 use Rattle.std.specs.Prelude.{option_and_then, nat_le, nat_lt, ◌&&◌, ◌==◌, ◌||◌}
-use Rattle.std.proofs.lemmas.Bool.{and_parts, and_from, or_cases, or_left, or_right, leb-true, le-leb, ltb-true, lt-ltb, eqb-true, eq-eqb, cond-true, cond-false, false≢true, cases_Bool, cases_lt}
+use Rattle.std.proofs.lemmas.Bool.{and_parts, and_from, or_cases, or_left, or_right, leb-true, le-leb, ltb-true, lt-ltb}
+use Rattle.std.proofs.lemmas.Bool.{eqb-true, eq-eqb, cond-true, cond-false, false≢true, cases_Bool, cases_lt}
 use Rattle.std.proofs.lemmas.List.{length-map, take-append-drop, map-append, append-nil}
 use Rattle.std.proofs.lemmas.Slice.Eq.{bytes_eq-Decides}
 use Rattle.std.proofs.Math.Seq.{drop-length}
 use Rattle.rail_csv.specs.declared.rows.End.{End}
 use Rattle.rail_csv.specs.declared.rows.End.TheVariants as at
-use Rattle.timetable.specs.Turns.{IsWithout, Fits, Parts, same, may_stay, staying, beyond, kept_length, may_shunt, parts_at, turn_parts}
+use Rattle.timetable.specs.Turns.{IsWithout, Fits, Parts, same, may_stay, staying, beyond, kept_length, may_shunt}
+use Rattle.timetable.specs.Turns.{parts_at, turn_parts}
 use Rattle.timetable.specs.TurnsWithoutExchange.{is_left_of, gone_of, plain_parts, IsPlainTurn}
 use Rattle.timetable.proofs.Turning.{is_staying, kept-is, kept-none}
 

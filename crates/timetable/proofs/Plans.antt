@@ -1,5 +1,6 @@
 -- What rows say where they make a plan, and where they are refused.
-use Rattle.std.proofs.Common.{◌≡◌, inl, inr, ℕ, suc, ◌<◌, ◌≤◌, Bool, true, false, List, [], ◌∷◌, map, length, get_or, refl, sym, ap, subst, ◌∙◌, arith, Option, Some, None, Result, Ok, Err, slice_get}
+use Rattle.std.proofs.Common.{◌≡◌, inl, inr, ℕ, suc, ◌<◌, ◌≤◌, Bool, true, false, List, [], ◌∷◌, map, length, get_or}
+use Rattle.std.proofs.Common.{refl, sym, ap, subst, ◌∙◌, arith, Option, Some, None, Result, Ok, Err, slice_get}
 use Rattle.std.specs.Prelude.{nat_lt, option_map, IfErr}
 use Rattle.std.specs.List.{All, Any, list_all}
 use Rattle.std.proofs.lemmas.Bool.{and_cases, ltb-true, ltb-false, both_ways}
@@ -13,11 +14,13 @@ use Rattle.rail_csv.specs.declared.rows.PlanRow.{PlanRow}
 use Rattle.timetable.specs.declared.day.records.Trip.{Trip}
 use Rattle.timetable.specs.declared.building.refusal.PlanRefusal.{PlanRefusal}
 use Rattle.timetable.specs.Day.{Day, unit_count}
-use Rattle.timetable.specs.Plans.{NamesTrip, AreRunRows, IsPlanOf, run_tests, plan_tests, is_named, are_units, accept_list, lists_in, plan_of, is_memory}
+use Rattle.timetable.specs.Plans.{NamesTrip, AreRunRows, IsPlanOf, run_tests, plan_tests, is_named, are_units}
+use Rattle.timetable.specs.Plans.{accept_list, lists_in, plan_of, is_memory}
 use Rattle.timetable.specs.Tests.{NoneFailed, IsFirstFailed, row_tests}
 use Rattle.timetable.proofs.Accepting.{accepted_at, accepted_map}
 use Rattle.timetable.proofs.Lists.{IsListOfRow, list_of_row, few_lists, length-lists_in}
-use Rattle.timetable.proofs.Tests.{Outcome, outcome_guard, outcome_choice, outcome_then, outcome_each, outcome_ok, all_passed, first_of_failed, length-zip}
+use Rattle.timetable.proofs.Tests.{Outcome, outcome_guard, outcome_choice, outcome_then, outcome_each, outcome_ok}
+use Rattle.timetable.proofs.Tests.{all_passed, first_of_failed, length-zip}
 
 -- ---- the trip of a row
 

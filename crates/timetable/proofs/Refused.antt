@@ -1,8 +1,10 @@
 -- The tests of day_of fail where their words say so, and in their order.
-use Rattle.std.proofs.Common.{◌≡◌, ℕ, ◌<◌, ◌≤◌, Bool, true, false, List, [], ◌∷◌, map, length, refl, sym, ap, subst, ◌∙◌, arith, Some, Result, Ok, Err, slice_get}
+use Rattle.std.proofs.Common.{◌≡◌, ℕ, ◌<◌, ◌≤◌, Bool, true, false, List, [], ◌∷◌, map, length, refl, sym, ap, subst}
+use Rattle.std.proofs.Common.{◌∙◌, arith, Some, Result, Ok, Err, slice_get}
 use Rattle.std.specs.Prelude.{◌==◌, ◌&&◌, min, IfErr, nat_le, nat_lt}
 use Rattle.std.specs.List.{AllZip}
-use Rattle.std.proofs.lemmas.Bool.{and_parts, and_from, eqb-true, eqb-false, eq-eqb, leb-true, leb-false, ltb-true, ltb-false, both_ways}
+use Rattle.std.proofs.lemmas.Bool.{and_parts, and_from, eqb-true, eqb-false, eq-eqb, leb-true, leb-false, ltb-true}
+use Rattle.std.proofs.lemmas.Bool.{ltb-false, both_ways}
 use Rattle.std.proofs.lemmas.Option.{same_Some, get_or_from_slice_get}
 use Rattle.rail_base.specs.Answers.{Unless, Fails, Gives}
 use Rattle.rail_base.proofs.Answers.{Unless-then, Fails-then}
@@ -19,22 +21,28 @@ use Rattle.timetable.specs.declared.day.records.Trip.{Trip}
 use Rattle.timetable.specs.declared.building.refusal.InstanceRefusal.{InstanceRefusal}
 use Rattle.timetable.specs.declared.building.refusal.InstanceRefusal.TheVariants.{TooManyCompositions}
 use Rattle.timetable.specs.declared.building.tables.Tables.{Tables}
-use Rattle.timetable.specs.Build.{has_stock, new_stock, has_fitting, platform_at, accept_type, accept_station, accept_stock, accept_trip, accept_run, type_in, station_in, types_in, stations_in, stock_in, trips_in, trip_between, starts_of, catalogue_in, is_memory, weights_in, day_of}
+use Rattle.timetable.specs.Build.{has_stock, new_stock, has_fitting, platform_at, accept_type, accept_station}
+use Rattle.timetable.specs.Build.{accept_stock, accept_trip, accept_run, type_in, station_in, types_in, stations_in}
+use Rattle.timetable.specs.Build.{stock_in, trips_in, trip_between, starts_of, catalogue_in, is_memory, weights_in}
+use Rattle.timetable.specs.Build.{day_of}
 use Rattle.timetable.specs.Compositions.{greatest_in}
 use Rattle.timetable.specs.Day.{Day}
 use Rattle.timetable.specs.LinkRows.{links_in}
 use Rattle.timetable.specs.Meaning.{AreNamedApart}
 use Rattle.timetable.specs.Naming.{has_name, find_name}
-use Rattle.timetable.specs.Refusals.{type_tests, station_tests, stock_tests, starts_in, compositions_in, IsUnserved, trip_tests, link_tests, day_tests}
+use Rattle.timetable.specs.Refusals.{type_tests, station_tests, stock_tests, starts_in, compositions_in, IsUnserved}
+use Rattle.timetable.specs.Refusals.{trip_tests, link_tests, day_tests}
 use Rattle.timetable.specs.Tests.{◌when◌, NoneFailed, IsFirstFailed, row_tests}
 use Rattle.timetable.proofs.Accepting.{any_front, accepted_map, accepted_zip}
 use Rattle.timetable.proofs.Days.{entry_at, entry_is}
 use Rattle.timetable.proofs.Entries.{found_name, type_of_row, station_of_row, stock_of_row, trip_of_row}
 use Rattle.timetable.proofs.Fitting.{fitting_admits, nothing_admitted}
 use Rattle.timetable.proofs.LinksRefused.{links_outcome}
-use Rattle.timetable.proofs.RowNames.{same_name, zip_at, AreNamed, name_repeated, name_new, no_row, some_row, row_number}
+use Rattle.timetable.proofs.RowNames.{same_name, zip_at, AreNamed, name_repeated, name_new, no_row, some_row}
+use Rattle.timetable.proofs.RowNames.{row_number}
 use Rattle.timetable.proofs.Said.{stations_apart}
-use Rattle.timetable.proofs.Tests.{Outcome, outcome_guard, outcome_choice, outcome_found, outcome_then, outcome_made, outcome_each, outcome_ok, all_passed, first_of_failed, any_entries}
+use Rattle.timetable.proofs.Tests.{Outcome, outcome_guard, outcome_choice, outcome_found, outcome_then, outcome_made}
+use Rattle.timetable.proofs.Tests.{outcome_each, outcome_ok, all_passed, first_of_failed, any_entries}
 
 types_outcome : (tables : Tables) → Outcome (row_tests type_tests [] tables.types) (types_in tables.types)
 unfolding types_in accept_type

@@ -1,5 +1,6 @@
 -- The day of the tests is the day of the tables in their own words.
-use Rattle.std.proofs.Common.{◌≡◌, ◌≢◌, ℕ, ◌<◌, true, false, List, [], length, get_or, sym, ap, subst, ◌∙◌, arith, Some, Ok, slice_get}
+use Rattle.std.proofs.Common.{◌≡◌, ◌≢◌, ℕ, ◌<◌, true, false, List, [], length, get_or, sym, ap, subst, ◌∙◌, arith, Some}
+use Rattle.std.proofs.Common.{Ok, slice_get}
 use Rattle.std.specs.Prelude.{◌==◌, ◌&&◌, min, option_map}
 use Rattle.std.specs.List.{All, AllPairs}
 use Rattle.std.specs.Str.{bytes_eq}
@@ -22,15 +23,18 @@ use Rattle.timetable.specs.declared.day.records.Stock.{Stock}
 use Rattle.timetable.specs.declared.day.records.Trip.{Trip}
 use Rattle.timetable.specs.declared.building.tables.Tables.{Tables}
 use Rattle.timetable.specs.Admissible.{is_admissible}
-use Rattle.timetable.specs.Build.{has_stock, platform_at, accept_type, accept_station, accept_stock, accept_trip, type_in, station_in, types_in, stations_in, stock_in, trips_in, day_of}
+use Rattle.timetable.specs.Build.{has_stock, platform_at, accept_type, accept_station, accept_stock, accept_trip}
+use Rattle.timetable.specs.Build.{type_in, station_in, types_in, stations_in, stock_in, trips_in, day_of}
 use Rattle.timetable.specs.Naming.{has_name, find_name}
 use Rattle.timetable.specs.Compositions.{greatest_platform}
 use Rattle.timetable.specs.Day.{Day, leaves, arrives, from_of, to_of, platform_of, units_of}
 use Rattle.timetable.specs.LinkRows.{accept_link, links_in}
-use Rattle.timetable.specs.Meaning.{IsNumberOf, IsStockOf, IsTripOf, IsKindOf, IsLinkOf, AreNamedApart, IsOtherStock, IsDayOf}
+use Rattle.timetable.specs.Meaning.{IsNumberOf, IsStockOf, IsTripOf, IsKindOf, IsLinkOf, AreNamedApart, IsOtherStock}
+use Rattle.timetable.specs.Meaning.{IsDayOf}
 use Rattle.timetable.proofs.Accepting.{accepted_all, accepted_map, accepted_zip, accepted_pairs}
 use Rattle.timetable.proofs.Days.{IsMade, entry_at, entry_is, length-units_in, day_is_made}
-use Rattle.timetable.proofs.Entries.{IsStockOfRow, IsTripOfRow, Passes, found_name, type_of_row, station_of_row, stock_of_row, trip_of_row}
+use Rattle.timetable.proofs.Entries.{IsStockOfRow, IsTripOfRow, Passes, found_name, type_of_row, station_of_row}
+use Rattle.timetable.proofs.Entries.{stock_of_row, trip_of_row}
 use Rattle.timetable.proofs.Fitting.{fitting_admits}
 use Rattle.timetable.proofs.Linking.{IsFound, IsLinkOfRow, link_of_row, are_links, do_all_meet}
 

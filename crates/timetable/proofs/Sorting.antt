@@ -1,5 +1,7 @@
 -- A list that is sorted by a number, with ties in a given order, is the only one.
-use Rattle.std.proofs.Common.{◌≡◌, ℕ, suc, ◌<◌, ◌≤◌, List, [], ◌∷◌, length, get_or, filter, Bool, true, false, cond, not, ◌&&◌, eqb, ltb, Less, Equal, Greater, refl, sym, ap, ◌∙◌, arith, eq-eqb, ne_eqb, ⊎_elim, ◌≢◌, ◌⊎◌, inl, inr}
+use Rattle.std.proofs.Common.{◌≡◌, ℕ, suc, ◌<◌, ◌≤◌, List, [], ◌∷◌, length, get_or, filter, Bool, true, false, cond}
+use Rattle.std.proofs.Common.{not, ◌&&◌, eqb, ltb, Less, Equal, Greater, refl, sym, ap, ◌∙◌, arith, eq-eqb, ne_eqb}
+use Rattle.std.proofs.Common.{⊎_elim, ◌≢◌, ◌⊎◌, inl, inr}
 use Rattle.std.specs.List.Sorted.{IsNonDecreasingBy, IsSortedByKey, IsStableByKey, ties}
 use Rattle.std.specs.Prelude.{◌==◌}
 use Rattle.std.specs.Ordering.{nat_cmp, is_lt}
@@ -100,8 +102,8 @@ ties_filter n x (y ∷ xs) =
     ap (λ (l : List _). cond (ties (λ a b. is_lt (nat_cmp (n a) (n b))) x y) (y ∷ l) l) (ties_filter n x xs)
     ∙ ap (λ (b : Bool). cond b (y ∷ with_number n (n x) xs) (with_number n (n x) xs)) (numbers_tie (n x) (n y))
 
--- A stable sort by a number, which each call of its closure gives, leaves the list whose numbers never fall and that has the
--- elements of each number in the order in which they were.
+-- A stable sort by a number, which each call of its closure gives, leaves the list whose numbers never fall and that
+-- has the elements of each number in the order in which they were.
 pub stable_sort_is : {X F : Type 0} (n : X → ℕ) {g : Mut F (Bor X × Unit {0}) ℕ} {f : F} (xs sorted goal : List X)
     → ((key : X → ℕ) → ComputesKey g key f → IsSortedByKey key nat_cmp sorted)
     → ((key : X → ℕ) → ComputesKey g key f → IsStableByKey key nat_cmp xs sorted)

@@ -1,7 +1,10 @@
 -- What a turn keeps: the longest list of types that fits.
-use Rattle.std.proofs.Common.{◌≡◌, ℕ, zero, suc, ◌+◌, ◌-◌, ◌<◌, ◌≤◌, List, [], ◌∷◌, ◌++◌, length, take, drop, map, Bool, true, false, Option, Some, None, inl, inr, ⊎_elim, refl, sym, ap, subst, ◌∙◌, arith, length-append, length-take, length-drop}
+use Rattle.std.proofs.Common.{◌≡◌, ℕ, zero, suc, ◌+◌, ◌-◌, ◌<◌, ◌≤◌, List, [], ◌∷◌, ◌++◌, length, take, drop, map, Bool}
+use Rattle.std.proofs.Common.{true, false, Option, Some, None, inl, inr, ⊎_elim, refl, sym, ap, subst, ◌∙◌, arith}
+use Rattle.std.proofs.Common.{length-append, length-take, length-drop}
 use Rattle.std.specs.Prelude.{option_and_then, ◌&&◌}
-use Rattle.std.proofs.lemmas.Bool.{and_parts, and_from, leb-true, le-leb, eqb-true, eq-eqb, cond-true, cond-false, false≢true, cases_Bool, cases_lt}
+use Rattle.std.proofs.lemmas.Bool.{and_parts, and_from, leb-true, le-leb, eqb-true, eq-eqb, cond-true, cond-false}
+use Rattle.std.proofs.lemmas.Bool.{false≢true, cases_Bool, cases_lt}
 use Rattle.std.proofs.lemmas.List.{take-append-drop, length-map, take-map, drop-map, map-id}
 use Rattle.std.proofs.lemmas.Slice.Eq.{bytes_eq-Decides}
 use Rattle.std.proofs.Math.Seq.{take-append_seam, drop-append_seam}
@@ -10,7 +13,8 @@ use Rattle.rail_csv.specs.declared.rows.End.TheVariants as at
 use Rattle.timetable.specs.declared.day.records.LinkKind.{LinkKind}
 use Rattle.timetable.specs.declared.day.records.LinkKind.TheVariants.{Turn, Join, Split}
 use Rattle.timetable.specs.Lists.{count_of}
-use Rattle.timetable.specs.Turns.{IsWithout, Fits, IsKeptList, IsKeptCount, IsKept, kept_of, Parts, same, may_stay, staying, beyond, fits_at, greatest, kept_length, may_shunt, parts_at, turn_parts}
+use Rattle.timetable.specs.Turns.{IsWithout, Fits, IsKeptList, IsKeptCount, IsKept, kept_of, Parts, same, may_stay}
+use Rattle.timetable.specs.Turns.{staying, beyond, fits_at, greatest, kept_length, may_shunt, parts_at, turn_parts}
 
 -- ---- what stays at an end
 

@@ -1,5 +1,6 @@
 -- The rule of a link on units is its rule on their types too, and the parts are those of the types.
-use Rattle.std.proofs.Common.{◌≡◌, ℕ, List, [], ◌∷◌, ◌++◌, length, map, reverse, Bool, true, false, cond, Option, Some, None, refl, sym, ap, ◌∙◌, slice_get, unwrap_or}
+use Rattle.std.proofs.Common.{◌≡◌, ℕ, List, [], ◌∷◌, ◌++◌, length, map, reverse, Bool, true, false, cond, Option, Some}
+use Rattle.std.proofs.Common.{None, refl, sym, ap, ◌∙◌, slice_get, unwrap_or}
 use Rattle.std.specs.Prelude.{option_map, option_and_then, is_some, nat_le, ◌&&◌, ◌==◌}
 use Rattle.std.proofs.lemmas.Bool.{and_parts, and_from, false≢true}
 use Rattle.std.proofs.lemmas.List.{length-map, map-append, reverse-append}
@@ -9,7 +10,9 @@ use Rattle.rail_csv.specs.declared.rows.End.{End}
 use Rattle.timetable.specs.declared.day.records.Link.{Link}
 use Rattle.timetable.specs.declared.day.records.LinkKind.{LinkKind}
 use Rattle.timetable.specs.declared.day.records.LinkKind.TheVariants.{Turn, Join, Split}
-use Rattle.timetable.specs.Links.{list_of, itself, turn_of, turned, join_holds, split_holds, kind_holds, link_holds, kept_by, given_by, taken_by, link_out, link_into, outgoing, incoming, kept_with, given_with, taken_with}
+use Rattle.timetable.specs.Links.{list_of, itself, turn_of, turned, join_holds, split_holds, kind_holds, link_holds}
+use Rattle.timetable.specs.Links.{kept_by, given_by, taken_by, link_out, link_into, outgoing, incoming, kept_with}
+use Rattle.timetable.specs.Links.{given_with, taken_with}
 use Rattle.timetable.specs.Day.{Day}
 use Rattle.timetable.specs.Lists.{has}
 use Rattle.timetable.specs.Turns.{Parts, same, turn_parts}

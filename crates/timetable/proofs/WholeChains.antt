@@ -1,19 +1,23 @@
 -- The chains of an accepted day: each is whole, and each trip is in one of them, once.
-use Rattle.std.proofs.Common.{◌≡◌, inl, inr, ℕ, zero, suc, ◌+◌, ◌<◌, ◌≤◌, Bool, false, List, [], ◌∷◌, ◌++◌, length, get_or, Option, Some, None, refl, sym, ap, subst, ◌∙◌, arith, length-append}
+use Rattle.std.proofs.Common.{◌≡◌, inl, inr, ℕ, zero, suc, ◌+◌, ◌<◌, ◌≤◌, Bool, false, List, [], ◌∷◌, ◌++◌, length}
+use Rattle.std.proofs.Common.{get_or, Option, Some, None, refl, sym, ap, subst, ◌∙◌, arith, length-append}
 use Rattle.std.specs.Prelude.{nat_lt, ◌==◌, if◌then◌else◌}
 use Rattle.std.specs.List.{All, AllPairs}
-use Rattle.std.proofs.lemmas.Bool.{cases_Bool, cases_eq, cond_both, cond-true, cond-false, both_ways, ne_eqb, lt-ltb, le-ltb}
+use Rattle.std.proofs.lemmas.Bool.{cases_Bool, cases_eq, cond_both, cond-true, cond-false, both_ways, ne_eqb, lt-ltb}
+use Rattle.std.proofs.lemmas.Bool.{le-ltb}
 use Rattle.std.proofs.lemmas.Bool.Decides.{nat_tests}
 use Rattle.std.proofs.lemmas.List.Elements.{All-nil, All-head, All-tail, All-push, All-get_or, All-weaker}
 use Rattle.std.proofs.lemmas.List.Quantifiers.{all_pairs_push}
 use Rattle.timetable.specs.declared.day.records.Link.{Link}
 use Rattle.timetable.specs.Accepted.{IsDay, AreLinks}
-use Rattle.timetable.specs.Chains.{Leads, Ends, IsChain, times_in, first_of, AreChains, next_in, is_led_in, follow, chain_from, chains_below, chains_of}
+use Rattle.timetable.specs.Chains.{Leads, Ends, IsChain, times_in, first_of, AreChains, next_in, is_led_in, follow}
+use Rattle.timetable.specs.Chains.{chain_from, chains_below, chains_of}
 use Rattle.timetable.specs.Day.{Day, leaves}
 use Rattle.timetable.specs.Lists.{count_of, sum_below, count_below}
 use Rattle.timetable.specs.Running.{EachFollows}
 use Rattle.timetable.proofs.Sums.{sum_less, sum_ones}
-use Rattle.timetable.proofs.Leading.{leads_next, leads_led, next_leads, led_leads, one_next, one_before, leads_below, led_below, leads_later}
+use Rattle.timetable.proofs.Leading.{leads_next, leads_led, next_leads, led_leads, one_next, one_before, leads_below}
+use Rattle.timetable.proofs.Leading.{led_below, leads_later}
 
 -- ---- one chain
 

@@ -1,5 +1,6 @@
 -- What a turn of types gives and takes, by the number of those that stay.
-use Rattle.std.proofs.Common.{◌≡◌, ℕ, ◌-◌, List, [], length, map, Bool, true, false, Option, Some, None, refl, sym, ap, ◌∙◌}
+use Rattle.std.proofs.Common.{◌≡◌, ℕ, ◌-◌, List, [], length, map, Bool, true, false, Option, Some, None, refl, sym, ap}
+use Rattle.std.proofs.Common.{◌∙◌}
 use Rattle.std.specs.Prelude.{option_and_then, unwrap_or, ◌&&◌}
 use Rattle.std.proofs.lemmas.Bool.{cond-false}
 use Rattle.std.proofs.lemmas.List.{map-id}

@@ -1,5 +1,6 @@
 -- The edges of joins and splits: each has the composition of the second train as its part.
-use Rattle.std.proofs.Common.{◌≡◌, ℕ, ◌≤◌, List, ◌++◌, length, Bool, true, false, Option, Some, None, refl, sym, ap, subst, ◌∙◌, arith}
+use Rattle.std.proofs.Common.{◌≡◌, ℕ, ◌≤◌, List, ◌++◌, length, Bool, true, false, Option, Some, None, refl, sym, ap}
+use Rattle.std.proofs.Common.{subst, ◌∙◌, arith}
 use Rattle.std.specs.Prelude.{◌↔◌}
 use Rattle.std.proofs.lemmas.Bool.{and_parts, and_from, le-leb}
 use Rattle.std.proofs.lemmas.List.{reverse-reverse, length-reverse}
@@ -25,7 +26,8 @@ same_edge x from to shunt part e1 e2 e3 e4 =
     ∙ ap (λ (s : Shunt). record { from = x.from; to = x.to; shunt = s; part = part }) (sym e3)
     ∙ ap (λ (o : Option ℕ). record { from = x.from; to = x.to; shunt = x.shunt; part = o }) (sym e4)
 
--- the answers of the calls: what stands behind the front of a whole, and the number of a composition that may run on a trip
+-- the answers of the calls: what stands behind the front of a whole, and the number of a composition that may run on a
+-- trip
 abbrev pub IsRest : List ℕ → List ℕ → Option (List ℕ) → Type 0
 IsRest front whole o = (rest : List ℕ) → (o ≡ Some rest) ↔ ((front ++ rest ≡ whole) × (1 ≤ length rest))
 

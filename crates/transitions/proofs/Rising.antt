@@ -1,5 +1,6 @@
 -- Pairs that were sorted, with no pair twice, are in order.
-use Rattle.std.proofs.Common.{◌≡◌, ℕ, ◌<◌, Bool, true, List, [], ◌∷◌, get_or, inl, inr, refl, ap, ◌∙◌, arith, nat_cmp, Ordering, Less, Equal, Greater, AllPairs, Contains}
+use Rattle.std.proofs.Common.{◌≡◌, ℕ, ◌<◌, Bool, true, List, [], ◌∷◌, get_or, inl, inr, refl, ap, ◌∙◌, arith, nat_cmp}
+use Rattle.std.proofs.Common.{Ordering, Less, Equal, Greater, AllPairs, Contains}
 use Rattle.std.specs.Prelude.{◌&&◌, ◌==◌}
 use Rattle.std.specs.Cmp.{ranks, IsTotalOrder, IsEquivalence, nat_cmp_total, nat_eq_equiv, unsigned_ties}
 use Rattle.std.specs.List.{dedup}

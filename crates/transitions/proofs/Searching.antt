@@ -1,5 +1,6 @@
 -- A binary search among edges in order.
-use Rattle.std.proofs.Common.{◌≡◌, ℕ, ◌<◌, ◌≤◌, List, inl, inr, get_or, sym, ap, subst, ◌∙◌, arith, Contains, nat_cmp, Ordering, Less, Equal, Greater}
+use Rattle.std.proofs.Common.{◌≡◌, ℕ, ◌<◌, ◌≤◌, List, inl, inr, get_or, sym, ap, subst, ◌∙◌, arith, Contains, nat_cmp}
+use Rattle.std.proofs.Common.{Ordering, Less, Equal, Greater}
 use Rattle.std.specs.Prelude.{◌⊎◌}
 use Rattle.std.specs.Cmp.{ranks}
 use Rattle.std.specs.List.{HoldsAt}

@@ -1,5 +1,6 @@
 -- No test fails on the tables of a trial day.
-use Rattle.std.proofs.Common.{◌≡◌, ◌≢◌, inl, inr, ℕ, ◌+◌, ◌/◌, ◌<◌, ◌≤◌, false, List, [], ◌∷◌, ◌++◌, length, get_or, map, min, refl, sym, ap, subst, ◌∙◌, arith, Some, None}
+use Rattle.std.proofs.Common.{◌≡◌, ◌≢◌, inl, inr, ℕ, ◌+◌, ◌/◌, ◌<◌, ◌≤◌, false, List, [], ◌∷◌, ◌++◌, length, get_or}
+use Rattle.std.proofs.Common.{map, min, refl, sym, ap, subst, ◌∙◌, arith, Some, None}
 use Rattle.std.specs.Prelude.{◌⊎◌, codes}
 use Rattle.std.specs.List.{All}
 use Rattle.std.proofs.lemmas.List.Elements.{All-from_recursion, All-push, All-head, All-tail, All-contains}
@@ -13,13 +14,18 @@ use Rattle.rail_csv.specs.declared.rows.TypeRow.{TypeRow}
 use Rattle.timetable.specs.declared.building.tables.Tables.{Tables}
 use Rattle.timetable.specs.Build.{type_in}
 use Rattle.timetable.specs.Lists.{listed}
-use Rattle.timetable.specs.Refusals.{HasNoName, IsUnserved, IsNoStation, UsesTwice, NamesArriving, NamesDeparting, NamedBefore, HasTripsThat, type_tests, station_tests, stock_tests, count_tests, trip_tests, link_tests, day_tests}
+use Rattle.timetable.specs.Refusals.{HasNoName, IsUnserved, IsNoStation, UsesTwice, NamesArriving, NamesDeparting}
+use Rattle.timetable.specs.Refusals.{NamedBefore, HasTripsThat, type_tests, station_tests, stock_tests, count_tests}
+use Rattle.timetable.specs.Refusals.{trip_tests, link_tests, day_tests}
 use Rattle.timetable.specs.Rowwise.{row_after}
 use Rattle.timetable.specs.Tests.{NoneFailed, row_tests}
 use Rattle.trial_day.specs.Accepting.{TrialDaysAreAccepted}
-use Rattle.trial_day.specs.Trial.{type_a, type_b, trial_types, station_x, station_y, trial_stations, stock_at_x, trial_stock, out_name, back_name, begin_minute, drawn_out, drawn_back, pair_rows, turn_row, trial_trips, trial_links, trial_tables_of}
+use Rattle.trial_day.specs.Trial.{type_a, type_b, trial_types, station_x, station_y, trial_stations, stock_at_x}
+use Rattle.trial_day.specs.Trial.{trial_stock, out_name, back_name, begin_minute, drawn_out, drawn_back, pair_rows}
+use Rattle.trial_day.specs.Trial.{turn_row, trial_trips, trial_links, trial_tables_of}
 use Rattle.trial_day.proofs.Names.{out_apart, back_apart, out_not_back}
-use Rattle.trial_day.proofs.Passing.{none_then, none_listed, none_paired, not_any, all_at, all_listed, all_paired, in_joined, length-filter-le}
+use Rattle.trial_day.proofs.Passing.{none_then, none_listed, none_paired, not_any, all_at, all_listed, all_paired}
+use Rattle.trial_day.proofs.Passing.{in_joined, length-filter-le}
 use Rattle.timetable.proofs.Deciding.{days_are_made}
 use Rattle.trial_day.proofs.Within.{pairs_few, tables_within}
 

@@ -4,10 +4,13 @@ use Rattle.std.specs.Prelude.{codes}
 use Rattle.std.proofs.Math.Nat.{div-le_of_le-mul, mod-lt}
 use Rattle.std.proofs.lemmas.List.Elements.{All-from_recursion}
 use Rattle.rail_base.specs.Names.{is_name}
-use Rattle.rail_csv.specs.Rows.{IsTypeRow, IsStationRow, IsStockRow, IsTripRow, IsLinkRow, IsWeightsRow, AreTypeRows, AreStationRows, AreStockRows, AreTripRows, AreLinkRows}
+use Rattle.rail_csv.specs.Rows.{IsTypeRow, IsStationRow, IsStockRow, IsTripRow, IsLinkRow, IsWeightsRow, AreTypeRows}
+use Rattle.rail_csv.specs.Rows.{AreStationRows, AreStockRows, AreTripRows, AreLinkRows}
 use Rattle.trial_day.specs.Accepting.{AreWithinLimits}
 use Rattle.trial_day.specs.Draws.{drawn, state_after}
-use Rattle.trial_day.specs.Trial.{type_a, type_b, trial_types, station_x, station_y, trial_stations, stock_at_x, trial_stock, trial_weights, drawn_out, drawn_back, turn_row, trial_trips, trial_links, trial_tables_of}
+use Rattle.trial_day.specs.Trial.{type_a, type_b, trial_types, station_x, station_y, trial_stations, stock_at_x}
+use Rattle.trial_day.specs.Trial.{trial_stock, trial_weights, drawn_out, drawn_back, turn_row, trial_trips, trial_links}
+use Rattle.trial_day.specs.Trial.{trial_tables_of}
 use Rattle.trial_day.proofs.Names.{out_is_name, back_is_name}
 use Rattle.trial_day.proofs.Passing.{all_listed, all_paired, length-pairs}
 use Rattle.timetable.proofs.Listing.{length-listed}

@@ -1,5 +1,6 @@
 -- Units that wait at their homes.
-use Rattle.std.proofs.Common.{◌≡◌, ◌∙◌, ℕ, ◌+◌, ◌<◌, ◌≤◌, inl, inr, true, cond, Option, Some, slice_get, unwrap_or, refl, sym, ap, subst, arith, ⊎_elim}
+use Rattle.std.proofs.Common.{◌≡◌, ◌∙◌, ℕ, ◌+◌, ◌<◌, ◌≤◌, inl, inr, true, cond, Option, Some, slice_get, unwrap_or}
+use Rattle.std.proofs.Common.{refl, sym, ap, subst, arith, ⊎_elim}
 use Rattle.std.specs.Prelude.{option_map}
 use Rattle.std.specs.BTreeSet.{BTreeSet, contains}
 use Rattle.std.specs.List.{Contains}

@@ -1,8 +1,11 @@
--- One more trip is named: its units are found in the yards, its list is that of the rule, and the yards hold what stands in them then.
-use Rattle.std.proofs.Common.{◌≡◌, ◌∙◌, ℕ, zero, suc, ◌+◌, ◌<◌, ◌≤◌, inl, inr, List, [], ◌∷◌, length, take, reverse, set, replicate, get_or, true, leb, eqb, Option, Some, None, refl, sym, ap, subst, arith}
+-- One more trip is named: its units are found in the yards, its list is that of the rule, and the yards hold what
+-- stands in them then.
+use Rattle.std.proofs.Common.{◌≡◌, ◌∙◌, ℕ, zero, suc, ◌+◌, ◌<◌, ◌≤◌, inl, inr, List, [], ◌∷◌, length, take, reverse}
+use Rattle.std.proofs.Common.{set, replicate, get_or, true, leb, eqb, Option, Some, None, refl, sym, ap, subst, arith}
 use Rattle.std.specs.BTreeSet.{BTreeSet}
 use Rattle.std.specs.List.{Contains}
-use Rattle.std.proofs.lemmas.Bool.{cases_eq, cases_lt, false≢true, and_parts, and_from, leb-true, le-leb, eq-eqb, cond-true, cond-false}
+use Rattle.std.proofs.lemmas.Bool.{cases_eq, cases_lt, false≢true, and_parts, and_from, leb-true, le-leb, eq-eqb}
+use Rattle.std.proofs.lemmas.Bool.{cond-true, cond-false}
 use Rattle.std.proofs.lemmas.List.{map-id, length-map, length-set, length-replicate, get_or-set_same, get_or-set_other}
 use Rattle.std.proofs.lemmas.Option.{unwrap_or-slice_get}
 use Rattle.rail_base.specs.declared.limits.TheConstants.{MOST_COMPOSITION}
@@ -16,16 +19,19 @@ use Rattle.timetable.specs.Picking.{picked}
 use Rattle.timetable.specs.Running.{AreUnits}
 use Rattle.timetable.proofs.Shares.{count_of-turned}
 use Rattle.inventory.specs.Counts.{AreServed, ready_at}
-use Rattle.inventory.specs.Naming.{InYard, standing, may_be_taken, fetched, named_list, naming, latest_first, named_from, named_plan}
+use Rattle.inventory.specs.Naming.{InYard, standing, may_be_taken, fetched, named_list, naming, latest_first}
+use Rattle.inventory.specs.Naming.{named_from, named_plan}
 use Rattle.inventory.specs.Places.{given_places, kept_places, taken_places, put_together, coming}
 use Rattle.inventory.proofs.Order.{AreInTurn}
 use Rattle.inventory.proofs.Fetching.{AreFetched}
-use Rattle.inventory.proofs.Linked.{Goes, goes, IsListFor, coming_from, coming_same, coming-map, places_share, come_is, taken_is, put_is}
+use Rattle.inventory.proofs.Linked.{Goes, goes, IsListFor, coming_from, coming_same, coming-map, places_share, come_is}
+use Rattle.inventory.proofs.Linked.{taken_is, put_is}
 use Rattle.inventory.proofs.Standing.{IsRight, AreRight, le_has, none_has, right_of, go_on, not_in_yard, fed_before}
 use Rattle.inventory.proofs.Enough.{all_hold}
 use Rattle.inventory.proofs.Righting.{types_right}
 use Rattle.inventory.proofs.Laws.{none_before}
-use Rattle.inventory.proofs.OneMore.{reverse_more, turns_so_far, so_far, named_here, named_elsewhere, stands_here, stands_elsewhere, right_so_far, fetched_next}
+use Rattle.inventory.proofs.OneMore.{reverse_more, turns_so_far, so_far, named_here, named_elsewhere, stands_here}
+use Rattle.inventory.proofs.OneMore.{stands_elsewhere, right_so_far, fetched_next}
 use Rattle.unit_duties.specs.declared.yards.Waiting.{Waiting}
 use Rattle.unit_duties.specs.Fetching.{CanFetch, HasFetched}
 use Rattle.unit_duties.specs.Yards.{AreStanding, AreAtHome, AllFound, ArePutIn}

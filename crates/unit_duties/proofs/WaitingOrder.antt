@@ -1,5 +1,6 @@
 -- The order of waiting units, by their numbers.
-use Rattle.std.proofs.Common.{◌≡◌, ◌≢◌, ℕ, ◌<◌, ◌≤◌, ◌⊎◌, inl, inr, List, ◌∷◌, Bool, true, false, cond, not, eqb, Less, Equal, Greater, is_gt, refl, sym, ap, ◌∙◌, subst, arith, ⊎_elim}
+use Rattle.std.proofs.Common.{◌≡◌, ◌≢◌, ℕ, ◌<◌, ◌≤◌, ◌⊎◌, inl, inr, List, ◌∷◌, Bool, true, false, cond, not, eqb, Less}
+use Rattle.std.proofs.Common.{Equal, Greater, is_gt, refl, sym, ap, ◌∙◌, subst, arith, ⊎_elim}
 use Rattle.std.specs.declared.cmp.Ordering.{Ordering}
 use Rattle.std.specs.Prelude.{IsTrue, ◌↔◌, IfSome, slice_get}
 use Rattle.std.specs.BTreeSet.{BTreeSet, contains}

@@ -3,7 +3,8 @@ use Rattle.std.proofs.lemmas.List.{length_push}
 use Rattle.branch_tree.specs.declared.multipliers.Entry.{Entry}
 use Rattle.answer_text.specs.Pieces.{words_after}
 use Rattle.answer_text.specs.ReadLines.{AreBelow, entries_in}
-use Rattle.answer_text.proofs.Adding.{below_more, entries_end, entries_falling, entries_missing, entries_step, next_entry_sound}
+use Rattle.answer_text.proofs.Adding.{below_more, entries_end, entries_falling, entries_missing, entries_step}
+use Rattle.answer_text.proofs.Adding.{next_entry_sound}
 use Rattle.answer_text.proofs.nodes.entries_in.Goals as goal
 
 pub returns-in_default : goal.returns-in_default

@@ -2,7 +2,8 @@ use Rattle.std.proofs.Common.{ℕ, List, ◌++◌, ◌∷◌, [], ◌∙◌, ap}
 use Rattle.std.specs.Prelude.{string_bytes}
 use Rattle.std.specs.Global.{Vec}
 use Rattle.answer_text.specs.Lines.{text_of_lines}
-use Rattle.answer_text.specs.Texts.{branchings_line, end_line, head_line, node_lines, opening_lines, run_lines, title_line, tree_line}
+use Rattle.answer_text.specs.Texts.{branchings_line, end_line, head_line, node_lines, opening_lines, run_lines}
+use Rattle.answer_text.specs.Texts.{title_line, tree_line}
 use Rattle.answer_text.proofs.Written.{in_order, lines_written}
 use Rattle.answer_text.proofs.printing.print.Goals as goal
 

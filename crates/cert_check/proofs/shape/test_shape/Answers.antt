@@ -1,6 +1,7 @@
 use Rattle.std.proofs.Common.{◌≡◌, ◌+◌, ◌-◌, ℕ, inl, inr, refl, sym, ◌∙◌, ap, subst, arith}
 use Rattle.branch_tree.specs.Trees.{cut_of}
-use Rattle.cert_check.proofs.Shapes.{IsOpenAfter, below, shape_begins, shape_goes_on, is_missing, is_whole, is_after_tree}
+use Rattle.cert_check.proofs.Shapes.{IsOpenAfter, below, shape_begins, shape_goes_on, is_missing, is_whole}
+use Rattle.cert_check.proofs.Shapes.{is_after_tree}
 use Rattle.cert_check.proofs.shape.test_shape.Goals as goal
 use Rattle.cert_check.proofs.shape.test_shape.Goals.{in-Some, in-None}
 

@@ -1,6 +1,7 @@
 use Rattle.std.proofs.Common.{Ok, Err, ◌∙◌}
 use Rattle.day_simulator.specs.Steps.{fixed_order}
-use Rattle.day_simulator.proofs.Simulating.{steps_of, finishes_as, beginning, simulation_stops, simulation_ends_badly, simulation_ends_well, runs_at_cost, never_runs}
+use Rattle.day_simulator.proofs.Simulating.{steps_of, finishes_as, beginning, simulation_stops, simulation_ends_badly}
+use Rattle.day_simulator.proofs.Simulating.{simulation_ends_well, runs_at_cost, never_runs}
 use Rattle.day_simulator.proofs.InTurn.{stopped_in_turn}
 use Rattle.day_simulator.proofs.whole_day.simulate.Goals as goal
 

@@ -1,5 +1,6 @@
 -- One edge more has offered its cell.
-use Rattle.std.proofs.Common.{◌≡◌, ◌≤◌, ◌<◌, ℕ, suc, ◌+◌, ◌*◌, None, Some, Option, List, ℤ, length, get_or, take, sym, ap, ◌∙◌, subst, arith}
+use Rattle.std.proofs.Common.{◌≡◌, ◌≤◌, ◌<◌, ℕ, suc, ◌+◌, ◌*◌, None, Some, Option, List, ℤ, length, get_or, take, sym}
+use Rattle.std.proofs.Common.{ap, ◌∙◌, subst, arith}
 use Rattle.std.proofs.Common.{Contains, slice_get, unwrap_or, refl}
 use Rattle.std.specs.Prelude.{IfSome, option_map, fold}
 use Rattle.std.proofs.lemmas.List.{take_all}

@@ -1,5 +1,6 @@
 -- One cell more has its worth.
-use Rattle.std.proofs.Common.{◌≡◌, ◌≤◌, ◌<◌, ℕ, suc, ◌+◌, None, Option, List, ℤ, length, get_or, set, sym, ap, ◌∙◌, subst, arith}
+use Rattle.std.proofs.Common.{◌≡◌, ◌≤◌, ◌<◌, ℕ, suc, ◌+◌, None, Option, List, ℤ, length, get_or, set, sym, ap, ◌∙◌}
+use Rattle.std.proofs.Common.{subst, arith}
 use Rattle.timetable.specs.Compositions.{compositions_of}
 use Rattle.std.specs.Prelude.{IfSome}
 use Rattle.price_bound.specs.declared.cells.Cell.{Cell}

@@ -1,5 +1,6 @@
 -- One type more.
-use Rattle.std.proofs.Common.{to_z, of_z, w64, ◌≡◌, ℕ, ◌+◌, ◌*◌, ◌<◌, ◌≤◌, List, length, get_or, take, ℤ, pos, ◌+ℤ◌, ap, sym, subst, arith, ◌∙◌}
+use Rattle.std.proofs.Common.{to_z, of_z, w64, ◌≡◌, ℕ, ◌+◌, ◌*◌, ◌<◌, ◌≤◌, List, length, get_or, take, ℤ, pos, ◌+ℤ◌, ap}
+use Rattle.std.proofs.Common.{sym, subst, arith, ◌∙◌}
 use Rattle.std.proofs.lemmas.List.{get_or_read}
 use Rattle.std.proofs.lemmas.List.Elements.{All-get_or}
 use Rattle.branch_tree.specs.IntSums.{int_sum}

@@ -3,7 +3,8 @@ use Rattle.std.proofs.lemmas.Iterator.Splits.{YieldsList-from_str_split}
 use Rattle.std.proofs.lemmas.Iterator.Consumers.{YieldsList-turn, YieldsList-end}
 use Rattle.std.proofs.lemmas.List.{length_push}
 use Rattle.rail_csv.specs.Fields.{pieces_of}
-use Rattle.rail_csv.proofs.Pieces.{found, pieces_split, at_piece, is_found, is_lost, none_found, one_more, numbers_more, all_found}
+use Rattle.rail_csv.proofs.Pieces.{found, pieces_split, at_piece, is_found, is_lost, none_found, one_more, numbers_more}
+use Rattle.rail_csv.proofs.Pieces.{all_found}
 use Rattle.rail_csv.proofs.columns.unit_numbers.Goals as goal
 
 pub returns-in_default : goal.returns-in_default

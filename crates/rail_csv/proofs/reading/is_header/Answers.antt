@@ -1,7 +1,8 @@
 use Rattle.std.proofs.Common.{◌≡◌, [], get_or, sym, ◌∙◌, arith}
 use borrow.Author.Count.{below_more}
 use Rattle.csv.specs.Records.{fields_of}
-use Rattle.rail_csv.proofs.Headers.{words, as_many, word_at, test_differs, test_agrees, too_few, too_many_fields, not_header, same_header}
+use Rattle.rail_csv.proofs.Headers.{words, as_many, word_at, test_differs, test_agrees, too_few, too_many_fields}
+use Rattle.rail_csv.proofs.Headers.{not_header, same_header}
 use Rattle.rail_csv.proofs.reading.is_header.Goals as goal
 
 pub returns-then-width-fewest : goal.returns-then-width-fewest

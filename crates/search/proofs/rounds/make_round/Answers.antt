@@ -4,7 +4,8 @@ use Rattle.search.specs.Desks.{IsLaidOut}
 use Rattle.search.specs.Offers.{IsOffered}
 use Rattle.search.specs.Solving.{plan_in}
 use Rattle.search.specs.Working.{IsWorkedOn}
-use Rattle.search.proofs.Asking.{asked_all, asked_so_far, can_ask, length-up_to, once_most, once_read, pass_over, pass_unclaimed, then_asked, up_to_next}
+use Rattle.search.proofs.Asking.{asked_all, asked_so_far, can_ask, length-up_to, once_most, once_read, pass_over}
+use Rattle.search.proofs.Asking.{pass_unclaimed, then_asked, up_to_next}
 use Rattle.search.proofs.Evaluating.{not_offered, offered_again}
 use Rattle.search.proofs.rounds.make_round.Goals as goal
 

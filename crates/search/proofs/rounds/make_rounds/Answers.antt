@@ -4,7 +4,8 @@ use Rattle.search.specs.Desks.{IsLaidOut}
 use Rattle.search.specs.Offers.{IsOffered}
 use Rattle.search.specs.Solving.{plan_in}
 use Rattle.search.specs.Working.{IsWorkedOn, is_left_open}
-use Rattle.search.proofs.Asking.{are_asked_again, are_asked_within, are_unasked, asked_in_all, asked_once, length-asked, may_be_asked_yet}
+use Rattle.search.proofs.Asking.{are_asked_again, are_asked_within, are_unasked, asked_in_all, asked_once, length-asked}
+use Rattle.search.proofs.Asking.{may_be_asked_yet}
 use Rattle.search.proofs.Evaluating.{not_offered, offered_again}
 use Rattle.search.proofs.rounds.make_rounds.Goals as goal
 

@@ -14,7 +14,8 @@ use Rattle.transitions.proofs.Reaching.{IsMadeOn, IsLeftOn, reaches}
 use Rattle.transitions.proofs.Rising.{are_equal, in_order, all_there}
 use Rattle.transitions.proofs.Rows.{made_row, no_made_row, left_row, no_left_row}
 use Rattle.transitions.proofs.pairs.pairs_of.Goals as goal
-use Rattle.transitions.proofs.pairs.pairs_of.Goals.{then-may_run+in_ok-add_made, else-may_run, then-may_run-2+in_ok-add_lefts, else-may_run-2}
+use Rattle.transitions.proofs.pairs.pairs_of.Goals.{then-may_run+in_ok-add_made, else-may_run}
+use Rattle.transitions.proofs.pairs.pairs_of.Goals.{then-may_run-2+in_ok-add_lefts, else-may_run-2}
 
 pub loop-to-preserved : goal.loop-to-preserved
 loop-to-preserved c =

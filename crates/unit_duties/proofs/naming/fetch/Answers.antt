@@ -1,4 +1,5 @@
-use Rattle.std.proofs.Common.{◌≡◌, ◌∙◌, ◌≤◌, ◌<◌, ◌+◌, ◌++◌, ◌∷◌, [], ℕ, List, length, get_or, sym, subst, ap, arith, length-append}
+use Rattle.std.proofs.Common.{◌≡◌, ◌∙◌, ◌≤◌, ◌<◌, ◌+◌, ◌++◌, ◌∷◌, [], ℕ, List, length, get_or, sym, subst, ap, arith}
+use Rattle.std.proofs.Common.{length-append}
 use Rattle.timetable.specs.Day.{from_of, leaves}
 use Rattle.unit_duties.specs.Trains.{taken_types}
 use Rattle.unit_duties.specs.Yards.{IsTaken, NoneReady}

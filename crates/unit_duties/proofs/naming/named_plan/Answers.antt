@@ -7,7 +7,8 @@ use Rattle.timetable.specs.Running.{AreUnits}
 use Rattle.inventory.specs.Counts.{ready_at}
 use Rattle.inventory.specs.Places.{given_places}
 use Rattle.unit_duties.specs.Yards.{ArePutIn}
-use Rattle.unit_duties.proofs.NextTrip.{NamedSoFar, named_none, named_more, named_all, trips_in_order, one_turn_more, is_made, few_next, given_known, standing_next}
+use Rattle.unit_duties.proofs.NextTrip.{NamedSoFar, named_none, named_more, named_all, trips_in_order, one_turn_more}
+use Rattle.unit_duties.proofs.NextTrip.{is_made, few_next, given_known, standing_next}
 use Rattle.unit_duties.proofs.naming.named_plan.Goals as goal
 
 pub loop-trip-init : goal.loop-trip-init

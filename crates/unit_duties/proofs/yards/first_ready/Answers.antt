@@ -2,9 +2,11 @@ use Rattle.std.proofs.Common.{◌≡◌, ◌∙◌, ◌<◌, inl, inr, false, is
 use Rattle.std.specs.Prelude.{IfNone}
 use Rattle.std.proofs.lemmas.Bool.{false≢true}
 use Rattle.unit_duties.specs.Yards.{NoneReady}
-use Rattle.unit_duties.proofs.WaitingOrder.{order, no_later, is_between, from_first, has_key, of_first, not_differing, differing, found_ready}
+use Rattle.unit_duties.proofs.WaitingOrder.{order, no_later, is_between, from_first, has_key, of_first, not_differing}
+use Rattle.unit_duties.proofs.WaitingOrder.{differing, found_ready}
 use Rattle.unit_duties.proofs.yards.first_ready.Goals as goal
-use Rattle.unit_duties.proofs.yards.first_ready.Goals.{then-ne-via-then-ne, then-ne-via-else-ne+then-ne-2, then-ne-via-else-ne+else-ne-2+then-first-minute}
+use Rattle.unit_duties.proofs.yards.first_ready.Goals.{then-ne-via-then-ne, then-ne-via-else-ne+then-ne-2}
+use Rattle.unit_duties.proofs.yards.first_ready.Goals.{then-ne-via-else-ne+else-ne-2+then-first-minute}
 
 pub returns-in_err-first-clause-none : goal.returns-in_err-first-clause-none
 returns-in_err-first-clause-none c =

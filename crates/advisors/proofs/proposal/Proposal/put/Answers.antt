@@ -2,7 +2,8 @@ use Rattle.std.proofs.Common.{◌≡◌, ◌<◌, pos, ◌≤ℤ◌, arith, sym,
 use Rattle.std.proofs.lemmas.Int.{ints}
 use mir.Val.{to_z, of_z}
 use Rattle.advisors.proofs.Fitting.{still-fits}
-use Rattle.advisors.proofs.proposal.Proposal.put.Goals.{else-value-lt0-via-then-value-lt0+else-index-self-2, else-value-lt0-via-else-value-lt0}
+use Rattle.advisors.proofs.proposal.Proposal.put.Goals.{else-value-lt0-via-then-value-lt0+else-index-self-2}
+use Rattle.advisors.proofs.proposal.Proposal.put.Goals.{else-value-lt0-via-else-value-lt0}
 use Rattle.advisors.proofs.proposal.Proposal.put.Goals as goal
 
 not-negative : (c : goal.After-put) → c.args.index < c.self.inside.free_from → pos 0 ≤ℤ c.args.value

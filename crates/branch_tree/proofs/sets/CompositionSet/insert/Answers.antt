@@ -1,4 +1,5 @@
-use Rattle.std.proofs.Common.{ℕ, ◌<◌, ◌*◌, ◌/◌, ◌%◌, ◌^◌, length, set, get_or, eqb, bit_or, true, sym, ◌∙◌, ap, arith, w64}
+use Rattle.std.proofs.Common.{ℕ, ◌<◌, ◌*◌, ◌/◌, ◌%◌, ◌^◌, length, set, get_or, eqb, bit_or, true, sym, ◌∙◌, ap, arith}
+use Rattle.std.proofs.Common.{w64}
 use Rattle.std.proofs.lemmas.Nat.Bits.{bit_at_set_same, bit_at_set_other}
 use Rattle.rail_base.specs.declared.limits.TheConstants.{MOST_COMPOSITIONS}
 use Rattle.branch_tree.proofs.Words.{one_bit, one_bit-other}

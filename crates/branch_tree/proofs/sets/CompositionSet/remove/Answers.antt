@@ -1,4 +1,5 @@
-use Rattle.std.proofs.Common.{ℕ, ◌<◌, ◌*◌, ◌-◌, ◌/◌, ◌%◌, ◌^◌, length, set, get_or, eqb, bit_and, false, sym, ◌∙◌, ap, arith, w64}
+use Rattle.std.proofs.Common.{ℕ, ◌<◌, ◌*◌, ◌-◌, ◌/◌, ◌%◌, ◌^◌, length, set, get_or, eqb, bit_and, false, sym, ◌∙◌, ap}
+use Rattle.std.proofs.Common.{arith, w64}
 use Rattle.std.proofs.lemmas.Nat.Bits.{bit_at_clear_same, bit_at_clear_other}
 use Rattle.rail_base.specs.declared.limits.TheConstants.{MOST_COMPOSITIONS}
 use Rattle.branch_tree.proofs.Words.{one_bit, one_bit-other}

@@ -5,7 +5,8 @@ use mir.Val.{to_z, of_z}
 use Rattle.timetable.specs.Minutes.{minutes_of}
 use Rattle.price_bound.specs.Entered.{Counted}
 use Rattle.price_bound.proofs.CountedOf.{counted_of}
-use Rattle.price_bound.proofs.SlackIndices.{entered_next, few_entered, lambda_below, lambda_slack, past_entered, yard_next}
+use Rattle.price_bound.proofs.SlackIndices.{entered_next, few_entered, lambda_below, lambda_slack, past_entered}
+use Rattle.price_bound.proofs.SlackIndices.{yard_next}
 use Rattle.price_bound.proofs.slacks.CountedPicks.put_yard.Goals as goal
 
 pub put_slack-requires-clause-room : goal.put_slack-requires-clause-room

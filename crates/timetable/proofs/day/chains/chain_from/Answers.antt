@@ -1,5 +1,6 @@
 -- A trip more is one of those that still followed; at the end none follows.
-use Rattle.std.proofs.Common.{◌≡◌, ◌∙◌, ◌-◌, ◌+◌, ◌<◌, ◌++◌, [], ◌∷◌, ℕ, suc, List, length, Option, Some, None, refl, sym, ap, arith, append_assoc, append-nil}
+use Rattle.std.proofs.Common.{◌≡◌, ◌∙◌, ◌-◌, ◌+◌, ◌<◌, ◌++◌, [], ◌∷◌, ℕ, suc, List, length, Option, Some, None, refl}
+use Rattle.std.proofs.Common.{sym, ap, arith, append_assoc, append-nil}
 use Rattle.std.specs.Prelude.{IfSome}
 use Rattle.timetable.specs.Chains.{next_in, follow, chain_from}
 use Rattle.timetable.proofs.WholeChains.{follow_none}
