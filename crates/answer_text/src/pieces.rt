@@ -17,7 +17,8 @@ pub(crate) fn first_piece(mark: u8, text: &[u8]) -> (&[u8], &[u8])
 
 /// The piece behind a mark, and the text from the next mark on; nothing at the end of the text.
 pub(crate) fn next_piece(mark: u8, rest: &[u8]) -> Option<(&[u8], &[u8])>
-    ensures { let left = pieces_after mark rest.now in MatchOption result (left ≡ []) (λ x. IsFirst mark left x.0.now x.1.now) }
+    ensures { let left = pieces_after mark rest.now in
+        MatchOption result (left ≡ []) (λ x. IsFirst mark left x.0.now x.1.now) }
 {
     if rest.is_empty() {
         return None;

@@ -89,7 +89,8 @@ pub trait Relaxation {
         requires region { length region.now ≡ (meanings (problem self.old)).trips }
         requires best { length best.old ≡ (meanings (problem self.old)).trips }
         ensures same { problem self.new ≡ problem self.old }
-        ensures bound { IsBound (meanings (problem self.old)) region.now multipliers.now weight result best.old best.new };
+        ensures bound { IsBound (meanings (problem self.old)) region.now multipliers.now weight result
+            best.old best.new };
 
     /// Whether picks follow: each is admissible, and from trip to trip each chain has allowed edges. There is one for
     /// each trip.

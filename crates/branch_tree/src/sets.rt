@@ -111,7 +111,8 @@ impl CompositionSet {
     pub fn words(&self) -> &[u64]
         ensures length { length result.now ≡ 16 }
         ensures numbers { length self.now ≡ MOST_COMPOSITIONS }
-        ensures bits { (comp : ℕ) → is_member self.now comp ≡ (slice_index result.now (comp / 64) / 2 ^ (comp % 64) % 2 == 1) }
+        ensures bits { (comp : ℕ) →
+            is_member self.now comp ≡ (slice_index result.now (comp / 64) / 2 ^ (comp % 64) % 2 == 1) }
     {
         &self.words
     }

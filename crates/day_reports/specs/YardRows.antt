@@ -47,7 +47,8 @@ is_no_later (Some minute) ready = nat_le ready minute
 -- units that a trip gives and that become ready after one minute and by another, and those of all trips
 abbrev pub gives_between : YardOf → Option ℕ → Option ℕ → ℕ → ℕ
 gives_between yard after by t =
-    if (to_of yard.day t == yard.station) && (is_later after (ready_at yard.day t) && is_no_later by (ready_at yard.day t))
+    if (to_of yard.day t == yard.station)
+    && (is_later after (ready_at yard.day t) && is_no_later by (ready_at yard.day t))
     then gives_of yard.day yard.lists yard.unit_type t
     else 0
 

@@ -33,7 +33,12 @@ impl<'day, 'picks, 'ledger> Model for Yard<'day, 'picks, 'ledger> {
 
     ghost Value = { YardOf };
 
-    ghost view = { λ a. record { day = a.instance.now; lists = picked a.instance.now a.picks.now; station = a.station; unit_type = a.unit_type } };
+    ghost view = { λ a. record {
+      day = a.instance.now;
+      lists = picked a.instance.now a.picks.now;
+      station = a.station;
+      unit_type = a.unit_type;
+    } };
 
     ghost invariant = { λ a. IsToldOf a.instance.now a.picks.now a.ledger.now a.station a.unit_type };
 }

@@ -58,7 +58,8 @@ fn push_station<'day, 'picks, 'ledger>(
     requires picks { ArePicks instance.now picks.now }
     requires counts { ledger.now ≡ record { day = instance.now; lists = picked instance.now picks.now } }
     requires station { station < length instance.now.stations }
-    ensures { OnOk result (report.new ≡ report.old ++ station_rows instance.now (picked instance.now picks.now) station) }
+    ensures { OnOk result (report.new ≡ report.old ++
+        station_rows instance.now (picked instance.now picks.now) station) }
 {
     for number in 0..instance.types().len() {
         let yard = Yard {
@@ -109,7 +110,8 @@ fn push_minute(
     place: u32,
 ) -> Result<(), NoMemory>
     requires { place < length (minutes_of yard.now.day yard.now.station) }
-    ensures { OnOk result (report.new ≡ report.old ++ minute_row yard.now before (get_or (minutes_of yard.now.day yard.now.station) place 0) ∷ []) }
+    ensures { OnOk result (report.new ≡ report.old ++
+        minute_row yard.now before (get_or (minutes_of yard.now.day yard.now.station) place 0) ∷ []) }
 {
     let minute = yard.instance.minutes(yard.station)[place as usize];
     let standing = yard.ledger.count_after(yard.station, yard.unit_type, place);
@@ -154,7 +156,8 @@ fn push_row(
     time: &[u8],
     counts: RowCounts,
 ) -> Result<(), NoMemory>
-    ensures { OnOk result (report.new ≡ report.old ++ yard_row yard.now time.now counts.taken counts.ready counts.standing ∷ []) }
+    ensures { OnOk result (report.new ≡ report.old ++
+        yard_row yard.now time.now counts.taken counts.ready counts.standing ∷ []) }
 {
     let taken = digits_of(alloc, counts.taken)?;
     let ready = digits_of(alloc, counts.ready)?;

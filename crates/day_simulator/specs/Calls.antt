@@ -23,7 +23,10 @@ IsCost cost money = money.0 ≡ pos cost
 
 -- the end of the day: it tells the cost where all is as it should be, and else the first fault
 abbrev pub Finishes : Machine → Result Money StepFault → Type 0
-Finishes now result = MatchResult (finish_of now.day now.plan now.state) (λ cost. IsOkAnd result (λ money. IsCost cost money)) (λ fault. result ≡ Err fault)
+Finishes now result =
+    MatchResult (finish_of now.day now.plan now.state)
+    (λ cost. IsOkAnd result (λ money. IsCost cost money))
+    (λ fault. result ≡ Err fault)
 
 -- steps one after another: all go through, or the first fault is told
 abbrev pub MakesSteps : Machine → List DayEvent → Result (Unit {0}) StepFault → Machine → Type 0

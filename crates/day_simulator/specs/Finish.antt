@@ -22,12 +22,15 @@ first_not_made state (e ∷ es) = if is_made state e then first_not_made state e
 
 -- how many units of a type stand in the yard of a station
 unfoldable pub yard_count : Day → State → ℕ → ℕ → ℕ
-yard_count day state s m = count_below (λ u. is_in_yard s (place_of state.places u) && (type_of day u == m)) (unit_count day)
+yard_count day state s m =
+    count_below (λ u. is_in_yard s (place_of state.places u) && (type_of day u == m)) (unit_count day)
 
 -- the first type whose count at a station differs, as a fault
 abbrev pub first_differing_type : Day → State → ℕ → List ℕ → Option StepFault
 first_differing_type day state s [] = None
-first_differing_type day state s (m ∷ ms) = if yard_count day state s m == wanted_of day s m then first_differing_type day state s ms
+first_differing_type day state s (m ∷ ms) =
+    if yard_count day state s m == wanted_of day s m
+    then first_differing_type day state s ms
     else Some (Balance s m (yard_count day state s m) (wanted_of day s m))
 
 abbrev pub or_else : Option StepFault → Option StepFault → Option StepFault
@@ -36,7 +39,8 @@ or_else (Some fault) rest = Some fault
 
 abbrev pub first_differing : Day → State → List ℕ → Option StepFault
 first_differing day state [] = None
-first_differing day state (s ∷ ss) = or_else (first_differing_type day state s (below (length day.types))) (first_differing day state ss)
+first_differing day state (s ∷ ss) =
+    or_else (first_differing_type day state s (below (length day.types))) (first_differing day state ss)
 
 abbrev pub ended : Option DayEvent → Option StepFault → ℕ → Result ℕ StepFault
 ended (Some event) fault cost = Err (NotNow event)
@@ -45,7 +49,9 @@ ended None None cost = Ok cost
 
 -- the cost of a day that has come to its end, or what is wrong with its end
 unfoldable pub finish_of : Day → List (List ℕ) → State → Result ℕ StepFault
-finish_of day plan state = ended (first_not_made state (fixed_order day)) (first_differing day state (below (length day.stations))) (plan_cost day plan)
+finish_of day plan state =
+    ended (first_not_made state (fixed_order day)) (first_differing day state (below (length day.stations)))
+    (plan_cost day plan)
 
 abbrev pub finish_after : Day → List (List ℕ) → Result State StepFault → Result ℕ StepFault
 finish_after day plan (Err fault) = Err fault

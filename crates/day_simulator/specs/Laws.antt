@@ -17,7 +17,9 @@ IsInFixedOrder = (day : Day) → IsOrder day (fixed_order day) × RisesByTrip da
 
 -- In every order of its events, the day goes through to its end exactly where the plan runs, and always ends alike.
 abbrev pub InEveryOrder : Type 0
-InEveryOrder = (day : Day) (plan : List (List ℕ)) (events : List DayEvent) → IsDay day → AreLinks day → IsPlan day plan → IsOrder day events → RunsInOrder day plan events
+InEveryOrder = (day : Day) (plan : List (List ℕ)) (events : List DayEvent)
+    → IsDay day → AreLinks day → IsPlan day plan → IsOrder day events
+    → RunsInOrder day plan events
 
 -- In the fixed order, the day goes through to its end exactly where the plan runs, and costs what the plan costs.
 abbrev pub RunsExactly : Day → List (List ℕ) → Type 0
@@ -33,4 +35,5 @@ IsInTurn fault = (event : DayEvent) → ¬ (fault ≡ NotNow event)
 
 -- In the fixed order no event is out of turn, and none is missing at the end, whatever the plan is.
 abbrev pub InTurn : Type 0
-InTurn = (day : Day) (plan : List (List ℕ)) → IsDay day → AreLinks day → (fault : StepFault) → simulation day plan ≡ Err fault → IsInTurn fault
+InTurn = (day : Day) (plan : List (List ℕ)) → IsDay day → AreLinks day
+    → (fault : StepFault) → simulation day plan ≡ Err fault → IsInTurn fault

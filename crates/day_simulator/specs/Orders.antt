@@ -66,10 +66,12 @@ last_ready day plan u = ready_after day 0 (duty day plan u)
 pub record EndsAsPlanned (day : Day) (plan : List (List ℕ)) (events : List DayEvent) : Type 0 where
   pub final : State
   pub made : steps day plan (start_of day) events ≡ Ok final
-  pub yards : (u : ℕ) → u < unit_count day → place_of final.places u ≡ Yard (last_place day plan u) (last_ready day plan u)
+  pub yards : (u : ℕ) → u < unit_count day
+      → place_of final.places u ≡ Yard (last_place day plan u) (last_ready day plan u)
   pub cost : finish_of day plan final ≡ Ok (plan_cost day plan)
 
 -- the events go through to the end of the day exactly where the plan runs
 pub record RunsInOrder (day : Day) (plan : List (List ℕ)) (events : List DayEvent) : Type 0 where
   pub ends : Runs day plan → EndsAsPlanned day plan events
-  pub runs : (final : State) (cost : ℕ) → steps day plan (start_of day) events ≡ Ok final → finish_of day plan final ≡ Ok cost → Runs day plan
+  pub runs : (final : State) (cost : ℕ) → steps day plan (start_of day) events ≡ Ok final
+      → finish_of day plan final ≡ Ok cost → Runs day plan

@@ -52,7 +52,9 @@ broken_out day plan t = broken day plan false (outgoing day t)
 abbrev pub first_missing : Day → ℕ → List Place → List ℕ → Option ℕ
 first_missing day t places [] = None
 first_missing day t places (u ∷ us) =
-    if is_ready (from_of day t) (leaves day t) (place_of places u) then first_missing day t (slice_set places u (Aboard t)) us else Some u
+    if is_ready (from_of day t) (leaves day t) (place_of places u)
+    then first_missing day t (slice_set places u (Aboard t)) us
+    else Some u
 
 -- the first fault of the train that a trip leaves with, if it has one
 abbrev pub train_fault : Day → List (List ℕ) → List Place → ℕ → Option StepFault
@@ -93,12 +95,14 @@ unless_fault (Some fault) rest = Err fault
 -- the state after these events, one after another, or the first fault
 abbrev pub steps : Day → List (List ℕ) → State → List DayEvent → Result State StepFault
 steps day plan state [] = Ok state
-steps day plan state (event ∷ events) = unless_fault (fault_of day plan state event) (steps day plan (after day plan state event) events)
+steps day plan state (event ∷ events) =
+    unless_fault (fault_of day plan state event) (steps day plan (after day plan state event) events)
 
 -- the events of a day in the fixed order: by minute, arrivals before departures, and then by trip number
 abbrev pub insert_event : Day → DayEvent → List DayEvent → List DayEvent
 insert_event day e [] = e ∷ []
-insert_event day e (f ∷ fs) = if nat_le (moment_of day e) (moment_of day f) then e ∷ f ∷ fs else f ∷ insert_event day e fs
+insert_event day e (f ∷ fs) =
+    if nat_le (moment_of day e) (moment_of day f) then e ∷ f ∷ fs else f ∷ insert_event day e fs
 
 abbrev pub sorted_events : Day → List DayEvent → List DayEvent
 sorted_events day [] = []

@@ -100,7 +100,8 @@ fn first_differing_type(
     station: StationNo,
 ) -> Option<StepFault>
     requires { length places.now ≡ unit_count instance.now }
-    ensures { (state : State) → state.places ≡ places.now → result ≡ first_differing_type instance.now state station (below (length instance.now.types)) }
+    ensures { (state : State) → state.places ≡ places.now →
+        result ≡ first_differing_type instance.now state station (below (length instance.now.types)) }
 {
     for number in 0..instance.types().len() {
         let unit_type = TypeNo(number);
@@ -121,7 +122,8 @@ fn first_differing_type(
 /// The first station and type of which another number of units stands in the yard than is wanted at the end.
 pub(crate) fn first_differing(instance: &Instance, places: &[Place]) -> Option<StepFault>
     requires { length places.now ≡ unit_count instance.now }
-    ensures { (state : State) → state.places ≡ places.now → result ≡ first_differing instance.now state (below (length instance.now.stations)) }
+    ensures { (state : State) → state.places ≡ places.now →
+        result ≡ first_differing instance.now state (below (length instance.now.stations)) }
 {
     for number in 0..instance.stations() {
         if let Some(fault) = first_differing_type(instance, places, StationNo(number)) {

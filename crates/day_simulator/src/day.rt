@@ -56,7 +56,11 @@ impl<'a> Day<'a> {
         plan: &'a NamedPlan,
     ) -> Result<Day<'a>, NoMemory>
         requires { IsPlan instance.now plan.now }
-        ensures { IfOk result (λ day. day ≡ record { day = instance.now; plan = plan.now; state = start_of instance.now }) }
+        ensures { IfOk result (λ day. day ≡ record {
+          day = instance.now;
+          plan = plan.now;
+          state = start_of instance.now;
+        }) }
     {
         let order = fixed_order(alloc, instance)?;
         let places = places_at_home(alloc, instance)?;

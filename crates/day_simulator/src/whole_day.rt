@@ -56,7 +56,8 @@ pub fn simulate(
     requires { IsPlan instance.now plan.now }
     ensures exact { Simulates instance.now plan.now result }
     ensures runs { IfOk result (λ ran. Runs instance.now plan.now × IsCost (plan_cost instance.now plan.now) ran.cost) }
-    ensures stops { (fault : StepFault) → IsErrOf result (SimulateRefusal.Stops fault) → Runs instance.now plan.now → ⊥ }
+    ensures stops { (fault : StepFault) →
+        IsErrOf result (SimulateRefusal.Stops fault) → Runs instance.now plan.now → ⊥ }
     ensures in_turn { (fault : StepFault) → IsErrOf result (SimulateRefusal.Stops fault) → IsInTurn fault }
 {
     // What these two calls ensure of trips and links is what the law of running asks of the day.

@@ -40,10 +40,14 @@ changed_for s k x (m ∷ ms) table = changed_for s k x ms (changed s m k x table
 -- ---- by trips
 
 abbrev pub with_given : Day → List (List ℕ) → ℕ → List (List (List ℤ)) → List (List (List ℤ))
-with_given day lists t table = changed_for (to_of day t) (earlier (ready_at day t) (minutes_of day (to_of day t))) (pos 1) (given_with itself day lists t) table
+with_given day lists t table =
+    changed_for (to_of day t) (earlier (ready_at day t) (minutes_of day (to_of day t)))
+    (pos 1) (given_with itself day lists t) table
 
 abbrev pub with_taken : Day → List (List ℕ) → ℕ → List (List (List ℤ)) → List (List (List ℤ))
-with_taken day lists t table = changed_for (from_of day t) (earlier (leaves day t) (minutes_of day (from_of day t))) (negsuc 0) (taken_with itself day lists t) table
+with_taken day lists t table =
+    changed_for (from_of day t) (earlier (leaves day t) (minutes_of day (from_of day t)))
+    (negsuc 0) (taken_with itself day lists t) table
 
 -- of the trips below a number
 abbrev pub with_trips : Day → List (List ℕ) → ℕ → List (List (List ℤ)) → List (List (List ℤ))

@@ -15,10 +15,14 @@ number_at table s m k = get_or (counts_of table s m) k (pos 0)
 pub record HasPlaces (day : Day) (table : List (List (List ℤ))) : Type 0 where
   pub stations : length table ≡ length day.stations
   pub types : (s : ℕ) → s < length day.stations → length (get_or table s []) ≡ length day.types
-  pub minutes : (s m : ℕ) → s < length day.stations → m < length day.types → length (counts_of table s m) ≡ length (minutes_of day s) + 1
+  pub minutes : (s m : ℕ) → s < length day.stations → m < length day.types
+      → length (counts_of table s m) ≡ length (minutes_of day s) + 1
 
 -- and these are the counts
 pub record IsCountTable (day : Day) (lists : List (List ℕ)) (table : List (List (List ℤ))) : Type 0 where
   pub places : HasPlaces day table
-  pub counts : (s m k : ℕ) → s < length day.stations → m < length day.types → k < length (minutes_of day s) → number_at table s m k ≡ count_of_place day lists s m k
-  pub ends : (s m : ℕ) → s < length day.stations → m < length day.types → number_at table s m (length (minutes_of day s)) ≡ last_of day lists s m
+  pub counts : (s m k : ℕ) → s < length day.stations → m < length day.types
+      → k < length (minutes_of day s)
+      → number_at table s m k ≡ count_of_place day lists s m k
+  pub ends : (s m : ℕ) → s < length day.stations → m < length day.types
+      → number_at table s m (length (minutes_of day s)) ≡ last_of day lists s m

@@ -24,10 +24,14 @@ ready_at day t = arrives day t + reallocation_of day (to_of day t)
 -- units of a type that were taken at a station at a minute or earlier, and that were given there and are ready at the
 -- minute
 unfoldable pub taken_until : Day → List (List ℕ) → ℕ → ℕ → ℕ → ℕ
-taken_until day lists s m minute = sum_below (λ t. if (from_of day t == s) && nat_le (leaves day t) minute then takes_of day lists m t else 0) (length day.trips)
+taken_until day lists s m minute =
+    sum_below (λ t. if (from_of day t == s) && nat_le (leaves day t) minute then takes_of day lists m t else 0)
+    (length day.trips)
 
 unfoldable pub ready_until : Day → List (List ℕ) → ℕ → ℕ → ℕ → ℕ
-ready_until day lists s m minute = sum_below (λ t. if (to_of day t == s) && nat_le (ready_at day t) minute then gives_of day lists m t else 0) (length day.trips)
+ready_until day lists s m minute =
+    sum_below (λ t. if (to_of day t == s) && nat_le (ready_at day t) minute then gives_of day lists m t else 0)
+    (length day.trips)
 
 -- all of them
 unfoldable pub all_taken : Day → List (List ℕ) → ℕ → ℕ → ℕ
@@ -38,7 +42,8 @@ all_given day lists s m = sum_below (λ t. if to_of day t == s then gives_of day
 
 -- how many stand there after a minute: below zero where the yard is short of them
 abbrev pub count_at : Day → List (List ℕ) → ℕ → ℕ → ℕ → ℤ
-count_at day lists s m minute = pos (start_of day s m + ready_until day lists s m minute) -ℤ pos (taken_until day lists s m minute)
+count_at day lists s m minute =
+    pos (start_of day s m + ready_until day lists s m minute) -ℤ pos (taken_until day lists s m minute)
 
 -- the same after the departure minute of the station at a place in their order
 abbrev pub count_of_place : Day → List (List ℕ) → ℕ → ℕ → ℕ → ℤ
@@ -54,5 +59,7 @@ pub record AreServed (day : Day) (lists : List (List ℕ)) : Type 0 where
   pub trips : length lists ≡ length day.trips
   pub admissible : (t : ℕ) → t < length day.trips → is_admissible day t (list_of lists t) ≡ true
   pub links : (l : ℕ) (link : Link) → slice_get day.links l ≡ Some link → link_holds itself link lists ≡ true
-  pub never_short : (s m minute : ℕ) → taken_until day lists s m minute ≤ start_of day s m + ready_until day lists s m minute
-  pub ends : (s m : ℕ) → s < length day.stations → m < length day.types → start_of day s m + all_given day lists s m ≡ wanted_of day s m + all_taken day lists s m
+  pub never_short : (s m minute : ℕ)
+      → taken_until day lists s m minute ≤ start_of day s m + ready_until day lists s m minute
+  pub ends : (s m : ℕ) → s < length day.stations → m < length day.types
+      → start_of day s m + all_given day lists s m ≡ wanted_of day s m + all_taken day lists s m

@@ -7,7 +7,8 @@ use Rattle.inventory.specs.declared.faults.StockFault.TheVariants.{Short, Balanc
 use Rattle.inventory.specs.Counts.{count_of_place, last_of}
 
 -- it is found at a number, and not at those before
-pub record IsFirstIn (fine : ℕ → Type 0) (faulty : ℕ → StockFault → Type 0) (bound : ℕ) (fault : StockFault) : Type 0 where
+pub record IsFirstIn (fine : ℕ → Type 0) (faulty : ℕ → StockFault → Type 0) (bound : ℕ)
+    (fault : StockFault) : Type 0 where
   pub at : ℕ
   pub known : at < bound
   pub is : faulty at fault
@@ -30,10 +31,12 @@ pub record IsShort (day : Day) (lists : List (List ℕ)) (s m k : ℕ) (fault : 
 
 -- of a type at a station, of a station, of all
 abbrev pub ShortAt : Day → List (List ℕ) → ℕ → ℕ → Option StockFault → Type 0
-ShortAt day lists s m fault = FirstIn (IsNotShort day lists s m) (IsShort day lists s m) (length (minutes_of day s)) fault
+ShortAt day lists s m fault =
+    FirstIn (IsNotShort day lists s m) (IsShort day lists s m) (length (minutes_of day s)) fault
 
 abbrev pub IsShortAt : Day → List (List ℕ) → ℕ → ℕ → StockFault → Type 0
-IsShortAt day lists s m fault = IsFirstIn (IsNotShort day lists s m) (IsShort day lists s m) (length (minutes_of day s)) fault
+IsShortAt day lists s m fault =
+    IsFirstIn (IsNotShort day lists s m) (IsShort day lists s m) (length (minutes_of day s)) fault
 
 abbrev pub NoneShortAt : Day → List (List ℕ) → ℕ → ℕ → Type 0
 NoneShortAt day lists s m = (k : ℕ) → k < length (minutes_of day s) → IsNotShort day lists s m k
@@ -68,7 +71,8 @@ abbrev pub UnbalancedIn : Day → List (List ℕ) → ℕ → Option StockFault 
 UnbalancedIn day lists s fault = FirstIn (IsBalanced day lists s) (IsUnbalanced day lists s) (length day.types) fault
 
 abbrev pub IsUnbalancedIn : Day → List (List ℕ) → ℕ → StockFault → Type 0
-IsUnbalancedIn day lists s fault = IsFirstIn (IsBalanced day lists s) (IsUnbalanced day lists s) (length day.types) fault
+IsUnbalancedIn day lists s fault =
+    IsFirstIn (IsBalanced day lists s) (IsUnbalanced day lists s) (length day.types) fault
 
 abbrev pub AllBalancedIn : Day → List (List ℕ) → ℕ → Type 0
 AllBalancedIn day lists s = (m : ℕ) → m < length day.types → IsBalanced day lists s m

@@ -10,10 +10,12 @@ use Rattle.inventory.specs.Counts.{AreServed, taken_until, ready_until}
 
 -- the yards serve the compositions of every plan that runs
 abbrev pub PlansAreServed : Type 0
-PlansAreServed = (day : Day) (plan : List (List ℕ)) → IsDay day → AreLinks day → IsStocked day → Runs day plan → AreServed day (map (types_of day) plan)
+PlansAreServed = (day : Day) (plan : List (List ℕ)) → IsDay day → AreLinks day → IsStocked day → Runs day plan
+    → AreServed day (map (types_of day) plan)
 
 -- a station that is not short of a type at a minute at which a trip leaves it, is short of it at no minute
 abbrev pub DeparturesAreEnough : Type 0
 DeparturesAreEnough = (day : Day) (lists : List (List ℕ)) (s m : ℕ)
-    → ((minute : ℕ) → Contains (minutes_of day s) minute → taken_until day lists s m minute ≤ start_of day s m + ready_until day lists s m minute)
+    → ((minute : ℕ) → Contains (minutes_of day s) minute
+    → taken_until day lists s m minute ≤ start_of day s m + ready_until day lists s m minute)
     → (minute : ℕ) → taken_until day lists s m minute ≤ start_of day s m + ready_until day lists s m minute

@@ -11,7 +11,8 @@ use Rattle.inventory.specs.StockFaults.{IsFirstFault}
 
 -- picks are the types of a plan that runs exactly where the yards serve their compositions
 abbrev pub SolutionsAreServed : Type 0
-SolutionsAreServed = (day : Day) (picks : List ℕ) → IsDay day → AreLinks day → IsStocked day → ArePicks day picks → IsSolution day picks ↔ AreServed day (picked day picks)
+SolutionsAreServed = (day : Day) (picks : List ℕ) → IsDay day → AreLinks day → IsStocked day → ArePicks day picks
+    → IsSolution day picks ↔ AreServed day (picked day picks)
 
 -- compositions that may run on their trips and keep the rule of each link
 pub record KeepTheRules (day : Day) (lists : List (List ℕ)) : Type 0 where

@@ -17,7 +17,8 @@ IsYardBefore s m station unit_type = (s < station) ⊎ ((s ≡ station) × (m < 
 
 -- no count is negative
 abbrev pub NoneShort : Day → List (List ℕ) → Type 0
-NoneShort day lists = (s m k : ℕ) → IsYard day s m → k < length (minutes_of day s) → pos 0 ≤ℤ count_of_place day lists s m k
+NoneShort day lists = (s m k : ℕ) → IsYard day s m → k < length (minutes_of day s)
+    → pos 0 ≤ℤ count_of_place day lists s m k
 
 -- every end is the one that is wanted
 abbrev pub AllBalanced : Day → List (List ℕ) → Type 0
@@ -29,7 +30,9 @@ pub record IsFirstShort (day : Day) (lists : List (List ℕ)) (station unit_type
   pub known : place < length (minutes_of day station)
   pub is : count ≡ count_of_place day lists station unit_type place
   pub negative : count <ℤ pos 0
-  pub before : (s m k : ℕ) → IsYard day s m → k < length (minutes_of day s) → IsYardBefore s m station unit_type → pos 0 ≤ℤ count_of_place day lists s m k
+  pub before : (s m k : ℕ) → IsYard day s m → k < length (minutes_of day s)
+      → IsYardBefore s m station unit_type
+      → pos 0 ≤ℤ count_of_place day lists s m k
   pub earlier : (k : ℕ) → k < place → pos 0 ≤ℤ count_of_place day lists station unit_type k
 
 -- The end is not the one that is wanted, and those of the yards before are.
@@ -37,12 +40,14 @@ pub record IsFirstUnbalanced (day : Day) (lists : List (List ℕ)) (station unit
   pub yard : IsYard day station unit_type
   pub is : count ≡ last_of day lists station unit_type
   pub differs : count ≢ pos (wanted_of day station unit_type)
-  pub before : (s m : ℕ) → IsYard day s m → IsYardBefore s m station unit_type → last_of day lists s m ≡ pos (wanted_of day s m)
+  pub before : (s m : ℕ) → IsYard day s m → IsYardBefore s m station unit_type
+      → last_of day lists s m ≡ pos (wanted_of day s m)
 
 -- it is the fault that these yards have
 abbrev pub IsFault : Day → List (List ℕ) → StockFault → Type 0
 IsFault day lists (Short station unit_type place count) = IsFirstShort day lists station unit_type place count
-IsFault day lists (Balance station unit_type count) = NoneShort day lists × IsFirstUnbalanced day lists station unit_type count
+IsFault day lists (Balance station unit_type count) =
+    NoneShort day lists × IsFirstUnbalanced day lists station unit_type count
 
 -- it is their first fault, or there is none
 abbrev pub IsFirstFault : Day → List (List ℕ) → Option StockFault → Type 0

@@ -245,7 +245,8 @@ impl CountTable {
     /// Fills the table with the counts of picks.
     pub fn fill(&mut self, instance: &Instance, picks: &Picks)
         requires picks { ArePicks instance.now picks.now }
-        ensures filled { self.new ≡ all_sums instance.now 0 (with_trips instance.now (picked instance.now picks.now) (length instance.now.trips) (cleared self.old)) }
+        ensures filled { self.new ≡ all_sums instance.now 0
+            (with_trips instance.now (picked instance.now picks.now) (length instance.now.trips) (cleared self.old)) }
         ensures few { (t : ℕ) → t < length instance.now.trips → MoveFew instance.now (picked instance.now picks.now) t }
     {
         self.clear();

@@ -36,7 +36,10 @@ impl<'a> Model for Ledger<'a> {
 
     ghost view = { λ a. record { day = a.instance.now; lists = lists_in a.instance.now a.is_loaded a.picks } };
 
-    ghost invariant = { λ a. (length a.picks ≡ length a.instance.now.trips) × IsDay a.instance.now × IsCountTable a.instance.now (lists_in a.instance.now a.is_loaded a.picks) a.counts };
+    ghost invariant = { λ a.
+        (length a.picks ≡ length a.instance.now.trips)
+        × IsDay a.instance.now
+        × IsCountTable a.instance.now (lists_in a.instance.now a.is_loaded a.picks) a.counts };
 }
 
 impl<'a> Ledger<'a> {

@@ -81,7 +81,8 @@ branched nodes place cut left right =
     take place nodes ++ (Fixed (Branch cut) ∷ left ∷ right ∷ drop (suc place) nodes)
 
 -- a division of the open node at a place of searched nodes
-pub record IsDivisionAt (problem : Meanings) (best : Option Priced) (nodes : List SearchNode) (place : ℕ) (division : Division) : Type 0 where
+pub record IsDivisionAt (problem : Meanings) (best : Option Priced) (nodes : List SearchNode) (place : ℕ)
+    (division : Division) : Type 0 where
   pub node : PendingNode
   pub within : place < length nodes
   pub here : Pending node ≡ get_or nodes place (Pending node)

@@ -16,7 +16,8 @@ pub record AreAdmissible (day : Day) (picks : List ℕ) : Type 0 where
 
 -- the rule of each link below a number holds of lists of types
 abbrev pub HoldBelow : Day → List (List ℕ) → ℕ → Type 0
-HoldBelow day types bound = (l : ℕ) (link : Link) → l < bound → slice_get day.links l ≡ Some link → link_holds itself link types ≡ true
+HoldBelow day types bound = (l : ℕ) (link : Link) → l < bound → slice_get day.links l ≡ Some link
+    → link_holds itself link types ≡ true
 
 -- the rule of each link of the day holds
 abbrev pub EachHolds : Day → List (List ℕ) → Type 0

@@ -10,7 +10,11 @@ use Rattle.timetable.specs.Turns.{kept_of}
 
 -- how many units a turn keeps, and none at a join or a split
 abbrev pub kept_at : Link → List (List ℕ) → ℕ
-kept_at link types = unwrap_or (kept_of link.kind (turned link.reverse (list_of types (leads_from link.kind))) (list_of types (leads_to link.kind))) 0
+kept_at link types =
+    unwrap_or
+    (kept_of link.kind (turned link.reverse (list_of types (leads_from link.kind)))
+    (list_of types (leads_to link.kind)))
+    0
 
 -- the types of the units that a trip takes from the yard
 abbrev pub taken_types : Day → List ℕ → ℕ → List ℕ

@@ -36,7 +36,8 @@ fn holds(instance: &Instance, graphs: &Graphs, picks: &Picks, number: LinkNo) ->
     requires picks { ArePicks instance.now picks.now }
     requires admissible { AreAdmissible instance.now picks.now }
     requires number { number < length instance.now.links }
-    ensures { (link : Link) → slice_get instance.now.links number ≡ Some link → result ≡ link_holds itself link (picked instance.now picks.now) }
+    ensures { (link : Link) → slice_get instance.now.links number ≡ Some link →
+        result ≡ link_holds itself link (picked instance.now picks.now) }
 {
     let kind = &instance.link(number).kind;
     let from = picks.get(kind.leads_from());

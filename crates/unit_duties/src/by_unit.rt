@@ -52,7 +52,8 @@ fn add_stop(lists: &mut [StopList], unit: UnitNo, stop: Stop) -> Result<(), NoMe
 fn add_trip(lists: &mut [StopList], trip: TripNo, units: &[UnitNo]) -> Result<(), NoMemory>
     requires known { (u : ℕ) → IsTrue (has u units.now) → u < length lists.old }
     requires few { length units.now ≤ MOST_COMPOSITION }
-    ensures { OnOk result ((u : ℕ) → u < length lists.old → stops_at lists.new u ≡ stops_at lists.old u ++ stop_of trip u units.now) }
+    ensures { OnOk result ((u : ℕ) → u < length lists.old →
+        stops_at lists.new u ≡ stops_at lists.old u ++ stop_of trip u units.now) }
 {
     for place in 0..units.len() {
         let unit = units[place];

@@ -68,7 +68,9 @@ fn fetch(
 ) -> ArrayVec<UnitNo, MOST_COMPOSITION>
     requires picks { ArePicks instance.now picks.now }
     requires trip { trip < length instance.now.trips }
-    ensures { (stands : ℕ → Option InYard) → CanFetch instance.now picks.now trip stands yards.old → HasFetched instance.now picks.now trip stands yards.new result.items }
+    ensures { (stands : ℕ → Option InYard) →
+        CanFetch instance.now picks.now trip stands yards.old →
+        HasFetched instance.now picks.now trip stands yards.new result.items }
 {
     let types = instance.taken_types(picks, trip);
     let station = origin(instance, trip);
@@ -94,7 +96,9 @@ fn give(
     requires trip { trip < length instance.now.trips }
     requires few { length units.now ≤ MOST_COMPOSITION }
     requires known { AreUnits instance.now (given_units instance.now picks.now trip units.now) }
-    ensures { OnOk result (ArePutIn instance.now (to_of instance.now trip) (ready_at instance.now trip) (given_units instance.now picks.now trip units.now) yards.old yards.new) }
+    ensures { OnOk result (ArePutIn instance.now
+        (to_of instance.now trip) (ready_at instance.now trip)
+        (given_units instance.now picks.now trip units.now) yards.old yards.new) }
 {
     let given = given_units(instance, picks, trip, units);
     let (station, ready) = goal_of(instance, trip);

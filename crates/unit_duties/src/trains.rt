@@ -159,7 +159,8 @@ fn coming(
     requires picks { ArePicks instance.now picks.now }
     requires lists { length lists.now ≡ length instance.now.trips }
     requires trip { trip < length instance.now.trips }
-    ensures { IfOk result (λ units. units.items ≡ coming instance.now (picked instance.now picks.now) (list_of lists.now) trip) }
+    ensures { IfOk result (λ units.
+        units.items ≡ coming instance.now (picked instance.now picks.now) (list_of lists.now) trip) }
 {
     let Some(link) = instance.link_into(trip) else {
         return Ok(Vec::new(alloc));
@@ -237,7 +238,10 @@ pub(crate) fn put_together(
     requires picks { ArePicks instance.now picks.now }
     requires lists { length lists.now ≡ length instance.now.trips }
     requires trip { trip < length instance.now.trips }
-    ensures { IfOk result (λ units. units.items ≡ put_together instance.now trip (coming instance.now (picked instance.now picks.now) (list_of lists.now) trip) fetched.now) }
+    ensures { IfOk result (λ units.
+        units.items ≡ put_together instance.now trip
+        (coming instance.now (picked instance.now picks.now) (list_of lists.now) trip)
+        fetched.now) }
 {
     let Some(link) = instance.link_into(trip) else {
         return Ok(fetched.to_vec(alloc)?);

@@ -76,8 +76,8 @@ fn links_in_two_versions(rt: HostRuntime) -> Result<(), Fail> {
     let older =
         b"kind,arriving,arriving2,departing,departing2,reverse,uncouple,couple\nturn,a,,b,,no,rear,front\n";
     assert!(rt; links(alloc, older)?.iter().all(|row| !row.exchange));
-    let newer =
-        b"kind,arriving,arriving2,departing,departing2,reverse,uncouple,couple,exchange\nturn,a,,b,,no,rear,front,yes\n";
+    let newer = b"kind,arriving,arriving2,departing,departing2,reverse,uncouple,couple,exchange\n\
+        turn,a,,b,,no,rear,front,yes\n";
     assert!(rt; links(alloc, newer)?.iter().all(|row| row.exchange));
     let number =
         b"kind,arriving,arriving2,departing,departing2,reverse,uncouple,couple,exchange\nturn,a,,b,,no,rear,front,1\n";
@@ -191,8 +191,8 @@ fn first_wrong_column(rt: HostRuntime) {
     let no_km = b"trip,from,departure,to,arrival,km,demand\nT,X,7:05,Y,8:00,0,x\n";
     let out_of_range = TableRefusal::OutOfRange { row: 1, column: 5 };
     assert_eq!(rt; trips(rt.alloc(), no_km).err(), Some(out_of_range));
-    let word =
-        b"kind,arriving,arriving2,departing,departing2,reverse,uncouple,couple\nturn,a,,b,,no,front,rear\nTurn,a,,b,,no,front,rear\n";
+    let word = b"kind,arriving,arriving2,departing,departing2,reverse,uncouple,couple\n\
+        turn,a,,b,,no,front,rear\nTurn,a,,b,,no,front,rear\n";
     let bad_word = TableRefusal::BadWord { row: 2, column: 0 };
     assert_eq!(rt; links(rt.alloc(), word).err(), Some(bad_word));
 }

@@ -23,18 +23,20 @@ const STOCK: &[u8] = b"station,type,start,end\nX,A,2,2\n";
 const TRIPS: &[u8] =
     b"trip,from,departure,to,arrival,km,demand\nT1,X,08:00,Y,09:00,10,300\nT2,Y,09:10,X,10:10,10,150\n";
 
-const FORK: &[u8] =
-    b"trip,from,departure,to,arrival,km,demand\nT1,X,08:00,Y,09:00,10,0\nT2,X,08:30,Y,09:30,10,0\nT3,Y,09:30,X,10:30,10,0\nT4,Y,09:20,X,10:20,10,0\n";
+const FORK: &[u8] = b"trip,from,departure,to,arrival,km,demand\n\
+    T1,X,08:00,Y,09:00,10,0\nT2,X,08:30,Y,09:30,10,0\nT3,Y,09:30,X,10:30,10,0\n\
+    T4,Y,09:20,X,10:20,10,0\n";
 
 const RING_STATIONS: &[u8] = b"station,platform,reallocation\nX,240,30\nY,240,30\nZ,240,30\n";
 
 const RING_STOCK: &[u8] = b"station,type,start,end\nX,A,3,3\n";
 
-const RING: &[u8] =
-    b"trip,from,departure,to,arrival,km,demand\nT1,X,08:00,Y,09:00,10,300\nT2,Y,09:10,Z,10:00,10,300\nT3,Y,09:20,Z,10:10,10,300\nT4,Z,10:30,X,11:30,10,300\n";
+const RING: &[u8] = b"trip,from,departure,to,arrival,km,demand\n\
+    T1,X,08:00,Y,09:00,10,300\nT2,Y,09:10,Z,10:00,10,300\nT3,Y,09:20,Z,10:10,10,300\n\
+    T4,Z,10:30,X,11:30,10,300\n";
 
-const RING_LINKS: &[u8] =
-    b"kind,arriving,arriving2,departing,departing2,reverse,uncouple,couple\nsplit,T1,,T2,T3,no,none,none\njoin,T3,T2,T4,,no,none,none\n";
+const RING_LINKS: &[u8] = b"kind,arriving,arriving2,departing,departing2,reverse,uncouple,couple\n\
+    split,T1,,T2,T3,no,none,none\njoin,T3,T2,T4,,no,none,none\n";
 
 const NO_LINKS: &[u8] = b"kind,arriving,arriving2,departing,departing2,reverse,uncouple,couple\n";
 
@@ -199,7 +201,8 @@ fn refused_with(rt: &HostRuntime, link_text: &[u8]) -> Result<Option<InstanceRef
 fn links_refused(rt: HostRuntime) -> Result<(), Fail> {
     let twice = refused_with(
         &rt,
-        b"kind,arriving,arriving2,departing,departing2,reverse,uncouple,couple\njoin,T1,T2,T3,,no,none,none\nturn,T2,,T4,,no,none,none\n",
+        b"kind,arriving,arriving2,departing,departing2,reverse,uncouple,couple\n\
+        join,T1,T2,T3,,no,none,none\nturn,T2,,T4,,no,none,none\n",
     )?;
     assert_eq!(rt; twice, Some(InstanceRefusal::TripUsedTwice(2)));
     let itself = refused_with(

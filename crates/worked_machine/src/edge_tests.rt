@@ -60,8 +60,9 @@ fn day_of(
     requires stations { length station_text.now ≤ 4194304 }
     requires links { length link_text.now ≤ 4194304 }
 {
-    let trip_text =
-        b"trip,from,departure,to,arrival,km,demand\nT1,X,08:00,Y,09:00,10,0\nT2,X,08:30,Y,09:30,10,0\nT3,Y,09:40,X,10:40,10,0\nT4,Y,09:50,X,10:50,10,0\n";
+    let trip_text = b"trip,from,departure,to,arrival,km,demand\n\
+        T1,X,08:00,Y,09:00,10,0\nT2,X,08:30,Y,09:30,10,0\nT3,Y,09:40,X,10:40,10,0\n\
+        T4,Y,09:50,X,10:50,10,0\n";
     let tables = Tables {
         types: Rows::of(types(rt.alloc(), type_text)?),
         stations: Rows::of(stations(rt.alloc(), station_text)?),

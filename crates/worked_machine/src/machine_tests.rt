@@ -21,7 +21,8 @@ fn day_of_an_uncoupling(alloc: Global) -> Result<Instance, Fail> {
             stations: b"station,platform,reallocation\nX,140,30\nY,140,30\n",
             stock: b"station,type,start,end\nX,A,1,0\nX,B,1,1\nY,A,0,1\n",
             trips: b"trip,from,departure,to,arrival,km,demand\nT1,X,08:00,Y,09:00,10,300\nT2,Y,09:10,X,10:10,10,100\n",
-            links: b"kind,arriving,arriving2,departing,departing2,reverse,uncouple,couple\nturn,T1,,T2,,yes,rear,none\n",
+            links: b"kind,arriving,arriving2,departing,departing2,reverse,uncouple,couple\n\
+                turn,T1,,T2,,yes,rear,none\n",
         },
     )
 }
@@ -47,8 +48,11 @@ fn day_of_a_split_and_a_join(alloc: Global) -> Result<Instance, Fail> {
             types: b"type,carriages,seats,metres,family\nA,3,200,80,regional\n",
             stations: b"station,platform,reallocation\nX,240,30\nY,240,30\nZ,240,30\n",
             stock: b"station,type,start,end\nX,A,3,3\n",
-            trips: b"trip,from,departure,to,arrival,km,demand\nT1,X,08:00,Y,09:00,10,300\nT2,Y,09:10,Z,10:00,10,300\nT3,Y,09:20,Z,10:10,10,300\nT4,Z,10:30,X,11:30,10,300\n",
-            links: b"kind,arriving,arriving2,departing,departing2,reverse,uncouple,couple\nsplit,T1,,T2,T3,no,none,none\njoin,T3,T2,T4,,no,none,none\n",
+            trips: b"trip,from,departure,to,arrival,km,demand\n\
+                T1,X,08:00,Y,09:00,10,300\nT2,Y,09:10,Z,10:00,10,300\nT3,Y,09:20,Z,10:10,10,300\n\
+                T4,Z,10:30,X,11:30,10,300\n",
+            links: b"kind,arriving,arriving2,departing,departing2,reverse,uncouple,couple\n\
+                split,T1,,T2,T3,no,none,none\njoin,T3,T2,T4,,no,none,none\n",
         },
     )
 }
@@ -164,7 +168,9 @@ fn day_of_one_minute(alloc: Global) -> Result<Instance, Fail> {
             types: b"type,carriages,seats,metres,family\nA,3,200,80,regional\n",
             stations: b"station,platform,reallocation\nX,200,30\nY,200,0\nZ,200,20\n",
             stock: b"station,type,start,end\nX,A,1,1\nZ,A,1,1\n",
-            trips: b"trip,from,departure,to,arrival,km,demand\nT1,X,08:00,Y,09:00,10,150\nT2,Z,08:00,Y,09:00,10,150\nT3,Y,09:00,X,10:00,10,150\nT4,Y,09:00,Z,10:00,10,150\n",
+            trips: b"trip,from,departure,to,arrival,km,demand\n\
+                T1,X,08:00,Y,09:00,10,150\nT2,Z,08:00,Y,09:00,10,150\nT3,Y,09:00,X,10:00,10,150\n\
+                T4,Y,09:00,Z,10:00,10,150\n",
             links: b"kind,arriving,arriving2,departing,departing2,reverse,uncouple,couple\n",
         },
     )
@@ -198,8 +204,11 @@ fn day_of_two_turns(alloc: Global) -> Result<Instance, Fail> {
             types: b"type,carriages,seats,metres,family\nA,3,200,80,regional\n",
             stations: b"station,platform,reallocation\nX,200,30\nY,200,0\nZ,200,20\n",
             stock: b"station,type,start,end\nX,A,2,1\nZ,A,1,2\n",
-            trips: b"trip,from,departure,to,arrival,km,demand\nT1,X,08:00,Y,09:00,10,150\nT2,Z,08:00,Y,09:00,10,150\nT3,Y,09:00,X,10:00,10,150\nT4,Y,09:00,Z,10:00,10,150\n",
-            links: b"kind,arriving,arriving2,departing,departing2,reverse,uncouple,couple\nturn,T1,,T3,,no,rear,none\nturn,T2,,T4,,no,none,rear\n",
+            trips: b"trip,from,departure,to,arrival,km,demand\n\
+                T1,X,08:00,Y,09:00,10,150\nT2,Z,08:00,Y,09:00,10,150\nT3,Y,09:00,X,10:00,10,150\n\
+                T4,Y,09:00,Z,10:00,10,150\n",
+            links: b"kind,arriving,arriving2,departing,departing2,reverse,uncouple,couple\n\
+                turn,T1,,T3,,no,rear,none\nturn,T2,,T4,,no,none,rear\n",
         },
     )
 }
@@ -273,7 +282,8 @@ fn day_of_three_trips(alloc: Global) -> Result<Instance, Fail> {
             types: b"type,carriages,seats,metres,family\nA,3,200,80,regional\n",
             stations: b"station,platform,reallocation\nX,200,0\nY,200,0\n",
             stock: b"station,type,start,end\nX,A,2,2\n",
-            trips: b"trip,from,departure,to,arrival,km,demand\nT1,X,08:00,Y,09:00,10,150\nT2,Y,09:00,X,10:00,10,150\nT3,X,09:00,Y,10:00,10,150\n",
+            trips: b"trip,from,departure,to,arrival,km,demand\n\
+                T1,X,08:00,Y,09:00,10,150\nT2,Y,09:00,X,10:00,10,150\nT3,X,09:00,Y,10:00,10,150\n",
             links: b"kind,arriving,arriving2,departing,departing2,reverse,uncouple,couple\nturn,T1,,T2,,no,none,none\n",
         },
     )
@@ -327,8 +337,10 @@ fn day_of_front_ends(alloc: Global) -> Result<Instance, Fail> {
             types: b"type,carriages,seats,metres,family\nA,3,200,80,regional\n",
             stations: b"station,platform,reallocation\nX,200,30\nY,200,30\n",
             stock: b"station,type,start,end\nX,A,1,1\nY,A,1,1\n",
-            trips: b"trip,from,departure,to,arrival,km,demand\nT1,X,08:00,Y,09:00,10,150\nT2,Y,09:10,X,10:10,10,150\nT3,X,10:20,Y,11:20,10,150\n",
-            links: b"kind,arriving,arriving2,departing,departing2,reverse,uncouple,couple\nturn,T1,,T2,,no,none,front\nturn,T2,,T3,,no,front,none\n",
+            trips: b"trip,from,departure,to,arrival,km,demand\n\
+                T1,X,08:00,Y,09:00,10,150\nT2,Y,09:10,X,10:10,10,150\nT3,X,10:20,Y,11:20,10,150\n",
+            links: b"kind,arriving,arriving2,departing,departing2,reverse,uncouple,couple\n\
+                turn,T1,,T2,,no,none,front\nturn,T2,,T3,,no,front,none\n",
         },
     )
 }
@@ -356,8 +368,11 @@ fn day_of_turning_round(alloc: Global) -> Result<Instance, Fail> {
             types: b"type,carriages,seats,metres,family\nA,3,200,80,regional\n",
             stations: b"station,platform,reallocation\nX,240,30\nY,240,30\nZ,240,30\n",
             stock: b"station,type,start,end\nX,A,3,3\n",
-            trips: b"trip,from,departure,to,arrival,km,demand\nT1,X,08:00,Y,09:00,10,300\nT2,Y,09:10,Z,10:00,10,300\nT3,Y,09:20,Z,10:10,10,300\nT4,Z,10:30,X,11:30,10,300\n",
-            links: b"kind,arriving,arriving2,departing,departing2,reverse,uncouple,couple\nsplit,T1,,T2,T3,yes,none,none\njoin,T3,T2,T4,,yes,none,none\n",
+            trips: b"trip,from,departure,to,arrival,km,demand\n\
+                T1,X,08:00,Y,09:00,10,300\nT2,Y,09:10,Z,10:00,10,300\nT3,Y,09:20,Z,10:10,10,300\n\
+                T4,Z,10:30,X,11:30,10,300\n",
+            links: b"kind,arriving,arriving2,departing,departing2,reverse,uncouple,couple\n\
+                split,T1,,T2,T3,yes,none,none\njoin,T3,T2,T4,,yes,none,none\n",
         },
     )
 }

@@ -21,7 +21,8 @@ fn day_of_two_trips(alloc: Global) -> Result<Instance, Fail> {
             stations: b"station,platform,reallocation\nX,200,30\nY,200,30\n",
             stock: b"station,type,start,end\nX,A,2,1\nY,A,0,1\n",
             trips: b"trip,from,departure,to,arrival,km,demand\nT1,X,08:00,Y,09:00,10,300\nT2,Y,09:10,X,10:10,10,150\n",
-            links: b"kind,arriving,arriving2,departing,departing2,reverse,uncouple,couple\nturn,T1,,T2,,yes,rear,none\n",
+            links: b"kind,arriving,arriving2,departing,departing2,reverse,uncouple,couple\n\
+                turn,T1,,T2,,yes,rear,none\n",
         },
     )
 }
@@ -33,7 +34,8 @@ fn day_of_four_trips(alloc: Global) -> Result<Instance, Fail> {
         alloc,
         &Texts {
             types: b"type,carriages,seats,metres,family\nIC-3,3,192,81,inter\nIC-4,4,254,108,inter\n",
-            stations: b"station,platform,reallocation\n\"Northport, Central\",340,20\nMidford,340,20\nSouthhaven,270,20\n",
+            stations: b"station,platform,reallocation\n\
+                \"Northport, Central\",340,20\nMidford,340,20\nSouthhaven,270,20\n",
             stock: b"station,type,start,end\n\"Northport, Central\",IC-3,2,2\n\"Northport, Central\",IC-4,1,1\n",
             trips: b"trip,from,departure,to,arrival,km,demand\n\
                 101,\"Northport, Central\",06:02,Midford,06:58,74,310\n\

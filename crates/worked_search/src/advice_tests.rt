@@ -71,7 +71,8 @@ const LOOKS: &[Call] = &[
         ..SILENT
     },
     Call {
-        shown: "round 3; left 2 2; first 120, kept 150, last 60; at 0:1000; picks 0 0; slacks 0:-1 2:-1 3:1; free from 2",
+        shown: "round 3; left 2 2; first 120, kept 150, last 60; at 0:1000; picks 0 0; slacks 0:-1 2:-1 3:1; \
+            free from 2",
         word: Word::Enough,
         ..SILENT
     },

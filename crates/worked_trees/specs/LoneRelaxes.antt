@@ -17,7 +17,8 @@ each_once (suc zero) = refl
 each_once (suc (suc trip)) =
     let first : eqb 0 (suc (suc trip)) ≡ false = ne_eqb 0 (suc (suc trip)) (λ same. omega (arith, same)) in
     let second : eqb 1 (suc (suc trip)) ≡ false = ne_eqb 1 (suc (suc trip)) (λ same. omega (arith, same)) in
-    let past : ltb (suc (suc trip)) 2 ≡ false = false_from_ne_true (ltb (suc (suc trip)) 2) (λ less. omega (arith, ltb-true (suc (suc trip)) 2 less)) in
+    let past : ltb (suc (suc trip)) 2 ≡ false =
+    false_from_ne_true (ltb (suc (suc trip)) 2) (λ less. omega (arith, ltb-true (suc (suc trip)) 2 less)) in
     rw (first, second, past) refl
 
 no_slack : (slack : ℤ) → slack ≡ pos 0 → slack ≤ℤ pos 0
@@ -30,8 +31,14 @@ lone_picks_relax catalogue some = record {
   near_follow = λ picks region near. (near.0, some);
   solution_near = λ picks region solution inside. (solution.0, inside);
   solution_met = λ picks index solution below.
-      let none : (if is_short catalogue then pos 1 else pos 0) ≡ pos 0 = ap (λ b. if b then pos 1 else pos 0) solution.1 in
+      let none : (if is_short catalogue then pos 1 else pos 0) ≡ pos 0 =
+      ap (λ b. if b then pos 1 else pos 0) solution.1 in
       record { not_positive = no_slack (if is_short catalogue then pos 1 else pos 0) none; none = λ free. none };
-  broken = λ picks follow none. record { index = omega arith; unit = inl refl; positive = positive_short (is_short catalogue) (λ enough. none (follow.0, enough)); sign = λ below. refl };
+  broken = λ picks follow none. record {
+    index = omega arith;
+    unit = inl refl;
+    positive = positive_short (is_short catalogue) (λ enough. none (follow.0, enough));
+    sign = λ below. refl;
+  };
   order = each_once;
 }

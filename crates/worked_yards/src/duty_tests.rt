@@ -21,7 +21,8 @@ fn day_of_a_turn(alloc: Global) -> Result<Instance, Fail> {
             stations: b"station,platform,reallocation\nX,200,30\nY,200,30\n",
             stock: b"station,type,start,end\nX,A,2,1\nY,A,0,1\n",
             trips: b"trip,from,departure,to,arrival,km,demand\nT1,X,08:00,Y,09:00,10,300\nT2,Y,09:10,X,10:10,10,150\n",
-            links: b"kind,arriving,arriving2,departing,departing2,reverse,uncouple,couple\nturn,T1,,T2,,yes,rear,none\n",
+            links: b"kind,arriving,arriving2,departing,departing2,reverse,uncouple,couple\n\
+                turn,T1,,T2,,yes,rear,none\n",
         },
     )
 }

@@ -16,7 +16,8 @@ fn day_of_an_uncoupling(alloc: Global) -> Result<Instance, Fail> {
             stations: b"station,platform,reallocation\nX,200,30\nY,200,30\n",
             stock: b"station,type,start,end\nX,A,2,1\nY,A,0,1\n",
             trips: b"trip,from,departure,to,arrival,km,demand\nT1,X,08:00,Y,09:00,10,300\nT2,Y,09:10,X,10:10,10,150\n",
-            links: b"kind,arriving,arriving2,departing,departing2,reverse,uncouple,couple\nturn,T1,,T2,,yes,rear,none\n",
+            links: b"kind,arriving,arriving2,departing,departing2,reverse,uncouple,couple\n\
+                turn,T1,,T2,,yes,rear,none\n",
         },
     )
 }
@@ -30,7 +31,8 @@ pub(crate) fn day_of_an_exchange(alloc: Global) -> Result<Instance, Fail> {
             stations: b"station,platform,reallocation\nX,140,30\nY,140,30\n",
             stock: b"station,type,start,end\nX,A,1,1\nX,B,1,1\n",
             trips: b"trip,from,departure,to,arrival,km,demand\nT1,X,08:00,Y,09:00,10,300\nT2,Y,09:30,X,10:30,10,150\n",
-            links: b"kind,arriving,arriving2,departing,departing2,reverse,uncouple,couple,exchange\nturn,T1,,T2,,no,front,rear,yes\n",
+            links: b"kind,arriving,arriving2,departing,departing2,reverse,uncouple,couple,exchange\n\
+                turn,T1,,T2,,no,front,rear,yes\n",
         },
     )
 }
@@ -44,7 +46,8 @@ pub(crate) fn day_of_an_early_exchange(alloc: Global) -> Result<Instance, Fail> 
             stations: b"station,platform,reallocation\nX,140,30\nY,140,30\n",
             stock: b"station,type,start,end\nX,A,1,1\nX,B,1,1\n",
             trips: b"trip,from,departure,to,arrival,km,demand\nT1,X,08:00,Y,09:00,10,300\nT2,Y,09:29,X,10:30,10,150\n",
-            links: b"kind,arriving,arriving2,departing,departing2,reverse,uncouple,couple,exchange\nturn,T1,,T2,,no,front,rear,yes\n",
+            links: b"kind,arriving,arriving2,departing,departing2,reverse,uncouple,couple,exchange\n\
+                turn,T1,,T2,,no,front,rear,yes\n",
         },
     )
 }
