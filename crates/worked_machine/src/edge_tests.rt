@@ -2,6 +2,7 @@
 
 ghost use Rattle.std.specs.Prelude.{◌≤◌, length};
 
+use rail_base::limits::MOST_TABLE_BYTES;
 use rail_base::{CompNo, LinkNo};
 use rail_csv::{links, stations, stock, trips, types, weights};
 use std::test::Fail;
@@ -56,9 +57,9 @@ fn day_of(
     station_text: &[u8],
     link_text: &[u8],
 ) -> Result<Instance, Fail>
-    requires types { length type_text.now ≤ 4194304 }
-    requires stations { length station_text.now ≤ 4194304 }
-    requires links { length link_text.now ≤ 4194304 }
+    requires types { length type_text.now ≤ MOST_TABLE_BYTES }
+    requires stations { length station_text.now ≤ MOST_TABLE_BYTES }
+    requires links { length link_text.now ≤ MOST_TABLE_BYTES }
 {
     let trip_text = b"trip,from,departure,to,arrival,km,demand\n\
         T1,X,08:00,Y,09:00,10,0\nT2,X,08:30,Y,09:30,10,0\nT3,Y,09:40,X,10:40,10,0\n\
