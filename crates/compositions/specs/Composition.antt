@@ -42,5 +42,6 @@ are_types types ms = list_all (λ m. nat_lt m (length types)) ms
 
 -- a composition that may run where so many metres fit: 1 to MOST_COMPOSITION units, all of one family
 abbrev pub fits_in : List UnitType → ℕ → List ℕ → Bool
-fits_in types longest ms = nat_le 1 (length ms) && nat_le (length ms) MOST_COMPOSITION && are_types types ms && is_one_family types ms
+fits_in types longest ms =
+    nat_le 1 (length ms) && nat_le (length ms) MOST_COMPOSITION && are_types types ms && is_one_family types ms
     && nat_le (metres_of types ms) longest

@@ -42,7 +42,8 @@ impl Model for Catalogue {
 
     ghost view = { λ a. a.compositions.items };
 
-    ghost invariant = { λ a. (length a.compositions.items ≤ MOST_COMPOSITIONS) × AllPairs (λ ms ns. IsTrue (comes_before ms ns)) a.compositions.items };
+    ghost invariant = { λ a. (length a.compositions.items ≤ MOST_COMPOSITIONS)
+        × AllPairs (λ ms ns. IsTrue (comes_before ms ns)) a.compositions.items };
 }
 
 impl Catalogue {
@@ -56,7 +57,8 @@ impl Catalogue {
     ) -> Result<Catalogue, CatalogueRefusal>
         ensures ok { IfOk result (λ catalogue. catalogue ≡ catalogue_of types.now longest) }
         ensures few { IfOk result (λ catalogue. length catalogue ≤ MOST_COMPOSITIONS) }
-        ensures too_many { IfErr result (λ refusal. refusal ≡ TooMany → MOST_COMPOSITIONS < length (catalogue_of types.now longest)) }
+        ensures too_many { IfErr result
+            (λ refusal. refusal ≡ TooMany → MOST_COMPOSITIONS < length (catalogue_of types.now longest)) }
         ensures law { IsCatalogue types.now longest (catalogue_of types.now longest) }
     {
         let mut compositions = Vec::new(alloc);
@@ -107,8 +109,10 @@ impl Catalogue {
 fn first_not_before(compositions: &[Composition], composition: &Composition) -> usize
     requires { AllPairs (λ ms ns. IsTrue (comes_before ms ns)) compositions.now }
     ensures within { result ≤ length compositions.now }
-    ensures before { (k : ℕ) (d : List ℕ) → k < result → IsTrue (comes_before (slice_index_or compositions.now k d) composition.now) }
-    ensures after { (d : List ℕ) → result < length compositions.now → comes_before (slice_index_or compositions.now result d) composition.now ≡ false }
+    ensures before { (k : ℕ) (d : List ℕ) → k < result
+        → IsTrue (comes_before (slice_index_or compositions.now k d) composition.now) }
+    ensures after { (d : List ℕ) → result < length compositions.now
+        → comes_before (slice_index_or compositions.now result d) composition.now ≡ false }
 {
     let mut low = 0;
     let mut high = compositions.len();
@@ -132,9 +136,15 @@ fn add_extensions(
 ) -> Result<(), CatalogueRefusal>
     requires few { length compositions.old.items ≤ MOST_COMPOSITIONS }
     requires front_few { length front.now ≤ MOST_COMPOSITION }
-    ensures ok { OnOk result (compositions.new.items ≡ compositions.old.items ++ extensions (fits_in types.now longest) (length types.now) front.now) }
+    ensures ok { OnOk result
+        (compositions.new.items
+        ≡ compositions.old.items ++ extensions (fits_in types.now longest) (length types.now) front.now) }
     ensures within { OnOk result (length compositions.new.items ≤ MOST_COMPOSITIONS) }
-    ensures too_many { IfErr result (λ refusal. refusal ≡ TooMany → (k : ℕ) × (MOST_COMPOSITIONS < length (compositions.old.items ++ extensions (fits_in types.now longest) k front.now))) }
+    ensures too_many { IfErr result
+        (λ refusal. refusal ≡ TooMany
+        → (k : ℕ)
+        × (MOST_COMPOSITIONS
+        < length (compositions.old.items ++ extensions (fits_in types.now longest) k front.now))) }
 {
     for number in 0..types.len() {
         add_extension(compositions, front, TypeNo(number), types, longest)?;
@@ -152,9 +162,14 @@ fn add_extension(
 ) -> Result<(), CatalogueRefusal>
     requires few { length compositions.old.items ≤ MOST_COMPOSITIONS }
     requires front_few { length front.now ≤ MOST_COMPOSITION }
-    ensures ok { OnOk result (compositions.new.items ≡ compositions.old.items ++ where_it_fits (fits_in types.now longest) (front.now ++ unit_type ∷ [])) }
+    ensures ok { OnOk result
+        (compositions.new.items
+        ≡ compositions.old.items ++ where_it_fits (fits_in types.now longest) (front.now ++ unit_type ∷ [])) }
     ensures within { OnOk result (length compositions.new.items ≤ MOST_COMPOSITIONS) }
-    ensures too_many { IfErr result (λ refusal. refusal ≡ TooMany → MOST_COMPOSITIONS < length (compositions.old.items ++ where_it_fits (fits_in types.now longest) (front.now ++ unit_type ∷ []))) }
+    ensures too_many { IfErr result
+        (λ refusal. refusal ≡ TooMany
+        → MOST_COMPOSITIONS
+        < length (compositions.old.items ++ where_it_fits (fits_in types.now longest) (front.now ++ unit_type ∷ []))) }
 {
     let Some(composition) = Composition::extended(front, unit_type) else {
         return Ok(());

@@ -28,4 +28,6 @@ shunting_of day lists = sum_below (λ l. link_cost day l lists) (length day.link
 
 -- the three add up to the cost
 abbrev pub AddUp : Type 0
-AddUp = (day : Day) (lists : List (List ℕ)) → carriage_of day lists + shortage_of day lists + shunting_of day lists ≡ cost_of day lists
+AddUp =
+    (day : Day) (lists : List (List ℕ))
+    → carriage_of day lists + shortage_of day lists + shunting_of day lists ≡ cost_of day lists

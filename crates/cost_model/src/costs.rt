@@ -47,7 +47,8 @@ pub fn parts(instance: &Instance, picks: &Picks) -> CostParts
     ensures carriage { result.carriage.0 ≡ pos (carriage_of instance.now (picked instance.now picks.now)) }
     ensures shortage { result.shortage.0 ≡ pos (shortage_of instance.now (picked instance.now picks.now)) }
     ensures shunting { result.shunting.0 ≡ pos (shunting_of instance.now (picked instance.now picks.now)) }
-    ensures whole { result.carriage.0 +ℤ result.shortage.0 +ℤ result.shunting.0 ≡ pos (cost_of instance.now (picked instance.now picks.now)) }
+    ensures whole { result.carriage.0 +ℤ result.shortage.0 +ℤ result.shunting.0
+        ≡ pos (cost_of instance.now (picked instance.now picks.now)) }
 {
     CostParts {
         carriage: money(carriages_cost(instance, picks)),

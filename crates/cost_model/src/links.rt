@@ -24,7 +24,8 @@ pub fn link_cost(
     requires link { link < length instance.now.links }
     requires few { length arriving.now ≤ MOST_COMPOSITION }
     // Whatever the types on the other trips are.
-    ensures cost { (lists : List (List ℕ)) → LeadsBetween instance.now link lists arriving.now departing.now → result ≡ link_cost instance.now link lists }
+    ensures cost { (lists : List (List ℕ)) → LeadsBetween instance.now link lists arriving.now departing.now
+        → result ≡ link_cost instance.now link lists }
     ensures range { result ≤ MOST_LINK_COST }
 {
     let link = instance.link(link);

@@ -43,9 +43,12 @@ pub record AreAccepted (files : Files) (dir : List ℕ) (inputs : Inputs) : Type
 -- The first file that is refused, and why: the reading reaches it, and it is too long, or no such table; or the six
 -- tables are read and make no day; or the rows of the plan are read and make no plan of the day.
 abbrev pub IsFirstRefused : Files → List ℕ → Refusal → Type 0
-IsFirstRefused files dir (TooLong table) = Reaches files dir table × (MOST_TABLE_BYTES < length (bytes_of files dir table))
+IsFirstRefused files dir (TooLong table) =
+    Reaches files dir table × (MOST_TABLE_BYTES < length (bytes_of files dir table))
 IsFirstRefused files dir (WrongTable table why) =
-    Reaches files dir table × (length (bytes_of files dir table) ≤ MOST_TABLE_BYTES) × (reading table (bytes_of files dir table) ≡ Err why)
+    Reaches files dir table × (length (bytes_of files dir table) ≤ MOST_TABLE_BYTES)
+    × (reading table (bytes_of files dir table) ≡ Err why)
 IsFirstRefused files dir (NoDay why) = (tables : Tables) × AreFilesOf files dir tables × (day_of tables ≡ Err why)
 IsFirstRefused files dir (NoPlan why) =
-    (day : Day) × (day_in files dir ≡ Ok day) × (rows : List PlanRow) × IsFileOf files dir table.Plan rows × (plan_of day rows ≡ Err why)
+    (day : Day) × (day_in files dir ≡ Ok day) × (rows : List PlanRow) × IsFileOf files dir table.Plan rows
+    × (plan_of day rows ≡ Err why)

@@ -31,7 +31,8 @@ Reads IsReached (Err NoMemory) said = ⊤
 abbrev pub IsCaused : {F : Type 0} → (F → List ℕ → Bool) → (F → ℕ) → (F → ℕ) → List ℕ → F → F → ReadError → Type 0
 IsCaused may_fail faults taken dir before after (CannotRead table) =
     Rose (faults before) (faults after) × IsTrue (may_fail before (path_of dir table))
-IsCaused may_fail faults taken dir before after (Refused (TooLong table)) = RosePast MOST_TABLE_BYTES (taken before) (taken after)
+IsCaused may_fail faults taken dir before after (Refused (TooLong table)) =
+    RosePast MOST_TABLE_BYTES (taken before) (taken after)
 IsCaused may_fail faults taken dir before after _ = ⊤
 
 -- What an error says whatever the folder tells, where a call reads these tables: a file that could not be read, or that

@@ -57,7 +57,9 @@ bytes_of files dir table = file_at files (path_of dir table)
 
 -- the same, where they are not too many
 unfoldable pub bytes_in : Files → List ℕ → Table → Result (List ℕ) Refusal
-bytes_in files dir table = if nat_lt MOST_TABLE_BYTES (length (bytes_of files dir table)) then Err (TooLong table) else Ok (bytes_of files dir table)
+bytes_in files dir table =
+    if nat_lt MOST_TABLE_BYTES (length (bytes_of files dir table)) then Err (TooLong table)
+    else Ok (bytes_of files dir table)
 
 -- a table's refusal is one of its file
 abbrev pub as_table : {A : Type 0} → Table → Result A TableRefusal → Result A Refusal

@@ -31,7 +31,8 @@ pub struct Inputs {
 /// The rows of the six tables, read in their order. The first file that is refused or cannot be read ends the reading.
 #[tactic(auto, unfolding(crate::specs::Inputs::tables_in))]
 fn tables_in<F: Folder>(alloc: Global, folder: &mut F, dir: &str) -> Result<Tables, ReadError>
-    ensures told { (files : Files) → F.holds folder.old ≡ Some files → Reads (Reaches files dir.now) result (tables_in files dir.now) }
+    ensures told { (files : Files) → F.holds folder.old ≡ Some files
+        → Reads (Reaches files dir.now) result (tables_in files dir.now) }
     ensures within { IfOk result AreTables }
     ensures says { IfErr result (IsErrorOf (λ table. table ≢ Plan)) }
     ensures caused { IfErr result (IsCaused F.may_fail F.faults F.taken dir.now folder.old folder.new) }
@@ -87,7 +88,8 @@ fn plan_of(alloc: Global, instance: &Instance, rows: &[PlanRow]) -> Result<Named
 /// - `NoMemory`: want of memory.
 #[tactic(auto, unfolding(crate::specs::Inputs::day_in))]
 pub fn day_in<F: Folder>(alloc: Global, folder: &mut F, dir: &str) -> Result<Instance, ReadError>
-    ensures told { (files : Files) → F.holds folder.old ≡ Some files → Reads (Reaches files dir.now) result (day_in files dir.now) }
+    ensures told { (files : Files) → F.holds folder.old ≡ Some files
+        → Reads (Reaches files dir.now) result (day_in files dir.now) }
     ensures says { IfErr result (IsErrorOf (λ table. table ≢ Plan)) }
     ensures caused { IfErr result (IsCaused F.may_fail F.faults F.taken dir.now folder.old folder.new) }
     ensures only_reads { OnlyReads F.holds F.may_fail F.faults F.taken folder.old folder.new }
@@ -108,7 +110,8 @@ pub fn day_in<F: Folder>(alloc: Global, folder: &mut F, dir: &str) -> Result<Ins
 /// - `NoMemory`: want of memory.
 #[tactic(auto, using(crate::proofs::Reached::plan_ended), unfolding(crate::specs::Inputs::inputs_in))]
 pub fn inputs_in<F: Folder>(alloc: Global, folder: &mut F, dir: &str) -> Result<Inputs, ReadError>
-    ensures told { (files : Files) → F.holds folder.old ≡ Some files → Reads (Reaches files dir.now) result (inputs_in files dir.now) }
+    ensures told { (files : Files) → F.holds folder.old ≡ Some files
+        → Reads (Reaches files dir.now) result (inputs_in files dir.now) }
     ensures is_plan { IfOk result (λ inputs. IsPlan inputs.instance inputs.plan) }
     ensures says { IfErr result (IsErrorOf (λ _. ⊤)) }
     ensures caused { IfErr result (IsCaused F.may_fail F.faults F.taken dir.now folder.old folder.new) }

@@ -26,7 +26,8 @@ field fields column = field_or [] fields column
 unfoldable pub number_column : ℕ → ℕ → ℕ → ℕ → List ℕ → Result ℕ TableRefusal
 number_column low high row column text =
     if is_number text
-    then (if nat_le low (number_of text) && nat_le (number_of text) high then Ok (number_of text) else Err (OutOfRange row column))
+    then (if nat_le low (number_of text) && nat_le (number_of text) high then Ok (number_of text)
+    else Err (OutOfRange row column))
     else Err (BadNumber row column)
 
 -- a time, as the minutes since the first midnight

@@ -19,7 +19,8 @@ row_at width columns records row = row_of width columns row (slice_index_or reco
 
 -- The records are a table of these rows, in the version with so many columns: its header, and at most as many rows as
 -- the table may have, each of them what its record reads as.
-pub record IsTableOf {Row : Type 0} (words : List (List ℕ)) (fewest width limit : ℕ) (columns : Columns Row) (records : List (List (List ℕ))) (rows : List Row) : Type 0 where
+pub record IsTableOf {Row : Type 0} (words : List (List ℕ)) (fewest width limit : ℕ) (columns : Columns Row)
+    (records : List (List (List ℕ))) (rows : List Row) : Type 0 where
   pub first : HasHeader words fewest width records
   pub count : length records ≡ length rows + 1
   pub few : length rows ≤ limit
@@ -34,7 +35,8 @@ abbrev pub AreRightBefore : {Row : Type 0} → ℕ → Columns Row → List (Lis
 AreRightBefore width columns records row = (k : ℕ) → 1 ≤ k → k < row → IsOk (row_at width columns records k)
 
 -- this row is wrong in this way, and it is the first that is wrong
-pub record IsFirstWrongRow {Row : Type 0} (width limit : ℕ) (columns : Columns Row) (records : List (List (List ℕ))) (e : TableRefusal) (row : ℕ) : Type 0 where
+pub record IsFirstWrongRow {Row : Type 0} (width limit : ℕ) (columns : Columns Row) (records : List (List (List ℕ)))
+    (e : TableRefusal) (row : ℕ) : Type 0 where
   pub one : 1 ≤ row
   pub few : row ≤ limit
   pub there : row < length records
@@ -42,7 +44,8 @@ pub record IsFirstWrongRow {Row : Type 0} (width limit : ℕ) (columns : Columns
   pub wrong : row_at width columns records row ≡ Err e
 
 -- the rows up to the limit are right, and one more is there
-pub record HasTooManyRows {Row : Type 0} (width limit : ℕ) (columns : Columns Row) (records : List (List (List ℕ))) : Type 0 where
+pub record HasTooManyRows {Row : Type 0} (width limit : ℕ) (columns : Columns Row)
+    (records : List (List (List ℕ))) : Type 0 where
   pub before : AreRightBefore width columns records (limit + 1)
   pub more : limit + 1 < length records
 
@@ -54,7 +57,8 @@ IsFirstWrongUnder width limit columns records e =
 
 -- The first wrong thing in the records: no version's header is there; or one is there, and a row is the first that is
 -- wrong; or there are too many rows.
-abbrev pub IsFirstWrong : {Row : Type 0} → List (List ℕ) → ℕ → ℕ → Columns Row → List (List (List ℕ)) → TableRefusal → Type 0
+abbrev pub IsFirstWrong : {Row : Type 0} → List (List ℕ) → ℕ → ℕ → Columns Row → List (List (List ℕ)) → TableRefusal
+    → Type 0
 IsFirstWrong words fewest limit columns records e =
     (((width : ℕ) → ¬ (HasHeader words fewest width records)) × (e ≡ WrongHeader))
     ⊎ ((width : ℕ) × HasHeader words fewest width records × IsFirstWrongUnder width limit columns records e)

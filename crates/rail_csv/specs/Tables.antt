@@ -49,7 +49,8 @@ row_of width columns row fields =
     else Err (FieldCount row (length fields))
 
 -- the rows from this one on, in order; one past the limit is too many
-unfoldable pub rows_from : {Row : Type 0} → ℕ → ℕ → Columns Row → ℕ → List (List (List ℕ)) → Result (List Row) TableRefusal
+unfoldable pub rows_from : {Row : Type 0} → ℕ → ℕ → Columns Row → ℕ → List (List (List ℕ))
+    → Result (List Row) TableRefusal
 rows_from width limit columns row [] = Ok []
 rows_from width limit columns row (fields ∷ others) = if nat_lt limit row then Err TooManyRows else do
   first ← row_of width columns row fields
@@ -57,7 +58,8 @@ rows_from width limit columns row (fields ∷ others) = if nat_lt limit row then
   Ok (first ∷ rest)
 
 -- the rows under the header, counted from 1, in the version that the header tells
-unfoldable pub rows_under : {Row : Type 0} → List (List ℕ) → ℕ → ℕ → Columns Row → List (List (List ℕ)) → Result (List Row) TableRefusal
+unfoldable pub rows_under : {Row : Type 0} → List (List ℕ) → ℕ → ℕ → Columns Row → List (List (List ℕ))
+    → Result (List Row) TableRefusal
 rows_under words fewest limit columns [] = Err WrongHeader
 rows_under words fewest limit columns (first ∷ others) =
     if is_header words fewest first then rows_from (length first) limit columns 1 others else Err WrongHeader
@@ -118,7 +120,9 @@ unfoldable pub stock_of : List ℕ → Result (List StockRow) TableRefusal
 stock_of bytes = table_of stock_header 4 MOST_STOCK_ROWS stock_columns bytes
 
 abbrev pub trip_header : List (List ℕ)
-trip_header = codes "trip" ∷ codes "from" ∷ codes "departure" ∷ codes "to" ∷ codes "arrival" ∷ codes "km" ∷ codes "demand" ∷ codes "first" ∷ []
+trip_header =
+    codes "trip" ∷ codes "from" ∷ codes "departure" ∷ codes "to" ∷ codes "arrival" ∷ codes "km" ∷ codes "demand"
+    ∷ codes "first" ∷ []
 
 unfoldable pub trip_columns : Columns TripRow
 trip_columns row fields = do
@@ -130,13 +134,24 @@ trip_columns row fields = do
   km ← number_column 1 MOST_KM row 5 (field fields 5)
   demand ← number_column 0 MOST_DEMAND row 6 (field fields 6)
   first ← number_column 0 MOST_FIRST_DEMAND row 7 (field_or (codes "0") fields 7)
-  Ok (record { name = name; from = from; departure = departure; to = to; arrival = arrival; km = km; demand = demand; first = first })
+  Ok (record {
+    name = name;
+    from = from;
+    departure = departure;
+    to = to;
+    arrival = arrival;
+    km = km;
+    demand = demand;
+    first = first;
+  })
 
 unfoldable pub trips_of : List ℕ → Result (List TripRow) TableRefusal
 trips_of bytes = table_of trip_header 7 MOST_TRIPS trip_columns bytes
 
 abbrev pub link_header : List (List ℕ)
-link_header = codes "kind" ∷ codes "arriving" ∷ codes "arriving2" ∷ codes "departing" ∷ codes "departing2" ∷ codes "reverse" ∷ codes "uncouple" ∷ codes "couple" ∷ codes "exchange" ∷ []
+link_header =
+    codes "kind" ∷ codes "arriving" ∷ codes "arriving2" ∷ codes "departing" ∷ codes "departing2" ∷ codes "reverse"
+    ∷ codes "uncouple" ∷ codes "couple" ∷ codes "exchange" ∷ []
 
 unfoldable pub link_columns : Columns LinkRow
 link_columns row fields = do
@@ -149,7 +164,17 @@ link_columns row fields = do
   uncouple ← end_column row 6 (field fields 6)
   couple ← end_column row 7 (field fields 7)
   exchange ← answer_column row 8 (field_or (codes "no") fields 8)
-  Ok (record { kind = kind; arriving = arriving; arriving2 = arriving2; departing = departing; departing2 = departing2; reverse = reverse; uncouple = uncouple; couple = couple; exchange = exchange })
+  Ok (record {
+    kind = kind;
+    arriving = arriving;
+    arriving2 = arriving2;
+    departing = departing;
+    departing2 = departing2;
+    reverse = reverse;
+    uncouple = uncouple;
+    couple = couple;
+    exchange = exchange;
+  })
 
 unfoldable pub links_of : List ℕ → Result (List LinkRow) TableRefusal
 links_of bytes = table_of link_header 8 MOST_LINKS link_columns bytes

@@ -176,7 +176,9 @@ pub fn end(text: &str, row: u32, column: u32) -> Result<End, TableRefusal>
 /// The units that the pieces of a text between spaces name, where each piece is a number. The text is not empty.
 fn unit_numbers(alloc: Global, text: &str) -> Result<Option<Vec<UnitNo>>, NoMemory>
     requires { 1 ≤ length text.now }
-    ensures { IfOk result (λ units. option_map (λ v. v.items) units ≡ if list_all is_number (pieces_of text.now) then Some (numbers_of text.now) else None) }
+    ensures { IfOk result
+        (λ units. option_map (λ v. v.items) units
+        ≡ if list_all is_number (pieces_of text.now) then Some (numbers_of text.now) else None) }
 {
     let mut units = Vec::new(alloc);
     for piece in text.split(' ') {

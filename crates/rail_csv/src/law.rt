@@ -9,9 +9,11 @@ ghost use Rattle.rail_csv.specs.declared.refusal.TableRefusal.{TableRefusal};
 /// each refusal is the first wrong thing in them. A reader's definition is this reading of the records of its bytes.
 pub fn what_is_read<T: Drop>()
     // The header of a version is there, and at most as many rows as the limit, each read from its record.
-    ensures accepted { (words : List (List ℕ)) (fewest limit : ℕ) (columns : Columns T) (records : List (List (List ℕ))) (rows : List T)
+    ensures accepted { (words : List (List ℕ)) (fewest limit : ℕ) (columns : Columns T) (records : List (List (List ℕ)))
+        (rows : List T)
         → (rows_under words fewest limit columns records ≡ Ok rows) ↔ IsTable words fewest limit columns records rows }
     // No version's header is there, or a row is the first that is wrong, or there is one row too many.
-    ensures refused { (words : List (List ℕ)) (fewest limit : ℕ) (columns : Columns T) (records : List (List (List ℕ))) (e : TableRefusal)
+    ensures refused { (words : List (List ℕ)) (fewest limit : ℕ) (columns : Columns T) (records : List (List (List ℕ)))
+        (e : TableRefusal)
         → rows_under words fewest limit columns records ≡ Err e → IsFirstWrong words fewest limit columns records e }
 {}

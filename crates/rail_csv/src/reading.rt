@@ -155,7 +155,8 @@ pub fn read_table<T: TableRow>(
 ) -> Result<Vec<T>, TableRefusal>
     requires small { length bytes.now ≤ MOST_TABLE_BYTES }
     requires limit { limit ≤ MOST_TABLE_BYTES }
-    ensures { GivesRows is_memory result (table_of (map (λ word. word.now) words.now) fewest limit T.columns bytes.now) }
+    ensures { GivesRows is_memory result
+        (table_of (map (λ word. word.now) words.now) fewest limit T.columns bytes.now) }
 {
     let mut records = records_in(alloc, bytes);
     let Some(turn) = records.next() else {

@@ -37,7 +37,8 @@ abbrev pub RosePast : ℕ → ℕ → ℕ → Type 0
 RosePast limit before after = (before + limit < after) ⊎ (2 ^ 63 ≤ after)
 
 -- from before some calls on a folder to after them: what it holds and which reads may fail stay, and no count falls
-pub record OnlyReads {F : Type 0} (holds : F → Option Files) (may_fail : F → List ℕ → Bool) (faults taken : F → ℕ) (before after : F) : Type 0 where
+pub record OnlyReads {F : Type 0} (holds : F → Option Files) (may_fail : F → List ℕ → Bool) (faults taken : F → ℕ)
+    (before after : F) : Type 0 where
   pub same : holds after ≡ holds before
   pub steady : may_fail after ≡ may_fail before
   pub lasting : faults before ≤ faults after

@@ -17,14 +17,16 @@ pub record FolderInMemory : Type 0 where
 abbrev pub folder_code : Coded FolderInMemory
 folder_code =
     code_by (Files × (List ℕ × (ℕ × (ℕ × ℕ))))
-    (coded× (map.code (coded_list coded_ℕ) (coded_list coded_ℕ)) (coded× (coded_list coded_ℕ) (coded× coded_ℕ (coded× coded_ℕ coded_ℕ))))
+    (coded× (map.code (coded_list coded_ℕ) (coded_list coded_ℕ))
+    (coded× (coded_list coded_ℕ) (coded× coded_ℕ (coded× coded_ℕ coded_ℕ))))
     (λ f. (f.files, (f.failing, (f.calls, (f.faults, f.taken)))))
     (λ p. record { files = p.0; failing = p.1.0; calls = p.1.1.0; faults = p.1.1.1.0; taken = p.1.1.1.1 })
     (λ _. refl)
 
 -- whether the next read of a path fails: its number is among those that fail, or no file has the path
 abbrev pub read_fails : FolderInMemory → List ℕ → Bool
-read_fails folder path = list_any (λ number. number == folder.calls) folder.failing || not (map.contains_key folder.files path)
+read_fails folder path =
+    list_any (λ number. number == folder.calls) folder.failing || not (map.contains_key folder.files path)
 
 -- whether some read of a path may fail: some call is to fail, or no file has the path
 abbrev pub read_may_fail : FolderInMemory → List ℕ → Bool
@@ -48,4 +50,5 @@ write_takes sink piece = min (length piece) (min sink.most (sink.room - length s
 -- that fail
 abbrev pub write_fails : SinkInMemory → List ℕ → Bool
 write_fails sink piece =
-    nat_lt 0 (length piece) && (nat_le sink.room (length sink.written) || list_any (λ number. number == sink.calls) sink.failing)
+    nat_lt 0 (length piece) && (nat_le sink.room (length sink.written)
+    || list_any (λ number. number == sink.calls) sink.failing)

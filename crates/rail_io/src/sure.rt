@@ -121,7 +121,8 @@ impl Sink for SureSink {
 
         ensures whole { result ≡ Ok (length piece.now) }
         ensures kept { self.new.kept ≡ take self.old.room (self.old.kept ++ piece.now) }
-        ensures lost { self.new.has_lost ≡ (self.old.has_lost || nat_lt self.old.room (length self.old.kept + length piece.now)) }
+        ensures lost { self.new.has_lost
+            ≡ (self.old.has_lost || nat_lt self.old.room (length self.old.kept + length piece.now)) }
         ensures room_stays { self.new.room ≡ self.old.room }
     {
         let left = self.room - self.kept.len();

@@ -60,13 +60,17 @@ times_named side (link ∷ links) t = count_of t (side link.kind) + times_named 
 pub record AreLinks (day : Day) : Type 0 where
   pub arriving_once : (t : ℕ) → times_named arriving_in day.links t ≤ 1
   pub departing_once : (t : ℕ) → times_named departing_in day.links t ≤ 1
-  pub arriving : (l t : ℕ) (link : Link) → slice_get day.links l ≡ Some link → IsTrue (has t (arriving_in link.kind)) → t < length day.trips
-  pub departing : (l t : ℕ) (link : Link) → slice_get day.links l ≡ Some link → IsTrue (has t (departing_in link.kind)) → t < length day.trips
-  pub in_time : (l a b : ℕ) (link : Link) → slice_get day.links l ≡ Some link → IsTrue (has a (arriving_in link.kind)) → IsTrue (has b (departing_in link.kind)) → arrives day a ≤ leaves day b
+  pub arriving : (l t : ℕ) (link : Link) → slice_get day.links l ≡ Some link → IsTrue (has t (arriving_in link.kind))
+      → t < length day.trips
+  pub departing : (l t : ℕ) (link : Link) → slice_get day.links l ≡ Some link → IsTrue (has t (departing_in link.kind))
+      → t < length day.trips
+  pub in_time : (l a b : ℕ) (link : Link) → slice_get day.links l ≡ Some link → IsTrue (has a (arriving_in link.kind))
+      → IsTrue (has b (departing_in link.kind)) → arrives day a ≤ leaves day b
 
 -- each arriving trip of a link goes to the station that each departing one leaves from
 pub record DoMeet (day : Day) : Type 0 where
-  pub station : (l a b : ℕ) (link : Link) → slice_get day.links l ≡ Some link → IsTrue (has a (arriving_in link.kind)) → IsTrue (has b (departing_in link.kind)) → to_of day a ≡ from_of day b
+  pub station : (l a b : ℕ) (link : Link) → slice_get day.links l ≡ Some link → IsTrue (has a (arriving_in link.kind))
+      → IsTrue (has b (departing_in link.kind)) → to_of day a ≡ from_of day b
 
 -- how many stock rows are of a station and a type
 abbrev pub rows_of : List Stock → ℕ → ℕ → ℕ

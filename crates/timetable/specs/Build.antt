@@ -35,7 +35,15 @@ use Rattle.timetable.specs.Rowwise.{row_after, accept_each}
 
 -- the type that a row describes
 abbrev pub type_in : TypeRow → UnitType
-type_in row = record { name = row.name; carriages = row.carriages; seats = row.seats; metres = row.metres; family = row.family; first = row.first }
+type_in row =
+    record {
+      name = row.name;
+      carriages = row.carriages;
+      seats = row.seats;
+      metres = row.metres;
+      family = row.family;
+      first = row.first;
+    }
 
 unfoldable pub accept_type : List UnitType → TypeRow → Result UnitType InstanceRefusal
 accept_type before row =
@@ -103,13 +111,24 @@ accept_run stations types row trip =
 
 -- the trip of a row between two stations
 abbrev pub trip_between : TripRow → ℕ → ℕ → Trip
-trip_between row from to = record { name = row.name; from = from; departure = row.departure; to = to; arrival = row.arrival; km = row.km; demand = row.demand; first = row.first }
+trip_between row from to =
+    record {
+      name = row.name;
+      from = from;
+      departure = row.departure;
+      to = to;
+      arrival = row.arrival;
+      km = row.km;
+      demand = row.demand;
+      first = row.first;
+    }
 
 unfoldable pub accept_trip : List Station → List UnitType → List Trip → TripRow → Result Trip InstanceRefusal
-accept_trip stations types before row = if has_name (λ t. t.name) before row.name then Err (RepeatedName tables.Trips (row_after before)) else do
-  from ← found_or (find_name (λ s. s.name) stations row.from) (UnknownName tables.Trips (row_after before) 1)
-  to ← found_or (find_name (λ s. s.name) stations row.to) (UnknownName tables.Trips (row_after before) 3)
-  accept_run stations types (row_after before) (trip_between row from to)
+accept_trip stations types before row =
+    if has_name (λ t. t.name) before row.name then Err (RepeatedName tables.Trips (row_after before)) else do
+      from ← found_or (find_name (λ s. s.name) stations row.from) (UnknownName tables.Trips (row_after before) 1)
+      to ← found_or (find_name (λ s. s.name) stations row.to) (UnknownName tables.Trips (row_after before) 3)
+      accept_run stations types (row_after before) (trip_between row from to)
 
 -- ---- the day
 
@@ -139,7 +158,14 @@ day_of tables = do
     catalogue ← catalogue_in types stations
     trips ← trips_in stations types tables.trips
     links ← links_in trips tables.links
-    Ok (record { types = types; stations = stations; stock = stock; trips = trips; links = links; weights = weights_in tables.weights })
+    Ok (record {
+      types = types;
+      stations = stations;
+      stock = stock;
+      trips = trips;
+      links = links;
+      weights = weights_in tables.weights;
+    })
 
 -- ---- what a call may answer besides
 

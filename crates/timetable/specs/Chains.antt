@@ -74,11 +74,15 @@ abbrev pub next_by : LinkKind → ℕ → Option ℕ
 next_by kind t = if leads_from kind == t then Some (leads_to kind) else None
 
 abbrev pub next_in : List Link → ℕ → Option ℕ
-next_in links t = option_and_then (λ (link : Link). next_by link.kind t) (option_and_then (slice_get links) (link_naming arriving_in links t))
+next_in links t =
+    option_and_then (λ (link : Link). next_by link.kind t)
+    (option_and_then (slice_get links) (link_naming arriving_in links t))
 
 -- whether a link leads a chain to the trip
 abbrev pub is_led_in : List Link → ℕ → Bool
-is_led_in links t = unwrap_or (option_map (λ (link : Link). leads_to link.kind == t) (option_and_then (slice_get links) (link_naming departing_in links t))) false
+is_led_in links t =
+    unwrap_or (option_map (λ (link : Link). leads_to link.kind == t)
+    (option_and_then (slice_get links) (link_naming departing_in links t))) false
 
 -- a trip and those that follow it, at most n trips
 abbrev pub follow : (ℕ → Option ℕ) → ℕ → Option ℕ → List ℕ
@@ -93,7 +97,8 @@ chain_from links n t = follow (next_in links) n (Some t)
 -- the chains that begin with trips below a bound
 abbrev pub chains_below : List Link → ℕ → ℕ → List (List ℕ)
 chains_below links n zero = []
-chains_below links n (suc t) = if is_led_in links t then chains_below links n t else chains_below links n t ++ chain_from links n t ∷ []
+chains_below links n (suc t) =
+    if is_led_in links t then chains_below links n t else chains_below links n t ++ chain_from links n t ∷ []
 
 unfoldable pub chains_of : Day → List (List ℕ)
 chains_of day = chains_below day.links (length day.trips) (length day.trips)

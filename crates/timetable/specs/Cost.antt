@@ -13,7 +13,8 @@ use Rattle.timetable.specs.Turns.{kept_count}
 -- the seats that are missing on a trip with this composition, of first and of second class: none of a class that has
 -- enough, whatever the other class has to spare
 unfoldable pub missing_seats : Day → ℕ → List ℕ → ℕ
-missing_seats day t types = (first_demand_of day t - first_seats_of day.types types) + (demand_of day t - seats_of day.types types)
+missing_seats day t types =
+    (first_demand_of day t - first_seats_of day.types types) + (demand_of day t - seats_of day.types types)
 
 -- a trip with this composition: its carriages, and the seats that are missing, for its kilometres
 unfoldable pub trip_cost : Day → ℕ → List ℕ → ℕ
@@ -25,20 +26,25 @@ trip_cost day t types =
 -- the one after a reversal
 abbrev pub is_shunted : End → End → List ℕ → List ℕ → Bool
 is_shunted uncouple couple arriving departing =
-    not ((kept_count uncouple couple arriving departing == length arriving) && (kept_count uncouple couple arriving departing == length departing))
+    not ((kept_count uncouple couple arriving departing == length arriving)
+    && (kept_count uncouple couple arriving departing == length departing))
 
 -- a turn that takes units off or puts units on costs the weight of shunting once
 abbrev pub kind_cost : Day → LinkKind → Bool → List (List ℕ) → ℕ
-kind_cost day (Turn a b uncouple couple exchange) r lists = if is_shunted uncouple couple (turned r (list_of lists a)) (list_of lists b) then day.weights.shunting else 0
+kind_cost day (Turn a b uncouple couple exchange) r lists =
+    if is_shunted uncouple couple (turned r (list_of lists a)) (list_of lists b) then day.weights.shunting else 0
 kind_cost day (Join a1 a2 b) r lists = 0
 kind_cost day (Split a b1 b2) r lists = 0
 
 unfoldable pub link_cost : Day → ℕ → List (List ℕ) → ℕ
-link_cost day l lists = unwrap_or (option_map (λ link. kind_cost day link.kind link.reverse lists) (slice_get day.links l)) 0
+link_cost day l lists =
+    unwrap_or (option_map (λ link. kind_cost day link.kind link.reverse lists) (slice_get day.links l)) 0
 
 -- the cost of compositions, one for each trip, each the list of its types
 unfoldable pub cost_of : Day → List (List ℕ) → ℕ
-cost_of day lists = sum_below (λ t. trip_cost day t (list_of lists t)) (length day.trips) + sum_below (λ l. link_cost day l lists) (length day.links)
+cost_of day lists =
+    sum_below (λ t. trip_cost day t (list_of lists t)) (length day.trips)
+    + sum_below (λ l. link_cost day l lists) (length day.links)
 
 -- the cost of a plan
 abbrev pub plan_cost : Day → List (List ℕ) → ℕ

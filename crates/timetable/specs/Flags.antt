@@ -17,4 +17,5 @@ marked (t ∷ ts) flags = marked ts (slice_set flags t true)
 
 -- a flag for each trip: whether a link names it on the side
 pub record IsFlagged (side : LinkKind → List ℕ) (links : List Link) (flags : List Bool) : Type 0 where
-  pub up : (t : ℕ) (d : Bool) → t < length flags → slice_index_or flags t d ≡ list_any (λ link. has t (side link.kind)) links
+  pub up : (t : ℕ) (d : Bool) → t < length flags
+      → slice_index_or flags t d ≡ list_any (λ link. has t (side link.kind)) links

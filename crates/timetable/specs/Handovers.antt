@@ -25,7 +25,8 @@ pub record IsHandover (links : List Link) (handover : Handover) : Type 0 where
 -- numbered in the order of the links, so that no link has two.
 pub record AreHandovers (day : Day) (handovers : List Handover) : Type 0 where
   pub each : All (IsHandover day.links) handovers
-  pub all : (l t : ℕ) (link : Link) → slice_get day.links l ≡ Some link → second_of link.kind ≡ Some t → Contains handovers (record { link = l; second = t })
+  pub all : (l t : ℕ) (link : Link) → slice_get day.links l ≡ Some link → second_of link.kind ≡ Some t
+      → Contains handovers (record { link = l; second = t })
   pub rise : AllPairs (λ a b. a.link < b.link) handovers
 
 -- ---- the hand-overs

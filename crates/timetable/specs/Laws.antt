@@ -29,20 +29,24 @@ pub record DaysAreMade : Type 0 where
 -- the plan of a day that rows make
 pub record PlansAreMade : Type 0 where
   pub decided : (day : Day) (rows : List PlanRow) → IsDecided (plan_of day rows) (plan_tests day rows)
-  pub meaning : (day : Day) (rows : List PlanRow) (plan : List (List ℕ)) → plan_of day rows ≡ Ok plan → IsPlanOf day rows plan
+  pub meaning : (day : Day) (rows : List PlanRow) (plan : List (List ℕ)) → plan_of day rows ≡ Ok plan
+      → IsPlanOf day rows plan
 
 -- two lists that are the chains of a day are one
 abbrev pub ChainsAreOne : Type 0
-ChainsAreOne = (day : Day) (some others : List (List ℕ)) → AreLinks day → AreChains day some → AreChains day others → some ≡ others
+ChainsAreOne =
+    (day : Day) (some others : List (List ℕ)) → AreLinks day → AreChains day some → AreChains day others → some ≡ others
 
 -- what a link keeps by types is as many as the longest list that fits
 abbrev pub KeepTheLongest : Type 0
-KeepTheLongest = (kind : LinkKind) (arriving departing : List ℕ) → IsKept kind arriving departing (kept_of kind arriving departing)
+KeepTheLongest =
+    (kind : LinkKind) (arriving departing : List ℕ) → IsKept kind arriving departing (kept_of kind arriving departing)
 
 -- the parts that a turn has are those of its rule, and it has none where no parts are
 abbrev pub HaveParts : Type 0
 HaveParts = (type_of : ℕ → ℕ) (uncouple couple : End) (exchange : Bool) (arriving departing : List ℕ) (parts : Parts)
-    → (turn_parts type_of uncouple couple exchange arriving departing ≡ Some parts) ↔ AreParts type_of uncouple couple exchange arriving departing parts
+    → (turn_parts type_of uncouple couple exchange arriving departing ≡ Some parts)
+    ↔ AreParts type_of uncouple couple exchange arriving departing parts
 
 -- each place that is there has one multiplier, and nothing else has; they are in order, those of departure minutes
 -- first

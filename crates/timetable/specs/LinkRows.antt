@@ -27,7 +27,8 @@ use Rattle.timetable.specs.Rowwise.{row_after, accept_each}
 
 -- the number of the trip that a column names
 abbrev pub trip_named : List Trip → ℕ → ℕ → List ℕ → Result ℕ InstanceRefusal
-trip_named trips number column name = found_or (find_name (λ trip. trip.name) trips name) (UnknownName tables.Links number column)
+trip_named trips number column name =
+    found_or (find_name (λ trip. trip.name) trips name) (UnknownName tables.Links number column)
 
 -- an end of a train, and not none
 abbrev pub is_an_end : End → Bool
@@ -45,28 +46,31 @@ does_shunt uncouple couple exchange = is_an_end uncouple || is_an_end couple || 
 
 -- a turn names one trip on either side, and two ends where it exchanges units
 unfoldable pub turn_in : List Trip → ℕ → LinkRow → Option (List ℕ) → Option (List ℕ) → Result LinkKind InstanceRefusal
-turn_in trips number row None None = if lacks_an_end row.uncouple row.couple row.exchange then Err (WrongLinkFields number) else do
-  arriving ← trip_named trips number 1 row.arriving
-  departing ← trip_named trips number 3 row.departing
-  Ok (Turn arriving departing row.uncouple row.couple row.exchange)
+turn_in trips number row None None =
+    if lacks_an_end row.uncouple row.couple row.exchange then Err (WrongLinkFields number) else do
+      arriving ← trip_named trips number 1 row.arriving
+      departing ← trip_named trips number 3 row.departing
+      Ok (Turn arriving departing row.uncouple row.couple row.exchange)
 turn_in trips number row _ _ = Err (WrongLinkFields number)
 
 -- a join names two arriving trips and one departing trip, no end and no exchange
 unfoldable pub join_in : List Trip → ℕ → LinkRow → Option (List ℕ) → Option (List ℕ) → Result LinkKind InstanceRefusal
-join_in trips number row (Some name) None = if does_shunt row.uncouple row.couple row.exchange then Err (WrongLinkFields number) else do
-  first ← trip_named trips number 1 row.arriving
-  second ← trip_named trips number 2 name
-  departing ← trip_named trips number 3 row.departing
-  Ok (Join first second departing)
+join_in trips number row (Some name) None =
+    if does_shunt row.uncouple row.couple row.exchange then Err (WrongLinkFields number) else do
+      first ← trip_named trips number 1 row.arriving
+      second ← trip_named trips number 2 name
+      departing ← trip_named trips number 3 row.departing
+      Ok (Join first second departing)
 join_in trips number row _ _ = Err (WrongLinkFields number)
 
 -- a split names one arriving trip and two departing trips, no end and no exchange
 unfoldable pub split_in : List Trip → ℕ → LinkRow → Option (List ℕ) → Option (List ℕ) → Result LinkKind InstanceRefusal
-split_in trips number row None (Some name) = if does_shunt row.uncouple row.couple row.exchange then Err (WrongLinkFields number) else do
-  arriving ← trip_named trips number 1 row.arriving
-  first ← trip_named trips number 3 row.departing
-  second ← trip_named trips number 4 name
-  Ok (Split arriving first second)
+split_in trips number row None (Some name) =
+    if does_shunt row.uncouple row.couple row.exchange then Err (WrongLinkFields number) else do
+      arriving ← trip_named trips number 1 row.arriving
+      first ← trip_named trips number 3 row.departing
+      second ← trip_named trips number 4 name
+      Ok (Split arriving first second)
 split_in trips number row _ _ = Err (WrongLinkFields number)
 
 abbrev pub kind_of : KindWord → List Trip → ℕ → LinkRow → Result LinkKind InstanceRefusal
@@ -93,7 +97,8 @@ is_departing links t = list_any (λ link. has t (departing_in link.kind)) links
 abbrev pub names_again : List Link → LinkKind → Bool
 names_again before (Turn a b uncouple couple exchange) = is_arriving before a || is_departing before b
 names_again before (Join a1 a2 b) = a1 == a2 || is_arriving before a1 || is_arriving before a2 || is_departing before b
-names_again before (Split a b1 b2) = b1 == b2 || is_arriving before a || is_departing before b1 || is_departing before b2
+names_again before (Split a b1 b2) =
+    b1 == b2 || is_arriving before a || is_departing before b1 || is_departing before b2
 
 -- trip a goes to the station that trip b leaves from
 abbrev pub do_meet : List Trip → ℕ → ℕ → Bool
@@ -115,7 +120,8 @@ each_pair test (Split a b1 b2) = test a b1 && test a b2
 unfoldable pub accept_trips : List Trip → List Link → ℕ → Link → Result Link InstanceRefusal
 accept_trips trips before number link =
     if names_again before link.kind then Err (TripUsedTwice number)
-    else if each_pair (do_meet trips) link.kind then (if each_pair (is_in_time trips) link.kind then Ok link else Err (TooEarly number))
+    else if each_pair (do_meet trips) link.kind
+    then (if each_pair (is_in_time trips) link.kind then Ok link else Err (TooEarly number))
     else Err (WrongStation number)
 
 unfoldable pub accept_link : List Trip → List Link → LinkRow → Result Link InstanceRefusal

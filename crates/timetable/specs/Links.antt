@@ -26,16 +26,20 @@ join_holds first second departing = same (first ++ second) departing
 
 -- a split: the arriving list is the first departing one and then the second, and neither is empty
 unfoldable pub split_holds : List ℕ → List ℕ → List ℕ → Bool
-split_holds arriving first second = same arriving (first ++ second) && nat_le 1 (length first) && nat_le 1 (length second)
+split_holds arriving first second =
+    same arriving (first ++ second) && nat_le 1 (length first) && nat_le 1 (length second)
 
 -- a list as it stands after the link has turned the train round, or not
 abbrev pub turned : {X : Type 0} → Bool → List X → List X
 turned reversed list = if reversed then reverse list else list
 
 abbrev pub kind_holds : (ℕ → ℕ) → LinkKind → Bool → List (List ℕ) → Bool
-kind_holds type_of (Turn a b uncouple couple exchange) r lists = is_some (turn_parts type_of uncouple couple exchange (turned r (list_of lists a)) (list_of lists b))
-kind_holds type_of (Join a1 a2 b) r lists = join_holds (turned r (list_of lists a1)) (turned r (list_of lists a2)) (list_of lists b)
-kind_holds type_of (Split a b1 b2) r lists = split_holds (turned r (list_of lists a)) (list_of lists b1) (list_of lists b2)
+kind_holds type_of (Turn a b uncouple couple exchange) r lists =
+    is_some (turn_parts type_of uncouple couple exchange (turned r (list_of lists a)) (list_of lists b))
+kind_holds type_of (Join a1 a2 b) r lists =
+    join_holds (turned r (list_of lists a1)) (turned r (list_of lists a2)) (list_of lists b)
+kind_holds type_of (Split a b1 b2) r lists =
+    split_holds (turned r (list_of lists a)) (list_of lists b1) (list_of lists b2)
 
 -- the link's rule, over the lists of all trips
 unfoldable pub link_holds : (ℕ → ℕ) → Link → List (List ℕ) → Bool
@@ -72,37 +76,45 @@ link_into day t = option_and_then (slice_get day.links) (incoming day t)
 -- the units that a turn keeps, gives and takes; nothing is kept where its rule is broken
 abbrev pub turn_of : (ℕ → ℕ) → End → End → Bool → List ℕ → List ℕ → Parts
 turn_of type_of uncouple couple exchange arriving departing =
-    unwrap_or (turn_parts type_of uncouple couple exchange arriving departing) (record { kept = []; given = arriving; taken = departing })
+    unwrap_or (turn_parts type_of uncouple couple exchange arriving departing)
+    (record { kept = []; given = arriving; taken = departing })
 
 -- what stays in the train from an arriving trip to a departing trip of a link: at a turn the units at the kept places,
 -- at a join the whole arriving list, at a split the whole departing list
 abbrev pub kept_by : (ℕ → ℕ) → LinkKind → Bool → List (List ℕ) → ℕ → ℕ → List ℕ
 kept_by type_of (Turn a b uncouple couple exchange) r lists from to =
-    if (from == a) && (to == b) then (turn_of type_of uncouple couple exchange (turned r (list_of lists a)) (list_of lists b)).kept else []
-kept_by type_of (Join a1 a2 b) r lists from to = if has from (a1 ∷ a2 ∷ []) && (to == b) then turned r (list_of lists from) else []
+    if (from == a) && (to == b)
+    then (turn_of type_of uncouple couple exchange (turned r (list_of lists a)) (list_of lists b)).kept else []
+kept_by type_of (Join a1 a2 b) r lists from to =
+    if has from (a1 ∷ a2 ∷ []) && (to == b) then turned r (list_of lists from) else []
 kept_by type_of (Split a b1 b2) r lists from to = if (from == a) && has to (b1 ∷ b2 ∷ []) then list_of lists to else []
 
 abbrev pub given_by : (ℕ → ℕ) → LinkKind → Bool → List (List ℕ) → List ℕ
-given_by type_of (Turn a b uncouple couple exchange) r lists = (turn_of type_of uncouple couple exchange (turned r (list_of lists a)) (list_of lists b)).given
+given_by type_of (Turn a b uncouple couple exchange) r lists =
+    (turn_of type_of uncouple couple exchange (turned r (list_of lists a)) (list_of lists b)).given
 given_by type_of (Join a1 a2 b) r lists = []
 given_by type_of (Split a b1 b2) r lists = []
 
 abbrev pub taken_by : (ℕ → ℕ) → LinkKind → Bool → List (List ℕ) → List ℕ
-taken_by type_of (Turn a b uncouple couple exchange) r lists = (turn_of type_of uncouple couple exchange (turned r (list_of lists a)) (list_of lists b)).taken
+taken_by type_of (Turn a b uncouple couple exchange) r lists =
+    (turn_of type_of uncouple couple exchange (turned r (list_of lists a)) (list_of lists b)).taken
 taken_by type_of (Join a1 a2 b) r lists = []
 taken_by type_of (Split a b1 b2) r lists = []
 
 -- what stays in the train from trip a to trip b
 unfoldable pub kept_with : (ℕ → ℕ) → Day → List (List ℕ) → ℕ → ℕ → List ℕ
-kept_with type_of day lists a b = unwrap_or (option_map (λ link. kept_by type_of link.kind link.reverse lists a b) (link_out day a)) []
+kept_with type_of day lists a b =
+    unwrap_or (option_map (λ link. kept_by type_of link.kind link.reverse lists a b) (link_out day a)) []
 
 -- what trip t gives to the yard of its arrival station: all of its list where no link leads on
 unfoldable pub given_with : (ℕ → ℕ) → Day → List (List ℕ) → ℕ → List ℕ
-given_with type_of day lists t = unwrap_or (option_map (λ link. given_by type_of link.kind link.reverse lists) (link_out day t)) (list_of lists t)
+given_with type_of day lists t =
+    unwrap_or (option_map (λ link. given_by type_of link.kind link.reverse lists) (link_out day t)) (list_of lists t)
 
 -- what trip t takes from the yard of its departure station, front to rear: all of its list where no link leads into it
 unfoldable pub taken_with : (ℕ → ℕ) → Day → List (List ℕ) → ℕ → List ℕ
-taken_with type_of day lists t = unwrap_or (option_map (λ link. taken_by type_of link.kind link.reverse lists) (link_into day t)) (list_of lists t)
+taken_with type_of day lists t =
+    unwrap_or (option_map (λ link. taken_by type_of link.kind link.reverse lists) (link_into day t)) (list_of lists t)
 
 -- the same of the units of a plan
 abbrev pub kept : Day → List (List ℕ) → ℕ → ℕ → List ℕ

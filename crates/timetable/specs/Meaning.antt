@@ -43,7 +43,8 @@ pub record IsTripOf (day : Day) (row : TripRow) (trip : Trip) : Type 0 where
   pub first : trip.first ≡ row.first
 
 -- a turn names one trip on either side, and its ends: two of them where it exchanges units
-pub record IsTurnOf (IsTrip : List ℕ → ℕ → Type 0) (row : LinkRow) (a b : ℕ) (uncouple couple : End) (exchange : Bool) : Type 0 where
+pub record IsTurnOf (IsTrip : List ℕ → ℕ → Type 0) (row : LinkRow) (a b : ℕ) (uncouple couple : End)
+    (exchange : Bool) : Type 0 where
   pub kind : row.kind ≡ words.Turn
   pub arriving : IsTrip row.arriving a
   pub no_arriving2 : row.arriving2 ≡ None

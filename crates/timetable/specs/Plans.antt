@@ -40,7 +40,8 @@ run_tests day number before row =
 
 -- the tests on all rows in order, and then that no trip is left
 abbrev pub plan_tests : Day → List PlanRow → List (Test PlanRefusal)
-plan_tests day rows = row_tests (run_tests day) [] rows ++ MissingTrip (length rows) when (length rows < length day.trips) ∷ []
+plan_tests day rows =
+    row_tests (run_tests day) [] rows ++ MissingTrip (length rows) when (length rows < length day.trips) ∷ []
 
 -- ---- the tests, row by row
 

@@ -56,7 +56,8 @@ abbrev pub stock_tests : Tables → ℕ → List StockRow → StockRow → List 
 stock_tests tables number before row =
     UnknownName names.Stock number 0 when IsNoStation tables row.station
     ∷ UnknownName names.Stock number 1 when IsNoType tables row.unit_type
-    ∷ RepeatedStock number when Any (λ earlier. (earlier.station ≡ row.station) × (earlier.unit_type ≡ row.unit_type)) before
+    ∷ RepeatedStock number
+    when Any (λ earlier. (earlier.station ≡ row.station) × (earlier.unit_type ≡ row.unit_type)) before
     ∷ []
 
 -- the units at the start of the day
@@ -128,11 +129,15 @@ NamedBefore names before row = (name : List ℕ) × names row name × Any (λ ea
 
 -- a trip is named twice as arriving, or twice as departing
 abbrev pub UsesTwice : List LinkRow → LinkRow → Type 0
-UsesTwice before row = (row.arriving2 ≡ Some row.arriving) ⊎ (row.departing2 ≡ Some row.departing) ⊎ NamedBefore NamesArriving before row ⊎ NamedBefore NamesDeparting before row
+UsesTwice before row =
+    (row.arriving2 ≡ Some row.arriving) ⊎ (row.departing2 ≡ Some row.departing) ⊎ NamedBefore NamesArriving before row
+    ⊎ NamedBefore NamesDeparting before row
 
 -- an arriving and a departing trip of the row, of which something is so
 abbrev pub HasTripsThat : (TripRow → TripRow → Type 0) → Tables → LinkRow → Type 0
-HasTripsThat P tables row = (i j : ℕ) × (a b : TripRow) × (slice_get tables.trips i ≡ Some a) × (slice_get tables.trips j ≡ Some b) × NamesArriving row a.name × NamesDeparting row b.name × P a b
+HasTripsThat P tables row =
+    (i j : ℕ) × (a b : TripRow) × (slice_get tables.trips i ≡ Some a) × (slice_get tables.trips j ≡ Some b)
+    × NamesArriving row a.name × NamesDeparting row b.name × P a b
 
 -- columns 1 to 4 name the trips: 1 and 2 those that arrive, 3 and 4 those that depart
 abbrev pub kind_tests : Tables → ℕ → LinkRow → List (Test InstanceRefusal)

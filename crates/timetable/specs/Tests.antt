@@ -18,9 +18,11 @@ NoneFailed (test ∷ tests) = (¬ test.fault) × NoneFailed tests
 -- the refusal is that of the first test that failed
 abbrev pub IsFirstFailed : {E : Type 0} → List (Test E) → E → Type 0
 IsFirstFailed [] refusal = ⊥
-IsFirstFailed (test ∷ tests) refusal = (test.fault × (refusal ≡ test.refusal)) ⊎ ((¬ test.fault) × IsFirstFailed tests refusal)
+IsFirstFailed (test ∷ tests) refusal =
+    (test.fault × (refusal ≡ test.refusal)) ⊎ ((¬ test.fault) × IsFirstFailed tests refusal)
 
 -- the tests of rows, one row after another: those of a row go by its number, counted from 1, and the rows before it
 abbrev pub row_tests : {X E : Type 0} → (ℕ → List X → X → List (Test E)) → List X → List X → List (Test E)
 row_tests tests_of before [] = []
-row_tests tests_of before (row ∷ rows) = tests_of (row_after before) before row ++ row_tests tests_of (before ++ row ∷ []) rows
+row_tests tests_of before (row ∷ rows) =
+    tests_of (row_after before) before row ++ row_tests tests_of (before ++ row ∷ []) rows

@@ -60,7 +60,8 @@ beyond at.Front whole n = take (length whole - n) whole
 -- whether a list of so many types fits
 abbrev pub fits_at : End → End → List ℕ → List ℕ → ℕ → Bool
 fits_at uncouple couple arriving departing n =
-    may_stay uncouple (length arriving) n && may_stay couple (length departing) n && same (staying uncouple arriving n) (staying couple departing n)
+    may_stay uncouple (length arriving) n && may_stay couple (length departing) n
+    && same (staying uncouple arriving n) (staying couple departing n)
 
 -- the greatest number from a bound down to 1 that passes a test
 abbrev pub greatest : (ℕ → Bool) → ℕ → Option ℕ
@@ -113,7 +114,8 @@ Consists at.Front whole stays goes = whole ≡ goes ++ stays
 -- These are the parts of a turn: the units that stay are the same in both lists, and their types are the kept list; the
 -- arriving list is they and the units that are given, the departing list is they and the units that are taken, each at
 -- the end of the turn; and no more are given and taken than may be.
-pub record AreParts (type_of : ℕ → ℕ) (uncouple couple : End) (exchange : Bool) (arriving departing : List ℕ) (parts : Parts) : Type 0 where
+pub record AreParts (type_of : ℕ → ℕ) (uncouple couple : End) (exchange : Bool) (arriving departing : List ℕ)
+    (parts : Parts) : Type 0 where
   pub types : IsKeptList uncouple couple (map type_of arriving) (map type_of departing) (map type_of parts.kept)
   pub arrive : Consists uncouple arriving parts.kept parts.given
   pub depart : Consists couple departing parts.kept parts.taken
@@ -125,12 +127,18 @@ pub record AreParts (type_of : ℕ → ℕ) (uncouple couple : End) (exchange : 
 -- shunted
 abbrev pub parts_at : End → End → Bool → List ℕ → List ℕ → ℕ → Option Parts
 parts_at uncouple couple exchange arriving departing n =
-    if same (staying uncouple arriving n) (staying couple departing n) && may_shunt exchange (length arriving - n) (length departing - n)
-    then Some (record { kept = staying uncouple arriving n; given = beyond uncouple arriving n; taken = beyond couple departing n })
+    if same (staying uncouple arriving n) (staying couple departing n)
+    && may_shunt exchange (length arriving - n) (length departing - n)
+    then Some (record {
+      kept = staying uncouple arriving n;
+      given = beyond uncouple arriving n;
+      taken = beyond couple departing n;
+    })
     else None
 
 -- The parts of a turn, of units whose types are told by a function (of types, by the one that changes nothing), or
 -- nothing where its rule is broken. The arriving list is the one after a reversal.
 unfoldable pub turn_parts : (ℕ → ℕ) → End → End → Bool → List ℕ → List ℕ → Option Parts
 turn_parts type_of uncouple couple exchange arriving departing =
-    option_and_then (parts_at uncouple couple exchange arriving departing) (kept_length uncouple couple (map type_of arriving) (map type_of departing))
+    option_and_then (parts_at uncouple couple exchange arriving departing)
+    (kept_length uncouple couple (map type_of arriving) (map type_of departing))

@@ -22,10 +22,12 @@ pub record MayRun (day : Day) (t comp : ℕ) : Type 0 where
 -- A turn of trip a into trip b: the types that depart are those that arrive, or what is left of them after units were
 -- uncoupled at the uncoupling end, or they with units coupled at the coupling end; or, with exchange, what is left of
 -- them with units coupled. The shunt says which, and how many units.
-pub record IsTurnEdge (day : Day) (reversed : Bool) (a b : ℕ) (uncouple couple : End) (exchange : Bool) (edge : Edge) : Type 0 where
+pub record IsTurnEdge (day : Day) (reversed : Bool) (a b : ℕ) (uncouple couple : End) (exchange : Bool)
+    (edge : Edge) : Type 0 where
   pub arriving : MayRun day a edge.from
   pub departing : MayRun day b edge.to
-  pub rule : turn_shunt uncouple couple exchange (turned reversed (composition_at day edge.from)) (composition_at day edge.to) ≡ Some edge.shunt
+  pub rule : turn_shunt uncouple couple exchange (turned reversed (composition_at day edge.from))
+      (composition_at day edge.to) ≡ Some edge.shunt
   pub no_part : edge.part ≡ None
 
 -- A join of trips a1 and a2 into trip b: the types that depart are those of the first train and then those of the
@@ -36,7 +38,8 @@ pub record IsJoinEdge (day : Day) (reversed : Bool) (a1 a2 b : ℕ) (edge : Edge
   pub first : MayRun day a1 edge.from
   pub second : MayRun day a2 part
   pub departing : MayRun day b edge.to
-  pub rule : IsTrue (join_holds (turned reversed (composition_at day edge.from)) (turned reversed (composition_at day part)) (composition_at day edge.to))
+  pub rule : IsTrue (join_holds (turned reversed (composition_at day edge.from))
+      (turned reversed (composition_at day part)) (composition_at day edge.to))
   pub kept : edge.shunt ≡ Keep
 
 -- A split of trip a into trips b1 and b2: the types that arrive are those of the first train and then those of the
@@ -47,11 +50,13 @@ pub record IsSplitEdge (day : Day) (reversed : Bool) (a b1 b2 : ℕ) (edge : Edg
   pub arriving : MayRun day a edge.from
   pub first : MayRun day b1 edge.to
   pub second : MayRun day b2 part
-  pub rule : IsTrue (split_holds (turned reversed (composition_at day edge.from)) (composition_at day edge.to) (composition_at day part))
+  pub rule : IsTrue (split_holds (turned reversed (composition_at day edge.from)) (composition_at day edge.to)
+      (composition_at day part))
   pub kept : edge.shunt ≡ Keep
 
 abbrev pub IsKindEdge : Day → LinkKind → Bool → Edge → Type 0
-IsKindEdge day (Turn a b uncouple couple exchange) reversed edge = IsTurnEdge day reversed a b uncouple couple exchange edge
+IsKindEdge day (Turn a b uncouple couple exchange) reversed edge =
+    IsTurnEdge day reversed a b uncouple couple exchange edge
 IsKindEdge day (Join a1 a2 b) reversed edge = IsJoinEdge day reversed a1 a2 b edge
 IsKindEdge day (Split a b1 b2) reversed edge = IsSplitEdge day reversed a b1 b2 edge
 

@@ -18,7 +18,8 @@ use Rattle.transitions.specs.Turns.{shunt_of}
 
 -- what is done to the train: a turn uncouples the units that the plan gives there, and couples those that it takes
 abbrev pub shunt_by : Day → LinkKind → Bool → List (List ℕ) → Shunt
-shunt_by day (Turn a b uncouple couple exchange) reversed plan = shunt_of (turn_of (type_of day) uncouple couple exchange (turned reversed (list_of plan a)) (list_of plan b))
+shunt_by day (Turn a b uncouple couple exchange) reversed plan =
+    shunt_of (turn_of (type_of day) uncouple couple exchange (turned reversed (list_of plan a)) (list_of plan b))
 shunt_by day (Join a1 a2 b) reversed plan = Keep
 shunt_by day (Split a b1 b2) reversed plan = Keep
 
@@ -29,16 +30,21 @@ pub record FollowsEdge (day : Day) (plan : List (List ℕ)) (l : ℕ) (link : Li
   pub allowed : IsEdge day l edge
   pub origin : composition_at day edge.from ≡ types_of day (list_of plan (leads_from link.kind))
   pub goal : composition_at day edge.to ≡ types_of day (list_of plan (leads_to link.kind))
-  pub part : option_map (composition_at day) edge.part ≡ option_map (λ t. types_of day (list_of plan t)) (second_of link.kind)
+  pub part : option_map (composition_at day) edge.part
+      ≡ option_map (λ t. types_of day (list_of plan t)) (second_of link.kind)
   pub shunt : edge.shunt ≡ shunt_by day link.kind link.reverse plan
 
 -- A plan that runs follows an edge of each link of its day.
 abbrev pub TypesFollow : Type 0
-TypesFollow = (day : Day) (plan : List (List ℕ)) → AreLinks day → Runs day plan → (l : ℕ) (link : Link) → slice_get day.links l ≡ Some link → FollowsEdge day plan l link
+TypesFollow =
+    (day : Day) (plan : List (List ℕ)) → AreLinks day → Runs day plan → (l : ℕ) (link : Link)
+    → slice_get day.links l ≡ Some link → FollowsEdge day plan l link
 
 -- Each edge of a link is found between its compositions.
 abbrev pub EdgesFound : Type 0
-EdgesFound = (day : Day) (graphs : List (List Edge)) → AreGraphs day graphs → (l : ℕ) (edge : Edge) → IsEdge day l edge → IsFound graphs l edge.from edge.to edge
+EdgesFound =
+    (day : Day) (graphs : List (List Edge)) → AreGraphs day graphs → (l : ℕ) (edge : Edge) → IsEdge day l edge
+    → IsFound graphs l edge.from edge.to edge
 
 -- lists of types, one a trip, have the edge's compositions on the trips of the link
 pub record AreOn (day : Day) (lists : List (List ℕ)) (link : Link) (edge : Edge) : Type 0 where
@@ -55,5 +61,8 @@ pub record MayRunAll (day : Day) (link : Link) (edge : Edge) : Type 0 where
 -- An edge is allowed by a link, with some shunt, exactly where its compositions may run on the link's trips and the
 -- link's rule holds of their types.
 abbrev pub EdgesByRule : Type 0
-EdgesByRule = (day : Day) (l : ℕ) (link : Link) (edge : Edge) (lists : List (List ℕ)) → slice_get day.links l ≡ Some link → AreOn day lists link edge
-    → (MayRunAll day link edge × IsTrue (link_holds itself link lists)) ↔ ((shunt : Shunt) × IsEdge day l (record edge { shunt = shunt }))
+EdgesByRule =
+    (day : Day) (l : ℕ) (link : Link) (edge : Edge) (lists : List (List ℕ)) → slice_get day.links l ≡ Some link
+    → AreOn day lists link edge
+    → (MayRunAll day link edge × IsTrue (link_holds itself link lists))
+    ↔ ((shunt : Shunt) × IsEdge day l (record edge { shunt = shunt }))

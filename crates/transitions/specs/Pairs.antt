@@ -56,7 +56,8 @@ joined_at at.Front units others = others ++ units
 -- all compositions that an exchange may uncouple are among the first so many
 pub record AreAmongFirst (day : Day) (few : ℕ) : Type 0 where
   pub within : few ≤ length (compositions_of day)
-  pub all : (comp : ℕ) → comp < length (compositions_of day) → length (composition_at day comp) ≤ MOST_EXCHANGED → comp < few
+  pub all : (comp : ℕ) → comp < length (compositions_of day) → length (composition_at day comp) ≤ MOST_EXCHANGED
+      → comp < few
 
 -- both compositions of a pair are in the catalogue
 pub record IsKnown (day : Day) (pair : Pair) : Type 0 where
@@ -90,12 +91,14 @@ pub record IsExchanged (day : Day) (reversed : Bool) (uncouple couple : End) (fe
   pub some : 1 ≤ coupled
   pub within : coupled ≤ most
   pub less : coupled < length (composition_at day pair.to)
-  pub joined : IsJoined day reversed uncouple (staying couple (composition_at day pair.to) (length (composition_at day pair.to) - coupled)) few pair
+  pub joined : IsJoined day reversed uncouple
+      (staying couple (composition_at day pair.to) (length (composition_at day pair.to) - coupled)) few pair
 
 -- the arriving composition is that of which the departing one is made: by coupling alone, or by an exchange
 abbrev pub IsMade : Day → LinkKind → Bool → ℕ → Pair → Type 0
 IsMade day kind reversed few pair = IsFront day reversed (coupled_at kind) (length (composition_at day pair.to)) pair
-    ⊎ ((may_exchange kind ≡ true) × IsExchanged day reversed (uncoupled_at kind) (coupled_at kind) few MOST_EXCHANGED pair)
+    ⊎ ((may_exchange kind ≡ true)
+    × IsExchanged day reversed (uncoupled_at kind) (coupled_at kind) few MOST_EXCHANGED pair)
 
 -- the pairs of a list and more, among them all of a kind
 pub record Grown (day : Day) (before after : List Pair) (P : Pair → Type 0) : Type 0 where
@@ -105,7 +108,8 @@ pub record Grown (day : Day) (before after : List Pair) (P : Pair → Type 0) : 
 
 -- each edge of a link is between compositions of a pair
 abbrev pub HaveEdges : Day → LinkKind → Bool → List Pair → Type 0
-HaveEdges day kind reversed pairs = (edge : Edge) → IsKindEdge day kind reversed edge → Contains pairs (record { from = edge.from; to = edge.to })
+HaveEdges day kind reversed pairs =
+    (edge : Edge) → IsKindEdge day kind reversed edge → Contains pairs (record { from = edge.from; to = edge.to })
 
 -- a pair comes before another: by the composition that arrives, and then by the one that departs
 abbrev pub IsBeforePair : Pair → Pair → Type 0

@@ -22,10 +22,12 @@ shunt_of parts = shunt_by_units (length parts.given) (length parts.taken)
 -- the shunt of a turn from an arriving list of types, after a reversal, to a departing one; none where the rule is
 -- broken
 unfoldable pub turn_shunt : End → End → Bool → List ℕ → List ℕ → Option Shunt
-turn_shunt uncouple couple exchange arriving departing = option_map shunt_of (turn_parts itself uncouple couple exchange arriving departing)
+turn_shunt uncouple couple exchange arriving departing =
+    option_map shunt_of (turn_parts itself uncouple couple exchange arriving departing)
 
 -- the same by the kind of a link, and none at a join or a split
 abbrev pub turn_shunt_of : LinkKind → List ℕ → List ℕ → Option Shunt
-turn_shunt_of (Turn a b uncouple couple exchange) arriving departing = turn_shunt uncouple couple exchange arriving departing
+turn_shunt_of (Turn a b uncouple couple exchange) arriving departing =
+    turn_shunt uncouple couple exchange arriving departing
 turn_shunt_of (Join a1 a2 b) arriving departing = None
 turn_shunt_of (Split a b1 b2) arriving departing = None

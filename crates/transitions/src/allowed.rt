@@ -81,7 +81,8 @@ pub(crate) fn edge_between(
 ) -> Option<Edge>
     requires admitted { AreAdmitted instance.now link.now.kind admitted.now }
     requires pair { IsKnown instance.now pair.now }
-    ensures { (edge : Edge) → (result ≡ Some edge) ↔ (IsKindEdge instance.now link.now.kind link.now.reverse edge × IsBetween pair.now.from pair.now.to edge) }
+    ensures { (edge : Edge) → (result ≡ Some edge)
+        ↔ (IsKindEdge instance.now link.now.kind link.now.reverse edge × IsBetween pair.now.from pair.now.to edge) }
 {
     if !may_run(&admitted.arriving, pair.from) || !may_run(&admitted.departing, pair.to) {
         return None;
@@ -99,7 +100,9 @@ pub(crate) fn edge_between(
 fn turn_edge(instance: &Instance, link: &Link, from: CompNo, to: CompNo) -> Option<Edge>
     requires from { from < length (compositions_of instance.now) }
     requires to { to < length (compositions_of instance.now) }
-    ensures { (a b : ℕ) (uncouple couple : End) (exchange : Bool) → link.now.kind ≡ Turn a b uncouple couple exchange → MayRun instance.now a from → MayRun instance.now b to → (edge : Edge) → (result ≡ Some edge) ↔ (IsTurnEdge instance.now link.now.reverse a b uncouple couple exchange edge × IsBetween from to edge) }
+    ensures { (a b : ℕ) (uncouple couple : End) (exchange : Bool) → link.now.kind ≡ Turn a b uncouple couple exchange
+        → MayRun instance.now a from → MayRun instance.now b to → (edge : Edge) → (result ≡ Some edge)
+        ↔ (IsTurnEdge instance.now link.now.reverse a b uncouple couple exchange edge × IsBetween from to edge) }
 {
     let catalogue = instance.catalogue();
     let arriving = turned(link.reverse, catalogue.get(from));
@@ -125,7 +128,9 @@ fn join_edge(
     requires second { length second.now ≡ length (compositions_of instance.now) }
     requires from { from < length (compositions_of instance.now) }
     requires to { to < length (compositions_of instance.now) }
-    ensures { (a a2 b : ℕ) → second.now ≡ runs_on instance.now a2 → MayRun instance.now a from → MayRun instance.now b to → (edge : Edge) → (result ≡ Some edge) ↔ (IsJoinEdge instance.now reversed a a2 b edge × IsBetween from to edge) }
+    ensures { (a a2 b : ℕ) → second.now ≡ runs_on instance.now a2 → MayRun instance.now a from
+        → MayRun instance.now b to → (edge : Edge)
+        → (result ≡ Some edge) ↔ (IsJoinEdge instance.now reversed a a2 b edge × IsBetween from to edge) }
 {
     let catalogue = instance.catalogue();
     let arriving = turned(reversed, catalogue.get(from));
@@ -146,7 +151,9 @@ fn split_edge(
     requires second { length second.now ≡ length (compositions_of instance.now) }
     requires from { from < length (compositions_of instance.now) }
     requires to { to < length (compositions_of instance.now) }
-    ensures { (a b b2 : ℕ) → second.now ≡ runs_on instance.now b2 → MayRun instance.now a from → MayRun instance.now b to → (edge : Edge) → (result ≡ Some edge) ↔ (IsSplitEdge instance.now reversed a b b2 edge × IsBetween from to edge) }
+    ensures { (a b b2 : ℕ) → second.now ≡ runs_on instance.now b2 → MayRun instance.now a from
+        → MayRun instance.now b to → (edge : Edge)
+        → (result ≡ Some edge) ↔ (IsSplitEdge instance.now reversed a b b2 edge × IsBetween from to edge) }
 {
     let catalogue = instance.catalogue();
     let arriving = turned(reversed, catalogue.get(from));
@@ -170,7 +177,8 @@ fn kept(from: CompNo, to: CompNo, part: CompNo) -> Edge
 /// The number of a composition where it may run on the trip of which this is said, or nothing where it may not.
 fn number_on(instance: &Instance, runs: &[bool], composition: &Composition) -> Option<CompNo>
     requires { length runs.now ≡ length (compositions_of instance.now) }
-    ensures { (t : ℕ) → runs.now ≡ runs_on instance.now t → (comp : ℕ) → (result ≡ Some comp) ↔ (MayRun instance.now t comp × (composition_at instance.now comp ≡ composition.now)) }
+    ensures { (t : ℕ) → runs.now ≡ runs_on instance.now t → (comp : ℕ)
+        → (result ≡ Some comp) ↔ (MayRun instance.now t comp × (composition_at instance.now comp ≡ composition.now)) }
 {
     let comp = number_of(instance, composition)?;
     if !may_run(runs, comp) {
@@ -181,7 +189,8 @@ fn number_on(instance: &Instance, runs: &[bool], composition: &Composition) -> O
 
 /// The number of a composition in the day's catalogue, or nothing where it is not there.
 pub(crate) fn number_of(instance: &Instance, composition: &Composition) -> Option<CompNo>
-    ensures { (comp : ℕ) → (result ≡ Some comp) ↔ ((comp < length (compositions_of instance.now)) × (composition_at instance.now comp ≡ composition.now)) }
+    ensures { (comp : ℕ) → (result ≡ Some comp)
+        ↔ ((comp < length (compositions_of instance.now)) × (composition_at instance.now comp ≡ composition.now)) }
 {
     instance.catalogue().find(composition)
 }

@@ -51,7 +51,9 @@ fn add_fronts(
 ) -> Result<(), NoMemory>
     requires to { to < length (compositions_of instance.now) }
     requires known { All (IsKnown instance.now) pairs.old.items }
-    ensures { OnOk result (Grown instance.now pairs.old.items pairs.new.items (λ pair. (pair.to ≡ to) × IsFront instance.now reversed end (length (composition_at instance.now to)) pair)) }
+    ensures { OnOk result
+        (Grown instance.now pairs.old.items pairs.new.items
+        (λ pair. (pair.to ≡ to) × IsFront instance.now reversed end (length (composition_at instance.now to)) pair)) }
 {
     let departing = instance.catalogue().get(to);
     for units in 0..departing.len() {
@@ -73,7 +75,10 @@ fn add_lefts(
 ) -> Result<(), NoMemory>
     requires from { from < length (compositions_of instance.now) }
     requires known { All (IsKnown instance.now) pairs.old.items }
-    ensures { OnOk result (Grown instance.now pairs.old.items pairs.new.items (λ pair. (pair.from ≡ from) × IsLeft instance.now reversed end (length (composition_at instance.now from)) pair)) }
+    ensures { OnOk result
+        (Grown instance.now pairs.old.items pairs.new.items
+        (λ pair. (pair.from ≡ from)
+        × IsLeft instance.now reversed end (length (composition_at instance.now from)) pair)) }
 {
     let arriving = turned(reversed, instance.catalogue().get(from));
     for units in 0..arriving.len() {
@@ -151,7 +156,9 @@ fn number_of_joined(
     units: &Composition,
     others: &Composition,
 ) -> Option<CompNo>
-    ensures { (comp : ℕ) → (result ≡ Some comp) ↔ ((comp < length (compositions_of instance.now)) × (composition_at instance.now comp ≡ turned reversed (joined_at end units.now others.now))) }
+    ensures { (comp : ℕ) → (result ≡ Some comp)
+        ↔ ((comp < length (compositions_of instance.now))
+        × (composition_at instance.now comp ≡ turned reversed (joined_at end units.now others.now))) }
 {
     let joined = joined_at(end, units, others)?;
     number_of(instance, &turned(reversed, &joined))
@@ -171,7 +178,9 @@ fn add_joined(
     requires few { few ≤ length (compositions_of instance.now) }
     requires to { to < length (compositions_of instance.now) }
     requires known { All (IsKnown instance.now) pairs.old.items }
-    ensures { OnOk result (Grown instance.now pairs.old.items pairs.new.items (λ pair. (pair.to ≡ to) × IsJoined instance.now reversed end units.now few pair)) }
+    ensures { OnOk result
+        (Grown instance.now pairs.old.items pairs.new.items
+        (λ pair. (pair.to ≡ to) × IsJoined instance.now reversed end units.now few pair)) }
 {
     for part in 0..few {
         let others = instance.catalogue().get(CompNo(part));
@@ -194,7 +203,11 @@ fn add_exchanged(
     requires few { few ≤ length (compositions_of instance.now) }
     requires to { to < length (compositions_of instance.now) }
     requires known { All (IsKnown instance.now) pairs.old.items }
-    ensures { OnOk result (Grown instance.now pairs.old.items pairs.new.items (λ pair. (pair.to ≡ to) × IsExchanged instance.now link.now.reverse (uncoupled_at link.now.kind) (coupled_at link.now.kind) few MOST_EXCHANGED pair)) }
+    ensures { OnOk result
+        (Grown instance.now pairs.old.items pairs.new.items
+        (λ pair. (pair.to ≡ to)
+        × IsExchanged instance.now link.now.reverse (uncoupled_at link.now.kind)
+        (coupled_at link.now.kind) few MOST_EXCHANGED pair)) }
 {
     let departing = instance.catalogue().get(to);
     let (uncouple, couple) = (uncoupled_at(link.kind), coupled_at(link.kind));
@@ -218,7 +231,9 @@ fn add_made(
     requires few { few ≤ length (compositions_of instance.now) }
     requires to { to < length (compositions_of instance.now) }
     requires known { All (IsKnown instance.now) pairs.old.items }
-    ensures { OnOk result (Grown instance.now pairs.old.items pairs.new.items (λ pair. (pair.to ≡ to) × IsMade instance.now link.now.kind link.now.reverse few pair)) }
+    ensures { OnOk result
+        (Grown instance.now pairs.old.items pairs.new.items
+        (λ pair. (pair.to ≡ to) × IsMade instance.now link.now.kind link.now.reverse few pair)) }
 {
     add_fronts(pairs, instance, link.reverse, coupled_at(link.kind), to)?;
     if may_exchange(link.kind) {

@@ -117,7 +117,8 @@ fn chains_of(
     requires outgoing { outgoing.now ≡ link_table arriving_in links.now (length outgoing.now) }
     requires few { length outgoing.now ≤ MOST_TRIPS }
     requires known { (t b : ℕ) → next_in links.now t ≡ Some b → b < length outgoing.now }
-    ensures { IfOk result (λ chains. chains.items ≡ chains_below links.now (length outgoing.now) (length outgoing.now)) }
+    ensures { IfOk result
+        (λ chains. chains.items ≡ chains_below links.now (length outgoing.now) (length outgoing.now)) }
 {
     let mut chains = Vec::new(alloc);
     for trip in 0..outgoing.len() as u32 {

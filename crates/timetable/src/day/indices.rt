@@ -75,7 +75,8 @@ impl Instance {
     /// How many multipliers there are.
     pub fn indices(&self) -> u32
         ensures value { result ≡ length (places_of self.now) }
-        ensures few { result ≤ MOST_TYPES * MOST_TRIPS + MOST_STATIONS * MOST_TYPES + MOST_HANDOVERS * MOST_COMPOSITIONS }
+        ensures few { result ≤ MOST_TYPES * MOST_TRIPS + MOST_STATIONS * MOST_TYPES
+            + MOST_HANDOVERS * MOST_COMPOSITIONS }
     {
         self.free_from() + self.mus() + self.handovers() * self.catalogue().len()
     }
@@ -164,7 +165,8 @@ impl Instance {
     /// The hand-over and composition of this number among those.
     fn sigma_at(&self, left: u32) -> Place
         requires { left < length (sigmas_of self.now) }
-        ensures { slice_get (places_of self.now) (length (lambdas_of self.now) + (length (mus_of self.now) + left)) ≡ Some result }
+        ensures { slice_get (places_of self.now) (length (lambdas_of self.now) + (length (mus_of self.now) + left))
+            ≡ Some result }
     {
         let comps = self.catalogue().len();
         Place::Sigma {

@@ -97,7 +97,8 @@ impl Instance {
         ensures meaning { IfOk result (λ instance. IsDayOf tables instance) }
         // Of the tests in their order none failed, and else a refusal is that of the first that did.
         ensures passed { IfOk result (λ _. NoneFailed (day_tests tables)) }
-        ensures refusal { IfErr result (λ refusal. Unless (is_memory refusal) (IsFirstFailed (day_tests tables) refusal)) }
+        ensures refusal { IfErr result
+            (λ refusal. Unless (is_memory refusal) (IsFirstFailed (day_tests tables) refusal)) }
         ensures limits { IfOk result (λ instance. IsDay instance) }
     {
         let types = types_of(alloc, tables.types)?;
@@ -265,8 +266,10 @@ impl Instance {
         requires link { link < length self.now.links }
         requires arriving { length arriving.now ≤ MOST_COMPOSITION }
         requires departing { length departing.now ≤ MOST_COMPOSITION }
-        ensures number { IfSome (slice_get self.now.links link) (λ link. result ≡ kept_of link.kind arriving.now departing.now) }
-        ensures meaning { IfSome (slice_get self.now.links link) (λ link. IsKept link.kind arriving.now departing.now result) }
+        ensures number { IfSome (slice_get self.now.links link)
+            (λ link. result ≡ kept_of link.kind arriving.now departing.now) }
+        ensures meaning { IfSome (slice_get self.now.links link)
+            (λ link. IsKept link.kind arriving.now departing.now result) }
     {
         as_number(self.link(link).kind.kept(arriving, departing))
     }
@@ -382,7 +385,9 @@ fn weights_of(row: WeightsRow) -> Weights
 
 /// Adds the units of a stock row.
 fn push_units(units: &mut Vec<Unit>, row: Stock) -> Result<(), NoMemory>
-    ensures { OnOk result (units.new.items ≡ units.old.items ++ replicate row.start (record { unit_type = row.unit_type; home = row.station })) }
+    ensures { OnOk result
+        (units.new.items ≡ units.old.items
+        ++ replicate row.start (record { unit_type = row.unit_type; home = row.station })) }
 {
     for _ in 0..row.start {
         units.push(Unit {

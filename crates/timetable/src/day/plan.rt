@@ -54,7 +54,8 @@ impl NamedPlan {
         ensures is_plan { IfOk result (λ plan. IsPlan instance.now plan) }
         // Of the tests in their order none failed, and else a refusal is that of the first that did.
         ensures passed { IfOk result (λ _. NoneFailed (plan_tests instance.now rows.now)) }
-        ensures refusal { IfErr result (λ refusal. Unless (is_memory refusal) (IsFirstFailed (plan_tests instance.now rows.now) refusal)) }
+        ensures refusal { IfErr result
+            (λ refusal. Unless (is_memory refusal) (IsFirstFailed (plan_tests instance.now rows.now) refusal)) }
     {
         let lists = lists_of(alloc, instance, rows)?;
         if rows.len() < instance.trips() as usize {

@@ -151,7 +151,9 @@ impl Link {
     fn kept_on(&self, instance: &Instance, plan: &NamedPlan) -> Option<usize>
         requires trips { NamesBelow (length instance.now.trips) self.now.kind }
         requires plan { IsPlan instance.now plan.now }
-        ensures number { result ≡ kept_of self.now.kind (types_of instance.now (turned self.now.reverse (list_of plan.now (leads_from self.now.kind)))) (types_of instance.now (list_of plan.now (leads_to self.now.kind))) }
+        ensures number { result ≡ kept_of self.now.kind
+            (types_of instance.now (turned self.now.reverse (list_of plan.now (leads_from self.now.kind))))
+            (types_of instance.now (list_of plan.now (leads_to self.now.kind))) }
         ensures arriving { IfSome result (λ n. n ≤ length (list_of plan.now (leads_from self.now.kind))) }
         ensures departing { IfSome result (λ n. n ≤ length (list_of plan.now (leads_to self.now.kind))) }
     {

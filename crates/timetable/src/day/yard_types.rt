@@ -36,8 +36,10 @@ fn staying_units(
     arriving: &[TypeNo],
     departing: &[TypeNo],
 ) -> Option<usize>
-    ensures given { unwrap_or (option_map (beyond uncouple arriving.now) result) arriving.now ≡ (turn_of itself uncouple couple exchange arriving.now departing.now).given }
-    ensures taken { unwrap_or (option_map (beyond couple departing.now) result) departing.now ≡ (turn_of itself uncouple couple exchange arriving.now departing.now).taken }
+    ensures given { unwrap_or (option_map (beyond uncouple arriving.now) result) arriving.now
+        ≡ (turn_of itself uncouple couple exchange arriving.now departing.now).given }
+    ensures taken { unwrap_or (option_map (beyond couple departing.now) result) departing.now
+        ≡ (turn_of itself uncouple couple exchange arriving.now departing.now).taken }
     ensures arriving { IfSome result (λ n. n ≤ length arriving.now) }
     ensures departing { IfSome result (λ n. n ≤ length departing.now) }
 {
@@ -68,8 +70,10 @@ impl Link {
     fn yard_types(&self, instance: &Instance, picks: &Picks) -> YardTypes
         requires trips { NamesBelow (length instance.now.trips) self.now.kind }
         requires picks { ArePicks instance.now picks.now }
-        ensures given { result.given.items ≡ given_by itself self.now.kind self.now.reverse (picked instance.now picks.now) }
-        ensures taken { result.taken.items ≡ taken_by itself self.now.kind self.now.reverse (picked instance.now picks.now) }
+        ensures given { result.given.items
+            ≡ given_by itself self.now.kind self.now.reverse (picked instance.now picks.now) }
+        ensures taken { result.taken.items
+            ≡ taken_by itself self.now.kind self.now.reverse (picked instance.now picks.now) }
     {
         match self.kind {
             LinkKind::Turn {
