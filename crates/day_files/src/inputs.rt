@@ -82,8 +82,7 @@ fn plan_of(alloc: Global, instance: &Instance, rows: &[PlanRow]) -> Result<Named
 /// of the day come after the six files.
 ///
 /// - `CannotRead`: the count of failed reads rose, a read of that file may fail, and each file before it is accepted.
-///   It is
-///   never the file of the plan, which isn't read.
+///   It is never the file of the plan, which isn't read.
 /// - `Refused`: a file is refused, and it is the first; or the tables make no day. It is never want of memory.
 /// - `NoMemory`: want of memory.
 #[tactic(auto, unfolding(crate::specs::Inputs::day_in))]
@@ -102,11 +101,9 @@ pub fn day_in<F: Folder>(alloc: Global, folder: &mut F, dir: &str) -> Result<Ins
 /// first file that is refused or cannot be read ends the reading.
 ///
 /// - `CannotRead`: the count of failed reads rose, a read of that file may fail, and each file before it is accepted;
-///   where it is that of the plan, the
-///   tables make a day.
+///   where it is that of the plan, the tables make a day.
 /// - `Refused`: a file is refused, and it is the first; or the tables make no day, or the rows of the plan no plan of
-///   it. It is
-///   never want of memory.
+///   it. It is never want of memory.
 /// - `NoMemory`: want of memory.
 #[tactic(auto, using(crate::proofs::Reached::plan_ended), unfolding(crate::specs::Inputs::inputs_in))]
 pub fn inputs_in<F: Folder>(alloc: Global, folder: &mut F, dir: &str) -> Result<Inputs, ReadError>
