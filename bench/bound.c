@@ -3,8 +3,8 @@
        bound PROBLEM TIMES
 
    PROBLEM is a text of numbers that bound.py writes: the compositions, the trips with what units are priced at their
-   departure and their arrival, the edges of each turn, and the chains. The least value is found TIMES times, and the last
-   is printed. */
+   departure and their arrival, the edges of each turn, and the chains. The least value is found TIMES times, and the
+   last is printed. */
 #include <stdint.h>
 #include <stdio.h>
 #include <stdlib.h>

@@ -33,7 +33,7 @@ def draws(seed):
 
 
 def write_day(folder, trips):
-    """A day of pairs of trips, out and back by a turn, with two types of units and a demand that changes from trip to trip."""
+    """A day of pairs of trips, out and back by a turn, with two types of units and a demand that changes."""
     demands = draws(7)
     rows, links = [], []
     for pair in range(trips // 2):
@@ -66,7 +66,7 @@ def write_largest(folder):
 
 
 def run(words):
-    """The status of a command, what it writes, its seconds of processor time, and the most kilobytes that were resident."""
+    """The status of a command, what it writes, its seconds of processor time, and its most kilobytes resident."""
     with tempfile.TemporaryFile() as out:
         child = subprocess.Popen(words, stdout=out)
         _, status, used = os.wait4(child.pid, 0)
@@ -82,7 +82,8 @@ def leaves_of(answer):
 def instructions_of(words, folder):
     """The instructions of a command, those of its bounds, and how many bounds there are, counted by callgrind."""
     counts = os.path.join(folder, "callgrind")
-    subprocess.run(["valgrind", "--tool=callgrind", f"--callgrind-out-file={counts}"] + words, check=True, capture_output=True)
+    command = ["valgrind", "--tool=callgrind", f"--callgrind-out-file={counts}"] + words
+    subprocess.run(command, check=True, capture_output=True)
     names, called, of_bound, total, calls, bounds = {}, None, False, 0, 0, 0
     with open(counts) as lines:
         for line in lines:

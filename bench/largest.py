@@ -32,7 +32,8 @@ def write_wide_day(folder):
     write_tables(folder, {
         "types.csv": ["type,carriages,seats,metres,family"] + types,
         "stations.csv": ["station,platform,reallocation", "X,300,15", "Y,300,15"],
-        "stock.csv": ["station,type,start,end"] + [f"X,{name},{count},{count}" for name, count in zip("ABCDEF", counts)],
+        "stock.csv": ["station,type,start,end"]
+        + [f"X,{name},{count},{count}" for name, count in zip("ABCDEF", counts)],
         "trips.csv": ["trip,from,departure,to,arrival,km,demand"] + rows,
         "links.csv": ["kind,arriving,arriving2,departing,departing2,reverse,uncouple,couple,exchange"] + links,
         "weights.csv": ["carriage,shortage,shunting", "1,1,60"],
@@ -54,7 +55,10 @@ def write_impossible_day(folder):
         "stations.csv": ["station,platform,reallocation", "X,600,0", "Y,600,0", "Z,100,0", "W,100,0"],
         "stock.csv": ["station,type,start,end"],
         "trips.csv": ["trip,from,departure,to,arrival,km,demand"] + rows,
-        "links.csv": ["kind,arriving,arriving2,departing,departing2,reverse,uncouple,couple", "split,S,,U,V,no,none,none"],
+        "links.csv": [
+            "kind,arriving,arriving2,departing,departing2,reverse,uncouple,couple",
+            "split,S,,U,V,no,none,none",
+        ],
         "weights.csv": ["carriage,shortage,shunting", "1,1,60"],
     })
 
@@ -129,7 +133,8 @@ def main():
     try_tables(program)
     with tempfile.TemporaryDirectory() as folder:
         write_wide_day(folder)
-        say("`plan` without branchings, 1,000 compositions and exchange turns", [program, "plan", folder, "--nodes", "0", "--rounds", "0"])
+        words = [program, "plan", folder, "--nodes", "0", "--rounds", "0"]
+        say("`plan` without branchings, 1,000 compositions and exchange turns", words)
     try_answers(program)
     try_trees(program)
 

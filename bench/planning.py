@@ -67,7 +67,8 @@ def main():
             for nodes, rounds in ((200, 0), (4000, 0), (200, 20)):
                 seconds, memory, made, line, _ = planned(program, folder, nodes, rounds)
                 each = 1000 * (seconds - base) / max(1, 2 * made)
-                print(f"| {trips} | {made} | {rounds} | {seconds:.2f} | {each:.2f} | {memory:.0f} | `{line}` |", flush=True)
+                row = f"| {trips} | {made} | {rounds} | {seconds:.2f} | {each:.2f} | {memory:.0f} | `{line}` |"
+                print(row, flush=True)
 
 
 main()

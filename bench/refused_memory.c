@@ -1,5 +1,5 @@
-/* Refuses one request for memory, for refused_memory.py: that of the number in REFUSED, counted from 1. At the end of the
- * program it writes the number of requests to the file named in REQUESTS. */
+/* Refuses one request for memory, for refused_memory.py: that of the number in REFUSED, counted from 1. At the end of
+ * the program it writes the number of requests to the file named in REQUESTS. */
 #define _GNU_SOURCE
 #include <dlfcn.h>
 #include <errno.h>

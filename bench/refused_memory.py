@@ -37,7 +37,7 @@ def run(words, library, refused, folder):
     """The status and the output of a run, and how many requests it made."""
     counts = os.path.join(folder, "requests")
     given = {"LD_PRELOAD": library, "REFUSED": str(refused), "REQUESTS": counts}
-    done = subprocess.run(words, env=given, stdout=subprocess.PIPE, stderr=subprocess.PIPE, timeout=SECONDS, check=False)
+    done = subprocess.run(words, env=given, capture_output=True, timeout=SECONDS, check=False)
     with open(counts, encoding="ascii") as file:
         return done.returncode, done.stdout, int(file.read())
 

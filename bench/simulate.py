@@ -25,7 +25,8 @@ def write_day(folder, trips, units):
     for group in range(trips // 4):
         start = 8 * group
         out, front, rear, back = (f"{name}{group}" for name in "OFRB")
-        times = ((out, "X", 0, "Y", 60), (front, "Y", 70, "Z", 120), (rear, "Y", 80, "Z", 130), (back, "Z", 150, "X", 210))
+        there = ((out, "X", 0, "Y", 60), (front, "Y", 70, "Z", 120))
+        times = (*there, (rear, "Y", 80, "Z", 130), (back, "Z", 150, "X", 210))
         for name, origin, departure, destination, arrival in times:
             rows.append(f"{name},{origin},{clock(start + departure)},{destination},{clock(start + arrival)},10,300")
         links.append(f"split,{out},,{front},{rear},no,none,none")
