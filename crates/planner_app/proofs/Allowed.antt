@@ -2,16 +2,16 @@
 use Rattle.std.proofs.Common.{◌≡◌, ℕ, ◌≤◌, List, true, ap, arith}
 use Rattle.std.specs.Prelude.{⊤}
 use Rattle.rail_io.specs.Folders.{Files}
-use Rattle.planner_app.specs.declared.command.Command.{Command}
-use Rattle.planner_app.specs.declared.command.Command.TheVariants as command
-use Rattle.planner_app.specs.declared.outcome.Outcome.{Outcome}
-use Rattle.planner_app.specs.declared.outcome.Outcome.TheVariants.{Planned, Tried, Runs, Stops, Checked, Reported}
-use Rattle.planner_app.specs.declared.outcome.Outcome.TheVariants.{NoPlan, Usage, NoInputs, NoAnswer}
+use Rattle.command_line.specs.Items.{WordList}
+use Rattle.run_documents.specs.declared.outcome.Outcome.{Outcome}
+use Rattle.run_documents.specs.declared.outcome.Outcome.TheVariants.{Planned, Tried, Runs, Stops, Checked, Reported}
+use Rattle.run_documents.specs.declared.outcome.Outcome.TheVariants.{NoPlan, Usage, NoInputs, NoAnswer}
+use Rattle.commands.specs.declared.command.Command.{Command}
+use Rattle.commands.specs.declared.command.Command.TheVariants as command
+use Rattle.commands.specs.PlainForm.{IsPlainForm}
 use Rattle.planner_app.specs.declared.reports.Report.{Report}
 use Rattle.planner_app.specs.declared.reports.Report.TheVariants as report
 use Rattle.planner_app.specs.Outcomes.{AskAbout, Says, command_for, reads_answer}
-use Rattle.planner_app.specs.PlainForm.{IsPlainForm}
-use Rattle.command_line.specs.Items.{WordList}
 use Rattle.planner_app.proofs.Asking.{one_command}
 
 -- a number for each command word

@@ -6,12 +6,12 @@ use Rattle.rail_base.specs.declared.limits.TheConstants.{MOST_BRANCHINGS, MOST_R
 use Rattle.trial_day.specs.Trial.{IsTrialSize}
 use Rattle.command_line.specs.declared.form.Choice.TheVariants.{Nodes, Rounds}
 use Rattle.command_line.specs.Items.{WordList, values_in}
-use Rattle.planner_app.specs.declared.command.Command.{Command}
-use Rattle.planner_app.specs.declared.command.Command.TheVariants as command
-use Rattle.planner_app.specs.declared.command.TheConstants.{USUAL_NODES, USUAL_ROUNDS}
+use Rattle.commands.specs.declared.command.Command.{Command}
+use Rattle.commands.specs.declared.command.Command.TheVariants as command
+use Rattle.commands.specs.declared.command.TheConstants.{USUAL_NODES, USUAL_ROUNDS}
+use Rattle.commands.specs.PlainForm.{IsOption, IsPlainForm, IsSearch}
+use Rattle.commands.proofs.Meanings.{plain}
 use Rattle.planner_app.specs.Outcomes.{AskAbout, AskToPlan, AskToTry, Grants, folder_of}
-use Rattle.planner_app.specs.PlainForm.{IsOption, IsPlainForm, IsSearch}
-use Rattle.planner_app.proofs.Meanings.{plain}
 
 -- words are the plain form of one command at most
 pub one_command : (words : WordList) (one other : Command) → IsPlainForm words one → IsPlainForm words other → one ≡ other

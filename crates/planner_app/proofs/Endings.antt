@@ -13,31 +13,33 @@ use Rattle.answer_text.specs.declared.answer.Head.TheVariants.{Optimal, Infeasib
 use Rattle.answer_text.specs.Texts.{text_of}
 use Rattle.answer_text.specs.declared.refusal.AnswerRefusal.{AnswerRefusal}
 use Rattle.answer_text.specs.declared.refusal.AnswerRefusal.TheVariants as answer_refusal
-use Rattle.planner_app.specs.declared.answer_file.AnswerError.{AnswerError}
-use Rattle.planner_app.specs.declared.answer_file.AnswerError.TheVariants as answer_error
-use Rattle.planner_app.specs.declared.checking.AnswerVerdict.{AnswerVerdict}
-use Rattle.planner_app.specs.declared.checking.AnswerVerdict.TheVariants.{Valid, RunsDiffer, UnknownUnit, Stops}
-use Rattle.planner_app.specs.declared.checking.AnswerVerdict.TheVariants as verdicts
-use Rattle.planner_app.specs.declared.command.Command.{Command}
-use Rattle.planner_app.specs.declared.command.Command.TheVariants as command
-use Rattle.planner_app.specs.declared.outcome.Outcome.{Outcome}
-use Rattle.planner_app.specs.declared.outcome.Outcome.TheVariants as outcome
+use Rattle.rail_io.specs.Sinks.{Appends}
+use Rattle.answer_check.specs.declared.checking.AnswerVerdict.{AnswerVerdict}
+use Rattle.answer_check.specs.declared.checking.AnswerVerdict.TheVariants.{Valid, RunsDiffer, UnknownUnit, Stops}
+use Rattle.answer_check.specs.declared.checking.AnswerVerdict.TheVariants as verdicts
+use Rattle.answer_check.specs.Validity.{IsTrueOf, IsValid}
+use Rattle.answer_check.specs.Verdicts.{IsAnswerVerdict}
+use Rattle.answer_check.proofs.Refuting.{valid_or_not}
+use Rattle.day_planner.specs.Headline.{IsHeadline}
+use Rattle.run_documents.specs.declared.answer_file.AnswerError.{AnswerError}
+use Rattle.run_documents.specs.declared.answer_file.AnswerError.TheVariants as answer_error
+use Rattle.run_documents.specs.declared.outcome.Outcome.{Outcome}
+use Rattle.run_documents.specs.declared.outcome.Outcome.TheVariants as outcome
+use Rattle.run_documents.specs.AnswerFiles.{IsAnswerOf, IsWrongAnswer, answer_bytes}
+use Rattle.run_documents.specs.Texts.{IsDocument}
+use Rattle.commands.specs.declared.command.Command.{Command}
+use Rattle.commands.specs.declared.command.Command.TheVariants as command
+use Rattle.commands.specs.PlainForm.{IsPlainForm}
 use Rattle.planner_app.specs.declared.reports.Report.{Report}
 use Rattle.planner_app.specs.declared.reports.Report.TheVariants as report
-use Rattle.planner_app.specs.AnswerFiles.{IsAnswerOf, IsWrongAnswer, answer_bytes}
-use Rattle.planner_app.specs.Headline.{IsHeadline, IsTrueOf, IsValid, status_said}
+use Rattle.planner_app.specs.Statuses.{status_said}
 use Rattle.planner_app.specs.Outcomes.{AreAnswered, AskAbout, AskToCheck, AskToPlan, AskToReport, AskToSimulate}
 use Rattle.planner_app.specs.Outcomes.{IsRefusedFor}
 use Rattle.planner_app.specs.Outcomes.{OfDay, OfDayAndPlan, PlanRuns, Says, command_for, folder_of, reads_plan}
-use Rattle.planner_app.specs.PlainForm.{IsPlainForm}
-use Rattle.rail_io.specs.Sinks.{Appends}
 use Rattle.planner_app.specs.Statuses.{EndsCheck, EndsPlanning, EndsSimulation, IsAnswerFileRefused, IsAnswerRefusedIn}
-use Rattle.planner_app.specs.Statuses.{IsUndisturbed}
-use Rattle.planner_app.specs.Statuses.{status_of, status_of_verdict}
-use Rattle.planner_app.specs.Texts.{IsDocument}
+use Rattle.planner_app.specs.Statuses.{IsUndisturbed, status_of, status_of_verdict}
 use Rattle.planner_app.proofs.Allowed.{IsAllowed, is_allowed}
 use Rattle.planner_app.proofs.Asking.{about_folder, one_command}
-use Rattle.planner_app.proofs.Refuting.{valid_or_not}
 
 -- status 0 is that of `Valid` alone
 pub only_valid : (verdict : AnswerVerdict) → status_of_verdict verdict ≡ 0 → verdict ≡ Valid
@@ -46,6 +48,21 @@ only_valid (RunsDiffer said found) zero = absurd (omega (arith, zero))
 only_valid (UnknownUnit trip) zero = absurd (omega (arith, zero))
 only_valid (Stops fault) zero = absurd (omega (arith, zero))
 only_valid (verdicts.Claim reason) zero = absurd (omega (arith, zero))
+
+wrong_status : (verdict : AnswerVerdict) → verdict ≢ Valid → status_of_verdict verdict ≡ 1
+wrong_status Valid wrong = absurd (wrong refl)
+wrong_status (RunsDiffer said found) wrong = refl
+wrong_status (UnknownUnit trip) wrong = refl
+wrong_status (Stops fault) wrong = refl
+wrong_status (verdicts.Claim reason) wrong = refl
+
+-- the status of a verdict is 0 where the answer is valid, and 1 where it is not
+pub status_by_verdict : (day : Day) (answer : Answer) (verdict : AnswerVerdict) → IsAnswerVerdict day answer verdict
+    → ((status_of_verdict verdict ≡ 0) × IsValid day answer) ⊎ ((status_of_verdict verdict ≡ 1) × ¬ IsValid day answer)
+status_by_verdict day answer verdict right = elim (valid_or_not day answer verdict right) [
+  | inl both ↦ inl (ap status_of_verdict both.0, both.1)
+  | inr both ↦ inr (wrong_status verdict both.0, both.1)
+]
 
 -- ---- what the words ask for is one thing
 
@@ -253,7 +270,7 @@ module _ (words : List (List ℕ)) (files : Files) (dir : List ℕ) where
           by_verdict says.day says.answer (status_of_verdict verdict)
           (at_folder says.dir says.day says.answer
           (about_folder words dir says.dir (command.Check dir) asked refl says.asked) says.accepted)
-          (valid_or_not says.day says.answer verdict says.on.is) (λ zero. says.on.holds (only_valid verdict zero))
+          (status_by_verdict says.day says.answer verdict says.on.is) (λ zero. says.on.holds (only_valid verdict zero))
       by (outcome.Planned answer) says undisturbed allowed = absurd (omega (arith, allowed))
       by (outcome.Tried seed trips answer) says undisturbed allowed = absurd (omega (arith, allowed))
       by (outcome.Runs money) says undisturbed allowed = absurd (omega (arith, allowed))

@@ -24,17 +24,18 @@ use Rattle.day_simulator.specs.Finish.{simulation}
 use Rattle.day_simulator.specs.Laws.{IsInTurn}
 use Rattle.answer_text.specs.declared.answer.Answer.{Answer}
 use Rattle.answer_text.specs.declared.answer.Head.{Head}
-use Rattle.planner_app.specs.declared.answer_file.AnswerError.{AnswerError}
-use Rattle.planner_app.specs.declared.checking.AnswerVerdict.{AnswerVerdict}
-use Rattle.planner_app.specs.declared.command.Command.TheVariants as command
-use Rattle.planner_app.specs.declared.outcome.Outcome.{Outcome}
-use Rattle.planner_app.specs.declared.outcome.Outcome.TheVariants.{Planned, Tried, Runs, Stops, Checked, Reported}
-use Rattle.planner_app.specs.declared.outcome.Outcome.TheVariants.{NoPlan, Usage, NoInputs, NoAnswer}
-use Rattle.planner_app.specs.AnswerFiles.{IsAnswerCaused, IsWrongAnswer}
-use Rattle.planner_app.specs.declared.checking.AnswerVerdict.TheVariants.{Valid}
+use Rattle.answer_check.specs.declared.checking.AnswerVerdict.{AnswerVerdict}
+use Rattle.answer_check.specs.declared.checking.AnswerVerdict.TheVariants.{Valid}
+use Rattle.answer_check.specs.Validity.{IsValid}
+use Rattle.day_planner.specs.Headline.{IsHeadline}
+use Rattle.run_documents.specs.declared.answer_file.AnswerError.{AnswerError}
+use Rattle.run_documents.specs.declared.outcome.Outcome.{Outcome}
+use Rattle.run_documents.specs.declared.outcome.Outcome.TheVariants.{Planned, Tried, Runs, Stops, Checked, Reported}
+use Rattle.run_documents.specs.declared.outcome.Outcome.TheVariants.{NoPlan, Usage, NoInputs, NoAnswer}
+use Rattle.run_documents.specs.AnswerFiles.{IsAnswerCaused, IsWrongAnswer}
+use Rattle.commands.specs.declared.command.Command.TheVariants as command
 use Rattle.planner_app.specs.declared.reports.Report.{Report}
 use Rattle.planner_app.specs.declared.reports.Report.TheVariants as report
-use Rattle.planner_app.specs.Headline.{IsHeadline, IsValid}
 use Rattle.planner_app.specs.Outcomes.{AreAnswered, AskAbout, AskInVain, AskToCheck, AskToPlan, AskToReport}
 use Rattle.planner_app.specs.Outcomes.{AskToSimulate}
 use Rattle.planner_app.specs.Outcomes.{AskToTry, HasCause, IsOutcome, IsReadBy, IsPlanned, IsRefusedFor, IsReportOf}

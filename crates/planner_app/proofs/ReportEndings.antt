@@ -1,7 +1,6 @@
 -- The status of a report and of a trial day, by what its outcome says of the files.
 use Rattle.std.proofs.Common.{◌≡◌, ◌≢◌, ℕ, ◌<◌, ◌≤◌, ◌⊎◌, inl, inr, List, length, Bool, true, false, Option, Some, None}
-use Rattle.std.proofs.Common.{Ok, Err}
-use Rattle.std.proofs.Common.{refl, sym, subst, ap, ◌∙◌, arith}
+use Rattle.std.proofs.Common.{Ok, Err, refl, sym, subst, ap, ◌∙◌, arith}
 use Rattle.std.specs.Prelude.{IsTrue}
 use Rattle.rail_io.specs.Folders.{Files}
 use Rattle.rail_io.specs.Sinks.{Appends}
@@ -14,32 +13,32 @@ use Rattle.day_files.specs.Inputs.{day_in}
 use Rattle.answer_text.specs.declared.answer.Answer.{Answer}
 use Rattle.answer_text.specs.declared.refusal.AnswerRefusal.TheVariants as answer_refusal
 use Rattle.answer_text.specs.Limits.{has_plan}
-use Rattle.planner_app.specs.declared.answer_file.AnswerError.{AnswerError}
-use Rattle.planner_app.specs.declared.answer_file.AnswerError.TheVariants as answer_error
-use Rattle.planner_app.specs.declared.checking.AnswerVerdict.{AnswerVerdict}
-use Rattle.planner_app.specs.declared.checking.AnswerVerdict.TheVariants.{Valid}
-use Rattle.planner_app.specs.declared.command.Command.{Command}
-use Rattle.planner_app.specs.declared.command.Command.TheVariants as command
-use Rattle.planner_app.specs.declared.outcome.Outcome.{Outcome}
-use Rattle.planner_app.specs.declared.outcome.Outcome.TheVariants as outcome
+use Rattle.answer_check.specs.declared.checking.AnswerVerdict.{AnswerVerdict}
+use Rattle.answer_check.specs.declared.checking.AnswerVerdict.TheVariants.{Valid}
+use Rattle.answer_check.specs.Validity.{IsValid}
+use Rattle.day_planner.specs.Headline.{IsHeadline}
+use Rattle.run_documents.specs.declared.answer_file.AnswerError.{AnswerError}
+use Rattle.run_documents.specs.declared.answer_file.AnswerError.TheVariants as answer_error
+use Rattle.run_documents.specs.declared.outcome.Outcome.{Outcome}
+use Rattle.run_documents.specs.declared.outcome.Outcome.TheVariants as outcome
+use Rattle.run_documents.specs.AnswerFiles.{IsWrongAnswer, answer_bytes}
+use Rattle.run_documents.specs.Texts.{IsDocument}
+use Rattle.run_documents.specs.TrialTexts.{trial_text}
+use Rattle.commands.specs.declared.command.Command.{Command}
+use Rattle.commands.specs.declared.command.Command.TheVariants as command
+use Rattle.commands.specs.PlainForm.{IsPlainForm}
 use Rattle.planner_app.specs.declared.reports.Report.{Report}
-use Rattle.planner_app.specs.AnswerFiles.{IsWrongAnswer, answer_bytes}
-use Rattle.planner_app.specs.Headline.{IsHeadline, IsValid, status_said}
+use Rattle.planner_app.specs.Statuses.{status_said}
 use Rattle.planner_app.specs.Outcomes.{AreAnswered, AskToReport, AskToTry, IsTried, OfDay, OfDayAndPlan, Says}
 use Rattle.planner_app.specs.Outcomes.{command_for}
 use Rattle.planner_app.specs.Outcomes.{AskAbout, AskInVain, HasCause, IsOutcome, IsSound, folder_of, reads_plan}
-use Rattle.planner_app.specs.PlainForm.{IsPlainForm}
 use Rattle.planner_app.specs.ReportTexts.{report_text}
 use Rattle.planner_app.specs.Statuses.{EndsReport, EndsTrial, IsAnswerRefusedIn, IsUndisturbed, status_of}
 use Rattle.planner_app.specs.Statuses.{status_of_verdict}
-use Rattle.planner_app.specs.Texts.{IsDocument}
-use Rattle.planner_app.specs.TrialTexts.{trial_text}
 use Rattle.planner_app.proofs.Allowed.{IsAllowed, code, is_allowed, report_code}
 use Rattle.planner_app.proofs.Asking.{about_folder, one_command}
 use Rattle.planner_app.proofs.Endings.{answered_once, answered_right, at_answer, at_folder, day_or_not, folder_is}
-use Rattle.planner_app.proofs.Endings.{one_report}
-use Rattle.planner_app.proofs.Endings.{only_valid, refused_answer, report_plain, same_answer}
-use Rattle.planner_app.proofs.Refuting.{valid_or_not}
+use Rattle.planner_app.proofs.Endings.{one_report, only_valid, refused_answer, report_plain, same_answer, status_by_verdict}
 
 module _ (words : List (List ℕ)) (files : Files) (dir : List ℕ) (kind : Report) (asked : AskToReport words kind dir)
     (before after : Option (List ℕ)) where
@@ -138,7 +137,7 @@ module _ (words : List (List ℕ)) (files : Files) (dir : List ℕ) (kind : Repo
           by_verdict says.day says.answer verdict
           (at_folder words files dir says.dir says.day says.answer
           (about_folder words dir says.dir (command_for kind dir) asked (folder_is kind dir) says.asked) says.accepted)
-          (valid_or_not says.day says.answer verdict says.on.is)
+          (status_by_verdict says.day says.answer verdict says.on.is)
           (λ valid. apart (one_command words (command_for kind dir) (command.Check says.dir) asked (says.alone valid)))
         where
           apart : command_for kind dir ≡ command.Check says.dir → ⊥

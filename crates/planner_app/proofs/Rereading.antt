@@ -7,8 +7,8 @@ use Rattle.answer_text.specs.Grammar.{IsText}
 use Rattle.answer_text.specs.Texts.{text_of}
 use Rattle.answer_text.proofs.Sizes.{texts_fit_files}
 use Rattle.answer_text.proofs.Texts.{texts_are_not_refused, texts_are_of_one_answer}
-use Rattle.planner_app.specs.AnswerFiles.{IsAnswerOf, answer_bytes}
-use Rattle.planner_app.specs.Headline.{IsHeadline}
+use Rattle.day_planner.specs.Headline.{IsHeadline}
+use Rattle.run_documents.specs.AnswerFiles.{IsAnswerOf, answer_bytes}
 use Rattle.planner_app.specs.Laws.{HeadlinesAreReported, HeadlinesAreValid}
 
 -- bytes that are the text of an answer that meets the headline are read as that answer

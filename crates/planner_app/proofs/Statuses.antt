@@ -6,19 +6,19 @@ use Rattle.day_files.specs.declared.errors.ReadError.TheVariants.{CannotRead, Re
 use Rattle.answer_text.specs.declared.refusal.AnswerRefusal.TheVariants as answer_refusal
 use Rattle.answer_text.specs.declared.answer.Head.{Head}
 use Rattle.answer_text.specs.declared.answer.Head.TheVariants.{Optimal, Infeasible, Bounded, BoundedPlan}
-use Rattle.planner_app.specs.declared.answer_file.AnswerError.TheVariants as answer_error
-use Rattle.planner_app.specs.declared.checking.AnswerVerdict.{AnswerVerdict}
-use Rattle.planner_app.specs.declared.checking.AnswerVerdict.TheVariants.{Valid, RunsDiffer, UnknownUnit}
-use Rattle.planner_app.specs.declared.checking.AnswerVerdict.TheVariants as verdict
-use Rattle.planner_app.specs.declared.outcome.Outcome.{Outcome}
-use Rattle.planner_app.specs.declared.outcome.Outcome.TheVariants.{Planned, Tried, Runs, Stops, Checked, Reported}
-use Rattle.planner_app.specs.declared.outcome.Outcome.TheVariants.{NoPlan, Usage, NoInputs, NoAnswer}
-use Rattle.planner_app.specs.Headline.{status_said}
+use Rattle.answer_check.specs.declared.checking.AnswerVerdict.{AnswerVerdict}
+use Rattle.answer_check.specs.declared.checking.AnswerVerdict.TheVariants.{Valid, RunsDiffer, UnknownUnit}
+use Rattle.answer_check.specs.declared.checking.AnswerVerdict.TheVariants as verdict
+use Rattle.run_documents.specs.declared.answer_file.AnswerError.TheVariants as answer_error
+use Rattle.run_documents.specs.declared.outcome.Outcome.{Outcome}
+use Rattle.run_documents.specs.declared.outcome.Outcome.TheVariants.{Planned, Tried, Runs, Stops, Checked, Reported}
+use Rattle.run_documents.specs.declared.outcome.Outcome.TheVariants.{NoPlan, Usage, NoInputs, NoAnswer}
+use Rattle.planner_app.specs.declared.reports.Report.{Report}
+use Rattle.planner_app.specs.Statuses.{status_said}
 use Rattle.planner_app.specs.Outcomes.{AskInVain, AskToCheck, AskToPlan, AskToReport, AskToSimulate, AskToTry, HasCause}
 use Rattle.planner_app.specs.Outcomes.{IsOutcome}
 use Rattle.planner_app.specs.Statuses.{EndsCheck, EndsPlanning, EndsReport, EndsSimulation, EndsTrial, IsUndisturbed}
 use Rattle.planner_app.specs.Statuses.{status_of, status_of_verdict, Wrote, Whole, Part, Nothing}
-use Rattle.planner_app.specs.declared.reports.Report.{Report}
 use Rattle.planner_app.proofs.Endings.{check_ends, planning_ends, simulation_ends}
 use Rattle.planner_app.proofs.ReportEndings.{report_ends, trial_ended}
 

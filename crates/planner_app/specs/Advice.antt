@@ -1,9 +1,9 @@
 -- How the advisors are asked in a run.
 use Rattle.std.specs.Prelude.{ℕ, ◌+◌, ◌*◌, Bool, List, ⊤}
 use Rattle.search.specs.Asking.{AreAsked, in_rounds}
-use Rattle.planner_app.specs.declared.outcome.Outcome.{Outcome}
-use Rattle.planner_app.specs.declared.outcome.Outcome.TheVariants.{Planned, Tried}
-use Rattle.planner_app.specs.Headline.{open_leaves}
+use Rattle.day_planner.specs.Headline.{open_leaves}
+use Rattle.run_documents.specs.declared.outcome.Outcome.{Outcome}
+use Rattle.run_documents.specs.declared.outcome.Outcome.TheVariants.{Planned, Tried}
 
 -- Where an answer comes of so many rounds, each advisor that has not quit was asked once at least for each branching
 -- and for each open leaf, unless there are no rounds, and once a round at most at the root and at both sides of each

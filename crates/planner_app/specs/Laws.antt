@@ -5,14 +5,11 @@ use Rattle.timetable.specs.Day.{Day}
 use Rattle.day_files.specs.Inputs.{day_in}
 use Rattle.answer_text.specs.declared.answer.Answer.{Answer}
 use Rattle.answer_text.specs.Texts.{text_of}
-use Rattle.planner_app.specs.AnswerFiles.{answer_bytes}
 use Rattle.answer_text.specs.Limits.{has_plan}
-use Rattle.planner_app.specs.declared.checking.AnswerVerdict.{AnswerVerdict}
-use Rattle.planner_app.specs.declared.checking.AnswerVerdict.TheVariants.{Valid}
+use Rattle.day_planner.specs.Headline.{IsHeadline}
+use Rattle.run_documents.specs.AnswerFiles.{answer_bytes}
 use Rattle.planner_app.specs.declared.reports.Report.{Report}
-use Rattle.planner_app.specs.Headline.{IsHeadline, IsValid}
 use Rattle.planner_app.specs.Statuses.{EndsCheck, EndsReport}
-use Rattle.planner_app.specs.Verdicts.{IsAnswerVerdict}
 
 -- Where the answer's file of a folder is the text of an answer that meets the headline of the folder's day, whatever
 -- was granted for it, a check of that folder ends with status 0.
@@ -27,8 +24,3 @@ HeadlinesAreReported = (files : Files) (dir : List ℕ) (day : Day) (granted : �
     (status : ℕ) (before after : Option (List ℕ)) →
     day_in files dir ≡ Ok day → answer_bytes files dir ≡ text_of answer → IsHeadline day granted answer →
     IsTrue (has_plan answer.head) → EndsReport files dir kind status before after → status ≡ 0
-
--- Of an answer that is valid no verdict is right but that it is.
-abbrev pub ValidAnswersAreFound : Type 0
-ValidAnswersAreFound = (day : Day) (answer : Answer) → IsValid day answer → (verdict : AnswerVerdict) →
-    IsAnswerVerdict day answer verdict → verdict ≡ Valid

@@ -1,7 +1,8 @@
--- The numbers that tables, words, files and answers are held to, each as it is. Clauses call them by their names.
+-- The numbers that tables, files and answers are held to, each as it is. Clauses call them by their names. Those of
+-- words are in `commands`.
 use Rattle.std.specs.Prelude.{◌≡◌}
 use Rattle.rail_base.specs.declared.limits.TheConstants.{MOST_CHANGE, MOST_FILE_BYTES, MOST_NAME_BYTES, MOST_SLACKS}
-use Rattle.rail_base.specs.declared.limits.TheConstants.{MOST_TABLE_BYTES, MOST_WORDS}
+use Rattle.rail_base.specs.declared.limits.TheConstants.{MOST_TABLE_BYTES}
 use Rattle.rail_base.specs.declared.limits.TheConstants.{MOST_LINKS, MOST_PLAN_ROWS, MOST_STATIONS, MOST_STOCK_ROWS}
 use Rattle.rail_base.specs.declared.limits.TheConstants.{MOST_TRIPS, MOST_TYPES, MOST_WEIGHT_ROWS}
 use Rattle.rail_base.specs.declared.limits.TheConstants.{MOST_CARRIAGES, MOST_FIRST_SEATS, MOST_METRES, MOST_PLATFORM}
@@ -10,11 +11,9 @@ use Rattle.rail_base.specs.declared.limits.TheConstants.{MOST_DEMAND, MOST_FIRST
 use Rattle.rail_base.specs.declared.limits.TheConstants.{MOST_WEIGHT}
 use Rattle.rail_base.specs.declared.limits.TheConstants.{MOST_COMPOSITION, MOST_COMPOSITIONS, MOST_EXCHANGED}
 use Rattle.rail_base.specs.declared.limits.TheConstants.{MOST_UNITS}
-use Rattle.rail_base.specs.declared.limits.TheConstants.{MOST_BRANCHINGS, MOST_ENTRIES, MOST_MULTIPLIER, MOST_NODES}
-use Rattle.rail_base.specs.declared.limits.TheConstants.{MOST_ROUNDS}
+use Rattle.rail_base.specs.declared.limits.TheConstants.{MOST_ENTRIES, MOST_MULTIPLIER, MOST_NODES}
 use Rattle.price_bound.specs.declared.sizes.TheConstants.{MOST_VALUE}
 use Rattle.answer_text.specs.declared.limits.TheConstants.{MOST_AMOUNT, MOST_INDEX}
-use Rattle.planner_app.specs.declared.command.TheConstants.{MOST_SEED, USUAL_NODES, USUAL_ROUNDS}
 
 -- the rows of each table
 pub record AreRowLimits : Type 0 where
@@ -49,14 +48,8 @@ pub record AreDayLimits : Type 0 where
   pub composition : MOST_COMPOSITION ≡ 6
   pub exchanged : MOST_EXCHANGED ≡ 2
 
--- words and options that are not given, files, answers, and what bounds are asked for
+-- files, answers, and what bounds are asked for
 pub record AreRunLimits : Type 0 where
-  pub words : MOST_WORDS ≡ 1000000
-  pub usual_nodes : USUAL_NODES ≡ 200
-  pub usual_rounds : USUAL_ROUNDS ≡ 20
-  pub branchings : MOST_BRANCHINGS ≡ 4000
-  pub rounds : MOST_ROUNDS ≡ 100
-  pub seed : MOST_SEED ≡ 4294967295
   pub table_bytes : MOST_TABLE_BYTES ≡ 4194304
   pub file_bytes : MOST_FILE_BYTES ≡ 134217728
   pub nodes : MOST_NODES ≡ 8001

@@ -21,21 +21,22 @@ use Rattle.answer_text.specs.declared.answer.Answer.{Answer}
 use Rattle.answer_text.specs.declared.answer.Head.{Head}
 use Rattle.answer_text.specs.Limits.{has_plan}
 use Rattle.trial_day.specs.Trial.{trial_tables_of}
-use Rattle.planner_app.specs.declared.answer_file.AnswerError.{AnswerError}
-use Rattle.planner_app.specs.declared.checking.AnswerVerdict.{AnswerVerdict}
-use Rattle.planner_app.specs.declared.checking.AnswerVerdict.TheVariants.{Valid}
-use Rattle.planner_app.specs.declared.command.Command.{Command}
-use Rattle.planner_app.specs.declared.command.Command.TheVariants as command
-use Rattle.planner_app.specs.declared.outcome.Outcome.{Outcome}
-use Rattle.planner_app.specs.declared.outcome.Outcome.TheVariants.{Planned, Tried, Runs, Stops, Checked, Reported}
-use Rattle.planner_app.specs.declared.outcome.Outcome.TheVariants.{NoPlan, Usage, NoInputs, NoAnswer}
-use Rattle.planner_app.specs.AnswerFiles.{IsAnswerCaused, IsAnswerOf, IsWrongAnswer, answer_bytes}
+use Rattle.answer_check.specs.declared.checking.AnswerVerdict.{AnswerVerdict}
+use Rattle.answer_check.specs.declared.checking.AnswerVerdict.TheVariants.{Valid}
+use Rattle.answer_check.specs.Validity.{IsTrueOf, IsValid}
+use Rattle.answer_check.specs.Verdicts.{IsAnswerVerdict}
+use Rattle.day_planner.specs.Headline.{IsHeadline}
+use Rattle.run_documents.specs.declared.answer_file.AnswerError.{AnswerError}
+use Rattle.run_documents.specs.declared.outcome.Outcome.{Outcome}
+use Rattle.run_documents.specs.declared.outcome.Outcome.TheVariants.{Planned, Tried, Runs, Stops, Checked, Reported}
+use Rattle.run_documents.specs.declared.outcome.Outcome.TheVariants.{NoPlan, Usage, NoInputs, NoAnswer}
+use Rattle.run_documents.specs.AnswerFiles.{IsAnswerCaused, IsAnswerOf, IsWrongAnswer, answer_bytes}
+use Rattle.commands.specs.declared.command.Command.{Command}
+use Rattle.commands.specs.declared.command.Command.TheVariants as command
+use Rattle.commands.specs.PlainForm.{IsPlainForm}
 use Rattle.planner_app.specs.declared.reports.Report.{Report}
 use Rattle.planner_app.specs.declared.reports.Report.TheVariants as report
-use Rattle.planner_app.specs.Headline.{IsHeadline, IsTrueOf, IsValid}
-use Rattle.planner_app.specs.PlainForm.{IsPlainForm}
 use Rattle.planner_app.specs.ReportTexts.{report_text}
-use Rattle.planner_app.specs.Verdicts.{IsAnswerVerdict}
 
 -- ---- what the words ask for
 

@@ -6,11 +6,12 @@ use Rattle.trial_day.specs.Trial.{trial_tables_of}
 use Rattle.day_files.specs.declared.errors.ReadError.TheVariants.{NoMemory}
 use Rattle.answer_text.specs.declared.answer.Answer.{Answer}
 use Rattle.answer_text.specs.Limits.{has_plan}
-use Rattle.planner_app.specs.declared.checking.AnswerVerdict.TheVariants.{Valid}
-use Rattle.planner_app.specs.declared.outcome.Outcome.{Outcome}
-use Rattle.planner_app.specs.declared.outcome.Outcome.TheVariants.{Checked, Reported, NoPlan, NoInputs, Tried}
+use Rattle.answer_check.specs.declared.checking.AnswerVerdict.TheVariants.{Valid}
+use Rattle.answer_check.specs.Validity.{IsValid}
+use Rattle.day_planner.specs.Headline.{IsHeadline}
+use Rattle.run_documents.specs.declared.outcome.Outcome.{Outcome}
+use Rattle.run_documents.specs.declared.outcome.Outcome.TheVariants.{Checked, Reported, NoPlan, NoInputs, Tried}
 use Rattle.planner_app.specs.declared.reports.Report.{Report}
-use Rattle.planner_app.specs.Headline.{IsHeadline, IsValid}
 use Rattle.planner_app.specs.Outcomes.{IsReportOf, IsVerdictOn}
 
 -- what is wrong with the answer; or the report on its plan; or that it has none

@@ -11,31 +11,41 @@ use Rattle.day_files.specs.declared.errors.ReadError.TheVariants.{CannotRead, Re
 use Rattle.day_files.specs.declared.inputs.Inputs.{Inputs}
 use Rattle.day_files.specs.Inputs.{day_in, inputs_in}
 use Rattle.answer_text.specs.declared.answer.Answer.{Answer}
+use Rattle.answer_text.specs.declared.answer.Head.{Head}
+use Rattle.answer_text.specs.declared.answer.Head.TheVariants.{Optimal, Infeasible, Bounded, BoundedPlan}
 use Rattle.answer_text.specs.declared.refusal.AnswerRefusal.{AnswerRefusal}
 use Rattle.answer_text.specs.declared.refusal.AnswerRefusal.TheVariants as answer_refusal
 use Rattle.answer_text.specs.Grammar.{IsRefused}
 use Rattle.answer_text.specs.Limits.{has_plan}
 use Rattle.answer_text.specs.Texts.{text_of}
 use Rattle.trial_day.specs.Trial.{trial_tables_of}
-use Rattle.planner_app.specs.declared.answer_file.AnswerError.TheVariants as answer_error
-use Rattle.planner_app.specs.declared.checking.AnswerVerdict.{AnswerVerdict}
-use Rattle.planner_app.specs.declared.checking.AnswerVerdict.TheVariants.{Valid}
-use Rattle.planner_app.specs.declared.outcome.Outcome.{Outcome}
-use Rattle.planner_app.specs.declared.outcome.Outcome.TheVariants.{Planned, Tried, Runs, Stops, Checked, Reported}
-use Rattle.planner_app.specs.declared.outcome.Outcome.TheVariants.{NoPlan, Usage, NoInputs, NoAnswer}
+use Rattle.answer_check.specs.declared.checking.AnswerVerdict.{AnswerVerdict}
+use Rattle.answer_check.specs.declared.checking.AnswerVerdict.TheVariants.{Valid}
+use Rattle.answer_check.specs.Validity.{IsTrueOf, IsValid}
+use Rattle.day_planner.specs.Headline.{IsHeadline}
+use Rattle.run_documents.specs.declared.answer_file.AnswerError.TheVariants as answer_error
+use Rattle.run_documents.specs.declared.outcome.Outcome.{Outcome}
+use Rattle.run_documents.specs.declared.outcome.Outcome.TheVariants.{Planned, Tried, Runs, Stops, Checked, Reported}
+use Rattle.run_documents.specs.declared.outcome.Outcome.TheVariants.{NoPlan, Usage, NoInputs, NoAnswer}
+use Rattle.run_documents.specs.AnswerFiles.{answer_bytes}
+use Rattle.run_documents.specs.Texts.{IsDocument}
+use Rattle.run_documents.specs.TrialTexts.{trial_text}
 use Rattle.planner_app.specs.declared.reports.Report.{Report}
-use Rattle.planner_app.specs.AnswerFiles.{answer_bytes}
-use Rattle.planner_app.specs.Headline.{IsHeadline, IsTrueOf, IsValid, status_said}
 use Rattle.planner_app.specs.Outcomes.{AreAnswered, PlanRuns}
 use Rattle.planner_app.specs.ReportTexts.{report_text}
-use Rattle.planner_app.specs.Texts.{IsDocument}
-use Rattle.planner_app.specs.TrialTexts.{trial_text}
 
 -- ---- what the files say of the status
 
 -- the status says of no read and no write that it failed, and not that memory ran out
 abbrev pub IsUndisturbed : ℕ → Type 0
 IsUndisturbed status = (status ≢ 5) × (status ≢ 6) × (status ≢ 7)
+
+-- the status that goes with a head
+abbrev pub status_said : Head → ℕ
+status_said (Optimal cost) = 0
+status_said Infeasible = 1
+status_said (Bounded bound) = 4
+status_said (BoundedPlan bound cost) = 4
 
 -- What was written is the text of an answer to a day, with so many branchings granted, and nothing else; the answer
 -- meets the headline, and the status is that of what it says: 0 of `optimal`, 1 of `infeasible`, 4 of `bounded`.

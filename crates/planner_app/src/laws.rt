@@ -2,8 +2,11 @@
 //!
 //! A law is the contract of a function that does nothing.
 
-ghost use Rattle.planner_app.specs.Laws.{HeadlinesAreReported, HeadlinesAreValid, ValidAnswersAreFound};
+ghost use Rattle.commands.specs.Limits.{AreWordLimits};
+ghost use Rattle.planner_app.specs.Laws.{HeadlinesAreReported, HeadlinesAreValid};
 ghost use Rattle.planner_app.specs.Limits.{AreColumnLimits, AreDayLimits, AreRowLimits, AreRunLimits};
+
+pub use answer_check::laws::valid_answers_are_found;
 
 /// What `plan DIR` writes is valid: where `answer.txt` in a folder is the text of an answer that meets the headline of
 /// the day in that folder, `check DIR` ends with status 0, unless it ends with 5, 6 or 7.
@@ -13,15 +16,11 @@ pub fn headlines_are_valid()
     ensures report { HeadlinesAreReported }
 {}
 
-/// Of a valid answer `check_answer` finds that it is valid, or memory is wanting: no other verdict on it is right.
-pub fn valid_answers_are_found()
-    ensures law { ValidAnswersAreFound }
-{}
-
 /// The limits of tables, columns, days, words, files and answers, and what an option is that is not given, as numbers.
 pub fn limits_are_these()
     ensures rows { AreRowLimits }
     ensures columns { AreColumnLimits }
     ensures days { AreDayLimits }
+    ensures words { AreWordLimits }
     ensures runs { AreRunLimits }
 {}

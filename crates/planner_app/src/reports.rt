@@ -5,21 +5,18 @@ ghost use Rattle.rail_base.specs.declared.limits.TheConstants.{MOST_TRIPS};
 ghost use Rattle.rail_io.specs.Folders.{OnlyReads};
 ghost use Rattle.timetable.specs.Running as running;
 ghost use Rattle.answer_text.specs.Limits.{has_plan};
-ghost use Rattle.planner_app.specs.Headline.{IsValid};
+ghost use Rattle.answer_check.specs.Validity.{IsValid};
 ghost use Rattle.planner_app.specs.Outcomes.{AskToReport, IsOutcome};
 ghost use Rattle.planner_app.specs.Reporting.{IsReportOutcome};
 ghost use Rattle.planner_app.specs.ReportTexts.{report_text};
 
-use crate::answer_file::answer_in;
-use crate::answered_plan::{copy_of, picks_of_plan};
-use crate::checking::AnswerVerdict;
-use crate::outcome::Outcome;
-use crate::run::verdict_on;
+use answer_check::{AnswerVerdict, copy_of, picks_of_plan, verdict_on};
 use answer_text::Answer;
 use day_files::{ReadError, day_in};
 use day_reports::{costs_table, duties_table, yards_table};
 use rail_base::{Bytes, NoMemory};
 use rail_io::Folder;
+use run_documents::{Outcome, answer_in};
 use std::alloc::Global;
 use timetable::{Instance, NamedPlan};
 

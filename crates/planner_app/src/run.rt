@@ -1,32 +1,25 @@
 //! From the words to the outcome: what each command does with the files of its folder.
 
-ghost use Rattle.std.specs.Prelude.{ℕ, List, ◌≡◌, ◌≤◌, ◌+◌, ◌*◌, ◌^◌, Some, All, IfOk, length};
-ghost use Rattle.rail_base.specs.declared.limits.TheConstants.{MOST_BRANCHINGS, MOST_ROUNDS, MOST_TRIPS};
+ghost use Rattle.std.specs.Prelude.{ℕ, List, ◌≡◌, ◌≤◌, ◌+◌, ◌*◌, ◌^◌, Some, All};
+ghost use Rattle.rail_base.specs.declared.limits.TheConstants.{MOST_BRANCHINGS, MOST_ROUNDS};
 ghost use Rattle.rail_io.specs.Folders.{OnlyReads};
 ghost use Rattle.search.specs.Asking.{AreAsked};
 ghost use Rattle.trial_day.specs.Trial.{IsTrialSize};
 ghost use Rattle.planner_app.specs.Advice.{AreAskedFor};
-ghost use Rattle.planner_app.specs.Headline.{IsTrueOf};
 ghost use Rattle.planner_app.specs.Outcomes.{AskToCheck, AskToPlan, AskToSimulate, Grants, IsOutcome};
 ghost use Rattle.planner_app.specs.Reporting.{IsTrialOutcome};
-ghost use Rattle.planner_app.specs.Verdicts.{IsAnswerVerdict};
 
-use crate::answer_file::answer_in;
-use crate::checking::{AnswerVerdict, check_answer};
-use crate::command::Command;
-use crate::command_words::{WordsRefusal, read_words};
-use crate::outcome::Outcome;
-use crate::planning::answer_for;
 use crate::reports::{Report, reported};
 use advisors::Advisor;
-use answer_text::Answer;
+use answer_check::verdict_on;
+use commands::{Command, WordsRefusal, read_words};
 use day_files::{ReadError, day_in, inputs_in};
+use day_planner::answer_for;
 use day_simulator::{SimulateRefusal, simulate};
 use rail_base::{NoMemory, Words};
 use rail_io::Folder;
+use run_documents::{Outcome, answer_in};
 use std::alloc::Global;
-use timetable::Instance;
-use transitions::Graphs;
 use trial_day::trial_instance;
 
 /// What the words and the folder come to.
@@ -164,18 +157,4 @@ fn checked<F: Folder>(alloc: Global, folder: &mut F, dir: &str) -> Outcome
         },
         Err(NoMemory) => Outcome::NoInputs(ReadError::NoMemory),
     }
-}
-
-/// The verdict on an answer of the day.
-pub(crate) fn verdict_on(
-    alloc: Global,
-    instance: &Instance,
-    answer: &Answer,
-) -> Result<AnswerVerdict, NoMemory>
-    requires { length answer.now.runs ≤ MOST_TRIPS }
-    ensures verdict { IfOk result (IsAnswerVerdict instance.now answer.now) }
-    ensures holds { IfOk result (λ verdict. verdict ≡ AnswerVerdict.Valid → IsTrueOf instance.now answer.now) }
-{
-    let graphs = Graphs::build(alloc, instance)?;
-    check_answer(alloc, instance, &graphs, answer)
 }

@@ -3,26 +3,23 @@
 ghost use Rattle.std.specs.Prelude.{ℕ, List, ◌≡◌, ◌≤◌, ◌+◌, ◌*◌, ◌^◌, ◌↔◌, Some, All};
 ghost use Rattle.rail_io.specs.Folders.{Files, OnlyReads, Rose};
 ghost use Rattle.search.specs.Asking.{AreAsked};
-ghost use Rattle.planner_app.specs.declared.outcome.Outcome.{Outcome};
+ghost use Rattle.run_documents.specs.declared.outcome.Outcome.{Outcome};
 ghost use Rattle.planner_app.specs.declared.reports.Report.{Report};
 ghost use Rattle.planner_app.specs.Advice.{AreAskedFor};
-ghost use Rattle.planner_app.specs.Headline.{status_said};
 ghost use Rattle.planner_app.specs.Outcomes.{AskInVain, AskToCheck, AskToPlan, AskToReport, AskToSimulate, AskToTry};
 ghost use Rattle.planner_app.specs.Outcomes.{Grants, IsOutcome};
 ghost use Rattle.planner_app.specs.Statuses.{EndsCheck, EndsPlanning, EndsReport, EndsSimulation, EndsTrial};
-ghost use Rattle.planner_app.specs.Statuses.{IsStatus, IsUndisturbed};
-ghost use Rattle.planner_app.specs.Statuses.{Wrote, status_of};
+ghost use Rattle.planner_app.specs.Statuses.{IsStatus, IsUndisturbed, Wrote, status_of, status_said};
 
-use crate::answer_file::AnswerError;
-use crate::checking::AnswerVerdict;
-use crate::document::document;
-use crate::outcome::Outcome;
 use crate::run::outcome_of;
 use advisors::Advisor;
+use answer_check::AnswerVerdict;
 use answer_text::{AnswerRefusal, Head};
 use day_files::ReadError;
 use rail_base::Words;
 use rail_io::{Folder, Sink, write_all};
+use run_documents::document::document;
+use run_documents::{AnswerError, Outcome};
 use std::alloc::Global;
 
 /// The status that goes with what an answer says.

@@ -1,7 +1,7 @@
 use Rattle.std.proofs.Common.{ℕ, List, [], refl, inl, inr, ◌+◌, ◌*◌, rules, subst}
 use Rattle.search.specs.Asking.{AreAsked}
 use Rattle.search.proofs.Asking.{are_unasked}
-use Rattle.planner_app.specs.declared.command.Command.TheVariants as command
+use Rattle.commands.specs.declared.command.Command.TheVariants as command
 use Rattle.planner_app.specs.Advice.{AreAskedFor}
 use Rattle.planner_app.specs.declared.reports.Report.TheVariants as report
 use Rattle.planner_app.specs.Outcomes.{AskToCheck, AskToPlan, AskToReport, AskToSimulate}

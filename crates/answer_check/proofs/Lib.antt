@@ -1,0 +1,7 @@
+pub mod KnownUnits
+pub mod Admitting
+pub mod Roots
+pub mod Truth
+pub mod OnePicks
+pub mod Checked
+pub mod Refuting

@@ -1,0 +1,92 @@
+-- The command that the words of a command line make.
+use Rattle.std.specs.Prelude.{ℕ, List, drop, length, slice_get}
+use Rattle.std.specs.Prelude.{Bool, true, false, ◌&&◌, ◌==◌, ◌%◌, nat_le, if◌then◌else◌}
+use Rattle.std.specs.Prelude.{Option, Some, None, option_map, option_and_then, codes}
+use Rattle.std.specs.Str.{bytes_eq}
+use Rattle.rail_base.specs.declared.limits.TheConstants.{MOST_BRANCHINGS, MOST_ROUNDS, MOST_TRIPS}
+use Rattle.rail_csv.specs.Fields.{are_digits, number_of}
+use Rattle.command_line.specs.declared.form.Form.{Form}
+use Rattle.command_line.specs.declared.form.Form.TheVariants.{Folder, FolderSearch, DaySearch}
+use Rattle.command_line.specs.Parts.{Parts, fits, parts_of}
+use Rattle.command_line.specs.Texts.{Texts, texts_of}
+use Rattle.commands.specs.declared.command.Command.{Command}
+use Rattle.commands.specs.declared.command.Command.TheVariants.{Plan, Simulate, Check, Duties, Yards, Costs, Trial}
+use Rattle.commands.specs.declared.command.TheConstants.{MOST_SEED, USUAL_NODES, USUAL_ROUNDS}
+use Rattle.commands.specs.declared.command_words.WordsRefusal.{WordsRefusal}
+use Rattle.commands.specs.declared.command_words.WordsRefusal.TheVariants.{NotUnderstood, NoMemory}
+
+-- ---- what the texts say
+
+-- a number: 1 to 10 digits, and at most so much
+abbrev pub number_up_to : ℕ → List ℕ → Option ℕ
+number_up_to most text = if nat_le 1 (length text) && (nat_le (length text) 10 && (are_digits text
+    && nat_le (number_of text) most)) then Some (number_of text) else None
+
+-- the number of an option, which has its usual number where it is not given
+abbrev pub option_number : ℕ → ℕ → Option (List ℕ) → Option ℕ
+option_number usual most None = Some usual
+option_number usual most (Some text) = number_up_to most text
+
+abbrev pub nodes_of : Texts → Option ℕ
+nodes_of texts = option_number USUAL_NODES MOST_BRANCHINGS texts.nodes
+
+abbrev pub rounds_of : Texts → Option ℕ
+rounds_of texts = option_number USUAL_ROUNDS MOST_ROUNDS texts.rounds
+
+-- the trips of a generated day: an even number from 2 to 400
+abbrev pub even_trips : ℕ → Option ℕ
+even_trips trips = if nat_le 2 trips && (trips % 2 == 0) then Some trips else None
+
+abbrev pub trips_of : List ℕ → Option ℕ
+trips_of text = option_and_then even_trips (number_up_to MOST_TRIPS text)
+
+-- what a generated day is made from, and its trips
+abbrev pub numbers_of : List ℕ → List ℕ → Option (ℕ × ℕ)
+numbers_of seed trips =
+    option_and_then (λ number. option_map (λ count. (number, count)) (trips_of trips)) (number_up_to MOST_SEED seed)
+
+abbrev pub day_of : Texts → Option (ℕ × ℕ)
+day_of texts = option_and_then (λ seed. option_and_then (λ trips. numbers_of seed trips) texts.second) texts.first
+
+-- ---- the commands
+
+abbrev pub plan_of : Texts → Option Command
+plan_of texts = option_and_then (λ dir. option_and_then (λ nodes. option_map (λ rounds. Plan dir nodes rounds)
+    (rounds_of texts)) (nodes_of texts)) texts.first
+
+abbrev pub trial_of : Texts → Option Command
+trial_of texts =
+    option_and_then (λ day. option_and_then (λ nodes. option_map (λ rounds. Trial day.0 day.1 nodes rounds)
+    (rounds_of texts)) (nodes_of texts)) (day_of texts)
+
+-- the commands that have a folder and no options
+abbrev pub in_folder : List ℕ → List ℕ → Option Command
+in_folder word dir = if bytes_eq word (codes "simulate") then Some (Simulate dir)
+    else (if bytes_eq word (codes "check") then Some (Check dir)
+    else (if bytes_eq word (codes "duties") then Some (Duties dir)
+    else (if bytes_eq word (codes "yards") then Some (Yards dir)
+    else (if bytes_eq word (codes "costs") then Some (Costs dir) else None))))
+
+-- what is to come after a command word
+abbrev pub form_of : List ℕ → Form
+form_of word = if bytes_eq word (codes "plan") then FolderSearch
+    else (if bytes_eq word (codes "trial") then DaySearch else Folder)
+
+-- the command of a command word and the texts after it
+abbrev pub named : List ℕ → Texts → Option Command
+named word texts = if bytes_eq word (codes "plan") then plan_of texts
+    else (if bytes_eq word (codes "trial") then trial_of texts else option_and_then (in_folder word) texts.first)
+
+abbrev pub named_plain : List ℕ → Parts → Option Command
+named_plain word parts = if fits (form_of word) parts then named word (texts_of parts) else None
+
+-- The command of the words: after the program's name, which is not looked at, the command word and what comes after
+-- it. Nothing where the words are not of this form.
+abbrev pub command_of : List (List ℕ) → Option Command
+command_of words = option_and_then (λ word. named_plain word (parts_of (drop 2 words))) (slice_get words 1)
+
+-- ---- the answer
+
+abbrev pub is_memory : WordsRefusal → Bool
+is_memory NoMemory = true
+is_memory NotUnderstood = false

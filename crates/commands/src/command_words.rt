@@ -1,0 +1,226 @@
+//! The command that the words of a command line make.
+
+ghost use Rattle.std.specs.Prelude.{◌≡◌, IfOk};
+ghost use Rattle.std.specs.Option.{ok_or};
+ghost use Rattle.rail_base.specs.Answers.{Gives};
+ghost use Rattle.command_line.specs.Texts.{texts_in};
+ghost use Rattle.commands.specs.declared.command_words.WordsRefusal.TheVariants.{NotUnderstood};
+ghost use Rattle.commands.specs.PlainForm.{Reads};
+ghost use Rattle.commands.specs.Commands.{command_of, day_of, form_of, in_folder, is_memory, named, nodes_of};
+ghost use Rattle.commands.specs.Commands.{plan_of, rounds_of, trial_of, trips_of};
+
+use crate::command::{Command, MOST_SEED, Text, USUAL_NODES, USUAL_ROUNDS};
+use crate::numbers::{number, option_number};
+use command_line::{Form, Taken, is_plain, take_apart, words_after};
+use rail_base::limits::{MOST_BRANCHINGS, MOST_ROUNDS, MOST_TRIPS};
+use rail_base::{NoMemory, Words};
+use std::alloc::Global;
+use thiserror::Error;
+
+/// Why words make no command.
+#[derive(Clone, Copy, Debug, PartialEq, Eq, Error)]
+pub enum WordsRefusal {
+    /// The words are not of the form that the program understands.
+    #[error("not understood")]
+    NotUnderstood,
+    /// Want of memory.
+    #[error("out of memory")]
+    NoMemory,
+}
+
+impl From<NoMemory> for WordsRefusal {
+    ghost use Rattle.std.specs.Prelude.{◌≡◌};
+    ghost use Rattle.commands.specs.declared.command_words.WordsRefusal.TheVariants as refusals;
+
+    ghost from_gives = { λ _ e. e ≡ refusals.NoMemory };
+
+    fn from(_error: NoMemory) -> WordsRefusal {
+        WordsRefusal::NoMemory
+    }
+}
+
+/// Reads the words of a command line, of which the first stands for the program's name and is not looked at.
+///
+/// After it comes the command word, and after that, in any mixture, its positional words in their order, which are not
+/// empty and don't begin with `-`, and each of its options at most once, as two words (`--nodes 5`) or as one
+/// (`--nodes=5`). Numbers are 1 to 10 digits.
+///
+/// | Words | Numbers |
+/// |---|---|
+/// | `plan DIR [--nodes N] [--rounds K]` | N at most 4,000, else 200; K at most 100, else 20 |
+/// | `simulate DIR`, `check DIR`, `duties DIR`, `yards DIR`, `costs DIR` | none |
+/// | `trial SEED TRIPS [--nodes N] [--rounds K]` | SEED at most 4,294,967,295; TRIPS even, 2 to 400; N, K as above |
+///
+/// `NotUnderstood` comes exactly where the words are not of this form; `NoMemory` is want of memory.
+pub fn read_words(alloc: Global, words: &Words) -> Result<Command, WordsRefusal>
+    ensures value { Gives is_memory result (ok_or (command_of words.now) NotUnderstood) }
+    ensures meaning { Reads words.now result }
+{
+    command(alloc, words)
+}
+
+/// The command of the words: `clap` takes apart those that are of the plain form.
+fn command(alloc: Global, words: &Words) -> Result<Command, WordsRefusal>
+    ensures { Gives is_memory result (ok_or (command_of words.now) NotUnderstood) }
+{
+    if words.len() < 2 {
+        return Err(WordsRefusal::NotUnderstood);
+    }
+    let word = words.at(1);
+    let form = form_of(word);
+    let rest = words_after(alloc, words, 2)?;
+    if !is_plain(form, rest.as_slice()) {
+        return Err(WordsRefusal::NotUnderstood);
+    }
+    let taken = take_apart(alloc, form, rest.as_slice())?;
+    named(alloc, word, taken)
+}
+
+/// What is to come after a command word.
+fn form_of(word: &str) -> Form
+    ensures { result ≡ form_of word.now }
+{
+    if word == "plan" {
+        return Form::FolderSearch;
+    }
+    if word == "trial" {
+        return Form::DaySearch;
+    }
+    Form::Folder
+}
+
+/// The command of a command word and the texts after it.
+fn named(alloc: Global, word: &str, taken: Taken<'_>) -> Result<Command, WordsRefusal>
+    ensures { Gives is_memory result (ok_or (named word.now (texts_in taken.entry)) NotUnderstood) }
+{
+    if word == "plan" {
+        return plan(alloc, taken);
+    }
+    if word == "trial" {
+        return trial(taken);
+    }
+    match taken.first {
+        Some(dir) => in_folder(alloc, word, dir),
+        None => Err(WordsRefusal::NotUnderstood),
+    }
+}
+
+/// A command that has a folder and no options.
+fn in_folder(alloc: Global, word: &str, dir: &str) -> Result<Command, WordsRefusal>
+    ensures { Gives is_memory result (ok_or (in_folder word.now dir.now) NotUnderstood) }
+{
+    let dir = text(alloc, dir)?;
+    if word == "simulate" {
+        return Ok(Command::Simulate { dir });
+    }
+    if word == "check" {
+        return Ok(Command::Check { dir });
+    }
+    if word == "duties" {
+        return Ok(Command::Duties { dir });
+    }
+    if word == "yards" {
+        return Ok(Command::Yards { dir });
+    }
+    if word == "costs" {
+        return Ok(Command::Costs { dir });
+    }
+    Err(WordsRefusal::NotUnderstood)
+}
+
+/// The command `plan DIR`.
+fn plan(alloc: Global, taken: Taken<'_>) -> Result<Command, WordsRefusal>
+    ensures { Gives is_memory result (ok_or (plan_of (texts_in taken.entry)) NotUnderstood) }
+{
+    let Some(dir) = taken.first else {
+        return Err(WordsRefusal::NotUnderstood);
+    };
+    let Some(nodes) = nodes_of(taken) else {
+        return Err(WordsRefusal::NotUnderstood);
+    };
+    let Some(rounds) = rounds_of(taken) else {
+        return Err(WordsRefusal::NotUnderstood);
+    };
+    let dir = text(alloc, dir)?;
+    Ok(Command::Plan { dir, nodes, rounds })
+}
+
+/// The command `trial SEED TRIPS`.
+fn trial(taken: Taken<'_>) -> Result<Command, WordsRefusal>
+    ensures { result ≡ ok_or (trial_of (texts_in taken.entry)) NotUnderstood }
+{
+    let Some((seed, trips)) = day(taken) else {
+        return Err(WordsRefusal::NotUnderstood);
+    };
+    let Some(nodes) = nodes_of(taken) else {
+        return Err(WordsRefusal::NotUnderstood);
+    };
+    let Some(rounds) = rounds_of(taken) else {
+        return Err(WordsRefusal::NotUnderstood);
+    };
+    Ok(Command::Trial {
+        seed,
+        trips,
+        nodes,
+        rounds,
+    })
+}
+
+/// The branchings that are granted.
+fn nodes_of(taken: Taken<'_>) -> Option<u32>
+    ensures { result ≡ nodes_of (texts_in taken.entry) }
+{
+    option_number(taken.nodes, USUAL_NODES, MOST_BRANCHINGS)
+}
+
+/// The rounds of advice at each node.
+fn rounds_of(taken: Taken<'_>) -> Option<u8>
+    ensures { result ≡ rounds_of (texts_in taken.entry) }
+{
+    match option_number(taken.rounds, USUAL_ROUNDS, MOST_ROUNDS) {
+        Some(rounds) => Some(rounds as u8),
+        None => None,
+    }
+}
+
+/// What a generated day is made from, and its trips.
+fn day(taken: Taken<'_>) -> Option<(u32, u32)>
+    ensures { result ≡ day_of (texts_in taken.entry) }
+{
+    let Some(seed) = taken.first else {
+        return None;
+    };
+    let Some(trips) = taken.second else {
+        return None;
+    };
+    let Some(seed) = number(seed.as_bytes(), MOST_SEED) else {
+        return None;
+    };
+    let Some(trips) = trips_of(trips) else {
+        return None;
+    };
+    Some((seed, trips))
+}
+
+/// The trips of a generated day: an even number from 2 to 400.
+fn trips_of(word: &str) -> Option<u32>
+    ensures { result ≡ trips_of word.now }
+{
+    let Some(trips) = number(word.as_bytes(), MOST_TRIPS as u32) else {
+        return None;
+    };
+    if trips < 2 {
+        return None;
+    }
+    if trips % 2 != 0 {
+        return None;
+    }
+    Some(trips)
+}
+
+/// A copy of a word as a text.
+fn text(alloc: Global, word: &str) -> Result<Text, NoMemory>
+    ensures { IfOk result (λ text. text ≡ word.now) }
+{
+    Ok(Text::of(String::from_str(alloc, word)?.into_bytes()))
+}

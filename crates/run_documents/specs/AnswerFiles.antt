@@ -1,0 +1,51 @@
+-- The answer of a folder, or what is wrong with its file.
+use Rattle.std.specs.Prelude.{ℕ, ◌≡◌, ◌<◌, ◌≤◌, List, ◌++◌, length, codes, Bool, IsTrue, Result, Ok, Err, ⊤}
+use Rattle.rail_base.specs.declared.limits.TheConstants.{MOST_FILE_BYTES}
+use Rattle.rail_base.specs.Answers.{Unless}
+use Rattle.rail_io.specs.Folders.{Files, Rose, RosePast, file_at}
+use Rattle.answer_text.specs.declared.answer.Answer.{Answer}
+use Rattle.answer_text.specs.declared.refusal.AnswerRefusal.{AnswerRefusal}
+use Rattle.answer_text.specs.Grammar.{IsRefused, IsText, is_memory}
+use Rattle.run_documents.specs.declared.answer_file.AnswerError.{AnswerError}
+use Rattle.run_documents.specs.declared.answer_file.AnswerError.TheVariants.{CannotRead, TooLong, Refused}
+
+-- the path of the answer in a folder
+abbrev pub answer_path : List ℕ → List ℕ
+answer_path dir = dir ++ codes "/answer.txt"
+
+-- the bytes of the answer's file
+abbrev pub answer_bytes : Files → List ℕ → List ℕ
+answer_bytes files dir = file_at files (answer_path dir)
+
+-- the bytes are not too many, and are the text of this answer and of no other
+pub record IsAnswerOf (bytes : List ℕ) (answer : Answer) : Type 0 where
+  pub few : length bytes ≤ MOST_FILE_BYTES
+  pub text : IsText bytes answer
+  pub only : (other : Answer) → IsText bytes other → answer ≡ other
+  pub right : (refusal : AnswerRefusal) → ¬ IsRefused bytes refusal
+
+-- the bytes are not too many, are refused for this, and are the text of no answer
+pub record AreRefusedFor (bytes : List ℕ) (refusal : AnswerRefusal) : Type 0 where
+  pub few : length bytes ≤ MOST_FILE_BYTES
+  pub refused : IsRefused bytes refusal
+  pub none : (answer : Answer) → ¬ IsText bytes answer
+
+-- what is wrong with the file; a file that could not be read, and want of memory, say nothing of it
+abbrev pub IsWrongAnswer : Files → List ℕ → AnswerError → Type 0
+IsWrongAnswer files dir CannotRead = ⊤
+IsWrongAnswer files dir TooLong = MOST_FILE_BYTES < length (answer_bytes files dir)
+IsWrongAnswer files dir (Refused refusal) = Unless (is_memory refusal) (AreRefusedFor (answer_bytes files dir) refusal)
+
+-- the file is that of this answer, or it is wrong
+abbrev pub ReadsAnswer : Files → List ℕ → Result Answer AnswerError → Type 0
+ReadsAnswer files dir (Ok answer) = IsAnswerOf (answer_bytes files dir) answer
+ReadsAnswer files dir (Err error) = IsWrongAnswer files dir error
+
+-- What an error says of the folder before and after: the file could not be read only where the count of faults rose and
+-- a read of it may fail, and was too long only where more bytes were taken than an answer may have, or the count of
+-- them was at 2^63.
+abbrev pub IsAnswerCaused : {F : Type 0} → (F → List ℕ → Bool) → (F → ℕ) → (F → ℕ) → List ℕ → F → F → AnswerError → Type 0
+IsAnswerCaused may_fail faults taken dir before after CannotRead =
+    Rose (faults before) (faults after) × IsTrue (may_fail before (answer_path dir))
+IsAnswerCaused may_fail faults taken dir before after TooLong = RosePast MOST_FILE_BYTES (taken before) (taken after)
+IsAnswerCaused may_fail faults taken dir before after (Refused refusal) = ⊤

@@ -1,0 +1,8 @@
+-- the answer of a folder
+pub mod AnswerFiles
+-- the lines that are written
+pub mod Lines
+pub mod CheckTexts
+pub mod TrialTexts
+-- the document of what a run comes to
+pub mod Texts

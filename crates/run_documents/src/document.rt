@@ -1,0 +1,210 @@
+//! The document of an outcome: an answer, a report, or one line with the text of a refusal or a fault.
+
+ghost use Rattle.std.specs.Prelude.{◌≡◌, ◌++◌, ℕ, pos, IfOk, string_bytes};
+ghost use Rattle.answer_text.specs.Texts.{head_line};
+ghost use Rattle.run_documents.specs.Lines.{answer_file, answer_refusal_text, balance_text, cannot_read_line};
+ghost use Rattle.run_documents.specs.Lines.{fault_text, file_refused_line, line_end, not_ready_text, refused_line};
+ghost use Rattle.run_documents.specs.Lines.{runs_line, stops_line, usage_text};
+ghost use Rattle.run_documents.specs.Texts.{IsDocument};
+ghost use Rattle.run_documents.specs.TrialTexts.{summary_by, trial_text};
+
+use crate::answer_file::AnswerError;
+use crate::check_lines::check_line;
+use crate::outcome::Outcome;
+use answer_text::{Answer, AnswerRefusal, Head, print, write_head};
+use day_files::{ReadError, Refusal, file_name};
+use day_simulator::StepFault;
+use rail_base::{Money, NoMemory, StationNo, TripNo, TypeNo, UnitNo};
+use rail_csv::Table;
+use std::alloc::Global;
+
+/// The document that a run writes for its outcome: the text of an answer, a report, how the program is used, or one
+/// line with its line feed. There is none for want of memory, which is the only refusal.
+pub fn document(alloc: Global, outcome: &Outcome) -> Result<Vec<u8>, NoMemory>
+    ensures { IfOk result (λ text. IsDocument outcome.now text.items) }
+{
+    match outcome {
+        Outcome::Planned(answer) => print(alloc, answer),
+        Outcome::Tried {
+            seed,
+            trips,
+            answer,
+        } => trial_text(alloc, *seed, *trips, answer),
+        Outcome::Runs(cost) => Ok(runs_line(alloc, *cost)?.into_bytes()),
+        Outcome::Stops(fault) => Ok(stops_line(alloc, fault)?.into_bytes()),
+        Outcome::Checked { head, verdict } => Ok(check_line(alloc, head, verdict)?.into_bytes()),
+        Outcome::Reported(report) => Ok(report.items().to_vec(alloc)?),
+        Outcome::NoPlan => Ok(String::from_str(alloc, "no plan\n")?.into_bytes()),
+        Outcome::Usage => Ok(usage_text(alloc)?.into_bytes()),
+        Outcome::NoInputs(error) => Ok(no_inputs_line(alloc, error)?.into_bytes()),
+        Outcome::NoAnswer(error) => Ok(no_answer_line(alloc, error)?.into_bytes()),
+    }
+}
+
+/// How the program is used.
+fn usage_text(alloc: Global) -> Result<String, NoMemory>
+    ensures { IfOk result (λ text. string_bytes text ≡ usage_text) }
+{
+    let mut text = String::from_str(alloc, "usage: railplan plan DIR [--nodes N] [--rounds K]\n")?;
+    text.push_str("       railplan simulate DIR\n")?;
+    text.push_str("       railplan check DIR\n")?;
+    text.push_str("       railplan duties DIR\n")?;
+    text.push_str("       railplan yards DIR\n")?;
+    text.push_str("       railplan costs DIR\n")?;
+    text.push_str("       railplan trial SEED TRIPS [--nodes N] [--rounds K]\n")?;
+    Ok(text)
+}
+
+/// The text of a trial day that was planned: which day it is, and what the answer says where that is all, else the
+/// answer.
+fn trial_text(alloc: Global, seed: u32, trips: u32, answer: &Answer) -> Result<Vec<u8>, NoMemory>
+    ensures { IfOk result (λ text. text.items ≡ trial_text seed trips answer.now) }
+{
+    let mut text = format!(in alloc; "trial {seed} {trips}\n")?.into_bytes();
+    let summary = summary_of(alloc, answer)?;
+    text.extend_from_slice(summary.as_slice())?;
+    Ok(text)
+}
+
+/// What an answer says, in a line, where it says all of the day; else the whole answer.
+fn summary_of(alloc: Global, answer: &Answer) -> Result<Vec<u8>, NoMemory>
+    ensures { IfOk result (λ text. text.items ≡ summary_by answer.now.head answer.now) }
+{
+    match answer.head {
+        Head::Optimal { .. } | Head::Infeasible => head_line(alloc, &answer.head),
+        Head::Bounded { .. } | Head::BoundedPlan { .. } => print(alloc, answer),
+    }
+}
+
+/// The line that tells what an answer says.
+fn head_line(alloc: Global, head: &Head) -> Result<Vec<u8>, NoMemory>
+    ensures { IfOk result (λ text. text.items ≡ head_line head.now ++ line_end) }
+{
+    let mut line = String::new(alloc);
+    write_head(&mut line, head)?;
+    Ok(line.into_bytes())
+}
+
+/// The line of a day or a plan that was not read. There is none for want of memory.
+fn no_inputs_line(alloc: Global, error: &ReadError) -> Result<String, NoMemory>
+    ensures { IfOk result (λ text. IsDocument (Outcome.NoInputs error.now) (string_bytes text)) }
+{
+    match error {
+        ReadError::Refused(refusal) => refused_line(alloc, refusal),
+        ReadError::CannotRead(table) => cannot_read_line(alloc, *table),
+        ReadError::NoMemory => Err(NoMemory),
+    }
+}
+
+/// The line of an answer that was not read. There is none for want of memory.
+fn no_answer_line(alloc: Global, error: &AnswerError) -> Result<String, NoMemory>
+    ensures { IfOk result (λ text. IsDocument (Outcome.NoAnswer error.now) (string_bytes text)) }
+{
+    match *error {
+        AnswerError::CannotRead => Ok(String::from_str(alloc, "cannot read answer.txt\n")?),
+        AnswerError::TooLong => Ok(String::from_str(alloc, "refused answer.txt: too long\n")?),
+        AnswerError::Refused(AnswerRefusal::NoMemory) => Err(NoMemory),
+        AnswerError::Refused(refusal) => refused_answer_line(alloc, refusal),
+    }
+}
+
+/// The line of an answer file that is the text of no answer, for a cause that is not want of memory.
+fn refused_answer_line(alloc: Global, refusal: AnswerRefusal) -> Result<String, NoMemory>
+    ensures { IfOk result (λ line. string_bytes line ≡ file_refused_line answer_file (answer_refusal_text refusal)) }
+{
+    let why = answer_refusal_text(alloc, refusal)?;
+    Ok(format!(in alloc; "refused answer.txt: {why}\n")?)
+}
+
+/// Why bytes are no answer. Want of memory has no text.
+fn answer_refusal_text(alloc: Global, refusal: AnswerRefusal) -> Result<String, NoMemory>
+    ensures { IfOk result (λ text. string_bytes text ≡ answer_refusal_text refusal) }
+{
+    match refusal {
+        AnswerRefusal::BadLine(line) => Ok(format!(in alloc; "line {line}")?),
+        AnswerRefusal::MissingEnd => Ok(String::from_str(alloc, "no end line")?),
+        AnswerRefusal::Trailing(line) => Ok(format!(in alloc; "line {line} after the end")?),
+        AnswerRefusal::TooManyNodes => Ok(String::from_str(alloc, "too many nodes")?),
+        AnswerRefusal::NoMemory => Ok(String::new(alloc)),
+    }
+}
+
+/// The line of a plan that runs at this cost.
+fn runs_line(alloc: Global, cost: Money) -> Result<String, NoMemory>
+    ensures { IfOk result (λ line. (amount : ℕ) → cost.0 ≡ pos amount → string_bytes line ≡ runs_line amount) }
+{
+    let amount = cost.0;
+    Ok(format!(in alloc; "runs {amount}\n")?)
+}
+
+/// The line of a plan that stops with this fault.
+fn stops_line(alloc: Global, fault: &StepFault) -> Result<String, NoMemory>
+    ensures { IfOk result (λ line. string_bytes line ≡ stops_line fault.now) }
+{
+    let text = fault_text(alloc, fault)?;
+    Ok(format!(in alloc; "stops: {text}\n")?)
+}
+
+/// The line of a refused file.
+fn refused_line(alloc: Global, refusal: &Refusal) -> Result<String, NoMemory>
+    ensures { IfOk result (λ line. string_bytes line ≡ refused_line refusal.now) }
+{
+    let file = file_name(refusal.table());
+    let text = refusal.text(alloc)?;
+    Ok(format!(in alloc; "refused {file}: {text}\n")?)
+}
+
+/// The line of a file that could not be read.
+fn cannot_read_line(alloc: Global, table: Table) -> Result<String, NoMemory>
+    ensures { IfOk result (λ line. string_bytes line ≡ cannot_read_line table) }
+{
+    let file = file_name(table);
+    Ok(format!(in alloc; "cannot read {file}\n")?)
+}
+
+/// Why a plan stops.
+pub(crate) fn fault_text(alloc: Global, fault: &StepFault) -> Result<String, NoMemory>
+    ensures { IfOk result (λ text. string_bytes text ≡ fault_text fault.now) }
+{
+    match *fault {
+        StepFault::NotNow(_) => Ok(String::from_str(alloc, "event out of turn")?),
+        StepFault::NoUnits(trip) => Ok(format!(in alloc; "trip {} has no units", trip.0)?),
+        StepFault::NotAdmissible(trip) => {
+            Ok(format!(in alloc; "trip {} has no admissible composition", trip.0)?)
+        }
+        StepFault::LinkBroken(link) => Ok(format!(in alloc; "link {} is broken", link.0)?),
+        StepFault::NotInYard { unit, trip } => not_ready_text(alloc, unit, trip),
+        StepFault::Balance {
+            station,
+            unit_type,
+            count,
+            wanted,
+        } => balance_text(alloc, station, unit_type, count, wanted),
+    }
+}
+
+/// A unit that a trip should take is not there and ready.
+fn not_ready_text(alloc: Global, unit: UnitNo, trip: TripNo) -> Result<String, NoMemory>
+    ensures { IfOk result (λ text. string_bytes text ≡ not_ready_text unit trip) }
+{
+    let unit = unit.0;
+    let trip = trip.0;
+    Ok(format!(in alloc; "unit {unit} is not ready for trip {trip}")?)
+}
+
+/// A station has another number of units of a type at the end than is wanted.
+fn balance_text(
+    alloc: Global,
+    station: StationNo,
+    unit_type: TypeNo,
+    count: u32,
+    wanted: u32,
+) -> Result<String, NoMemory>
+    ensures { IfOk result (λ text. string_bytes text ≡ balance_text station unit_type count wanted) }
+{
+    let station = station.0;
+    let unit_type = unit_type.0;
+    Ok(format!(in alloc;
+        "station {station} has {count} units of type {unit_type}, {wanted} wanted"
+    )?)
+}
