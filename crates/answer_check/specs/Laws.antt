@@ -11,3 +11,8 @@ use Rattle.answer_check.specs.Verdicts.{IsAnswerVerdict}
 abbrev pub ValidAnswersAreFound : Type 0
 ValidAnswersAreFound = (day : Day) (answer : Answer) → IsValid day answer → (verdict : AnswerVerdict) →
     IsAnswerVerdict day answer verdict → verdict ≡ Valid
+
+-- An answer has one verdict, and so one first thing that is wrong with it.
+abbrev pub AnswerVerdictsAreOne : Type 0
+AnswerVerdictsAreOne = (day : Day) (answer : Answer) (one other : AnswerVerdict) →
+    IsAnswerVerdict day answer one → IsAnswerVerdict day answer other → one ≡ other
