@@ -16,7 +16,7 @@ use Rattle.cert_check.specs.Verdicts.{IsVerdict}
 use Rattle.price_bound.specs.ChangedDays.{ChangedDay, changed_meanings, unchanged}
 use Rattle.price_bound.specs.DayMeanings.{meanings_of}
 use Rattle.answer_text.specs.declared.answer.Answer.{Answer}
-use Rattle.answer_check.proofs.Roots.{roots_are_over}
+use Rattle.branch_tree.proofs.Over.{roots_are_over}
 use Rattle.answer_check.specs.Validity.{HasPicks, IsTrueOf, IsValid, conclusion_of}
 use Rattle.answer_check.specs.Verdicts.{IsRefuted}
 use Rattle.answer_check.proofs.Truth.{valid_answers_are_true}

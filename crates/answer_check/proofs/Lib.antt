@@ -1,6 +1,5 @@
 pub mod KnownUnits
 pub mod Admitting
-pub mod Roots
 pub mod Truth
 pub mod OnePicks
 pub mod Checked
