@@ -215,9 +215,11 @@ Says words files (Planned answer) =
     (day : Day) × (planned : IsPlanned words day answer) × (day_in files planned.dir ≡ Ok day)
 Says words files (Tried seed trips answer) = IsTried words seed trips answer
 Says words files (Runs money) =
-    (inputs : Inputs) × AreInputs words files inputs × PlanRuns inputs × IsCost (plan_cost inputs.instance inputs.plan) money
+    (inputs : Inputs) × AreInputs words files inputs × PlanRuns inputs
+    × IsCost (plan_cost inputs.instance inputs.plan) money
 Says words files (Stops fault) =
-    (inputs : Inputs) × AreInputs words files inputs × ¬ (PlanRuns inputs) × (simulation inputs.instance inputs.plan ≡ Err fault) × IsInTurn fault
+    (inputs : Inputs) × AreInputs words files inputs × ¬ (PlanRuns inputs)
+    × (simulation inputs.instance inputs.plan ≡ Err fault) × IsInTurn fault
 Says words files (Checked head verdict) = IsChecked words files head verdict
 Says words files (Reported text) = IsReported words files text
 Says words files NoPlan = HasNoPlan words files

@@ -24,6 +24,7 @@ IsReportOutcome kind day answer other = ⊥
 -- the trial day is planned, and its answer meets the headline; or memory ran out
 abbrev pub IsTrialOutcome : ℕ → ℕ → ℕ → Outcome → Type 0
 IsTrialOutcome seed trips nodes (Tried seed' trips' answer) =
-    (seed' ≡ seed) × (trips' ≡ trips) × (day : Day) × (day_of (trial_tables_of seed trips) ≡ Ok day) × IsHeadline day nodes answer
+    (seed' ≡ seed) × (trips' ≡ trips) × (day : Day) × (day_of (trial_tables_of seed trips) ≡ Ok day)
+    × IsHeadline day nodes answer
 IsTrialOutcome seed trips nodes (NoInputs NoMemory) = ⊤
 IsTrialOutcome seed trips nodes other = ⊥

@@ -56,7 +56,8 @@ pub record IsAnswered (day : Day) (nodes status : ℕ) (before after : Option (L
   pub written : Appends (text_of answer) before after
 
 -- the status with which the day of a folder is planned, and what was written
-pub record EndsPlanning (files : Files) (dir : List ℕ) (nodes status : ℕ) (before after : Option (List ℕ)) : Type 0 where
+pub record EndsPlanning (files : Files) (dir : List ℕ) (nodes status : ℕ)
+    (before after : Option (List ℕ)) : Type 0 where
   -- 3 exactly where a table is refused
   pub refused : (status ≡ 3) ↔ ((why : Refusal) × (day_in files dir ≡ Err why))
   -- where it isn't 3, the tables are accepted as a day, and an answer to it was written
@@ -87,7 +88,8 @@ pub record EndsCheck (files : Files) (dir : List ℕ) (status : ℕ) : Type 0 wh
   -- and what a valid answer says is true of every plan of the day
   pub holds : status ≡ 0 → (day : Day) × (answer : Answer) × AreAnswered files dir day answer × IsTrueOf day answer
   -- 1 exactly where they are accepted, and it isn't
-  pub invalid : (status ≡ 1) ↔ ((day : Day) × (answer : Answer) × AreAnswered files dir day answer × ¬ (IsValid day answer))
+  pub invalid : (status ≡ 1) ↔ ((day : Day) × (answer : Answer) × AreAnswered files dir day answer
+      × ¬ (IsValid day answer))
   -- 3 exactly where a table or the answer is refused
   pub refused : (status ≡ 3) ↔ IsAnswerRefusedIn files dir
 
@@ -148,6 +150,8 @@ status_of (NoAnswer (answer_error.Refused refusal)) = 3
 -- What was written of an outcome, and the status that says so: its whole document; or a front of it, where a write
 -- failed; or nothing, where memory ran out.
 pub data Wrote (outcome : Outcome) (status : ℕ) (before after : Option (List ℕ)) (faults faults' : ℕ) : Type 0 where
-  Whole : (text : List ℕ) → IsDocument outcome text → Appends text before after → status ≡ status_of outcome → Wrote outcome status before after faults faults'
-  Part : (text : List ℕ) → IsDocument outcome text → AppendsPart text before after → Rose faults faults' → status ≡ 6 → Wrote outcome status before after faults faults'
+  Whole : (text : List ℕ) → IsDocument outcome text → Appends text before after → status ≡ status_of outcome
+      → Wrote outcome status before after faults faults'
+  Part : (text : List ℕ) → IsDocument outcome text → AppendsPart text before after → Rose faults faults' → status ≡ 6
+      → Wrote outcome status before after faults faults'
   Nothing : after ≡ before → status ≡ 7 → Wrote outcome status before after faults faults'

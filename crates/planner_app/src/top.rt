@@ -56,7 +56,8 @@ fn status_of(outcome: &Outcome) -> u8
 
 /// Writes the document of an outcome, made whole in memory before the first write, and answers the status.
 fn write_outcome<K: Sink>(alloc: Global, outcome: &Outcome, out: &mut K) -> u8
-    ensures wrote { Wrote outcome.now result (K.written out.old) (K.written out.new) (K.faults out.old) (K.faults out.new) }
+    ensures wrote { Wrote outcome.now result (K.written out.old) (K.written out.new) (K.faults out.old)
+        (K.faults out.new) }
     ensures lasting { K.faults out.old ≤ K.faults out.new }
 {
     let Ok(text) = document(alloc, outcome) else {
@@ -74,29 +75,30 @@ fn write_outcome<K: Sink>(alloc: Global, outcome: &Outcome, out: &mut K) -> u8
 /// a day, `types.csv`, `stations.csv`, `stock.csv`, `trips.csv`, `links.csv` and `weights.csv` in DIR.
 ///
 /// - `plan DIR --nodes N --rounds K` plans the day by a search of at most N branchings, 200 where no N is given, and
-///   writes
-///   an answer: the plan of named units, its cost, and a tree that proves what is said of all other plans. The advisors are
-///   asked for proposals in at most K rounds at each node, 20 where no K is given. Whatever they propose, what the answer
-///   says is true.
+///   writes an answer: the plan of named units, its cost, and a tree that proves what is said of all other plans. The
+///   advisors are asked for proposals in at most K rounds at each node, 20 where no K is given. Whatever they propose,
+///   what the answer says is true.
 /// - `simulate DIR` reads `plan.csv` as well, and says whether the plan runs and what it costs.
 /// - `check DIR` reads `answer.txt` as well, and says whether the answer is valid: its plan, if it has one, runs, and
-///   its
-///   tree proves what it says of all plans.
+///   its tree proves what it says of all plans.
 /// - `duties DIR`, `yards DIR` and `costs DIR` check `answer.txt` likewise, and write a report on its plan as a table.
 /// - `trial SEED TRIPS --nodes N --rounds K` makes a day of the seed, plans it like `plan`, and writes what the answer
-///   says,
-///   or the whole answer where it is bounded.
+///   says, or the whole answer where it is bounded.
 ///
-/// | Status | Comes |
-/// |---|---|
-/// | 0 | exactly where the files are accepted, and the answer found is optimal, the plan runs, the answer is valid, or it is valid and has a plan to report on |
-/// | 1 | exactly where they are accepted, and no plan runs, the plan doesn't, the answer isn't valid, or it has no plan to report on |
-/// | 2 | exactly where the words are none of these commands |
-/// | 3 | exactly where a file is refused |
-/// | 4 | exactly where they are accepted, and the answer found is bounded: all granted branchings were made, and a leaf is open |
-/// | 5 | only where the count of failed reads rose in this call |
-/// | 6 | only where the count of failed writes rose in this call; a front of the document was written, and not all of it |
-/// | 7 | want of memory; nothing was written |
+/// The statuses:
+///
+/// - 0 comes exactly where the files are accepted, and the answer found is optimal, the plan runs, the answer is valid,
+///   or it is valid and has a plan to report on.
+/// - 1 comes exactly where they are accepted, and no plan runs, the plan doesn't, the answer isn't valid, or it has no
+///   plan to report on.
+/// - 2 comes exactly where the words are none of these commands.
+/// - 3 comes exactly where a file is refused.
+/// - 4 comes exactly where they are accepted, and the answer found is bounded: all granted branchings were made, and a
+///   leaf is open.
+/// - 5 comes only where the count of failed reads rose in this call.
+/// - 6 comes only where the count of failed writes rose in this call; a front of the document was written, and not all
+///   of it.
+/// - 7 is want of memory; nothing was written.
 ///
 /// Each "exactly where" yields to statuses 5, 6 and 7. What is said of the files holds where the folder tells what it
 /// holds, and what is said of the document where the sink tells what was written.
@@ -138,7 +140,8 @@ pub fn railplan<F: Folder, K: Sink>(
 
     // What was written is the document of an outcome of these words and this folder, whose status is the result; and
     // where it is an answer, the advisors were asked as it tells.
-    ensures document { (outcome : Outcome) × IsOutcome F.holds F.may_fail F.faults F.taken words.now folder.old folder.new outcome
+    ensures document { (outcome : Outcome)
+        × IsOutcome F.holds F.may_fail F.faults F.taken words.now folder.old folder.new outcome
         × Wrote outcome result (K.written out.old) (K.written out.new) (K.faults out.old) (K.faults out.new)
         × ((nodes rounds : ℕ) → Grants words.now nodes rounds
         → AreAskedFor rounds outcome advisors.old.items advisors.new.items asked has_quit) }

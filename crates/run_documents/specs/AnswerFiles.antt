@@ -44,7 +44,8 @@ ReadsAnswer files dir (Err error) = IsWrongAnswer files dir error
 -- What an error says of the folder before and after: the file could not be read only where the count of faults rose and
 -- a read of it may fail, and was too long only where more bytes were taken than an answer may have, or the count of
 -- them was at 2^63.
-abbrev pub IsAnswerCaused : {F : Type 0} → (F → List ℕ → Bool) → (F → ℕ) → (F → ℕ) → List ℕ → F → F → AnswerError → Type 0
+abbrev pub IsAnswerCaused : {F : Type 0} → (F → List ℕ → Bool) → (F → ℕ) → (F → ℕ) → List ℕ → F → F → AnswerError
+    → Type 0
 IsAnswerCaused may_fail faults taken dir before after CannotRead =
     Rose (faults before) (faults after) × IsTrue (may_fail before (answer_path dir))
 IsAnswerCaused may_fail faults taken dir before after TooLong = RosePast MOST_FILE_BYTES (taken before) (taken after)

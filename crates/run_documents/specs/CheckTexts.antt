@@ -27,7 +27,8 @@ abbrev pub branchings_text : ℕ → ℕ → List ℕ
 branchings_text said found = decimal said ++ (codes " branchings said, " ++ (decimal found ++ codes " found"))
 
 abbrev pub bound_text : ℕ → Money → Option Money → List ℕ
-bound_text node said found = node_text node (codes " says " ++ (signed_decimal said.0 ++ (codes ", found " ++ found_text found)))
+bound_text node said found =
+    node_text node (codes " says " ++ (signed_decimal said.0 ++ (codes ", found " ++ found_text found)))
 
 abbrev pub ray_text : ℕ → Option Money → List ℕ
 ray_text node found = codes "ray of node " ++ (decimal node ++ (codes " is " ++ found_text found))

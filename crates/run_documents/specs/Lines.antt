@@ -21,7 +21,8 @@ not_ready_text unit trip = codes "unit " ++ (decimal unit ++ (codes " is not rea
 -- a station has another number of units of a type at the end than is wanted
 abbrev pub balance_text : ℕ → ℕ → ℕ → ℕ → List ℕ
 balance_text station unit_type count wanted =
-    codes "station " ++ (decimal station ++ (codes " has " ++ (decimal count ++ (codes " units of type " ++ (decimal unit_type ++ (codes ", " ++ (decimal wanted ++ codes " wanted")))))))
+    codes "station " ++ (decimal station ++ (codes " has " ++ (decimal count
+    ++ (codes " units of type " ++ (decimal unit_type ++ (codes ", " ++ (decimal wanted ++ codes " wanted")))))))
 
 -- why a plan stops
 abbrev pub fault_text : StepFault → List ℕ

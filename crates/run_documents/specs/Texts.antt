@@ -29,4 +29,5 @@ IsDocument (NoInputs NoMemory) text = ⊥
 IsDocument (NoAnswer answer_error.CannotRead) text = text ≡ file_unread_line answer_file
 IsDocument (NoAnswer answer_error.TooLong) text = text ≡ file_refused_line answer_file too_long_text
 IsDocument (NoAnswer (answer_error.Refused answer_refusal.NoMemory)) text = ⊥
-IsDocument (NoAnswer (answer_error.Refused refusal)) text = text ≡ file_refused_line answer_file (answer_refusal_text refusal)
+IsDocument (NoAnswer (answer_error.Refused refusal)) text =
+    text ≡ file_refused_line answer_file (answer_refusal_text refusal)
