@@ -1,5 +1,6 @@
 -- What a call that reads a folder answers.
-use Rattle.std.specs.Prelude.{ℕ, ◌≡◌, List, Bool, false, IsTrue, if◌then◌else◌, Result, Ok, Err, ⊤}
+use Rattle.std.specs.Prelude.{ℕ, ◌≡◌, ◌≤◌, List, length, Bool, false, IsTrue, if◌then◌else◌, Result, Ok, Err, ⊤}
+use Rattle.rail_base.specs.Answers.{Fails}
 use Rattle.rail_base.specs.declared.limits.TheConstants.{MOST_TABLE_BYTES}
 use Rattle.rail_io.specs.Folders.{Rose, RosePast}
 use Rattle.rail_csv.specs.declared.rows.PlanRow.{PlanRow}
@@ -16,6 +17,7 @@ use Rattle.day_files.specs.declared.errors.ReadError.TheVariants.{CannotRead, Re
 use Rattle.rail_csv.specs.declared.refusal.TableRefusal.{TableRefusal}
 use Rattle.rail_csv.specs.Tables.{is_memory}
 use Rattle.day_files.specs.Names.{path_of}
+use Rattle.day_files.specs.Tables.{reading}
 
 -- A call reads what the files hold: its answer is theirs, and its refusal too. A file that could not be read is one
 -- that is reached. Want of memory says nothing of the files.
@@ -35,13 +37,23 @@ IsCaused may_fail faults taken dir before after (Refused (TooLong table)) =
     RosePast MOST_TABLE_BYTES (taken before) (taken after)
 IsCaused may_fail faults taken dir before after _ = ⊤
 
+-- the reader of a table gives this refusal of these bytes, unless it is want of memory
+abbrev pub IsWrong : Table → List ℕ → TableRefusal → Type 0
+IsWrong table bytes why = Fails is_memory why (reading table bytes)
+
+-- bytes that are no longer than a table may be, and of which the reader of the table gives this refusal
+pub record AreRefused (table : Table) (bytes : List ℕ) (why : TableRefusal) : Type 0 where
+  pub few : length bytes ≤ MOST_TABLE_BYTES
+  pub read : reading table bytes ≡ Err why
+
 -- What an error says whatever the folder tells, where a call reads these tables: a file that could not be read, or that
--- is refused as it stands, is one of theirs; some tables make no day, or some rows no plan of a day, for the reason
--- that is told; and no refusal is want of memory.
+-- is refused as it stands, is one of theirs; some bytes are no such table, some tables make no day, or some rows no
+-- plan of a day, for the reason that is told; and no refusal is want of memory.
 abbrev pub IsErrorOf : (Table → Type 0) → ReadError → Type 0
 IsErrorOf AreRead (CannotRead table) = AreRead table
 IsErrorOf AreRead (Refused (TooLong table)) = AreRead table
-IsErrorOf AreRead (Refused (WrongTable table why)) = AreRead table × (is_memory why ≡ false)
+IsErrorOf AreRead (Refused (WrongTable table why)) =
+    AreRead table × (is_memory why ≡ false) × (bytes : List ℕ) × AreRefused table bytes why
 IsErrorOf AreRead (Refused (NoDay why)) = (tables : Tables) × (day_of tables ≡ Err why)
 IsErrorOf AreRead (Refused (NoPlan why)) =
     AreRead Plan × (day : Day) × (rows : List PlanRow) × (plan_of day rows ≡ Err why)

@@ -7,7 +7,7 @@ ghost use Rattle.rail_csv.specs.Tables.{is_memory};
 ghost use Rattle.rail_csv.specs.declared.rows.Table.{Table};
 ghost use Rattle.rail_csv.specs.declared.refusal.TableRefusal.{TableRefusal};
 ghost use Rattle.day_files.specs.Tables.{bytes_in, read_by};
-ghost use Rattle.day_files.specs.Answers.{Reads, IsCaused, IsErrorOf, error_of};
+ghost use Rattle.day_files.specs.Answers.{Reads, IsCaused, IsErrorOf, IsWrong, error_of};
 
 use crate::errors::{ReadError, Refusal};
 use crate::names::path_of;
@@ -40,6 +40,7 @@ pub trait DayTable: Drop {
     fn read(alloc: Global, bytes: &[u8]) -> Result<Self, TableRefusal>
         requires { length bytes.now ≤ MOST_TABLE_BYTES }
         ensures exact { Gives is_memory result (reading bytes.now) }
+        ensures wrong { IfErr result (IsWrong table bytes.now) }
         ensures within { IfOk result is_within };
 }
 
@@ -70,7 +71,8 @@ fn bytes_of<F: Folder>(
 /// What the refusal of a table comes to.
 fn why(table: Table, refusal: TableRefusal) -> ReadError
     ensures value { result ≡ error_of table refusal }
-    ensures says { IsErrorOf (λ other. other ≡ table) result }
+    ensures says { (bytes : List ℕ) → length bytes ≤ MOST_TABLE_BYTES → IsWrong table bytes refusal
+        → IsErrorOf (λ other. other ≡ table) result }
 {
     match refusal {
         TableRefusal::NoMemory => ReadError::NoMemory,

@@ -78,7 +78,7 @@ about_reported words dir kind asked =
 of_more : {A B : Table → Type 0} → ((read : Table) → A read → B read) → (error : ReadError) → IsErrorOf A error → IsErrorOf B error
 of_more more (CannotRead read) of = more read of
 of_more more (Refused (TooLong read)) of = more read of
-of_more more (Refused (WrongTable read why)) of = (more read of.0, of.1)
+of_more more (Refused (WrongTable read why)) of = (more read of.0, of.1, of.2, of.3)
 of_more more (Refused (refusal.NoDay why)) of = of
 of_more more (Refused (refusal.NoPlan why)) of = (more table.Plan of.0, of.1, of.2, of.3)
 of_more more NoMemory of = tt
