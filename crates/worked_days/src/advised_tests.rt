@@ -7,8 +7,9 @@ ghost use Rattle.advisors.specs.Proposals.{DoesFit, IsOverSame};
 
 use crate::day::{folder_of, one_stays, words_of};
 use advisors::{Advisor, Look, Proposal, Subgradient, Word};
+use branch_tree::{Cut, PutRefusal};
 use planner_app::railplan;
-use rail_base::NoMemory;
+use rail_base::{CompNo, NoMemory, TripNo};
 use rail_io::MemorySink;
 use std::alloc::{AllocError, Global};
 use std::process::Abort;
@@ -18,31 +19,48 @@ const WITHOUT_BRANCHINGS: &[&str] = &["railplan", "plan", "day", "--nodes", "0"]
 
 const WITH_TWO_BRANCHINGS: &[&str] = &["railplan", "plan", "day", "--nodes", "2", "--rounds", "3"];
 
-/// What an advisor answers at its second call; at every other one it answers `More`.
+/// What is written with two branchings where no advice is used.
+const UNADVISED: &str = "railplan answer 1\noptimal 190\nbranchings 2\nrun 0 0 1\nrun 1 1\ntree\n\
+    only 0 1\nonly 1 1\nray 1 2:-1\ncost 190 0\nray 1 2:-1\nend\n";
+
+/// What an advisor proposes, the same at each call.
 #[derive(Clone, Copy)]
-enum Second {
+enum Advice {
+    Nothing,
+    /// A multiplier at index 3.
+    Multiplier(i64),
+    /// Multipliers that are refused: at an index that is not there, below 0 where that may not be, and over the limit.
+    RefusedMultipliers,
+    /// The cut that leaves a trip one composition alone on the left side.
+    Only { trip: u32, comp: u32 },
+}
+
+/// What an advisor answers.
+#[derive(Clone, Copy)]
+enum Reply {
     More,
     Quit,
     NoMemory,
 }
 
-/// An advisor that proposes the same multiplier at index 3 each time, or none where that is 0.
+/// An advisor that proposes the same each time, and has a reply for its first two calls; at every other one it answers
+/// `More`. It quits where what it puts is not taken or refused as it is to be.
 #[derive(Drop)]
 struct Steady {
-    value: i64,
-    second: Second,
+    advice: Advice,
+    replies: [Reply; 2],
     asked: u64,
     has_quit: bool,
 }
 
 impl Steady {
     /// One that was not asked yet.
-    fn new(value: i64, second: Second) -> Steady
+    fn new(advice: Advice, replies: [Reply; 2]) -> Steady
         ensures { result.asked ≡ 0 }
     {
         Steady {
-            value,
-            second,
+            advice,
+            replies,
             asked: 0,
             has_quit: false,
         }
@@ -55,8 +73,8 @@ impl Advisor for Steady {
     ghost has_quit = { λ advisor. advisor.has_quit };
 
     fn advise(&mut self, _look: &Look<'_>, to: &mut Proposal) -> Result<Word, NoMemory> {
-        propose(to, self.value);
-        let answer = answer_to_call(self.asked, self.second);
+        let is_right = propose(to, self.advice);
+        let answer = answer_to_call(self.asked, self.replies, is_right);
         self.asked += 1;
         self.has_quit = is_quit(&answer);
         answer
@@ -71,15 +89,20 @@ impl Advisor for Steady {
     }
 }
 
-/// The answer to a call before which there were so many.
-fn answer_to_call(before: u64, second: Second) -> Result<Word, NoMemory> {
-    if before != 1 {
-        return Ok(Word::More);
+/// The answer to a call before which there were so many, by whether its proposal was taken or refused as it is to be.
+fn answer_to_call(before: u64, replies: [Reply; 2], is_right: bool) -> Result<Word, NoMemory> {
+    if !is_right {
+        return Ok(Word::Quit);
     }
-    match second {
-        Second::More => Ok(Word::More),
-        Second::Quit => Ok(Word::Quit),
-        Second::NoMemory => Err(NoMemory),
+    let reply = match before {
+        0 => replies[0],
+        1 => replies[1],
+        _ => Reply::More,
+    };
+    match reply {
+        Reply::More => Ok(Word::More),
+        Reply::Quit => Ok(Word::Quit),
+        Reply::NoMemory => Err(NoMemory),
     }
 }
 
@@ -93,15 +116,37 @@ fn is_quit(answer: &Result<Word, NoMemory>) -> bool
     }
 }
 
-/// Proposes a multiplier at index 3, where it is not 0 and is not refused.
-fn propose(to: &mut Proposal, value: i64)
+/// Proposes what an advisor is to, and tells whether its multipliers were taken and refused as they are to be.
+fn propose(to: &mut Proposal, advice: Advice) -> bool
     ensures over { IsOverSame to.old to.new }
     ensures fit { DoesFit to.new }
 {
     to.multipliers();
-    if value != 0 {
-        let _is_put = to.put(3, value).is_ok();
+    match advice {
+        Advice::Nothing => true,
+        Advice::Multiplier(value) => to.put(3, value).is_ok(),
+        Advice::RefusedMultipliers => {
+            is_refused(to, 4, 1, PutRefusal::NoIndex)
+                && is_refused(to, 0, -1, PutRefusal::Negative)
+                && is_refused(to, 3, 1_000_000_000_001, PutRefusal::TooLarge)
+        }
+        Advice::Only { trip, comp } => {
+            to.cut(Cut::Only {
+                trip: TripNo(trip),
+                comp: CompNo(comp),
+            });
+            true
+        }
     }
+}
+
+/// Puts a multiplier, and tells whether it is refused for this reason.
+fn is_refused(to: &mut Proposal, index: u32, value: i64, refusal: PutRefusal) -> bool
+    ensures over { IsOverSame to.old to.new }
+    ensures fit { DoesFit to.new }
+{
+    to.multipliers();
+    to.put(index, value) == Err(refusal)
 }
 
 /// What words come to on the day on which one unit stays: the status, what is written, and of each advisor how often it
@@ -144,38 +189,104 @@ fn write_asked(text: &mut String, advisors: &[Box<dyn Advisor>]) -> Result<(), A
     Ok(())
 }
 
+/// The words of a plan, what its only advisor proposes and answers, and what comes of it: the status, the document, and
+/// what is told of the advisor.
+#[derive(Clone, Copy)]
+struct Row {
+    words: &'static [&'static str],
+    advice: Advice,
+    replies: [Reply; 2],
+    status: u8,
+    document: &'static str,
+    asked: &'static str,
+}
+
+/// An advisor that proposes nothing, with two branchings.
+const SILENT: Row = Row {
+    words: WITH_TWO_BRANCHINGS,
+    advice: Advice::Nothing,
+    replies: [Reply::More, Reply::More],
+    status: 0,
+    document: UNADVISED,
+    asked: "asked 6",
+};
+
+const ROWS: &[Row] = &[
+    Row {
+        advice: Advice::RefusedMultipliers,
+        ..SILENT
+    },
+    Row {
+        advice: Advice::Only { trip: 400, comp: 0 },
+        ..SILENT
+    },
+    Row {
+        advice: Advice::Only { trip: 0, comp: 5 },
+        ..SILENT
+    },
+    Row {
+        advice: Advice::Multiplier(-1_000_000_000_000),
+        ..SILENT
+    },
+    // Under it the bound is that of the cheapest picks that leave a unit at Y.
+    Row {
+        advice: Advice::Multiplier(1_000_000_000_000),
+        document: "railplan answer 1\noptimal 190\nbranchings 0\nrun 0 0 1\nrun 1 1\ntree\n\
+            cost 190 1 3:1000000000000\nend\n",
+        asked: "asked 1",
+        ..SILENT
+    },
+    Row {
+        replies: [Reply::Quit, Reply::More],
+        asked: "asked 1, quit",
+        ..SILENT
+    },
+    Row {
+        replies: [Reply::More, Reply::NoMemory],
+        status: 7,
+        document: "",
+        asked: "asked 2",
+        ..SILENT
+    },
+    // Under 70 at index 3 no picks have a lower value than the plan.
+    Row {
+        words: WITHOUT_BRANCHINGS,
+        advice: Advice::Multiplier(70),
+        document: "railplan answer 1\noptimal 190\nbranchings 0\nrun 0 0 1\nrun 1 1\ntree\ncost 190 1 3:70\nend\n",
+        asked: "asked 1",
+        ..SILENT
+    },
+];
+
+/// Asserts what comes of a row.
+fn expect(rt: &impl Abort, alloc: Global, row: &Row) -> Result<(), Fail> {
+    let mut advisors: Vec<Box<dyn Advisor>> = Vec::new(alloc);
+    advisors.push(Box::new(alloc, Steady::new(row.advice, row.replies))?)?;
+    let text = planned(rt, alloc, row.words, &mut advisors)?;
+    let wanted = format!(in alloc; "status {}\n{}{}\n", row.status, row.document, row.asked)?;
+    assert!(rt; text.as_str() == wanted.as_str(), "{text}");
+    Ok(())
+}
+
+#[test]
+fn advice_of_one_advisor(rt: HostRuntime) -> Result<(), Fail> {
+    for row in ROWS {
+        expect(&rt, rt.alloc(), row)?;
+    }
+    Ok(())
+}
+
 #[test]
 fn the_others_are_asked_after_one_has_quit(rt: HostRuntime) -> Result<(), Fail> {
     let alloc = rt.alloc();
+    let quitting = Steady::new(Advice::Nothing, [Reply::More, Reply::Quit]);
     let mut advisors: Vec<Box<dyn Advisor>> = Vec::new(alloc);
-    advisors.push(Box::new(alloc, Steady::new(0, Second::Quit))?)?;
+    advisors.push(Box::new(alloc, quitting)?)?;
     advisors.push(Box::new(alloc, Subgradient::new())?)?;
     let text = planned(&rt, alloc, WITHOUT_BRANCHINGS, &mut advisors)?;
     let wanted =
-        "status 0\nrailplan answer 1\noptimal 190\nbranchings 0\nrun 0 0 1\nrun 1 1\ntree\ncost 190 2 2:-45 3:45\nend\nasked 2, quit\nasked 2\n";
+        "status 0\nrailplan answer 1\noptimal 190\nbranchings 0\nrun 0 0 1\nrun 1 1\ntree\n\
+        cost 190 2 2:-45 3:45\nend\nasked 2, quit\nasked 2\n";
     assert!(rt; text.as_str() == wanted, "{text}");
-    Ok(())
-}
-
-// Under 70 at index 3 no picks have a lower value than the plan.
-#[test]
-fn what_an_advisor_proposes_is_used(rt: HostRuntime) -> Result<(), Fail> {
-    let alloc = rt.alloc();
-    let mut advisors: Vec<Box<dyn Advisor>> = Vec::new(alloc);
-    advisors.push(Box::new(alloc, Steady::new(70, Second::More))?)?;
-    let text = planned(&rt, alloc, WITHOUT_BRANCHINGS, &mut advisors)?;
-    let wanted =
-        "status 0\nrailplan answer 1\noptimal 190\nbranchings 0\nrun 0 0 1\nrun 1 1\ntree\ncost 190 1 3:70\nend\nasked 1\n";
-    assert!(rt; text.as_str() == wanted, "{text}");
-    Ok(())
-}
-
-#[test]
-fn an_advisor_may_lack_memory(rt: HostRuntime) -> Result<(), Fail> {
-    let alloc = rt.alloc();
-    let mut advisors: Vec<Box<dyn Advisor>> = Vec::new(alloc);
-    advisors.push(Box::new(alloc, Steady::new(0, Second::NoMemory))?)?;
-    let text = planned(&rt, alloc, WITH_TWO_BRANCHINGS, &mut advisors)?;
-    assert!(rt; text.as_str() == "status 7\nasked 2\n", "{text}");
     Ok(())
 }
