@@ -188,6 +188,21 @@ fn compositions_of_a_day(rt: HostRuntime) -> Result<(), Fail> {
     panic!(rt; "two compositions and two trips")
 }
 
+// A platform of 80 metres has room for one unit of the type.
+#[test]
+fn one_composition_of_a_day(rt: HostRuntime) -> Result<(), Fail> {
+    let station_text = b"station,platform,reallocation\nX,80,30\nY,80,30\n";
+    let tables = tables_of(rt.alloc(), station_text, STOCK, TRIPS, TURN)?;
+    let day = Instance::build(rt.alloc(), tables)?;
+    if day.catalogue().len() == 1 && day.trips() == 2 {
+        let only = day.catalogue().get(CompNo(0));
+        assert!(rt; only.units() == [TypeNo(0)].as_slice());
+        assert!(rt; day.admits(TripNo(0), CompNo(0)) && day.admits(TripNo(1), CompNo(0)));
+        return Ok(());
+    }
+    panic!(rt; "one composition and two trips")
+}
+
 /// What a day of four trips with these links is refused for: T1 and T2 arrive, T3 leaves as T2 arrives, and T4 before
 /// it.
 fn refused_with(rt: &HostRuntime, link_text: &[u8]) -> Result<Option<InstanceRefusal>, Fail>
