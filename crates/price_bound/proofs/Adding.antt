@@ -11,8 +11,10 @@ use Rattle.std.proofs.lemmas.Int.{ints, fits_signed_from_abs, to_z-of_z}
 use Rattle.std.proofs.lemmas.List.{get_or-replicate, get_or-set_same, get_or-set_other, length-map, length-replicate}
 use Rattle.branch_tree.specs.IntSums.{int_sum}
 use Rattle.inventory.specs.CountTable.{changed_at, changed_in, plus}
+use Rattle.inventory.specs.Counted.{HasPlaces, counts_of, number_at}
+use Rattle.timetable.specs.Day.{Day}
 use Rattle.price_bound.specs.CellSizes.{IsSmall}
-use Rattle.price_bound.specs.PriceTables.{HasSize, amount_at, cleared_table, with_amounts}
+use Rattle.price_bound.specs.PriceTables.{HasSize, amount_at, cleared_table}
 
 -- ---- sizes of numbers
 
@@ -40,7 +42,7 @@ read_is b x le small = to_z-of_z w64 x (fits_signed_from_abs w64 x (below x (sma
     below (pos n) few = (let le = few.below in omega (arith, ints))
     below (negsuc n) few = (let le = few.above in omega (arith, ints))
 
-plus_is : (x y : ℤ) → IsSmall 4000000000000000000 (x +ℤ y) → plus x y ≡ x +ℤ y
+pub plus_is : (x y : ℤ) → IsSmall 4000000000000000000 (x +ℤ y) → plus x y ≡ x +ℤ y
 plus_is x y small = of_sum (x +ℤ y) small
   where
     of_sum : (z : ℤ) → IsSmall 4000000000000000000 z → saturate_to_bits 63 z ≡ z
@@ -105,59 +107,6 @@ module _ (rows columns : ℕ) (table : List (List ℤ)) (size : HasSize rows col
             (ap (λ (b : Bool). if b && (c == c0) then x else pos 0) (ne_eqb r0 r differ))
       ]
 
--- ---- an amount in each row that passes a test
-
-module _ (rows columns : ℕ) (table : List (List ℤ)) (size : HasSize rows columns table) (test : ℕ → Bool) (c0 : ℕ) (x : ℤ) where
-  abbrev after : ℕ → List (List ℤ)
-  after n = with_amounts test c0 x n table
-
-  tested_size : (n : ℕ) (b : Bool) → HasSize rows columns (after n) → HasSize rows columns (if b then changed_in n c0 x (after n) else after n)
-  tested_size n true is = changed_size rows columns (after n) is n c0 x
-  tested_size n false is = is
-
-  pub amounts_size : (n : ℕ) → HasSize rows columns (after n)
-  amounts_size zero = size
-  amounts_size (suc n) = tested_size n (test n) (amounts_size n)
-
-  module _ (r c : ℕ) (r_below : r < rows) (c_below : c < columns) (small : IsSmall 2000000000000000000 (amount_at table r c)) (small_x : IsSmall 2000000000000000000 x) where
-    not_yet : (n : ℕ) (b : Bool) → n ≢ r → amount_at (after n) r c ≡ amount_at table r c → amount_at (if b then changed_in n c0 x (after n) else after n) r c ≡ amount_at table r c
-    not_yet n true differ is = other_row rows columns (after n) (amounts_size n) n c0 x r c r_below c_below differ ∙ is
-    not_yet n false differ is = is
-
-    -- rows that are not come to yet stay
-    stays : (n : ℕ) → n ≤ r → amount_at (after n) r c ≡ amount_at table r c
-    stays zero le = refl
-    stays (suc n) le = not_yet n (test n) (λ e. absurd (omega (arith, le, e))) (stays n (omega (arith, le)))
-
-    at_row : (n : ℕ) → n ≡ r → amount_at (after (suc n)) r c ≡ amount_at table r c +ℤ (if test r then (if c == c0 then x else pos 0) else pos 0)
-    at_row n same = by_test (test n) (test r) (ap test same)
-      where
-        before : amount_at (after n) r c ≡ amount_at table r c
-        before = stays n (omega (arith, same))
-
-        none_there : (a : ℤ) → a ≡ a +ℤ pos 0
-        none_there a = omega (arith, ints)
-
-        by_test : (b b' : Bool) → b ≡ b' → amount_at (if b then changed_in n c0 x (after n) else after n) r c ≡ amount_at table r c +ℤ (if b' then (if c == c0 then x else pos 0) else pos 0)
-        by_test true true e =
-            in_row rows columns (after n) (amounts_size n) n c0 x r c r_below c_below (subst (IsSmall 2000000000000000000) (sym before) small) small_x same
-            ∙ ap (λ (v : ℤ). v +ℤ (if c == c0 then x else pos 0)) before
-        by_test false false e = before ∙ none_there (amount_at table r c)
-        by_test true false e = absurd cc
-        by_test false true e = absurd cc
-
-    pub amounts_added : (n : ℕ) → r < n → amount_at (after n) r c ≡ amount_at table r c +ℤ (if test r then (if c == c0 then x else pos 0) else pos 0)
-    amounts_added zero lt = absurd (omega (arith, lt))
-    amounts_added (suc n) lt = elim (cases_eq n r) [
-      | inl same ↦ at_row n same
-      | inr differ ↦ by_test n (test n) (λ e. differ e) (amounts_added n (omega (arith, lt, differ)))
-    ]
-      where
-        by_test : (n : ℕ) (b : Bool) → n ≢ r → amount_at (after n) r c ≡ amount_at table r c +ℤ (if test r then (if c == c0 then x else pos 0) else pos 0)
-            → amount_at (if b then changed_in n c0 x (after n) else after n) r c ≡ amount_at table r c +ℤ (if test r then (if c == c0 then x else pos 0) else pos 0)
-        by_test n true differ is = other_row rows columns (after n) (amounts_size n) n c0 x r c r_below c_below differ ∙ is
-        by_test n false differ is = is
-
 -- ---- a cleared table
 
 row_zero : (xs : List ℤ) (c : ℕ) → get_or (map (λ _. pos 0) xs) c (pos 0) ≡ pos 0
@@ -165,10 +114,14 @@ row_zero [] c = refl
 row_zero (x ∷ xs) zero = refl
 row_zero (x ∷ xs) (suc c) = row_zero xs c
 
+-- a list of lists of which each is changed
+pub map_entry : {X Y : Type 0} (f : List X → List Y) (xs : List (List X)) (i : ℕ) → f [] ≡ [] → get_or (map f xs) i [] ≡ f (get_or xs i [])
+map_entry f [] i e = sym e
+map_entry f (x ∷ xs) zero e = refl
+map_entry f (x ∷ xs) (suc i) e = map_entry f xs i e
+
 cleared_row : (table : List (List ℤ)) (r : ℕ) → get_or (cleared_table table) r [] ≡ map (λ _. pos 0) (get_or table r [])
-cleared_row [] r = refl
-cleared_row (xs ∷ table) zero = refl
-cleared_row (xs ∷ table) (suc r) = cleared_row table r
+cleared_row table r = map_entry (map (λ (_ : ℤ). pos 0)) table r refl
 
 pub cleared_amount : (table : List (List ℤ)) (r c : ℕ) → amount_at (cleared_table table) r c ≡ pos 0
 cleared_amount table r c = ap (λ (xs : List ℤ). get_or xs c (pos 0)) (cleared_row table r) ∙ row_zero (get_or table r []) c
@@ -177,6 +130,17 @@ pub cleared_size : (rows columns : ℕ) (table : List (List ℤ)) → HasSize ro
 cleared_size rows columns table size = record {
   height = length-map table (map (λ _. pos 0)) ∙ size.height;
   widths = λ r below. ap length (cleared_row table r) ∙ length-map (get_or table r []) (λ _. pos 0) ∙ size.widths r below;
+}
+
+pub cleared_number : (yards : List (List (List ℤ))) (s m k : ℕ) → number_at (map cleared_table yards) s m k ≡ pos 0
+cleared_number yards s m k = ap (λ (table : List (List ℤ)). amount_at table m k) (map_entry cleared_table yards s refl) ∙ cleared_amount (get_or yards s []) m k
+
+pub cleared_places : (day : Day) (yards : List (List (List ℤ))) → HasPlaces day yards → HasPlaces day (map cleared_table yards)
+cleared_places day yards places = record {
+  stations = length-map yards cleared_table ∙ places.stations;
+  types = λ s lt. ap length (map_entry cleared_table yards s refl) ∙ length-map (get_or yards s []) (map (λ (_ : ℤ). pos 0)) ∙ places.types s lt;
+  minutes = λ s m lt lt'. ap (λ (table : List (List ℤ)). length (get_or table m [])) (map_entry cleared_table yards s refl)
+      ∙ ap length (cleared_row (get_or yards s []) m) ∙ length-map (counts_of yards s m) (λ (_ : ℤ). pos 0) ∙ places.minutes s m lt lt';
 }
 
 pub zeros_size : (rows columns : ℕ) → HasSize rows columns (replicate rows (replicate columns (pos 0)))

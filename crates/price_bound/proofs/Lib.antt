@@ -33,6 +33,8 @@ mod ChainValues
 mod NearPaths
 mod PathChoice
 mod Adding
+mod YardSums
+mod YardPuts
 mod Filling
 mod Walking
 mod DayPrices

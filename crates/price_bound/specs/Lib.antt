@@ -31,6 +31,7 @@ pub mod ChainStages
 pub mod FirstPaths
 -- how they are found: tables of prices, and rows of cells
 pub mod CellSizes
+pub mod YardTables
 pub mod PriceTables
 pub mod Credits
 pub mod CellRows

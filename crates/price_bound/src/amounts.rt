@@ -3,7 +3,8 @@
 ghost use Rattle.std.specs.Prelude.{ℕ, ◌≡◌, ◌<◌, ◌^◌, [], map, length, get_or, set, replicate, pos, IfOk};
 ghost use Rattle.inventory.specs.CountTable.{changed_at, changed_in};
 ghost use Rattle.price_bound.specs.Credits.{put_in};
-ghost use Rattle.price_bound.specs.PriceTables.{amount_at, cleared_table, with_amounts};
+ghost use Rattle.price_bound.specs.PriceTables.{amount_at, cleared_table};
+ghost use Rattle.price_bound.specs.YardTables.{column_of, later_sums};
 
 use rail_base::{Money, NoMemory};
 use std::alloc::Global;
@@ -65,6 +66,40 @@ impl AmountRow {
         }
     }
 
+    /// Adds to each amount all those of later columns.
+    fn add_later(&mut self)
+        ensures { self.new ≡ later_sums self.old }
+    {
+        let mut column = self.amounts.len();
+        let mut sum: i64 = 0;
+        while column > 0 {
+            column -= 1;
+            sum = sum.saturating_add(self.amounts[column]);
+            self.amounts[column] = sum;
+        }
+    }
+
+    /// Puts into each place the amount of a column of a table, from the row of the same number.
+    fn copy_column(&mut self, table: &AmountTable, column: usize)
+        requires { length self.old ≡ length table.now }
+        ensures { self.new ≡ column_of column table.now }
+    {
+        for row in 0..table.rows.len() {
+            self.amounts[row] = table.rows[row].at(column);
+        }
+    }
+
+    /// The amount of a column, and 0 where there is none.
+    fn at(&self, column: usize) -> i64
+        ensures { result ≡ get_or self.now column (pos 0) }
+    {
+        if column < self.amounts.len() {
+            self.amounts[column]
+        } else {
+            0
+        }
+    }
+
     /// Changes the amount of a column, if there is one.
     fn put(&mut self, column: usize, amount: i64)
         ensures { self.new ≡ set self.old column amount }
@@ -110,6 +145,24 @@ impl AmountTable {
         if row < self.rows.len() {
             self.rows[row].add(column, amount);
         }
+    }
+
+    /// Adds to each amount all those of later columns of its row.
+    pub(crate) fn add_later(&mut self)
+        ensures { self.new ≡ map later_sums self.old }
+    {
+        for row in 0..self.rows.len() {
+            self.rows[row].add_later();
+        }
+    }
+
+    /// Puts a column of a table, from its first row to its last, in place of a row.
+    pub(crate) fn copy_column(&mut self, row: usize, table: &AmountTable, column: usize)
+        requires row { row < length self.old }
+        requires width { length (get_or self.old row []) ≡ length table.now }
+        ensures { self.new ≡ set self.old row (column_of column table.now) }
+    {
+        self.rows[row].copy_column(table, column);
     }
 
     /// Changes the amount of a row and a column, if there is one.

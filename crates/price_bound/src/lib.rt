@@ -21,6 +21,8 @@ mod sizes;
 mod slacks;
 mod workspaces;
 mod worths;
+mod yard_places;
+mod yard_tables;
 
 pub use changes::Change;
 pub use day_bounds::DayBounds;

@@ -1,20 +1,23 @@
 //! The prices under multipliers, by trip, by link, and by type or composition.
 //!
-//! They are made once for each list of multipliers, in one pass over it, so that a price is then looked up.
+//! They are made once for each list of multipliers, so that a price is then looked up. Each multiplier of a station and
+//! type is put at its place among the departure minutes of the station, or after them, and these are added up from the
+//! last to the first: the sum at a minute is the price of a unit there. So the time grows with the multipliers, the
+//! minutes and the trips, and no trip is looked at for each multiplier.
 
-ghost use Rattle.std.specs.Prelude.{ℕ, ◌≡◌, ◌<◌, ◌≤◌, ◌==◌, [], length, get_or, fold, IfOk, slice_get, Some};
-ghost use Rattle.timetable.specs.Day.{from_of, leaves, to_of};
+ghost use Rattle.std.specs.Prelude.{◌≡◌, ◌<◌, length, fold, IfOk};
 ghost use Rattle.timetable.specs.Indices.{IsPlace, lambdas_of, places_of};
-ghost use Rattle.inventory.specs.Counts.{ready_at};
-ghost use Rattle.branch_tree.specs.Entries.{DoFit};
-ghost use Rattle.price_bound.specs.PriceTables.{AreSized, ArePrices, cleared, is_given_at, is_taken_at, with_amounts};
-ghost use Rattle.price_bound.specs.PriceTables.{with_entry, with_handover, with_place};
+ghost use Rattle.branch_tree.specs.Entries.{AreMultipliers, DoFit};
+ghost use Rattle.price_bound.specs.PriceTables.{AreSized, ArePrices, cleared, looked_up, with_entry, with_place};
+ghost use Rattle.price_bound.specs.YardTables.{CanLook};
 
 use crate::amounts::AmountTable;
+use crate::yard_places::{YardPlace, given_places, look_up, taken_places};
+use crate::yard_tables::YardTable;
 use branch_tree::{Entry, Multipliers};
-use rail_base::{CompNo, Minute, NoMemory, StationNo, TripNo, TypeNo};
+use rail_base::NoMemory;
 use std::alloc::Global;
-use timetable::{Handover, Instance, Place};
+use timetable::{Instance, Place};
 
 /// The prices under multipliers.
 #[derive(Debug, Drop)]
@@ -27,6 +30,12 @@ pub(crate) struct PriceTables {
     pub seconds: AmountTable,
     /// For each link and composition the multiplier of the composition at the hand-over of the link.
     pub parts: AmountTable,
+    /// For each station and type the price of a unit at each departure minute of the station, and later.
+    yards: YardTable,
+    /// For each trip where it takes units.
+    taken_at: Vec<YardPlace>,
+    /// For each trip where it gives units.
+    given_at: Vec<YardPlace>,
 }
 
 impl PriceTables {
@@ -41,11 +50,17 @@ impl PriceTables {
         let gives = AmountTable::new(alloc, trips, types)?;
         let seconds = AmountTable::new(alloc, trips, comps)?;
         let parts = AmountTable::new(alloc, instance.links() as usize, comps)?;
+        let yards = YardTable::new(alloc, instance)?;
+        let taken_at = taken_places(alloc, instance)?;
+        let given_at = given_places(alloc, instance)?;
         Ok(PriceTables {
             takes,
             gives,
             seconds,
             parts,
+            yards,
+            taken_at,
+            given_at,
         })
     }
 
@@ -57,20 +72,30 @@ impl PriceTables {
         ensures { ArePrices instance.now multipliers.now self.new }
     {
         self.clear();
+        self.add_all(instance, multipliers);
+        self.yards.add_later();
+        self.look_up_trips();
+    }
+
+    /// Sets to zero what multipliers are added to.
+    fn clear(&mut self)
+        ensures { self.new ≡ cleared self.old }
+    {
+        self.yards.clear();
+        self.seconds.clear();
+        self.parts.clear();
+    }
+
+    /// Adds all multipliers. Their indices are the day's.
+    fn add_all(&mut self, instance: &Instance, multipliers: &Multipliers)
+        requires { DoFit (length (places_of instance.now)) (length (lambdas_of instance.now)) multipliers.now }
+        ensures added { self.new ≡ fold (with_entry instance.now) self.old multipliers.now }
+        ensures multipliers { AreMultipliers multipliers.now }
+    {
         let entries = multipliers.entries();
         for place in 0..entries.len() {
             self.add(instance, entries[place]);
         }
-    }
-
-    /// Sets each price to zero.
-    fn clear(&mut self)
-        ensures { self.new ≡ cleared self.old }
-    {
-        self.takes.clear();
-        self.gives.clear();
-        self.seconds.clear();
-        self.parts.clear();
     }
 
     /// Adds a multiplier, whose index is the day's.
@@ -92,14 +117,10 @@ impl PriceTables {
                 station,
                 unit_type,
                 place,
-            } => {
-                let minute = instance.minutes(station)[place as usize];
-                add_taken(&mut self.takes, instance, station, minute, unit_type, value);
-                add_given(&mut self.gives, instance, station, minute, unit_type, value);
-            }
+            } => self.yards.add(station, unit_type, place as usize, value),
             Place::Mu { station, unit_type } => {
-                add_from(&mut self.takes, instance, station, unit_type, value);
-                add_to(&mut self.gives, instance, station, unit_type, value);
+                let later = instance.minutes(station).len();
+                self.yards.add(station, unit_type, later, value);
             }
             Place::Sigma { handover, comp } => {
                 let handover = instance.handover(handover);
@@ -109,91 +130,14 @@ impl PriceTables {
             }
         }
     }
-}
 
-/// Adds to the prices of a type that count for units which are taken at a station at a minute or before it.
-#[tactic(auto, unfolding(timetable::specs::Day::from_of, timetable::specs::Day::leaves))]
-fn add_taken(
-    takes: &mut AmountTable,
-    instance: &Instance,
-    station: StationNo,
-    minute: Minute,
-    unit_type: TypeNo,
-    value: i64,
-)
-    ensures { takes.new ≡ with_amounts (is_taken_at instance.now station minute) unit_type value (length instance.now.trips) takes.old }
-{
-    for trip in 0..instance.trips() {
-        let run = instance.trip(TripNo(trip));
-        if run.from == station && run.departure <= minute {
-            takes.add(trip as usize, unit_type.place(), value);
-        }
+    /// Looks up the prices of what trips take and give, in the prices of the yards.
+    fn look_up_trips(&mut self)
+        requires taken { CanLook self.old.yards self.old.taken_at.items self.old.takes }
+        requires given { CanLook self.old.yards self.old.given_at.items self.old.gives }
+        ensures { self.new ≡ looked_up self.old }
+    {
+        look_up(&self.yards, &self.taken_at, &mut self.takes);
+        look_up(&self.yards, &self.given_at, &mut self.gives);
     }
-}
-
-/// Adds to the prices of a type that count for units which are given at a station and ready at a minute.
-#[tactic(auto, unfolding(timetable::specs::Day::to_of))]
-fn add_given(
-    gives: &mut AmountTable,
-    instance: &Instance,
-    station: StationNo,
-    minute: Minute,
-    unit_type: TypeNo,
-    value: i64,
-)
-    ensures { gives.new ≡ with_amounts (is_given_at instance.now station minute) unit_type value (length instance.now.trips) gives.old }
-{
-    for trip in 0..instance.trips() {
-        let ready = ready_at(instance, TripNo(trip));
-        if instance.trip(TripNo(trip)).to == station && ready <= minute {
-            gives.add(trip as usize, unit_type.place(), value);
-        }
-    }
-}
-
-/// Adds to the prices of a type that count for all units which are taken at a station.
-#[tactic(auto, unfolding(timetable::specs::Day::from_of))]
-fn add_from(
-    takes: &mut AmountTable,
-    instance: &Instance,
-    station: StationNo,
-    unit_type: TypeNo,
-    value: i64,
-)
-    ensures { takes.new ≡ with_amounts (λ t. from_of instance.now t == station) unit_type value (length instance.now.trips) takes.old }
-{
-    for trip in 0..instance.trips() {
-        if instance.trip(TripNo(trip)).from == station {
-            takes.add(trip as usize, unit_type.place(), value);
-        }
-    }
-}
-
-/// Adds to the prices of a type that count for all units which are given at a station.
-#[tactic(auto, unfolding(timetable::specs::Day::to_of))]
-fn add_to(
-    gives: &mut AmountTable,
-    instance: &Instance,
-    station: StationNo,
-    unit_type: TypeNo,
-    value: i64,
-)
-    ensures { gives.new ≡ with_amounts (λ t. to_of instance.now t == station) unit_type value (length instance.now.trips) gives.old }
-{
-    for trip in 0..instance.trips() {
-        if instance.trip(TripNo(trip)).to == station {
-            gives.add(trip as usize, unit_type.place(), value);
-        }
-    }
-}
-
-/// The minute from which a unit that a trip gives may be taken.
-#[tactic(auto, unfolding(timetable::specs::Day::arrives, timetable::specs::Day::to_of, timetable::specs::Day::reallocation_of))]
-fn ready_at(instance: &Instance, trip: TripNo) -> Minute
-    requires { trip < length instance.now.trips }
-    ensures { result ≡ ready_at instance.now trip }
-{
-    let run = instance.trip(trip);
-    let station = instance.station(run.to);
-    Minute(run.arrival.0 + station.reallocation as u16)
 }

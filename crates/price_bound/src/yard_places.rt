@@ -1,0 +1,110 @@
+//! Where trips take units from the yards, and where they give them: at which stations, and at which of their minutes.
+//!
+//! This depends on the day alone, so that it is found once.
+
+ghost use Rattle.std.specs.Prelude.{◌≡◌, ◌<◌, length, map, IfOk};
+ghost use Rattle.std.specs.List.{AllPairs};
+ghost use Rattle.inventory.specs.Counts.{ready_at};
+ghost use Rattle.inventory.specs.CountTable.{earlier};
+ghost use Rattle.price_bound.specs.YardTables.{ArePlaces, CanLook, amounts_at, given_at, taken_at};
+
+use crate::amounts::AmountTable;
+use crate::yard_tables::YardTable;
+use rail_base::{Minute, NoMemory, StationNo, TripNo};
+use std::alloc::Global;
+use timetable::Instance;
+
+/// A station, and a place among its departure minutes or after them.
+#[derive(Debug, Clone, Copy)]
+pub(crate) struct YardPlace {
+    /// The station.
+    pub station: StationNo,
+    /// How many of its departure minutes are earlier.
+    pub place: usize,
+}
+
+/// For each trip where its departure stands among the departure minutes of the station that it leaves. The error is
+/// want of memory.
+pub(crate) fn taken_places(alloc: Global, instance: &Instance) -> Result<Vec<YardPlace>, NoMemory>
+    ensures { IfOk result (λ places. ArePlaces instance.now (taken_at instance.now) places.items) }
+{
+    let mut places = Vec::new(alloc);
+    for trip in 0..instance.trips() {
+        places.push(taken_at(instance, TripNo(trip)))?;
+    }
+    Ok(places)
+}
+
+/// For each trip the first departure minute of the station at which it arrives when the units that it gives are ready;
+/// the place after all minutes, where they are ready at none. The error is want of memory.
+pub(crate) fn given_places(alloc: Global, instance: &Instance) -> Result<Vec<YardPlace>, NoMemory>
+    ensures { IfOk result (λ places. ArePlaces instance.now (given_at instance.now) places.items) }
+{
+    let mut places = Vec::new(alloc);
+    for trip in 0..instance.trips() {
+        places.push(given_at(instance, TripNo(trip)))?;
+    }
+    Ok(places)
+}
+
+/// Puts into the row of each trip the amounts at its place, one for each type. It takes no memory.
+pub(crate) fn look_up(yards: &YardTable, places: &[YardPlace], table: &mut AmountTable)
+    requires { CanLook yards.now places.now table.old }
+    ensures { table.new ≡ map (amounts_at yards.now) places.now }
+{
+    for trip in 0..places.len() {
+        let at = places[trip];
+        table.copy_column(trip, yards.station(at.station), at.place);
+    }
+}
+
+/// Where a trip takes units.
+#[tactic(auto, unfolding(timetable::specs::Day::from_of, timetable::specs::Day::leaves))]
+fn taken_at(instance: &Instance, trip: TripNo) -> YardPlace
+    requires { trip < length instance.now.trips }
+    ensures value { result ≡ taken_at instance.now trip }
+    ensures known { result.station < length instance.now.stations }
+{
+    let run = instance.trip(trip);
+    YardPlace {
+        station: run.from,
+        place: place_of(instance.minutes(run.from), run.departure),
+    }
+}
+
+/// Where a trip gives units.
+#[tactic(auto, unfolding(timetable::specs::Day::to_of))]
+fn given_at(instance: &Instance, trip: TripNo) -> YardPlace
+    requires { trip < length instance.now.trips }
+    ensures value { result ≡ given_at instance.now trip }
+    ensures known { result.station < length instance.now.stations }
+{
+    let run = instance.trip(trip);
+    let ready = ready_at(instance, trip);
+    YardPlace {
+        station: run.to,
+        place: place_of(instance.minutes(run.to), ready),
+    }
+}
+
+/// The minute from which a unit that a trip gives may be taken.
+#[tactic(auto, unfolding(timetable::specs::Day::arrives, timetable::specs::Day::to_of, timetable::specs::Day::reallocation_of))]
+fn ready_at(instance: &Instance, trip: TripNo) -> Minute
+    requires { trip < length instance.now.trips }
+    ensures { result ≡ ready_at instance.now trip }
+{
+    let run = instance.trip(trip);
+    let station = instance.station(run.to);
+    Minute(run.arrival.0 + station.reallocation as u16)
+}
+
+/// How many of rising minutes are before a minute.
+fn place_of(minutes: &[Minute], minute: Minute) -> usize
+    requires { AllPairs (λ a b. a < b) minutes.now }
+    ensures { result ≡ earlier minute minutes.now }
+{
+    match minutes.binary_search(&minute) {
+        Ok(place) => place,
+        Err(place) => place,
+    }
+}
