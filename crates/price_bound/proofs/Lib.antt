@@ -40,6 +40,7 @@ mod Walking
 mod DayPrices
 mod Summing
 mod Crediting
+mod Costing
 mod Bounding
 mod ChainSteps
 mod ChainCells

@@ -34,6 +34,7 @@ pub mod CellSizes
 pub mod YardTables
 pub mod PriceTables
 pub mod Credits
+pub mod Costs
 pub mod CellRows
 pub mod Pricing
 pub mod Rooms

@@ -8,11 +8,13 @@ use Rattle.timetable.specs.Day.{Day}
 use Rattle.price_bound.specs.declared.workspaces.Workspace.{Workspace}
 use Rattle.price_bound.specs.CellRows.{HaveRoom}
 use Rattle.price_bound.specs.ChangedDays.{AreChanges}
+use Rattle.price_bound.specs.Costs.{AreCosts}
 use Rattle.price_bound.specs.DayMeanings.{IsWorkedOn}
 use Rattle.price_bound.specs.PriceTables.{AreSized, HasSize}
 
--- the room has the sizes of a day
-pub record IsRoomFor (day : Day) (room : Workspace) : Type 0 where
+-- the room has the sizes of a day, and its costs under changes
+pub record IsRoomFor (day : Day) (changes : List Change) (room : Workspace) : Type 0 where
+  pub costs : AreCosts day changes room.costs
   pub tables : AreSized day room.tables
   pub credits : HasSize (length day.trips) (length (compositions_of day)) room.credits
   pub rows : HaveRoom (length day.trips) (length (compositions_of day)) room.rows
@@ -23,4 +25,4 @@ pub record IsReady (day : Day) (graphs : List (List Edge)) (changes : List Chang
     (room : Workspace) : Type 0 where
   pub work : IsWorkedOn day graphs ledger order choice
   pub changes_are : AreChanges day changes
-  pub room_is : IsRoomFor day room
+  pub room_is : IsRoomFor day changes room

@@ -81,7 +81,7 @@ impl<'a> DayBounds<'a> {
         let ledger = Ledger::new(alloc, instance)?;
         let order = trips_by_chain(alloc, instance)?;
         let choice = Picks::new(alloc, instance.trips())?;
-        let room = Workspace::new(alloc, instance)?;
+        let room = Workspace::new(alloc, instance, changes)?;
         let _links = instance.links();
         let _units = instance.units();
         Ok(DayBounds {

@@ -6,6 +6,7 @@ mod cells;
 mod chain_rows;
 pub mod changes;
 mod choices;
+mod costs;
 mod credits;
 pub mod day_bounds;
 mod following;

@@ -17,6 +17,8 @@ pub(crate) struct Pricing<'a> {
     pub multipliers: &'a Multipliers,
     pub weight: Weight,
     pub region: &'a Region,
+    /// What each trip costs with each composition.
+    pub costs: &'a AmountTable,
     pub tables: &'a PriceTables,
     /// The price of each composition's units, where a trip gives them.
     pub credits: &'a AmountTable,

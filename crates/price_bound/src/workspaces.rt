@@ -19,6 +19,7 @@ use crate::cells::Cell;
 use crate::chain_rows::ChainRows;
 use crate::changes::Change;
 use crate::choices::copy_picks;
+use crate::costs::fill_costs;
 use crate::credits::fill_sums;
 use crate::price_tables::PriceTables;
 use crate::priced::Pricing;
@@ -32,6 +33,8 @@ use transitions::Graphs;
 /// The room in which the bounds of a day are found.
 #[derive(Debug, Drop)]
 pub(crate) struct Workspace {
+    /// What each trip costs with each composition, under the changes of the day.
+    pub costs: AmountTable,
     /// The prices under the multipliers of a bound.
     pub tables: PriceTables,
     /// For each trip and composition the price of the composition's units, where the trip gives them.
@@ -43,16 +46,24 @@ pub(crate) struct Workspace {
 }
 
 impl Workspace {
-    /// The room for a day. The error is want of memory.
-    pub(crate) fn new(alloc: Global, instance: &Instance) -> Result<Workspace, NoMemory>
-        ensures { IfOk result (λ room. IsRoomFor instance.now room) }
+    /// The room for a day under changes, with its costs. The error is want of memory.
+    pub(crate) fn new(
+        alloc: Global,
+        instance: &Instance,
+        changes: &[Change],
+    ) -> Result<Workspace, NoMemory>
+        ensures { IfOk result (λ room. IsRoomFor instance.now changes.now room) }
     {
         let tables = PriceTables::new(alloc, instance)?;
         let trips = instance.trips() as usize;
-        let credits = AmountTable::new(alloc, trips, instance.catalogue().len() as usize)?;
+        let comps = instance.catalogue().len() as usize;
+        let mut costs = AmountTable::new(alloc, trips, comps)?;
+        fill_costs(instance, changes, &mut costs);
+        let credits = AmountTable::new(alloc, trips, comps)?;
         let rows = ChainRows::new(alloc, instance)?;
         let choice = Picks::new(alloc, instance.trips())?;
         Ok(Workspace {
+            costs,
             tables,
             credits,
             rows,
@@ -75,12 +86,12 @@ impl Workspace {
         best: &mut Picks,
     ) -> BoundAnswer
         requires graphs { AreGraphs instance.now graphs.now }
-        requires room { IsRoomFor instance.now self.old }
+        requires room { IsRoomFor instance.now changes.now self.old }
         requires changes { AreChanges instance.now changes.now }
         requires region { length region.now ≡ length instance.now.trips }
         requires fit { DoFit (length (places_of instance.now)) (length (lambdas_of instance.now)) multipliers.now }
         requires best { length best.old ≡ length instance.now.trips }
-        ensures room { IsRoomFor instance.now self.new }
+        ensures room { IsRoomFor instance.now changes.now self.new }
         ensures bound { IsBound (changed_meanings (changed_day instance.now changes.now)) region.now multipliers.now weight result best.old best.new }
     {
         let _entries = multipliers.entries();
@@ -95,6 +106,7 @@ impl Workspace {
             multipliers,
             weight,
             region,
+            costs: &self.costs,
             tables: &self.tables,
             credits: &self.credits,
         };

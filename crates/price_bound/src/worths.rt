@@ -10,8 +10,8 @@ ghost use Rattle.timetable.specs.LinkRows.{NamesBelow};
 ghost use Rattle.timetable.specs.Links.{incoming, outgoing};
 ghost use Rattle.branch_tree.specs.IntSums.{int_sum};
 ghost use Rattle.branch_tree.specs.Meanings.{weighted};
-ghost use Rattle.price_bound.specs.ChainStages.{cost_on, may_have, part_is_in, price_of, worth_of};
-ghost use Rattle.price_bound.specs.Changes.{changed_cost};
+ghost use Rattle.price_bound.specs.ChainStages.{cost_on, part_is_in, price_of, worth_of};
+ghost use Rattle.price_bound.specs.Costs.{admitted_cost};
 ghost use Rattle.price_bound.specs.Credits.{AreSmallAmounts, sum_in};
 ghost use Rattle.price_bound.specs.EdgeValues.{came, coupled, edge_value, part_multiplier, part_value, shunt_cost};
 ghost use Rattle.price_bound.specs.EdgeValues.{turn_value};
@@ -21,10 +21,9 @@ ghost use Rattle.price_bound.specs.CellSizes.{IsSmall};
 ghost use Rattle.price_bound.specs.YardPrices.{giving, taking};
 
 use crate::amounts::AmountRow;
-use crate::changes::change_cost;
+use crate::costs::cost_in;
 use crate::priced::Pricing;
 use branch_tree::Weight;
-use cost_model::trip_cost;
 use rail_base::limits::{MOST_COMPOSITION, MOST_COMPOSITIONS};
 use rail_base::{CompNo, LinkNo, Money, TripNo, TypeNo};
 use rail_csv::End;
@@ -40,52 +39,42 @@ impl<'a> Pricing<'a> {
         ensures value { option_map (λ worth. worth.0) result ≡ worth_of (priced_by self.now) trip comp }
         ensures small { IfSome result (λ worth. IsSmall 20000000000000000 worth.0) }
     {
-        if !self.may_have(trip, comp) {
+        let _comps = self.instance.catalogue().len();
+        if !self.region.has(trip, comp) {
             return None;
         }
-        Some(self.trip_value(trip, comp))
+        let cost = self.cost(trip, comp)?;
+        Some(self.trip_value(trip, comp, weighted(self.weight, cost)))
     }
 
-    /// Whether a composition may run on a trip and is in the region.
-    fn may_have(&self, trip: TripNo, comp: CompNo) -> bool
+    /// What a trip costs with a composition, or nothing where the composition may not run on it.
+    fn cost(&self, trip: TripNo, comp: CompNo) -> Option<Money>
         requires priced { ArePriced self.now }
         requires trip { trip < length self.now.instance.now.trips }
         requires comp { comp < length (compositions_of self.now.instance.now) }
-        ensures { result ≡ may_have self.now.instance.now self.now.region.now trip comp }
+        ensures value { option_map (λ cost. cost.0) result ≡ admitted_cost self.now.instance.now self.now.changes.now trip comp }
+        ensures small { IfSome result (λ cost. IsSmall 1000000000000 cost.0) }
     {
-        let comps = self.instance.catalogue().len();
-        self.region.has(trip, comp) && comp.0 < comps && self.instance.admits(trip, comp)
+        cost_in(self.costs.get(trip.place(), comp.place()))
     }
 
-    /// What a trip adds by its composition.
+    /// What a trip adds by its composition, with which it has this cost under the weight.
     #[tactic(auto, unfolding(crate::specs::Regrouped::trip_value))]
-    fn trip_value(&self, trip: TripNo, comp: CompNo) -> Money
+    fn trip_value(&self, trip: TripNo, comp: CompNo, cost: Money) -> Money
         requires priced { ArePriced self.now }
         requires trip { trip < length self.now.instance.now.trips }
         requires comp { comp < length (compositions_of self.now.instance.now) }
+        requires cost { cost.0 ≡ weighted self.now.weight (pos (cost_on (priced_by self.now) trip comp)) }
+        requires few { IsSmall 1000000000000 cost.0 }
         ensures value { result.0 ≡ trip_value self.now.instance.now (cost_on (priced_by self.now)) self.now.multipliers.now self.now.weight trip comp }
         ensures small { IsSmall 20000000000000000 result.0 }
     {
-        let cost = self.cost(trip, comp);
         let taken = self.taken_at_begin(trip, comp);
         let given = self.given_at_end(trip, comp);
         let second = self.second(trip, comp);
         let charged = added(cost, taken);
         let left = less(charged, given);
         less(left, second)
-    }
-
-    /// What a trip costs with a composition, under the weight.
-    #[tactic(auto, unfolding(crate::specs::Changes::changed_cost))]
-    fn cost(&self, trip: TripNo, comp: CompNo) -> Money
-        requires trip { trip < length self.now.instance.now.trips }
-        requires comp { comp < length (compositions_of self.now.instance.now) }
-        ensures value { result.0 ≡ weighted self.now.weight (pos (cost_on (priced_by self.now) trip comp)) }
-        ensures small { IsSmall 1000000000000 result.0 }
-    {
-        let cost = trip_cost(self.instance, trip, types_of(self.instance, comp));
-        let change = change_cost(self.changes, trip, comp);
-        weighted(self.weight, cost + u64::from(change))
     }
 
     /// The multipliers of a composition at the hand-overs to a trip.
@@ -258,16 +247,16 @@ impl<'a> Pricing<'a> {
     }
 
     /// What a shunt costs.
-    fn shunt_cost(&self, shunt: Shunt) -> u64
-        ensures value { result ≡ shunt_cost self.now.instance.now shunt }
-        ensures few { result ≤ 1000000000000 }
+    fn shunt_cost(&self, shunt: Shunt) -> Money
+        ensures value { result.0 ≡ pos (shunt_cost self.now.instance.now shunt) }
+        ensures small { IsSmall 1000000000000 result.0 }
     {
         let weights = self.instance.weights();
         match shunt {
-            Shunt::Keep => 0,
-            Shunt::Uncouple { .. } => u64::from(weights.shunting),
-            Shunt::Couple { .. } => u64::from(weights.shunting),
-            Shunt::Exchange { .. } => u64::from(weights.shunting),
+            Shunt::Keep => Money(0),
+            Shunt::Uncouple { .. } => Money(i128::from(weights.shunting)),
+            Shunt::Couple { .. } => Money(i128::from(weights.shunting)),
+            Shunt::Exchange { .. } => Money(i128::from(weights.shunting)),
         }
     }
 }
@@ -284,13 +273,13 @@ pub(crate) fn types_of(instance: &Instance, comp: CompNo) -> &[TypeNo]
 }
 
 /// A cost under a weight.
-fn weighted(weight: Weight, cost: u64) -> Money
-    requires { cost ≤ 1000000000000 }
-    ensures value { result.0 ≡ weighted weight (pos cost) }
+fn weighted(weight: Weight, cost: Money) -> Money
+    requires { IsSmall 1000000000000 cost.0 }
+    ensures value { result.0 ≡ weighted weight cost.0 }
     ensures small { IsSmall 1000000000000 result.0 }
 {
     match weight {
-        Weight::Cost => Money(i128::from(cost)),
+        Weight::Cost => cost,
         Weight::NoCost => Money(0),
     }
 }

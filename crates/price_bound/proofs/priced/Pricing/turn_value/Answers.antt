@@ -29,7 +29,7 @@ returns-clause-value c =
     c.giving.result.0 c.less-stayed.result.0 c.credit-2.result.0 c.less-given.result.0 c.added-charged.result.0 c.less.result.0
     (parted (yard_price day entries (from_of day c.args.departing) (leaves day c.args.departing)) c.args.couple units after)
     (parted (yard_price day entries (to_of day c.args.arriving) (ready_at day c.args.arriving)) c.args.couple units after)
-    (c.weighted-cost.ensures.value ∙ ap (λ (n : ℕ). weighted c.args.self.now.weight (pos n)) c.shunt_cost.ensures.value)
+    (c.weighted-cost.ensures.value ∙ ap (weighted c.args.self.now.weight) c.shunt_cost.ensures.value)
     (c.taking-taken.ensures.value ∙ ap take came_is) c.credit.ensures.value
     (c.giving.ensures.value ∙ ap give came_is) c.less-stayed.ensures
     c.credit-2.ensures.value c.less-given.ensures c.added-charged.ensures c.less.ensures

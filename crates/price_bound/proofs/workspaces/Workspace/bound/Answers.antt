@@ -19,6 +19,7 @@ pub first_paths-requires-clause-priced : goal.first_paths-requires-clause-priced
 first_paths-requires-clause-priced c = record {
   graphs_are = c.requires.graphs;
   multipliers_are = c.entries-entries.ensures.multipliers;
+  costs = c.requires.room.costs;
   prices = c.fill.ensures;
   credits = credits_are c.args.instance.now c.args.multipliers.now c.fill.new.self c.fill_sums.new.sums c.fill.ensures
       c.fill_sums.ensures.room c.fill_sums.ensures.sums;

@@ -1,0 +1,37 @@
+-- A table that is filled row by row with costs has the costs of a day.
+use Rattle.std.proofs.Common.{ℕ, ◌+◌, ◌<◌, List, length, get_or, sym, subst, arith, ℤ, pos, inl, inr}
+use Rattle.std.proofs.lemmas.Bool.{cases_eq}
+use Rattle.timetable.specs.Compositions.{compositions_of}
+use Rattle.timetable.specs.Day.{Day}
+use Rattle.price_bound.specs.declared.changes.Change.{Change}
+use Rattle.price_bound.specs.Costs.{AreCostsBelow, AreCostsIn, IsCostOf}
+use Rattle.price_bound.specs.Credits.{AreRowsBut, put_in}
+use Rattle.price_bound.specs.PriceTables.{HasSize, amount_at}
+use Rattle.price_bound.proofs.Crediting.{put_beside, put_here}
+
+module _ (day : Day) (changes : List Change) where
+  -- no cost yet
+  pub costs_none : (t : ℕ) (table : List (List ℤ)) → AreCostsIn day changes t 0 table
+  costs_none t table comp lt = absurd (omega (arith, lt))
+
+  -- one cost more
+  pub costs_more : (rows columns : ℕ) (table : List (List ℤ)) (t comp : ℕ) (amount : ℤ) → HasSize rows columns table
+      → t < rows → comp < columns → AreCostsIn day changes t comp table → IsCostOf day changes t comp amount
+      → AreCostsIn day changes t (comp + 1) (put_in t comp amount table)
+  costs_more rows columns table t comp amount size below lt done is c before = elim (cases_eq c comp) [
+    | inl same ↦ subst (λ (k : ℕ). IsCostOf day changes t k (amount_at (put_in t comp amount table) t k)) (sym same)
+        (subst (IsCostOf day changes t comp) (sym (put_here rows columns table size t comp amount below lt)) is)
+    | inr differ ↦ subst (IsCostOf day changes t c) (sym (put_beside rows columns table size t comp amount below c differ))
+        (done c (omega (arith, before, differ)))
+  ]
+
+  -- the costs of one trip more
+  pub trips_more : (table new : List (List ℤ)) (trip : ℕ) → AreCostsBelow day changes trip table
+      → AreCostsIn day changes trip (length (compositions_of day)) new → AreRowsBut trip table new
+      → AreCostsBelow day changes (trip + 1) new
+  trips_more table new trip done here others t lt = elim (cases_eq t trip) [
+    | inl same ↦ subst (λ (k : ℕ). AreCostsIn day changes k (length (compositions_of day)) new) (sym same) here
+    | inr differ ↦ λ comp below.
+        subst (λ (row : List ℤ). IsCostOf day changes t comp (get_or row comp (pos 0))) (sym (others t differ))
+        (done t (omega (arith, lt, differ)) comp below)
+  ]
