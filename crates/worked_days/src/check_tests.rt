@@ -61,7 +61,8 @@ fn answers_that_are_valid(rt: HostRuntime) -> Result<(), Fail> {
     let bounded = "bounded 120\nbranchings 0\ntree\ncost 120 0\nend\n";
     expect_valid(&rt, alloc, bounded, "valid bounded 120\n")?;
     let branched =
-        "optimal 190\nbranchings 2\nrun 0 0 1\nrun 1 1\ntree\nonly 0 1\nonly 1 1\nray 1 2:-1\ncost 190 0\nray 1 2:-1\nend\n";
+        "optimal 190\nbranchings 2\nrun 0 0 1\nrun 1 1\ntree\nonly 0 1\nonly 1 1\nray 1 2:-1\ncost 190 0\n\
+            ray 1 2:-1\nend\n";
     expect_valid(&rt, alloc, branched, "valid optimal 190\n")?;
     Ok(())
 }
@@ -92,7 +93,8 @@ fn answers_that_say_that_no_plan_runs(rt: HostRuntime) -> Result<(), Fail> {
 fn an_answer_to_a_day_of_joins_and_splits(rt: HostRuntime) -> Result<(), Fail> {
     let alloc = rt.alloc();
     let answer =
-        "railplan answer 1\noptimal 1270\nbranchings 0\nrun 0 0 1 2\nrun 1 0 1\nrun 2 2\nrun 3 2 0 1\ntree\ncost 1270 2 7:500 11:-470\nend\n";
+        "railplan answer 1\noptimal 1270\nbranchings 0\nrun 0 0 1 2\nrun 1 0 1\nrun 2 2\nrun 3 2 0 1\ntree\n\
+            cost 1270 2 7:500 11:-470\nend\n";
     expect_check(&rt, alloc, &ring(), answer, 0, "valid optimal 1270\n")?;
     Ok(())
 }

@@ -119,10 +119,12 @@ pub(crate) fn ring() -> Day<'static> {
         stations: Some("station,platform,reallocation\nX,240,30\nY,240,30\nZ,240,30\n"),
         stock: Some("station,type,start,end\nX,A,3,3\n"),
         trips: Some(
-            "trip,from,departure,to,arrival,km,demand\nT1,X,08:00,Y,09:00,10,300\nT2,Y,09:10,Z,10:00,10,300\nT3,Y,09:20,Z,10:10,10,300\nT4,Z,10:30,X,11:30,10,300\n",
+            "trip,from,departure,to,arrival,km,demand\nT1,X,08:00,Y,09:00,10,300\nT2,Y,09:10,Z,10:00,10,300\n\
+                T3,Y,09:20,Z,10:10,10,300\nT4,Z,10:30,X,11:30,10,300\n",
         ),
         links: Some(
-            "kind,arriving,arriving2,departing,departing2,reverse,uncouple,couple\nsplit,T1,,T2,T3,no,none,none\njoin,T3,T2,T4,,no,none,none\n",
+            "kind,arriving,arriving2,departing,departing2,reverse,uncouple,couple\n\
+                split,T1,,T2,T3,no,none,none\njoin,T3,T2,T4,,no,none,none\n",
         ),
         plan: Some("trip,units\nT1,0 1 2\nT2,0 1\nT3,2\nT4,2 0 1\n"),
         ..two_trips()
@@ -142,10 +144,14 @@ pub(crate) fn northport() -> Day<'static> {
             "station,type,start,end\r\n\"Northport, Central\",IC-3,2,2\r\n\"Northport, Central\",IC-4,1,1\r\n",
         ),
         trips: Some(
-            "trip,from,departure,to,arrival,km,demand\r\n101,\"Northport, Central\",06:02,Midford,06:58,74,310\r\n102,Midford,07:05,Southhaven,07:50,58,180\r\n103,Southhaven,08:10,Midford,08:55,58,170\r\n104,Midford,09:02,\"Northport, Central\",09:58,74,290\r\n",
+            "trip,from,departure,to,arrival,km,demand\r\n\
+                101,\"Northport, Central\",06:02,Midford,06:58,74,310\r\n\
+                102,Midford,07:05,Southhaven,07:50,58,180\r\n103,Southhaven,08:10,Midford,08:55,58,170\r\n\
+                104,Midford,09:02,\"Northport, Central\",09:58,74,290\r\n",
         ),
         links: Some(
-            "kind,arriving,arriving2,departing,departing2,reverse,uncouple,couple\r\nturn,101,,102,,no,rear,none\r\nturn,102,,103,,yes,none,none\r\nturn,103,,104,,no,none,rear\r\n",
+            "kind,arriving,arriving2,departing,departing2,reverse,uncouple,couple\r\n\
+                turn,101,,102,,no,rear,none\r\nturn,102,,103,,yes,none,none\r\nturn,103,,104,,no,none,rear\r\n",
         ),
         weights: Some("carriage,shortage,shunting\r\n10,10,500\r\n"),
         plan: Some("trip,units\r\n101,0 1\r\n102,0\r\n103,0\r\n104,0 1\r\n"),

@@ -12,7 +12,8 @@ fn exchange_at_the_rear() -> Day<'static> {
             "trip,from,departure,to,arrival,km,demand\nT1,X,08:00,Y,09:00,10,300\nT2,Y,09:10,X,10:10,10,200\n",
         ),
         links: Some(
-            "kind,arriving,arriving2,departing,departing2,reverse,uncouple,couple,exchange\nturn,T1,,T2,,yes,rear,rear,yes\n",
+            "kind,arriving,arriving2,departing,departing2,reverse,uncouple,couple,exchange\n\
+                turn,T1,,T2,,yes,rear,rear,yes\n",
         ),
         plan: Some("trip,units\nT1,0 1\nT2,1 2\n"),
         ..two_types()
@@ -25,7 +26,8 @@ fn taken_again(trips: &str) -> Day {
         stock: Some("station,type,start,end\nX,A,1,1\nX,B,1,1\n"),
         trips: Some(trips),
         links: Some(
-            "kind,arriving,arriving2,departing,departing2,reverse,uncouple,couple,exchange\nturn,T1,,T2,,no,front,rear,yes\n",
+            "kind,arriving,arriving2,departing,departing2,reverse,uncouple,couple,exchange\n\
+                turn,T1,,T2,,no,front,rear,yes\n",
         ),
         plan: Some("trip,units\nT1,0 1\nT2,1 0\n"),
         ..two_types()
@@ -38,7 +40,8 @@ fn a_turn_exchanges_units(rt: HostRuntime) -> Result<(), Fail> {
     expect_document(&rt, alloc, &exchange_at_the_rear(), 0, "runs 190\n")?;
     let without = Day {
         links: Some(
-            "kind,arriving,arriving2,departing,departing2,reverse,uncouple,couple,exchange\nturn,T1,,T2,,yes,rear,rear,no\n",
+            "kind,arriving,arriving2,departing,departing2,reverse,uncouple,couple,exchange\n\
+                turn,T1,,T2,,yes,rear,rear,no\n",
         ),
         ..exchange_at_the_rear()
     };
@@ -68,27 +71,33 @@ fn an_exchange_has_two_ends(rt: HostRuntime) -> Result<(), Fail> {
     let alloc = rt.alloc();
     let cases = [
         (
-            "kind,arriving,arriving2,departing,departing2,reverse,uncouple,couple,exchange\nturn,T1,,T2,,yes,none,rear,yes\n",
+            "kind,arriving,arriving2,departing,departing2,reverse,uncouple,couple,exchange\n\
+                turn,T1,,T2,,yes,none,rear,yes\n",
             "refused links.csv: row 1: fields do not fit the kind\n",
         ),
         (
-            "kind,arriving,arriving2,departing,departing2,reverse,uncouple,couple,exchange\nturn,T1,,T2,,yes,rear,none,yes\n",
+            "kind,arriving,arriving2,departing,departing2,reverse,uncouple,couple,exchange\n\
+                turn,T1,,T2,,yes,rear,none,yes\n",
             "refused links.csv: row 1: fields do not fit the kind\n",
         ),
         (
-            "kind,arriving,arriving2,departing,departing2,reverse,uncouple,couple,exchange\njoin,T1,T1,T2,,no,none,none,yes\n",
+            "kind,arriving,arriving2,departing,departing2,reverse,uncouple,couple,exchange\n\
+                join,T1,T1,T2,,no,none,none,yes\n",
             "refused links.csv: row 1: fields do not fit the kind\n",
         ),
         (
-            "kind,arriving,arriving2,departing,departing2,reverse,uncouple,couple,exchange\nsplit,T1,,T2,T2,no,none,none,yes\n",
+            "kind,arriving,arriving2,departing,departing2,reverse,uncouple,couple,exchange\n\
+                split,T1,,T2,T2,no,none,none,yes\n",
             "refused links.csv: row 1: fields do not fit the kind\n",
         ),
         (
-            "kind,arriving,arriving2,departing,departing2,reverse,uncouple,couple,exchange\nturn,T1,,T2,,yes,rear,rear,perhaps\n",
+            "kind,arriving,arriving2,departing,departing2,reverse,uncouple,couple,exchange\n\
+                turn,T1,,T2,,yes,rear,rear,perhaps\n",
             "refused links.csv: row 1, column exchange: not a word of this column\n",
         ),
         (
-            "kind,arriving,arriving2,departing,departing2,reverse,uncouple,couple,exchange\nturn,T1,,T2,,yes,rear,none\n",
+            "kind,arriving,arriving2,departing,departing2,reverse,uncouple,couple,exchange\n\
+                turn,T1,,T2,,yes,rear,none\n",
             "refused links.csv: row 1 has 8 fields\n",
         ),
     ];

@@ -74,7 +74,8 @@ fn wrong_links_are_refused(rt: HostRuntime) -> Result<(), Fail> {
     let alloc = rt.alloc();
     let twice = Day {
         links: Some(
-            "kind,arriving,arriving2,departing,departing2,reverse,uncouple,couple\nturn,T1,,T2,,yes,rear,none\nturn,T1,,T2,,yes,rear,none\n",
+            "kind,arriving,arriving2,departing,departing2,reverse,uncouple,couple\nturn,T1,,T2,,yes,rear,none\n\
+                turn,T1,,T2,,yes,rear,none\n",
         ),
         ..base_day()
     };

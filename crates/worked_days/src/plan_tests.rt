@@ -111,7 +111,8 @@ fn branchings_and_rounds_are_granted(rt: HostRuntime) -> Result<(), Fail> {
     let first_bound = "bounded 120\nbranchings 0\ntree\ncost 120 0\nend\n";
     expect_answer(&rt, alloc, &one_stays(), &granted("0", "0"), 4, first_bound)?;
     let closed =
-        "optimal 190\nbranchings 2\nrun 0 0 1\nrun 1 1\ntree\nonly 0 1\nonly 1 1\nray 1 2:-1\ncost 190 0\nray 1 2:-1\nend\n";
+        "optimal 190\nbranchings 2\nrun 0 0 1\nrun 1 1\ntree\nonly 0 1\nonly 1 1\nray 1 2:-1\ncost 190 0\n\
+            ray 1 2:-1\nend\n";
     expect_answer(&rt, alloc, &one_stays(), &granted("2", "0"), 0, closed)?;
     let plan_and_bound =
         "bounded 100 plan 1060\nbranchings 1\nrun 0 0\nrun 1 0\ntree\nonly 0 1\ncost 100 0\ncost 1060 0\nend\n";

@@ -13,10 +13,12 @@ pub(crate) const ONE_RETURNS: &str =
 const FIRST_BOUND: &str = "railplan answer 1\nbounded 120\nbranchings 0\ntree\ncost 120 0\nend\n";
 
 pub(crate) const DUTIES: &str =
-    "unit,type,home,trip,from,departure,to,arrival,position\n0,A,X,T1,X,08:00,Y,09:00,0\n1,A,X,T1,X,08:00,Y,09:00,1\n1,A,X,T2,Y,09:10,X,10:10,0\n";
+    "unit,type,home,trip,from,departure,to,arrival,position\n0,A,X,T1,X,08:00,Y,09:00,0\n\
+        1,A,X,T1,X,08:00,Y,09:00,1\n1,A,X,T2,Y,09:10,X,10:10,0\n";
 
 pub(crate) const YARDS: &str =
-    "station,type,time,taken,ready,count\nX,A,start,0,0,2\nX,A,08:00,2,0,0\nX,A,end,0,1,1\nY,A,start,0,0,0\nY,A,09:10,0,0,0\nY,A,end,0,1,1\n";
+    "station,type,time,taken,ready,count\nX,A,start,0,0,2\nX,A,08:00,2,0,0\nX,A,end,0,1,1\nY,A,start,0,0,0\n\
+        Y,A,09:10,0,0,0\nY,A,end,0,1,1\n";
 
 pub(crate) const COSTS: &str = "part,amount\ncarriage,90\nshortage,0\nshunting,100\ntotal,190\n";
 
