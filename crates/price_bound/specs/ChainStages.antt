@@ -89,5 +89,6 @@ ArePaths priced (chain ∷ chains) picks value =
 abbrev pub AreFirstPaths : Priced → List (List ℕ) → List ℕ → ℤ → Type 0
 AreFirstPaths priced [] picks value = value ≡ pos 0
 AreFirstPaths priced (chain ∷ chains) picks value =
-    (here rest : ℤ) × IsFirstPath (stages_of priced chain) (along picks chain) here × AreFirstPaths priced chains picks rest
+    (here rest : ℤ) × IsFirstPath (stages_of priced chain) (along picks chain) here
+    × AreFirstPaths priced chains picks rest
     × (value ≡ here +ℤ rest)

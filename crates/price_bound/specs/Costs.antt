@@ -28,7 +28,8 @@ AreCostsIn day changes t comps table = (comp : ℕ) → comp < comps → IsCostO
 
 -- it has them in the rows below a number
 abbrev pub AreCostsBelow : Day → List Change → ℕ → List (List ℤ) → Type 0
-AreCostsBelow day changes trips table = (t : ℕ) → t < trips → AreCostsIn day changes t (length (compositions_of day)) table
+AreCostsBelow day changes trips table = (t : ℕ) → t < trips
+    → AreCostsIn day changes t (length (compositions_of day)) table
 
 -- the costs of a day under changes
 pub record AreCosts (day : Day) (changes : List Change) (table : List (List ℤ)) : Type 0 where

@@ -40,7 +40,8 @@ with_place day (Sigma h c) value tables =
 
 abbrev pub with_entry : Day → PriceTables → Entry → PriceTables
 with_entry day tables entry =
-    unwrap_or (option_map (λ place. with_place day place entry.value tables) (slice_get (places_of day) entry.index)) tables
+    unwrap_or (option_map (λ place. with_place day place entry.value tables)
+    (slice_get (places_of day) entry.index)) tables
 
 -- each amount is 0
 abbrev pub cleared_table : List (List ℤ) → List (List ℤ)

@@ -21,7 +21,8 @@ pub record IsRoomFor (day : Day) (changes : List Change) (room : Workspace) : Ty
   pub choice : length room.choice ≡ length day.trips
 
 -- what is kept while a day is worked on under changes
-pub record IsReady (day : Day) (graphs : List (List Edge)) (changes : List Change) (ledger : Loaded) (order choice : List ℕ)
+pub record IsReady (day : Day) (graphs : List (List Edge)) (changes : List Change) (ledger : Loaded)
+    (order choice : List ℕ)
     (room : Workspace) : Type 0 where
   pub work : IsWorkedOn day graphs ledger order choice
   pub changes_are : AreChanges day changes

@@ -26,7 +26,8 @@ pub(crate) fn look(
     requires choice { length choice.old ≡ length question.now.day.trips }
     requires best { length best.old ≡ length question.now.day.trips }
     requires ledger { ledger.old.day ≡ question.now.day }
-    ensures looked { AreLookedAt question.now (λ picks. Agree (trips_by_chain question.now.day) place picks choice.old) before best.old result best.new }
+    ensures looked { AreLookedAt question.now
+        (λ picks. Agree (trips_by_chain question.now.day) place picks choice.old) before best.old result best.new }
     ensures choice { length choice.new ≡ length question.now.day.trips }
     ensures agree { Agree (trips_by_chain question.now.day) place choice.new choice.old }
     ensures best { length best.new ≡ length question.now.day.trips }

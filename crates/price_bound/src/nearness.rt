@@ -25,7 +25,8 @@ pub(crate) fn is_near(question: &Question<'_>, picks: &Picks) -> bool
 /// Whether the region has the part of each hand-over for its second trip, where picks follow.
 fn have_parts(question: &Question<'_>, picks: &Picks) -> bool
     requires { Follow question.now.day picks.now }
-    ensures { IsTrue result ↔ All (HasPartOf question.now.region question.now.day picks.now) (handovers_of question.now.day) }
+    ensures { IsTrue result ↔ All (HasPartOf question.now.region question.now.day picks.now)
+        (handovers_of question.now.day) }
 {
     for handover in 0..question.instance.handovers() {
         if !has_part(question, picks, handover) {
@@ -40,7 +41,8 @@ fn have_parts(question: &Question<'_>, picks: &Picks) -> bool
 fn has_part(question: &Question<'_>, picks: &Picks, handover: u32) -> bool
     requires follow { Follow question.now.day picks.now }
     requires handover { handover < length (handovers_of question.now.day) }
-    ensures { (at : Handover) → slice_get (handovers_of question.now.day) handover ≡ Some at → IsTrue result ↔ HasPartOf question.now.region question.now.day picks.now at }
+    ensures { (at : Handover) → slice_get (handovers_of question.now.day) handover ≡ Some at
+        → IsTrue result ↔ HasPartOf question.now.region question.now.day picks.now at }
 {
     let part = part_at(question.instance, question.graphs, picks, handover);
     question.has(question.instance.handover(handover).second, part)

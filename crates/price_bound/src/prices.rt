@@ -35,7 +35,8 @@ pub(crate) fn price(question: &Question<'_>, picks: &Picks, ledger: &mut Ledger<
 /// The cost of picks that follow, and 0 where it does not count.
 fn cost_under(question: &Question<'_>, picks: &Picks) -> i128
     requires { Follow question.now.day picks.now }
-    ensures value { result ≡ weighted question.now.weight (pos (cost_of question.now.day (picked question.now.day picks.now))) }
+    ensures value { result ≡ weighted question.now.weight
+        (pos (cost_of question.now.day (picked question.now.day picks.now))) }
     ensures range { unsigned_abs result ≤ MOST_DAY_COST }
 {
     match question.weight {

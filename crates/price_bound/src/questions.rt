@@ -29,9 +29,19 @@ impl<'a> Model for Question<'a> {
 
     ghost Value = { Asked };
 
-    ghost view = { λ a. record { day = a.instance.now; region = a.region.now; multipliers = a.multipliers.now; weight = a.weight } };
+    ghost view = { λ a. record {
+      day = a.instance.now;
+      region = a.region.now;
+      multipliers = a.multipliers.now;
+      weight = a.weight;
+    } };
 
-    ghost invariant = { λ a. IsAsked (record { day = a.instance.now; region = a.region.now; multipliers = a.multipliers.now; weight = a.weight }) a.graphs.now a.order.now };
+    ghost invariant = { λ a. IsAsked (record {
+      day = a.instance.now;
+      region = a.region.now;
+      multipliers = a.multipliers.now;
+      weight = a.weight;
+    }) a.graphs.now a.order.now };
 }
 
 impl<'a> Question<'a> {

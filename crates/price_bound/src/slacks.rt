@@ -188,7 +188,8 @@ impl<'a> CountedPicks<'a> {
         requires handover { handover < length (handovers_of self.now.day) }
         requires first { first ≡ handover_index self.now.day handover }
         requires slacks { into.old ≡ entered self.now.day self.now.picks first }
-        requires few { length into.old ≤ length (lambdas_of self.now.day) + length (mus_of self.now.day) + 2 * handover }
+        requires few { length into.old ≤ length (lambdas_of self.now.day) + length (mus_of self.now.day)
+            + 2 * handover }
         ensures slacks { into.new ≡ entered self.now.day self.now.picks (handover_index self.now.day (handover + 1)) }
         ensures few { length into.new ≤ length into.old + 2 }
     {

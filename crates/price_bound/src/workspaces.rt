@@ -92,7 +92,8 @@ impl Workspace {
         requires fit { DoFit (length (places_of instance.now)) (length (lambdas_of instance.now)) multipliers.now }
         requires best { length best.old ≡ length instance.now.trips }
         ensures room { IsRoomFor instance.now changes.now self.new }
-        ensures bound { IsBound (changed_meanings (changed_day instance.now changes.now)) region.now multipliers.now weight result best.old best.new }
+        ensures bound { IsBound (changed_meanings (changed_day instance.now changes.now)) region.now
+            multipliers.now weight result best.old best.new }
     {
         let _entries = multipliers.entries();
         let _chains = instance.chains();
