@@ -1,13 +1,12 @@
 -- An answer has one verdict: each thing that may be wrong with it rules out the others, and is told in one way.
-use Rattle.std.proofs.Common.{◌≡◌, ◌≢◌, ℕ, ◌<◌, ◌≤◌, List, length, true, IsTrue, inl, inr, refl, sym, ◌∙◌, ap, subst, arith}
+use Rattle.std.proofs.Common.{◌≡◌, ℕ, ◌<◌, List, length, inl, inr, sym, ◌∙◌, ap, subst, arith}
 use Rattle.std.specs.Prelude.{Result, Err}
 use Rattle.std.proofs.lemmas.Bool.{cases_lt}
 use Rattle.timetable.specs.Day.{Day}
 use Rattle.timetable.specs.Running.{Runs}
-use Rattle.branch_tree.specs.Claims.{Conclusion, said_by}
+use Rattle.branch_tree.specs.Claims.{said_by}
 use Rattle.branch_tree.specs.Regions.{root_of}
 use Rattle.cert_check.specs.declared.verdict.Reason.{Reason}
-use Rattle.cert_check.specs.declared.verdict.Verdict.{Verdict}
 use Rattle.cert_check.specs.declared.verdict.Verdict.TheVariants.{Invalid}
 use Rattle.cert_check.specs.Reasons.{claim_tests}
 use Rattle.cert_check.specs.Tests.{FirstFails, Test}

@@ -1,13 +1,11 @@
 -- What a valid answer says is true of all plans, and it has one list of picks.
-use Rattle.std.proofs.Common.{◌≡◌, ℕ, zero, suc, ◌<◌, ◌≤◌, List, [], ◌∷◌, map, length, true, IsTrue, refl, sym, ◌∙◌, ap}
+use Rattle.std.proofs.Common.{◌≡◌, ℕ, ◌≤◌, List, length, IsTrue, refl, sym, ◌∙◌, ap}
 use Rattle.std.proofs.Common.{subst, ℤ, pos}
 use Rattle.rail_base.specs.declared.limits.TheConstants.{MOST_COMPOSITIONS}
 use Rattle.rail_base.specs.declared.numbers.Money.{Money}
 use Rattle.timetable.specs.Compositions.{compositions_of}
-use Rattle.timetable.specs.Cost.{cost_of, plan_cost}
-use Rattle.timetable.specs.Day.{Day, types_of}
-use Rattle.timetable.specs.Picking.{picked}
-use Rattle.timetable.specs.Running.{Runs}
+use Rattle.timetable.specs.Cost.{cost_of}
+use Rattle.timetable.specs.Day.{Day}
 use Rattle.branch_tree.specs.Claims.{IsConcluded, IsPlanIn}
 use Rattle.branch_tree.specs.Meanings.{IsRelaxation}
 use Rattle.branch_tree.specs.Regions.{root_of}

@@ -1,7 +1,7 @@
 -- As many branchings as the day has choices leave no leaf open.
-use Rattle.std.proofs.Common.{◌≡◌, ℕ, ◌+◌, ◌<◌, ◌≤◌, List, [], ◌∷◌, ◌++◌, length, Bool, true, false, Option, None, refl}
+use Rattle.std.proofs.Common.{◌≡◌, ◌+◌, ◌≤◌, List, [], ◌∷◌, ◌++◌, length, Bool, true, false, Option, refl}
 use Rattle.std.proofs.Common.{arith}
-use Rattle.std.specs.Prelude.{IsTrue, if◌then◌else◌}
+use Rattle.std.specs.Prelude.{if◌then◌else◌}
 use Rattle.rail_base.specs.declared.limits.TheConstants.{MOST_COMPOSITIONS}
 use Rattle.timetable.specs.Accepted.{HaveCompositions}
 use Rattle.timetable.specs.Compositions.{compositions_of}
@@ -9,7 +9,7 @@ use Rattle.timetable.specs.Day.{Day}
 use Rattle.branch_tree.specs.declared.tree.Node.{Node}
 use Rattle.branch_tree.specs.declared.tree.Node.TheVariants.{Branch, CostLeaf, RayLeaf, EmptyLeaf}
 use Rattle.branch_tree.specs.Claims.{EndsInTime, HasOpenLeaf, IsNotEvidentAt, Priced, is_below, open_leaves_of}
-use Rattle.branch_tree.specs.Laws.{AreFewBranches, SinglePicksAreEvident}
+use Rattle.branch_tree.specs.Laws.{AreFewBranches}
 use Rattle.branch_tree.specs.Meanings.{IsRelaxation, Meanings}
 use Rattle.branch_tree.specs.Regions.{choices_of, root_of}
 use Rattle.branch_tree.specs.Trees.{Covers, IsProperAt, IsSingleAt, Walks, branchings_of, cut_of, regions_below}

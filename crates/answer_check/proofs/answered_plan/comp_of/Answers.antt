@@ -1,8 +1,7 @@
-use Rattle.std.proofs.Common.{rules, ◌≡◌, ◌∙◌, ◌<◌, ◌≤◌, ℕ, List, length, inl, inr, Some, None, Contains, sym, subst}
+use Rattle.std.proofs.Common.{rules, ◌≡◌, ◌∙◌, ℕ, List, length, inl, inr, Some, Contains, sym, subst}
 use Rattle.std.proofs.Common.{refl, ap, arith}
 use Rattle.std.specs.Prelude.{slice_get}
 use Rattle.std.specs.Option.{IsNone}
-use Rattle.rail_base.specs.declared.limits.TheConstants.{MOST_COMPOSITION}
 use Rattle.timetable.specs.Compositions.{compositions_of}
 use Rattle.timetable.specs.Day.{types_of}
 use Rattle.timetable.specs.Links.{list_of}

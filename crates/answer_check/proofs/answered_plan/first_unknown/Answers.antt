@@ -1,4 +1,4 @@
-use Rattle.std.proofs.Common.{rules, ℕ, ◌<◌, ◌≤◌, ◌≡◌, inl, inr, length, subst, sym, ◌∙◌, ap, arith}
+use Rattle.std.proofs.Common.{rules, ℕ, ◌≡◌, inl, inr, subst, arith}
 use Rattle.std.proofs.lemmas.Bool.{cases_lt}
 use Rattle.timetable.specs.Day.{unit_count}
 use Rattle.timetable.specs.Links.{list_of}

@@ -1,4 +1,4 @@
-use Rattle.std.proofs.Common.{rules, ◌≡◌, ◌∙◌, sym, refl, subst, arith}
+use Rattle.std.proofs.Common.{rules}
 use Rattle.answer_check.proofs.Checked.{says_refuted, says_true, says_valid}
 use Rattle.answer_check.proofs.checking.check_claim.Goals as goal
 

@@ -1,5 +1,5 @@
-use Rattle.std.proofs.Common.{rules, ◌≡◌, ◌∙◌, List, Bool, sym, refl, subst, arith}
-use Rattle.branch_tree.specs.Meanings.{IsRelaxation, Meanings}
+use Rattle.std.proofs.Common.{rules}
+use Rattle.branch_tree.specs.Meanings.{IsRelaxation}
 use Rattle.cert_check.specs.Verdicts.{IsVerdict}
 use Rattle.answer_check.proofs.Checked.{at_day, root_over}
 use Rattle.answer_check.proofs.checking.checked.Goals as goal
