@@ -10,10 +10,6 @@ use Rattle.price_bound.specs.PriceTables.{HasSize, amount_at}
 use Rattle.price_bound.proofs.Crediting.{put_beside, put_here}
 
 module _ (day : Day) (changes : List Change) where
-  -- no cost yet
-  pub costs_none : (t : ℕ) (table : List (List ℤ)) → AreCostsIn day changes t 0 table
-  costs_none t table comp lt = absurd (omega (arith, lt))
-
   -- one cost more
   pub costs_more : (rows columns : ℕ) (table : List (List ℤ)) (t comp : ℕ) (amount : ℤ) → HasSize rows columns table
       → t < rows → comp < columns → AreCostsIn day changes t comp table → IsCostOf day changes t comp amount

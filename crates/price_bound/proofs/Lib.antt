@@ -41,6 +41,7 @@ mod DayPrices
 mod Summing
 mod Crediting
 mod Costing
+mod AtHand
 mod Bounding
 mod ChainSteps
 mod ChainCells

@@ -85,19 +85,18 @@ module _ (day : Day) (entries : List Entry) (tables : PriceTables) (prices : Are
         (yard_small day entries (to_of day t) (ready_at day t) m (are_few day entries multipliers))
 
 -- what a turn adds, by its parts: the prices of what departs are those of what stayed and those of what came
-pub turn_is : (cost takes stay_takes came_takes from_gives gives stay_gives came_gives paid taken all came stayed before given charged whole : ℤ)
-    → takes ≡ stay_takes +ℤ came_takes → gives ≡ stay_gives +ℤ came_gives → paid ≡ cost → taken ≡ came_takes → all ≡ gives
-    → came ≡ came_gives → stayed ≡ all -ℤ came → before ≡ from_gives → given ≡ before -ℤ stayed → charged ≡ paid +ℤ taken
-    → whole ≡ charged -ℤ given → whole ≡ cost +ℤ (takes -ℤ stay_takes) -ℤ (from_gives -ℤ stay_gives)
-turn_is cost takes stay_takes came_takes from_gives gives stay_gives came_gives paid taken all came stayed before given charged whole
-    e f g h i j k l m n o = omega (arith, ints, e, f, g, h, i, j, k, l, m, n, o)
+pub turn_is : (cost takes stay_takes came_takes from_gives gives stay_gives came_gives paid before after newly given kept whole : ℤ)
+    → takes ≡ stay_takes +ℤ came_takes → gives ≡ stay_gives +ℤ came_gives → paid ≡ cost → before ≡ from_gives → after ≡ gives
+    → newly ≡ came_takes -ℤ came_gives → given ≡ before -ℤ after → kept ≡ paid -ℤ given → whole ≡ kept +ℤ newly
+    → whole ≡ cost +ℤ (takes -ℤ stay_takes) -ℤ (from_gives -ℤ stay_gives)
+turn_is cost takes stay_takes came_takes from_gives gives stay_gives came_gives paid before after newly given kept whole
+    e f g h i j k l m = omega (arith, ints, e, f, g, h, i, j, k, l, m)
 
 -- and it is small, as they are
-pub turn_small : (cost taken to_gives came_gives stayed from_gives given charged whole : ℤ) → IsSmall 1000000000000 cost
-    → IsSmall 6000000000000000 taken → IsSmall 6000000000000000 to_gives → IsSmall 6000000000000000 came_gives
-    → IsSmall 6000000000000000 from_gives → stayed ≡ to_gives -ℤ came_gives → given ≡ from_gives -ℤ stayed
-    → charged ≡ cost +ℤ taken → whole ≡ charged -ℤ given → IsSmall 30000000000000000 whole
-turn_small cost taken to_gives came_gives stayed from_gives given charged whole p q r s t e f g h = record {
-  above = omega (arith, ints, p.above, q.above, r.above, s.below, t.below, e, f, g, h);
-  below = omega (arith, ints, p.below, q.below, r.below, s.above, t.above, e, f, g, h);
+pub turn_small : (cost before after newly given kept whole : ℤ) → IsSmall 1000000000000 cost → IsSmall 6000000000000000 before
+    → IsSmall 6000000000000000 after → IsSmall 12000000000000000 newly → given ≡ before -ℤ after → kept ≡ cost -ℤ given
+    → whole ≡ kept +ℤ newly → IsSmall 30000000000000000 whole
+turn_small cost before after newly given kept whole p q r s e f g = record {
+  above = omega (arith, ints, p.above, q.below, r.above, s.above, e, f, g);
+  below = omega (arith, ints, p.below, q.above, r.below, s.below, e, f, g);
 }

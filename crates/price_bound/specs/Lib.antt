@@ -37,5 +37,6 @@ pub mod Credits
 pub mod Costs
 pub mod CellRows
 pub mod Pricing
+pub mod AtHand
 pub mod Rooms
 pub mod ChangedDays

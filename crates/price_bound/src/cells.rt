@@ -7,7 +7,8 @@ ghost use Rattle.price_bound.specs.CellRows.{lower_at};
 ghost use Rattle.price_bound.specs.Paths.{entered, least_from, lower_cell, offer_by, with_worth};
 ghost use Rattle.price_bound.specs.CellSizes.{AreSmallCells, IsSmall};
 
-use rail_base::{CompNo, Money, NoMemory};
+use crate::worths::{Amount, wide};
+use rail_base::{CompNo, NoMemory};
 use std::alloc::Global;
 use std::marker::Model;
 
@@ -91,7 +92,7 @@ impl CellRow {
     }
 
     /// Adds a worth to the cell of a composition, which is below `len`; where there is no worth, there is no cell then.
-    pub(crate) fn add(&mut self, comp: CompNo, worth: Option<Money>)
+    pub(crate) fn add(&mut self, comp: CompNo, worth: Option<Amount>)
         requires comp { comp < length self.old }
         requires small { IfSome (get_or self.old comp None) (λ cell. IsSmall 1000000000000000000000000000000 cell.value) }
         requires worth { IfSome worth (λ worth. IsSmall 20000000000000000 worth.0) }
@@ -138,13 +139,13 @@ fn lower_of(cell: Cell, other: Cell) -> Cell
 }
 
 /// The cell of an edge to a composition: what is ahead there, at the edge's price.
-pub(crate) fn offer_by(to: CompNo, price: Option<Money>, ahead: Option<Cell>) -> Option<Cell>
+pub(crate) fn offer_by(to: CompNo, price: Option<Amount>, ahead: Option<Cell>) -> Option<Cell>
     requires price { IfSome price (λ price. IsSmall 30000000000000000 price.0) }
     requires ahead { IfSome ahead (λ cell. IsSmall 1000000000000000000000000000000 cell.value) }
     ensures value { result ≡ offer_by to (option_map (λ price. price.0) price) ahead }
     ensures small { (bound : ℕ) → IfSome ahead (λ cell. IsSmall bound cell.value) → IfSome result (λ cell. IsSmall (bound + 30000000000000000) cell.value) }
 {
-    let price = price?;
+    let price = wide(price?);
     let ahead = ahead?;
     Some(Cell {
         value: price.0 + ahead.value,
@@ -153,13 +154,13 @@ pub(crate) fn offer_by(to: CompNo, price: Option<Money>, ahead: Option<Cell>) ->
 }
 
 /// A cell with the worth of its composition.
-fn with_worth(worth: Option<Money>, cell: Option<Cell>) -> Option<Cell>
+fn with_worth(worth: Option<Amount>, cell: Option<Cell>) -> Option<Cell>
     requires worth { IfSome worth (λ worth. IsSmall 20000000000000000 worth.0) }
     requires cell { IfSome cell (λ cell. IsSmall 1000000000000000000000000000000 cell.value) }
     ensures value { result ≡ with_worth (option_map (λ worth. worth.0) worth) cell }
     ensures small { (bound : ℕ) → IfSome cell (λ cell. IsSmall bound cell.value) → IfSome result (λ cell. IsSmall (bound + 20000000000000000) cell.value) }
 {
-    let worth = worth?;
+    let worth = wide(worth?);
     let cell = cell?;
     Some(Cell {
         value: worth.0 + cell.value,

@@ -3,6 +3,7 @@
 
 ghost use Rattle.std.specs.Prelude.{ℕ, ◌≡◌, ◌<◌, ◌≤◌, ◌+◌, ◌*◌, [], length, get_or, set, take, All, IfOk, Some, None};
 ghost use Rattle.timetable.specs.Compositions.{compositions_of};
+ghost use Rattle.price_bound.specs.AtHand.{IsForParts, IsForTurn};
 ghost use Rattle.price_bound.specs.CellRows.{HaveRoom, HaveRoomFor, chain_rows, comps_of, edges_offered, last_row_on};
 ghost use Rattle.price_bound.specs.CellRows.{offered_on, put_along, row_on};
 ghost use Rattle.price_bound.specs.CellSizes.{AreSmallCells, AreSmallOffers, IsSmallStep};
@@ -11,11 +12,14 @@ ghost use Rattle.price_bound.specs.Paths.{begin_of, next_of, walked, with_worths
 ghost use Rattle.price_bound.specs.Pricing.{ArePriced, priced_by};
 
 use crate::cells::{Cell, CellRow, offer_by};
+use crate::part_prices::PartPrices;
 use crate::priced::Pricing;
+use crate::turn_prices::{TurnPrices, TurnTrips};
+use crate::worths::TripWorths;
 use rail_base::{CompNo, LinkNo, NoMemory, TripNo};
 use std::alloc::Global;
 use std::marker::Model;
-use timetable::{Instance, Picks};
+use timetable::{Instance, LinkKind, Picks};
 
 /// Room for the rows of any chain of a day. A contract sees a list of cells for each row.
 #[derive(Debug, Drop)]
@@ -191,10 +195,60 @@ fn offer_edges(pricing: &Pricing<'_>, link: LinkNo, row: &mut CellRow, ahead: &C
     ensures row { row.new ≡ edges_offered (priced_by pricing.now) (Some link) ahead.now row.old }
     ensures small { AreSmallOffers 30000000000000000 ahead.now row.old row.new }
 {
-    let edges = pricing.graphs.edges(link);
+    match pricing.instance.link(link).kind {
+        LinkKind::Turn {
+            arriving,
+            departing,
+            couple,
+            ..
+        } => {
+            let turn = TurnTrips {
+                arriving,
+                departing,
+                couple,
+            };
+            offer_turned(&TurnPrices::new(pricing, link, turn), row, ahead);
+        }
+        LinkKind::Join { second, .. } => {
+            offer_handed_over(&PartPrices::new(pricing, link, second), row, ahead);
+        }
+        LinkKind::Split { second, .. } => {
+            offer_handed_over(&PartPrices::new(pricing, link, second), row, ahead);
+        }
+    }
+}
+
+/// Offers the cells of the edges of a turn.
+fn offer_turned(prices: &TurnPrices<'_>, row: &mut CellRow, ahead: &CellRow)
+    requires prices { IsForTurn prices.now }
+    requires row { length row.old ≡ comps_of (priced_by prices.now.pricing.now) }
+    requires ahead { length ahead.now ≡ comps_of (priced_by prices.now.pricing.now) }
+    requires small { AreSmallCells 1000000000000000000000000000 ahead.now }
+    ensures row { row.new ≡ edges_offered (priced_by prices.now.pricing.now) (Some prices.now.link) ahead.now row.old }
+    ensures small { AreSmallOffers 30000000000000000 ahead.now row.old row.new }
+{
+    let edges = prices.pricing.graphs.edges(prices.link);
     for place in 0..edges.len() {
         let edge = &edges[place];
-        let price = pricing.price(link, edge);
+        let price = prices.price(edge);
+        let offer = offer_by(edge.to, Some(price), ahead.get(edge.to));
+        row.offer(edge.from, offer);
+    }
+}
+
+/// Offers the cells of the edges of a join or a split.
+fn offer_handed_over(prices: &PartPrices<'_>, row: &mut CellRow, ahead: &CellRow)
+    requires prices { IsForParts prices.now }
+    requires row { length row.old ≡ comps_of (priced_by prices.now.pricing.now) }
+    requires ahead { length ahead.now ≡ comps_of (priced_by prices.now.pricing.now) }
+    requires small { AreSmallCells 1000000000000000000000000000 ahead.now }
+    ensures row { row.new ≡ edges_offered (priced_by prices.now.pricing.now) (Some prices.now.link) ahead.now row.old }
+    ensures small { AreSmallOffers 30000000000000000 ahead.now row.old row.new }
+{
+    let edges = prices.pricing.graphs.edges(prices.link);
+    for place in 0..edges.len() {
+        let edge = &edges[place];
+        let price = prices.price(edge);
         let offer = offer_by(edge.to, price, ahead.get(edge.to));
         row.offer(edge.from, offer);
     }
@@ -209,8 +263,9 @@ fn weigh(pricing: &Pricing<'_>, trip: TripNo, row: &mut CellRow)
     ensures row { row.new ≡ with_worths (stage_of (priced_by pricing.now) trip) 0 row.old }
     ensures small { IsSmallStep 20000000000000000 row.old row.new }
 {
+    let worths = TripWorths::new(&*pricing, trip);
     for comp in 0..pricing.instance.catalogue().len() {
-        let worth = pricing.worth(trip, CompNo(comp));
+        let worth = worths.worth(CompNo(comp));
         row.add(CompNo(comp), worth);
     }
 }

@@ -12,9 +12,9 @@ ghost use Rattle.price_bound.specs.PriceTables.{HasSize};
 
 use crate::amounts::AmountTable;
 use crate::changes::{Change, change_cost};
-use crate::worths::types_of;
+use crate::worths::{Amount, types_of};
 use cost_model::trip_cost;
-use rail_base::{CompNo, Money, TripNo};
+use rail_base::{CompNo, TripNo};
 use timetable::Instance;
 
 /// What stands in a table of costs where a composition may not run on a trip: no cost is below 0.
@@ -72,7 +72,7 @@ fn changed_cost(instance: &Instance, changes: &[Change], trip: TripNo, comp: Com
 }
 
 /// The cost that an amount of a table stands for: none where it is below 0.
-pub(crate) fn cost_in(amount: Money) -> Option<Money>
+pub(crate) fn cost_in(amount: Amount) -> Option<Amount>
     ensures { option_map (λ cost. cost.0) result ≡ cost_in amount.0 }
 {
     if amount.0 < 0 {

@@ -1,11 +1,13 @@
 -- One cell more has its worth.
-use Rattle.std.proofs.Common.{◌≡◌, ◌≤◌, ◌<◌, ℕ, suc, ◌+◌, None, Option, List, ℤ, length, get_or, set, sym, ap, ◌∙◌}
+use Rattle.std.proofs.Common.{◌≡◌, ◌≤◌, ◌<◌, ℕ, suc, ◌+◌, None, Option, ℤ, length, get_or, set, sym, ap, ◌∙◌}
 use Rattle.std.proofs.Common.{subst, arith}
 use Rattle.timetable.specs.Compositions.{compositions_of}
-use Rattle.std.specs.Prelude.{IfSome}
+use Rattle.std.specs.Prelude.{IfSome, option_map}
 use Rattle.price_bound.specs.declared.cells.Cell.{Cell}
+use Rattle.price_bound.specs.declared.priced.Pricing.{Pricing}
+use Rattle.price_bound.specs.declared.worths.Amount.{Amount}
 use Rattle.price_bound.specs.CellSizes.{IsSmall}
-use Rattle.price_bound.specs.ChainStages.{stage_of}
+use Rattle.price_bound.specs.ChainStages.{stage_of, worth_of}
 use Rattle.price_bound.specs.Paths.{with_worth}
 use Rattle.price_bound.specs.Pricing.{priced_by}
 use Rattle.price_bound.proofs.ChainCells.{AreWeighed, cell_more, cell_small, weighed_all, weighed_more, weighed_none}
@@ -31,11 +33,16 @@ loop-comp-preserved c =
     let next : suc c.loop-comp.comp ≡ c.loop-comp.comp + 1 = omega arith in
     let below : c.loop-comp.comp < length c.loop-comp.row =
     omega (arith, ap length c.catalogue.ensures, c.loop-comp-test.true, c.loop-comp.invariant.long, c.requires.row, c.len-comp-end.ensures.value) in
+    let worth : option_map (λ (worth : Amount). worth.0) c.worth-worth.result
+    ≡ worth_of (priced_by c.args.pricing.now) c.args.trip c.loop-comp.comp =
+    c.worth-worth.ensures.value
+    ∙ (ap (λ (pricing : Pricing). worth_of (priced_by pricing) c.new-worths.result.trip c.loop-comp.comp) c.new-worths.ensures.pricing
+    ∙ ap (λ (t : ℕ). worth_of (priced_by c.args.pricing.now) t c.loop-comp.comp) c.new-worths.ensures.trip) in
     subst (λ (k : ℕ). AreWeighed (stage_of (priced_by c.args.pricing.now) c.args.trip) c.args.row.now k c.add.new.self) next
     (weighed_more (stage_of (priced_by c.args.pricing.now) c.args.trip) c.args.row.now c.loop-comp.comp c.loop-comp.row
     c.add.new.self c.loop-comp.invariant below (c.add.ensures.value
     ∙ ap (λ (o : Option ℤ). set c.loop-comp.row c.loop-comp.comp (with_worth o (get_or c.loop-comp.row c.loop-comp.comp None)))
-    c.worth-worth.ensures.value) c.add.ensures.small)
+    worth) c.add.ensures.small)
 
 pub returns : goal.returns
 returns c =

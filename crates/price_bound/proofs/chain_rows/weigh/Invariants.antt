@@ -5,4 +5,4 @@ use Rattle.price_bound.proofs.ChainCells.{AreWeighed}
 use Rattle.price_bound.proofs.chain_rows.weigh.Given as goal
 
 abbrev pub invariant-loop-comp : goal.invariant-loop-comp
-invariant-loop-comp l = AreWeighed (stage_of (priced_by l.pricing) l.trip) l.fn.row l.comp l.row
+invariant-loop-comp l = AreWeighed (stage_of (priced_by l.pricing) l.fn.trip) l.fn.row l.comp l.row

@@ -7,36 +7,36 @@ use Rattle.branch_tree.specs.IntSums.{int_sum}
 use Rattle.price_bound.specs.CellSizes.{IsSmall}
 use Rattle.price_bound.proofs.Adding.{read_is, small_more, small_sum}
 use Rattle.price_bound.proofs.Pricing.{int_sum_more}
-use Rattle.price_bound.proofs.worths.sum_of.Goals as goal
+use Rattle.price_bound.proofs.worths.sum_in.Goals as goal
 
 pub loop-place-preserved : goal.loop-place-preserved
 loop-place-preserved c =
     let types : List ℕ = c.args.types.now in
     let i : ℕ = c.loop-place.place in
-    let of : ℕ → ℤ = λ m. get_or c.args.row.now m (pos 0) in
+    let of : ℕ → ℤ = λ m. get_or c.args.amounts.now m (pos 0) in
     let below : i < length types = omega arith in
     let here : c.index-types-place.result ≡ get_or types i 0 =
     get_or_read types i c.index-types-place.result below c.index-types-place.is 0 in
     let amount : c.amount_of-amount.result ≡ of (get_or types i 0) = c.amount_of-amount.ensures ∙ ap of here in
-    let known : get_or types i 0 < length c.args.row.now =
-    All-get_or (λ (m : ℕ). m < length c.args.row.now) types i 0 below c.requires.known in
+    let known : get_or types i 0 < length c.args.amounts.now =
+    All-get_or (λ (m : ℕ). m < length c.args.amounts.now) types i 0 below c.requires.known in
     let small : IsSmall 1000000000000000 c.amount_of-amount.result =
     subst (IsSmall 1000000000000000) (sym amount) (c.requires.small (get_or types i 0) known) in
     let read : to_z w64 (of_z w64 c.amount_of-amount.result) ≡ c.amount_of-amount.result =
     read_is 1000000000000000 c.amount_of-amount.result (omega arith) small in
-    let sum : c.plus-sum.result ≡ int_sum of (take i types) +ℤ c.amount_of-amount.result =
-    c.plus-sum.ensures ∙ (ap (λ (z : ℤ). z +ℤ to_z w64 (of_z w64 c.amount_of-amount.result)) c.loop-place.invariant.0
+    let sum : c.sum_with-sum.result ≡ int_sum of (take i types) +ℤ c.amount_of-amount.result =
+    c.sum_with-sum.ensures ∙ (ap (λ (z : ℤ). z +ℤ to_z w64 (of_z w64 c.amount_of-amount.result)) c.loop-place.invariant.0
     ∙ ap (λ (z : ℤ). int_sum of (take i types) +ℤ z) read) in
     let done : IsSmall (i * 1000000000000000) (int_sum of (take i types)) =
     subst (IsSmall (i * 1000000000000000)) c.loop-place.invariant.0 c.loop-place.invariant.1 in
     let more : i * 1000000000000000 + 1000000000000000 ≤ (i + 1) * 1000000000000000 = omega arith in
-    let new_small : IsSmall ((i + 1) * 1000000000000000) c.plus-sum.result =
+    let new_small : IsSmall ((i + 1) * 1000000000000000) c.sum_with-sum.result =
     subst (IsSmall ((i + 1) * 1000000000000000)) (sym sum)
     (small_more (i * 1000000000000000 + 1000000000000000) ((i + 1) * 1000000000000000)
     (int_sum of (take i types) +ℤ c.amount_of-amount.result) more
     (small_sum (i * 1000000000000000) 1000000000000000 (int_sum of (take i types)) c.amount_of-amount.result done small)) in
-    let new : to_z w64 (of_z w64 c.plus-sum.result) ≡ c.plus-sum.result =
-    read_is ((i + 1) * 1000000000000000) c.plus-sum.result (omega (arith, below, c.requires.few)) new_small in (
+    let new : to_z w64 (of_z w64 c.sum_with-sum.result) ≡ c.sum_with-sum.result =
+    read_is ((i + 1) * 1000000000000000) c.sum_with-sum.result (omega (arith, below, c.requires.few)) new_small in (
       new ∙ (sum ∙ (ap (λ (z : ℤ). int_sum of (take i types) +ℤ z) amount ∙ sym (int_sum_more of types i 0 below))),
       subst (IsSmall ((i + 1) * 1000000000000000)) (sym new) new_small,
     )

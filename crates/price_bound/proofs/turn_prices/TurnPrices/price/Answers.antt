@@ -1,0 +1,41 @@
+-- What departs is what stayed and what came; and the parts of what a turn adds are small.
+use Rattle.std.proofs.Common.{◌≡◌, ℕ, List, Some, ℤ, pos, ap, sym, ◌∙◌}
+use Rattle.branch_tree.specs.declared.multipliers.Entry.{Entry}
+use Rattle.branch_tree.specs.Meanings.{weighted}
+use Rattle.timetable.specs.Compositions.{composition_at}
+use Rattle.timetable.specs.Day.{Day, from_of, leaves, to_of}
+use Rattle.inventory.specs.Counts.{ready_at}
+use Rattle.price_bound.specs.EdgeValues.{came, coupled, shunt_cost, stayed, turn_value}
+use Rattle.price_bound.specs.YardPrices.{giving, taking, yard_price}
+use Rattle.price_bound.proofs.AtHand.{turn_priced}
+use Rattle.price_bound.proofs.Summing.{parted, turn_is, turn_small}
+use Rattle.price_bound.proofs.turn_prices.TurnPrices.price.Goals as goal
+
+pub returns-clause-value : goal.returns-clause-value
+returns-clause-value c =
+    let day : Day = c.args.self.now.pricing.now.instance.now in
+    let entries : List Entry = c.args.self.now.pricing.now.multipliers.now in
+    let arriving : ℕ = c.args.self.now.turn.arriving in
+    let departing : ℕ = c.args.self.now.turn.departing in
+    let units : ℕ = coupled c.args.edge.now.shunt in
+    let after : List ℕ = composition_at day c.args.edge.now.to in
+    let stays : List ℕ = stayed c.args.self.now.turn.couple units after in
+    let newly : List ℕ = came c.args.self.now.turn.couple units after in
+    let take : List ℕ → ℤ = taking day entries departing in
+    let give : List ℕ → ℤ = giving day entries arriving in
+    let value : c.plus.result.0
+    ≡ turn_value day entries c.args.self.now.pricing.now.weight arriving departing c.args.self.now.turn.couple c.args.edge.now =
+    turn_is (weighted c.args.self.now.pricing.now.weight (pos (shunt_cost day c.args.edge.now.shunt))) (take after) (take stays) (take newly)
+    (give (composition_at day c.args.edge.now.from)) (give after) (give stays) (give newly) c.shunt_cost-cost.result.0
+    c.credit-before.result.0 c.credit-after.result.0 c.newly-newly.result.0 c.minus-given.result.0 c.minus-kept.result.0 c.plus.result.0
+    (parted (yard_price day entries (from_of day departing) (leaves day departing)) c.args.self.now.turn.couple units after)
+    (parted (yard_price day entries (to_of day arriving) (ready_at day arriving)) c.args.self.now.turn.couple units after)
+    c.shunt_cost-cost.ensures.value c.credit-before.ensures.value c.credit-after.ensures.value c.newly-newly.ensures.value
+    c.minus-given.ensures c.minus-kept.ensures c.plus.ensures in
+    ap (λ (z : ℤ). Some z) value ∙ sym (turn_priced c.args.self.now c.requires.is c.args.edge.now)
+
+pub returns-clause-small : goal.returns-clause-small
+returns-clause-small c =
+    turn_small c.shunt_cost-cost.result.0 c.credit-before.result.0 c.credit-after.result.0 c.newly-newly.result.0
+    c.minus-given.result.0 c.minus-kept.result.0 c.plus.result.0 c.shunt_cost-cost.ensures.small c.credit-before.ensures.small
+    c.credit-after.ensures.small c.newly-newly.ensures.small c.minus-given.ensures c.minus-kept.ensures c.plus.ensures

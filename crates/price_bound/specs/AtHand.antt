@@ -1,0 +1,78 @@
+-- What is found once for a trip, for a turn, and for a join or a split.
+use Rattle.std.specs.Prelude.{ℕ, ◌≡◌, ◌<◌, List, [], length, get_or, Bool, is_none, Some, slice_get, ℤ, pos, ◌-ℤ◌}
+use Rattle.rail_csv.specs.declared.rows.End.{End}
+use Rattle.timetable.specs.declared.day.records.Link.{Link}
+use Rattle.timetable.specs.declared.day.records.LinkKind.TheVariants.{Turn}
+use Rattle.timetable.specs.Compositions.{composition_at}
+use Rattle.timetable.specs.Day.{Day}
+use Rattle.timetable.specs.Handovers.{second_of}
+use Rattle.timetable.specs.Links.{incoming, outgoing}
+use Rattle.transitions.specs.declared.edge.Edge.{Edge}
+use Rattle.branch_tree.specs.declared.multipliers.Entry.{Entry}
+use Rattle.branch_tree.specs.Meanings.{weighted}
+use Rattle.branch_tree.specs.Regions.{set_at}
+use Rattle.price_bound.specs.declared.part_prices.PartPrices.{PartPrices}
+use Rattle.price_bound.specs.declared.turn_prices.TurnPrices.{TurnPrices}
+use Rattle.price_bound.specs.declared.turn_prices.TurnTrips.{TurnTrips}
+use Rattle.price_bound.specs.declared.worths.TripWorths.{TripWorths}
+use Rattle.price_bound.specs.CellSizes.{IsSmall}
+use Rattle.price_bound.specs.EdgeValues.{came, coupled}
+use Rattle.price_bound.specs.Pricing.{ArePriced}
+use Rattle.price_bound.specs.YardPrices.{giving, taking}
+
+-- what is at hand is that of the trip
+pub record IsForTrip (worths : TripWorths) : Type 0 where
+  pub priced : ArePriced worths.pricing.now
+  pub known : worths.trip < length worths.pricing.now.instance.now.trips
+  pub set : worths.set.now ≡ set_at worths.pricing.now.region.now worths.trip
+  pub costs : worths.costs.now ≡ get_or worths.pricing.now.costs.now worths.trip []
+  pub weight : worths.weight ≡ worths.pricing.now.weight
+  pub begins : worths.begins ≡ is_none (incoming worths.pricing.now.instance.now worths.trip)
+  pub takes : worths.takes.now ≡ get_or worths.pricing.now.tables.now.takes worths.trip []
+  pub ends : worths.ends ≡ is_none (outgoing worths.pricing.now.instance.now worths.trip)
+  pub credits : worths.credits.now ≡ get_or worths.pricing.now.credits.now worths.trip []
+  pub seconds : worths.seconds.now ≡ get_or worths.pricing.now.tables.now.seconds worths.trip []
+
+-- a link is a turn of these trips, which couples at this end
+pub record IsTurnOf (day : Day) (l : ℕ) (turn : TurnTrips) : Type 0 where
+  pub link : Link
+  pub uncouple : End
+  pub exchange : Bool
+  pub at : slice_get day.links l ≡ Some link
+  pub is : link.kind ≡ Turn turn.arriving turn.departing uncouple turn.couple exchange
+  pub arriving : turn.arriving < length day.trips
+  pub departing : turn.departing < length day.trips
+
+-- what is at hand is that of the turn
+pub record IsForTurn (prices : TurnPrices) : Type 0 where
+  pub priced : ArePriced prices.pricing.now
+  pub known : prices.link < length prices.pricing.now.instance.now.links
+  pub turn : IsTurnOf prices.pricing.now.instance.now prices.link prices.turn
+  pub shunting : prices.shunting.0 ≡ weighted prices.pricing.now.weight (pos prices.pricing.now.instance.now.weights.shunting)
+  pub small : IsSmall 1000000000000 prices.shunting.0
+  pub takes : prices.takes.now ≡ get_or prices.pricing.now.tables.now.takes prices.turn.departing []
+  pub gives : prices.gives.now ≡ get_or prices.pricing.now.tables.now.gives prices.turn.arriving []
+  pub credits : prices.credits.now ≡ get_or prices.pricing.now.credits.now prices.turn.arriving []
+
+-- the price of the units that come with an edge of a turn, where they are taken, less their price where they would be
+-- given
+abbrev pub newly_value : Day → List Entry → TurnTrips → Edge → ℤ
+newly_value day entries turn edge =
+    taking day entries turn.departing (came turn.couple (coupled edge.shunt) (composition_at day edge.to))
+    -ℤ giving day entries turn.arriving (came turn.couple (coupled edge.shunt) (composition_at day edge.to))
+
+-- a link is a join or a split with this second trip
+pub record IsSecondOf (day : Day) (l t : ℕ) : Type 0 where
+  pub link : Link
+  pub at : slice_get day.links l ≡ Some link
+  pub is : second_of link.kind ≡ Some t
+  pub known : t < length day.trips
+
+-- what is at hand is that of the join or the split
+pub record IsForParts (prices : PartPrices) : Type 0 where
+  pub priced : ArePriced prices.pricing.now
+  pub known : prices.link < length prices.pricing.now.instance.now.links
+  pub second : ℕ
+  pub is_second : IsSecondOf prices.pricing.now.instance.now prices.link second
+  pub set : prices.set.now ≡ set_at prices.pricing.now.region.now second
+  pub multipliers : prices.multipliers.now ≡ get_or prices.pricing.now.tables.now.parts prices.link []

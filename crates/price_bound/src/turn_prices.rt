@@ -1,0 +1,163 @@
+//! What the edges of turns are priced: the cost of shunting, and the prices of the units that are taken and given.
+
+ghost use Rattle.std.specs.Prelude.{ℕ, ◌≡◌, ◌<◌, ◌≤◌, ◌+◌, ◌+ℤ◌, ◌-ℤ◌, [], length, take, drop, pos, All, Some};
+ghost use Rattle.std.specs.Prelude.{slice_get};
+ghost use Rattle.timetable.specs.declared.day.records.LinkKind.TheVariants.{Turn};
+ghost use Rattle.timetable.specs.Compositions.{compositions_of, composition_at};
+ghost use Rattle.branch_tree.specs.Meanings.{weighted};
+ghost use Rattle.price_bound.specs.AtHand.{IsForTurn, IsTurnOf, newly_value};
+ghost use Rattle.price_bound.specs.CellSizes.{IsSmall};
+ghost use Rattle.price_bound.specs.ChainStages.{price_of};
+ghost use Rattle.price_bound.specs.EdgeValues.{came, coupled, shunt_cost, turn_value};
+ghost use Rattle.price_bound.specs.Pricing.{ArePriced, IsListed, priced_by};
+ghost use Rattle.price_bound.specs.YardPrices.{giving, taking};
+
+use crate::priced::Pricing;
+use crate::worths::{Amount, amount_for, minus, plus, sum_in, types_of, weighted};
+use rail_base::limits::MOST_COMPOSITION;
+use rail_base::{CompNo, LinkNo, TripNo, TypeNo};
+use rail_csv::End;
+use timetable::Instance;
+use transitions::{Edge, Shunt};
+
+/// The trips of a turn, and the end at which it couples.
+#[derive(Clone, Copy, Debug)]
+pub(crate) struct TurnTrips {
+    pub arriving: TripNo,
+    pub departing: TripNo,
+    pub couple: End,
+}
+
+/// What the edges of a turn are priced: what is the same for each of them is found once.
+#[derive(Drop)]
+pub(crate) struct TurnPrices<'a> {
+    pub pricing: &'a Pricing<'a>,
+    pub link: LinkNo,
+    pub turn: TurnTrips,
+    /// What shunting costs, under the weight.
+    pub shunting: Amount,
+    /// The price of a unit of each type that the departing trip takes.
+    pub takes: &'a [i64],
+    /// The price of a unit of each type that the arriving trip gives.
+    pub gives: &'a [i64],
+    /// The price of each composition's units, where the arriving trip gives them.
+    pub credits: &'a [i64],
+}
+
+impl<'a> TurnPrices<'a> {
+    /// The prices of the edges of a link, which is a turn of these trips.
+    pub(crate) fn new(pricing: &'a Pricing<'a>, link: LinkNo, turn: TurnTrips) -> TurnPrices<'a>
+        requires priced { ArePriced pricing.now }
+        requires link { link < length pricing.now.instance.now.links }
+        requires turn { IsTurnOf pricing.now.instance.now link turn }
+        ensures pricing { result.pricing.now ≡ pricing.now }
+        ensures link { result.link ≡ link }
+        ensures is { IsForTurn result }
+    {
+        let arriving = turn.arriving.place();
+        TurnPrices {
+            pricing,
+            link,
+            turn,
+            shunting: weighted(pricing.weight, shunting_cost(pricing.instance)),
+            takes: pricing.tables.takes.row(turn.departing.place()).items(),
+            gives: pricing.tables.gives.row(arriving).items(),
+            credits: pricing.credits.row(arriving).items(),
+        }
+    }
+
+    /// What an edge of the turn is priced: the cost of shunting, and the price of the units that are taken less that of
+    /// the units that are given.
+    pub(crate) fn price(&self, edge: &Edge) -> Amount
+        requires is { IsForTurn self.now }
+        requires edge { IsListed (length (compositions_of self.now.pricing.now.instance.now)) edge.now }
+        ensures value { Some result.0 ≡ price_of (priced_by self.now.pricing.now) (Some self.now.link) edge.now }
+        ensures small { IsSmall 30000000000000000 result.0 }
+    {
+        let cost = self.shunt_cost(edge.shunt);
+        let before = self.credit(edge.from);
+        let after = self.credit(edge.to);
+        let newly = self.newly(edge);
+        let given = minus(before, after);
+        let kept = minus(cost, given);
+        plus(kept, newly)
+    }
+
+    /// What a shunt costs, under the weight.
+    fn shunt_cost(&self, shunt: Shunt) -> Amount
+        requires is { IsForTurn self.now }
+        ensures value { result.0 ≡ weighted self.now.pricing.now.weight (pos (shunt_cost self.now.pricing.now.instance.now shunt)) }
+        ensures small { IsSmall 1000000000000 result.0 }
+    {
+        match shunt {
+            Shunt::Keep => Amount(0),
+            Shunt::Uncouple { .. } => self.shunting,
+            Shunt::Couple { .. } => self.shunting,
+            Shunt::Exchange { .. } => self.shunting,
+        }
+    }
+
+    /// The price of a composition's units, where the arriving trip gives them.
+    fn credit(&self, comp: CompNo) -> Amount
+        requires is { IsForTurn self.now }
+        requires comp { comp < length (compositions_of self.now.pricing.now.instance.now) }
+        ensures value { result.0 ≡ giving self.now.pricing.now.instance.now self.now.pricing.now.multipliers.now self.now.turn.arriving (composition_at self.now.pricing.now.instance.now comp) }
+        ensures small { IsSmall 6000000000000000 result.0 }
+    {
+        amount_for(self.credits, comp)
+    }
+
+    /// The price of the units that come with an edge, where the departing trip takes them, less their price where the
+    /// arriving trip gives them.
+    fn newly(&self, edge: &Edge) -> Amount
+        requires is { IsForTurn self.now }
+        requires edge { IsListed (length (compositions_of self.now.pricing.now.instance.now)) edge.now }
+        ensures value { result.0 ≡ newly_value self.now.pricing.now.instance.now self.now.pricing.now.multipliers.now self.now.turn edge.now }
+        ensures small { IsSmall 12000000000000000 result.0 }
+    {
+        let units = coupled(edge.shunt);
+        if units == 0 {
+            return Amount(0);
+        }
+        let came = came(
+            self.turn.couple,
+            units,
+            types_of(self.pricing.instance, edge.to),
+        );
+        minus(
+            Amount(sum_in(self.takes, came)),
+            Amount(sum_in(self.gives, came)),
+        )
+    }
+}
+
+/// What shunting costs.
+fn shunting_cost(instance: &Instance) -> Amount
+    ensures value { result.0 ≡ pos instance.now.weights.shunting }
+    ensures small { IsSmall 1000000000000 result.0 }
+{
+    Amount(i64::from(instance.weights().shunting))
+}
+
+/// How many units a shunt couples.
+fn coupled(shunt: Shunt) -> usize
+    ensures { result ≡ coupled shunt }
+{
+    match shunt {
+        Shunt::Keep => 0,
+        Shunt::Uncouple { .. } => 0,
+        Shunt::Couple { units } => units as usize,
+        Shunt::Exchange { couple, .. } => couple as usize,
+    }
+}
+
+/// What came to the train, of the types that depart, where so many units were coupled at this end.
+fn came(couple: End, units: usize, types: &[TypeNo]) -> &[TypeNo]
+    ensures { result.now ≡ came couple units types.now }
+{
+    match couple {
+        End::None => &types[..0],
+        End::Rear => &types[types.len().saturating_sub(units)..],
+        End::Front => &types[..units.min(types.len())],
+    }
+}
