@@ -48,7 +48,8 @@ pub record IsForTurn (prices : TurnPrices) : Type 0 where
   pub priced : ArePriced prices.pricing.now
   pub known : prices.link < length prices.pricing.now.instance.now.links
   pub turn : IsTurnOf prices.pricing.now.instance.now prices.link prices.turn
-  pub shunting : prices.shunting.0 ≡ weighted prices.pricing.now.weight (pos prices.pricing.now.instance.now.weights.shunting)
+  pub shunting : prices.shunting.0
+      ≡ weighted prices.pricing.now.weight (pos prices.pricing.now.instance.now.weights.shunting)
   pub small : IsSmall 1000000000000 prices.shunting.0
   pub takes : prices.takes.now ≡ get_or prices.pricing.now.tables.now.takes prices.turn.departing []
   pub gives : prices.gives.now ≡ get_or prices.pricing.now.tables.now.gives prices.turn.arriving []

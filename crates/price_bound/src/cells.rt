@@ -94,10 +94,13 @@ impl CellRow {
     /// Adds a worth to the cell of a composition, which is below `len`; where there is no worth, there is no cell then.
     pub(crate) fn add(&mut self, comp: CompNo, worth: Option<Amount>)
         requires comp { comp < length self.old }
-        requires small { IfSome (get_or self.old comp None) (λ cell. IsSmall 1000000000000000000000000000000 cell.value) }
+        requires small { IfSome (get_or self.old comp None)
+            (λ cell. IsSmall 1000000000000000000000000000000 cell.value) }
         requires worth { IfSome worth (λ worth. IsSmall 20000000000000000 worth.0) }
-        ensures value { self.new ≡ set self.old comp (with_worth (option_map (λ worth. worth.0) worth) (get_or self.old comp None)) }
-        ensures small { (bound : ℕ) → IfSome (get_or self.old comp None) (λ cell. IsSmall bound cell.value) → IfSome (get_or self.new comp None) (λ cell. IsSmall (bound + 20000000000000000) cell.value) }
+        ensures value { self.new ≡ set self.old comp
+            (with_worth (option_map (λ worth. worth.0) worth) (get_or self.old comp None)) }
+        ensures small { (bound : ℕ) → IfSome (get_or self.old comp None) (λ cell. IsSmall bound cell.value)
+            → IfSome (get_or self.new comp None) (λ cell. IsSmall (bound + 20000000000000000) cell.value) }
     {
         let place = comp.place();
         self.cells[place] = with_worth(worth, self.cells[place]);
@@ -143,7 +146,8 @@ pub(crate) fn offer_by(to: CompNo, price: Option<Amount>, ahead: Option<Cell>) -
     requires price { IfSome price (λ price. IsSmall 30000000000000000 price.0) }
     requires ahead { IfSome ahead (λ cell. IsSmall 1000000000000000000000000000000 cell.value) }
     ensures value { result ≡ offer_by to (option_map (λ price. price.0) price) ahead }
-    ensures small { (bound : ℕ) → IfSome ahead (λ cell. IsSmall bound cell.value) → IfSome result (λ cell. IsSmall (bound + 30000000000000000) cell.value) }
+    ensures small { (bound : ℕ) → IfSome ahead (λ cell. IsSmall bound cell.value)
+        → IfSome result (λ cell. IsSmall (bound + 30000000000000000) cell.value) }
 {
     let price = wide(price?);
     let ahead = ahead?;
@@ -158,7 +162,8 @@ fn with_worth(worth: Option<Amount>, cell: Option<Cell>) -> Option<Cell>
     requires worth { IfSome worth (λ worth. IsSmall 20000000000000000 worth.0) }
     requires cell { IfSome cell (λ cell. IsSmall 1000000000000000000000000000000 cell.value) }
     ensures value { result ≡ with_worth (option_map (λ worth. worth.0) worth) cell }
-    ensures small { (bound : ℕ) → IfSome cell (λ cell. IsSmall bound cell.value) → IfSome result (λ cell. IsSmall (bound + 20000000000000000) cell.value) }
+    ensures small { (bound : ℕ) → IfSome cell (λ cell. IsSmall bound cell.value)
+        → IfSome result (λ cell. IsSmall (bound + 20000000000000000) cell.value) }
 {
     let worth = wide(worth?);
     let cell = cell?;

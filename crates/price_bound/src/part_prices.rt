@@ -48,7 +48,8 @@ impl<'a> PartPrices<'a> {
     pub(crate) fn price(&self, edge: &Edge) -> Option<Amount>
         requires is { IsForParts self.now }
         requires edge { IsListed (length (compositions_of self.now.pricing.now.instance.now)) edge.now }
-        ensures value { option_map (λ price. price.0) result ≡ price_of (priced_by self.now.pricing.now) (Some self.now.link) edge.now }
+        ensures value { option_map (λ price. price.0) result
+            ≡ price_of (priced_by self.now.pricing.now) (Some self.now.link) edge.now }
         ensures small { IfSome result (λ price. IsSmall 30000000000000000 price.0) }
     {
         let _comps = self.pricing.instance.catalogue().len();
@@ -65,7 +66,8 @@ impl<'a> PartPrices<'a> {
     fn multiplier(&self, part: CompNo) -> Amount
         requires is { IsForParts self.now }
         requires part { part < length (compositions_of self.now.pricing.now.instance.now) }
-        ensures value { result.0 ≡ part_multiplier self.now.pricing.now.instance.now self.now.pricing.now.multipliers.now self.now.link part }
+        ensures value { result.0 ≡ part_multiplier self.now.pricing.now.instance.now
+            self.now.pricing.now.multipliers.now self.now.link part }
         ensures small { IsSmall 30000000000000000 result.0 }
     {
         amount_for(self.multipliers, part)

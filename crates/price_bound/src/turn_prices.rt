@@ -86,7 +86,8 @@ impl<'a> TurnPrices<'a> {
     /// What a shunt costs, under the weight.
     fn shunt_cost(&self, shunt: Shunt) -> Amount
         requires is { IsForTurn self.now }
-        ensures value { result.0 ≡ weighted self.now.pricing.now.weight (pos (shunt_cost self.now.pricing.now.instance.now shunt)) }
+        ensures value { result.0 ≡ weighted self.now.pricing.now.weight
+            (pos (shunt_cost self.now.pricing.now.instance.now shunt)) }
         ensures small { IsSmall 1000000000000 result.0 }
     {
         match shunt {
@@ -101,7 +102,9 @@ impl<'a> TurnPrices<'a> {
     fn credit(&self, comp: CompNo) -> Amount
         requires is { IsForTurn self.now }
         requires comp { comp < length (compositions_of self.now.pricing.now.instance.now) }
-        ensures value { result.0 ≡ giving self.now.pricing.now.instance.now self.now.pricing.now.multipliers.now self.now.turn.arriving (composition_at self.now.pricing.now.instance.now comp) }
+        ensures value { result.0 ≡ giving self.now.pricing.now.instance.now
+            self.now.pricing.now.multipliers.now self.now.turn.arriving
+            (composition_at self.now.pricing.now.instance.now comp) }
         ensures small { IsSmall 6000000000000000 result.0 }
     {
         amount_for(self.credits, comp)
@@ -112,7 +115,8 @@ impl<'a> TurnPrices<'a> {
     fn newly(&self, edge: &Edge) -> Amount
         requires is { IsForTurn self.now }
         requires edge { IsListed (length (compositions_of self.now.pricing.now.instance.now)) edge.now }
-        ensures value { result.0 ≡ newly_value self.now.pricing.now.instance.now self.now.pricing.now.multipliers.now self.now.turn edge.now }
+        ensures value { result.0 ≡ newly_value self.now.pricing.now.instance.now
+            self.now.pricing.now.multipliers.now self.now.turn edge.now }
         ensures small { IsSmall 12000000000000000 result.0 }
     {
         let units = coupled(edge.shunt);

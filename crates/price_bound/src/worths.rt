@@ -79,7 +79,8 @@ impl<'a> TripWorths<'a> {
     pub(crate) fn worth(&self, comp: CompNo) -> Option<Amount>
         requires is { IsForTrip self.now }
         requires comp { comp < length (compositions_of self.now.pricing.now.instance.now) }
-        ensures value { option_map (λ worth. worth.0) result ≡ worth_of (priced_by self.now.pricing.now) self.now.trip comp }
+        ensures value { option_map (λ worth. worth.0) result
+            ≡ worth_of (priced_by self.now.pricing.now) self.now.trip comp }
         ensures small { IfSome result (λ worth. IsSmall 20000000000000000 worth.0) }
     {
         let _comps = self.pricing.instance.catalogue().len();
@@ -94,7 +95,8 @@ impl<'a> TripWorths<'a> {
     fn cost(&self, comp: CompNo) -> Option<Amount>
         requires is { IsForTrip self.now }
         requires comp { comp < length (compositions_of self.now.pricing.now.instance.now) }
-        ensures value { option_map (λ cost. cost.0) result ≡ admitted_cost self.now.pricing.now.instance.now self.now.pricing.now.changes.now self.now.trip comp }
+        ensures value { option_map (λ cost. cost.0) result
+            ≡ admitted_cost self.now.pricing.now.instance.now self.now.pricing.now.changes.now self.now.trip comp }
         ensures small { IfSome result (λ cost. IsSmall 1000000000000 cost.0) }
     {
         cost_in(amount_for(self.costs, comp))
@@ -105,9 +107,12 @@ impl<'a> TripWorths<'a> {
     fn trip_value(&self, comp: CompNo, cost: Amount) -> Amount
         requires is { IsForTrip self.now }
         requires comp { comp < length (compositions_of self.now.pricing.now.instance.now) }
-        requires cost { cost.0 ≡ weighted self.now.pricing.now.weight (pos (cost_on (priced_by self.now.pricing.now) self.now.trip comp)) }
+        requires cost { cost.0 ≡ weighted self.now.pricing.now.weight
+            (pos (cost_on (priced_by self.now.pricing.now) self.now.trip comp)) }
         requires few { IsSmall 1000000000000 cost.0 }
-        ensures value { result.0 ≡ trip_value self.now.pricing.now.instance.now (cost_on (priced_by self.now.pricing.now)) self.now.pricing.now.multipliers.now self.now.pricing.now.weight self.now.trip comp }
+        ensures value { result.0 ≡ trip_value self.now.pricing.now.instance.now
+            (cost_on (priced_by self.now.pricing.now)) self.now.pricing.now.multipliers.now
+            self.now.pricing.now.weight self.now.trip comp }
         ensures small { IsSmall 20000000000000000 result.0 }
     {
         let taken = self.taken_at_begin(comp);
@@ -122,7 +127,10 @@ impl<'a> TripWorths<'a> {
     fn taken_at_begin(&self, comp: CompNo) -> Amount
         requires is { IsForTrip self.now }
         requires comp { comp < length (compositions_of self.now.pricing.now.instance.now) }
-        ensures value { result.0 ≡ (if is_none (incoming self.now.pricing.now.instance.now self.now.trip) then taking self.now.pricing.now.instance.now self.now.pricing.now.multipliers.now self.now.trip (composition_at self.now.pricing.now.instance.now comp) else pos 0) }
+        ensures value { result.0 ≡ (if is_none (incoming self.now.pricing.now.instance.now self.now.trip)
+            then taking self.now.pricing.now.instance.now self.now.pricing.now.multipliers.now self.now.trip
+            (composition_at self.now.pricing.now.instance.now comp)
+            else pos 0) }
         ensures small { IsSmall 6000000000000000 result.0 }
     {
         if !self.begins {
@@ -135,7 +143,10 @@ impl<'a> TripWorths<'a> {
     fn given_at_end(&self, comp: CompNo) -> Amount
         requires is { IsForTrip self.now }
         requires comp { comp < length (compositions_of self.now.pricing.now.instance.now) }
-        ensures value { result.0 ≡ (if is_none (outgoing self.now.pricing.now.instance.now self.now.trip) then giving self.now.pricing.now.instance.now self.now.pricing.now.multipliers.now self.now.trip (composition_at self.now.pricing.now.instance.now comp) else pos 0) }
+        ensures value { result.0 ≡ (if is_none (outgoing self.now.pricing.now.instance.now self.now.trip)
+            then giving self.now.pricing.now.instance.now self.now.pricing.now.multipliers.now self.now.trip
+            (composition_at self.now.pricing.now.instance.now comp)
+            else pos 0) }
         ensures small { IsSmall 6000000000000000 result.0 }
     {
         if !self.ends {
@@ -148,7 +159,8 @@ impl<'a> TripWorths<'a> {
     fn second(&self, comp: CompNo) -> Amount
         requires is { IsForTrip self.now }
         requires comp { comp < length (compositions_of self.now.pricing.now.instance.now) }
-        ensures value { result.0 ≡ second_price self.now.pricing.now.instance.now self.now.pricing.now.multipliers.now self.now.trip comp }
+        ensures value { result.0 ≡ second_price self.now.pricing.now.instance.now
+            self.now.pricing.now.multipliers.now self.now.trip comp }
         ensures small { IsSmall 1000000000000000 result.0 }
     {
         amount_for(self.seconds, comp)
