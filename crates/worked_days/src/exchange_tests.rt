@@ -66,10 +66,9 @@ fn a_unit_is_given_and_taken_again(rt: HostRuntime) -> Result<(), Fail> {
     Ok(())
 }
 
-#[test]
-fn an_exchange_has_two_ends(rt: HostRuntime) -> Result<(), Fail> {
-    let alloc = rt.alloc();
-    let cases = [
+/// Tables of one link that are refused, and the line that says why.
+fn wrong_exchanges() -> [(&'static str, &'static str); 6] {
+    [
         (
             "kind,arriving,arriving2,departing,departing2,reverse,uncouple,couple,exchange\n\
                 turn,T1,,T2,,yes,none,rear,yes\n",
@@ -100,8 +99,13 @@ fn an_exchange_has_two_ends(rt: HostRuntime) -> Result<(), Fail> {
                 turn,T1,,T2,,yes,rear,none\n",
             "refused links.csv: row 1 has 8 fields\n",
         ),
-    ];
-    for (links, line) in cases {
+    ]
+}
+
+#[test]
+fn an_exchange_has_two_ends(rt: HostRuntime) -> Result<(), Fail> {
+    let alloc = rt.alloc();
+    for (links, line) in wrong_exchanges() {
         let day = Day {
             links: Some(links),
             ..base_day()
