@@ -6,6 +6,8 @@ mod composition_tests;
 #[cfg(test)]
 mod cost_tests;
 #[cfg(test)]
+mod days;
+#[cfg(test)]
 mod file_tests;
 #[cfg(test)]
 mod row_tests;
