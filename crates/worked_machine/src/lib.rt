@@ -2,6 +2,8 @@
 #![tactic(auto)]
 
 #[cfg(test)]
+mod days;
+#[cfg(test)]
 mod edge_tests;
 #[cfg(test)]
 mod machine_tests;
