@@ -1,8 +1,9 @@
 //! Numbers on the command line.
 
 ghost use Rattle.std.specs.Prelude.{◌≡◌, ◌≤◌, length, Some, None, if◌then◌else◌, option_map, IfSome};
-ghost use Rattle.rail_csv.specs.Fields.{are_digits, number_of};
 ghost use Rattle.commands.specs.Commands.{number_up_to, option_number};
+
+use rail_csv::digits_value;
 
 /// The number of an option, which has its usual number where it is not given.
 pub(crate) fn option_number(text: Option<&str>, usual: u32, most: u32) -> Option<u32>
@@ -34,19 +35,4 @@ pub(crate) fn number(text: &[u8], most: u32) -> Option<u32>
         return None;
     }
     Some(value as u32)
-}
-
-/// The number that a text of at most ten bytes spells, where it has digits alone.
-fn digits_value(text: &[u8]) -> Option<u64>
-    requires { length text.now ≤ 10 }
-    ensures { result ≡ if are_digits text.now then Some (number_of text.now) else None }
-{
-    let mut value = 0u64;
-    for byte in text {
-        if !byte.is_ascii_digit() {
-            return None;
-        }
-        value = value * 10 + u64::from(*byte - b'0');
-    }
-    Some(value)
 }

@@ -1,6 +1,6 @@
 -- Digits and the number that they spell.
 use Rattle.std.proofs.Common.{◌≡◌, ℕ, ◌+◌, ◌-◌, ◌*◌, ◌^◌, ◌<◌, ◌≤◌, Bool, true, false, ◌&&◌, List, [], ◌∷◌, ◌++◌}
-use Rattle.std.proofs.Common.{length, take, get_or, sym, ap, ◌∙◌, arith}
+use Rattle.std.proofs.Common.{length, take, get_or, sym, ap, refl, ◌∙◌, arith, Some, None, if◌then◌else◌}
 use Rattle.std.proofs.Math.Nat.{mul_assoc, mul-le-mul_right, pow-le-pow_right, pow-suc}
 use Rattle.std.proofs.lemmas.Grind.{pow_more}
 use Rattle.std.proofs.lemmas.List.{length_push, take_more, length-take}
@@ -40,15 +40,31 @@ number_lt (first ∷ digits) h =
     let power : 10 ^ length (first ∷ digits) ≡ 10 ^ length digits * 10 = pow-suc 10 (length digits) in
     omega (arith, others, scaled, power)
 
--- nine digits at most
+-- so many digits at most
 pub number_fits : (digits : List ℕ) (n : ℕ) → length digits ≤ n → are_digits digits ≡ true → number_of digits < 10 ^ n
 number_fits digits n few h =
     let power : 10 ^ length digits ≤ 10 ^ n = pow-le-pow_right (omega arith) few in
     omega (arith, number_lt digits h, power)
 
--- before the ninth digit there is room for one more
-pub room : (text : List ℕ) (i : ℕ) → i < length text → length text ≤ 9 → are_digits (take i text) ≡ true → number_of (take i text) < 100000000
-room text i within few h = number_fits (take i text) 8 (omega (arith, length-take i text)) h
+is_true : (b : Bool) (n value : ℕ) → (if b then Some n else None) ≡ Some value → b ≡ true
+is_true true n value h = refl
+is_true false n value h = absurd cc
+
+is_value : (b : Bool) (n value : ℕ) → (if b then Some n else None) ≡ Some value → n ≡ value
+is_value true n value h = cc
+is_value false n value h = absurd cc
+
+-- the value of nine digits at most
+pub value_fits : (text : List ℕ) (value : ℕ) → (if are_digits text then Some (number_of text) else None) ≡ Some value
+    → length text ≤ 9 → value < 1000000000
+value_fits text value h few =
+    let number : number_of text < 1000000000 = number_fits text 9 few (is_true (are_digits text) (number_of text) value h) in
+    omega (arith, number, is_value (are_digits text) (number_of text) value h)
+
+-- before the tenth digit there is room for one more
+pub room : (text : List ℕ) (i : ℕ) → i < length text → length text ≤ 10 → are_digits (take i text) ≡ true
+    → number_of (take i text) < 1000000000
+room text i within few h = number_fits (take i text) 9 (omega (arith, length-take i text)) h
 
 pub digits_more : (text : List ℕ) (i : ℕ) → i < length text → are_digits (take i text) ≡ true → is_digit (get_or text i 0) ≡ true → are_digits (take (i + 1) text) ≡ true
 digits_more text i within before here = list_all_more is_digit text i 0 within ∙ ap (λ (b : Bool). b && is_digit (get_or text i 0)) before ∙ here

@@ -17,17 +17,17 @@ use rail_base::name::is_name;
 use rail_base::{Minute, Name, NoMemory, UnitNo};
 use std::alloc::Global;
 
-/// The number that a text of at most nine bytes spells, where it has digits alone.
-fn digits_value(text: &[u8]) -> Option<u32>
-    requires { length text.now ≤ 9 }
+/// The number that a text of at most ten bytes spells, where it has digits alone; of an empty text it is 0.
+pub fn digits_value(text: &[u8]) -> Option<u64>
+    requires { length text.now ≤ 10 }
     ensures { result ≡ if are_digits text.now then Some (number_of text.now) else None }
 {
-    let mut value = 0u32;
+    let mut value = 0u64;
     for byte in text {
         if !byte.is_ascii_digit() {
             return None;
         }
-        value = value * 10 + u32::from(*byte - b'0');
+        value = value * 10 + u64::from(*byte - b'0');
     }
     Some(value)
 }
@@ -42,7 +42,10 @@ fn number_of(text: &[u8]) -> Option<u32>
     if text.len() > 9 {
         return None;
     }
-    digits_value(text)
+    let Some(value) = digits_value(text) else {
+        return None;
+    };
+    Some(value as u32)
 }
 
 /// A number from `low` to `high`.

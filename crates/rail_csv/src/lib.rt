@@ -10,6 +10,7 @@ pub mod refusal;
 pub mod rows;
 mod table_rows;
 
+pub use columns::digits_value;
 pub use header_words::{column_name, header};
 pub use readers::{links, plan, stations, stock, trips, types, weights};
 pub use refusal::TableRefusal;
