@@ -2,7 +2,7 @@
 //! path that has it.
 
 ghost use Rattle.std.specs.Prelude.{ℕ, ◌≡◌, ◌<◌, ◌+◌, map, length, get_or, set, replicate, pos, IfOk, IfSome, Some};
-ghost use Rattle.std.specs.Prelude.{None, option_map};
+ghost use Rattle.std.specs.Prelude.{None, if◌then◌else◌, option_map};
 ghost use Rattle.price_bound.specs.CellRows.{lower_at};
 ghost use Rattle.price_bound.specs.Paths.{entered, least_from, lower_cell, offer_by, with_worth};
 ghost use Rattle.price_bound.specs.CellSizes.{AreSmallCells, IsSmall};
@@ -88,7 +88,9 @@ impl CellRow {
         ensures { self.new ≡ lower_at comp cell self.old }
     {
         let place = comp.place();
-        self.cells[place] = lower_cell(self.cells[place], cell);
+        if is_lower(&cell, &self.cells[place]) {
+            self.cells[place] = cell;
+        }
     }
 
     /// Adds a worth to the cell of a composition, which is below `len`; where there is no worth, there is no cell then.
@@ -124,21 +126,21 @@ impl CellRow {
 fn lower_cell(cell: Option<Cell>, other: Option<Cell>) -> Option<Cell>
     ensures { result ≡ lower_cell cell other }
 {
-    match (cell, other) {
-        (None, other) => other,
-        (Some(cell), None) => Some(cell),
-        (Some(cell), Some(other)) => Some(lower_of(cell, other)),
-    }
-}
-
-/// The first of two cells, unless the other is of lower value.
-fn lower_of(cell: Cell, other: Cell) -> Cell
-    ensures { Some result ≡ lower_cell (Some cell) (Some other) }
-{
-    if other.value < cell.value {
+    if is_lower(&other, &cell) {
         return other;
     }
     cell
+}
+
+/// Whether there is a cell that is of lower value than another, or there is no other.
+fn is_lower(cell: &Option<Cell>, other: &Option<Cell>) -> bool
+    ensures { lower_cell other.now cell.now ≡ (if result then cell.now else other.now) }
+{
+    match (*cell, *other) {
+        (None, _) => false,
+        (Some(_), None) => true,
+        (Some(cell), Some(other)) => cell.value < other.value,
+    }
 }
 
 /// The cell of an edge to a composition: what is ahead there, at the edge's price.
