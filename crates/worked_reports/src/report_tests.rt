@@ -3,7 +3,7 @@
 ghost use Rattle.std.specs.Prelude.{◌≤◌, length};
 ghost use Rattle.rail_base.specs.declared.limits.TheConstants.{MOST_TRIPS};
 
-use day_reports::{costs_table, duties_table, yards_table};
+use planner_app::{costs_table, duties_table, yards_table};
 use rail_base::limits::MOST_TRIPS;
 use rail_base::{CompNo, TripNo};
 use sample_days::{Texts, day_of, plan_of};
