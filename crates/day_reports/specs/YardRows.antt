@@ -4,11 +4,11 @@ use Rattle.std.specs.Prelude.{ℕ, List, [], ◌∷◌, length, Bool, true, ◌=
 use Rattle.std.specs.Prelude.{Option, Some, None, ℤ, pos}
 use Rattle.std.specs.Fmt.{decimal, signed_decimal}
 use Rattle.rail_base.specs.Times.{clock_text}
-use Rattle.timetable.specs.Day.{Day, leaves, from_of, to_of}
+use Rattle.timetable.specs.Day.{Day, leaves, from_of, to_of, ready_at}
 use Rattle.timetable.specs.Lists.{sum_below, joined}
 use Rattle.timetable.specs.Minutes.{minutes_of}
 use Rattle.timetable.specs.Starts.{start_of}
-use Rattle.inventory.specs.Counts.{takes_of, gives_of, ready_at, count_at, last_of}
+use Rattle.inventory.specs.Counts.{takes_of, gives_of, count_at, last_of}
 use Rattle.day_reports.specs.Named.{type_name, station_name}
 use Rattle.day_reports.specs.Text.{rows_text}
 

@@ -134,16 +134,14 @@ impl<'day, 'picks, 'ledger> Yard<'day, 'picks, 'ledger> {
     }
 
     /// How many units that one trip gives become ready in a span of minutes.
-    #[tactic(auto, unfolding(timetable::specs::Day::arrives, timetable::specs::Day::to_of, timetable::specs::Day::reallocation_of))]
+    #[tactic(auto, unfolding(timetable::specs::Day::to_of))]
     fn gives_between(&self, trip: TripNo, span: &Span) -> u32
         requires { trip < length self.now.day.trips }
         ensures value { result ≡ gives_between self.now span.now.after span.now.by trip }
         ensures few { result ≤ MOST_COMPOSITION }
     {
-        let timetabled = self.instance.trip(trip);
-        let reallocation = self.instance.station(timetabled.to).reallocation;
-        let ready = timetabled.arrival.minutes() + reallocation;
-        if timetabled.to != self.station || !is_in(span, ready) {
+        let ready = self.instance.ready_at(trip).minutes();
+        if self.instance.trip(trip).to != self.station || !is_in(span, ready) {
             return 0;
         }
         let types = self.instance.given_types(self.picks, trip);

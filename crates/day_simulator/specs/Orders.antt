@@ -1,6 +1,6 @@
 -- The orders in which a day's events may come, and how a day ends.
 use Rattle.std.specs.Prelude.{ℕ, ◌+◌, ◌<◌, ◌≤◌, ◌≡◌, List, [], ◌∷◌, ◌==◌, if◌then◌else◌, length, Ok}
-use Rattle.timetable.specs.Day.{Day, arrives, to_of, reallocation_of, unit_count}
+use Rattle.timetable.specs.Day.{Day, to_of, unit_count, ready_at}
 use Rattle.timetable.specs.Duties.{duty, last_place}
 use Rattle.timetable.specs.Running.{Runs}
 use Rattle.timetable.specs.Cost.{plan_cost}
@@ -56,7 +56,7 @@ RisesByTrip day (e ∷ es) = LaterTrips day e es × RisesByTrip day es
 -- on from the others it may be kept in the train
 abbrev pub ready_after : Day → ℕ → List ℕ → ℕ
 ready_after day ready [] = ready
-ready_after day ready (t ∷ ts) = ready_after day (arrives day t + reallocation_of day (to_of day t)) ts
+ready_after day ready (t ∷ ts) = ready_after day (ready_at day t) ts
 
 -- from when on a unit is ready at the end of the day
 unfoldable pub last_ready : Day → List (List ℕ) → ℕ → ℕ

@@ -1,11 +1,11 @@
 -- One step of the day: its first fault, and the state after it.
-use Rattle.std.specs.Prelude.{ℕ, ◌+◌, List, [], ◌∷◌, Bool, true, false, not, ◌&&◌, ◌==◌, if◌then◌else◌, Option, Some}
+use Rattle.std.specs.Prelude.{ℕ, List, [], ◌∷◌, Bool, true, false, not, ◌&&◌, ◌==◌, if◌then◌else◌, Option, Some}
 use Rattle.std.specs.Prelude.{None, option_map, option_and_then, unwrap_or, slice_get, slice_set, nat_le, length}
 use Rattle.std.specs.Prelude.{Result, Ok, Err}
 use Rattle.std.specs.List.{list_all}
 use Rattle.timetable.specs.declared.day.records.LinkKind.{LinkKind}
 use Rattle.timetable.specs.declared.day.records.LinkKind.TheVariants.{Turn, Join, Split}
-use Rattle.timetable.specs.Day.{Day, leaves, arrives, from_of, to_of, type_of, types_of, reallocation_of}
+use Rattle.timetable.specs.Day.{Day, leaves, from_of, to_of, type_of, types_of, ready_at}
 use Rattle.timetable.specs.Admissible.{is_admissible}
 use Rattle.timetable.specs.Links.{list_of, incoming, outgoing, link_into, link_holds, arriving_in, given, taken}
 use Rattle.timetable.specs.Lists.{below}
@@ -83,7 +83,7 @@ after day plan state (Depart t) = record {
 }
 after day plan state (Arrive t) = record {
   places = put_all (put_all state.places (list_of plan t) (Standing t)) (given day plan t)
-      (Yard (to_of day t) (arrives day t + reallocation_of day (to_of day t)));
+      (Yard (to_of day t) (ready_at day t));
   stages = slice_set state.stages t stage.Arrived;
   moment = moment_of day (Arrive t);
 }

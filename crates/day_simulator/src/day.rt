@@ -17,7 +17,7 @@ use crate::balance::{first_differing, first_not_made};
 use crate::events::{DayEvent, Place, Stage, StepFault};
 use crate::links::{broken_into, broken_out, have_feeders_arrived};
 use crate::sequence::{fixed_order, moment_of};
-use crate::trips::{arrival, goal, is_admissible, reallocation};
+use crate::trips::{goal, is_admissible};
 use crate::yards::{first_missing, put_all};
 use cost_model::plan_cost;
 use rail_base::{Money, NoMemory, TripNo, UnitNo};
@@ -178,7 +178,7 @@ impl<'a> Day<'a> {
         }
         let moment = moment_of(self.instance, DayEvent::Arrive(trip));
         let station = goal(self.instance, trip);
-        let ready = arrival(self.instance, trip) + reallocation(self.instance, station);
+        let ready = self.instance.ready_at(trip).minutes();
         let given = self.plan.given(self.instance, trip);
         put_all(
             &mut self.places,

@@ -1,12 +1,12 @@
 //! What a trip asks of its units: where and when it runs, and which compositions may run on it.
 
 ghost use Rattle.std.specs.Prelude.{◌≡◌, ◌<◌, ◌≤◌, length};
-ghost use Rattle.timetable.specs.Day.{leaves, arrives, from_of, to_of, reallocation_of, types_of};
+ghost use Rattle.timetable.specs.Day.{leaves, arrives, from_of, to_of, types_of};
 ghost use Rattle.timetable.specs.Admissible.{is_admissible, longest_of};
 ghost use Rattle.timetable.specs.Running.{AreUnits};
 
 use compositions::Composition;
-use rail_base::limits::{MOST_COMPOSITION, MOST_MINUTES, MOST_REALLOCATION};
+use rail_base::limits::{MOST_COMPOSITION, MOST_MINUTES};
 use rail_base::{StationNo, TripNo, UnitNo};
 use timetable::Instance;
 
@@ -52,16 +52,6 @@ pub(crate) fn goal(instance: &Instance, trip: TripNo) -> StationNo
     ensures known { result < length instance.now.stations }
 {
     instance.trip(trip).to
-}
-
-/// The minutes until a unit that is given at a station is ready.
-#[tactic(auto, unfolding(timetable::specs::Day::reallocation_of))]
-pub(crate) fn reallocation(instance: &Instance, station: StationNo) -> u32
-    requires { station < length instance.now.stations }
-    ensures minutes { result ≡ reallocation_of instance.now station }
-    ensures range { result ≤ MOST_REALLOCATION }
-{
-    instance.station(station).reallocation
 }
 
 /// The metres that fit both platforms of a trip.

@@ -4,11 +4,11 @@ use Rattle.std.specs.Prelude.{if◌then◌else◌, ◌==◌, ◌&&◌, nat_le}
 use Rattle.std.specs.List.{Contains}
 use Rattle.std.proofs.lemmas.Bool.{cases_eq}
 use Rattle.std.proofs.lemmas.Bool.Decides.{nat_tests}
-use Rattle.timetable.specs.Day.{Day, leaves, from_of, to_of}
+use Rattle.timetable.specs.Day.{Day, leaves, from_of, to_of, ready_at}
 use Rattle.timetable.specs.Minutes.{AreMinutes, minutes_of}
 use Rattle.timetable.specs.Starts.{start_of}
 use Rattle.timetable.proofs.Minutes.{are_minutes}
-use Rattle.inventory.specs.Counts.{takes_of, gives_of, ready_at, taken_until, ready_until}
+use Rattle.inventory.specs.Counts.{takes_of, gives_of, taken_until, ready_until}
 use Rattle.inventory.proofs.Sums.{sum_same, sum_le, sum_zero}
 
 module _ (day : Day) (lists : List (List ℕ)) (s m : ℕ) where

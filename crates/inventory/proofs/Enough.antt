@@ -5,10 +5,10 @@ use Rattle.std.proofs.Common.{subst, arith, inl, inr}
 use Rattle.std.specs.Prelude.{if◌then◌else◌, ◌==◌, ◌&&◌, not, nat_le}
 use Rattle.std.proofs.lemmas.Bool.{cases_eq, cond-true, false≢true, and_parts, and_from, leb-true, le-leb, eq-eqb}
 use Rattle.timetable.specs.Accepted.{IsDay, AreLinks, IsStocked}
-use Rattle.timetable.specs.Day.{Day, leaves, from_of, to_of, type_of, unit_count, wanted_of}
+use Rattle.timetable.specs.Day.{Day, leaves, from_of, to_of, type_of, unit_count, wanted_of, ready_at}
 use Rattle.timetable.specs.Links.{itself, taken_with}
 use Rattle.timetable.specs.Lists.{count_of, has}
-use Rattle.inventory.specs.Counts.{AreServed, takes_of, gives_of, ready_at, taken_until, ready_until, all_taken}
+use Rattle.inventory.specs.Counts.{AreServed, takes_of, gives_of, taken_until, ready_until, all_taken}
 use Rattle.inventory.specs.Counts.{all_given}
 use Rattle.inventory.specs.Naming.{standing, may_be_taken, latest_first}
 use Rattle.inventory.proofs.Sums.{one_same, one_other, sum_same, sum_le}

@@ -13,7 +13,7 @@ use Rattle.timetable.specs.declared.day.records.LinkKind.TheVariants.{Turn, Join
 use Rattle.timetable.specs.declared.day.records.Stock.{Stock}
 use Rattle.timetable.specs.declared.day.records.Unit as unit
 use Rattle.timetable.specs.Accepted.{IsDay}
-use Rattle.timetable.specs.Day.{Day, leaves, from_of, to_of, units_in, units_of}
+use Rattle.timetable.specs.Day.{Day, leaves, from_of, to_of, units_in, units_of, ready_at}
 use Rattle.timetable.specs.Links.{list_of, itself, given_with, taken_with, given_by, taken_by, link_out, link_into}
 use Rattle.timetable.specs.Lists.{sum_below}
 use Rattle.timetable.specs.Minutes.{minutes_of}
@@ -24,7 +24,7 @@ use Rattle.timetable.proofs.Minutes.{are_minutes, few_minutes_of}
 use Rattle.inventory.specs.CountTable.{plus, earlier, sums_from, sums_for, all_sums, changed, changed_for, with_given}
 use Rattle.inventory.specs.CountTable.{with_trips, zeros, zeros_for, zero_table, cleared, MoveFew}
 use Rattle.inventory.specs.Counted.{counts_of, number_at, HasPlaces, IsCountTable}
-use Rattle.inventory.specs.Counts.{ready_at, takes_of, gives_of, taken_until, ready_until, all_taken, all_given}
+use Rattle.inventory.specs.Counts.{takes_of, gives_of, taken_until, ready_until, all_taken, all_given}
 use Rattle.inventory.proofs.Sums.{sum_same}
 use Rattle.inventory.proofs.Tables.{at_place, changed_places, trips_are}
 use Rattle.inventory.proofs.Filled.{sums_at, summed_at, place_le, place_within, noted_below}

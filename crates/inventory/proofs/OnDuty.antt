@@ -7,13 +7,12 @@ use Rattle.std.proofs.lemmas.Bool.{cases_lt, cases_Bool, cond-true, cond-false, 
 use Rattle.std.proofs.lemmas.Bool.{eqb-true, eq-eqb, leb-true, le-leb}
 use Rattle.std.proofs.lemmas.Option.{slice_get_past}
 use Rattle.timetable.specs.Accepted.{IsDay, AreLinks}
-use Rattle.timetable.specs.Day.{Day, leaves, from_of, to_of, home_of, type_of, types_of, unit_count}
+use Rattle.timetable.specs.Day.{Day, leaves, from_of, to_of, home_of, type_of, types_of, unit_count, ready_at}
 use Rattle.timetable.specs.Duties.{is_before, duty, ends_at, last_place}
 use Rattle.timetable.specs.Links.{list_of, kept, given, taken}
 use Rattle.timetable.specs.Lists.{count_of, has, below, sum_below}
 use Rattle.timetable.specs.Running.{Runs, MayFollow, GoesByYard, EachFollows, BeginsAt}
 use Rattle.timetable.proofs.ListedUnits.{list_of-types}
-use Rattle.inventory.specs.Counts.{ready_at}
 use Rattle.inventory.specs.Places.{going_on, given_places, kept_places, taken_places, coming}
 use Rattle.inventory.proofs.Sums.{one, one_same, one_other, sum_same}
 use Rattle.inventory.proofs.Order.{InLine, in_list, in_order_in_line, count_of-in_order, count_below_in}

@@ -9,13 +9,13 @@ use Rattle.std.proofs.lemmas.Option.{slice_get_past}
 use Rattle.rail_base.specs.declared.limits.TheConstants.{MOST_MINUTES, MOST_REALLOCATION}
 use Rattle.timetable.specs.Accepted.{IsDay, AreLinks, IsStocked}
 use Rattle.timetable.specs.Admissible.{is_admissible}
-use Rattle.timetable.specs.Day.{Day, leaves, from_of, to_of, home_of, type_of, types_of, unit_count}
+use Rattle.timetable.specs.Day.{Day, leaves, from_of, to_of, home_of, type_of, types_of, unit_count, ready_at}
 use Rattle.timetable.specs.Duties.{is_before, in_order, duty, ends_at, last_place}
 use Rattle.timetable.specs.Links.{list_of, kept, given, taken}
 use Rattle.timetable.specs.Lists.{count_of, has, below}
 use Rattle.timetable.specs.Running.{MayFollow, EachFollows, BeginsAt, ending, Runs}
 use Rattle.timetable.proofs.ListedUnits.{list_of-types}
-use Rattle.inventory.specs.Counts.{AreServed, ready_at}
+use Rattle.inventory.specs.Counts.{AreServed}
 use Rattle.inventory.specs.Naming.{after_trip, standing, may_be_taken, latest_first}
 use Rattle.inventory.specs.Places.{going_on, given_places, kept_places, taken_places, coming}
 use Rattle.inventory.proofs.Sums.{sum_same}

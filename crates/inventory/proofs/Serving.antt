@@ -5,7 +5,7 @@ use Rattle.std.specs.Prelude.{if◌then◌else◌, ◌==◌, ◌&&◌, nat_le}
 use Rattle.std.proofs.lemmas.List.{length-map}
 use Rattle.timetable.specs.Accepted.{IsDay, AreLinks, IsStocked}
 use Rattle.timetable.specs.Admissible.{is_admissible}
-use Rattle.timetable.specs.Day.{Day, leaves, from_of, to_of, home_of, type_of, types_of, unit_count}
+use Rattle.timetable.specs.Day.{Day, leaves, from_of, to_of, home_of, type_of, types_of, unit_count, ready_at}
 use Rattle.timetable.specs.Duties.{last_place}
 use Rattle.timetable.specs.Links.{list_of, itself, given, taken, given_with, taken_with}
 use Rattle.timetable.specs.Lists.{count_of, sum_below}
@@ -13,7 +13,7 @@ use Rattle.timetable.specs.Running.{Runs, ending}
 use Rattle.timetable.specs.Starts.{start_of}
 use Rattle.timetable.proofs.ListedUnits.{list_of-types}
 use Rattle.timetable.proofs.TypeRule.{link-map, given-map, taken-map}
-use Rattle.inventory.specs.Counts.{AreServed, ready_at, taken_until, ready_until, all_taken, all_given}
+use Rattle.inventory.specs.Counts.{AreServed, taken_until, ready_until, all_taken, all_given}
 use Rattle.inventory.proofs.Sums.{sum_same, sum_add, sum_le, sum_zero, sum_of_type}
 use Rattle.inventory.proofs.Standing.{le_has}
 use Rattle.inventory.proofs.Stock.{at_home}

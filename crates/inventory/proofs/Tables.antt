@@ -8,7 +8,7 @@ use Rattle.std.proofs.lemmas.Bool.{cases_eq, cases_Bool, cond-true, cond-false, 
 use Rattle.std.proofs.lemmas.Bool.{eqb-true, eq-eqb}
 use Rattle.std.proofs.lemmas.Int.{ints}
 use Rattle.std.proofs.lemmas.List.{get_or-set_same, get_or-set_other}
-use Rattle.timetable.specs.Day.{Day, leaves, from_of, to_of}
+use Rattle.timetable.specs.Day.{Day, leaves, from_of, to_of, ready_at}
 use Rattle.timetable.specs.Lists.{count_of, sum_below}
 use Rattle.timetable.specs.Links.{itself, given_with, taken_with}
 use Rattle.timetable.specs.Minutes.{minutes_of}
@@ -16,7 +16,7 @@ use Rattle.inventory.specs.CountTable.{plus, earlier, changed_at, changed_in, ch
 use Rattle.inventory.specs.CountTable.{with_trips, MoveFew}
 use Rattle.inventory.specs.Counted.{counts_of, number_at, HasPlaces}
 use Rattle.inventory.proofs.Sums.{one_same, one_other}
-use Rattle.inventory.specs.Counts.{ready_at, takes_of, gives_of}
+use Rattle.inventory.specs.Counts.{takes_of, gives_of}
 
 -- ---- sums that stay small
 

@@ -6,11 +6,11 @@ use Rattle.std.specs.Prelude.{if◌then◌else◌, ◌==◌, ◌&&◌, nat_le}
 use Rattle.std.proofs.lemmas.Bool.{cases_lt, cond-true, cond-false, false≢true, and_parts, eqb-true, leb-true, le-leb}
 use Rattle.std.proofs.lemmas.List.{map-id}
 use Rattle.timetable.specs.Accepted.{IsDay, AreLinks, IsStocked}
-use Rattle.timetable.specs.Day.{Day, leaves, from_of, to_of, home_of, type_of, types_of, unit_count}
+use Rattle.timetable.specs.Day.{Day, leaves, from_of, to_of, home_of, type_of, types_of, unit_count, ready_at}
 use Rattle.timetable.specs.Links.{list_of, itself, taken_with, given_with}
 use Rattle.timetable.specs.Lists.{count_of, has, sum_below}
 use Rattle.timetable.specs.Starts.{start_of}
-use Rattle.inventory.specs.Counts.{takes_of, gives_of, ready_at}
+use Rattle.inventory.specs.Counts.{takes_of, gives_of}
 use Rattle.inventory.specs.Places.{given_places, taken_places}
 use Rattle.inventory.specs.Naming.{InYard, after_trip, standing, may_be_taken}
 use Rattle.inventory.proofs.Sums.{one_same, one_other, sum_same, sum_add, sum_zero, sum_one_more, sum_of_type}

@@ -5,12 +5,11 @@ use Rattle.std.specs.Prelude.{ℕ, zero, suc, ◌+◌, ◌≤◌, List, [], ◌�
 use Rattle.std.specs.Prelude.{nat_lt, ℤ, pos, negsuc, ◌+ℤ◌}
 use Rattle.std.specs.Int.{saturate_to_bits}
 use Rattle.rail_base.specs.declared.limits.TheConstants.{MOST_COMPOSITION}
-use Rattle.timetable.specs.Day.{Day, leaves, from_of, to_of}
+use Rattle.timetable.specs.Day.{Day, leaves, from_of, to_of, ready_at}
 use Rattle.timetable.specs.Lists.{listed}
 use Rattle.timetable.specs.Links.{itself, given_with, taken_with}
 use Rattle.timetable.specs.Minutes.{minutes_of}
 use Rattle.timetable.specs.Starts.{start_of}
-use Rattle.inventory.specs.Counts.{ready_at}
 
 -- a sum that stays within 64 bits
 abbrev pub plus : ℤ → ℤ → ℤ

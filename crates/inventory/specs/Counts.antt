@@ -4,7 +4,7 @@ use Rattle.std.specs.Prelude.{ℕ, ◌+◌, ◌≡◌, ◌<◌, ◌≤◌, List,
 use Rattle.std.specs.Prelude.{get_or, Some, ℤ, pos, ◌-ℤ◌}
 use Rattle.timetable.specs.declared.day.records.Link.{Link}
 use Rattle.timetable.specs.Admissible.{is_admissible}
-use Rattle.timetable.specs.Day.{Day, leaves, arrives, from_of, to_of, reallocation_of, wanted_of}
+use Rattle.timetable.specs.Day.{Day, leaves, from_of, to_of, wanted_of, ready_at}
 use Rattle.timetable.specs.Links.{list_of, itself, link_holds, given_with, taken_with}
 use Rattle.timetable.specs.Lists.{count_of, sum_below}
 use Rattle.timetable.specs.Minutes.{minutes_of}
@@ -16,10 +16,6 @@ takes_of day lists m t = count_of m (taken_with itself day lists t)
 
 abbrev pub gives_of : Day → List (List ℕ) → ℕ → ℕ → ℕ
 gives_of day lists m t = count_of m (given_with itself day lists t)
-
--- the minute from which a unit that a trip gives may be taken
-abbrev pub ready_at : Day → ℕ → ℕ
-ready_at day t = arrives day t + reallocation_of day (to_of day t)
 
 -- units of a type that were taken at a station at a minute or earlier, and that were given there and are ready at the
 -- minute

@@ -1,6 +1,6 @@
 -- What is asked of the trips that are named already, where the others are to be named from a minute on.
-use Rattle.std.specs.Prelude.{ℕ, ◌+◌, ◌≡◌, ◌<◌, ◌≤◌, ◌⊎◌, List, IsTrue, filter, length, nat_lt}
-use Rattle.timetable.specs.Day.{Day, leaves, arrives, from_of, to_of, home_of, types_of, unit_count, reallocation_of}
+use Rattle.std.specs.Prelude.{ℕ, ◌≡◌, ◌<◌, ◌≤◌, ◌⊎◌, List, IsTrue, filter, length, nat_lt}
+use Rattle.timetable.specs.Day.{Day, leaves, from_of, to_of, home_of, types_of, unit_count, ready_at}
 use Rattle.timetable.specs.Duties.{duty}
 use Rattle.timetable.specs.Links.{list_of}
 use Rattle.timetable.specs.Lists.{has, IsDistinct}
@@ -18,7 +18,7 @@ pub record GoesByPlaces (day : Day) (types plan : List (List ℕ)) (u a b : ℕ)
   pub given : IsTrue (has u (given_places day types a (list_of plan a)))
   pub taken : IsTrue (has u (taken_places day types b (list_of plan b)))
   pub station : to_of day a ≡ from_of day b
-  pub ready : arrives day a + reallocation_of day (to_of day a) ≤ leaves day b
+  pub ready : ready_at day a ≤ leaves day b
 
 -- the unit may go on from trip a to trip b: at a place that stays in the train, or through the yard
 abbrev pub MayFollowByPlaces : Day → List (List ℕ) → List (List ℕ) → ℕ → ℕ → ℕ → Type 0

@@ -1,10 +1,10 @@
 -- Which units run on which trip, where only the types of the compositions are given. Trips are named in the order in
 -- which they leave. Units that stay in a train keep their places. Each other place, from front to rear, gets a unit of
 -- its type from the yard: the one that was ready earliest, and of those the one with the smallest number.
-use Rattle.std.specs.Prelude.{ℕ, zero, suc, ◌+◌, List, [], ◌∷◌, length, reverse, map, Bool, true}
+use Rattle.std.specs.Prelude.{ℕ, zero, suc, List, [], ◌∷◌, length, reverse, map, Bool, true}
 use Rattle.std.specs.Prelude.{false, not, ◌==◌, ◌&&◌, if◌then◌else◌, nat_le, nat_lt, Option, Some, None, option_map}
 use Rattle.std.specs.Prelude.{unwrap_or}
-use Rattle.timetable.specs.Day.{Day, leaves, arrives, from_of, to_of, home_of, type_of, unit_count, reallocation_of}
+use Rattle.timetable.specs.Day.{Day, leaves, from_of, to_of, home_of, type_of, unit_count, ready_at}
 use Rattle.timetable.specs.Duties.{in_order}
 use Rattle.timetable.specs.Links.{list_of, itself, taken_with}
 use Rattle.timetable.specs.Lists.{has, below}
@@ -21,7 +21,7 @@ pub record InYard : Type 0 where
 abbrev pub after_trip : Day → List (List ℕ) → (ℕ → List ℕ) → ℕ → ℕ → Option InYard
 after_trip day types lists t u =
     if has u (given_places day types t (lists t))
-    then Some (record { station = to_of day t; ready = arrives day t + reallocation_of day (to_of day t) })
+    then Some (record { station = to_of day t; ready = ready_at day t })
     else None
 
 -- once trips have run, the latest first: a unit that ran on none of them is at home

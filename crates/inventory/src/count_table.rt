@@ -9,7 +9,7 @@ ghost use Rattle.std.specs.Prelude.{ℕ, ◌≡◌, ◌<◌, ◌≤◌, ◌+◌,
 ghost use Rattle.std.specs.List.{AllPairs};
 ghost use Rattle.timetable.specs.Links.{itself, given_with, taken_with};
 ghost use Rattle.timetable.specs.Picking.{ArePicks, picked};
-ghost use Rattle.inventory.specs.Counts.{ready_at};
+ghost use Rattle.timetable.specs.Day.{ready_at};
 ghost use Rattle.inventory.specs.CountTable.{earlier, changed_at, changed_in, changed, changed_for, with_given};
 ghost use Rattle.inventory.specs.CountTable.{with_taken, with_trips, sums_from, zeros, zeros_for, zero_table, cleared};
 ghost use Rattle.inventory.specs.CountTable.{sums_for, all_sums, MoveFew};
@@ -213,7 +213,7 @@ impl CountTable {
     {
         let run = instance.trip(trip);
         let minutes = instance.minutes(run.to);
-        let ready = ready_at(instance, trip);
+        let ready = instance.ready_at(trip);
         let given = instance.given_types(picks, trip);
         self.change_each(run.to, given.as_slice(), place_of(minutes, ready), 1);
     }
@@ -266,19 +266,8 @@ impl CountTable {
     }
 }
 
-/// The minute from which a unit that a trip gives may be taken.
-#[tactic(auto, unfolding(timetable::specs::Day::arrives, timetable::specs::Day::to_of, timetable::specs::Day::reallocation_of))]
-fn ready_at(instance: &Instance, trip: TripNo) -> Minute
-    requires { trip < length instance.now.trips }
-    ensures { result ≡ ready_at instance.now trip }
-{
-    let run = instance.trip(trip);
-    let station = instance.station(run.to);
-    Minute(run.arrival.0 + station.reallocation as u16)
-}
-
-/// How many of rising minutes are before a minute.
-fn place_of(minutes: &[Minute], minute: Minute) -> usize
+/// How many of rising minutes are before a minute: the place of the first that is not.
+pub fn place_of(minutes: &[Minute], minute: Minute) -> usize
     requires { AllPairs (λ a b. a < b) minutes.now }
     ensures { result ≡ earlier minute minutes.now }
 {

@@ -8,5 +8,6 @@ pub mod naming_laws;
 pub mod serving_laws;
 pub mod solution_laws;
 
+pub use count_table::place_of;
 pub use faults::StockFault;
 pub use ledger::Ledger;

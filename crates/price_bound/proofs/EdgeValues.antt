@@ -20,7 +20,7 @@ use Rattle.timetable.specs.declared.day.records.LinkKind.TheVariants.{Turn, Join
 use Rattle.timetable.specs.Chains.{leads_from, leads_to}
 use Rattle.timetable.specs.Compositions.{compositions_of, composition_at}
 use Rattle.timetable.specs.Cost.{is_shunted, kind_cost}
-use Rattle.timetable.specs.Day.{Day, from_of, leaves, to_of}
+use Rattle.timetable.specs.Day.{Day, from_of, leaves, to_of, ready_at}
 use Rattle.timetable.specs.Handovers.{IsHandover, handovers_of, second_of}
 use Rattle.timetable.specs.Indices.{IsPlace, places_of}
 use Rattle.timetable.specs.Links.{given_by, itself, list_of, taken_by, turn_of, turned}
@@ -44,7 +44,6 @@ use Rattle.price_bound.specs.EdgeValues.{coupled, edge_value, part_multiplier, p
 use Rattle.price_bound.specs.EdgeValues.{turn_value}
 use Rattle.price_bound.specs.Following.{part_by}
 use Rattle.price_bound.specs.Regrouped.{of_handover, part_price, value_at_link}
-use Rattle.inventory.specs.Counts.{ready_at}
 use Rattle.price_bound.specs.YardPrices.{by_place, giving, taking, yard_price}
 use Rattle.price_bound.proofs.IntLaws.{sum_append, sum_none, sum_same}
 use Rattle.price_bound.proofs.Solving.{IsPart, part_is, same_number}

@@ -12,14 +12,13 @@ use Rattle.timetable.specs.declared.day.indices.Place.{Place}
 use Rattle.timetable.specs.declared.day.indices.Place.TheVariants.{Lambda, Mu, Sigma}
 use Rattle.timetable.specs.declared.day.records.Handover.{Handover}
 use Rattle.timetable.specs.Compositions.{compositions_of}
-use Rattle.timetable.specs.Day.{Day, leaves, from_of, to_of}
+use Rattle.timetable.specs.Day.{Day, leaves, from_of, to_of, ready_at}
 use Rattle.timetable.specs.Handovers.{handovers_of}
 use Rattle.timetable.specs.Indices.{places_of}
 use Rattle.timetable.specs.Lists.{listed}
 use Rattle.timetable.specs.Minutes.{minutes_of}
 use Rattle.timetable.proofs.Listing.{get_listed, length-listed}
 use Rattle.inventory.specs.Counted.{HasPlaces, counts_of, number_at}
-use Rattle.inventory.specs.Counts.{ready_at}
 use Rattle.inventory.specs.CountTable.{changed, earlier}
 use Rattle.inventory.proofs.Filled.{place_within}
 use Rattle.inventory.proofs.Tables.{changed_places}

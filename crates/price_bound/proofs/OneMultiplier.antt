@@ -11,7 +11,7 @@ use Rattle.timetable.specs.declared.day.records.Handover.{Handover}
 use Rattle.timetable.specs.declared.day.records.Link.{Link}
 use Rattle.timetable.specs.Accepted.{AreLinks}
 use Rattle.timetable.specs.Compositions.{composition_at}
-use Rattle.timetable.specs.Day.{Day, leaves, from_of, to_of, wanted_of}
+use Rattle.timetable.specs.Day.{Day, leaves, from_of, to_of, wanted_of, ready_at}
 use Rattle.timetable.specs.Handovers.{IsHandover, handovers_of}
 use Rattle.timetable.specs.Links.{itself, given_with, taken_with}
 use Rattle.timetable.specs.Lists.{count_of, sum_below}
@@ -22,7 +22,7 @@ use Rattle.timetable.specs.Turns.{same}
 use Rattle.timetable.proofs.Handovers.{are_handovers}
 use Rattle.timetable.proofs.LinkNames.{names_below}
 use Rattle.std.proofs.lemmas.Option.{slice_get_within, get_or_from_slice_get}
-use Rattle.inventory.specs.Counts.{ready_at, takes_of, gives_of, taken_until, ready_until, all_taken, all_given}
+use Rattle.inventory.specs.Counts.{takes_of, gives_of, taken_until, ready_until, all_taken, all_given}
 use Rattle.branch_tree.specs.IntSums.{int_sum}
 use Rattle.price_bound.specs.Following.{part_of, pick_of}
 use Rattle.price_bound.specs.IntBelow.{int_below}

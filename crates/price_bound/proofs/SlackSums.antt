@@ -7,11 +7,10 @@ use Rattle.std.proofs.lemmas.Int.{ints}
 use Rattle.timetable.specs.declared.day.indices.Place.{Place}
 use Rattle.timetable.specs.declared.day.records.Link.{Link}
 use Rattle.timetable.specs.Accepted.{AreLinks}
-use Rattle.timetable.specs.Day.{Day, leaves, from_of, to_of}
+use Rattle.timetable.specs.Day.{Day, leaves, from_of, to_of, ready_at}
 use Rattle.timetable.specs.Indices.{places_of}
 use Rattle.timetable.specs.Links.{given_with, itself, taken_with}
 use Rattle.timetable.specs.Picking.{picked}
-use Rattle.inventory.specs.Counts.{ready_at}
 use Rattle.branch_tree.specs.declared.multipliers.Entry.{Entry}
 use Rattle.branch_tree.specs.IntSums.{int_sum}
 use Rattle.price_bound.specs.Following.{part_of, pick_of}

@@ -11,8 +11,7 @@ use Rattle.compositions.specs.declared.types.UnitType.{UnitType}
 use Rattle.compositions.specs.Composition.{are_types}
 use Rattle.rail_csv.specs.declared.rows.End.{End}
 use Rattle.rail_csv.specs.declared.rows.End.TheVariants as at
-use Rattle.timetable.specs.Day.{Day, from_of, leaves, to_of}
-use Rattle.inventory.specs.Counts.{ready_at}
+use Rattle.timetable.specs.Day.{Day, from_of, leaves, to_of, ready_at}
 use Rattle.branch_tree.specs.declared.multipliers.Entry.{Entry}
 use Rattle.branch_tree.specs.Entries.{AreMultipliers}
 use Rattle.branch_tree.specs.IntSums.{int_sum}

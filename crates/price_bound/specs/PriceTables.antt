@@ -4,13 +4,12 @@ use Rattle.timetable.specs.declared.day.indices.Place.{Place}
 use Rattle.timetable.specs.declared.day.indices.Place.TheVariants.{Lambda, Mu, Sigma}
 use Rattle.timetable.specs.declared.day.records.Handover.{Handover}
 use Rattle.timetable.specs.Compositions.{compositions_of}
-use Rattle.timetable.specs.Day.{Day, leaves, from_of, to_of}
+use Rattle.timetable.specs.Day.{Day, leaves, from_of, to_of, ready_at}
 use Rattle.timetable.specs.Handovers.{handovers_of}
 use Rattle.timetable.specs.Indices.{places_of}
 use Rattle.timetable.specs.Minutes.{minutes_of}
 use Rattle.inventory.specs.CountTable.{changed, changed_in}
 use Rattle.inventory.specs.Counted.{HasPlaces}
-use Rattle.inventory.specs.Counts.{ready_at}
 use Rattle.branch_tree.specs.declared.multipliers.Entry.{Entry}
 use Rattle.price_bound.specs.declared.price_tables.PriceTables.{PriceTables}
 use Rattle.price_bound.specs.EdgeValues.{part_multiplier}

@@ -3,10 +3,9 @@ use Rattle.std.specs.Prelude.{ℕ, List, get_or, ◌&&◌, ◌==◌, if◌then�
 use Rattle.std.specs.Prelude.{slice_get, ℤ, pos}
 use Rattle.timetable.specs.declared.day.indices.Place.{Place}
 use Rattle.timetable.specs.declared.day.indices.Place.TheVariants.{Lambda, Mu, Sigma}
-use Rattle.timetable.specs.Day.{Day, leaves, from_of, to_of}
+use Rattle.timetable.specs.Day.{Day, leaves, from_of, to_of, ready_at}
 use Rattle.timetable.specs.Indices.{places_of}
 use Rattle.timetable.specs.Minutes.{minutes_of}
-use Rattle.inventory.specs.Counts.{ready_at}
 use Rattle.branch_tree.specs.declared.multipliers.Entry.{Entry}
 use Rattle.branch_tree.specs.IntSums.{int_sum}
 

@@ -2,11 +2,10 @@
 -- these; how they are added up, and where trips look in them.
 use Rattle.std.specs.Prelude.{ℕ, ◌≡◌, ◌<◌, List, [], ◌∷◌, length, map, get_or, ℤ, pos}
 use Rattle.std.specs.List.{All}
-use Rattle.timetable.specs.Day.{Day, leaves, from_of, to_of}
+use Rattle.timetable.specs.Day.{Day, leaves, from_of, to_of, ready_at}
 use Rattle.timetable.specs.Lists.{listed}
 use Rattle.timetable.specs.Minutes.{minutes_of}
 use Rattle.inventory.specs.CountTable.{earlier, plus}
-use Rattle.inventory.specs.Counts.{ready_at}
 use Rattle.price_bound.specs.declared.yard_places.YardPlace.{YardPlace}
 
 -- ---- sums

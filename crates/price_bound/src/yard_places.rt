@@ -3,14 +3,12 @@
 //! This depends on the day alone, so that it is found once.
 
 ghost use Rattle.std.specs.Prelude.{◌≡◌, ◌<◌, length, map, IfOk};
-ghost use Rattle.std.specs.List.{AllPairs};
-ghost use Rattle.inventory.specs.Counts.{ready_at};
-ghost use Rattle.inventory.specs.CountTable.{earlier};
 ghost use Rattle.price_bound.specs.YardTables.{ArePlaces, CanLook, amounts_at, given_at, taken_at};
 
 use crate::amounts::AmountTable;
 use crate::yard_tables::YardTable;
-use rail_base::{Minute, NoMemory, StationNo, TripNo};
+use inventory::place_of;
+use rail_base::{NoMemory, StationNo, TripNo};
 use std::alloc::Global;
 use timetable::Instance;
 
@@ -80,31 +78,10 @@ fn given_at(instance: &Instance, trip: TripNo) -> YardPlace
     ensures known { result.station < length instance.now.stations }
 {
     let run = instance.trip(trip);
-    let ready = ready_at(instance, trip);
+    let ready = instance.ready_at(trip);
     YardPlace {
         station: run.to,
         place: place_of(instance.minutes(run.to), ready),
     }
 }
 
-/// The minute from which a unit that a trip gives may be taken.
-#[tactic(auto, unfolding(timetable::specs::Day::arrives, timetable::specs::Day::to_of, timetable::specs::Day::reallocation_of))]
-fn ready_at(instance: &Instance, trip: TripNo) -> Minute
-    requires { trip < length instance.now.trips }
-    ensures { result ≡ ready_at instance.now trip }
-{
-    let run = instance.trip(trip);
-    let station = instance.station(run.to);
-    Minute(run.arrival.0 + station.reallocation as u16)
-}
-
-/// How many of rising minutes are before a minute.
-fn place_of(minutes: &[Minute], minute: Minute) -> usize
-    requires { AllPairs (λ a b. a < b) minutes.now }
-    ensures { result ≡ earlier minute minutes.now }
-{
-    match minutes.binary_search(&minute) {
-        Ok(place) => place,
-        Err(place) => place,
-    }
-}

@@ -1,6 +1,6 @@
 -- The day as a value: plain lists, in which stations, types, trips and links are numbered by their place.
 -- A number that is out of range reads as something harmless, so that laws hold for every number.
-use Rattle.std.specs.Prelude.{ℕ, List, [], ◌∷◌, ◌++◌, length, replicate, ◌==◌, ◌&&◌, if◌then◌else◌, map}
+use Rattle.std.specs.Prelude.{ℕ, List, [], ◌∷◌, ◌++◌, ◌+◌, length, replicate, ◌==◌, ◌&&◌, if◌then◌else◌, map}
 use Rattle.compositions.specs.declared.types.UnitType.{UnitType}
 use Rattle.timetable.specs.declared.day.records.Station.{Station}
 use Rattle.timetable.specs.declared.day.records.Stock.{Stock}
@@ -47,6 +47,10 @@ platform_of day s = of_entry (λ station. station.platform) day.stations s 0
 
 unfoldable pub reallocation_of : Day → ℕ → ℕ
 reallocation_of day s = of_entry (λ station. station.reallocation) day.stations s 0
+
+-- the minute from which a unit that a trip gives may be taken
+abbrev pub ready_at : Day → ℕ → ℕ
+ready_at day t = arrives day t + reallocation_of day (to_of day t)
 
 -- the units of the stock rows: numbered by row, and then within the row
 abbrev pub units_in : List Stock → List unit.Unit

@@ -1,9 +1,9 @@
 -- Which plans run.
-use Rattle.std.specs.Prelude.{ℕ, ◌+◌, ◌≡◌, ◌<◌, ◌≤◌, ◌⊎◌, List, [], ◌∷◌, length, true, ◌==◌, ◌&&◌, IsTrue, slice_get}
+use Rattle.std.specs.Prelude.{ℕ, ◌≡◌, ◌<◌, ◌≤◌, ◌⊎◌, List, [], ◌∷◌, length, true, ◌==◌, ◌&&◌, IsTrue, slice_get}
 use Rattle.std.specs.Prelude.{Some, ⊤}
 use Rattle.timetable.specs.declared.day.records.Link.{Link}
-use Rattle.timetable.specs.Day.{Day, leaves, arrives, from_of, to_of, home_of, type_of, types_of, unit_count}
-use Rattle.timetable.specs.Day.{reallocation_of, wanted_of}
+use Rattle.timetable.specs.Day.{Day, leaves, from_of, to_of, home_of, type_of, types_of, unit_count}
+use Rattle.timetable.specs.Day.{wanted_of, ready_at}
 use Rattle.timetable.specs.Admissible.{is_admissible}
 use Rattle.timetable.specs.Links.{list_of, link_holds, kept, given, taken}
 use Rattle.timetable.specs.Duties.{duty, last_place}
@@ -29,7 +29,7 @@ pub record GoesByYard (day : Day) (plan : List (List ℕ)) (u a b : ℕ) : Type 
   pub given : IsTrue (has u (given day plan a))
   pub taken : IsTrue (has u (taken day plan b))
   pub station : to_of day a ≡ from_of day b
-  pub ready : arrives day a + reallocation_of day (to_of day a) ≤ leaves day b
+  pub ready : ready_at day a ≤ leaves day b
 
 -- the unit may go on from trip a to trip b: it stays in the train, or it goes through the yard
 abbrev pub MayFollow : Day → List (List ℕ) → ℕ → ℕ → ℕ → Type 0

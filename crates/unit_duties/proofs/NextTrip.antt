@@ -11,14 +11,14 @@ use Rattle.std.proofs.lemmas.Option.{unwrap_or-slice_get}
 use Rattle.rail_base.specs.declared.limits.TheConstants.{MOST_COMPOSITION}
 use Rattle.timetable.specs.Accepted.{IsDay, AreLinks, IsStocked}
 use Rattle.timetable.specs.Admissible.{is_admissible}
-use Rattle.timetable.specs.Day.{Day, leaves, from_of, to_of, type_of, types_of, unit_count}
+use Rattle.timetable.specs.Day.{Day, leaves, from_of, to_of, type_of, types_of, unit_count, ready_at}
 use Rattle.timetable.specs.Links.{list_of, itself, taken_with}
 use Rattle.timetable.specs.Lists.{count_of, has, below}
 use Rattle.timetable.specs.Duties.{in_order}
 use Rattle.timetable.specs.Picking.{picked}
 use Rattle.timetable.specs.Running.{AreUnits}
 use Rattle.timetable.proofs.Shares.{count_of-turned}
-use Rattle.inventory.specs.Counts.{AreServed, ready_at}
+use Rattle.inventory.specs.Counts.{AreServed}
 use Rattle.inventory.specs.Naming.{InYard, standing, may_be_taken, fetched, named_list, naming, latest_first}
 use Rattle.inventory.specs.Naming.{named_from, named_plan}
 use Rattle.inventory.specs.Places.{given_places, kept_places, taken_places, put_together, coming}

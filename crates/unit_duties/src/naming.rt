@@ -1,9 +1,9 @@
 //! The naming of units: which units run on which trip, where a composition is picked for each.
 
 ghost use Rattle.std.specs.Prelude.{ℕ, ◌≡◌, ◌<◌, ◌≤◌, [], Option, length, replicate, IfOk, OnOk};
-ghost use Rattle.inventory.specs.Counts.{AreServed, ready_at};
+ghost use Rattle.inventory.specs.Counts.{AreServed};
 ghost use Rattle.timetable.specs.Accepted.{AreLinks};
-ghost use Rattle.timetable.specs.Day.{to_of};
+ghost use Rattle.timetable.specs.Day.{to_of, ready_at};
 ghost use Rattle.timetable.specs.Running.{AreUnits};
 ghost use Rattle.unit_duties.specs.Trains.{given_units};
 ghost use Rattle.unit_duties.specs.Yards.{ArePutIn};
@@ -114,13 +114,12 @@ fn give(
 }
 
 /// The station that a trip goes to, and the minute from which a unit that it gives there may be taken.
-#[tactic(auto, unfolding(timetable::specs::Day::to_of, timetable::specs::Day::arrives, timetable::specs::Day::reallocation_of))]
+#[tactic(auto, unfolding(timetable::specs::Day::to_of))]
 fn goal_of(instance: &Instance, trip: TripNo) -> (StationNo, u32)
     requires { trip < length instance.now.trips }
     ensures station { result.0 ≡ to_of instance.now trip }
     ensures ready { result.1 ≡ ready_at instance.now trip }
 {
-    let trip = instance.trip(trip);
-    let station = instance.station(trip.to);
-    (trip.to, trip.arrival.minutes() + station.reallocation)
+    let ready = instance.ready_at(trip).minutes();
+    (instance.trip(trip).to, ready)
 }

@@ -11,7 +11,7 @@ ghost use Rattle.timetable.specs.Compositions.{compositions_of, composition_at};
 ghost use Rattle.rail_base.specs.Answers.{Unless, Gives};
 ghost use Rattle.timetable.specs.Build.{day_of, is_memory, weights_in};
 ghost use Rattle.timetable.specs.Chains.{chains_of, IsChain, AreChains};
-ghost use Rattle.timetable.specs.Day.{units_of, units_in, unit_count, wanted_in, wanted_of};
+ghost use Rattle.timetable.specs.Day.{units_of, units_in, unit_count, wanted_in, wanted_of, ready_at};
 ghost use Rattle.timetable.specs.Handovers.{handovers_of, IsHandover, AreHandovers};
 ghost use Rattle.timetable.specs.Links.{incoming, outgoing};
 ghost use Rattle.timetable.specs.Lists.{sum_below};
@@ -227,6 +227,18 @@ impl Instance {
         ensures within { IsTripAt (length self.now.stations) result.now }
     {
         &self.trips[trip.place()]
+    }
+
+    /// The minute from which a unit that this trip gives to the yard where it arrives may be taken there: the trip's
+    /// arrival and the station's reallocation time later. The trip is below `trips`.
+    #[tactic(auto, unfolding(crate::specs::Day::arrives, crate::specs::Day::to_of, crate::specs::Day::reallocation_of))]
+    pub fn ready_at(&self, trip: TripNo) -> Minute
+        requires { trip < length self.now.trips }
+        ensures { result ≡ ready_at self.now trip }
+    {
+        let trip = self.trip(trip);
+        let station = self.station(trip.to);
+        Minute(trip.arrival.0 + station.reallocation as u16)
     }
 
     /// The link of this number, which is below `links`. Its trips are there and meet at one station, and none departs

@@ -1,7 +1,6 @@
 use Rattle.std.proofs.Common.{◌≡◌, ◌∙◌, ◌+◌, ◌<◌, ◌++◌, ◌∷◌, [], ℕ, List, length, take, get_or, refl, sym, subst}
 use Rattle.std.proofs.lemmas.List.{take_more}
-use Rattle.inventory.specs.Counts.{ready_at}
-use Rattle.timetable.specs.Day.{to_of}
+use Rattle.timetable.specs.Day.{to_of, ready_at}
 use Rattle.timetable.proofs.ListedUnits.{unit_at, type_is}
 use Rattle.unit_duties.specs.Trains.{given_units}
 use Rattle.unit_duties.specs.Yards.{ArePutIn}

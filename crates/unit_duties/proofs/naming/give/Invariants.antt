@@ -1,6 +1,5 @@
 use Rattle.std.proofs.Common.{take}
-use Rattle.inventory.specs.Counts.{ready_at}
-use Rattle.timetable.specs.Day.{to_of}
+use Rattle.timetable.specs.Day.{to_of, ready_at}
 use Rattle.unit_duties.specs.Trains.{given_units}
 use Rattle.unit_duties.specs.Yards.{ArePutIn}
 use Rattle.unit_duties.proofs.naming.give.Given as goal

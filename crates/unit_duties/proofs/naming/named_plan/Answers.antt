@@ -1,10 +1,9 @@
 use Rattle.std.proofs.Common.{◌≡◌, ◌∙◌, ◌≤◌, ◌∷◌, [], ℕ, List, length, reverse, take, set, replicate, sym, subst, ap}
 use Rattle.std.proofs.lemmas.List.{take_all}
 use Rattle.rail_base.specs.declared.limits.TheConstants.{MOST_COMPOSITION}
-use Rattle.timetable.specs.Day.{to_of}
+use Rattle.timetable.specs.Day.{to_of, ready_at}
 use Rattle.timetable.specs.Picking.{picked}
 use Rattle.timetable.specs.Running.{AreUnits}
-use Rattle.inventory.specs.Counts.{ready_at}
 use Rattle.inventory.specs.Places.{given_places}
 use Rattle.unit_duties.specs.Yards.{ArePutIn}
 use Rattle.unit_duties.proofs.NextTrip.{NamedSoFar, named_none, named_more, named_all, trips_in_order, one_turn_more}

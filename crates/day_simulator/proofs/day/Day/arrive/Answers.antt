@@ -14,7 +14,7 @@ use Rattle.day_simulator.proofs.PutPlaces.{length-put_all}
 use Rattle.day_simulator.proofs.Stepping.{step_fails, step_goes, arrived, put_in}
 use Rattle.std.specs.Vec.{with_items}
 use Rattle.std.specs.Prelude.{slice_set, option_map}
-use Rattle.timetable.specs.Day.{to_of, arrives, reallocation_of}
+use Rattle.timetable.specs.Day.{to_of, ready_at}
 use Rattle.day_simulator.specs.declared.events.Place.{Place}
 use Rattle.day_simulator.specs.declared.events.Place.TheVariants.{Standing, Yard}
 use Rattle.day_simulator.specs.declared.events.Stage.TheVariants as stage
@@ -55,7 +55,7 @@ returns c =
     let e = Arrive t in
     let us = c.units.result.now in
     let vs = c.as_slice.result.now in
-    let yard = Yard c.goal-station.result (c.arrival.result + c.reallocation.result) in
+    let yard = Yard c.goal-station.result c.minutes-ready.result in
     let now : is_now p.day p.state e ≡ true = subst (λ (q : Machine). is_now q.day q.state e ≡ true) (sym c.self.view_is) (sym c.is_now.ensures ∙ c.if-not-is_now.false) in
     let none : None ≡ fault_of p.day p.plan p.state e =
     ap (option_map (λ l. LinkBroken l)) (sym c.in_default.is ∙ c.broken_out.ensures) ∙ arrival_now p.day p.plan p.state t now in
@@ -65,8 +65,8 @@ returns c =
     let given_back = put_in (with_items c.self.inside.places c.put_all.new.places) vs yard c.put_all-2.new.places put_again ∙ ap (λ (ps : List Place). put_all ps vs yard) standing in
     let listed = ap (λ (ws : List ℕ). put_all (put_all p.state.places ws (Standing t)) vs yard) c.units.ensures.value in
     let passed_on = ap (λ (ws : List ℕ). put_all (put_all p.state.places (list_of p.plan t) (Standing t)) ws yard) (c.as_slice.ensures.value ∙ c.given-given.ensures) in
-    let ready : yard ≡ Yard (to_of p.day t) (arrives p.day t + reallocation_of p.day (to_of p.day t)) =
-    rw (c.reallocation.ensures.minutes, c.arrival.ensures.minute, c.goal-station.ensures.station) refl in
+    let ready : yard ≡ Yard (to_of p.day t) (ready_at p.day t) =
+    ap (λ (m : ℕ). Yard c.goal-station.result m) (c.minutes-ready.ensures.number ∙ c.ready_at.ensures) ∙ ap (λ (s : ℕ). Yard s (ready_at p.day t)) c.goal-station.ensures.station in
     let placed = ap (λ (y : Place). put_all (put_all p.state.places (list_of p.plan t) (Standing t)) (given p.day p.plan t) y) ready in
     let stages = ap (λ (k : ℕ). slice_set p.state.stages k stage.Arrived) c.place.ensures.number in
     let after = arrived p.day p.plan p.state t _ _ _ (given_back ∙ listed ∙ passed_on ∙ placed) stages c.moment_of-moment.ensures in

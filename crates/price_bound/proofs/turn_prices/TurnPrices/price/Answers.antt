@@ -3,8 +3,7 @@ use Rattle.std.proofs.Common.{◌≡◌, ℕ, List, Some, ℤ, pos, ap, sym, ◌
 use Rattle.branch_tree.specs.declared.multipliers.Entry.{Entry}
 use Rattle.branch_tree.specs.Meanings.{weighted}
 use Rattle.timetable.specs.Compositions.{composition_at}
-use Rattle.timetable.specs.Day.{Day, from_of, leaves, to_of}
-use Rattle.inventory.specs.Counts.{ready_at}
+use Rattle.timetable.specs.Day.{Day, from_of, leaves, to_of, ready_at}
 use Rattle.price_bound.specs.EdgeValues.{came, coupled, shunt_cost, stayed, turn_value}
 use Rattle.price_bound.specs.YardPrices.{giving, taking, yard_price}
 use Rattle.price_bound.proofs.AtHand.{turn_priced}
