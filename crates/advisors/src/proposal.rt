@@ -72,10 +72,10 @@ impl Proposal {
     /// Sets the multiplier at an index; 0 takes its entry out. It takes no memory. The first refusal that holds comes,
     /// and the proposal is then as before:
     ///
-    /// 1. `NoIndex`, exactly where the index is not below the number of indices,
-    /// 2. `Negative`, exactly where the value is negative and the index below `free_from`,
-    /// 3. `TooLarge`, exactly where the size of the value is over 10^12,
-    /// 4. `Full`, exactly where the value is not 0, the index is new and 1,000 entries are there.
+    /// 1. `NoIndex` of an index that is none of the problem's,
+    /// 2. `Negative` of a value below 0 at an index below `free_from`,
+    /// 3. `TooLarge` of a value of a size over 10^12,
+    /// 4. `Full` of a value other than 0, if 1,000 entries are there and none of them is of this index.
     pub fn put(&mut self, index: u32, value: i64) -> Result<(), PutRefusal>
         ensures put { OnOk result (IsPut self.old.multipliers index value self.new.multipliers) }
         ensures list { OnOk result

@@ -69,7 +69,7 @@ DoFitAt problem region (CostLeaf bound multipliers) = DoFit problem.indices prob
 DoFitAt problem region (RayLeaf multipliers) = DoFit problem.indices problem.free_from multipliers
 DoFitAt problem region node = Unit {0}
 
--- the bound of a cost leaf is the chain value of its region under its multipliers with cost
+-- a cost leaf has as its bound what its region's chain value with cost is under its multipliers
 abbrev pub IsBoundAt : Meanings → List (List Bool) → Node → Type 0
 IsBoundAt problem region (CostLeaf bound multipliers) = IsChainValue problem region multipliers Cost bound.0
 IsBoundAt problem region node = Unit {0}
@@ -116,7 +116,7 @@ pub record IsProved (problem : Meanings) (root : List (List Bool)) (conclusion :
   pub proper : Covers problem.catalogue (IsProperAt problem.catalogue) root nodes
   -- the multipliers of each leaf fit
   pub fitting : Covers problem.catalogue (DoFitAt problem) root nodes
-  -- the bound of each cost leaf is the chain value of its region under its multipliers with cost
+  -- each cost leaf has as its bound what its region's chain value with cost is under its multipliers
   pub bounds : Covers problem.catalogue (IsBoundAt problem) root nodes
   -- the chain value of each ray leaf's region under its multipliers without cost exists and is positive
   pub rays : Covers problem.catalogue (IsRayAt problem) root nodes

@@ -27,7 +27,7 @@ pub record AreMultipliers (entries : List Entry) : Type 0 where
   pub within : All (λ entry. unsigned_abs entry.value ≤ MOST_MULTIPLIER) entries
   pub few : length entries ≤ MOST_ENTRIES
 
--- each index is below `indices`, and no value at an index below `free_from` is negative
+-- all entries are of indices below `indices`, and those below `free_from` have no negative value
 abbrev pub DoFit : ℕ → ℕ → List Entry → Type 0
 DoFit indices free_from entries =
     All (λ entry. (entry.index < indices) × (entry.index < free_from → pos 0 ≤ℤ entry.value)) entries
@@ -63,7 +63,7 @@ last_of [] = None
 last_of (entry ∷ []) = Some entry
 last_of (entry ∷ next ∷ entries) = last_of (next ∷ entries)
 
--- an index is greater than that of the last entry
+-- an index comes after those of all entries, which rise
 abbrev pub IsPastLast : List Entry → ℕ → Type 0
 IsPastLast entries index = MatchOption (last_of entries) (Unit {0}) (λ last. last.index < index)
 

@@ -78,9 +78,9 @@ impl Multipliers {
         Ok(Multipliers { entries })
     }
 
-    /// Sets the value at an index; 0 takes its entry out. It takes no memory. It is refused as `TooLarge` exactly where
-    /// the size of the value is over 10^12, and else as `Full` exactly where the value is not 0, the index is new and
-    /// 1,000 entries are there; the entries are then as before.
+    /// Sets the value at an index; 0 takes its entry out. It takes no memory. A value of a size over 10^12 is refused
+    /// as `TooLarge`; and any other but 0 as `Full`, if 1,000 entries are there and none of them is of this index.
+    /// Nothing else is refused, and a refusal leaves the entries as they were.
     pub fn put(&mut self, index: u32, value: i64) -> Result<(), PutRefusal>
         ensures put { OnOk result (IsPut self.old index value self.new) }
         ensures list { OnOk result (self.new ≡ put_in self.old index value) }
@@ -149,7 +149,7 @@ impl Multipliers {
         }
     }
 
-    /// Whether each index is below `indices` and no value at an index below `free_from` is negative.
+    /// Whether all entries are of indices below `indices`, and those below `free_from` have no negative value.
     pub fn fits(&self, indices: u32, free_from: u32) -> bool
         ensures { IsTrue result ↔ DoFit indices free_from self.now }
     {

@@ -74,10 +74,9 @@ pub trait Relaxation {
     fn catalogue(&self) -> &Catalogue
         ensures { result.now ≡ (meanings (problem self.now)).catalogue };
 
-    /// The least priced value of the picks that are near a region, under multipliers that fit. The region and `best`
-    /// have a set and a pick for each trip. It is `Empty` exactly where no picks are near the region, and `best` is
-    /// then as before. Else `best` is, among those of least value, the first by the list of compositions read in the
-    /// problem's order.
+    /// The least priced value that picks near a region have under multipliers that fit, with the picks in `best`: of
+    /// several those whose compositions, in the problem's order of trips, come first as a list. If nothing is near the
+    /// region the answer is `Empty`, and `best` stays. The region and `best` have a set and a pick for each trip.
     fn bound(
         &mut self,
         region: &Region,

@@ -45,8 +45,8 @@ impl Slacks {
         self.entries.clear();
     }
 
-    /// Adds a slack at the end: fewer than 4,000 are there, its index is greater than that of the last, and its value
-    /// is not 0. It takes no memory.
+    /// Adds a slack other than 0 at the end, behind those of lower indices, of which fewer than 4,000 are there. It
+    /// takes no memory.
     pub fn put(&mut self, entry: Entry)
         requires room { length self.old < MOST_SLACKS }
         requires rising { IsPastLast self.old entry.index }

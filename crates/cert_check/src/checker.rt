@@ -57,8 +57,7 @@ impl Checker {
 
     /// Checks a claim of a problem over a root region: it is valid exactly where its tree proves it, and else the
     /// verdict is the first reason that holds. The tree has no more nodes than the checker was made for, and the
-    /// problem has as many trips; the root is over the problem's trips and catalogue, and afterwards as it was. It
-    /// takes no memory.
+    /// problem has as many trips. The root region is one of this problem, and afterwards as it was. It takes no memory.
     pub fn check<R: Relaxation>(
         &mut self,
         problem: &mut R,

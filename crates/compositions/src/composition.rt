@@ -161,7 +161,7 @@ impl Composition {
         }
     }
 
-    /// The metres of all units; each type number is below `types.len()`.
+    /// The metres of all units, whose types are among these.
     pub fn metres(&self, types: &UnitTypes) -> u32
         requires { IsTrue (are_types types.now self.now) }
         ensures { result ≡ metres_of types.now self.now }
@@ -169,7 +169,7 @@ impl Composition {
         Measure::Metres.total(types, self.units())
     }
 
-    /// The seats of second class of all units; each type number is below `types.len()`.
+    /// The seats of second class of all units, whose types are among these.
     pub fn seats(&self, types: &UnitTypes) -> u32
         requires { IsTrue (are_types types.now self.now) }
         ensures { result ≡ seats_of types.now self.now }
@@ -177,7 +177,7 @@ impl Composition {
         Measure::Seats.total(types, self.units())
     }
 
-    /// The seats of first class of all units; each type number is below `types.len()`.
+    /// The seats of first class of all units, whose types are among these.
     pub fn first_seats(&self, types: &UnitTypes) -> u32
         requires { IsTrue (are_types types.now self.now) }
         ensures { result ≡ first_seats_of types.now self.now }
@@ -185,7 +185,7 @@ impl Composition {
         Measure::FirstSeats.total(types, self.units())
     }
 
-    /// The carriages of all units; each type number is below `types.len()`.
+    /// The carriages of all units, whose types are among these.
     pub fn carriages(&self, types: &UnitTypes) -> u32
         requires { IsTrue (are_types types.now self.now) }
         ensures { result ≡ carriages_of types.now self.now }
@@ -193,7 +193,7 @@ impl Composition {
         Measure::Carriages.total(types, self.units())
     }
 
-    /// Whether all units are of one family; each type number is below `types.len()`.
+    /// Whether all units are of one family, whose types are among these.
     pub fn one_family(&self, types: &UnitTypes) -> bool
         requires { IsTrue (are_types types.now self.now) }
         ensures { result ≡ is_one_family types.now self.now }

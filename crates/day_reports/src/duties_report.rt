@@ -17,10 +17,10 @@ use timetable::{Instance, NamedPlan};
 use unit_duties::{Stop, duties};
 
 /// The report of the duties of a plan, as a table of comma-separated values with the columns
-/// `unit,type,home,trip,from,departure,to,arrival,position`. Each unit by number has one row for each trip of its duty,
-/// by departure minute and then by trip number; a unit without a trip has one row whose last six fields are empty. The
-/// position is that of the unit in the train, counted from 0 at the front. The plan is one of this day, and need not
-/// run. The error is want of memory.
+/// `unit,type,home,trip,from,departure,to,arrival,position`. The rows of a unit are those of the trips of its duty, in
+/// the order in which they leave, and of one minute by trip number; where it has none, there is one row that tells its
+/// type and home alone. Units come by number. The position in the train is 0 at its front. The plan is one of this day,
+/// and need not run. The error is want of memory.
 #[tactic(auto, unfolding(crate::specs::DutyRows::duties_text))]
 pub fn duties_table(
     alloc: Global,

@@ -11,8 +11,8 @@ use Rattle.timetable.specs.LinkTables.{link_naming}
 use Rattle.timetable.specs.Lists.{count_of}
 use Rattle.timetable.specs.Running.{EachFollows}
 
--- A turn leads a chain from its arriving to its departing trip, a join from its first arriving trip to its departing
--- trip, and a split from its arriving trip to its first departing trip.
+-- The two trips that a link makes neighbours in a chain: the one that arrives and the one that departs, and of two that
+-- do so the first.
 abbrev pub leads_from : LinkKind → ℕ
 leads_from (Turn a b uncouple couple exchange) = a
 leads_from (Join a1 a2 b) = a1

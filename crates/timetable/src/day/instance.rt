@@ -286,9 +286,9 @@ impl Instance {
         as_number(self.link(link).kind.kept(arriving, departing))
     }
 
-    /// How many chains there are. A turn leads a chain from its arriving to its departing trip, a join from its first
-    /// arriving trip to its departing trip, a split from its arriving trip to its first departing trip; every trip
-    /// lies in one chain.
+    /// How many chains there are. Where a link goes on from one trip to another the two are neighbours in a chain; of
+    /// the two arriving trips of a join that is the first, and of the two departing trips of a split likewise. So each
+    /// trip is in exactly one chain, perhaps alone.
     pub fn chains(&self) -> u32
         ensures value { result ≡ length (chains_of self.now) }
         ensures few { result ≤ MOST_TRIPS }
@@ -297,9 +297,9 @@ impl Instance {
         self.chains.len() as u32
     }
 
-    /// The trips of the chain of this number, which is below `chains`, in the order in which they run. Chains are
-    /// numbered by their first trips in rising order. No link leads to the first trip or on from the last, and one
-    /// leads from each trip to the next.
+    /// The trips of the chain of this number, which is below `chains`, in the order in which they run. No link leads to
+    /// the first trip or on from the last, and one leads from each trip to the next. The numbers of chains rise with
+    /// those of their first trips.
     pub fn chain(&self, chain: u32) -> &[TripNo]
         requires { chain < length (chains_of self.now) }
         ensures value { slice_get (chains_of self.now) chain ≡ Some result.now }
@@ -309,8 +309,8 @@ impl Instance {
         self.chains[chain as usize].items()
     }
 
-    /// How many hand-overs there are: one for each join and each split. A join and a split name three of the two ends
-    /// that each trip has, and no end is named twice.
+    /// How many hand-overs there are: one for each join and each split. Each of them takes up three of the ends of
+    /// trips, of which a trip has two, and no end is taken up twice.
     pub fn handovers(&self) -> u32
         ensures value { result ≡ length (handovers_of self.now) }
         ensures few { result ≤ MOST_HANDOVERS }

@@ -38,9 +38,9 @@ impl Model for NamedPlan {
 impl NamedPlan {
     /// The plan that rows make of a day: row k, counted from 1, is for trip k - 1. There is no condition on the rows.
     ///
-    /// Refusals, the first wrong row first: `WrongTrip`, where the row names another trip or there is no such trip;
-    /// then `UnknownUnit`, where a unit number is not below the number of units; after the last row `MissingTrip`,
-    /// where trips are left. `NoMemory` may come at any of them.
+    /// The first wrong row is refused: as `WrongTrip` if its name isn't that of its trip, or all trips have their rows,
+    /// and else as `UnknownUnit` if it has a unit that the day lacks. A plan of right rows is refused as `MissingTrip`
+    /// if they are too few. `NoMemory` may come at any of them.
     #[tactic(auto, unfolding(crate::specs::Plans::plan_of))]
     pub fn build(
         alloc: Global,
