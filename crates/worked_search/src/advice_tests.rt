@@ -181,6 +181,37 @@ const ONCE: &[Call] = &[
     SILENT,
 ];
 
+/// What an advisor is shown on the day of two trips without a link: the root, its left side, where T1 has A alone, and
+/// its right side.
+const SIDES: &[Call] = &[
+    Call {
+        shown: "round 0; left 3 3; first 150, kept 150, last 150; at; picks 0 2; slacks 0:-1 1:2 2:-3 3:3; \
+            free from 2",
+        ..SILENT
+    },
+    Call {
+        shown: "round 0; left 1 3; first 150, kept 150, last 150; at; picks 0 2; slacks 0:-1 1:2 2:-3 3:3; \
+            free from 2",
+        ..SILENT
+    },
+    Call {
+        shown: "round 0; left 2 3; first 150, kept 150, last 150; at; picks 1 2; slacks 1:1 2:-2 3:2; free from 2",
+        ..SILENT
+    },
+];
+
+/// Proposes nothing at its first three calls, and then a multiplier under which (A, A) has 120 and (A, AA) has 160, on
+/// the day with two solutions of one cost.
+const LATE: &[Call] = &[
+    SILENT,
+    SILENT,
+    SILENT,
+    Call {
+        puts: &[(1, 70)],
+        ..SILENT
+    },
+];
+
 /// Proposes a multiplier that is a ray by itself.
 const LONG_RAY: &[Call] = &[Call {
     puts: &[(2, 1000)],
@@ -267,6 +298,29 @@ fn a_node_that_is_closed_inherits_nothing(rt: HostRuntime) -> Result<(), Fail> {
     };
     let wanted = "optimal 120 by 1 1; only 0 0; only 1 1; ray 1:1; cost 120; cost 120; asked 2";
     expect(&rt, rt.alloc(), level, ONCE, wanted)?;
+    Ok(())
+}
+
+#[test]
+fn the_left_side_is_shown_before_the_right_one(rt: HostRuntime) -> Result<(), Fail> {
+    let apart = Task {
+        sample: Sample::Apart,
+        ..granting(1, 1)
+    };
+    let wanted = "bounded 150; only 0 0; cost 150; cost 150; asked 3";
+    expect(&rt, rt.alloc(), apart, SIDES, wanted)?;
+    Ok(())
+}
+
+// (A, A) is found in the second round of the left side. (AA, AA), which the right side begins with, costs no less.
+#[test]
+fn the_right_side_waits_for_the_rounds_of_the_left_one(rt: HostRuntime) -> Result<(), Fail> {
+    let alike = Task {
+        sample: Sample::TwoAlike,
+        ..granting(1, 2)
+    };
+    let wanted = "optimal 120 by 0 0; only 0 0; cost 120 1:70; cost 120; asked 4";
+    expect(&rt, rt.alloc(), alike, LATE, wanted)?;
     Ok(())
 }
 
