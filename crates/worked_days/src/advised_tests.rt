@@ -17,11 +17,16 @@ use std::test::Fail;
 
 const WITHOUT_BRANCHINGS: &[&str] = &["railplan", "plan", "day", "--nodes", "0"];
 
+const IN_SEVEN_ROUNDS: &[&str] = &["railplan", "plan", "day", "--nodes", "0", "--rounds", "7"];
+
 const WITH_TWO_BRANCHINGS: &[&str] = &["railplan", "plan", "day", "--nodes", "2", "--rounds", "3"];
 
 /// What is written with two branchings where no advice is used.
 const UNADVISED: &str = "railplan answer 1\noptimal 190\nbranchings 2\nrun 0 0 1\nrun 1 1\ntree\n\
     only 0 1\nonly 1 1\nray 1 2:-1\ncost 190 0\nray 1 2:-1\nend\n";
+
+/// What is written without branchings where no advice is used.
+const FIRST_BOUND: &str = "railplan answer 1\nbounded 120\nbranchings 0\ntree\ncost 120 0\nend\n";
 
 /// What an advisor proposes, the same at each call.
 #[derive(Clone, Copy)]
@@ -254,6 +259,21 @@ const ROWS: &[Row] = &[
         advice: Advice::Multiplier(70),
         document: "railplan answer 1\noptimal 190\nbranchings 0\nrun 0 0 1\nrun 1 1\ntree\ncost 190 1 3:70\nend\n",
         asked: "asked 1",
+        ..SILENT
+    },
+    // The first bound stays open, so that all rounds are made: 20 where no number of them is given.
+    Row {
+        words: WITHOUT_BRANCHINGS,
+        status: 4,
+        document: FIRST_BOUND,
+        asked: "asked 20",
+        ..SILENT
+    },
+    Row {
+        words: IN_SEVEN_ROUNDS,
+        status: 4,
+        document: FIRST_BOUND,
+        asked: "asked 7",
         ..SILENT
     },
 ];
