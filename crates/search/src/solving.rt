@@ -50,8 +50,9 @@ struct Search {
 /// Else it is `Optimal` where a solution was found, and `Infeasible` where none was: then there is none in the root.
 ///
 /// The advisors stay in the list at their places, whatever the answer is. One that has quit, before or meanwhile, is
-/// not asked again. Each other one was asked at most `rounds` times about each node that was made, and, where there
-/// are rounds, once at least for each branching and each leaf that is open at the end.
+/// not asked again. Each was asked at most `rounds` times as often as nodes were made, or, after the error, as nodes
+/// may be made. Where there is no error and there are rounds, one that has not quit was asked at least as often as
+/// there are branchings and leaves that are open at the end.
 ///
 /// The error is want of memory alone, here or in an advisor. What the problem means is as before after any answer.
 pub fn solve<R: Relaxation>(
