@@ -25,3 +25,5 @@ pub mod Theorem
 pub mod Whole
 pub mod InTurn
 pub mod Simulating
+pub mod FirstTests
+pub mod StepTests

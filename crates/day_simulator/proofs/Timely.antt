@@ -29,7 +29,8 @@ pub record Timely (day : Day) (state : State) (es : List DayEvent) : Type 0 wher
   pub under_way : (t : ℕ) → departures t es ≡ 0 → 1 ≤ arrivals t es → stage_of state.stages t ≡ stage.UnderWay
   pub arrived : (t : ℕ) → arrivals t es ≡ 0 → stage_of state.stages t ≡ stage.Arrived
 
-all_arrived : (stages : List Stage) (ts : List ℕ) → ((a : ℕ) → 1 ≤ count_of a ts → stage_of stages a ≡ stage.Arrived) → list_all (λ a. has_arrived (stage_of stages a)) ts ≡ true
+-- where these trips have all arrived, the test of all passes
+pub all_arrived : (stages : List Stage) (ts : List ℕ) → ((a : ℕ) → 1 ≤ count_of a ts → stage_of stages a ≡ stage.Arrived) → list_all (λ a. has_arrived (stage_of stages a)) ts ≡ true
 all_arrived stages [] h = refl
 all_arrived stages (a ∷ ts) h =
     let o = one_same a a refl in

@@ -6,6 +6,7 @@ pub mod Fields
 pub mod Calls
 pub mod Orders
 pub mod Laws
+pub mod StepTests
 pub use Rattle.timetable.specs.Day
 pub use Rattle.timetable.specs.Links
 pub use Rattle.timetable.specs.Running

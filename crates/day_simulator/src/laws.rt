@@ -1,8 +1,10 @@
-//! The machine and the conditions on a plan say the same, in every order of the day's events.
+//! The machine and the conditions on a plan say the same, in every order of the day's events. Where something is wrong,
+//! the first fault is told.
 //!
 //! Each law is the contract of a function that does nothing: it holds of every day and every plan.
 
 ghost use Rattle.day_simulator.specs.Laws.{IsInFixedOrder, InEveryOrder, RunInFixedOrder, InTurn};
+ghost use Rattle.day_simulator.specs.StepTests.{StepsAreTested};
 
 /// The fixed order, in which a whole day is stepped, is an order of the day: each trip departs once and arrives once,
 /// minutes never fall, and in each minute arrivals come before departures. Arrivals of one minute come by rising trip
@@ -26,4 +28,12 @@ pub fn runs_exactly()
 /// In the fixed order no event is out of turn, and none is missing at the end: a plan stops for a cause of its own.
 pub fn is_always_in_turn()
     ensures law { InTurn }
+{}
+
+/// The fault of an event is that of the first test that fails, and there is none exactly where none fails. A departure
+/// is tested in this order: it comes now; the trip has units; their types are admissible; the rule of the join into it
+/// holds, where a join leads into it; each unit that it takes, from the front on, stands in the yard of its station, is
+/// ready, and is none of those before it. An arrival comes now, and the rule of the turn or split on from it holds.
+pub fn steps_are_tested()
+    ensures law { StepsAreTested }
 {}
