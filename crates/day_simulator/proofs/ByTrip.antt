@@ -39,7 +39,7 @@ module _ (day : Day) where
   later_events e (t ∷ ts) h = ((λ same. h.0), ((λ same. h.0), later_events e ts h.1))
 
   -- an arrival and a departure never come at one moment
-  never_together : (s t : ℕ) → moment_of day (Depart s) ≡ moment_of day (Arrive t) → t < s
+  pub never_together : (s t : ℕ) → moment_of day (Depart s) ≡ moment_of day (Arrive t) → t < s
   unfolding moment_of
   never_together s t same = absurd (omega (arith, same))
 

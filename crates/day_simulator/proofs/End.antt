@@ -45,7 +45,8 @@ types_none day state s (n ∷ ms) h =
     cond-true (eqb (yard_count day state s n) (wanted_of day s n)) (first_differing_type day state s ms) (Some (Balance s n (yard_count day state s n) (wanted_of day s n))) (eq-eqb _ _ (h n (omega arith)))
     ∙ types_none day state s ms (λ m c. h m (omega arith))
 
-or_else_none : (a b : Option StepFault) → or_else a b ≡ None → (a ≡ None) × (b ≡ None)
+-- there is no fault of two where each is none
+pub or_else_none : (a b : Option StepFault) → or_else a b ≡ None → (a ≡ None) × (b ≡ None)
 or_else_none None b e = (refl, e)
 or_else_none (Some f) b e = absurd (cc)
 

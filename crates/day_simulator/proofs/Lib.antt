@@ -27,3 +27,4 @@ pub mod InTurn
 pub mod Simulating
 pub mod FirstTests
 pub mod StepTests
+pub mod EndFaults

@@ -7,6 +7,7 @@ pub mod Calls
 pub mod Orders
 pub mod Laws
 pub mod StepTests
+pub mod EndFaults
 pub use Rattle.timetable.specs.Day
 pub use Rattle.timetable.specs.Links
 pub use Rattle.timetable.specs.Running

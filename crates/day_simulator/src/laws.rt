@@ -3,6 +3,7 @@
 //!
 //! Each law is the contract of a function that does nothing: it holds of every day and every plan.
 
+ghost use Rattle.day_simulator.specs.EndFaults.{EndsAreTold};
 ghost use Rattle.day_simulator.specs.Laws.{IsInFixedOrder, InEveryOrder, RunInFixedOrder, InTurn};
 ghost use Rattle.day_simulator.specs.StepTests.{StepsAreTested};
 
@@ -36,4 +37,11 @@ pub fn is_always_in_turn()
 /// ready, and is none of those before it. An arrival comes now, and the rule of the turn or split on from it holds.
 pub fn steps_are_tested()
     ensures law { StepsAreTested }
+{}
+
+/// What is told at the end of the day is the first event that was not made, by moment and then by trip number; or else
+/// the first station and type, in this order, of which the yard has another number of units than is wanted, with both
+/// numbers; or else what the plan costs.
+pub fn ends_are_told()
+    ensures law { EndsAreTold }
 {}
