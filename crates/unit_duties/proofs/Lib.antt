@@ -8,3 +8,4 @@ pub mod Found
 pub mod NextTrip
 pub mod ByEdges
 pub mod Refusing
+pub mod DutyOrder

@@ -5,3 +5,4 @@ pub mod Yards
 pub mod Fetching
 pub mod Broken
 pub mod Refusals
+pub mod DutyLaws

@@ -1,9 +1,17 @@
-//! What is so of picked compositions and of named units, whether a call meets it or not.
+//! What is so of duties, of picked compositions and of named units, whether a call meets it or not.
 //!
 //! Each law is the contract of a function that does nothing.
 
 ghost use Rattle.inventory.specs.NamingLaws.{NamedPlansRun};
 ghost use Rattle.inventory.specs.SolutionLaws.{FaultsDecide};
+ghost use Rattle.unit_duties.specs.DutyLaws.{DutiesAreInOrder};
+
+/// The duty of a unit is the trips of the day whose lists have the unit, each once, and of any two of them the first
+/// one leaves before the other, or at the same minute and has the smaller number. No other list of trips is so. The
+/// plan need not run.
+pub fn duties_are_in_order()
+    ensures law { DutiesAreInOrder }
+{}
 
 /// Picks are those of a plan that runs exactly where each composition may run on its trip, the rule of each link holds
 /// of their types, and the yards have no first fault.
