@@ -9,3 +9,4 @@ pub mod NextTrip
 pub mod ByEdges
 pub mod Refusing
 pub mod DutyOrder
+pub mod Taking

@@ -6,3 +6,4 @@ pub mod Fetching
 pub mod Broken
 pub mod Refusals
 pub mod DutyLaws
+pub mod TakingLaws

@@ -5,6 +5,7 @@
 ghost use Rattle.inventory.specs.NamingLaws.{NamedPlansRun};
 ghost use Rattle.inventory.specs.SolutionLaws.{FaultsDecide};
 ghost use Rattle.unit_duties.specs.DutyLaws.{DutiesAreInOrder};
+ghost use Rattle.unit_duties.specs.TakingLaws.{TripsTakeInTurn};
 
 /// The duty of a unit is the trips of the day whose lists have the unit, each once, and of any two of them the first
 /// one leaves before the other, or at the same minute and has the smaller number. No other list of trips is so. The
@@ -24,4 +25,12 @@ pub fn faults_decide()
 /// demand it, naming the others by the rule of `name_units` gives a plan that runs, and leaves those as they are.
 pub fn named_plans_run()
     ensures law { NamedPlansRun }
+{}
+
+/// In a plan that is named by the rule, trips take units from the yards as they leave, and of those that leave at one
+/// minute the one with the smaller number takes first. Each trip fills its places from front to rear. A place gets the
+/// unit of its type that was ready earliest, and of those the one with the smallest number, of the units that stand in
+/// the yard, are ready and were not taken for a place before it, where there is one.
+pub fn trips_take_in_turn()
+    ensures law { TripsTakeInTurn }
 {}
