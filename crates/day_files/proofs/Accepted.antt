@@ -18,7 +18,7 @@ use Rattle.day_files.specs.declared.errors.Refusal.{Refusal}
 use Rattle.day_files.specs.declared.inputs.Inputs.{Inputs}
 use Rattle.day_files.specs.Tables.{RowsOf, reading, bytes_of, bytes_in, as_table, read_by, table_in}
 use Rattle.day_files.specs.Inputs.{as_day, as_plan, tables_in, day_in, inputs_in}
-use Rattle.day_files.specs.Acceptance.{IsFileOf, AreFilesOf, AreAccepted}
+use Rattle.day_files.specs.Acceptance.{IsFileOf, AreFilesOf, AreAccepted, AreAcceptedAsDay}
 
 abbrev pub the_ok : {A : Type 0} → A → Result A Refusal
 the_ok x = Ok x
@@ -94,25 +94,38 @@ tables_of_files files dir tables f =
     let weights = file_is files dir table.Weights tables.weights f.weights in
     rw (types, stations, stock, trips, links, weights) refl
 
-pub accepted_if : (files : Files) (dir : List ℕ) (inputs : Inputs) → inputs_in files dir ≡ Ok inputs → AreAccepted files dir inputs
-unfolding inputs_in day_in
-accepted_if files dir inputs e =
-    step e (λ day made e1.
-    step made (λ tables tables_read e2.
-    step e1 (λ rows rows_read e3.
-    step e3 (λ plan plan_read e4.
-    subst (λ (i : Inputs). AreAccepted files dir i) (same (record { instance = day; plan = plan }) inputs e4) (record {
+pub day_accepted_if : (files : Files) (dir : List ℕ) (day : Day) → day_in files dir ≡ Ok day → AreAcceptedAsDay files dir day
+unfolding day_in
+day_accepted_if files dir day e =
+    step e (λ tables tables_read made. record {
       tables = tables;
       table_files = files_of files dir tables tables_read;
-      day = day_made (day_of tables) day e2;
+      made = day_made (day_of tables) day made;
+    })
+
+pub day_if_accepted : (files : Files) (dir : List ℕ) (day : Day) → AreAcceptedAsDay files dir day → day_in files dir ≡ Ok day
+unfolding day_in
+day_if_accepted files dir day a = rw (tables_of_files files dir a.tables a.table_files, a.made) refl
+
+pub accepted_if : (files : Files) (dir : List ℕ) (inputs : Inputs) → inputs_in files dir ≡ Ok inputs → AreAccepted files dir inputs
+unfolding inputs_in
+accepted_if files dir inputs e =
+    step e (λ day made e1.
+    let accepted = day_accepted_if files dir day made in
+    step e1 (λ rows rows_read e2.
+    step e2 (λ plan plan_read e3.
+    subst (λ (i : Inputs). AreAccepted files dir i) (same (record { instance = day; plan = plan }) inputs e3) (record {
+      tables = accepted.tables;
+      table_files = accepted.table_files;
+      day = accepted.made;
       rows = rows;
       plan_file = file_of files dir table.Plan rows rows_read;
       plan = plan_made (plan_of day rows) plan plan_read;
-    })))))
+    }))))
 
 pub if_accepted : (files : Files) (dir : List ℕ) (inputs : Inputs) → AreAccepted files dir inputs → inputs_in files dir ≡ Ok inputs
-unfolding inputs_in day_in
+unfolding inputs_in
 if_accepted files dir inputs a =
-    let tables = tables_of_files files dir a.tables a.table_files in
+    let day = day_if_accepted files dir inputs.instance (record { tables = a.tables; table_files = a.table_files; made = a.day }) in
     let rows = file_is files dir table.Plan a.rows a.plan_file in
-    rw (tables, a.day, rows, a.plan) refl
+    rw (day, rows, a.plan) refl

@@ -1,5 +1,6 @@
 -- A file that is refused is the first one that is wrong.
 use Rattle.std.proofs.Common.{◌≡◌, ℕ, Bool, true, false, cond, ltb, List, length, Result, Ok, Err, refl, ap, subst, ◌∙◌}
+use Rattle.std.specs.Prelude.{IsOk}
 use Rattle.std.proofs.lemmas.Bool.{ltb-false, ltb-true}
 use Rattle.rail_base.specs.Answers.{◌>>=◌}
 use Rattle.rail_base.specs.declared.limits.TheConstants.{MOST_TABLE_BYTES}
@@ -19,7 +20,7 @@ use Rattle.day_files.specs.declared.errors.Refusal.TheVariants.{TooLong, WrongTa
 use Rattle.day_files.specs.Tables.{RowsOf, reading, bytes_of, bytes_in, as_table, read_by, table_in}
 use Rattle.day_files.specs.Inputs.{as_day, as_plan, tables_in, day_in, inputs_in}
 use Rattle.day_files.specs.Order.{Reaches}
-use Rattle.day_files.specs.Acceptance.{IsFirstRefused}
+use Rattle.day_files.specs.Acceptance.{IsFirstRefused, IsOfPlan}
 use Rattle.day_files.proofs.Accepted.{file_of, files_of}
 use Rattle.day_files.proofs.Reached.{went, reached, plan_reached}
 
@@ -57,6 +58,13 @@ file_refused files dir table why reached e =
 
 -- ---- in order
 
+no_day : (files : Files) (dir : List ℕ) (why : Refusal) → day_in files dir ≡ Err why → ¬ IsOk (day_in files dir)
+no_day files dir why e is = by_day (day_in files dir) e is
+  where
+    by_day : (made : Result Day Refusal) → made ≡ Err why → ¬ IsOk made
+    by_day (Ok day) e is = absurd cc
+    by_day (Err d) e is = absurd cc
+
 tables_refused : (files : Files) (dir : List ℕ) (why : Refusal) → tables_in files dir ≡ Err why → IsFirstRefused files dir why
 unfolding tables_in
 tables_refused files dir why e =
@@ -73,19 +81,27 @@ tables_refused files dir why e =
     ends e5 (λ no. file_refused files dir table.Weights why (reached files dir table.Weights (r1, (r2, (r3, (r4, (r5, tt))))) (λ e. cc)) no) (λ weights weights_read e6.
     absurd cc))))))
 
-day_refused : (files : Files) (dir : List ℕ) (why : Refusal) → day_in files dir ≡ Err why → IsFirstRefused files dir why
+pub day_refused_if : (files : Files) (dir : List ℕ) (why : Refusal) → day_in files dir ≡ Err why → IsFirstRefused files dir why
 unfolding day_in
-day_refused files dir why e =
+day_refused_if files dir why e =
     ends e (tables_refused files dir why) (λ tables tables_read no. no_day tables tables_read (day_of tables) refl no)
   where
     no_day : (tables : Tables) → tables_in files dir ≡ Ok tables → (made : Result Day InstanceRefusal) → day_of tables ≡ made → as_day made ≡ Err why → IsFirstRefused files dir why
     no_day tables tables_read (Ok day) is e = absurd cc
     no_day tables tables_read (Err d) is e = subst (λ (w : Refusal). IsFirstRefused files dir w) (same_why (NoDay d) why e) (tables, files_of files dir tables tables_read, is)
 
+-- a refusal of a day is none of its plan, which is reached once there is a day
+pub day_refused_before_plan : (files : Files) (dir : List ℕ) (why : Refusal) → day_in files dir ≡ Err why → IsFirstRefused files dir why
+    → ¬ IsOfPlan why
+day_refused_before_plan files dir (TooLong t) e first of_plan = no_day files dir _ e (first.0.day of_plan)
+day_refused_before_plan files dir (WrongTable t why) e first of_plan = no_day files dir _ e (first.0.day of_plan)
+day_refused_before_plan files dir (NoDay why) e first of_plan = of_plan
+day_refused_before_plan files dir (NoPlan why) e first of_plan = no_day files dir _ e (went first.1)
+
 pub refused_if : (files : Files) (dir : List ℕ) (why : Refusal) → inputs_in files dir ≡ Err why → IsFirstRefused files dir why
 unfolding inputs_in
 refused_if files dir why e =
-    ends e (day_refused files dir why) (λ day made e1.
+    ends e (day_refused_if files dir why) (λ day made e1.
     ends e1 (λ no. file_refused files dir table.Plan why (plan_reached files dir day made) no) (λ rows rows_read e2.
     ends e2 (λ no. no_plan day made rows rows_read (plan_of day rows) refl no) (λ plan planned e3. absurd cc)))
   where

@@ -1,5 +1,5 @@
 -- What it means that the files of a folder are accepted, and that one of them is the first that is refused.
-use Rattle.std.specs.Prelude.{ℕ, ◌≡◌, ◌<◌, ◌≤◌, List, length, Ok, Err}
+use Rattle.std.specs.Prelude.{ℕ, ◌≡◌, ◌<◌, ◌≤◌, List, length, Ok, Err, ⊤}
 use Rattle.rail_base.specs.declared.limits.TheConstants.{MOST_TABLE_BYTES}
 use Rattle.rail_io.specs.Folders.{Files}
 use Rattle.rail_csv.specs.declared.rows.PlanRow.{PlanRow}
@@ -30,6 +30,12 @@ pub record AreFilesOf (files : Files) (dir : List ℕ) (tables : Tables) : Type 
   pub links : IsFileOf files dir table.Links tables.links
   pub weights : IsFileOf files dir table.Weights tables.weights
 
+-- The six files are accepted as a day: they are tables that make it.
+pub record AreAcceptedAsDay (files : Files) (dir : List ℕ) (day : Day) : Type 0 where
+  pub tables : Tables
+  pub table_files : AreFilesOf files dir tables
+  pub made : day_of tables ≡ Ok day
+
 -- The files are accepted as a day and a plan of it: the six tables make the day, and the rows of the seventh make the
 -- plan.
 pub record AreAccepted (files : Files) (dir : List ℕ) (inputs : Inputs) : Type 0 where
@@ -52,3 +58,10 @@ IsFirstRefused files dir (NoDay why) = (tables : Tables) × AreFilesOf files dir
 IsFirstRefused files dir (NoPlan why) =
     (day : Day) × (day_in files dir ≡ Ok day) × (rows : List PlanRow) × IsFileOf files dir table.Plan rows
     × (plan_of day rows ≡ Err why)
+
+-- a refusal of the plan: of its file, or of its rows
+abbrev pub IsOfPlan : Refusal → Type 0
+IsOfPlan (TooLong read) = read ≡ table.Plan
+IsOfPlan (WrongTable read why) = read ≡ table.Plan
+IsOfPlan (NoDay why) = ⊥
+IsOfPlan (NoPlan why) = ⊤

@@ -3,9 +3,20 @@
 ghost use Rattle.std.specs.Prelude.{◌≡◌, ◌↔◌, ℕ, List, Ok, Err};
 ghost use Rattle.rail_io.specs.Folders.{Files};
 ghost use Rattle.day_files.specs.declared.errors.Refusal.{Refusal};
+ghost use Rattle.timetable.specs.Day.{Day};
 ghost use Rattle.day_files.specs.declared.inputs.Inputs.{Inputs};
-ghost use Rattle.day_files.specs.Inputs.{inputs_in};
-ghost use Rattle.day_files.specs.Acceptance.{AreAccepted, IsFirstRefused};
+ghost use Rattle.day_files.specs.Inputs.{day_in, inputs_in};
+ghost use Rattle.day_files.specs.Acceptance.{AreAccepted, AreAcceptedAsDay, IsFirstRefused, IsOfPlan};
+
+/// For every folder: its six files are accepted as a day exactly where each of them is a table of its rows, and the
+/// tables make the day. A refusal comes exactly where its file is the first that is wrong, and wrong in this way, and
+/// it isn't that of the plan.
+pub fn what_is_accepted_as_day()
+    ensures accepted { (files : Files) (dir : List ℕ) (day : Day)
+        → (day_in files dir ≡ Ok day) ↔ AreAcceptedAsDay files dir day }
+    ensures refused { (files : Files) (dir : List ℕ) (why : Refusal)
+        → (day_in files dir ≡ Err why) ↔ (IsFirstRefused files dir why × ¬ IsOfPlan why) }
+{}
 
 /// For every folder: its files are accepted as a day and a plan exactly where each of the seven is a table of its rows,
 /// the six tables make the day and the rows of the plan make the plan. A refusal comes exactly where its file is the
