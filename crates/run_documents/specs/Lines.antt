@@ -1,6 +1,7 @@
 -- The lines that a run writes, and the texts of faults in them.
 use Rattle.std.specs.Prelude.{ℕ, List, [], ◌∷◌, ◌++◌, codes}
-use Rattle.std.specs.Fmt.{decimal}
+use Rattle.std.specs.Fmt.{decimal, signed_decimal}
+use Rattle.rail_base.specs.declared.numbers.Money.{Money}
 use Rattle.rail_csv.specs.declared.rows.Table.{Table}
 use Rattle.day_files.specs.declared.errors.Refusal.{Refusal}
 use Rattle.day_files.specs.Names.{file_name}
@@ -39,8 +40,8 @@ abbrev pub line_end : List ℕ
 line_end = 10 ∷ []
 
 -- the plan runs, at this cost
-abbrev pub runs_line : ℕ → List ℕ
-runs_line cost = codes "runs " ++ (decimal cost ++ line_end)
+abbrev pub runs_line : Money → List ℕ
+runs_line cost = codes "runs " ++ (signed_decimal cost.0 ++ line_end)
 
 -- the plan stops with this fault
 abbrev pub stops_line : StepFault → List ℕ

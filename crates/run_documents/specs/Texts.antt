@@ -1,5 +1,5 @@
 -- The document of an outcome.
-use Rattle.std.specs.Prelude.{ℕ, pos, List, ◌≡◌}
+use Rattle.std.specs.Prelude.{ℕ, List, ◌≡◌}
 use Rattle.day_files.specs.declared.errors.ReadError.TheVariants.{CannotRead, Refused, NoMemory}
 use Rattle.answer_text.specs.Texts.{text_of}
 use Rattle.answer_text.specs.declared.refusal.AnswerRefusal.TheVariants as answer_refusal
@@ -13,11 +13,11 @@ use Rattle.run_documents.specs.Lines.{file_unread_line, no_plan_line}
 use Rattle.run_documents.specs.Lines.{refused_line, runs_line, stops_line, too_long_text, usage_text}
 use Rattle.run_documents.specs.TrialTexts.{trial_text}
 
--- the document of an outcome; there is none for want of memory, and a cost is never negative
+-- the document of an outcome; there is none for want of memory
 abbrev pub IsDocument : Outcome → List ℕ → Type 0
 IsDocument (Planned answer) text = text ≡ text_of answer
 IsDocument (Tried seed trips answer) text = text ≡ trial_text seed trips answer
-IsDocument (Runs money) text = (cost : ℕ) → money.0 ≡ pos cost → text ≡ runs_line cost
+IsDocument (Runs cost) text = text ≡ runs_line cost
 IsDocument (Stops fault) text = text ≡ stops_line fault
 IsDocument (Checked head verdict) text = text ≡ check_line head verdict
 IsDocument (Reported report) text = text ≡ report

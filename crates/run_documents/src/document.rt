@@ -1,6 +1,6 @@
 //! The document of an outcome: an answer, a report, or one line with the text of a refusal or a fault.
 
-ghost use Rattle.std.specs.Prelude.{◌≡◌, ◌++◌, ℕ, pos, IfOk, string_bytes};
+ghost use Rattle.std.specs.Prelude.{◌≡◌, ◌++◌, IfOk, string_bytes};
 ghost use Rattle.answer_text.specs.Texts.{head_line};
 ghost use Rattle.run_documents.specs.Lines.{answer_file, answer_refusal_text, balance_text, cannot_read_line};
 ghost use Rattle.run_documents.specs.Lines.{fault_text, file_refused_line, line_end, not_ready_text, refused_line};
@@ -131,10 +131,9 @@ fn answer_refusal_text(alloc: Global, refusal: AnswerRefusal) -> Result<String, 
 
 /// The line of a plan that runs at this cost.
 fn runs_line(alloc: Global, cost: Money) -> Result<String, NoMemory>
-    ensures { IfOk result (λ line. (amount : ℕ) → cost.0 ≡ pos amount → string_bytes line ≡ runs_line amount) }
+    ensures { IfOk result (λ line. string_bytes line ≡ runs_line cost) }
 {
-    let amount = cost.0;
-    Ok(format!(in alloc; "runs {amount}\n")?)
+    Ok(format!(in alloc; "runs {}\n", cost.0)?)
 }
 
 /// The line of a plan that stops with this fault.
