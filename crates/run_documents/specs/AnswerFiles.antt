@@ -9,9 +9,13 @@ use Rattle.answer_text.specs.Grammar.{IsRefused, IsText, is_memory}
 use Rattle.run_documents.specs.declared.answer_file.AnswerError.{AnswerError}
 use Rattle.run_documents.specs.declared.answer_file.AnswerError.TheVariants.{CannotRead, TooLong, Refused}
 
+-- the name of the answer's file, without the folder
+abbrev pub answer_file : List ℕ
+answer_file = codes "answer.txt"
+
 -- the path of the answer in a folder
 abbrev pub answer_path : List ℕ → List ℕ
-answer_path dir = dir ++ codes "/answer.txt"
+answer_path dir = dir ++ (codes "/" ++ answer_file)
 
 -- the bytes of the answer's file
 abbrev pub answer_bytes : Files → List ℕ → List ℕ

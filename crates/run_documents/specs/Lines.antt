@@ -80,10 +80,6 @@ file_unread_line file = codes "cannot read " ++ (file ++ line_end)
 abbrev pub cannot_read_line : Table → List ℕ
 cannot_read_line table = file_unread_line (file_name table)
 
--- the file of an answer
-abbrev pub answer_file : List ℕ
-answer_file = codes "answer.txt"
-
 -- why bytes are no answer; want of memory has no text
 abbrev pub answer_refusal_text : AnswerRefusal → List ℕ
 answer_refusal_text (BadLine line) = codes "line " ++ decimal line

@@ -7,8 +7,9 @@ use Rattle.run_documents.specs.declared.answer_file.AnswerError.TheVariants as a
 use Rattle.run_documents.specs.declared.outcome.Outcome.{Outcome}
 use Rattle.run_documents.specs.declared.outcome.Outcome.TheVariants.{Planned, Tried, Runs, Stops, Checked, Reported}
 use Rattle.run_documents.specs.declared.outcome.Outcome.TheVariants.{NoPlan, Usage, NoInputs, NoAnswer}
+use Rattle.run_documents.specs.AnswerFiles.{answer_file}
 use Rattle.run_documents.specs.CheckTexts.{check_line}
-use Rattle.run_documents.specs.Lines.{answer_file, answer_refusal_text, cannot_read_line, file_refused_line}
+use Rattle.run_documents.specs.Lines.{answer_refusal_text, cannot_read_line, file_refused_line}
 use Rattle.run_documents.specs.Lines.{file_unread_line, no_plan_line}
 use Rattle.run_documents.specs.Lines.{refused_line, runs_line, stops_line, too_long_text, usage_text}
 use Rattle.run_documents.specs.TrialTexts.{trial_text}

@@ -13,6 +13,9 @@ use rail_io::{FileRefusal, Folder, read_file};
 use std::alloc::Global;
 use thiserror::Error;
 
+/// The name of the answer's file, without the folder.
+pub(crate) const ANSWER_FILE: &str = "answer.txt";
+
 /// Why the answer of a folder was not read.
 #[derive(Clone, Copy, Debug, PartialEq, Eq, Error)]
 pub enum AnswerError {
@@ -27,11 +30,12 @@ pub enum AnswerError {
     Refused(AnswerRefusal),
 }
 
-/// The path of the answer of a folder.
+/// The path of the answer of a folder: the folder, a slash and the name.
 fn path_of(alloc: Global, dir: &str) -> Result<String, NoMemory>
     ensures { IfOk result (λ path. string_bytes path ≡ answer_path dir.now) }
 {
-    Ok(format!(in alloc; "{dir}/answer.txt")?)
+    let name = ANSWER_FILE;
+    Ok(format!(in alloc; "{dir}/{name}")?)
 }
 
 /// The answer that the file `answer.txt` of a folder is.

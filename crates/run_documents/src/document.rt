@@ -2,13 +2,14 @@
 
 ghost use Rattle.std.specs.Prelude.{◌≡◌, ◌++◌, IfOk, string_bytes};
 ghost use Rattle.answer_text.specs.Texts.{head_line};
-ghost use Rattle.run_documents.specs.Lines.{answer_file, answer_refusal_text, balance_text, cannot_read_line};
-ghost use Rattle.run_documents.specs.Lines.{fault_text, file_refused_line, line_end, not_ready_text, refused_line};
-ghost use Rattle.run_documents.specs.Lines.{runs_line, stops_line, usage_text};
+ghost use Rattle.run_documents.specs.AnswerFiles.{answer_file};
+ghost use Rattle.run_documents.specs.Lines.{answer_refusal_text, balance_text, cannot_read_line, fault_text};
+ghost use Rattle.run_documents.specs.Lines.{file_refused_line, file_unread_line, line_end, not_ready_text};
+ghost use Rattle.run_documents.specs.Lines.{refused_line, runs_line, stops_line, usage_text};
 ghost use Rattle.run_documents.specs.Texts.{IsDocument};
 ghost use Rattle.run_documents.specs.TrialTexts.{summary_by, trial_text};
 
-use crate::answer_file::AnswerError;
+use crate::answer_file::{ANSWER_FILE, AnswerError};
 use crate::check_lines::check_line;
 use crate::outcome::Outcome;
 use answer_text::{Answer, AnswerRefusal, Head, print, write_head};
@@ -101,8 +102,8 @@ fn no_answer_line(alloc: Global, error: &AnswerError) -> Result<String, NoMemory
     ensures { IfOk result (λ text. IsDocument (Outcome.NoAnswer error.now) (string_bytes text)) }
 {
     match *error {
-        AnswerError::CannotRead => Ok(String::from_str(alloc, "cannot read answer.txt\n")?),
-        AnswerError::TooLong => Ok(String::from_str(alloc, "refused answer.txt: too long\n")?),
+        AnswerError::CannotRead => file_unread_line(alloc, ANSWER_FILE),
+        AnswerError::TooLong => file_refused_line(alloc, ANSWER_FILE, "too long"),
         AnswerError::Refused(AnswerRefusal::NoMemory) => Err(NoMemory),
         AnswerError::Refused(refusal) => refused_answer_line(alloc, refusal),
     }
@@ -113,7 +114,7 @@ fn refused_answer_line(alloc: Global, refusal: AnswerRefusal) -> Result<String, 
     ensures { IfOk result (λ line. string_bytes line ≡ file_refused_line answer_file (answer_refusal_text refusal)) }
 {
     let why = answer_refusal_text(alloc, refusal)?;
-    Ok(format!(in alloc; "refused answer.txt: {why}\n")?)
+    file_refused_line(alloc, ANSWER_FILE, why.as_str())
 }
 
 /// Why bytes are no answer. Want of memory has no text.
@@ -144,20 +145,32 @@ fn stops_line(alloc: Global, fault: &StepFault) -> Result<String, NoMemory>
     Ok(format!(in alloc; "stops: {text}\n")?)
 }
 
-/// The line of a refused file.
+/// The line of a table's file that is refused.
 fn refused_line(alloc: Global, refusal: &Refusal) -> Result<String, NoMemory>
     ensures { IfOk result (λ line. string_bytes line ≡ refused_line refusal.now) }
 {
-    let file = file_name(refusal.table());
-    let text = refusal.text(alloc)?;
-    Ok(format!(in alloc; "refused {file}: {text}\n")?)
+    let why = refusal.text(alloc)?;
+    file_refused_line(alloc, file_name(refusal.table()), why.as_str())
 }
 
-/// The line of a file that could not be read.
+/// The line of a file of this name that is refused for this.
+fn file_refused_line(alloc: Global, file: &str, why: &str) -> Result<String, NoMemory>
+    ensures { IfOk result (λ line. string_bytes line ≡ file_refused_line file.now why.now) }
+{
+    Ok(format!(in alloc; "refused {file}: {why}\n")?)
+}
+
+/// The line of a table's file that could not be read.
 fn cannot_read_line(alloc: Global, table: Table) -> Result<String, NoMemory>
     ensures { IfOk result (λ line. string_bytes line ≡ cannot_read_line table) }
 {
-    let file = file_name(table);
+    file_unread_line(alloc, file_name(table))
+}
+
+/// The line of a file of this name that could not be read.
+fn file_unread_line(alloc: Global, file: &str) -> Result<String, NoMemory>
+    ensures { IfOk result (λ line. string_bytes line ≡ file_unread_line file.now) }
+{
     Ok(format!(in alloc; "cannot read {file}\n")?)
 }
 
