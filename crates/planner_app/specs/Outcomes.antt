@@ -250,7 +250,8 @@ IsSound words Usage = ⊤
 IsSound words (NoInputs error) = ⊤
 IsSound words (NoAnswer error) = ⊤
 
--- An error is one of the tables that the command reads, and what it is caused by is seen in the counts of the folder.
+-- An error is one of the files that the command reads. What it is caused by is seen in the counts of the folder, and of
+-- a refusal there are bytes, tables or rows that are refused for it.
 abbrev pub HasCause : {F : Type 0} → (F → List ℕ → Bool) → (F → ℕ) → (F → ℕ) → List (List ℕ) → F → F → Outcome → Type 0
 HasCause may_fail faults taken words before after (NoInputs NoMemory) = ⊤
 HasCause may_fail faults taken words before after (NoInputs error) =

@@ -45,12 +45,13 @@ abbrev pub ReadsAnswer : Files → List ℕ → Result Answer AnswerError → Ty
 ReadsAnswer files dir (Ok answer) = IsAnswerOf (answer_bytes files dir) answer
 ReadsAnswer files dir (Err error) = IsWrongAnswer files dir error
 
--- What an error says of the folder before and after: the file could not be read only where the count of faults rose and
--- a read of it may fail, and was too long only where more bytes were taken than an answer may have, or the count of
--- them was at 2^63.
+-- What an error says whatever the folder tells: the file could not be read only where the count of faults rose and a
+-- read of it may fail; it was too long only where more bytes were taken than an answer may have, or the count of them
+-- was at 2^63; and for any other refusal but want of memory there are bytes that are refused for it.
 abbrev pub IsAnswerCaused : {F : Type 0} → (F → List ℕ → Bool) → (F → ℕ) → (F → ℕ) → List ℕ → F → F → AnswerError
     → Type 0
 IsAnswerCaused may_fail faults taken dir before after CannotRead =
     Rose (faults before) (faults after) × IsTrue (may_fail before (answer_path dir))
 IsAnswerCaused may_fail faults taken dir before after TooLong = RosePast MOST_FILE_BYTES (taken before) (taken after)
-IsAnswerCaused may_fail faults taken dir before after (Refused refusal) = ⊤
+IsAnswerCaused may_fail faults taken dir before after (Refused refusal) =
+    Unless (is_memory refusal) ((bytes : List ℕ) × AreRefusedFor bytes refusal)
