@@ -1,5 +1,5 @@
-//! The program's one call: it reads a day, plans it, and says whether a plan of it runs, or whether an answer to it is
-//! valid.
+//! The program's one call: it reads a day, plans it, says whether a plan of it runs or an answer to it is valid, and
+//! reports on the plan of an answer; or it makes a trial day and plans it.
 #![tactic(auto)]
 
 pub mod laws;
