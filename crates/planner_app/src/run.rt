@@ -6,7 +6,7 @@ ghost use Rattle.rail_io.specs.Folders.{OnlyReads};
 ghost use Rattle.search.specs.Asking.{AreAsked};
 ghost use Rattle.trial_day.specs.Trial.{IsTrialSize};
 ghost use Rattle.planner_app.specs.Advice.{AreAskedFor};
-ghost use Rattle.planner_app.specs.Outcomes.{AskToCheck, AskToPlan, AskToSimulate, Grants, IsOutcome};
+ghost use Rattle.planner_app.specs.Outcomes.{AskAbout, AskToCheck, AskToPlan, AskToSimulate, Grants, IsOutcome};
 ghost use Rattle.planner_app.specs.Reporting.{IsTrialOutcome};
 
 use crate::reports::{Report, reported};
@@ -38,6 +38,7 @@ pub(crate) fn outcome_of<F: Folder>(
         → AreAskedFor rounds result advisors.old.items advisors.new.items asked has_quit }
     ensures unasked { ((nodes rounds : ℕ) → ¬ Grants words.now nodes rounds)
         → advisors.new.items ≡ advisors.old.items }
+    ensures untouched { ((dir : List ℕ) → ¬ AskAbout words.now dir) → folder.new ≡ folder.old }
 {
     match read_words(alloc, words) {
         Ok(Command::Plan { dir, nodes, rounds }) => {

@@ -6,8 +6,8 @@ ghost use Rattle.search.specs.Asking.{AreAsked};
 ghost use Rattle.run_documents.specs.declared.outcome.Outcome.{Outcome};
 ghost use Rattle.planner_app.specs.declared.reports.Report.{Report};
 ghost use Rattle.planner_app.specs.Advice.{AreAskedFor};
-ghost use Rattle.planner_app.specs.Outcomes.{AskInVain, AskToCheck, AskToPlan, AskToReport, AskToSimulate, AskToTry};
-ghost use Rattle.planner_app.specs.Outcomes.{Grants, IsOutcome};
+ghost use Rattle.planner_app.specs.Outcomes.{AskAbout, AskInVain, AskToCheck, AskToPlan, AskToReport, AskToSimulate};
+ghost use Rattle.planner_app.specs.Outcomes.{AskToTry, Grants, IsOutcome};
 ghost use Rattle.planner_app.specs.Statuses.{EndsCheck, EndsPlanning, EndsReport, EndsSimulation, EndsTrial};
 ghost use Rattle.planner_app.specs.Statuses.{IsStatus, IsUndisturbed, Wrote, status_of, status_said};
 
@@ -106,7 +106,8 @@ fn write_outcome<K: Sink>(alloc: Global, outcome: &Outcome, out: &mut K) -> u8
 /// Each advisor was asked at most 2^63 times before. The advisors stay in the list at their places, whatever the status
 /// is. One that has quit is not asked; each is asked at most K times at the root and at both sides of each branching;
 /// and one that has not quit at the end was asked once at least, where K is not 0, for each branching of the answer and
-/// for each of its open leaves. Other commands leave the list as it is.
+/// for each of its open leaves. Other commands leave the list as it is. Words that ask for no command on a folder leave
+/// the folder as it is, those of `trial` among them.
 #[tactic(auto, using(crate::proofs::Statuses::unread_rose))]
 pub fn railplan<F: Folder, K: Sink>(
     alloc: Global,
@@ -152,8 +153,9 @@ pub fn railplan<F: Folder, K: Sink>(
     ensures unasked { ((nodes rounds : ℕ) → ¬ Grants words.now nodes rounds)
         → advisors.new.items ≡ advisors.old.items }
 
-    // What stays: the folder is only read, and no count falls.
+    // What stays: the folder is only read, and left alone where the words ask for no command on one; no count falls.
     ensures only_reads { OnlyReads F.holds F.may_fail F.faults F.taken folder.old folder.new }
+    ensures untouched { ((dir : List ℕ) → ¬ AskAbout words.now dir) → folder.new ≡ folder.old }
     ensures lasting { K.faults out.old ≤ K.faults out.new }
 {
     let outcome = outcome_of(alloc, words, folder, advisors);

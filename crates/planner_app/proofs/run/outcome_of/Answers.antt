@@ -176,3 +176,51 @@ pub returns-in-Ok-Costs-clause-asked_for : goal.returns-in-Ok-Costs-clause-asked
 returns-in-Ok-Costs-clause-asked_for g c nodes rounds grants =
     absurd (grants_nothing c.args.words.now (command.Costs c.in-Ok-Costs.dir) nodes rounds refl
     (c.in-Ok-Costs.ensures.meaning.understood (command.Costs c.in-Ok-Costs.dir) (search rules)) grants)
+
+pub returns-in-Ok-Plan-clause-untouched : goal.returns-in-Ok-Plan-clause-untouched
+returns-in-Ok-Plan-clause-untouched g c never =
+    absurd (never c.in-Ok-Plan.dir (record {
+      named = command.Plan c.in-Ok-Plan.dir c.in-Ok-Plan.nodes c.in-Ok-Plan.rounds;
+      asked = c.in-Ok-Plan.ensures.meaning.understood (command.Plan c.in-Ok-Plan.dir c.in-Ok-Plan.nodes c.in-Ok-Plan.rounds) (search rules);
+      folder = refl;
+    }))
+
+pub returns-in-Ok-Simulate-clause-untouched : goal.returns-in-Ok-Simulate-clause-untouched
+returns-in-Ok-Simulate-clause-untouched g c never =
+    absurd (never c.in-Ok-Simulate.dir (record {
+      named = command.Simulate c.in-Ok-Simulate.dir;
+      asked = c.in-Ok-Simulate.ensures.meaning.understood (command.Simulate c.in-Ok-Simulate.dir) (search rules);
+      folder = refl;
+    }))
+
+pub returns-in-Ok-Check-clause-untouched : goal.returns-in-Ok-Check-clause-untouched
+returns-in-Ok-Check-clause-untouched g c never =
+    absurd (never c.in-Ok-Check.dir (record {
+      named = command.Check c.in-Ok-Check.dir;
+      asked = c.in-Ok-Check.ensures.meaning.understood (command.Check c.in-Ok-Check.dir) (search rules);
+      folder = refl;
+    }))
+
+pub returns-in-Ok-Duties-clause-untouched : goal.returns-in-Ok-Duties-clause-untouched
+returns-in-Ok-Duties-clause-untouched g c never =
+    absurd (never c.in-Ok-Duties.dir (record {
+      named = command.Duties c.in-Ok-Duties.dir;
+      asked = c.in-Ok-Duties.ensures.meaning.understood (command.Duties c.in-Ok-Duties.dir) (search rules);
+      folder = refl;
+    }))
+
+pub returns-in-Ok-Yards-clause-untouched : goal.returns-in-Ok-Yards-clause-untouched
+returns-in-Ok-Yards-clause-untouched g c never =
+    absurd (never c.in-Ok-Yards.dir (record {
+      named = command.Yards c.in-Ok-Yards.dir;
+      asked = c.in-Ok-Yards.ensures.meaning.understood (command.Yards c.in-Ok-Yards.dir) (search rules);
+      folder = refl;
+    }))
+
+pub returns-in-Ok-Costs-clause-untouched : goal.returns-in-Ok-Costs-clause-untouched
+returns-in-Ok-Costs-clause-untouched g c never =
+    absurd (never c.in-Ok-Costs.dir (record {
+      named = command.Costs c.in-Ok-Costs.dir;
+      asked = c.in-Ok-Costs.ensures.meaning.understood (command.Costs c.in-Ok-Costs.dir) (search rules);
+      folder = refl;
+    }))
