@@ -1,8 +1,8 @@
 -- Amounts in a table that is added to: in the rows and the column that it is added to they are more by it, and else
 -- they stay.
 use Rattle.std.proofs.Common.{◌≡◌, ◌≢◌, ℕ, zero, suc, ◌+◌, ◌*◌, ◌^◌, ◌-◌, ◌<◌, ◌≤◌, List, [], ◌∷◌, length, set, get_or}
-use Rattle.std.proofs.Common.{replicate, map, Bool, true, false, ◌&&◌, refl, sym, ap, ◌∙◌, subst, arith, ℤ, pos, negsuc}
-use Rattle.std.proofs.Common.{◌+ℤ◌, neg_ℤ, inl, inr, length-set, unsigned_abs}
+use Rattle.std.proofs.Common.{replicate, map, Bool, ◌&&◌, refl, sym, ap, ◌∙◌, subst, arith, ℤ, pos, negsuc}
+use Rattle.std.proofs.Common.{◌+ℤ◌, inl, inr, length-set, unsigned_abs}
 use Rattle.std.specs.Prelude.{◌==◌, if◌then◌else◌, min}
 use Rattle.std.specs.Int.{saturate_to_bits}
 use Rattle.std.proofs.lemmas.Bool.{cases_eq, eq-eqb, ne_eqb}
@@ -20,9 +20,6 @@ use Rattle.price_bound.specs.PriceTables.{HasSize, amount_at, cleared_table}
 
 pub small_sum : (a b : ℕ) (x y : ℤ) → IsSmall a x → IsSmall b y → IsSmall (a + b) (x +ℤ y)
 small_sum a b x y p q = record { above = omega (arith, ints, p.above, q.above); below = omega (arith, ints, p.below, q.below) }
-
-pub small_neg : (a : ℕ) (x : ℤ) → IsSmall a x → IsSmall a (neg_ℤ x)
-small_neg a x p = record { above = omega (arith, ints, p.below); below = omega (arith, ints, p.above) }
 
 pub small_zero : (a : ℕ) → IsSmall a (pos 0)
 small_zero a = record { above = omega (arith, ints); below = omega (arith, ints) }

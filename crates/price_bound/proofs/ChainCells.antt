@@ -1,7 +1,7 @@
 -- The rows of a chain while they are made, from its last trip to its first, and the walk along them.
 use Rattle.std.proofs.Common.{◌≡◌, ◌≢◌, ℕ, zero, suc, ◌+◌, ◌++◌, ◌*◌, ◌<◌, ◌≤◌, List, [], ◌∷◌, length, get_or, set}
 use Rattle.std.proofs.Common.{replicate, map, take}
-use Rattle.std.proofs.Common.{drop, Option, Some, None, refl, sym, ap, ◌∙◌, subst, arith, ℤ, pos, inl, inr, slice_get}
+use Rattle.std.proofs.Common.{drop, Option, Some, None, refl, sym, ap, ◌∙◌, subst, arith, pos, inl, inr, slice_get}
 use Rattle.std.proofs.Common.{length-set, Bool, true, false, cond, Contains}
 use Rattle.std.specs.Prelude.{fold, int_lt, IfSome}
 use Rattle.std.proofs.Math.Seq.{drop-cons}
@@ -11,7 +11,7 @@ use Rattle.std.proofs.lemmas.List.{get_or_default, set-append_left, get_or-set_s
 use Rattle.std.proofs.lemmas.List.{get_or_past}
 use Rattle.std.proofs.lemmas.List.{length-replicate, length-take-le, take_all}
 use Rattle.transitions.specs.declared.edge.Edge.{Edge}
-use Rattle.transitions.specs.Edges.{AreEdges, AreGraphs, IsEdge, IsKindEdge}
+use Rattle.transitions.specs.Edges.{AreGraphs, IsEdge, IsKindEdge}
 use Rattle.timetable.specs.declared.day.records.LinkKind.{LinkKind}
 use Rattle.timetable.specs.declared.day.records.LinkKind.TheVariants.{Turn, Join, Split}
 use Rattle.timetable.specs.Compositions.{compositions_of}
@@ -27,13 +27,6 @@ use Rattle.price_bound.proofs.Adding.{small_more, small_zero}
 use Rattle.price_bound.proofs.Rows.{length-row}
 
 -- ---- room
-
-pub room_made : (rows comps : ℕ) → HaveRoom rows comps (replicate rows (replicate comps None))
-room_made rows comps = record {
-  height = length-replicate rows (replicate comps None);
-  widths = λ row below.
-      ap length (get_or-replicate rows row (replicate comps None) [] below) ∙ length-replicate comps None;
-}
 
 pub room_kept : (rows comps place : ℕ) (row : List (Option Cell)) (table : List (List (Option Cell))) → length row ≡ comps
     → HaveRoom rows comps table → HaveRoom rows comps (set table place row)
@@ -356,9 +349,6 @@ one_step chain rows place comp picks below enough =
     ∙ ap (λ (rs : List (List (Option Cell))). put_along (get_or chain place 0 ∷ drop (suc place) chain) (walked rs comp) picks) left
     ∙ ap (λ (r : List (Option Cell)). put_along (drop (suc place) chain) (walked (drop (suc place) these) (next_of (get_or r comp None)))
     (set picks (get_or chain place 0) comp)) row
-
-pub next_past : (row : List (Option Cell)) (comp : ℕ) → length row ≤ comp → 0 ≡ next_of (get_or row comp None)
-next_past row comp past = sym (ap next_of (get_or_past row comp None past))
 
 -- ---- edges
 

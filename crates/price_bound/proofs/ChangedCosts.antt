@@ -1,19 +1,15 @@
 -- What changes add, change by change, is what they add trip by trip.
-use Rattle.std.proofs.Common.{◌≡◌, ◌≢◌, ℕ, zero, suc, ◌+◌, ◌<◌, ◌≤◌, List, [], ◌∷◌, length, refl, sym, ap, ◌∙◌, subst}
-use Rattle.std.proofs.Common.{arith, inl, inr}
+use Rattle.std.proofs.Common.{◌≡◌, ◌≢◌, ℕ, suc, ◌+◌, ◌<◌, List, [], ◌∷◌, length, refl, sym, ap, ◌∙◌}
+use Rattle.std.proofs.Common.{arith}
 use Rattle.std.proofs.Common.{Bool, true, false, cond, eqb, get_or, take, ◌++◌}
-use Rattle.std.specs.Prelude.{◌==◌, if◌then◌else◌}
 use Rattle.std.specs.List.{All, AllPairs}
-use Rattle.std.proofs.lemmas.Bool.{cases_eq, eq-eqb, ne_eqb}
-use Rattle.std.proofs.lemmas.List.Elements.{All-head, All-nil, All-tail}
+use Rattle.std.proofs.lemmas.Bool.{eq-eqb, ne_eqb}
+use Rattle.std.proofs.lemmas.List.Elements.{All-head, All-tail}
 use Rattle.std.proofs.lemmas.List.{take_more}
-use Rattle.rail_base.specs.declared.limits.TheConstants.{MOST_CHANGE}
-use Rattle.timetable.specs.Compositions.{compositions_of}
-use Rattle.timetable.specs.Day.{Day}
 use Rattle.timetable.specs.Lists.{sum_below}
-use Rattle.timetable.proofs.Sums.{sum_add, sum_one_more, sum_same, sum_zero}
+use Rattle.timetable.proofs.Sums.{sum_one_more, sum_zero}
 use Rattle.price_bound.specs.declared.changes.Change.{Change}
-use Rattle.price_bound.specs.ChangedDays.{AreChanges, added_cost, own_cost}
+use Rattle.price_bound.specs.ChangedDays.{added_cost, own_cost}
 use Rattle.price_bound.specs.Changes.{change_cost}
 use Rattle.price_bound.specs.Following.{pick_of}
 
@@ -70,14 +66,6 @@ added_by_trips (change ∷ changes) picks n rising below =
     let more = one_change change changes picks rising n (All-head (λ (c : Change). c.trip < n) change changes below) in
     let others = added_by_trips changes picks n (rest_rising change changes rising) (All-tail (λ (c : Change). c.trip < n) change changes below) in
     omega (arith, more, others)
-
-pub no_changes : (day : Day) → AreChanges day []
-no_changes day = record {
-  rising = λ i j d lt below. absurd (omega (arith, below));
-  trips = All-nil (λ change. change.trip < length day.trips);
-  bases = All-nil (λ change. change.base < length (compositions_of day));
-  costs = All-nil (λ change. change.cost ≤ MOST_CHANGE);
-}
 
 -- so many changes
 added_push : (changes : List Change) (picks : List ℕ) (change : Change)

@@ -13,10 +13,6 @@ mod FewTaken
 mod SlackIndices
 mod PairEntered
 mod CountedOf
-mod Looking
-mod Places
-mod Choosing
-mod Parting
 mod Pricing
 pub mod Planned
 mod IntLaws

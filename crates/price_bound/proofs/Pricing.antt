@@ -1,18 +1,14 @@
--- Sums of priced slacks, and how large they are.
+-- Sums and products of integers, and how large they are.
 use Rattle.std.proofs.Common.{◌≡◌, ℕ, ◌+◌, ◌*◌, ◌<◌, ◌≤◌, List, [], ◌∷◌, ◌++◌, length, take, get_or, ℤ, pos, negsuc}
-use Rattle.std.proofs.Common.{neg_ℤ, ◌+ℤ◌, ◌-ℤ◌, ◌*ℤ◌, ◌≤ℤ◌, sym, ◌∙◌, ap, subst, arith}
+use Rattle.std.proofs.Common.{neg_ℤ, ◌+ℤ◌, ◌*ℤ◌, ◌≤ℤ◌, sym, ◌∙◌, ap, subst, arith}
 use Rattle.std.specs.Int.{w128}
-use Rattle.std.specs.Prelude.{unsigned_abs, option_map, unwrap_or}
-use Rattle.std.proofs.Common.{Option, Some, slice_get, ◌^◌, to_z, of_z, w64, FitsSigned}
+use Rattle.std.specs.Prelude.{unsigned_abs}
+use Rattle.std.proofs.Common.{◌^◌, to_z, of_z, w64, FitsSigned}
 use Rattle.std.proofs.lemmas.Int.{ints, unsigned_abs-mul, to_z-of_z, fits_signed_from_abs, fits_signed_mul}
 use Rattle.std.proofs.lemmas.List.{take_more}
 use Rattle.std.proofs.Math.Nat.{mul-le-mul}
 use Rattle.rail_base.specs.declared.limits.TheConstants.{MOST_MULTIPLIER}
-use Rattle.timetable.specs.declared.day.indices.Place.{Place}
-use Rattle.timetable.specs.Day.{Day}
-use Rattle.timetable.specs.Indices.{places_of}
 use Rattle.branch_tree.specs.IntSums.{int_sum}
-use Rattle.price_bound.specs.Slacks.{slack_at, slack_of}
 
 -- ---- sizes
 
@@ -33,11 +29,6 @@ size_of_sum a b m n few_a few_b =
     let least_a = above_least a in let most_a = below_most a in let least_b = above_least b in let most_b = below_most b in
     size_within (a +ℤ b) (m + n) (omega (arith, ints, few_a, few_b, least_a, least_b)) (omega (arith, ints, few_a, few_b, most_a, most_b))
 
-pub size_of_difference : (a b : ℤ) (m n : ℕ) → unsigned_abs a ≤ m → unsigned_abs b ≤ n → unsigned_abs (a -ℤ b) ≤ m + n
-size_of_difference a b m n few_a few_b =
-    let least_a = above_least a in let most_a = below_most a in let least_b = above_least b in let most_b = below_most b in
-    size_within (a -ℤ b) (m + n) (omega (arith, ints, few_a, few_b, least_a, most_b)) (omega (arith, ints, few_a, few_b, most_a, least_b))
-
 pub size_of_product : (a b : ℤ) (m n : ℕ) → unsigned_abs a ≤ m → unsigned_abs b ≤ n → unsigned_abs (a *ℤ b) ≤ m * n
 size_of_product a b m n few_a few_b = subst (λ (k : ℕ). k ≤ m * n) (sym (unsigned_abs-mul a b)) (mul-le-mul few_a few_b)
 
@@ -50,14 +41,7 @@ int_sum_push f (x ∷ xs) y = let rest = int_sum_push f xs y in omega (arith, in
 pub int_sum_more : {X : Type 0} (f : X → ℤ) (xs : List X) (i : ℕ) (d : X) → i < length xs → int_sum f (take (i + 1) xs) ≡ int_sum f (take i xs) +ℤ f (get_or xs i d)
 int_sum_more f xs i d below = ap (int_sum f) (take_more xs i d below) ∙ int_sum_push f (take i xs) (get_or xs i d)
 
--- ---- slacks
-
--- the slack at the index of a place
-pub slack_by_place : (day : Day) (picks : List ℕ) (index : ℕ) (place : Place) → slice_get (places_of day) index ≡ Some place → slack_of day picks index ≡ slack_at day picks place
-unfolding slack_of
-slack_by_place day picks index place at = ap (λ (o : Option Place). unwrap_or (option_map (slack_at day picks) o) (pos 0)) at
-
--- ---- products and sums of i128
+-- ---- products of i128
 
 module _ (value slack : ℤ) (small : unsigned_abs value ≤ MOST_MULTIPLIER) (few : unsigned_abs slack ≤ 2 ^ 64) where
   pub product_fits : FitsSigned w128 (value *ℤ slack)
@@ -73,13 +57,3 @@ module _ (value slack : ℤ) (small : unsigned_abs value ≤ MOST_MULTIPLIER) (f
 
   pub product_is : (read : ℤ) → read ≡ to_z w64 (of_z w64 value) → to_z w128 (of_z w128 (to_z w128 (of_z w128 read) *ℤ to_z w128 (of_z w128 slack))) ≡ value *ℤ slack
   product_is read is = ap (λ (z : ℤ). to_z w128 (of_z w128 z)) (factors_are read is) ∙ to_z-of_z w128 (value *ℤ slack) product_fits
-
--- one product more
-module _ (sum product : ℤ) (i : ℕ) (below : i < 1000) (sum_size : unsigned_abs sum ≤ i * (MOST_MULTIPLIER * 2 ^ 64)) (product_size : unsigned_abs product ≤ MOST_MULTIPLIER * 2 ^ 64) where
-  pub more_size : unsigned_abs (sum +ℤ product) ≤ (i + 1) * (MOST_MULTIPLIER * 2 ^ 64)
-  more_size = let both = size_of_sum sum product (i * (MOST_MULTIPLIER * 2 ^ 64)) (MOST_MULTIPLIER * 2 ^ 64) sum_size product_size in omega (arith, both)
-
-  pub more_is : to_z w128 (of_z w128 (sum +ℤ to_z w128 (of_z w128 product))) ≡ sum +ℤ product
-  more_is =
-      let product_is : to_z w128 (of_z w128 product) ≡ product = to_z-of_z w128 product (fits_signed_from_abs w128 product (omega (arith, product_size))) in
-      ap (λ (z : ℤ). to_z w128 (of_z w128 (sum +ℤ z))) product_is ∙ to_z-of_z w128 (sum +ℤ product) (fits_signed_from_abs w128 (sum +ℤ product) (omega (arith, more_size, below)))

@@ -32,17 +32,11 @@ joined_next f n = let e : n + 1 ≡ suc n = omega arith in ap (λ (k : ℕ). len
 module _ (day : Day) where
   -- ---- the numbers of the places
 
-  pub yard_first : (s : ℕ) → yard_index day s 0 ≡ station_index day s
-  yard_first s = omega arith
-
   pub yard_next : (s m : ℕ) → yard_index day s (m + 1) ≡ yard_index day s m + length (minutes_of day s)
   yard_next s m =
       let next = joined_next (lambdas_at day s) m in
       let all = length-listed (λ k. Lambda s m k) (length (minutes_of day s)) in
       omega arith
-
-  pub station_next : (s : ℕ) → station_index day (s + 1) ≡ yard_index day s (length day.types)
-  station_next s = joined_next (λ s. joined (lambdas_at day s) (length day.types)) s
 
   pub stations_last : station_index day (length day.stations) ≡ length (lambdas_of day)
   unfolding lambdas_of
@@ -53,9 +47,6 @@ module _ (day : Day) where
       let next = joined_next (λ s. listed (λ m. Mu s m) (length day.types)) s in
       let all = length-listed (λ m. Mu s m) (length day.types) in
       omega arith
-
-  pub ends_first : end_index day 0 ≡ length (lambdas_of day)
-  ends_first = omega arith
 
   pub ends_last : end_index day (length day.stations) ≡ length (lambdas_of day) + length (mus_of day)
   unfolding mus_of

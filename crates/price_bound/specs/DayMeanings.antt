@@ -50,11 +50,8 @@ pub record IsAccepted (day : Day) : Type 0 where
 abbrev pub DaysAreRelaxations : Type 0
 DaysAreRelaxations = (day : Day) → IsAccepted day → IsRelaxation (meanings_of day)
 
--- what is kept while a day is worked on: its edges, a ledger of its yards, its trips by chain, and room for a pick of
--- each trip
-pub record IsWorkedOn (day : Day) (graphs : List (List Edge)) (ledger : Loaded) (order choice : List ℕ) : Type 0 where
+-- what is kept while a day is worked on: its edges, and a ledger of its yards
+pub record IsWorkedOn (day : Day) (graphs : List (List Edge)) (ledger : Loaded) : Type 0 where
   pub accepted : IsAccepted day
   pub graphs_are : AreGraphs day graphs
   pub counted : ledger.day ≡ day
-  pub ordered : order ≡ trips_by_chain day
-  pub room : length choice ≡ length day.trips

@@ -6,8 +6,6 @@ pub mod Slacks
 pub mod Parts
 -- the relaxation
 pub mod DayMeanings
--- choices of compositions, one after another
-pub mod Choices
 -- what settling names
 pub mod Settling
 -- where picks are broken first

@@ -1,5 +1,5 @@
 -- The room in which the bounds of a day are found.
-use Rattle.std.specs.Prelude.{ℕ, ◌≡◌, List, length}
+use Rattle.std.specs.Prelude.{◌≡◌, List, length}
 use Rattle.inventory.specs.Loaded.{Loaded}
 use Rattle.transitions.specs.declared.edge.Edge.{Edge}
 use Rattle.price_bound.specs.declared.changes.Change.{Change}
@@ -22,8 +22,7 @@ pub record IsRoomFor (day : Day) (changes : List Change) (room : Workspace) : Ty
 
 -- what is kept while a day is worked on under changes
 pub record IsReady (day : Day) (graphs : List (List Edge)) (changes : List Change) (ledger : Loaded)
-    (order choice : List ℕ)
     (room : Workspace) : Type 0 where
-  pub work : IsWorkedOn day graphs ledger order choice
+  pub work : IsWorkedOn day graphs ledger
   pub changes_are : AreChanges day changes
   pub room_is : IsRoomFor day changes room

@@ -1,12 +1,12 @@
 //! Tables of amounts by row and column.
 
-ghost use Rattle.std.specs.Prelude.{ℕ, ◌≡◌, ◌<◌, ◌^◌, [], map, length, get_or, set, replicate, pos, IfOk};
+ghost use Rattle.std.specs.Prelude.{◌≡◌, ◌<◌, [], map, length, get_or, set, replicate, pos, IfOk};
 ghost use Rattle.inventory.specs.CountTable.{changed_at, changed_in};
 ghost use Rattle.price_bound.specs.Credits.{put_in};
-ghost use Rattle.price_bound.specs.PriceTables.{amount_at, cleared_table};
+ghost use Rattle.price_bound.specs.PriceTables.{cleared_table};
 ghost use Rattle.price_bound.specs.YardTables.{column_of, later_sums};
 
-use rail_base::{Money, NoMemory};
+use rail_base::NoMemory;
 use std::alloc::Global;
 use std::marker::Model;
 
@@ -180,14 +180,5 @@ impl AmountTable {
         ensures { result.now ≡ get_or self.now row [] }
     {
         &self.rows[row]
-    }
-
-    /// The amount of a row and a column, which are there.
-    pub(crate) fn get(&self, row: usize, column: usize) -> Money
-        requires row { row < length self.now }
-        requires column { column < length (get_or self.now row []) }
-        ensures { result.0 ≡ amount_at self.now row column }
-    {
-        Money(i128::from(self.rows[row].amounts[column]))
     }
 }

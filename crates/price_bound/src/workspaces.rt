@@ -18,14 +18,13 @@ use crate::amounts::AmountTable;
 use crate::cells::Cell;
 use crate::chain_rows::ChainRows;
 use crate::changes::Change;
-use crate::choices::copy_picks;
 use crate::costs::fill_costs;
 use crate::credits::fill_sums;
 use crate::price_tables::PriceTables;
 use crate::priced::Pricing;
 use crate::worths::added;
 use branch_tree::{BoundAnswer, Entry, Multipliers, Region, Weight};
-use rail_base::{Money, NoMemory};
+use rail_base::{Money, NoMemory, TripNo};
 use std::alloc::Global;
 use timetable::{Instance, Picks, Place};
 use transitions::Graphs;
@@ -153,6 +152,16 @@ fn with_begin(value: Money, begin: Cell) -> Money
     ensures { result.0 ≡ value.0 +ℤ begin.value }
 {
     Money(value.0 + begin.value)
+}
+
+/// Copies picks over others of as many trips.
+fn copy_picks(to: &mut Picks, from: &Picks)
+    requires { length to.old ≡ length from.now }
+    ensures { to.new ≡ from.now }
+{
+    for trip in 0..from.len() {
+        to.set(TripNo(trip), from.get(TripNo(trip)));
+    }
 }
 
 /// What multipliers add whatever the picks.

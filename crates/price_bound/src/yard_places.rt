@@ -84,4 +84,3 @@ fn given_at(instance: &Instance, trip: TripNo) -> YardPlace
         place: place_of(instance.minutes(run.to), ready),
     }
 }
-
