@@ -1,12 +1,14 @@
 -- A day under changes is a relaxation of its solutions, as the day is: what it costs has no part in it.
-use Rattle.std.proofs.Common.{ℕ, List, ℤ}
+use Rattle.std.proofs.Common.{◌≡◌, ℕ, ◌+◌, List, ℤ, pos, arith, refl, ap}
 use Rattle.timetable.specs.declared.day.indices.Place.{Place}
+use Rattle.timetable.specs.Cost.{cost_of}
+use Rattle.timetable.specs.Picking.{picked}
 use Rattle.branch_tree.specs.declared.relaxation.Settled.{Settled}
 use Rattle.branch_tree.specs.declared.relaxation.Settled.TheVariants.{Costs, Broken}
-use Rattle.branch_tree.specs.Bounds.{AreSlacks, IsSettled}
+use Rattle.branch_tree.specs.Bounds.{IsSettled}
 use Rattle.branch_tree.specs.Meanings.{IsBroken, IsMet, IsRelaxation}
 use Rattle.branch_tree.specs.declared.multipliers.Entry.{Entry}
-use Rattle.price_bound.specs.ChangedDays.{ChangedDay, changed_meanings}
+use Rattle.price_bound.specs.ChangedDays.{ChangedDay, ChangedDaysAreRelaxations, UnchangedDaysAreDays, changed_day, changed_meanings}
 use Rattle.price_bound.specs.DayMeanings.{IsAccepted, meanings_of}
 use Rattle.price_bound.specs.Settling.{Names}
 use Rattle.price_bound.proofs.Whole.{relaxes}
@@ -37,6 +39,27 @@ changed_relaxes changed accepted =
       order = plain.order;
     }
 
+pub changed_days_are_relaxations : ChangedDaysAreRelaxations
+changed_days_are_relaxations day changes accepted = changed_relaxes (changed_day day changes) accepted
+
+nothing_added : (n : ℕ) → n + 0 ≡ n
+nothing_added n = omega arith
+
+pub unchanged_days_are_days : UnchangedDaysAreDays
+unchanged_days_are_days day = record {
+  trips = refl;
+  indices = refl;
+  free_from = refl;
+  catalogue = refl;
+  order = refl;
+  cost = λ picks. ap (λ (n : ℕ). pos n) (nothing_added (cost_of day (picked day picks)));
+  slack = λ picks index. refl;
+  follow = λ picks. (λ follow. follow, λ follow. follow);
+  near = λ picks region. (λ near. near, λ near. near);
+  solution = λ picks. (λ solves. solves, λ solves. solves);
+  broken = λ picks. refl;
+}
+
 -- picks that are settled as broken on the day are so under changes
 pub changed_named : (changed : ChangedDay) (picks : List ℕ) (place : Place) (value : ℤ) (result : Settled)
     → Names changed.day place value result → IsSettled (meanings_of changed.day) picks result
@@ -44,7 +67,3 @@ pub changed_named : (changed : ChangedDay) (picks : List ℕ) (place : Place) (v
 changed_named changed picks place value (Costs cost) names settled = absurd names
 changed_named changed picks place value (Broken index sign) names (unsolved, broken, at, is) =
     (unsolved, broken_alike changed picks _ broken, at, is)
-
-pub changed_slacks : (changed : ChangedDay) (picks : List ℕ) (entries : List Entry) → AreSlacks (meanings_of changed.day) picks entries
-    → AreSlacks (changed_meanings changed) picks entries
-changed_slacks changed picks entries are = record { listed = are.listed; below = are.below; beyond = are.beyond }

@@ -18,7 +18,7 @@ use Rattle.cost_model.specs.declared.costs.TheConstants.{MOST_DAY_COST}
 use Rattle.price_bound.proofs.FewTaken.{few_listed}
 
 -- a sum of numbers that are at most one
-summed : (f : ℕ → ℕ) (most n : ℕ) → ((k : ℕ) → k < n → f k ≤ most) → sum_below f n ≤ n * most
+pub summed : (f : ℕ → ℕ) (most n : ℕ) → ((k : ℕ) → k < n → f k ≤ most) → sum_below f n ≤ n * most
 summed f most zero few = let none = zero-mul most in omega arith
 summed f most (suc n) few =
     let rest = summed f most n (λ k below. few k (omega (arith, below))) in

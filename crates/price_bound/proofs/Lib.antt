@@ -44,6 +44,7 @@ mod ChainCells
 mod Finding
 mod ChangedCosts
 mod ChangedRelaxation
+mod ChangedPlans
 mod Alone
 mod Closing
 mod BrokenPlaces

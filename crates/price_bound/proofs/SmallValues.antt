@@ -1,11 +1,11 @@
 -- The slacks and the priced values of picks that follow are small.
 use Rattle.std.proofs.Common.{◌≤◌, ◌+◌, ◌*◌, ℕ, List, [], ◌∷◌, length, get_or, Bool, true, false, Option, Some, None}
-use Rattle.std.proofs.Common.{slice_get, unwrap_or, sym, subst, arith, ℤ, pos, neg_ℤ, ◌-ℤ◌, ◌*ℤ◌}
-use Rattle.std.specs.Prelude.{All, option_map, unsigned_abs, ◌==◌, ◌&&◌, if◌then◌else◌}
+use Rattle.std.proofs.Common.{slice_get, unwrap_or, arith, ℤ, pos, neg_ℤ, ◌-ℤ◌, ◌*ℤ◌}
+use Rattle.std.specs.Prelude.{All, option_map, unsigned_abs, ◌==◌, if◌then◌else◌}
 use Rattle.std.proofs.Math.Nat.{suc-mul}
 use Rattle.std.proofs.lemmas.Int.{ints}
 use Rattle.std.proofs.lemmas.List.Elements.{All-head, All-tail}
-use Rattle.rail_base.specs.declared.limits.TheConstants.{MOST_MULTIPLIER}
+use Rattle.rail_base.specs.declared.limits.TheConstants.{MOST_CHANGE, MOST_MULTIPLIER, MOST_TRIPS}
 use Rattle.timetable.specs.declared.day.indices.Place.{Place}
 use Rattle.timetable.specs.declared.day.indices.Place.TheVariants.{Lambda, Mu, Sigma}
 use Rattle.timetable.specs.declared.day.records.Handover.{Handover}
@@ -13,6 +13,7 @@ use Rattle.timetable.specs.Cost.{cost_of}
 use Rattle.timetable.specs.Day.{Day, wanted_of}
 use Rattle.timetable.specs.Handovers.{handovers_of}
 use Rattle.timetable.specs.Indices.{places_of}
+use Rattle.timetable.specs.Lists.{sum_below}
 use Rattle.timetable.specs.Minutes.{minutes_of}
 use Rattle.timetable.specs.Picking.{ArePicks, picked}
 use Rattle.timetable.specs.Starts.{start_of}
@@ -23,12 +24,16 @@ use Rattle.branch_tree.specs.declared.relaxation.Weight.TheVariants.{Cost, NoCos
 use Rattle.branch_tree.specs.IntSums.{int_sum}
 use Rattle.branch_tree.specs.Meanings.{slack_sum, weighted}
 use Rattle.cost_model.specs.declared.costs.TheConstants.{MOST_DAY_COST}
+use Rattle.price_bound.specs.declared.changes.Change.{Change}
 use Rattle.price_bound.specs.declared.sizes.TheConstants.{MOST_SLACK}
+use Rattle.price_bound.specs.ChangedDays.{AreChanges, added_cost, changed_day, changed_meanings}
+use Rattle.price_bound.specs.Changes.{change_cost}
 use Rattle.price_bound.specs.DayMeanings.{IsAccepted, meanings_of}
 use Rattle.price_bound.specs.Following.{Follow, pick_of}
-use Rattle.price_bound.specs.Sizes.{SlacksAreSmall, ValuesAreSmall}
+use Rattle.price_bound.specs.Sizes.{ChangedSlacksAreSmall, ChangedValuesAreSmall, SlacksAreSmall, ValuesAreSmall}
 use Rattle.price_bound.specs.Slacks.{handover_slack, is_part, one_if, slack_at, slack_of}
-use Rattle.price_bound.proofs.FewCosts.{day_costs}
+use Rattle.price_bound.proofs.ChangedCosts.{added_by_trips}
+use Rattle.price_bound.proofs.FewCosts.{day_costs, summed}
 use Rattle.price_bound.proofs.FewGiven.{few_all_given, few_at_start, few_ready}
 use Rattle.price_bound.proofs.FewTaken.{few_all_taken, few_taken}
 use Rattle.price_bound.proofs.Pricing.{size_of_product, size_of_sum, size_within}
@@ -105,5 +110,49 @@ values_are_small day picks multipliers weight accepted follow are =
     let sum = small_sum day picks accepted follow multipliers are.within in
     let both = size_of_sum (weighted weight (pos (cost_of day (picked day picks)))) (slack_sum (meanings_of day) multipliers picks)
     MOST_DAY_COST (length multipliers * (MOST_MULTIPLIER * MOST_SLACK)) cost sum in
+    let few = are.few in
+    omega arith
+
+-- ---- under changes
+
+pub changed_slacks_are_small : ChangedSlacksAreSmall
+changed_slacks_are_small day changes picks index accepted follow = small day picks accepted follow index
+
+-- what a trip's change costs
+one_change : (here base : Bool) (cost rest most : ℕ) → cost ≤ most → rest ≤ most → (if here then (if base then 0 else cost) else rest) ≤ most
+one_change true true cost rest most few more = omega arith
+one_change true false cost rest most few more = few
+one_change false base cost rest most few more = more
+
+few_changes : (changes : List Change) (t comp : ℕ) → All (λ change. change.cost ≤ MOST_CHANGE) changes → change_cost changes t comp ≤ MOST_CHANGE
+few_changes [] t comp few = omega arith
+few_changes (change ∷ changes) t comp few =
+    one_change (change.trip == t) (change.base == comp) change.cost (change_cost changes t comp) MOST_CHANGE
+    (All-head (λ (c : Change). c.cost ≤ MOST_CHANGE) change changes few)
+    (few_changes changes t comp (All-tail (λ (c : Change). c.cost ≤ MOST_CHANGE) change changes few))
+
+module _ (day : Day) (changes : List Change) (picks : List ℕ) (accepted : IsAccepted day) (are : AreChanges day changes) (follow : Follow day picks) where
+  -- what changes add
+  small_added : added_cost changes picks ≤ MOST_TRIPS * MOST_CHANGE
+  small_added =
+      let sum : sum_below (λ t. change_cost changes t (pick_of picks t)) (length day.trips) ≤ length day.trips * MOST_CHANGE =
+      summed (λ t. change_cost changes t (pick_of picks t)) MOST_CHANGE (length day.trips) (λ t below. few_changes changes t (pick_of picks t) are.costs) in
+      let same = added_by_trips changes picks (length day.trips) are.rising are.trips in
+      let few = accepted.sound.trip_count in
+      omega (arith, sum, same, few)
+
+  small_changed_cost : (weight : Weight) → unsigned_abs (weighted weight (pos (cost_of day (picked day picks) + added_cost changes picks))) ≤ MOST_DAY_COST + MOST_TRIPS * MOST_CHANGE
+  small_changed_cost Cost =
+      let cost = day_costs day accepted.sound picks (are_picks day picks follow) in
+      omega (arith, cost, small_added)
+  small_changed_cost NoCost = omega arith
+
+pub changed_values_are_small : ChangedValuesAreSmall
+changed_values_are_small day changes picks multipliers weight accepted changes_are follow are =
+    let cost = small_changed_cost day changes picks accepted changes_are follow weight in
+    let sum = small_sum day picks accepted follow multipliers are.within in
+    let both = size_of_sum (weighted weight (pos (cost_of day (picked day picks) + added_cost changes picks)))
+    (slack_sum (changed_meanings (changed_day day changes)) multipliers picks)
+    (MOST_DAY_COST + MOST_TRIPS * MOST_CHANGE) (length multipliers * (MOST_MULTIPLIER * MOST_SLACK)) cost sum in
     let few = are.few in
     omega arith

@@ -1,5 +1,5 @@
 -- Days under changes: what changes add to the cost of picks, and what the relaxation of such a day means.
-use Rattle.std.specs.Prelude.{ℕ, ◌+◌, ◌<◌, ◌≤◌, List, [], ◌∷◌, length, ◌==◌, if◌then◌else◌, pos}
+use Rattle.std.specs.Prelude.{ℕ, ◌≡◌, ◌+◌, ◌<◌, ◌≤◌, ◌↔◌, List, [], ◌∷◌, length, Bool, ◌==◌, if◌then◌else◌, pos}
 use Rattle.std.specs.List.{All, AllPairs}
 use Rattle.rail_base.specs.declared.limits.TheConstants.{MOST_CHANGE}
 use Rattle.timetable.specs.Compositions.{compositions_of}
@@ -8,7 +8,7 @@ use Rattle.timetable.specs.Day.{Day}
 use Rattle.timetable.specs.Picking.{picked}
 use Rattle.branch_tree.specs.Meanings.{IsRelaxation, Meanings}
 use Rattle.price_bound.specs.declared.changes.Change.{Change}
-use Rattle.price_bound.specs.DayMeanings.{meanings_of}
+use Rattle.price_bound.specs.DayMeanings.{IsAccepted, meanings_of}
 use Rattle.price_bound.specs.Following.{pick_of}
 
 -- a day, and what it costs to give some of its trips other picks than bases
@@ -43,3 +43,27 @@ unchanged day = record { day = day; changes = [] }
 
 abbrev pub changed_day : Day → List Change → ChangedDay
 changed_day day changes = record { day = day; changes = changes }
+
+-- Every accepted day is, under any changes, a relaxation of its solutions.
+abbrev pub ChangedDaysAreRelaxations : Type 0
+ChangedDaysAreRelaxations = (day : Day) (changes : List Change) → IsAccepted day →
+    IsRelaxation (changed_meanings (changed_day day changes))
+
+-- two problems mean the same: picks cost the same and have the same slacks, and the same picks follow, are near a
+-- region, and are a solution
+pub record MeanTheSame (problem other : Meanings) : Type 0 where
+  pub trips : problem.trips ≡ other.trips
+  pub indices : problem.indices ≡ other.indices
+  pub free_from : problem.free_from ≡ other.free_from
+  pub catalogue : problem.catalogue ≡ other.catalogue
+  pub order : problem.order ≡ other.order
+  pub cost : (picks : List ℕ) → problem.cost picks ≡ other.cost picks
+  pub slack : (picks : List ℕ) (index : ℕ) → problem.slack picks index ≡ other.slack picks index
+  pub follow : (picks : List ℕ) → problem.Follow picks ↔ other.Follow picks
+  pub near : (picks : List ℕ) (region : List (List Bool)) → problem.AreNear picks region ↔ other.AreNear picks region
+  pub solution : (picks : List ℕ) → problem.IsSolution picks ↔ other.IsSolution picks
+  pub broken : (picks : List ℕ) → problem.broken picks ≡ other.broken picks
+
+-- A day that nothing is changed on means what the day does.
+abbrev pub UnchangedDaysAreDays : Type 0
+UnchangedDaysAreDays = (day : Day) → MeanTheSame (changed_meanings (unchanged day)) (meanings_of day)

@@ -5,7 +5,9 @@ use Rattle.branch_tree.specs.declared.multipliers.Entry.{Entry}
 use Rattle.branch_tree.specs.declared.relaxation.Weight.{Weight}
 use Rattle.branch_tree.specs.Entries.{AreMultipliers}
 use Rattle.branch_tree.specs.Meanings.{priced}
+use Rattle.price_bound.specs.declared.changes.Change.{Change}
 use Rattle.price_bound.specs.declared.sizes.TheConstants.{MOST_SLACK, MOST_VALUE}
+use Rattle.price_bound.specs.ChangedDays.{AreChanges, changed_day, changed_meanings}
 use Rattle.price_bound.specs.DayMeanings.{IsAccepted, meanings_of}
 use Rattle.price_bound.specs.Following.{Follow}
 use Rattle.price_bound.specs.Slacks.{slack_of}
@@ -20,3 +22,16 @@ abbrev pub ValuesAreSmall : Type 0
 ValuesAreSmall = (day : Day) (picks : List ℕ) (multipliers : List Entry) (weight : Weight) → IsAccepted day →
     Follow day picks → AreMultipliers multipliers →
     unsigned_abs (priced (meanings_of day) multipliers weight picks) < MOST_VALUE
+
+-- ---- under changes
+
+-- The slacks are as small under changes.
+abbrev pub ChangedSlacksAreSmall : Type 0
+ChangedSlacksAreSmall = (day : Day) (changes : List Change) (picks : List ℕ) (index : ℕ) → IsAccepted day →
+    Follow day picks → unsigned_abs ((changed_meanings (changed_day day changes)).slack picks index) ≤ MOST_SLACK
+
+-- So are the priced values, where the trips of the changes rise and the cost of each is within the limit.
+abbrev pub ChangedValuesAreSmall : Type 0
+ChangedValuesAreSmall = (day : Day) (changes : List Change) (picks : List ℕ) (multipliers : List Entry)
+    (weight : Weight) → IsAccepted day → AreChanges day changes → Follow day picks → AreMultipliers multipliers →
+    unsigned_abs (priced (changed_meanings (changed_day day changes)) multipliers weight picks) < MOST_VALUE

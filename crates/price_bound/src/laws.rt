@@ -4,15 +4,23 @@
 
 ghost use Rattle.price_bound.specs.BrokenLaws.{BrokenAtFirstFault, BrokenAtFirstMissed, BrokenPicksAreClosed};
 ghost use Rattle.price_bound.specs.BrokenLaws.{PartsAreMissedOrNot, SolvedWithoutFault};
+ghost use Rattle.price_bound.specs.ChangedDays.{ChangedDaysAreRelaxations, UnchangedDaysAreDays};
 ghost use Rattle.price_bound.specs.DayMeanings.{DaysAreRelaxations};
-ghost use Rattle.price_bound.specs.PlanBounds.{NoSolutionsNoPlans, PlansArePricedLow, PlansHavePicks};
-ghost use Rattle.price_bound.specs.PlanBounds.{SolutionsBoundPlans};
-ghost use Rattle.price_bound.specs.Sizes.{SlacksAreSmall, ValuesAreSmall};
+ghost use Rattle.price_bound.specs.PlanBounds.{ChangedPlansArePricedLow, ChangedSolutionsBoundPlans};
+ghost use Rattle.price_bound.specs.PlanBounds.{NoChangedSolutionsNoPlans, NoSolutionsNoPlans, PlansArePricedLow};
+ghost use Rattle.price_bound.specs.PlanBounds.{PlansHavePicks, SolutionsBoundPlans};
+ghost use Rattle.price_bound.specs.Sizes.{ChangedSlacksAreSmall, ChangedValuesAreSmall, SlacksAreSmall, ValuesAreSmall};
 
 /// Every accepted day is a relaxation of its solutions, which are the picks that are the types of a plan that runs:
 /// what is said of a solution's slacks, of near picks and of picks that are no solution holds of the day.
 pub fn days_are_relaxations()
     ensures law { DaysAreRelaxations }
+{}
+
+/// Under any changes an accepted day is a relaxation of its solutions; under none it means what the day does.
+pub fn changed_days_are_relaxations()
+    ensures law { ChangedDaysAreRelaxations }
+    ensures unchanged { UnchangedDaysAreDays }
 {}
 
 /// What holds of all solutions in the region of a day holds of all plans of named units that run: they cost at least so
@@ -27,6 +35,20 @@ pub fn solutions_stand_for_plans()
 pub fn plans_are_priced_low()
     ensures picks { PlansHavePicks }
     ensures law { PlansArePricedLow }
+{}
+
+/// What holds of all solutions in the region of a day under changes holds of all plans of named units that run: they
+/// cost at least so much, with what the changes add for their picks, or there is none. The day has no more compositions
+/// than a catalogue may have.
+pub fn changed_solutions_stand_for_plans()
+    ensures bound { ChangedSolutionsBoundPlans }
+    ensures none { NoChangedSolutionsNoPlans }
+{}
+
+/// Weak duality under changes: under multipliers that fit, the picks of a plan that runs are priced at its cost and
+/// what the changes add for them, or lower.
+pub fn changed_plans_are_priced_low()
+    ensures { ChangedPlansArePricedLow }
 {}
 
 /// Picks that follow are broken at the first hand-over whose second trip misses the part, at the part and with sign 1,
@@ -46,8 +68,11 @@ pub fn broken_picks_are_closed()
     ensures law { BrokenPicksAreClosed }
 {}
 
-/// The slacks of picks that follow are at most `MOST_SLACK` in size, and their priced values are below `MOST_VALUE`.
+/// The slacks of picks that follow are at most `MOST_SLACK` in size, and their priced values are below `MOST_VALUE`, on
+/// the day itself and under the changes that `DayBounds::with_changes` takes.
 pub fn values_are_small()
     ensures slacks { SlacksAreSmall }
     ensures values { ValuesAreSmall }
+    ensures changed_slacks { ChangedSlacksAreSmall }
+    ensures changed_values { ChangedValuesAreSmall }
 {}
