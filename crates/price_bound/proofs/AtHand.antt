@@ -14,7 +14,7 @@ use Rattle.price_bound.specs.declared.priced.Pricing.{Pricing}
 use Rattle.price_bound.specs.declared.turn_prices.TurnPrices.{TurnPrices}
 use Rattle.price_bound.specs.declared.worths.Amount.{Amount}
 use Rattle.price_bound.specs.AtHand.{IsForTurn}
-use Rattle.price_bound.specs.CellSizes.{IsSmall}
+use Rattle.price_bound.specs.CellSizes.{IsSmall, most_price, most_units_price}
 use Rattle.price_bound.specs.ChainStages.{Priced, part_is_in, price_by_link, price_of}
 use Rattle.price_bound.specs.Costs.{IsCostOf, cost_in}
 use Rattle.price_bound.specs.Credits.{AreSmallAmounts, sum_in}
@@ -53,9 +53,9 @@ module _ (pricing : Pricing) (is : ArePriced pricing) (t : ℕ) (known : t < len
       ap (λ (amounts : List ℤ). get_or amounts comp (pos 0)) at ∙ is.credits.values t comp known below
 
   pub credit_small : (row : List ℤ) → row ≡ get_or pricing.credits.now t [] → (comp : ℕ) → comp < comps
-      → IsSmall 6000000000000000 (get_or row comp (pos 0))
+      → IsSmall most_units_price (get_or row comp (pos 0))
   credit_small row at comp below =
-      subst (λ (amounts : List ℤ). IsSmall 6000000000000000 (get_or amounts comp (pos 0))) (sym at)
+      subst (λ (amounts : List ℤ). IsSmall most_units_price (get_or amounts comp (pos 0))) (sym at)
       (is.credits.small t comp known below)
 
   pub credits_long : (row : List ℤ) → row ≡ get_or pricing.credits.now t [] → length row ≡ comps
@@ -67,9 +67,9 @@ module _ (pricing : Pricing) (is : ArePriced pricing) (t : ℕ) (known : t < len
       ap (λ (amounts : List ℤ). get_or amounts comp (pos 0)) at ∙ is.prices.seconds t comp known below
 
   pub second_at_small : (row : List ℤ) → row ≡ get_or pricing.tables.now.seconds t [] → (comp : ℕ) → comp < comps
-      → IsSmall 1000000000000000 (get_or row comp (pos 0))
+      → IsSmall most_price (get_or row comp (pos 0))
   second_at_small row at comp below =
-      subst (IsSmall 1000000000000000) (sym (second_at row at comp below))
+      subst (IsSmall most_price) (sym (second_at row at comp below))
       (second_small day entries t comp (are_few day entries is.multipliers_are))
 
   pub seconds_long : (row : List ℤ) → row ≡ get_or pricing.tables.now.seconds t [] → length row ≡ comps
@@ -104,7 +104,7 @@ module _ (pricing : Pricing) (is : ArePriced pricing) (l : ℕ) (known : l < len
       → IsSmall 30000000000000000 (get_or row part (pos 0))
   part_at_small part below =
       subst (IsSmall 30000000000000000) (sym (part_at part below))
-      (small_more 1000000000000000 30000000000000000
+      (small_more most_price 30000000000000000
       (part_multiplier pricing.instance.now pricing.multipliers.now l part) (omega arith)
       (part_small pricing.instance.now pricing.multipliers.now l part
       (are_few pricing.instance.now pricing.multipliers.now is.multipliers_are)))

@@ -9,7 +9,7 @@ use Rattle.timetable.specs.Day.{Day}
 use Rattle.timetable.proofs.Picking.{types_known}
 use Rattle.branch_tree.specs.declared.multipliers.Entry.{Entry}
 use Rattle.price_bound.specs.declared.price_tables.PriceTables.{PriceTables}
-use Rattle.price_bound.specs.CellSizes.{IsSmall}
+use Rattle.price_bound.specs.CellSizes.{IsSmall, most_units_price}
 use Rattle.price_bound.specs.Credits.{AreCredits, AreRowsBut, AreSumsBelow, AreSumsIn, put_in, sum_in}
 use Rattle.price_bound.specs.PriceTables.{ArePrices, HasSize, amount_at}
 use Rattle.price_bound.proofs.Steps.{entry_below}
@@ -51,7 +51,7 @@ module _ (rows columns : ℕ) (table : List (List ℤ)) (size : HasSize rows col
 -- one sum more
 pub sums_more : (day : Day) (rows columns : ℕ) (table : List (List ℤ)) (amounts : List ℤ) (t comp : ℕ) (sum : ℤ) → HasSize rows columns table
     → t < rows → comp < columns → AreSumsIn day amounts t comp table → sum ≡ sum_in amounts (composition_at day comp)
-    → IsSmall 6000000000000000 sum → AreSumsIn day amounts t (comp + 1) (put_in t comp sum table)
+    → IsSmall most_units_price sum → AreSumsIn day amounts t (comp + 1) (put_in t comp sum table)
 sums_more day rows columns table amounts t comp sum size below lt done is small = record {
   values = λ c before. elim (cases_eq c comp) [
     | inl same ↦ subst (λ (k : ℕ). amount_at (put_in t comp sum table) t k ≡ sum_in amounts (composition_at day k)) (sym same)
@@ -59,9 +59,9 @@ sums_more day rows columns table amounts t comp sum size below lt done is small 
     | inr differ ↦ put_beside rows columns table size t comp sum below c differ ∙ done.values c (omega (arith, before, differ))
   ];
   small = λ c before. elim (cases_eq c comp) [
-    | inl same ↦ subst (λ (k : ℕ). IsSmall 6000000000000000 (amount_at (put_in t comp sum table) t k)) (sym same)
-        (subst (IsSmall 6000000000000000) (sym (put_here rows columns table size t comp sum below lt)) small)
-    | inr differ ↦ subst (IsSmall 6000000000000000) (sym (put_beside rows columns table size t comp sum below c differ))
+    | inl same ↦ subst (λ (k : ℕ). IsSmall most_units_price (amount_at (put_in t comp sum table) t k)) (sym same)
+        (subst (IsSmall most_units_price) (sym (put_here rows columns table size t comp sum below lt)) small)
+    | inr differ ↦ subst (IsSmall most_units_price) (sym (put_beside rows columns table size t comp sum below c differ))
         (done.small c (omega (arith, before, differ)))
   ];
 }
@@ -70,10 +70,6 @@ pub others_more : (rows columns : ℕ) (table old : List (List ℤ)) (t comp : �
     → AreRowsBut t old table → AreRowsBut t old (put_in t comp sum table)
 others_more rows columns table old t comp sum size same other differ =
     row_other rows columns table size t comp sum other differ ∙ same other differ
-
--- no sum yet
-pub sums_none : (day : Day) (amounts : List ℤ) (t : ℕ) (table : List (List ℤ)) → AreSumsIn day amounts t 0 table
-sums_none day amounts t table = record { values = λ c lt. absurd (omega (arith, lt)); small = λ c lt. absurd (omega (arith, lt)) }
 
 -- one row more
 pub below_more : (day : Day) (amounts table new : List (List ℤ)) (trip : ℕ) → AreSumsBelow day amounts trip table
@@ -86,7 +82,7 @@ below_more day amounts table new trip done here others t lt = elim (cases_eq t t
       let before : AreSumsIn day (get_or amounts t []) t (length (compositions_of day)) table = done t (omega (arith, lt, differ)) in
       record {
         values = λ c below. ap (λ (xs : List ℤ). get_or xs c (pos 0)) row ∙ before.values c below;
-        small = λ c below. subst (λ (xs : List ℤ). IsSmall 6000000000000000 (get_or xs c (pos 0))) (sym row) (before.small c below);
+        small = λ c below. subst (λ (xs : List ℤ). IsSmall most_units_price (get_or xs c (pos 0))) (sym row) (before.small c below);
       }
 ]
 

@@ -8,6 +8,7 @@ use Rattle.std.proofs.lemmas.Int.{ints}
 use Rattle.std.proofs.lemmas.List.{append-nil, get_or-map, get_or_append_left, get_or_default, length-map}
 use Rattle.std.proofs.lemmas.List.Elements.{All-get_or}
 use Rattle.std.proofs.lemmas.Option.{get_or_from_slice_get}
+use Rattle.rail_base.specs.declared.limits.TheConstants.{MOST_ENTRIES, MOST_MULTIPLIER}
 use Rattle.timetable.specs.declared.day.indices.Place.{Place}
 use Rattle.timetable.specs.declared.day.indices.Place.TheVariants.{Lambda, Mu, Sigma}
 use Rattle.timetable.specs.declared.day.records.Handover.{Handover}
@@ -31,7 +32,7 @@ use Rattle.price_bound.specs.EdgeValues.{part_multiplier}
 use Rattle.price_bound.specs.PriceTables.{AreSized, ArePrices, HasSize, amount_at, cleared, summed, with_entry}
 use Rattle.price_bound.specs.PriceTables.{with_handover, with_place, with_prices}
 use Rattle.price_bound.specs.Regrouped.{of_handover, second_price}
-use Rattle.price_bound.specs.CellSizes.{IsSmall}
+use Rattle.price_bound.specs.CellSizes.{IsSmall, most_price}
 use Rattle.price_bound.specs.YardPrices.{by_place, of_type, price_by, yard_price}
 use Rattle.price_bound.specs.YardTables.{ArePlaces, CanLook, amounts_at, given_at, later_sums, taken_at}
 use Rattle.price_bound.proofs.Adding.{changed_amount, changed_size, cleared_amount, cleared_number, cleared_places}
@@ -191,28 +192,28 @@ module _ (day : Day) where
   -- ---- all multipliers
 
   abbrev AreFew : List Entry → Type 0
-  AreFew entries = (length entries ≤ 1000) × ((k : ℕ) (d : Entry) → k < length entries → IsSmall 1000000000000 ((get_or entries k d).value))
+  AreFew entries = (length entries ≤ MOST_ENTRIES) × ((k : ℕ) (d : Entry) → k < length entries → IsSmall MOST_MULTIPLIER ((get_or entries k d).value))
 
   entries_small : (f : Place → ℤ → ℤ) → ((place : Place) (v : ℤ) → IsValueOrNone v (f place v)) → (entries : List Entry) → AreFew entries
-      → IsSmall 1000000000000000 (int_sum (by_place day f) entries)
+      → IsSmall most_price (int_sum (by_place day f) entries)
   entries_small f each entries few =
-      small_more (length entries * 1000000000000) 1000000000000000 (int_sum (by_place day f) entries) (omega (arith, few.0))
-      (sum_small (by_place day f) 1000000000000 entries (λ k d lt. place_small f each 1000000000000 (get_or entries k d) (few.1 k d lt)))
+      small_more (length entries * MOST_MULTIPLIER) most_price (int_sum (by_place day f) entries) (omega (arith, few.0))
+      (sum_small (by_place day f) MOST_MULTIPLIER entries (λ k d lt. place_small f each MOST_MULTIPLIER (get_or entries k d) (few.1 k d lt)))
 
-  pub yard_small : (entries : List Entry) (s minute m : ℕ) → AreFew entries → IsSmall 1000000000000000 (yard_price day entries s minute m)
+  pub yard_small : (entries : List Entry) (s minute m : ℕ) → AreFew entries → IsSmall most_price (yard_price day entries s minute m)
   unfolding yard_price
   yard_small entries s minute m few = entries_small (price_by day s minute m) (price_value s minute m) entries few
 
-  pub second_small : (entries : List Entry) (t c : ℕ) → AreFew entries → IsSmall 1000000000000000 (second_price day entries t c)
+  pub second_small : (entries : List Entry) (t c : ℕ) → AreFew entries → IsSmall most_price (second_price day entries t c)
   unfolding second_price
   second_small entries t c few = entries_small (to_second t c) (handover_value (λ handover k. (handover.second == t) && (c == k))) entries few
 
-  pub part_small : (entries : List Entry) (l c : ℕ) → AreFew entries → IsSmall 1000000000000000 (part_multiplier day entries l c)
+  pub part_small : (entries : List Entry) (l c : ℕ) → AreFew entries → IsSmall most_price (part_multiplier day entries l c)
   unfolding part_multiplier
   part_small entries l c few = entries_small (to_part l c) (handover_value (λ handover k. (handover.link == l) && (c == k))) entries few
 
-  large : (x : ℤ) → IsSmall 1000000000000000 x → IsSmall 2000000000000000000 x
-  large x small = small_more 1000000000000000 2000000000000000000 x (omega arith) small
+  large : (x : ℤ) → IsSmall most_price x → IsSmall 2000000000000000000 x
+  large x small = small_more most_price 2000000000000000000 x (omega arith) small
 
   -- the multipliers so far are put where they begin to count, and added to those of hand-overs
   record ArePut (entries : List Entry) (tables : PriceTables) : Type 0 where
@@ -237,12 +238,12 @@ module _ (day : Day) where
       last : (a b : ℤ) → a +ℤ (b +ℤ pos 0) ≡ a +ℤ b
       last a b = omega (arith, ints)
 
-  next : (done : List Entry) (entry : Entry) (tables : PriceTables) → AreFew done → IsSmall 1000000000000 entry.value → ArePut done tables
+  next : (done : List Entry) (entry : Entry) (tables : PriceTables) → AreFew done → IsSmall MOST_MULTIPLIER entry.value → ArePut done tables
       → ArePut (done ++ entry ∷ []) (with_entry day tables entry)
   unfolding second_price part_multiplier
   next done entry tables few small are =
       let more : AreMore (λ f. by_place day f entry) tables (with_entry day tables entry) =
-      entry_more tables entry are.sized (put_small done tables few are) (small_more 1000000000000 2000000000000000000 entry.value (omega arith) small) in
+      entry_more tables entry are.sized (put_small done tables few are) (small_more MOST_MULTIPLIER 2000000000000000000 entry.value (omega arith) small) in
       record {
         sized = more.sized;
         yards = λ s m k lt lt' le. more.yards s m k lt lt' le ∙ ap (λ (v : ℤ). v +ℤ by_place day (put_at day s m k) entry) (are.yards s m k lt lt' le)
@@ -254,7 +255,7 @@ module _ (day : Day) where
   first_few : (done rest : List Entry) → AreFew (done ++ rest) → AreFew done
   first_few done rest few = (
     omega (arith, few.0, length-append done rest),
-    λ k d lt. subst (λ (e : Entry). IsSmall 1000000000000 e.value) (get_or_append_left done rest d k lt) (few.1 k d (omega (arith, lt, length-append done rest))),
+    λ k d lt. subst (λ (e : Entry). IsSmall MOST_MULTIPLIER e.value) (get_or_append_left done rest d k lt) (few.1 k d (omega (arith, lt, length-append done rest))),
   )
 
   at_seam : (done : List Entry) (entry : Entry) (rest : List Entry) (d : Entry) → get_or (done ++ entry ∷ rest) (length done) d ≡ entry
@@ -265,13 +266,13 @@ module _ (day : Day) where
   go done [] tables few are = subst (λ (es : List Entry). ArePut es tables) (sym (append-nil done)) are
   go done (entry ∷ rest) tables few are =
       let same : (done ++ entry ∷ []) ++ rest ≡ done ++ entry ∷ rest = append_assoc done (entry ∷ []) rest in
-      let here : IsSmall 1000000000000 entry.value =
-      subst (λ (e : Entry). IsSmall 1000000000000 e.value) (at_seam done entry rest entry) (few.1 (length done) entry (omega (arith, length-append done (entry ∷ rest)))) in
+      let here : IsSmall MOST_MULTIPLIER entry.value =
+      subst (λ (e : Entry). IsSmall MOST_MULTIPLIER e.value) (at_seam done entry rest entry) (few.1 (length done) entry (omega (arith, length-append done (entry ∷ rest)))) in
       subst (λ (es : List Entry). ArePut es (fold (with_entry day) (with_entry day tables entry) rest)) same
       (go (done ++ entry ∷ []) rest (with_entry day tables entry) (subst AreFew (sym same) few) (next done entry tables (first_few done (entry ∷ rest) few) here are))
 
   pub are_few : (entries : List Entry) → AreMultipliers entries → AreFew entries
-  are_few entries are = (are.few, λ k d lt. small_by_size 1000000000000 (get_or entries k d).value (are.within k d lt))
+  are_few entries are = (are.few, λ k d lt. small_by_size MOST_MULTIPLIER (get_or entries k d).value (are.within k d lt))
 
   all_are_put : (entries : List Entry) (tables : PriceTables) → AreMultipliers entries → AreSized day tables
       → ArePut entries (fold (with_entry day) (cleared tables) entries)
@@ -321,7 +322,7 @@ module _ (day : Day) where
         ap (λ (row : List ℤ). get_or row k (pos 0)) (summed_row s m)
         ∙ sums_are (counts_of tables.yards s m) (all_put day entries s m) (all_from day entries s m)
         (λ j below. are.yards s m j lt lt' (omega (arith, below, are.sized.yards.minutes s m lt lt'))) (no_more s m lt lt') (all_next day entries s m)
-        (λ j. small_more 1000000000000000 4000000000000000000 (all_from day entries s m j) (omega arith)
+        (λ j. small_more most_price 4000000000000000000 (all_from day entries s m j) (omega arith)
         (entries_small (from_at day s m j) (from_value s m j) entries (are_few entries multipliers))) k (long s m k lt lt' le)
 
     summed_places : HasPlaces day sums

@@ -1,5 +1,5 @@
 -- Sums over the units of a list, read off the tables of prices.
-use Rattle.std.proofs.Common.{◌≡◌, ℕ, ◌-◌, ◌<◌, ◌≤◌, List, [], ◌∷◌, length, get_or, true, refl, sym, ap, ◌∙◌, subst}
+use Rattle.std.proofs.Common.{◌≡◌, ℕ, ◌-◌, ◌*◌, ◌<◌, ◌≤◌, List, [], ◌∷◌, length, get_or, true, refl, sym, ap, ◌∙◌, subst}
 use Rattle.std.proofs.Common.{arith, ℤ, pos, ◌+ℤ◌, ◌-ℤ◌, take, drop, length-take, length-drop}
 use Rattle.std.specs.Prelude.{nat_lt}
 use Rattle.std.specs.List.{All}
@@ -18,7 +18,7 @@ use Rattle.branch_tree.specs.IntSums.{int_sum}
 use Rattle.price_bound.specs.declared.price_tables.PriceTables.{PriceTables}
 use Rattle.price_bound.specs.EdgeValues.{came, stayed}
 use Rattle.price_bound.specs.PriceTables.{ArePrices}
-use Rattle.price_bound.specs.CellSizes.{IsSmall}
+use Rattle.price_bound.specs.CellSizes.{IsSmall, most_price, most_units_price}
 use Rattle.price_bound.specs.YardPrices.{giving, taking, yard_price}
 use Rattle.price_bound.proofs.Filling.{are_few, yard_small}
 use Rattle.price_bound.proofs.IntLaws.{sum_append}
@@ -73,14 +73,14 @@ module _ (day : Day) (entries : List Entry) (tables : PriceTables) (prices : Are
       (λ m lt. prices.gives t m below lt) known
 
   module _ (multipliers : AreMultipliers entries) where
-    pub takes_small : (m : ℕ) → m < length (get_or tables.takes t []) → IsSmall 1000000000000000 (get_or (get_or tables.takes t []) m (pos 0))
+    pub takes_small : (m : ℕ) → m < length (get_or tables.takes t []) → IsSmall most_price (get_or (get_or tables.takes t []) m (pos 0))
     takes_small m lt =
-        subst (IsSmall 1000000000000000) (sym (prices.takes t m below (omega (arith, lt, prices.sized.takes.widths t below))))
+        subst (IsSmall most_price) (sym (prices.takes t m below (omega (arith, lt, prices.sized.takes.widths t below))))
         (yard_small day entries (from_of day t) (leaves day t) m (are_few day entries multipliers))
 
-    pub gives_small : (m : ℕ) → m < length (get_or tables.gives t []) → IsSmall 1000000000000000 (get_or (get_or tables.gives t []) m (pos 0))
+    pub gives_small : (m : ℕ) → m < length (get_or tables.gives t []) → IsSmall most_price (get_or (get_or tables.gives t []) m (pos 0))
     gives_small m lt =
-        subst (IsSmall 1000000000000000) (sym (prices.gives t m below (omega (arith, lt, prices.sized.gives.widths t below))))
+        subst (IsSmall most_price) (sym (prices.gives t m below (omega (arith, lt, prices.sized.gives.widths t below))))
         (yard_small day entries (to_of day t) (ready_at day t) m (are_few day entries multipliers))
 
 -- what a turn adds, by its parts: the prices of what departs are those of what stayed and those of what came
@@ -92,8 +92,8 @@ turn_is cost takes stay_takes came_takes from_gives gives stay_gives came_gives 
     e f g h i j k l m = omega (arith, ints, e, f, g, h, i, j, k, l, m)
 
 -- and it is small, as they are
-pub turn_small : (cost before after newly given kept whole : ℤ) → IsSmall 1000000000000 cost → IsSmall 6000000000000000 before
-    → IsSmall 6000000000000000 after → IsSmall 12000000000000000 newly → given ≡ before -ℤ after → kept ≡ cost -ℤ given
+pub turn_small : (cost before after newly given kept whole : ℤ) → IsSmall 1000000000000 cost → IsSmall most_units_price before
+    → IsSmall most_units_price after → IsSmall (2 * most_units_price) newly → given ≡ before -ℤ after → kept ≡ cost -ℤ given
     → whole ≡ kept +ℤ newly → IsSmall 30000000000000000 whole
 turn_small cost before after newly given kept whole p q r s e f g = record {
   above = omega (arith, ints, p.above, q.below, r.above, s.above, e, f, g);

@@ -4,7 +4,7 @@ use Rattle.timetable.specs.Compositions.{compositions_of, composition_at}
 use Rattle.timetable.specs.Day.{Day}
 use Rattle.branch_tree.specs.declared.multipliers.Entry.{Entry}
 use Rattle.branch_tree.specs.IntSums.{int_sum}
-use Rattle.price_bound.specs.CellSizes.{IsSmall}
+use Rattle.price_bound.specs.CellSizes.{IsSmall, most_price, most_units_price}
 use Rattle.price_bound.specs.PriceTables.{HasSize, amount_at}
 use Rattle.price_bound.specs.YardPrices.{giving}
 
@@ -18,12 +18,12 @@ sum_in row types = int_sum (λ m. get_or row m (pos 0)) types
 
 -- the amounts of a row are small
 abbrev pub AreSmallAmounts : List ℤ → Type 0
-AreSmallAmounts row = (m : ℕ) → m < length row → IsSmall 1000000000000000 (get_or row m (pos 0))
+AreSmallAmounts row = (m : ℕ) → m < length row → IsSmall most_price (get_or row m (pos 0))
 
 -- a table has, in the columns of a row below a number, the sums over the types of compositions
 pub record AreSumsIn (day : Day) (amounts : List ℤ) (t comps : ℕ) (table : List (List ℤ)) : Type 0 where
   pub values : (c : ℕ) → c < comps → amount_at table t c ≡ sum_in amounts (composition_at day c)
-  pub small : (c : ℕ) → c < comps → IsSmall 6000000000000000 (amount_at table t c)
+  pub small : (c : ℕ) → c < comps → IsSmall most_units_price (amount_at table t c)
 
 -- it has them in the rows below a number
 abbrev pub AreSumsBelow : Day → List (List ℤ) → ℕ → List (List ℤ) → Type 0
@@ -40,4 +40,4 @@ pub record AreCredits (day : Day) (entries : List Entry) (table : List (List ℤ
   pub values : (t c : ℕ) → t < length day.trips → c < length (compositions_of day)
       → amount_at table t c ≡ giving day entries t (composition_at day c)
   pub small : (t c : ℕ) → t < length day.trips → c < length (compositions_of day)
-      → IsSmall 6000000000000000 (amount_at table t c)
+      → IsSmall most_units_price (amount_at table t c)

@@ -1,12 +1,12 @@
 //! What the edges of turns are priced: the cost of shunting, and the prices of the units that are taken and given.
 
-ghost use Rattle.std.specs.Prelude.{ℕ, ◌≡◌, ◌<◌, ◌≤◌, ◌+◌, ◌+ℤ◌, ◌-ℤ◌, [], length, take, drop, pos, All, Some};
+ghost use Rattle.std.specs.Prelude.{ℕ, ◌≡◌, ◌<◌, ◌≤◌, ◌+◌, ◌*◌, ◌+ℤ◌, ◌-ℤ◌, [], length, take, drop, pos, All, Some};
 ghost use Rattle.std.specs.Prelude.{slice_get};
 ghost use Rattle.timetable.specs.declared.day.records.LinkKind.TheVariants.{Turn};
 ghost use Rattle.timetable.specs.Compositions.{compositions_of, composition_at};
 ghost use Rattle.branch_tree.specs.Meanings.{weighted};
 ghost use Rattle.price_bound.specs.AtHand.{IsForTurn, IsTurnOf, newly_value};
-ghost use Rattle.price_bound.specs.CellSizes.{IsSmall};
+ghost use Rattle.price_bound.specs.CellSizes.{IsSmall, most_units_price};
 ghost use Rattle.price_bound.specs.ChainStages.{price_of};
 ghost use Rattle.price_bound.specs.EdgeValues.{came, coupled, shunt_cost, turn_value};
 ghost use Rattle.price_bound.specs.Pricing.{ArePriced, IsListed, priced_by};
@@ -105,7 +105,7 @@ impl<'a> TurnPrices<'a> {
         ensures value { result.0 ≡ giving self.now.pricing.now.instance.now
             self.now.pricing.now.multipliers.now self.now.turn.arriving
             (composition_at self.now.pricing.now.instance.now comp) }
-        ensures small { IsSmall 6000000000000000 result.0 }
+        ensures small { IsSmall most_units_price result.0 }
     {
         amount_for(self.credits, comp)
     }
@@ -117,7 +117,7 @@ impl<'a> TurnPrices<'a> {
         requires edge { IsListed (length (compositions_of self.now.pricing.now.instance.now)) edge.now }
         ensures value { result.0 ≡ newly_value self.now.pricing.now.instance.now
             self.now.pricing.now.multipliers.now self.now.turn edge.now }
-        ensures small { IsSmall 12000000000000000 result.0 }
+        ensures small { IsSmall (2 * most_units_price) result.0 }
     {
         let units = coupled(edge.shunt);
         if units == 0 {

@@ -1,6 +1,7 @@
 //! The least priced value of the picks that are near a region, by one cheapest path for each chain.
 
-ghost use Rattle.std.specs.Prelude.{ℕ, ◌≡◌, ◌≤◌, ◌<◌, ◌+ℤ◌, ◌-ℤ◌, ◌*ℤ◌, pos, neg_ℤ, length, IfOk, IfSome, unsigned_abs};
+ghost use Rattle.std.specs.Prelude.{ℕ, ◌≡◌, ◌≤◌, ◌<◌, ◌*◌, ◌^◌, ◌+ℤ◌, ◌-ℤ◌, ◌*ℤ◌, pos, neg_ℤ, length, IfOk, IfSome};
+ghost use Rattle.std.specs.Prelude.{unsigned_abs};
 ghost use Rattle.timetable.specs.Indices.{lambdas_of, places_of};
 ghost use Rattle.transitions.specs.Edges.{AreGraphs};
 ghost use Rattle.branch_tree.specs.Bounds.{IsBound};
@@ -24,6 +25,7 @@ use crate::price_tables::PriceTables;
 use crate::priced::Pricing;
 use crate::worths::added;
 use branch_tree::{BoundAnswer, Entry, Multipliers, Region, Weight};
+use rail_base::limits::{MOST_ENTRIES, MOST_MULTIPLIER};
 use rail_base::{Money, NoMemory, TripNo};
 use std::alloc::Global;
 use timetable::{Instance, Picks, Place};
@@ -73,7 +75,8 @@ impl Workspace {
     /// The least priced value of the picks that are near a region of a day, under changes and under multipliers that
     /// fit. It is `Empty` exactly where no picks are near the region, and `best` is then as before. Else `best` is,
     /// among those of least value, the first by the list of compositions read chain by chain. It takes no memory, and
-    /// time that grows with the edges of the day.
+    /// time that grows with the edges of the day, with its trips and its links times the compositions, with its
+    /// departure minutes and its trips times the types, and with the multipliers.
     pub(crate) fn bound(
         &mut self,
         instance: &Instance,
@@ -168,7 +171,7 @@ fn copy_picks(to: &mut Picks, from: &Picks)
 fn constant(instance: &Instance, multipliers: &Multipliers) -> Money
     requires { DoFit (length (places_of instance.now)) (length (lambdas_of instance.now)) multipliers.now }
     ensures value { result.0 ≡ constant_of instance.now multipliers.now }
-    ensures small { IsSmall 10000000000000000000000000 result.0 }
+    ensures small { IsSmall (MOST_ENTRIES * (MOST_MULTIPLIER * 2 ^ 32)) result.0 }
 {
     let entries = multipliers.entries();
     let mut sum = Money(0);
@@ -182,46 +185,46 @@ fn constant(instance: &Instance, multipliers: &Multipliers) -> Money
 /// What one multiplier adds whatever the picks.
 fn constant_by(instance: &Instance, entry: &Entry) -> Money
     requires index { entry.now.index < length (places_of instance.now) }
-    requires size { unsigned_abs entry.now.value ≤ 1000000000000 }
+    requires size { unsigned_abs entry.now.value ≤ MOST_MULTIPLIER }
     ensures value { result.0 ≡ by_place instance.now (constant_by instance.now) entry.now }
-    ensures small { IsSmall 10000000000000000000000 result.0 }
+    ensures small { IsSmall (MOST_MULTIPLIER * 2 ^ 32) result.0 }
 {
     match instance.place(entry.index) {
         Place::Lambda {
             station,
             unit_type,
             ..
-        } => times(entry, minus(instance.start(station, unit_type))),
+        } => times(entry, negated(instance.start(station, unit_type))),
         Place::Mu { station, unit_type } => {
             let start = instance.start(station, unit_type);
-            times(entry, between(instance.end(station, unit_type), start))
+            times(entry, difference(instance.end(station, unit_type), start))
         }
         Place::Sigma { .. } => Money(0),
     }
 }
 
 /// Minus a number of units.
-fn minus(units: u32) -> Money
+fn negated(units: u32) -> Money
     ensures value { result.0 ≡ neg_ℤ (pos units) }
-    ensures small { IsSmall 4294967296 result.0 }
+    ensures small { IsSmall (2 ^ 32) result.0 }
 {
     Money(-i128::from(units))
 }
 
 /// A number of units less another.
-fn between(units: u32, other: u32) -> Money
+fn difference(units: u32, other: u32) -> Money
     ensures value { result.0 ≡ pos units -ℤ pos other }
-    ensures small { IsSmall 4294967296 result.0 }
+    ensures small { IsSmall (2 ^ 32) result.0 }
 {
     Money(i128::from(units) - i128::from(other))
 }
 
 /// A multiplier times a number of units.
 fn times(entry: &Entry, units: Money) -> Money
-    requires size { unsigned_abs entry.now.value ≤ 1000000000000 }
-    requires units { IsSmall 4294967296 units.0 }
+    requires size { unsigned_abs entry.now.value ≤ MOST_MULTIPLIER }
+    requires units { IsSmall (2 ^ 32) units.0 }
     ensures value { result.0 ≡ entry.now.value *ℤ units.0 }
-    ensures small { IsSmall 10000000000000000000000 result.0 }
+    ensures small { IsSmall (MOST_MULTIPLIER * 2 ^ 32) result.0 }
 {
     Money(i128::from(entry.value) * units.0)
 }

@@ -8,7 +8,7 @@ ghost use Rattle.timetable.specs.Links.{incoming, outgoing};
 ghost use Rattle.branch_tree.specs.IntSums.{int_sum};
 ghost use Rattle.branch_tree.specs.Meanings.{weighted};
 ghost use Rattle.price_bound.specs.AtHand.{IsForTrip};
-ghost use Rattle.price_bound.specs.CellSizes.{IsSmall};
+ghost use Rattle.price_bound.specs.CellSizes.{IsSmall, most_price, most_units_price};
 ghost use Rattle.price_bound.specs.ChainStages.{cost_on, worth_of};
 ghost use Rattle.price_bound.specs.Costs.{admitted_cost};
 ghost use Rattle.price_bound.specs.Credits.{AreSmallAmounts, sum_in};
@@ -131,7 +131,7 @@ impl<'a> TripWorths<'a> {
             then taking self.now.pricing.now.instance.now self.now.pricing.now.multipliers.now self.now.trip
             (composition_at self.now.pricing.now.instance.now comp)
             else pos 0) }
-        ensures small { IsSmall 6000000000000000 result.0 }
+        ensures small { IsSmall most_units_price result.0 }
     {
         if !self.begins {
             return Amount(0);
@@ -147,7 +147,7 @@ impl<'a> TripWorths<'a> {
             then giving self.now.pricing.now.instance.now self.now.pricing.now.multipliers.now self.now.trip
             (composition_at self.now.pricing.now.instance.now comp)
             else pos 0) }
-        ensures small { IsSmall 6000000000000000 result.0 }
+        ensures small { IsSmall most_units_price result.0 }
     {
         if !self.ends {
             return Amount(0);
@@ -161,7 +161,7 @@ impl<'a> TripWorths<'a> {
         requires comp { comp < length (compositions_of self.now.pricing.now.instance.now) }
         ensures value { result.0 ≡ second_price self.now.pricing.now.instance.now
             self.now.pricing.now.multipliers.now self.now.trip comp }
-        ensures small { IsSmall 1000000000000000 result.0 }
+        ensures small { IsSmall most_price result.0 }
     {
         amount_for(self.seconds, comp)
     }
@@ -204,7 +204,7 @@ pub(crate) fn sum_of(row: &AmountRow, types: &[TypeNo]) -> i64
     requires known { All (λ m. m < length row.now) types.now }
     requires small { AreSmallAmounts row.now }
     ensures value { result ≡ sum_in row.now types.now }
-    ensures small { IsSmall 6000000000000000 result }
+    ensures small { IsSmall most_units_price result }
 {
     sum_in(row.items(), types)
 }
@@ -215,7 +215,7 @@ pub(crate) fn sum_in(amounts: &[i64], types: &[TypeNo]) -> i64
     requires known { All (λ m. m < length amounts.now) types.now }
     requires small { AreSmallAmounts amounts.now }
     ensures value { result ≡ sum_in amounts.now types.now }
-    ensures small { IsSmall 6000000000000000 result }
+    ensures small { IsSmall most_units_price result }
 {
     let mut sum = 0;
     for place in 0..types.len() {

@@ -2,6 +2,7 @@
 use Rattle.std.proofs.Common.{to_z, of_z, w64, ◌≡◌, ◌<◌, ◌+◌, ℕ, ℤ, length, ap, sym, subst, arith, ◌∙◌}
 use Rattle.timetable.specs.Compositions.{compositions_of, composition_at}
 use Rattle.timetable.specs.Day.{Day}
+use Rattle.price_bound.specs.CellSizes.{most_units_price}
 use Rattle.price_bound.specs.Credits.{AreRowsBut, AreSumsIn, put_in, sum_in}
 use Rattle.price_bound.specs.PriceTables.{HasSize}
 use Rattle.price_bound.proofs.Adding.{read_is}
@@ -13,7 +14,7 @@ loop-comp-preserved c =
     let day : Day = c.args.instance.now in
     let comps : ℕ = length (compositions_of day) in
     let read : to_z w64 (of_z w64 c.sum_of-sum.result) ≡ c.sum_of-sum.result =
-    read_is 6000000000000000 c.sum_of-sum.result (omega arith) c.sum_of-sum.ensures.small in
+    read_is most_units_price c.sum_of-sum.result (omega arith) c.sum_of-sum.ensures.small in
     let put : c.put.new.self ≡ put_in c.args.row c.loop-comp.comp c.sum_of-sum.result c.loop-comp.sums =
     c.put.ensures ∙ ap (λ (x : ℤ). put_in c.args.row c.loop-comp.comp x c.loop-comp.sums) read in
     let is : c.sum_of-sum.result ≡ sum_in c.args.amounts.now (composition_at day c.loop-comp.comp) =

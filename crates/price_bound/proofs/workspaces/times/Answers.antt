@@ -2,6 +2,7 @@
 use Rattle.std.proofs.Common.{◌≤◌, ◌^◌, ◌*◌, ℤ, ◌*ℤ◌, FitsSigned, sym, subst, arith}
 use Rattle.std.specs.Int.{w128}
 use Rattle.std.specs.Prelude.{unsigned_abs}
+use Rattle.rail_base.specs.declared.limits.TheConstants.{MOST_MULTIPLIER}
 use Rattle.price_bound.specs.CellSizes.{IsSmall}
 use Rattle.price_bound.proofs.Adding.{small_by_size}
 use Rattle.price_bound.proofs.Pricing.{factors_are, product_fits, product_is, size_of_product, size_within}
@@ -9,8 +10,8 @@ use Rattle.price_bound.proofs.workspaces.times.Goals as goal
 
 pub overflow_mul-result : goal.overflow_mul-result
 overflow_mul-result c =
-    let units : unsigned_abs c.args.units.0 ≤ 4294967296 =
-    size_within c.args.units.0 4294967296 c.requires.units.above c.requires.units.below in
+    let units : unsigned_abs c.args.units.0 ≤ 2 ^ 32 =
+    size_within c.args.units.0 (2 ^ 32) c.requires.units.above c.requires.units.below in
     let few : unsigned_abs c.args.units.0 ≤ 2 ^ 64 = omega (arith, units) in
     subst (λ (z : ℤ). FitsSigned w128 z)
     (sym (factors_are c.args.entry.now.value c.args.units.0 c.requires.size few c.from.result c.from.ensures))
@@ -18,16 +19,16 @@ overflow_mul-result c =
 
 pub returns-clause-value : goal.returns-clause-value
 returns-clause-value c =
-    let units : unsigned_abs c.args.units.0 ≤ 4294967296 =
-    size_within c.args.units.0 4294967296 c.requires.units.above c.requires.units.below in
+    let units : unsigned_abs c.args.units.0 ≤ 2 ^ 32 =
+    size_within c.args.units.0 (2 ^ 32) c.requires.units.above c.requires.units.below in
     product_is c.args.entry.now.value c.args.units.0 c.requires.size (omega (arith, units)) c.from.result c.from.ensures
 
 pub returns-clause-small : goal.returns-clause-small
 returns-clause-small c =
-    let units : unsigned_abs c.args.units.0 ≤ 4294967296 =
-    size_within c.args.units.0 4294967296 c.requires.units.above c.requires.units.below in
-    let size : unsigned_abs (c.args.entry.now.value *ℤ c.args.units.0) ≤ 1000000000000 * 4294967296 =
-    size_of_product c.args.entry.now.value c.args.units.0 1000000000000 4294967296 c.requires.size units in
-    subst (IsSmall 10000000000000000000000)
+    let units : unsigned_abs c.args.units.0 ≤ 2 ^ 32 =
+    size_within c.args.units.0 (2 ^ 32) c.requires.units.above c.requires.units.below in
+    let size : unsigned_abs (c.args.entry.now.value *ℤ c.args.units.0) ≤ MOST_MULTIPLIER * 2 ^ 32 =
+    size_of_product c.args.entry.now.value c.args.units.0 MOST_MULTIPLIER (2 ^ 32) c.requires.size units in
+    subst (IsSmall (MOST_MULTIPLIER * 2 ^ 32))
     (sym (product_is c.args.entry.now.value c.args.units.0 c.requires.size (omega (arith, units)) c.from.result c.from.ensures))
-    (small_by_size 10000000000000000000000 (c.args.entry.now.value *ℤ c.args.units.0) (omega (arith, size)))
+    (small_by_size (MOST_MULTIPLIER * 2 ^ 32) (c.args.entry.now.value *ℤ c.args.units.0) size)

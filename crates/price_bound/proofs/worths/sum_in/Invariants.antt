@@ -1,9 +1,9 @@
 -- The types so far are summed up.
 use Rattle.std.proofs.Common.{◌≡◌, ◌*◌, get_or, take, pos}
 use Rattle.branch_tree.specs.IntSums.{int_sum}
-use Rattle.price_bound.specs.CellSizes.{IsSmall}
+use Rattle.price_bound.specs.CellSizes.{IsSmall, most_price}
 use Rattle.price_bound.proofs.worths.sum_in.Given as goal
 
 abbrev pub invariant-loop-place : goal.invariant-loop-place
 invariant-loop-place l =
-    (l.sum ≡ int_sum (λ m. get_or l.amounts m (pos 0)) (take l.place l.types)) × IsSmall (l.place * 1000000000000000) l.sum
+    (l.sum ≡ int_sum (λ m. get_or l.amounts m (pos 0)) (take l.place l.types)) × IsSmall (l.place * most_price) l.sum

@@ -1,6 +1,6 @@
 -- The row of the arriving trip has the credits.
 use Rattle.std.proofs.Common.{arith, sym, subst, ◌∙◌}
-use Rattle.price_bound.specs.CellSizes.{IsSmall}
+use Rattle.price_bound.specs.CellSizes.{IsSmall, most_units_price}
 use Rattle.price_bound.proofs.AtHand.{credit_at, credit_small, credits_long}
 use Rattle.price_bound.proofs.turn_prices.TurnPrices.credit.Goals as goal
 
@@ -19,6 +19,6 @@ returns-clause-value c =
 
 pub returns-clause-small : goal.returns-clause-small
 returns-clause-small c =
-    subst (IsSmall 6000000000000000) (sym c.amount_for.ensures)
+    subst (IsSmall most_units_price) (sym c.amount_for.ensures)
     (credit_small c.args.self.now.pricing.now c.requires.is.priced c.args.self.now.turn.arriving c.requires.is.turn.arriving
     c.args.self.now.credits.now c.requires.is.credits c.args.comp c.requires.comp)

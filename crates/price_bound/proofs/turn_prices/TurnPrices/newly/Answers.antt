@@ -4,6 +4,7 @@ use Rattle.std.specs.List.{All}
 use Rattle.timetable.specs.Compositions.{composition_at}
 use Rattle.timetable.specs.Day.{Day}
 use Rattle.branch_tree.specs.declared.multipliers.Entry.{Entry}
+use Rattle.price_bound.specs.CellSizes.{most_units_price}
 use Rattle.price_bound.specs.EdgeValues.{came, coupled}
 use Rattle.price_bound.specs.YardPrices.{giving, taking}
 use Rattle.price_bound.proofs.Adding.{read_is}
@@ -36,11 +37,11 @@ returns-clause-value c =
     c.came-came.ensures ∙ (ap (λ (n : ℕ). came c.args.self.now.turn.couple n c.types_of.result.now) c.coupled-units.ensures
     ∙ ap (came c.args.self.now.turn.couple units) c.types_of.ensures.value) in
     let taken : to_z w64 (of_z w64 c.sum_in.result) ≡ take (came c.args.self.now.turn.couple units after) =
-    read_is 6000000000000000 c.sum_in.result (omega arith) c.sum_in.ensures.small
+    read_is most_units_price c.sum_in.result (omega arith) c.sum_in.ensures.small
     ∙ (c.sum_in.ensures.value ∙ (taken_at c.args.self.now.pricing.now c.requires.is.priced c.args.self.now.turn.departing
     c.requires.is.turn.departing c.args.self.now.takes.now c.requires.is.takes c.came-came.result.now known ∙ ap take came_is)) in
     let given : to_z w64 (of_z w64 c.sum_in-2.result) ≡ give (came c.args.self.now.turn.couple units after) =
-    read_is 6000000000000000 c.sum_in-2.result (omega arith) c.sum_in-2.ensures.small
+    read_is most_units_price c.sum_in-2.result (omega arith) c.sum_in-2.ensures.small
     ∙ (c.sum_in-2.ensures.value ∙ (given_at c.args.self.now.pricing.now c.requires.is.priced c.args.self.now.turn.arriving
     c.requires.is.turn.arriving c.args.self.now.gives.now c.requires.is.gives c.came-came.result.now known ∙ ap give came_is)) in
     c.minus.ensures ∙ (ap (λ (z : ℤ). z -ℤ to_z w64 (of_z w64 c.sum_in-2.result)) taken

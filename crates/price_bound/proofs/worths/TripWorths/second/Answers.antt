@@ -1,6 +1,6 @@
 -- The row of the trip has the multipliers.
 use Rattle.std.proofs.Common.{arith, sym, subst, ◌∙◌}
-use Rattle.price_bound.specs.CellSizes.{IsSmall}
+use Rattle.price_bound.specs.CellSizes.{IsSmall, most_price}
 use Rattle.price_bound.proofs.AtHand.{second_at, second_at_small, seconds_long}
 use Rattle.price_bound.proofs.worths.TripWorths.second.Goals as goal
 
@@ -19,6 +19,6 @@ returns-clause-value c =
 
 pub returns-clause-small : goal.returns-clause-small
 returns-clause-small c =
-    subst (IsSmall 1000000000000000) (sym c.amount_for.ensures)
+    subst (IsSmall most_price) (sym c.amount_for.ensures)
     (second_at_small c.args.self.now.pricing.now c.requires.is.priced c.args.self.now.trip c.requires.is.known
     c.args.self.now.seconds.now c.requires.is.seconds c.args.comp c.requires.comp)

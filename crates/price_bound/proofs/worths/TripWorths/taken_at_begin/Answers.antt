@@ -5,6 +5,7 @@ use Rattle.timetable.specs.Compositions.{composition_at}
 use Rattle.timetable.specs.Day.{Day}
 use Rattle.timetable.specs.Links.{incoming}
 use Rattle.branch_tree.specs.declared.multipliers.Entry.{Entry}
+use Rattle.price_bound.specs.CellSizes.{most_units_price}
 use Rattle.price_bound.specs.YardPrices.{taking}
 use Rattle.price_bound.proofs.Adding.{read_is}
 use Rattle.price_bound.proofs.AtHand.{taken_at, takes_row_small}
@@ -21,7 +22,7 @@ returns-clause-value c =
     let entries : List Entry = c.args.self.now.pricing.now.multipliers.now in
     let trip : ℕ = c.args.self.now.trip in
     let begins : is_none (incoming day trip) ≡ true = sym c.requires.is.begins ∙ c.if-not-self.false in
-    read_is 6000000000000000 c.sum_in.result (omega arith) c.sum_in.ensures.small
+    read_is most_units_price c.sum_in.result (omega arith) c.sum_in.ensures.small
     ∙ (c.sum_in.ensures.value
     ∙ (taken_at c.args.self.now.pricing.now c.requires.is.priced trip c.requires.is.known c.args.self.now.takes.now c.requires.is.takes
     c.types_of.result.now c.types_of.ensures.known
