@@ -23,8 +23,8 @@ pub const MOST_TRIPS: usize = 400;
 pub const MOST_LINKS: usize = 400;
 /// Rows of the weights table.
 pub const MOST_WEIGHT_ROWS: usize = 1;
-/// Rows of the plan file.
-pub const MOST_PLAN_ROWS: usize = 400;
+/// Rows of the plan file: one for each trip.
+pub const MOST_PLAN_ROWS: usize = MOST_TRIPS;
 
 // Columns of the tables.
 
@@ -61,7 +61,7 @@ pub const MOST_CHANGE: u32 = 1_000_000;
 
 /// Units at the start of the day, all stations together.
 pub const MOST_UNITS: u32 = 2_000;
-/// Hand-overs of units between two trains at joins and splits: each uses three of the two ends that each trip has.
+/// Hand-overs of units between two trains at joins and splits: each takes three ends of trips, and a trip has two.
 pub const MOST_HANDOVERS: usize = 2 * MOST_TRIPS / 3;
 /// Units in one composition.
 pub const MOST_COMPOSITION: usize = 6;
@@ -77,7 +77,7 @@ pub const MOST_BRANCHINGS: u32 = 4_000;
 /// Rounds of advice that may be granted.
 pub const MOST_ROUNDS: u32 = 100;
 /// Nodes of a tree: a branch each for the most branchings, and one leaf more.
-pub const MOST_NODES: u32 = 8_001;
+pub const MOST_NODES: u32 = 2 * MOST_BRANCHINGS + 1;
 /// Entries of one list of multipliers.
 pub const MOST_ENTRIES: usize = 1_000;
 /// Size of one multiplier, whatever its sign.

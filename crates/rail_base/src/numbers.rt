@@ -158,8 +158,8 @@ impl NodeNo {
     }
 }
 
-/// A minute of the planned day and the day after it, counted from 0 at the first midnight; a time of a timetable is
-/// below 2880.
+/// A minute of the planned day and the day after it, counted from 0 at the first midnight: a time of a timetable is
+/// below 2880, and the minute from which a unit may be taken again can be later.
 #[derive(Clone, Copy, Debug, Default, PartialEq, Eq, Hash, PartialOrd, Ord)]
 pub struct Minute(pub u16);
 
