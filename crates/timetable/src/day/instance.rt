@@ -1,7 +1,7 @@
 //! The instance: a day that was accepted, with its units numbered.
 
 ghost use Rattle.std.specs.Prelude.{ℕ, ◌≡◌, ◌<◌, ◌≤◌, ◌*◌, [], ◌∷◌, ◌++◌, length, slice_get, Some, replicate, OnOk};
-ghost use Rattle.std.specs.Prelude.{IfOk, IfErr, IfSome};
+ghost use Rattle.std.specs.Prelude.{◌+◌, IfOk, IfErr, IfSome};
 ghost use Rattle.std.specs.List.{All};
 ghost use Rattle.rail_csv.specs.Rows.{AreTypeRows, AreStationRows, AreStockRows, AreTripRows, AreLinkRows};
 ghost use Rattle.rail_csv.specs.Rows.{IsWeightsRow};
@@ -34,8 +34,8 @@ use crate::day::minutes::{Minutes, minutes_of};
 use crate::day::records::{Handover, Link, Station, Stock, Trip, Unit, Weights};
 use compositions::{Catalogue, UnitTypes};
 use rail_base::limits::{
-    MOST_COMPOSITION, MOST_HANDOVERS, MOST_LINKS, MOST_MINUTES, MOST_STATIONS, MOST_TRIPS,
-    MOST_UNITS,
+    MOST_COMPOSITION, MOST_HANDOVERS, MOST_LINKS, MOST_MINUTES, MOST_REALLOCATION, MOST_STATIONS,
+    MOST_TRIPS, MOST_UNITS,
 };
 use rail_base::{CompNo, LinkNo, Minute, NoMemory, StationNo, TripNo, TypeNo, UnitNo};
 use rail_csv::WeightsRow;
@@ -234,7 +234,8 @@ impl Instance {
     #[tactic(auto, unfolding(crate::specs::Day::arrives, crate::specs::Day::to_of, crate::specs::Day::reallocation_of))]
     pub fn ready_at(&self, trip: TripNo) -> Minute
         requires { trip < length self.now.trips }
-        ensures { result ≡ ready_at self.now trip }
+        ensures value { result ≡ ready_at self.now trip }
+        ensures range { result < MOST_MINUTES + MOST_REALLOCATION }
     {
         let trip = self.trip(trip);
         let station = self.station(trip.to);
