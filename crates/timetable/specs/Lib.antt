@@ -34,6 +34,7 @@ pub mod Within
 -- what is so of every day, table and plan
 pub mod Laws
 -- the inside of an instance, and of the building of one
+pub mod AcceptedRows
 pub mod LinkTables
 pub mod Holding
 pub mod Flags

@@ -1,5 +1,6 @@
 //! The building of a day from its tables: the entries that rows make, their numbers by name, and refusals.
 
+pub(crate) mod accepted;
 pub(crate) mod entries;
 pub(crate) mod link_rows;
 pub(crate) mod linked;

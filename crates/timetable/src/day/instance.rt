@@ -9,7 +9,7 @@ ghost use Rattle.timetable.specs.Accepted.{IsDay, AreLinks, IsStocked, HaveCompo
 ghost use Rattle.timetable.specs.Admissible.{is_admissible};
 ghost use Rattle.timetable.specs.Compositions.{compositions_of, composition_at};
 ghost use Rattle.rail_base.specs.Answers.{Unless, Gives};
-ghost use Rattle.timetable.specs.Build.{day_of, is_memory, weights_in};
+ghost use Rattle.timetable.specs.Build.{day_of, is_memory};
 ghost use Rattle.timetable.specs.Chains.{chains_of, IsChain, AreChains};
 ghost use Rattle.timetable.specs.Day.{units_of, units_in, unit_count, wanted_in, wanted_of, ready_at};
 ghost use Rattle.timetable.specs.Handovers.{handovers_of, IsHandover, AreHandovers};
@@ -23,10 +23,8 @@ ghost use Rattle.timetable.specs.Tests.{NoneFailed, IsFirstFailed};
 ghost use Rattle.timetable.specs.Turns.{kept_of, IsKept};
 ghost use Rattle.timetable.specs.Within.{AreTypes, IsStation, IsUnitAt, IsTripAt, IsLinkAt, AreWeights};
 
-use crate::building::entries::{
-    are_too_many, catalogue_of, longest_between, stations_of, stock_of, trips_of, types_of,
-};
-use crate::building::link_rows::links_of;
+use crate::building::accepted::accept;
+use crate::building::entries::longest_between;
 use crate::building::refusal::InstanceRefusal;
 use crate::building::tables::Tables;
 use crate::day::chains::{Chain, linking_of};
@@ -38,7 +36,6 @@ use rail_base::limits::{
     MOST_TRIPS, MOST_UNITS,
 };
 use rail_base::{CompNo, LinkNo, Minute, NoMemory, StationNo, TripNo, TypeNo, UnitNo};
-use rail_csv::WeightsRow;
 use std::alloc::Global;
 use std::marker::Model;
 
@@ -83,7 +80,6 @@ impl Instance {
     /// fit its kind, with an unknown trip, with a trip that it or an earlier link has named on the same side, with
     /// trips that do not meet at a station, or with a departure before an arrival. `NoMemory` may come at any of
     /// them.
-    #[tactic(auto, unfolding(crate::specs::Build::day_of))]
     pub fn build(alloc: Global, tables: Tables) -> Result<Instance, InstanceRefusal>
         requires types { AreTypeRows tables.types }
         requires stations { AreStationRows tables.stations }
@@ -101,32 +97,21 @@ impl Instance {
             (λ refusal. Unless (is_memory refusal) (IsFirstFailed (day_tests tables) refusal)) }
         ensures limits { IfOk result (λ instance. IsDay instance) }
     {
-        let types = types_of(alloc, tables.types)?;
-        let stations = stations_of(alloc, tables.stations)?;
-        let stock = stock_of(alloc, &stations, &types, tables.stock)?;
-        if are_too_many(&stock) {
-            return Err(InstanceRefusal::TooManyUnits);
-        }
-        let types = UnitTypes::new(types.into_entries());
-        let catalogue = catalogue_of(alloc, &types, stations.entries())?;
-        let trips = trips_of(alloc, &stations, types.items(), tables.trips)?;
-        let links = links_of(alloc, &trips, tables.links.items())?;
-        let stations = stations.into_entries();
-        let trips = trips.into_entries();
-        let units = units_of(alloc, &stock)?;
-        let trip_count = trips.len() as u32;
-        let linking = linking_of(alloc, &links, trip_count)?;
-        let station_count = stations.len() as u32;
-        let minutes = minutes_of(alloc, &trips, station_count)?;
+        let rows = accept(alloc, tables)?;
+        let units = units_of(alloc, &rows.stock)?;
+        let trip_count = rows.trips.len() as u32;
+        let linking = linking_of(alloc, &rows.links, trip_count)?;
+        let station_count = rows.stations.len() as u32;
+        let minutes = minutes_of(alloc, &rows.trips, station_count)?;
         Ok(Instance {
-            types,
-            stations,
-            stock,
-            trips,
-            links,
-            weights: weights_of(tables.weights),
+            types: rows.types,
+            stations: rows.stations,
+            stock: rows.stock,
+            trips: rows.trips,
+            links: rows.links,
+            weights: rows.weights,
             units,
-            catalogue,
+            catalogue: rows.catalogue,
             incoming: linking.incoming,
             outgoing: linking.outgoing,
             chains: linking.chains,
@@ -382,17 +367,6 @@ fn as_number(kept: Option<usize>) -> Option<u32>
     match kept {
         Some(kept) => Some(kept as u32),
         None => None,
-    }
-}
-
-/// The weights of their row.
-fn weights_of(row: WeightsRow) -> Weights
-    ensures { result ≡ weights_in row }
-{
-    Weights {
-        carriage: row.carriage,
-        shortage: row.shortage,
-        shunting: row.shunting,
     }
 }
 
