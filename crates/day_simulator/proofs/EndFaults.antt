@@ -1,9 +1,9 @@
 -- What is told at the end of a day is the first event that was not made, or else the first yard that differs.
-use Rattle.std.proofs.Common.{◌≡◌, ◌≢◌, ◌⊎◌, inl, inr, ℕ, zero, suc, ◌+◌, ◌<◌, ◌≤◌, List, [], ◌∷◌, length, Bool, true, false}
-use Rattle.std.proofs.Common.{not, cond, eqb, Option, Some, None, Result, Ok, Err, refl, sym, ap, ◌∙◌, subst, arith, ⊎_elim}
+use Rattle.std.proofs.Common.{◌≡◌, ◌≢◌, ◌⊎◌, inl, inr, ℕ, zero, suc, ◌+◌, ◌*◌, ◌<◌, ◌≤◌, List, [], ◌∷◌, length, Bool, true}
+use Rattle.std.proofs.Common.{false, not, cond, eqb, Option, Some, None, Result, Ok, Err, refl, sym, ap, ◌∙◌, subst, arith, ⊎_elim}
 use Rattle.std.proofs.lemmas.Bool.{cases_eq, cases_lt, cases_order, eqb-true, eqb-false, both_ways}
 use Rattle.timetable.specs.Cost.{plan_cost}
-use Rattle.timetable.specs.Day.{Day, wanted_of}
+use Rattle.timetable.specs.Day.{Day, leaves, arrives, wanted_of}
 use Rattle.timetable.specs.Lists.{below}
 use Rattle.timetable.proofs.Ones.{one_same, one_other}
 use Rattle.day_simulator.specs.declared.events.DayEvent.{DayEvent}
@@ -43,6 +43,41 @@ was_not_made state (Depart t) unmade left = by_stage (stage_of state.stages t) l
     by_stage stage.UnderWay left h = cc
     by_stage stage.Arrived left h = cc
 was_not_made state (Arrive t) unmade arrived = both_ways (has_arrived (stage_of state.stages t)) unmade (ap has_arrived arrived)
+
+-- one event comes before another, by moment and then by trip number
+abbrev ComesEarlier : Day → DayEvent → DayEvent → Type 0
+ComesEarlier day e f = (moment_of day e < moment_of day f) ⊎ ((moment_of day e ≡ moment_of day f) × (trip_of e < trip_of f))
+
+-- it is the same by minute, in a minute arrivals before departures, and then by trip number
+by_moment : (day : Day) (e f : DayEvent) → ComesBefore day e f → ComesEarlier day e f
+unfolding moment_of
+by_moment day (Arrive s) (Arrive t) before =
+    ⊎_elim (λ (less : arrives day s < arrives day t). inl (omega (arith, less)))
+    (λ (same : (arrives day s ≡ arrives day t) × (s < t)). inr (omega (arith, same.0), same.1)) before
+by_moment day (Arrive s) (Depart t) before =
+    ⊎_elim (λ (less : arrives day s < leaves day t). inl (omega (arith, less))) (λ (same : (arrives day s ≡ leaves day t) × (Unit {0})). inl (omega (arith, same.0))) before
+by_moment day (Depart s) (Arrive t) before =
+    ⊎_elim (λ (less : leaves day s < arrives day t). inl (omega (arith, less))) (λ (same : (leaves day s ≡ arrives day t) × ⊥). absurd same.1) before
+by_moment day (Depart s) (Depart t) before =
+    ⊎_elim (λ (less : leaves day s < leaves day t). inl (omega (arith, less)))
+    (λ (same : (leaves day s ≡ leaves day t) × (s < t)). inr (omega (arith, same.0), same.1)) before
+
+by_minute : (day : Day) (e f : DayEvent) → ComesEarlier day e f → ComesBefore day e f
+unfolding moment_of
+by_minute day (Arrive s) (Arrive t) before =
+    ⊎_elim (λ (less : 2 * arrives day s < 2 * arrives day t). inl (omega (arith, less)))
+    (λ (same : (2 * arrives day s ≡ 2 * arrives day t) × (s < t)). inr (omega (arith, same.0), same.1)) before
+by_minute day (Arrive s) (Depart t) before =
+    ⊎_elim
+    (λ (less : 2 * arrives day s < 2 * leaves day t + 1).
+    ⊎_elim (λ (same : arrives day s ≡ leaves day t). inr (same, tt)) (λ (ne : arrives day s ≢ leaves day t). inl (omega (arith, less, ne))) (cases_eq (arrives day s) (leaves day t)))
+    (λ (same : (2 * arrives day s ≡ 2 * leaves day t + 1) × (s < t)). absurd (omega (arith, same.0))) before
+by_minute day (Depart s) (Arrive t) before =
+    ⊎_elim (λ (less : 2 * leaves day s + 1 < 2 * arrives day t). inl (omega (arith, less)))
+    (λ (same : (2 * leaves day s + 1 ≡ 2 * arrives day t) × (s < t)). absurd (omega (arith, same.0))) before
+by_minute day (Depart s) (Depart t) before =
+    ⊎_elim (λ (less : 2 * leaves day s + 1 < 2 * leaves day t + 1). inl (omega (arith, less)))
+    (λ (same : (2 * leaves day s + 1 ≡ 2 * leaves day t + 1) × (s < t)). inr (omega (arith, same.0), same.1)) before
 
 -- an event is one of these
 abbrev IsAmong : DayEvent → List DayEvent → Type 0
@@ -86,7 +121,7 @@ module _ (day : Day) where
       ⊎_elim (λ (lt : t < length day.trips). lt) (λ (ge : length day.trips ≤ t). let none = order.none_arrives_beyond t ge in let some = among_arrives t es there in absurd (omega arith)) (cases_lt t (length day.trips))
 
   -- an event behind another does not come before it
-  not_behind : (e f : DayEvent) (fs : List DayEvent) → AllFrom day (moment_of day e) fs → LaterTrips day e fs → IsAmong f fs → ComesBefore day f e → ⊥
+  not_behind : (e f : DayEvent) (fs : List DayEvent) → AllFrom day (moment_of day e) fs → LaterTrips day e fs → IsAmong f fs → ComesEarlier day f e → ⊥
   not_behind e f [] from later there before = there
   not_behind e f (g ∷ gs) from later there before =
       ⊎_elim
@@ -97,7 +132,7 @@ module _ (day : Day) where
       (λ (lesser : (moment_of day f ≡ moment_of day e) × (trip_of f < trip_of e)). let more = later.0 (sym is ∙ lesser.0) in omega (arith, more, trip, lesser.1)) before)
       (λ (rest : IsAmong f gs). not_behind e f gs from.1 later.1 rest before) there
 
-  not_before_itself : (e : DayEvent) → ComesBefore day e e → ⊥
+  not_before_itself : (e : DayEvent) → ComesEarlier day e e → ⊥
   not_before_itself e before =
       ⊎_elim (λ (earlier : moment_of day e < moment_of day e). omega (arith, earlier)) (λ (lesser : (moment_of day e ≡ moment_of day e) × (trip_of e < trip_of e)). omega (arith, lesser.1)) before
 
@@ -108,17 +143,17 @@ module _ (day : Day) where
   same_event (Depart s) (Arrive t) moment trip = let less = never_together day s t moment in absurd (omega (arith, less, trip))
   same_event (Arrive s) (Depart t) moment trip = let less = never_together day t s (sym moment) in absurd (omega (arith, less, trip))
 
-  comes_first : (e f : DayEvent) → (e ≡ f) ⊎ (ComesBefore day e f ⊎ ComesBefore day f e)
+  comes_first : (e f : DayEvent) → (e ≡ f) ⊎ (ComesEarlier day e f ⊎ ComesEarlier day f e)
   comes_first e f = ⊎_elim at_once apart (cases_order (moment_of day e) (moment_of day f))
     where
-      at_once : moment_of day e ≡ moment_of day f → (e ≡ f) ⊎ (ComesBefore day e f ⊎ ComesBefore day f e)
+      at_once : moment_of day e ≡ moment_of day f → (e ≡ f) ⊎ (ComesEarlier day e f ⊎ ComesEarlier day f e)
       at_once moment =
           ⊎_elim (λ (trip : trip_of e ≡ trip_of f). inl (same_event e f moment trip))
           (λ (ne : (trip_of e < trip_of f) ⊎ (trip_of f < trip_of e)).
           ⊎_elim (λ (less : trip_of e < trip_of f). inr (inl (inr (moment, less)))) (λ (more : trip_of f < trip_of e). inr (inr (inr (sym moment, more)))) ne)
           (cases_order (trip_of e) (trip_of f))
 
-      apart : (moment_of day e < moment_of day f) ⊎ (moment_of day f < moment_of day e) → (e ≡ f) ⊎ (ComesBefore day e f ⊎ ComesBefore day f e)
+      apart : (moment_of day e < moment_of day f) ⊎ (moment_of day f < moment_of day e) → (e ≡ f) ⊎ (ComesEarlier day e f ⊎ ComesEarlier day f e)
       apart ne = ⊎_elim (λ (earlier : moment_of day e < moment_of day f). inr (inl (inl earlier))) (λ (later : moment_of day f < moment_of day e). inr (inr (inl later))) ne
 
   module _ (state : State) where
@@ -135,7 +170,7 @@ module _ (day : Day) where
         by_test true made told later = let there = later told in (inr there.0, there.1)
         by_test false unmade told later = let same = same_event_told f e told in (inl (sym same), subst (λ (x : DayEvent). ¬ WasMade state x) same (was_not_made state f unmade))
 
-    made_before : (es : List DayEvent) (e : DayEvent) → NeverFalls day es → RisesByTrip day es → first_not_made state es ≡ Some e → (f : DayEvent) → IsAmong f es → ComesBefore day f e → WasMade state f
+    made_before : (es : List DayEvent) (e : DayEvent) → NeverFalls day es → RisesByTrip day es → first_not_made state es ≡ Some e → (f : DayEvent) → IsAmong f es → ComesEarlier day f e → WasMade state f
     made_before [] e falls rises told f there before = absurd there
     made_before (g ∷ gs) e falls rises told f there before = by_test (is_made state g) refl told (λ h rest. made_before gs e falls.1 rises.1 h f rest before)
       where
@@ -143,8 +178,8 @@ module _ (day : Day) where
         by_test true made told later = ⊎_elim (λ (same : f ≡ g). subst (λ (x : DayEvent). WasMade state x) (sym same) (was_made state g made)) (λ (rest : IsAmong f gs). later told rest) there
         by_test false unmade told later =
             let same = same_event_told g e told in
-            let ahead : ComesBefore day f g = subst (λ (x : DayEvent). ComesBefore day f x) (sym same) before in
-            ⊎_elim (λ (is : f ≡ g). absurd (not_before_itself g (subst (λ (x : DayEvent). ComesBefore day x g) is ahead)))
+            let ahead : ComesEarlier day f g = subst (λ (x : DayEvent). ComesEarlier day f x) (sym same) before in
+            ⊎_elim (λ (is : f ≡ g). absurd (not_before_itself g (subst (λ (x : DayEvent). ComesEarlier day x g) is ahead)))
             (λ (rest : IsAmong f gs). absurd (not_behind g f gs falls.0 rises.0 rest ahead)) there
 
     each_made : (es : List DayEvent) → first_not_made state es ≡ None → (e : DayEvent) → IsAmong e es → WasMade state e
@@ -165,14 +200,14 @@ module _ (day : Day) where
         record {
           known = has_trips (fixed_order day) order.0 e there.0;
           unmade = there.1;
-          before = λ f known before. made_before (fixed_order day) e order.0.never_falls order.1 told f (has_events (fixed_order day) order.0 f known) before;
+          before = λ f known before. made_before (fixed_order day) e order.0.never_falls order.1 told f (has_events (fixed_order day) order.0 f known) (by_moment day f e before);
         }
 
     one_unmade : (e f : DayEvent) → IsFirstUnmade day state e → IsFirstUnmade day state f → e ≡ f
     one_unmade e f is other =
         ⊎_elim (λ (same : e ≡ f). same)
-        (λ (ne : ComesBefore day e f ⊎ ComesBefore day f e).
-        ⊎_elim (λ (before : ComesBefore day e f). absurd (is.unmade (other.before e is.known before))) (λ (before : ComesBefore day f e). absurd (other.unmade (is.before f other.known before))) ne)
+        (λ (ne : ComesEarlier day e f ⊎ ComesEarlier day f e).
+        ⊎_elim (λ (before : ComesEarlier day e f). absurd (is.unmade (other.before e is.known (by_minute day e f before)))) (λ (before : ComesEarlier day f e). absurd (other.unmade (is.before f other.known (by_minute day f e before)))) ne)
         (comes_first e f)
 
 -- ---- yards

@@ -1,16 +1,19 @@
 -- The fault of an event is that of the first of its tests that fails.
-use Rattle.std.proofs.Common.{◌≡◌, inl, inr, ℕ, ◌<◌, ◌≤◌, List, [], ◌∷◌, ◌++◌, length, set, Bool, true, false, not, cond}
+use Rattle.std.proofs.Common.{◌≡◌, inl, inr, ℕ, zero, suc, ◌+◌, ◌*◌, ◌/◌, ◌%◌, ◌<◌, ◌≤◌, List, [], ◌∷◌, ◌++◌, length}
+use Rattle.std.proofs.Common.{map, take, get_or, set, Bool, true, false, not, cond}
 use Rattle.std.proofs.Common.{IsTrue, Option, Some, None, refl, sym, ap, ◌∙◌, subst, arith, eqb, ⊎_elim, ◌⊎◌, ◌≢◌}
 use Rattle.std.specs.Prelude.{option_map, option_and_then, unwrap_or, slice_get, ◌&&◌, ◌==◌, nat_le, if◌then◌else◌}
 use Rattle.std.specs.List.{list_all}
+use Rattle.std.proofs.Math.Seq.{take-append_seam, get_or-append_seam}
+use Rattle.std.proofs.lemmas.List.{length-append, append_assoc}
 use Rattle.std.proofs.lemmas.Bool.{both_ways, cases_eq, and_parts, and_from, eqb-true, eq-eqb, leb-true, le-leb}
 use Rattle.timetable.specs.declared.day.records.Link.{Link}
 use Rattle.timetable.specs.declared.day.records.LinkKind.{LinkKind}
 use Rattle.timetable.specs.declared.day.records.LinkKind.TheVariants.{Turn, Join, Split}
 use Rattle.timetable.specs.Admissible.{is_admissible}
-use Rattle.timetable.specs.Day.{Day, leaves, from_of, type_of, types_of, unit_count}
+use Rattle.timetable.specs.Day.{Day, leaves, arrives, from_of, type_of, types_of, unit_count}
 use Rattle.timetable.specs.Links.{list_of, incoming, outgoing, link_into, link_holds, arriving_in, taken}
-use Rattle.timetable.specs.Lists.{count_of, has}
+use Rattle.timetable.specs.Lists.{count_of, has, below}
 use Rattle.timetable.specs.Running.{IsPlan}
 use Rattle.timetable.specs.Tests.{Test, ◌when◌}
 use Rattle.timetable.proofs.Ones.{one_same, one_other}
@@ -27,7 +30,7 @@ use Rattle.day_simulator.specs.State.{put_all}
 use Rattle.day_simulator.specs.Steps.{is_now, feeders, is_tested_at, broken, broken_into, broken_out, first_missing}
 use Rattle.day_simulator.specs.Steps.{train_fault, fault_of}
 use Rattle.day_simulator.specs.StepTests.{MayLeave, MayArrive, IsJoin, IsTurnOrSplit, BreaksRule, rule_tests, StandsReady}
-use Rattle.day_simulator.specs.StepTests.{unit_tests, step_tests, StepsAreTested}
+use Rattle.day_simulator.specs.StepTests.{CannotBeTaken, unit_tests, step_tests, StepsAreTested}
 use Rattle.day_simulator.proofs.FirstTests.{Tested, tested_none, tested_failed, tested_passed, tested_unless, tested_where}
 use Rattle.day_simulator.proofs.FirstTests.{tested_before, tested_behind, told}
 use Rattle.day_simulator.proofs.LinkTrips.{taken_known}
@@ -35,6 +38,23 @@ use Rattle.day_simulator.proofs.PutPlaces.{place_of-put_all, put_all-append}
 use Rattle.day_simulator.proofs.Timely.{all_arrived}
 
 -- ---- that an event comes now
+
+-- the moment of an event has not passed, by minutes and by whether a departure was made in the last one
+departs_in_time : (moment minute : ℕ) → moment ≤ 2 * minute + 1 → moment / 2 ≤ minute
+departs_in_time moment minute le = omega arith
+
+until_departure : (moment minute : ℕ) → moment / 2 ≤ minute → moment ≤ 2 * minute + 1
+until_departure moment minute le = omega arith
+
+arrives_in_time : (moment minute : ℕ) → moment ≤ 2 * minute → (moment / 2 < minute) ⊎ ((moment / 2 ≡ minute) × (¬ (moment % 2 ≡ 1)))
+arrives_in_time moment minute le =
+    ⊎_elim (λ (same : moment / 2 ≡ minute). inr (same, λ one. omega (arith, le, same, one))) (λ (ne : moment / 2 ≢ minute). inl (omega arith)) (cases_eq (moment / 2) minute)
+
+until_arrival : (moment minute : ℕ) → (moment / 2 < minute) ⊎ ((moment / 2 ≡ minute) × (¬ (moment % 2 ≡ 1))) → moment ≤ 2 * minute
+until_arrival moment minute in_time =
+    ⊎_elim (λ (earlier : moment / 2 < minute). omega (arith, earlier))
+    (λ (same : (moment / 2 ≡ minute) × (¬ (moment % 2 ≡ 1))).
+    ⊎_elim (λ (one : moment % 2 ≡ 1). absurd (same.1 one)) (λ (none : moment % 2 ≢ 1). omega (arith, same.0, none)) (cases_eq (moment % 2) 1)) in_time
 
 waiting : (s : Stage) → is_waiting s ≡ true → s ≡ stage.Waiting
 waiting stage.Waiting e = refl
@@ -77,33 +97,33 @@ module _ (day : Day) (state : State) (t : ℕ) where
       by_link (Some link) into = all_arrived state.stages (arriving_in link.kind) (λ a c. each link a into (le-leb 1 (count_of a (arriving_in link.kind)) c))
 
   may_leave : is_now day state (Depart t) ≡ true → MayLeave day state t
-  unfolding is_now
+  unfolding is_now moment_of
   may_leave now =
       let all = and_parts (nat_le state.moment (moment_of day (Depart t)) && is_waiting (stage_of state.stages t)) (list_all (λ a. has_arrived (stage_of state.stages a)) (feeders day t)) now in
       let parts = and_parts (nat_le state.moment (moment_of day (Depart t))) (is_waiting (stage_of state.stages t)) all.0 in
       record {
-        in_time = leb-true state.moment (moment_of day (Depart t)) parts.0;
+        in_time = departs_in_time state.moment (leaves day t) (leb-true state.moment (moment_of day (Depart t)) parts.0);
         waits = waiting (stage_of state.stages t) parts.1;
         fed = fed all.1;
       }
 
   leaves_now : MayLeave day state t → is_now day state (Depart t) ≡ true
-  unfolding is_now
+  unfolding is_now moment_of
   leaves_now may =
-      and_from _ _ (and_from _ _ (le-leb state.moment (moment_of day (Depart t)) may.in_time) (ap is_waiting may.waits)) (all_fed may.fed)
+      and_from _ _ (and_from _ _ (le-leb state.moment (moment_of day (Depart t)) (until_departure state.moment (leaves day t) may.in_time)) (ap is_waiting may.waits)) (all_fed may.fed)
 
   may_arrive : is_now day state (Arrive t) ≡ true → MayArrive day state t
-  unfolding is_now
+  unfolding is_now moment_of
   may_arrive now =
       let parts = and_parts (nat_le state.moment (moment_of day (Arrive t))) (is_under_way (stage_of state.stages t)) now in
       record {
-        in_time = leb-true state.moment (moment_of day (Arrive t)) parts.0;
+        in_time = arrives_in_time state.moment (arrives day t) (leb-true state.moment (moment_of day (Arrive t)) parts.0);
         under_way = under_way (stage_of state.stages t) parts.1;
       }
 
   arrives_now : MayArrive day state t → is_now day state (Arrive t) ≡ true
-  unfolding is_now
-  arrives_now may = and_from _ _ (le-leb state.moment (moment_of day (Arrive t)) may.in_time) (ap is_under_way may.under_way)
+  unfolding is_now moment_of
+  arrives_now may = and_from _ _ (le-leb state.moment (moment_of day (Arrive t)) (until_arrival state.moment (arrives day t) may.in_time)) (ap is_under_way may.under_way)
 
 -- ---- that the rule of a link holds
 
@@ -160,6 +180,23 @@ rule_then tests tests' (Some l) rest first later = tested_before tests tests' (L
 
 -- ---- that units can be taken
 
+-- so many numbers, from one on
+abbrev numbers_from : ℕ → ℕ → List ℕ
+numbers_from k zero = []
+numbers_from k (suc n) = k ∷ numbers_from (suc k) n
+
+numbers_more : (k n : ℕ) → numbers_from k (suc n) ≡ numbers_from k n ++ (k + n) ∷ []
+numbers_more k zero = let same : k ≡ k + 0 = omega arith in ap (λ (m : ℕ). m ∷ []) same
+numbers_more k (suc n) =
+    let same : suc k + n ≡ k + suc n = omega arith in
+    ap (λ (l : List ℕ). k ∷ l) (numbers_more (suc k) n ∙ ap (λ (m : ℕ). numbers_from (suc k) n ++ m ∷ []) same)
+
+below_is : (n : ℕ) → below n ≡ numbers_from 0 n
+below_is zero = refl
+below_is (suc n) =
+    let same : 0 + n ≡ n = omega arith in
+    ap (λ (l : List ℕ). l ++ n ∷ []) (below_is n) ∙ sym (numbers_more 0 n ∙ ap (λ (m : ℕ). numbers_from 0 n ++ m ∷ []) same)
+
 module _ (day : Day) (state : State) (t : ℕ) where
   abbrev ready_in : Place → Bool
   ready_in place = is_ready (from_of day t) (leaves day t) place
@@ -208,22 +245,44 @@ module _ (day : Day) (state : State) (t : ℕ) where
       by_taken true h = inr h
       by_taken false h = inl (λ stands. both_ways (ready_in (place_of state.places u)) (sym (ready_after before u false inside h) ∙ ready) (is_ready_there u stands))
 
-  units_tested : (before us : List ℕ) → ((u : ℕ) → 1 ≤ count_of u us → u < length state.places)
-      → Tested (unit_tests day state t before us) (option_map (λ u. NotInYard u t) (first_missing day t (places_after before) us))
-  units_tested before [] inside = tested_none StepFault
-  units_tested before (u ∷ us) inside =
-      by_test (ready_in (place_of (places_after before) u)) refl
-      (subst (λ (ps : List Place). Tested (unit_tests day state t (before ++ u ∷ []) us) (option_map (λ u. NotInYard u t) (first_missing day t ps us)))
-      (put_all-append state.places before (u ∷ []) (Aboard t)) (units_tested (before ++ u ∷ []) us (λ v c. inside v (omega arith))))
+  -- the test of a place
+  abbrev place_test : List ℕ → ℕ → Test StepFault
+  place_test all k = NotInYard (get_or all k 0) t when CannotBeTaken day state t all k
+
+  -- where some units stand before a unit and others behind it, the test of its place is the unit's
+  at_seam : (all before us : List ℕ) (u : ℕ) (tests : List (Test StepFault)) (fault : Option StepFault) → all ≡ before ++ u ∷ us
+      → Tested (unit_test before u ∷ tests) fault → Tested (place_test all (length before) ∷ tests) fault
+  at_seam all before us u tests fault is tested =
+      subst (λ (v : ℕ). Tested ((NotInYard v t when ((¬ StandsReady day state t v) ⊎ IsTrue (has v (take (length before) all)))) ∷ tests) fault)
+      (sym (ap (λ (l : List ℕ). get_or l (length before) 0) is ∙ get_or-append_seam before u us 0))
+      (subst (λ (l : List ℕ). Tested ((NotInYard u t when ((¬ StandsReady day state t u) ⊎ IsTrue (has u l))) ∷ tests) fault)
+      (sym (ap (λ (l : List ℕ). take (length before) l) is ∙ take-append_seam before (u ∷ us))) tested)
+
+  units_tested : (all before us : List ℕ) → all ≡ before ++ us → ((u : ℕ) → 1 ≤ count_of u us → u < length state.places)
+      → Tested (map (place_test all) (numbers_from (length before) (length us))) (option_map (λ u. NotInYard u t) (first_missing day t (places_after before) us))
+  units_tested all before [] is inside = tested_none StepFault
+  units_tested all before (u ∷ us) is inside =
+      at_seam all before us u (map (place_test all) (numbers_from (suc (length before)) (length us))) _ is
+      (by_test (ready_in (place_of (places_after before) u)) refl
+      (subst (λ (n : ℕ). Tested (map (place_test all) (numbers_from n (length us))) (option_map (λ u. NotInYard u t) (first_missing day t (set (places_after before) u (Aboard t)) us)))
+      (length-append before (u ∷ []) ∙ omega arith)
+      (subst (λ (ps : List Place). Tested (map (place_test all) (numbers_from (length (before ++ u ∷ [])) (length us))) (option_map (λ u. NotInYard u t) (first_missing day t ps us)))
+      (put_all-append state.places before (u ∷ []) (Aboard t))
+      (units_tested all (before ++ u ∷ []) us (is ∙ sym (append_assoc before (u ∷ []) us)) (λ v c. inside v (omega arith))))))
     where
       here : u < length state.places
       here = let one = one_same u u refl in inside u (omega arith)
 
       by_test : (b : Bool) → ready_in (place_of (places_after before) u) ≡ b
-          → Tested (unit_tests day state t (before ++ u ∷ []) us) (option_map (λ u. NotInYard u t) (first_missing day t (set (places_after before) u (Aboard t)) us))
-          → Tested (unit_test before u ∷ unit_tests day state t (before ++ u ∷ []) us) (option_map (λ u. NotInYard u t) (cond b (first_missing day t (set (places_after before) u (Aboard t)) us) (Some u)))
-      by_test true ready rest = tested_passed (unit_test before u) (unit_tests day state t (before ++ u ∷ []) us) _ (can_be_taken before u here ready) rest
-      by_test false ready rest = tested_failed (unit_test before u) (unit_tests day state t (before ++ u ∷ []) us) (cannot_be_taken before u here ready)
+          → Tested (map (place_test all) (numbers_from (suc (length before)) (length us))) (option_map (λ u. NotInYard u t) (first_missing day t (set (places_after before) u (Aboard t)) us))
+          → Tested (unit_test before u ∷ map (place_test all) (numbers_from (suc (length before)) (length us))) (option_map (λ u. NotInYard u t) (cond b (first_missing day t (set (places_after before) u (Aboard t)) us) (Some u)))
+      by_test true ready rest = tested_passed (unit_test before u) (map (place_test all) (numbers_from (suc (length before)) (length us))) _ (can_be_taken before u here ready) rest
+      by_test false ready rest = tested_failed (unit_test before u) (map (place_test all) (numbers_from (suc (length before)) (length us))) (cannot_be_taken before u here ready)
+
+  all_tested : (us : List ℕ) → ((u : ℕ) → 1 ≤ count_of u us → u < length state.places)
+      → Tested (unit_tests day state t us) (option_map (λ u. NotInYard u t) (first_missing day t state.places us))
+  all_tested us inside =
+      subst (λ (ks : List ℕ). Tested (map (place_test us) ks) (option_map (λ u. NotInYard u t) (first_missing day t state.places us))) (sym (below_is (length us))) (units_tested us [] us refl inside)
 
 -- ---- the tests of an event
 
@@ -237,7 +296,7 @@ not_empty us e none = both_ways (eqb (length us) 0) e (eq-eqb (length us) 0 (ap 
 module _ (day : Day) (plan : List (List ℕ)) (state : State) (t : ℕ) where
   -- the tests of a departure, each with those behind it
   abbrev of_units : List (Test StepFault)
-  of_units = unit_tests day state t [] (taken day plan t)
+  of_units = unit_tests day state t (taken day plan t)
 
   abbrev of_join : List (Test StepFault)
   of_join = rule_tests (BreaksRule day plan IsJoin) (incoming day t) ++ of_units
@@ -262,7 +321,7 @@ module _ (day : Day) (plan : List (List ℕ)) (state : State) (t : ℕ) where
       tested_where (NotAdmissible t when (is_admissible day t (types_of day (list_of plan t)) ≡ false)) of_join (is_admissible day t (types_of day (list_of plan t))) _
       (λ unfit. unfit) (λ fits unfit. both_ways (is_admissible day t (types_of day (list_of plan t))) unfit fits) (λ fits.
       rule_then (rule_tests (BreaksRule day plan IsJoin) (incoming day t)) of_units (broken_into day plan t) (option_map (λ u. NotInYard u t) (first_missing day t state.places (taken day plan t)))
-      join_tested (units_tested day state t [] (taken day plan t) inside))))
+      join_tested (all_tested day state t (taken day plan t) inside))))
     where
       inside : (u : ℕ) → 1 ≤ count_of u (taken day plan t) → u < length state.places
       inside u c = let known = taken_known day plan is_plan t u (le-leb 1 (count_of u (taken day plan t)) c) in omega (arith, known, places)

@@ -2,13 +2,13 @@
 -- units as are wanted.
 use Rattle.std.specs.Prelude.{ℕ, ◌≡◌, ◌≢◌, ◌<◌, ◌↔◌, ◌⊎◌, List, length, Ok, Err}
 use Rattle.timetable.specs.Cost.{plan_cost}
-use Rattle.timetable.specs.Day.{Day, wanted_of}
+use Rattle.timetable.specs.Day.{Day, leaves, arrives, wanted_of}
 use Rattle.day_simulator.specs.declared.events.DayEvent.{DayEvent}
 use Rattle.day_simulator.specs.declared.events.DayEvent.TheVariants.{Depart, Arrive}
 use Rattle.day_simulator.specs.declared.events.Stage.TheVariants as stage
 use Rattle.day_simulator.specs.declared.events.StepFault.{StepFault}
 use Rattle.day_simulator.specs.declared.events.StepFault.TheVariants.{NotNow, Balance}
-use Rattle.day_simulator.specs.State.{State, stage_of, moment_of, trip_of}
+use Rattle.day_simulator.specs.State.{State, stage_of, trip_of}
 use Rattle.day_simulator.specs.Finish.{yard_count, finish_of}
 
 -- ---- events
@@ -18,10 +18,23 @@ abbrev pub WasMade : State → DayEvent → Type 0
 WasMade state (Depart t) = stage_of state.stages t ≢ stage.Waiting
 WasMade state (Arrive t) = stage_of state.stages t ≡ stage.Arrived
 
--- one event comes before another: by moment, and then by trip number
+-- the minute at which the trip of an event leaves or arrives
+abbrev pub minute_of : Day → DayEvent → ℕ
+minute_of day (Depart t) = leaves day t
+minute_of day (Arrive t) = arrives day t
+
+-- of two events of one minute this one comes before that one: an arrival before a departure, and of two of a kind that
+-- of the smaller trip number
+abbrev pub ComesBeforeInMinute : DayEvent → DayEvent → Type 0
+ComesBeforeInMinute (Arrive s) (Depart t) = Unit {0}
+ComesBeforeInMinute (Depart s) (Arrive t) = ⊥
+ComesBeforeInMinute (Arrive s) (Arrive t) = s < t
+ComesBeforeInMinute (Depart s) (Depart t) = s < t
+
+-- one event comes before another: by minute, in a minute arrivals before departures, and then by trip number
 abbrev pub ComesBefore : Day → DayEvent → DayEvent → Type 0
 ComesBefore day e f =
-    (moment_of day e < moment_of day f) ⊎ ((moment_of day e ≡ moment_of day f) × (trip_of e < trip_of f))
+    (minute_of day e < minute_of day f) ⊎ ((minute_of day e ≡ minute_of day f) × ComesBeforeInMinute e f)
 
 abbrev pub AllWereMade : Day → State → Type 0
 AllWereMade day state = (event : DayEvent) → trip_of event < length day.trips → WasMade state event
@@ -63,7 +76,8 @@ IsEndFault day state (Balance station unit_type count wanted) =
 IsEndFault day state _ = ⊥
 
 -- What is told at the end of a day is its first fault, or what the plan costs where all events were made and each yard
--- has as many units as are wanted.
+-- has as many units as are wanted. It speaks of states that have a place for each unit and a stage for each trip, as a
+-- day that is stepped always has.
 pub record EndsAreTold : Type 0 where
   pub fault : (day : Day) (plan : List (List ℕ)) (state : State) (fault : StepFault)
       → (finish_of day plan state ≡ Err fault) ↔ IsEndFault day state fault

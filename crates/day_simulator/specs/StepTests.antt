@@ -1,13 +1,13 @@
 -- The tests that an event undergoes, in their order. Its fault is that of the first that fails.
-use Rattle.std.specs.Prelude.{ℕ, ◌≡◌, ◌≤◌, ◌↔◌, ◌⊎◌, List, [], ◌∷◌, ◌++◌, length, false, IsTrue, Option, Some, None}
-use Rattle.std.specs.Prelude.{slice_get}
+use Rattle.std.specs.Prelude.{ℕ, ◌≡◌, ◌<◌, ◌≤◌, ◌/◌, ◌%◌, ◌↔◌, ◌⊎◌, List, [], ◌∷◌, ◌++◌, length, map, take}
+use Rattle.std.specs.Prelude.{false, IsTrue, Option, Some, None, get_or, slice_get}
 use Rattle.timetable.specs.declared.day.records.Link.{Link}
 use Rattle.timetable.specs.declared.day.records.LinkKind.{LinkKind}
 use Rattle.timetable.specs.declared.day.records.LinkKind.TheVariants.{Turn, Join, Split}
 use Rattle.timetable.specs.Admissible.{is_admissible}
-use Rattle.timetable.specs.Day.{Day, leaves, from_of, type_of, types_of, unit_count}
+use Rattle.timetable.specs.Day.{Day, leaves, arrives, from_of, type_of, types_of, unit_count}
 use Rattle.timetable.specs.Links.{list_of, incoming, outgoing, link_into, link_holds, arriving_in, taken}
-use Rattle.timetable.specs.Lists.{has}
+use Rattle.timetable.specs.Lists.{has, below}
 use Rattle.timetable.specs.Running.{IsPlan}
 use Rattle.timetable.specs.Tests.{Test, ◌when◌, NoneFailed, IsFirstFailed}
 use Rattle.day_simulator.specs.declared.events.DayEvent.{DayEvent}
@@ -17,22 +17,32 @@ use Rattle.day_simulator.specs.declared.events.Stage.TheVariants as stage
 use Rattle.day_simulator.specs.declared.events.StepFault.{StepFault}
 use Rattle.day_simulator.specs.declared.events.StepFault.TheVariants.{NotNow, NoUnits, NotAdmissible, LinkBroken}
 use Rattle.day_simulator.specs.declared.events.StepFault.TheVariants.{NotInYard}
-use Rattle.day_simulator.specs.State.{State, place_of, stage_of, moment_of}
+use Rattle.day_simulator.specs.State.{State, place_of, stage_of}
 use Rattle.day_simulator.specs.Steps.{fault_of}
 
 -- ---- that an event comes now
 
--- The trip may leave now: the moment has not passed, the trip has not left, and those that arrive for the link into it
--- have arrived.
+-- the minute of the last event that was made, and 0 where none was
+abbrev pub last_minute : State → ℕ
+last_minute state = state.moment / 2
+
+-- a departure was made in that minute
+abbrev pub DepartedInLastMinute : State → Type 0
+DepartedInLastMinute state = state.moment % 2 ≡ 1
+
+-- The trip may leave now: no event of a later minute was made, the trip has not left, and those that arrive for the
+-- link into it have arrived.
 pub record MayLeave (day : Day) (state : State) (t : ℕ) : Type 0 where
-  pub in_time : state.moment ≤ moment_of day (Depart t)
+  pub in_time : last_minute state ≤ leaves day t
   pub waits : stage_of state.stages t ≡ stage.Waiting
   pub fed : (link : Link) (a : ℕ) → link_into day t ≡ Some link → IsTrue (has a (arriving_in link.kind))
       → stage_of state.stages a ≡ stage.Arrived
 
--- The trip may arrive now: the moment has not passed, and the trip is under way.
+-- The trip may arrive now: no event of a later minute was made, and no departure in the same minute; and the trip is
+-- under way.
 pub record MayArrive (day : Day) (state : State) (t : ℕ) : Type 0 where
-  pub in_time : state.moment ≤ moment_of day (Arrive t)
+  pub in_time : (last_minute state < arrives day t)
+      ⊎ ((last_minute state ≡ arrives day t) × (¬ DepartedInLastMinute state))
   pub under_way : stage_of state.stages t ≡ stage.UnderWay
 
 -- ---- that the rule of a link holds
@@ -67,12 +77,15 @@ pub record StandsReady (day : Day) (state : State) (t u : ℕ) : Type 0 where
   pub yard : place_of state.places u ≡ Yard (from_of day t) ready
   pub in_time : ready ≤ leaves day t
 
--- the tests of units that a trip takes, front to rear: each stands ready, and is none of those before it
-abbrev pub unit_tests : Day → State → ℕ → List ℕ → List ℕ → List (Test StepFault)
-unit_tests day state t before [] = []
-unit_tests day state t before (u ∷ us) =
-    NotInYard u t when ((¬ StandsReady day state t u) ⊎ IsTrue (has u before))
-    ∷ unit_tests day state t (before ++ u ∷ []) us
+-- Of the units that a trip takes, front to rear, the one at a place cannot be taken: it does not stand ready, or it is
+-- one of those at the places before.
+abbrev pub CannotBeTaken : Day → State → ℕ → List ℕ → ℕ → Type 0
+CannotBeTaken day state t us k = (¬ StandsReady day state t (get_or us k 0)) ⊎ IsTrue (has (get_or us k 0) (take k us))
+
+-- One test for each place of these units, so that the first that fails is that of the first unit that cannot be taken.
+abbrev pub unit_tests : Day → State → ℕ → List ℕ → List (Test StepFault)
+unit_tests day state t us =
+    map (λ k. NotInYard (get_or us k 0) t when CannotBeTaken day state t us k) (below (length us))
 
 -- ---- the tests of an event
 
@@ -83,7 +96,7 @@ step_tests day plan state (Depart t) =
     NotNow (Depart t) when (¬ MayLeave day state t)
     ∷ NoUnits t when (list_of plan t ≡ [])
     ∷ NotAdmissible t when (is_admissible day t (types_of day (list_of plan t)) ≡ false)
-    ∷ (rule_tests (BreaksRule day plan IsJoin) (incoming day t) ++ unit_tests day state t [] (taken day plan t))
+    ∷ (rule_tests (BreaksRule day plan IsJoin) (incoming day t) ++ unit_tests day state t (taken day plan t))
 step_tests day plan state (Arrive t) =
     NotNow (Arrive t) when (¬ MayArrive day state t)
     ∷ rule_tests (BreaksRule day plan IsTurnOrSplit) (outgoing day t)

@@ -1,45 +1,53 @@
 //! The machine and the conditions on a plan say the same, in every order of the day's events. Where something is wrong,
 //! the first fault is told.
 //!
-//! Each law is the contract of a function that does nothing: it holds of every day and every plan.
+//! Each law is the contract of a function that does nothing, and says of which days, plans and states it holds. A day
+//! is within its limits where each trip arrives after it leaves, what it names is there, and each number is in bounds.
+//! Its links are in order where they name trips of the day, no trip arrives for two of them or departs by two, and
+//! none departs before one that it goes on from arrives. A plan of the day has for each trip a list of units of the
+//! day; it need not run.
 
 ghost use Rattle.day_simulator.specs.EndFaults.{EndsAreTold};
 ghost use Rattle.day_simulator.specs.Laws.{IsInFixedOrder, InEveryOrder, RunInFixedOrder, InTurn};
 ghost use Rattle.day_simulator.specs.StepTests.{StepsAreTested};
 
-/// The fixed order, in which a whole day is stepped, is an order of the day: each trip departs once and arrives once,
-/// minutes never fall, and in each minute arrivals come before departures. Arrivals of one minute come by rising trip
-/// number, and so do departures.
+/// Of every day, the fixed order, in which the whole day is stepped, is an order of the day: each trip departs once
+/// and arrives once, minutes never fall, and in each minute arrivals come before departures. Arrivals of one minute
+/// come by rising trip number, and so do departures.
 pub fn is_in_fixed_order()
     ensures law { IsInFixedOrder }
 {}
 
-/// In every order of the day's events, all of them go through to the end exactly where the plan runs. Then each unit is
-/// in the yard of its last place, ready at the same minute, and the day costs what the plan costs, whichever the order
-/// was.
+/// Of a day within its limits whose links are in order, and a plan of the day: in every order of the day's events, all
+/// of them go through to the end exactly where the plan runs. Then each unit is in the yard of its last place, ready
+/// at the same minute, and the day costs what the plan costs, whichever the order was.
 pub fn runs_in_every_order()
     ensures law { InEveryOrder }
 {}
 
-/// In the fixed order, the day goes through to its end exactly where the plan runs, and then costs what the plan costs.
+/// Of a day within its limits whose links are in order, and a plan of the day: in the fixed order, the day goes
+/// through to its end exactly where the plan runs, and then costs what the plan costs.
 pub fn runs_exactly()
     ensures law { RunInFixedOrder }
 {}
 
-/// In the fixed order no event is out of turn, and none is missing at the end: a plan stops for a cause of its own.
+/// Of a day within its limits whose links are in order: in the fixed order no event is out of turn, and none is
+/// missing at the end, whatever the plan is. A plan stops for a cause of its own.
 pub fn is_always_in_turn()
     ensures law { InTurn }
 {}
 
-/// The fault of an event is that of the first test that fails, and there is none exactly where none fails. A departure
-/// is tested in this order: it comes now; the trip has units; their types are admissible; the rule of the join into it
-/// holds, where a join leads into it; each unit that it takes, from the front on, stands in the yard of its station, is
-/// ready, and is none of those before it. An arrival comes now, and the rule of the turn or split on from it holds.
+/// Of a plan of the day, and a state that has a place for each unit: the fault of an event is that of the first test
+/// that fails, and there is none exactly where none fails. A departure is tested in this order: it comes now; the trip
+/// has units; their types are admissible; the rule of the join into it holds, where a join leads into it; each unit
+/// that it takes, from the front on, stands in the yard of its station, is ready, and is none of those before it. An
+/// arrival comes now, and the rule of the turn or split on from it holds, where one leads on.
 pub fn steps_are_tested()
     ensures law { StepsAreTested }
 {}
 
-/// What is told at the end of the day is the first event that was not made, by moment and then by trip number; or else
+/// Of a state that has a place for each unit and a stage for each trip: what is told at the end of the day is the
+/// first event that was not made, by minute, in a minute arrivals before departures, and then by trip number; or else
 /// the first station and type, in this order, of which the yard has another number of units than is wanted, with both
 /// numbers; or else what the plan costs.
 pub fn ends_are_told()
