@@ -131,4 +131,4 @@ module _ (day : Day) (types : List (List ℕ)) (t : ℕ) (is_day : IsDay day) (l
   }
 
 pub trips_take_in_turn : TripsTakeInTurn
-trips_take_in_turn day types t is_day links known = (units day types t is_day links known, takes day types t is_day links known)
+trips_take_in_turn day types t is_day links holds known = (units day types t is_day links known, takes day types t is_day links known)

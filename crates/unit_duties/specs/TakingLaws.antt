@@ -10,6 +10,7 @@ use Rattle.timetable.specs.Lists.{below}
 use Rattle.inventory.specs.Naming.{InYard, standing, named_plan}
 use Rattle.inventory.specs.NamingLaws.{IsAvailable, IsNextUnit}
 use Rattle.inventory.specs.Places.{coming, put_together}
+use Rattle.unit_duties.specs.Broken.{EachHolds}
 
 -- the trips that leave before trip t, or at the same minute with a smaller number; the one that leaves last first
 abbrev pub trips_before : Day → ℕ → List ℕ
@@ -32,7 +33,8 @@ pub record TakesInTurn (day : Day) (types plan : List (List ℕ)) (t : ℕ) (us 
       → IsAvailable day (stands_for day types plan t) (from_of day t) (leaves day t) (take k us) m v
       → IsNextUnit day (stands_for day types plan t) (from_of day t) (leaves day t) (take k us) m u
 
--- so does each trip of a plan that is named by the rule
+-- So does each trip of a plan that is named by the rule, where the rule of each link holds of the types. Where a link
+-- is broken, nothing is said: it leaves open which units a train keeps, and so which are taken.
 abbrev pub TripsTakeInTurn : Type 0
-TripsTakeInTurn = (day : Day) (types : List (List ℕ)) (t : ℕ) → IsDay day → AreLinks day → t < length day.trips
-    → (us : List ℕ) × TakesInTurn day types (named_plan day types) t us
+TripsTakeInTurn = (day : Day) (types : List (List ℕ)) (t : ℕ) → IsDay day → AreLinks day → EachHolds day types
+    → t < length day.trips → (us : List ℕ) × TakesInTurn day types (named_plan day types) t us

@@ -27,10 +27,11 @@ pub fn named_plans_run()
     ensures law { NamedPlansRun }
 {}
 
-/// In a plan that is named by the rule, trips take units from the yards as they leave, and of those that leave at one
-/// minute the one with the smaller number takes first. Each trip fills its places from front to rear. A place gets the
-/// unit of its type that was ready earliest, and of those the one with the smallest number, of the units that stand in
-/// the yard, are ready and were not taken for a place before it, where there is one.
+/// Where the rule of each link holds of the types, and a plan is named by the rule, trips take units from the yards as
+/// they leave, and of those that leave at one minute the one with the smaller number takes first. Each trip fills its
+/// places from front to rear. A place gets the unit of its type that was ready earliest, and of those the one with the
+/// smallest number, of the units that stand in the yard, are ready and were not taken for a place before it, where
+/// there is one.
 pub fn trips_take_in_turn()
     ensures law { TripsTakeInTurn }
 {}
