@@ -5,3 +5,4 @@ pub mod Headers
 pub mod Turns
 pub mod Accepted
 pub mod Whole
+pub mod OneRow

@@ -1,10 +1,13 @@
 -- Tables in the words of their subject: what an accepted table is, and what the first wrong thing of a refused one is.
-use Rattle.std.specs.Prelude.{ℕ, ◌+◌, ◌<◌, ◌≤◌, ◌≡◌, ◌⊎◌, List, [], length, take, slice_index_or, Some, Result, Ok, Err}
-use Rattle.std.specs.Prelude.{IsOk}
+use Rattle.std.specs.Prelude.{ℕ, ◌+◌, ◌<◌, ◌≤◌, ◌≡◌, ◌≢◌, ◌↔◌, ◌⊎◌, List, [], ◌∷◌, length, take, slice_index_or, Some}
+use Rattle.std.specs.Prelude.{Result, Ok, Err, IsOk}
 use Rattle.std.specs.List.{slice_get}
 use Rattle.rail_csv.specs.declared.refusal.TableRefusal.{TableRefusal}
-use Rattle.rail_csv.specs.declared.refusal.TableRefusal.TheVariants.{WrongHeader, TooManyRows}
-use Rattle.rail_csv.specs.Tables.{Columns, row_of}
+use Rattle.rail_csv.specs.declared.refusal.TableRefusal.TheVariants.{WrongHeader, TooManyRows, NoRow}
+use Rattle.rail_csv.specs.declared.rows.WeightsRow.{WeightsRow}
+use Rattle.rail_base.specs.declared.limits.TheConstants.{MOST_WEIGHT_ROWS}
+use Rattle.rail_csv.specs.Tables.{Columns, row_of, records_of, types_of, stations_of, stock_of, trips_of, links_of}
+use Rattle.rail_csv.specs.Tables.{weight_header, weight_columns, weights_of, plan_of}
 
 -- The first record is the header of a version with so many columns: the first words of all columns, those of the first
 -- version at least.
@@ -62,3 +65,29 @@ abbrev pub IsFirstWrong : {Row : Type 0} → List (List ℕ) → ℕ → ℕ →
 IsFirstWrong words fewest limit columns records e =
     (((width : ℕ) → ¬ (HasHeader words fewest width records)) × (e ≡ WrongHeader))
     ⊎ ((width : ℕ) × HasHeader words fewest width records × IsFirstWrongUnder width limit columns records e)
+
+-- ---- the weights
+
+-- the records are a weights table of these rows, of which there is one at most
+abbrev pub IsWeightsTable : List (List (List ℕ)) → List WeightsRow → Type 0
+IsWeightsTable records rows = IsTable weight_header 3 MOST_WEIGHT_ROWS weight_columns records rows
+
+-- whatever the bytes are, no table but the weights is refused because it has no row
+pub record NoOtherTableWantsARow : Type 0 where
+  pub types : (bytes : List ℕ) → types_of bytes ≢ Err NoRow
+  pub stations : (bytes : List ℕ) → stations_of bytes ≢ Err NoRow
+  pub stock : (bytes : List ℕ) → stock_of bytes ≢ Err NoRow
+  pub trips : (bytes : List ℕ) → trips_of bytes ≢ Err NoRow
+  pub links : (bytes : List ℕ) → links_of bytes ≢ Err NoRow
+  pub plan : (bytes : List ℕ) → plan_of bytes ≢ Err NoRow
+
+-- Bytes are read as a row of weights exactly where all of their records are a table of this one row. They are refused
+-- for want of a row exactly where all of their records are a table of none, which is the header alone. Each other
+-- refusal is the first wrong thing in the records. No other table is refused for want of a row.
+pub record WeightsAreOneRow : Type 0 where
+  pub row : (bytes : List ℕ) (row : WeightsRow) → (weights_of bytes ≡ Ok row)
+      ↔ IsWeightsTable (records_of bytes) (row ∷ [])
+  pub none : (bytes : List ℕ) → (weights_of bytes ≡ Err NoRow) ↔ IsWeightsTable (records_of bytes) []
+  pub wrong : (bytes : List ℕ) (e : TableRefusal) → weights_of bytes ≡ Err e → e ≢ NoRow
+      → IsFirstWrong weight_header 3 MOST_WEIGHT_ROWS weight_columns (records_of bytes) e
+  pub others : NoOtherTableWantsARow

@@ -1,7 +1,7 @@
 //! What the readers answer, in the words of tables.
 
 ghost use Rattle.std.specs.Prelude.{◌≡◌, ◌↔◌, ℕ, List, Ok, Err};
-ghost use Rattle.rail_csv.specs.Laws.{IsFirstWrong, IsTable};
+ghost use Rattle.rail_csv.specs.Laws.{IsFirstWrong, IsTable, WeightsAreOneRow};
 ghost use Rattle.rail_csv.specs.Tables.{Columns, rows_under};
 ghost use Rattle.rail_csv.specs.declared.refusal.TableRefusal.{TableRefusal};
 
@@ -16,4 +16,12 @@ pub fn what_is_read<T: Drop>()
     ensures refused { (words : List (List ℕ)) (fewest limit : ℕ) (columns : Columns T) (records : List (List (List ℕ)))
         (e : TableRefusal)
         → rows_under words fewest limit columns records ≡ Err e → IsFirstWrong words fewest limit columns records e }
+{}
+
+/// For all bytes: they are read as a row of weights exactly where their records, from the first to the last, are a
+/// weights table of this one row. They are refused for want of a row exactly where their records are a weights table of
+/// no row, which is its header and nothing after it. Each other refusal of weights is the first wrong thing in the
+/// records. No other table, nor a plan, is ever refused for want of a row.
+pub fn what_weights_are()
+    ensures weights { WeightsAreOneRow }
 {}
