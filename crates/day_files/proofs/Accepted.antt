@@ -17,8 +17,9 @@ use Rattle.timetable.specs.Plans.{plan_of}
 use Rattle.day_files.specs.declared.errors.Refusal.{Refusal}
 use Rattle.day_files.specs.declared.inputs.Inputs.{Inputs}
 use Rattle.day_files.specs.Tables.{RowsOf, reading, bytes_of, bytes_in, as_table, read_by, table_in}
+use Rattle.day_files.specs.Tables.{AreTables, IsMadeDay, IsFileOf, AreFilesOf, AreAcceptedAsDay}
 use Rattle.day_files.specs.Inputs.{as_day, as_plan, tables_in, day_in, inputs_in}
-use Rattle.day_files.specs.Acceptance.{IsFileOf, AreFilesOf, AreAccepted, AreAcceptedAsDay}
+use Rattle.day_files.specs.Acceptance.{AreAccepted}
 
 abbrev pub the_ok : {A : Type 0} → A → Result A Refusal
 the_ok x = Ok x
@@ -42,6 +43,10 @@ table_read table (Err why) rows e = absurd cc
 day_made : (made : Result Day InstanceRefusal) (day : Day) → as_day made ≡ Ok day → made ≡ Ok day
 day_made (Ok x) day e = ap (λ a. Ok a) (same x day e)
 day_made (Err why) day e = absurd cc
+
+-- a day that was made of these tables
+pub made_of : (tables : Tables) (day : Day) → AreTables tables → day_of tables ≡ Ok day → IsMadeDay day
+made_of tables day within made = record { tables = tables; rows = within; made = made }
 
 plan_made : {A : Type 0} (made : Result A PlanRefusal) (plan : A) → as_plan made ≡ Ok plan → made ≡ Ok plan
 plan_made (Ok x) plan e = ap (λ a. Ok a) (same x plan e)

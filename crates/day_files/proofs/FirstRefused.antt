@@ -1,6 +1,5 @@
 -- A file that is refused is the first one that is wrong.
-use Rattle.std.proofs.Common.{◌≡◌, ℕ, Bool, true, false, cond, ltb, List, length, Result, Ok, Err, refl, ap, subst, ◌∙◌}
-use Rattle.std.specs.Prelude.{IsOk}
+use Rattle.std.proofs.Common.{◌≡◌, ℕ, Bool, true, false, cond, ltb, List, length, Result, Ok, Err, refl, sym, ap, subst, ◌∙◌}
 use Rattle.std.proofs.lemmas.Bool.{ltb-false, ltb-true}
 use Rattle.rail_base.specs.Answers.{◌>>=◌}
 use Rattle.rail_base.specs.declared.limits.TheConstants.{MOST_TABLE_BYTES}
@@ -19,10 +18,10 @@ use Rattle.day_files.specs.declared.errors.Refusal.{Refusal}
 use Rattle.day_files.specs.declared.errors.Refusal.TheVariants.{TooLong, WrongTable, NoDay, NoPlan}
 use Rattle.day_files.specs.Tables.{RowsOf, reading, bytes_of, bytes_in, as_table, read_by, table_in}
 use Rattle.day_files.specs.Inputs.{as_day, as_plan, tables_in, day_in, inputs_in}
-use Rattle.day_files.specs.Order.{Reaches}
+use Rattle.day_files.specs.Order.{Reaches, HaveDay}
 use Rattle.day_files.specs.Acceptance.{IsFirstRefused, IsOfPlan}
-use Rattle.day_files.proofs.Accepted.{file_of, files_of}
-use Rattle.day_files.proofs.Reached.{went, reached, plan_reached}
+use Rattle.day_files.proofs.Accepted.{file_of, files_of, day_accepted_if, day_if_accepted}
+use Rattle.day_files.proofs.Reached.{is_read, reached, plan_reached}
 
 same_why : {A : Type 0} (d w : Refusal) → ◌≡◌ {A = Result A Refusal} (Err d) (Err w) → d ≡ w
 same_why d w e = cc
@@ -58,26 +57,24 @@ file_refused files dir table why reached e =
 
 -- ---- in order
 
-no_day : (files : Files) (dir : List ℕ) (why : Refusal) → day_in files dir ≡ Err why → ¬ IsOk (day_in files dir)
-no_day files dir why e is = by_day (day_in files dir) e is
-  where
-    by_day : (made : Result Day Refusal) → made ≡ Err why → ¬ IsOk made
-    by_day (Ok day) e is = absurd cc
-    by_day (Err d) e is = absurd cc
+no_day : (files : Files) (dir : List ℕ) (why : Refusal) → day_in files dir ≡ Err why → ¬ HaveDay files dir
+no_day files dir why e (day, accepted) =
+    let both : ◌≡◌ {A = Result Day Refusal} (Ok day) (Err why) = sym (day_if_accepted files dir day accepted) ∙ e in
+    absurd cc
 
 tables_refused : (files : Files) (dir : List ℕ) (why : Refusal) → tables_in files dir ≡ Err why → IsFirstRefused files dir why
 unfolding tables_in
 tables_refused files dir why e =
     ends e (λ no. file_refused files dir table.Types why (reached files dir table.Types tt (λ e. cc)) no) (λ types types_read e1.
-    let r1 = went types_read in
+    let r1 = is_read files dir table.Types types types_read in
     ends e1 (λ no. file_refused files dir table.Stations why (reached files dir table.Stations (r1, tt) (λ e. cc)) no) (λ stations stations_read e2.
-    let r2 = went stations_read in
+    let r2 = is_read files dir table.Stations stations stations_read in
     ends e2 (λ no. file_refused files dir table.Stock why (reached files dir table.Stock (r1, (r2, tt)) (λ e. cc)) no) (λ stock stock_read e3.
-    let r3 = went stock_read in
+    let r3 = is_read files dir table.Stock stock stock_read in
     ends e3 (λ no. file_refused files dir table.Trips why (reached files dir table.Trips (r1, (r2, (r3, tt))) (λ e. cc)) no) (λ trips trips_read e4.
-    let r4 = went trips_read in
+    let r4 = is_read files dir table.Trips trips trips_read in
     ends e4 (λ no. file_refused files dir table.Links why (reached files dir table.Links (r1, (r2, (r3, (r4, tt)))) (λ e. cc)) no) (λ links links_read e5.
-    let r5 = went links_read in
+    let r5 = is_read files dir table.Links links links_read in
     ends e5 (λ no. file_refused files dir table.Weights why (reached files dir table.Weights (r1, (r2, (r3, (r4, (r5, tt))))) (λ e. cc)) no) (λ weights weights_read e6.
     absurd cc))))))
 
@@ -96,7 +93,7 @@ pub day_refused_before_plan : (files : Files) (dir : List ℕ) (why : Refusal) �
 day_refused_before_plan files dir (TooLong t) e first of_plan = no_day files dir _ e (first.0.day of_plan)
 day_refused_before_plan files dir (WrongTable t why) e first of_plan = no_day files dir _ e (first.0.day of_plan)
 day_refused_before_plan files dir (NoDay why) e first of_plan = of_plan
-day_refused_before_plan files dir (NoPlan why) e first of_plan = no_day files dir _ e (went first.1)
+day_refused_before_plan files dir (NoPlan why) e first of_plan = no_day files dir _ e (first.0, first.1)
 
 pub refused_if : (files : Files) (dir : List ℕ) (why : Refusal) → inputs_in files dir ≡ Err why → IsFirstRefused files dir why
 unfolding inputs_in
@@ -109,4 +106,4 @@ refused_if files dir why e =
         → as_plan made ≡ Err why → IsFirstRefused files dir why
     no_plan day made rows rows_read (Ok plan) is e = absurd cc
     no_plan day made rows rows_read (Err d) is e = subst (λ (w : Refusal). IsFirstRefused files dir w) (same_why (NoPlan d) why e)
-        (day, made, rows, file_of files dir table.Plan rows rows_read, is)
+        (day, day_accepted_if files dir day made, rows, file_of files dir table.Plan rows rows_read, is)

@@ -1,11 +1,11 @@
 -- The order in which files are read, and how far the reading comes.
-use Rattle.std.specs.Prelude.{ℕ, ◌≡◌, List, [], ◌∷◌, take, IsOk}
+use Rattle.std.specs.Prelude.{ℕ, ◌≡◌, List, [], ◌∷◌, take}
 use Rattle.std.specs.List.{AllByRecursion}
 use Rattle.rail_io.specs.Folders.{Files}
 use Rattle.rail_csv.specs.declared.rows.Table.{Table}
 use Rattle.rail_csv.specs.declared.rows.Table.TheVariants.{Types, Stations, Stock, Trips, Links, Weights, Plan}
-use Rattle.day_files.specs.Tables.{table_in}
-use Rattle.day_files.specs.Inputs.{day_in}
+use Rattle.timetable.specs.Day.{Day}
+use Rattle.day_files.specs.Tables.{RowsOf, IsFileOf, AreAcceptedAsDay}
 
 -- the files in the order in which they are read
 abbrev pub in_order : List Table
@@ -25,11 +25,16 @@ place_of Plan = 6
 abbrev pub before : Table → List Table
 before table = take (place_of table) in_order
 
--- the file of a table is accepted by itself
+-- the file of a table is right by itself: it is a table of some rows
 abbrev pub IsRead : Files → List ℕ → Table → Type 0
-IsRead files dir table = IsOk (table_in files dir table)
+IsRead files dir table = (rows : RowsOf table) × IsFileOf files dir table rows
 
--- the reading reaches a table's file: each file before it is accepted, and the plan is read once the tables make a day
+-- the six files are accepted as some day
+abbrev pub HaveDay : Files → List ℕ → Type 0
+HaveDay files dir = (day : Day) × AreAcceptedAsDay files dir day
+
+-- the reading reaches a table's file: each file before it is right by itself, and the plan is read once the tables make
+-- a day
 pub record Reaches (files : Files) (dir : List ℕ) (table : Table) : Type 0 where
   pub accepted : AllByRecursion (IsRead files dir) (before table)
-  pub day : table ≡ Plan → IsOk (day_in files dir)
+  pub day : table ≡ Plan → HaveDay files dir

@@ -1,5 +1,5 @@
 -- The tables of a day: the rows that each of them has, what its bytes are read as, and what is known of accepted rows.
-use Rattle.std.specs.Prelude.{ℕ, List, length, nat_lt, if◌then◌else◌, Result, Ok, Err}
+use Rattle.std.specs.Prelude.{ℕ, ◌≡◌, ◌≤◌, List, length, nat_lt, if◌then◌else◌, Result, Ok, Err}
 use Rattle.rail_base.specs.Answers.{◌>>=◌}
 use Rattle.rail_base.specs.declared.limits.TheConstants.{MOST_TABLE_BYTES}
 use Rattle.rail_io.specs.Folders.{Files, file_at}
@@ -16,6 +16,8 @@ use Rattle.rail_csv.specs.declared.refusal.TableRefusal.{TableRefusal}
 use Rattle.rail_csv.specs.Tables.{types_of, stations_of, stock_of, trips_of, links_of, weights_of, plan_of}
 use Rattle.rail_csv.specs.Rows.{AreTypeRows, AreStationRows, AreStockRows, AreTripRows, AreLinkRows, IsWeightsRow}
 use Rattle.timetable.specs.declared.building.tables.Tables.{Tables}
+use Rattle.timetable.specs.Day.{Day}
+use Rattle.timetable.specs.Build.{day_of}
 use Rattle.day_files.specs.declared.errors.Refusal.{Refusal}
 use Rattle.day_files.specs.declared.errors.Refusal.TheVariants.{TooLong, WrongTable}
 use Rattle.day_files.specs.Names.{path_of}
@@ -49,13 +51,41 @@ pub record AreTables (tables : Tables) : Type 0 where
   pub links : AreLinkRows tables.links
   pub weights : IsWeightsRow tables.weights
 
+-- a day that tables make whose rows keep within the ranges of their columns
+pub record IsMadeDay (day : Day) : Type 0 where
+  pub tables : Tables
+  pub rows : AreTables tables
+  pub made : day_of tables ≡ Ok day
+
 -- ---- in a folder
 
 -- the bytes of a table's file
 abbrev pub bytes_of : Files → List ℕ → Table → List ℕ
 bytes_of files dir table = file_at files (path_of dir table)
 
--- the same, where they are not too many
+-- a table's file is no longer than a table may be, and its bytes read as these rows
+pub record IsFileOf (files : Files) (dir : List ℕ) (table : Table) (rows : RowsOf table) : Type 0 where
+  pub few : length (bytes_of files dir table) ≤ MOST_TABLE_BYTES
+  pub read : reading table (bytes_of files dir table) ≡ Ok rows
+
+-- each of the six files is the table of its rows
+pub record AreFilesOf (files : Files) (dir : List ℕ) (tables : Tables) : Type 0 where
+  pub types : IsFileOf files dir table.Types tables.types
+  pub stations : IsFileOf files dir table.Stations tables.stations
+  pub stock : IsFileOf files dir table.Stock tables.stock
+  pub trips : IsFileOf files dir table.Trips tables.trips
+  pub links : IsFileOf files dir table.Links tables.links
+  pub weights : IsFileOf files dir table.Weights tables.weights
+
+-- The six files are accepted as a day: they are tables that make it.
+pub record AreAcceptedAsDay (files : Files) (dir : List ℕ) (day : Day) : Type 0 where
+  pub tables : Tables
+  pub table_files : AreFilesOf files dir tables
+  pub made : day_of tables ≡ Ok day
+
+-- ---- what the files are read as
+
+-- the bytes of a table's file, where they are not too many
 unfoldable pub bytes_in : Files → List ℕ → Table → Result (List ℕ) Refusal
 bytes_in files dir table =
     if nat_lt MOST_TABLE_BYTES (length (bytes_of files dir table)) then Err (TooLong table)

@@ -7,7 +7,7 @@ ghost use Rattle.rail_csv.specs.Rows.{ArePlanRows};
 ghost use Rattle.timetable.specs.Build.{day_of};
 ghost use Rattle.timetable.specs.Plans.{plan_of};
 ghost use Rattle.timetable.specs.Running.{IsPlan};
-ghost use Rattle.day_files.specs.Tables.{AreTables};
+ghost use Rattle.day_files.specs.Tables.{AreTables, IsMadeDay};
 ghost use Rattle.day_files.specs.Inputs.{as_day, as_plan, day_in, inputs_in, tables_in};
 ghost use Rattle.day_files.specs.Order.{Reaches};
 ghost use Rattle.day_files.specs.Answers.{Reads, IsCaused, IsMade, IsErrorOf};
@@ -48,11 +48,13 @@ fn tables_in<F: Folder>(alloc: Global, folder: &mut F, dir: &str) -> Result<Tabl
     })
 }
 
-/// The day of tables.
+/// The day of tables, whose rows keep within the ranges of their columns.
+#[tactic(auto, using(crate::proofs::Accepted::made_of))]
 fn day_of(alloc: Global, tables: Tables) -> Result<Instance, ReadError>
     requires { AreTables tables }
     ensures told { Reads (λ _. ⊥) result (as_day (day_of tables)) }
-    ensures made { IfErr result IsMade }
+    ensures made { IfOk result IsMadeDay }
+    ensures ended { IfErr result IsMade }
     ensures says { IfErr result (IsErrorOf (λ _. ⊥)) }
 {
     match Instance::build(alloc, tables) {
@@ -66,7 +68,7 @@ fn day_of(alloc: Global, tables: Tables) -> Result<Instance, ReadError>
 fn plan_of(alloc: Global, instance: &Instance, rows: &[PlanRow]) -> Result<NamedPlan, ReadError>
     requires { ArePlanRows rows.now }
     ensures told { Reads (λ _. ⊥) result (as_plan (plan_of instance.now rows.now)) }
-    ensures made { IfErr result IsMade }
+    ensures ended { IfErr result IsMade }
     ensures says { IfErr result (IsErrorOf (λ table. table ≡ Plan)) }
     ensures is_plan { IfOk result (λ plan. IsPlan instance.now plan) }
 {
@@ -79,7 +81,8 @@ fn plan_of(alloc: Global, instance: &Instance, rows: &[PlanRow]) -> Result<Named
 
 /// The day that the six tables of a folder make: `types.csv`, `stations.csv`, `stock.csv`, `trips.csv`, `links.csv` and
 /// `weights.csv`, read in this order. The first file that is refused or cannot be read ends the reading, and the rules
-/// of the day come after the six files.
+/// of the day come after the six files. The day is one that tables make whose rows keep within the ranges of their
+/// columns, also where the folder doesn't tell what it holds.
 ///
 /// - `CannotRead`: the count of failed reads rose, a read of that file may fail, and each file before it is accepted.
 ///   It is never the file of the plan, which isn't read.
@@ -89,6 +92,7 @@ fn plan_of(alloc: Global, instance: &Instance, rows: &[PlanRow]) -> Result<Named
 pub fn day_in<F: Folder>(alloc: Global, folder: &mut F, dir: &str) -> Result<Instance, ReadError>
     ensures told { (files : Files) → F.holds folder.old ≡ Some files
         → Reads (Reaches files dir.now) result (day_in files dir.now) }
+    ensures made { IfOk result IsMadeDay }
     ensures says { IfErr result (IsErrorOf (λ table. table ≢ Plan)) }
     ensures caused { IfErr result (IsCaused F.may_fail F.faults F.taken dir.now folder.old folder.new) }
     ensures only_reads { OnlyReads F.holds F.may_fail F.faults F.taken folder.old folder.new }
@@ -98,7 +102,8 @@ pub fn day_in<F: Folder>(alloc: Global, folder: &mut F, dir: &str) -> Result<Ins
 }
 
 /// The day and the plan of a folder: the day of its six tables, and then the plan of it that `plan.csv` makes. The
-/// first file that is refused or cannot be read ends the reading.
+/// first file that is refused or cannot be read ends the reading. The day is one that tables make whose rows keep
+/// within the ranges of their columns, also where the folder doesn't tell what it holds.
 ///
 /// - `CannotRead`: the count of failed reads rose, a read of that file may fail, and each file before it is accepted;
 ///   where it is that of the plan, the tables make a day.
@@ -109,6 +114,7 @@ pub fn day_in<F: Folder>(alloc: Global, folder: &mut F, dir: &str) -> Result<Ins
 pub fn inputs_in<F: Folder>(alloc: Global, folder: &mut F, dir: &str) -> Result<Inputs, ReadError>
     ensures told { (files : Files) → F.holds folder.old ≡ Some files
         → Reads (Reaches files dir.now) result (inputs_in files dir.now) }
+    ensures made { IfOk result (λ inputs. IsMadeDay inputs.instance) }
     ensures is_plan { IfOk result (λ inputs. IsPlan inputs.instance inputs.plan) }
     ensures says { IfErr result (IsErrorOf (λ _. ⊤)) }
     ensures caused { IfErr result (IsCaused F.may_fail F.faults F.taken dir.now folder.old folder.new) }

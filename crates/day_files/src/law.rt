@@ -6,11 +6,12 @@ ghost use Rattle.day_files.specs.declared.errors.Refusal.{Refusal};
 ghost use Rattle.timetable.specs.Day.{Day};
 ghost use Rattle.day_files.specs.declared.inputs.Inputs.{Inputs};
 ghost use Rattle.day_files.specs.Inputs.{day_in, inputs_in};
-ghost use Rattle.day_files.specs.Acceptance.{AreAccepted, AreAcceptedAsDay, IsFirstRefused, IsOfPlan};
+ghost use Rattle.day_files.specs.Tables.{AreAcceptedAsDay};
+ghost use Rattle.day_files.specs.Acceptance.{AreAccepted, IsFirstRefused, IsOfPlan};
 
 /// For every folder: its six files are accepted as a day exactly where each of them is a table of its rows, and the
-/// tables make the day. A refusal comes exactly where its file is the first that is wrong, and wrong in this way, and
-/// it isn't that of the plan.
+/// tables make the day. A refusal comes exactly where its file is the first that is wrong by itself, and wrong in this
+/// way; or, where all six are right, the tables make no day for this reason. It is never one of the plan.
 pub fn what_is_accepted_as_day()
     ensures accepted { (files : Files) (dir : List ℕ) (day : Day)
         → (day_in files dir ≡ Ok day) ↔ AreAcceptedAsDay files dir day }
@@ -20,7 +21,9 @@ pub fn what_is_accepted_as_day()
 
 /// For every folder: its files are accepted as a day and a plan exactly where each of the seven is a table of its rows,
 /// the six tables make the day and the rows of the plan make the plan. A refusal comes exactly where its file is the
-/// first that is wrong, and wrong in this way.
+/// first that is wrong by itself, and wrong in this way; or, where all six are right, the tables make no day for this
+/// reason; or, where they make a day and the file of the plan is right, its rows make no plan of it for this reason. The
+/// file of the plan counts only where the tables make a day.
 pub fn what_is_accepted()
     ensures accepted { (files : Files) (dir : List ℕ) (inputs : Inputs)
         → (inputs_in files dir ≡ Ok inputs) ↔ AreAccepted files dir inputs }
