@@ -1,11 +1,12 @@
 //! Days and plans of which tests are made, from the texts of their tables.
 #![tactic(auto)]
 
-ghost use Rattle.std.specs.Prelude.{◌≤◌, length, IfOk};
+ghost use Rattle.std.specs.Prelude.{◌≡◌, ◌≤◌, length, IfOk};
 ghost use Rattle.timetable.specs.Running.{IsPlan};
 
 use rail_base::limits::MOST_TABLE_BYTES;
 use std::alloc::Global;
+use std::process::Abort;
 use std::test::Fail;
 use timetable::{Instance, NamedPlan, Rows, Tables};
 
@@ -24,19 +25,22 @@ pub struct Texts<'a> {
     pub links: &'a [u8],
 }
 
-/// The day of these tables. A table or a day that is refused fails the test, and so does want of memory.
-pub fn day_of(alloc: Global, texts: &Texts<'_>) -> Result<Instance, Fail>
-    requires types { length texts.now.types.now ≤ MOST_TABLE_BYTES }
-    requires stations { length texts.now.stations.now ≤ MOST_TABLE_BYTES }
-    requires stock { length texts.now.stock.now ≤ MOST_TABLE_BYTES }
-    requires trips { length texts.now.trips.now ≤ MOST_TABLE_BYTES }
-    requires links { length texts.now.links.now ≤ MOST_TABLE_BYTES }
+/// The bytes of a table, which are no more than a table may have: more of them fail the test.
+pub fn table<'a>(rt: &impl Abort, bytes: &'a [u8]) -> &'a [u8]
+    ensures same { result.now ≡ bytes.now }
+    ensures length { length result.now ≤ MOST_TABLE_BYTES }
 {
-    let types = rail_csv::types(alloc, texts.types)?;
-    let stations = rail_csv::stations(alloc, texts.stations)?;
-    let stock = rail_csv::stock(alloc, texts.stock)?;
-    let trips = rail_csv::trips(alloc, texts.trips)?;
-    let links = rail_csv::links(alloc, texts.links)?;
+    assert!(rt; bytes.len() as u64 <= MOST_TABLE_BYTES);
+    bytes
+}
+
+/// The day of these tables. A table or a day that is refused fails the test, and so does want of memory.
+pub fn day_of(rt: &impl Abort, alloc: Global, texts: &Texts<'_>) -> Result<Instance, Fail> {
+    let types = rail_csv::types(alloc, table(rt, texts.types))?;
+    let stations = rail_csv::stations(alloc, table(rt, texts.stations))?;
+    let stock = rail_csv::stock(alloc, table(rt, texts.stock))?;
+    let trips = rail_csv::trips(alloc, table(rt, texts.trips))?;
+    let links = rail_csv::links(alloc, table(rt, texts.links))?;
     let weights = rail_csv::weights(alloc, b"carriage,shortage,shunting\n1,1,100\n")?;
     Ok(Instance::build(
         alloc,
@@ -52,10 +56,14 @@ pub fn day_of(alloc: Global, texts: &Texts<'_>) -> Result<Instance, Fail>
 }
 
 /// The plan of a day that a table makes. A table or a plan that is refused fails the test, and so does want of memory.
-pub fn plan_of(alloc: Global, instance: &Instance, text: &[u8]) -> Result<NamedPlan, Fail>
-    requires { length text.now ≤ MOST_TABLE_BYTES }
+pub fn plan_of(
+    rt: &impl Abort,
+    alloc: Global,
+    instance: &Instance,
+    text: &[u8],
+) -> Result<NamedPlan, Fail>
     ensures { IfOk result (λ plan. IsPlan instance.now plan) }
 {
-    let rows = rail_csv::plan(alloc, text)?;
+    let rows = rail_csv::plan(alloc, table(rt, text))?;
     Ok(NamedPlan::build(alloc, instance, rows.as_slice())?)
 }

@@ -65,11 +65,12 @@ pub(crate) fn slacks_of<R: Relaxation>(
     Ok(slacks)
 }
 
-/// Multipliers of these entries.
-pub(crate) fn multipliers_of(alloc: Global, entries: &[Entry]) -> Result<Multipliers, Fail> {
+/// Multipliers, of which each stands behind its index.
+pub(crate) fn multipliers_of(alloc: Global, entries: &[(u32, i64)]) -> Result<Multipliers, Fail> {
     let mut multipliers = Multipliers::new(alloc)?;
     for entry in entries {
-        multipliers.put(entry.index, entry.value)?;
+        let (index, value) = *entry;
+        multipliers.put(index, value)?;
     }
     Ok(multipliers)
 }
@@ -93,24 +94,5 @@ fn set_pick(picks: &mut Picks, trip: TripNo, comp: Option<&u32>) {
     };
     if trip.0 < picks.len() {
         picks.set(trip, CompNo(*comp));
-    }
-}
-
-/// The compositions of the first four trips, and 0 for each that is not there.
-pub(crate) fn first_four(picks: &Picks) -> [u32; 4] {
-    [
-        comp_of(picks, 0),
-        comp_of(picks, 1),
-        comp_of(picks, 2),
-        comp_of(picks, 3),
-    ]
-}
-
-/// The composition of a trip, and 0 where it is not there.
-fn comp_of(picks: &Picks, trip: u32) -> u32 {
-    if trip < picks.len() {
-        picks.get(TripNo(trip)).0
-    } else {
-        0
     }
 }

@@ -1,4 +1,5 @@
-//! Worked bounds: what bounds, settling and slacks of days answer, as tests.
+//! Worked yards and bounds: the first fault of the yards for picks, plans of named units, and duties; and what bounds,
+//! settling and slacks of days answer, as tests.
 #![tactic(auto)]
 
 #[cfg(test)]
@@ -6,9 +7,17 @@ mod asking;
 #[cfg(test)]
 mod changed;
 #[cfg(test)]
+mod days;
+#[cfg(test)]
 mod drawn_questions;
 #[cfg(test)]
 mod drawn_tests;
+#[cfg(test)]
+mod drawn_yards_tests;
+#[cfg(test)]
+mod duty_tests;
+#[cfg(test)]
+mod ledger_tests;
 #[cfg(test)]
 mod link_rule;
 #[cfg(test)]

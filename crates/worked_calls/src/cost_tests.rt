@@ -1,9 +1,9 @@
 //! What the worked day of a turn costs, with picks and with plans, by hand.
 
-use crate::days::{TURN, day_of, table};
+use crate::days::TURN;
 use cost_model::{cost, parts, plan_cost};
 use rail_base::{CompNo, TripNo};
-use sample_days::{Texts, plan_of};
+use sample_days::{Texts, day_of, plan_of};
 use std::alloc::Global;
 use std::test::Fail;
 use timetable::{Instance, Picks};
@@ -64,7 +64,7 @@ const PLANS: &[(&[u8], i128)] = &[
 fn plans_have_their_cost(rt: HostRuntime) -> Result<(), Fail> {
     let day = day_of(&rt, rt.alloc(), &TURN)?;
     for (bytes, wanted) in PLANS {
-        let plan = plan_of(rt.alloc(), &day, table(&rt, *bytes))?;
+        let plan = plan_of(&rt, rt.alloc(), &day, *bytes)?;
         assert!(rt; plan_cost(&day, &plan).0 == *wanted);
     }
     Ok(())

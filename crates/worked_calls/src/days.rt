@@ -1,11 +1,8 @@
 //! Days of which tests are made, and what the calls of `Instance` tell of a day.
 
-ghost use Rattle.std.specs.Prelude.{◌≤◌, length};
-
-use rail_base::limits::MOST_TABLE_BYTES;
 use rail_base::{CompNo, LinkNo, StationNo, TripNo, TypeNo, UnitNo};
 use rail_csv::{links, stations, stock, trips, types, weights};
-use sample_days::Texts;
+use sample_days::{Texts, table};
 use std::alloc::{AllocError, Global};
 use std::process::Abort;
 use std::test::Fail;
@@ -33,28 +30,6 @@ pub(crate) const RING: Texts<'static> = Texts {
         split,T1,,T2,T3,no,none,none\njoin,T3,T2,T4,,no,none,none\n",
     ..TURN
 };
-
-/// The bytes of a table, which are no more than a table may have.
-pub(crate) fn table<'a>(rt: &impl Abort, bytes: &'a [u8]) -> &'a [u8]
-    ensures { length result.now ≤ MOST_TABLE_BYTES }
-{
-    assert!(rt; bytes.len() as u64 <= MOST_TABLE_BYTES);
-    bytes
-}
-
-/// The day of these tables.
-pub(crate) fn day_of(rt: &impl Abort, alloc: Global, texts: &Texts<'_>) -> Result<Instance, Fail> {
-    sample_days::day_of(
-        alloc,
-        &Texts {
-            types: table(rt, texts.types),
-            stations: table(rt, texts.stations),
-            stock: table(rt, texts.stock),
-            trips: table(rt, texts.trips),
-            links: table(rt, texts.links),
-        },
-    )
-}
 
 /// What is told of the day of these tables, or why they make none.
 pub(crate) fn told(rt: &impl Abort, alloc: Global, texts: &Texts<'_>) -> Result<String, Fail> {

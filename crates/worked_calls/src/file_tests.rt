@@ -1,8 +1,6 @@
 //! Whole files in and documents out: over memory with calls that fail on the way, over the disk and the standard
 //! output.
 
-ghost use Rattle.std.specs.Prelude.{◌≤◌};
-
 use rail_base::NoMemory;
 use rail_base::limits::MOST_FILE_BYTES;
 use rail_base::name::is_name;
@@ -10,120 +8,198 @@ use rail_io::{
     DiskFolder, Failed, FileRefusal, Folder, MemoryFile, MemoryFolder, MemorySink, Sink,
     StdoutSink, SureFolder, SureSink, read_file, write_all,
 };
-use std::alloc::Global;
+use std::alloc::{AllocError, Global};
 use std::cell::Cell;
 use std::fmt::Display;
 use std::io::{ErrorKind, Print};
-use std::path::PathBuf;
+use std::path::{Path, PathBuf};
 use std::process::Abort;
 use std::test::Fail;
 use std::{env, fs, io};
 
-/// A file in memory.
-fn file(rt: &impl Abort, alloc: Global, path: &str, bytes: &[u8]) -> Result<MemoryFile, NoMemory> {
-    assert!(rt; is_name(path.as_bytes()));
-    MemoryFile::new(alloc, path, bytes)
+/// The bytes of a file.
+#[derive(Clone, Copy)]
+enum Bytes {
+    /// These.
+    Text(&'static [u8]),
+    /// So many digits, each of the ten in turn, which differ from their neighbours.
+    Digits(u32),
 }
 
-/// A folder in memory with one file, whose reads fail at these numbers.
-fn folder_with(
-    rt: &impl Abort,
-    alloc: Global,
-    path: &str,
-    bytes: &[u8],
-    failing: Vec<u64>,
-) -> Result<MemoryFolder, NoMemory> {
-    let mut files = Vec::new(alloc);
-    files.push(file(rt, alloc, path, bytes)?)?;
-    MemoryFolder::new(alloc, files, failing)
+/// The digit at a place: the ten in turn.
+fn digit(place: usize) -> u8 {
+    b'0' + (place % 10) as u8
 }
 
-/// Why a file is refused, of which so many bytes may be read.
-fn refusal_of<F: Folder>(
+/// The bytes themselves.
+fn made(alloc: Global, bytes: Bytes) -> Result<Vec<u8>, AllocError> {
+    let mut made = Vec::new(alloc);
+    match bytes {
+        Bytes::Text(text) => made.extend_from_slice(text)?,
+        Bytes::Digits(count) => {
+            for place in 0..count {
+                made.push(digit(place as usize))?;
+            }
+        }
+    }
+    Ok(made)
+}
+
+/// Whether bytes are the ten digits in turn.
+fn are_digits(bytes: &[u8]) -> bool {
+    for place in 0..bytes.len() {
+        if bytes[place] != digit(place) {
+            return false;
+        }
+    }
+    true
+}
+
+/// Writes bytes as a line: how many digits, where they are more than ten digits in turn, and else the bytes.
+fn write_bytes(text: &mut String, bytes: &[u8]) -> Result<(), AllocError> {
+    if bytes.len() > 10 && are_digits(bytes) {
+        return write!(text, "{} digits\n", bytes.len());
+    }
+    for byte in bytes {
+        text.push(*byte as char)?;
+    }
+    text.push_str("\n")
+}
+
+/// Writes what the whole file of a path is read as, where so many bytes may be read, or why it is refused.
+fn write_whole<F: Folder>(
+    text: &mut String,
     alloc: Global,
     folder: &mut F,
     path: &str,
     most: u64,
-) -> Option<FileRefusal>
-    requires { most ≤ MOST_FILE_BYTES }
-{
-    read_file(alloc, folder, path, most).err()
-}
-
-/// Whether a file is read as these bytes, where so many may be read.
-fn is_read_as<F: Folder>(
-    alloc: Global,
-    folder: &mut F,
-    path: &str,
-    most: u64,
-    wanted: &[u8],
-) -> bool
-    requires { most ≤ MOST_FILE_BYTES }
-{
+) -> Result<(), AllocError> {
+    if most > MOST_FILE_BYTES {
+        return text.push_str("no limit of a file\n");
+    }
     match read_file(alloc, folder, path, most) {
-        Ok(bytes) => bytes.as_slice() == wanted,
-        Err(_) => false,
+        Ok(bytes) => write_bytes(text, &bytes),
+        Err(why) => write!(text, "{why:?}\n"),
     }
 }
 
-/// Whether a read of at most four bytes from this place on gives these.
-fn gives<F: Folder>(folder: &mut F, path: &str, at: u64, wanted: &[u8]) -> bool {
+/// Writes what a read of at most four bytes from this place on gives.
+fn write_piece<F: Folder>(
+    text: &mut String,
+    folder: &mut F,
+    path: &str,
+    at: u64,
+) -> Result<(), AllocError> {
     let mut piece = [0; 4];
     match folder.read_at(path, at, &mut piece) {
-        Ok(count) => &piece[..count] == wanted,
-        Err(_) => false,
+        Ok(count) => write_bytes(text, &piece[..count]),
+        Err(_) => text.push_str("failed\n"),
     }
 }
 
-/// Whether a read from this place on fails.
-fn fails<F: Folder>(folder: &mut F, path: &str, at: u64) -> bool {
-    let mut piece = [0; 4];
-    folder.read_at(path, at, &mut piece).is_err()
+/// A folder in memory: its files, the numbers of the reads that fail, or that none fails and every path has a file;
+/// whole reads of paths with the most bytes that may be read, and what they give, one a line.
+struct InMemory {
+    files: &'static [(&'static str, Bytes)],
+    failing: Option<&'static [u64]>,
+    reads: &'static [(&'static str, u64)],
+    told: &'static str,
 }
 
-#[test]
-fn reads_whole_files(rt: HostRuntime) -> Result<(), Fail> {
-    let alloc = rt.alloc();
-    let long = digits(alloc, 70_000)?;
-    let mut folder = folder_with(&rt, alloc, "trips.csv", &long, Vec::new(alloc))?;
-    assert!(rt; is_read_as(alloc, &mut folder, "trips.csv", 70_000, &long));
-    let refusal = refusal_of(alloc, &mut folder, "trips.csv", 69_999);
-    assert!(rt; refusal == Some(FileRefusal::TooLong));
-    let missing = refusal_of(alloc, &mut folder, "links.csv", 70_000);
-    assert!(rt; missing == Some(FileRefusal::ReadFault));
-    Ok(())
+const IN_MEMORY: &[InMemory] = &[
+    InMemory {
+        files: &[("trips.csv", Bytes::Digits(70_000))],
+        failing: Some(&[]),
+        reads: &[
+            ("trips.csv", 70_000),
+            ("trips.csv", 69_999),
+            ("links.csv", 70_000),
+        ],
+        told: "70000 digits\nTooLong\nReadFault\n",
+    },
+    // It stops at the read that fails.
+    InMemory {
+        files: &[("stock.csv", Bytes::Text(b"station,type,count\n"))],
+        failing: Some(&[0]),
+        reads: &[("stock.csv", 100)],
+        told: "ReadFault\n",
+    },
+    InMemory {
+        files: &[("stock.csv", Bytes::Text(b"station,type,count\n"))],
+        failing: Some(&[1]),
+        reads: &[("stock.csv", 100)],
+        told: "ReadFault\n",
+    },
+    InMemory {
+        files: &[("stock.csv", Bytes::Text(b"station,type,count\n"))],
+        failing: Some(&[2]),
+        reads: &[("stock.csv", 100)],
+        told: "station,type,count\n\n",
+    },
+    // It tells a failed read before the length.
+    InMemory {
+        files: &[("links.csv", Bytes::Digits(101))],
+        failing: Some(&[0]),
+        reads: &[("links.csv", 100), ("links.csv", 100)],
+        told: "ReadFault\nTooLong\n",
+    },
+    // A sure folder reads every path.
+    InMemory {
+        files: &[
+            ("types.csv", Bytes::Text(b"first")),
+            ("types.csv", Bytes::Text(b"second")),
+        ],
+        failing: None,
+        reads: &[("types.csv", 5), ("types.csv", 4), ("links.csv", 5)],
+        told: "first\nTooLong\n\n",
+    },
+];
+
+/// A file in memory.
+fn file(rt: &impl Abort, alloc: Global, path: &str, bytes: Bytes) -> Result<MemoryFile, NoMemory> {
+    assert!(rt; is_name(path.as_bytes()));
+    MemoryFile::new(alloc, path, &made(alloc, bytes)?)
 }
 
-/// Why the only file of a folder is refused, where the read of this number fails.
-fn refusal_where(
-    rt: &impl Abort,
+/// What these whole reads of a folder give.
+fn reads_told<F: Folder>(
     alloc: Global,
-    number: u64,
-) -> Result<Option<FileRefusal>, NoMemory> {
-    let failing = vec![in alloc; number]?;
-    let mut folder = folder_with(rt, alloc, "stock.csv", b"station,type,count\n", failing)?;
-    Ok(refusal_of(alloc, &mut folder, "stock.csv", 100))
+    folder: &mut F,
+    reads: &[(&str, u64)],
+) -> Result<String, AllocError> {
+    let mut text = String::new(alloc);
+    for (path, most) in reads {
+        write_whole(&mut text, alloc, folder, path, *most)?;
+    }
+    Ok(text)
+}
+
+/// What the reads of a folder in memory give.
+fn memory_told(rt: &impl Abort, alloc: Global, row: &InMemory) -> Result<String, Fail> {
+    let mut files = Vec::new(alloc);
+    for (path, bytes) in row.files {
+        files.push(file(rt, alloc, path, *bytes)?)?;
+    }
+    match row.failing {
+        Some(numbers) => {
+            let mut failing = Vec::new(alloc);
+            failing.extend_from_slice(numbers)?;
+            let mut folder = MemoryFolder::new(alloc, files, failing)?;
+            Ok(reads_told(alloc, &mut folder, row.reads)?)
+        }
+        None => {
+            let mut folder = SureFolder::new(alloc, files)?;
+            Ok(reads_told(alloc, &mut folder, row.reads)?)
+        }
+    }
 }
 
 #[test]
-fn stops_at_the_read_that_fails(rt: HostRuntime) -> Result<(), Fail> {
-    let alloc = rt.alloc();
-    assert!(rt; refusal_where(&rt, alloc, 0)? == Some(FileRefusal::ReadFault));
-    assert!(rt; refusal_where(&rt, alloc, 1)? == Some(FileRefusal::ReadFault));
-    assert!(rt; refusal_where(&rt, alloc, 2)?.is_none());
-    Ok(())
-}
-
-#[test]
-fn tells_a_failed_read_before_the_length(rt: HostRuntime) -> Result<(), Fail> {
-    let alloc = rt.alloc();
-    let long = digits(alloc, 101)?;
-    let first = vec![in alloc; 0]?;
-    let mut folder = folder_with(&rt, alloc, "links.csv", &long, first)?;
-    let refusal = refusal_of(alloc, &mut folder, "links.csv", 100);
-    assert!(rt; refusal == Some(FileRefusal::ReadFault));
-    let again = refusal_of(alloc, &mut folder, "links.csv", 100);
-    assert!(rt; again == Some(FileRefusal::TooLong));
+fn reads_memory(rt: HostRuntime) -> Result<(), Fail> {
+    for row in IN_MEMORY {
+        let text = memory_told(&rt, rt.alloc(), row)?;
+        assert!(rt; text.as_str() == row.told, "{text}");
+    }
     Ok(())
 }
 
@@ -147,20 +223,6 @@ fn keeps_what_was_written_before_the_failure(rt: HostRuntime) -> Result<(), Fail
     Ok(())
 }
 
-#[test]
-fn a_sure_folder_reads_every_path(rt: HostRuntime) -> Result<(), Fail> {
-    let alloc = rt.alloc();
-    let mut files = Vec::new(alloc);
-    files.push(file(&rt, alloc, "types.csv", b"first")?)?;
-    files.push(file(&rt, alloc, "types.csv", b"second")?)?;
-    let mut folder = SureFolder::new(alloc, files)?;
-    assert!(rt; is_read_as(alloc, &mut folder, "types.csv", 5, b"first"));
-    let refusal = refusal_of(alloc, &mut folder, "types.csv", 4);
-    assert!(rt; refusal == Some(FileRefusal::TooLong));
-    assert!(rt; is_read_as(alloc, &mut folder, "links.csv", 5, b""));
-    Ok(())
-}
-
 /// Whether a sure sink takes a piece whole, and has these bytes after it, or has lost them.
 fn takes(sink: &mut SureSink, piece: &[u8], written: Option<&[u8]>) -> bool {
     sink.write(piece) == Ok(piece.len()) && sink.written() == written
@@ -175,15 +237,74 @@ fn a_sure_sink_takes_every_piece(rt: HostRuntime) -> Result<(), Fail> {
     Ok(())
 }
 
-/// Bytes that differ from their neighbours: the ten digits in turn.
-fn digits(alloc: Global, count: u32) -> Result<Vec<u8>, NoMemory> {
-    let ten = *b"0123456789";
-    let mut digits = Vec::new(alloc);
-    for place in 0..count {
-        digits.push(ten[(place % 10) as usize])?;
-    }
-    Ok(digits)
+/// What is done with a file on the disk.
+#[derive(Clone, Copy)]
+enum Step {
+    /// It is made of these bytes.
+    Write(Bytes),
+    /// It is removed.
+    Remove,
+    /// At most four bytes of it are read from this place on.
+    Read(u64),
+    /// At most four bytes of a file that is not there are read.
+    ReadMissing,
+    /// The whole is read, where so many bytes may be read.
+    ReadWhole(u64),
 }
+
+/// The ending of a file's name, what is done with it, and what the reads give, one a line.
+struct OnDisk {
+    ending: &'static str,
+    steps: &'static [Step],
+    told: &'static str,
+}
+
+const ON_DISK: &[OnDisk] = &[
+    OnDisk {
+        ending: "csv",
+        steps: &[
+            Step::Write(Bytes::Digits(200_000)),
+            Step::ReadWhole(200_000),
+            Step::ReadWhole(199_999),
+            Step::Read(199_998),
+            Step::Remove,
+        ],
+        told: "200000 digits\nTooLong\n89\n",
+    },
+    // A file is read as it was opened.
+    OnDisk {
+        ending: "txt",
+        steps: &[
+            Step::Write(Bytes::Text(b"before")),
+            Step::Read(0),
+            // Another file takes its place: what was opened is read to its end, and the other one after that.
+            Step::Remove,
+            Step::Write(Bytes::Text(b"after")),
+            Step::Read(3),
+            Step::Read(1),
+            Step::Read(6),
+            Step::Read(0),
+            // A read of another path closes it.
+            Step::Remove,
+            Step::ReadMissing,
+            Step::Read(3),
+        ],
+        told: "befo\nore\nefor\n\nafte\nfailed\nfailed\n",
+    },
+    // A seek that fails is told. No file of the system has a place past 2^63.
+    OnDisk {
+        ending: "sought",
+        steps: &[
+            Step::Write(Bytes::Text(b"runs 60\n")),
+            Step::Read(u64::MAX),
+            Step::Read(4),
+            Step::Read(u64::MAX),
+            Step::Read(5),
+            Step::Remove,
+        ],
+        told: "failed\n 60\n\nfailed\n60\n\n",
+    },
+];
 
 /// A path on the disk that no other process uses, with this ending.
 fn path_on_disk(rt: &HostRuntime, ending: &str) -> Result<PathBuf, Fail> {
@@ -192,54 +313,45 @@ fn path_on_disk(rt: &HostRuntime, ending: &str) -> Result<PathBuf, Fail> {
     Ok(env::temp_dir(rt)?.join(rt.alloc(), name.as_str())?)
 }
 
+/// Makes a file of these bytes.
+fn write_file(rt: &HostRuntime, path: Path<'_>, bytes: Bytes) -> Result<(), Fail> {
+    Ok(fs::write(rt, path, made(rt.alloc(), bytes)?.as_slice())?)
+}
+
+/// Does one step with the file of a path, and writes what it gives where it is a read.
+fn write_step(
+    text: &mut String,
+    rt: &HostRuntime,
+    folder: &mut DiskFolder<'_, HostRuntime>,
+    path: Path<'_>,
+    step: Step,
+) -> Result<(), Fail> {
+    match step {
+        Step::Write(bytes) => write_file(rt, path, bytes),
+        Step::Remove => Ok(fs::remove_file(rt, path)?),
+        Step::Read(at) => Ok(write_piece(text, folder, path.as_str(), at)?),
+        Step::ReadMissing => Ok(write_piece(text, folder, "no such file", 0)?),
+        Step::ReadWhole(most) => { Ok(write_whole(text, rt.alloc(), folder, path.as_str(), most)?) }
+    }
+}
+
+/// What the reads among these steps with one file give.
+fn disk_told(rt: &HostRuntime, path: Path<'_>, steps: &[Step]) -> Result<String, Fail> {
+    let mut text = String::new(rt.alloc());
+    let mut folder = DiskFolder::new(rt);
+    for step in steps {
+        write_step(&mut text, rt, &mut folder, path, *step)?;
+    }
+    Ok(text)
+}
+
 #[test]
 fn reads_the_disk(rt: HostRuntime) -> Result<(), Fail> {
-    let alloc = rt.alloc();
-    let path = path_on_disk(&rt, "csv")?;
-    let text = digits(alloc, 200_000)?;
-    fs::write(&rt, path.as_path(), text.as_slice())?;
-    let mut folder = DiskFolder::new(&rt);
-    assert!(rt; is_read_as(alloc, &mut folder, path.as_str(), 200_000, &text));
-    let refusal = refusal_of(alloc, &mut folder, path.as_str(), 199_999);
-    assert!(rt; refusal == Some(FileRefusal::TooLong));
-    assert!(rt; gives(&mut folder, path.as_str(), 199_998, b"89"));
-    fs::remove_file(&rt, path.as_path())?;
-    Ok(())
-}
-
-#[test]
-fn reads_a_file_as_it_was_opened(rt: HostRuntime) -> Result<(), Fail> {
-    let path = path_on_disk(&rt, "txt")?;
-    fs::write(&rt, path.as_path(), b"before")?;
-    let mut folder = DiskFolder::new(&rt);
-    assert!(rt; gives(&mut folder, path.as_str(), 0, b"befo"));
-
-    // Another file takes its place: what was opened is read to its end, and the other one after that.
-    fs::remove_file(&rt, path.as_path())?;
-    fs::write(&rt, path.as_path(), b"after")?;
-    assert!(rt; gives(&mut folder, path.as_str(), 3, b"ore"));
-    assert!(rt; gives(&mut folder, path.as_str(), 1, b"efor"));
-    assert!(rt; gives(&mut folder, path.as_str(), 6, b""));
-    assert!(rt; gives(&mut folder, path.as_str(), 0, b"afte"));
-
-    // A read of another path closes it.
-    fs::remove_file(&rt, path.as_path())?;
-    assert!(rt; fails(&mut folder, "no such file", 0));
-    assert!(rt; fails(&mut folder, path.as_str(), 3));
-    Ok(())
-}
-
-#[test]
-fn a_seek_that_fails_is_told(rt: HostRuntime) -> Result<(), Fail> {
-    let path = path_on_disk(&rt, "sought")?;
-    fs::write(&rt, path.as_path(), b"runs 60\n")?;
-    let mut folder = DiskFolder::new(&rt);
-    // No file of the system has a place past 2^63.
-    assert!(rt; fails(&mut folder, path.as_str(), u64::MAX));
-    assert!(rt; gives(&mut folder, path.as_str(), 4, b" 60\n"));
-    assert!(rt; fails(&mut folder, path.as_str(), u64::MAX));
-    assert!(rt; gives(&mut folder, path.as_str(), 5, b"60\n"));
-    fs::remove_file(&rt, path.as_path())?;
+    for row in ON_DISK {
+        let path = path_on_disk(&rt, row.ending)?;
+        let text = disk_told(&rt, path.as_path(), row.steps)?;
+        assert!(rt; text.as_str() == row.told, "{text}");
+    }
     Ok(())
 }
 
@@ -247,8 +359,8 @@ fn a_seek_that_fails_is_told(rt: HostRuntime) -> Result<(), Fail> {
 fn a_folder_is_no_file(rt: HostRuntime) -> Result<(), Fail> {
     let path = env::temp_dir(&rt)?;
     let mut folder = DiskFolder::new(&rt);
-    let refusal = refusal_of(rt.alloc(), &mut folder, path.as_str(), 100);
-    assert!(rt; refusal == Some(FileRefusal::ReadFault));
+    let text = reads_told(rt.alloc(), &mut folder, &[(path.as_str(), 100)])?;
+    assert!(rt; text.as_str() == "ReadFault\n", "{text}");
     Ok(())
 }
 

@@ -1,13 +1,13 @@
 //! Days, plans and multipliers: days of two stations, and days of four trips with links; and what is refused.
 
-use crate::days::{RING, TURN, day_of, table, told};
+use crate::days::{RING, TURN, told};
 use rail_base::{Name, NoMemory, StationNo, TripNo, TypeNo, UnitNo};
 use rail_csv::{PlanRow, UnitList, plan};
-use sample_days::Texts;
+use sample_days::{Texts, day_of, table};
 use std::alloc::{AllocError, Global};
 use std::process::Abort;
 use std::test::Fail;
-use timetable::{Instance, NamedPlan, Place, PlanRefusal};
+use timetable::{Instance, NamedPlan, Place};
 
 /// A day of four trips, whose links are refused where there are some: T1 and T2 arrive, T3 leaves as T2 arrives, and
 /// T4 before it.
@@ -166,11 +166,15 @@ fn first_free(day: &Instance) -> Option<Place> {
 fn multipliers_are_numbered(rt: HostRuntime) -> Result<(), Fail> {
     let day = day_of(&rt, rt.alloc(), &RING)?;
     assert!(rt; are_numbered(&day));
-    let first = Place::Mu {
-        station: StationNo(0),
-        unit_type: TypeNo(0),
-    };
-    assert!(rt; first_free(&day) == Some(first));
+    assert!(rt;
+        matches!(
+            first_free(&day),
+            Some(Place::Mu {
+                station: StationNo(0),
+                unit_type: TypeNo(0),
+            })
+        )
+    );
     Ok(())
 }
 
@@ -184,13 +188,18 @@ const PLANS: &[(&[u8], &str)] = &[
     (b"trip,units\nT1,0\nT2,2\n", "UnknownUnit(2)"),
 ];
 
+/// The plan of a day that these rows make, or why they make none.
+fn built(alloc: Global, day: &Instance, rows: &[PlanRow]) -> Result<String, AllocError> {
+    match NamedPlan::build(alloc, day, rows) {
+        Ok(plan) => units_told(alloc, &plan),
+        Err(why) => format!(in alloc; "{why:?}"),
+    }
+}
+
 /// The plan of a day that the bytes of a table make, or why they make none.
 fn plan_told(rt: &impl Abort, alloc: Global, day: &Instance, bytes: &[u8]) -> Result<String, Fail> {
     let rows = plan(alloc, table(rt, bytes))?;
-    match NamedPlan::build(alloc, day, &rows) {
-        Ok(plan) => Ok(units_told(alloc, &plan)?),
-        Err(why) => Ok(format!(in alloc; "{why:?}")?),
-    }
+    Ok(built(alloc, day, &rows)?)
 }
 
 /// The units of each trip.
@@ -232,7 +241,7 @@ fn a_unit_past_every_day_is_refused(rt: HostRuntime) -> Result<(), Fail> {
     let alloc = rt.alloc();
     let day = day_of(&rt, alloc, &TURN)?;
     let row = row_past_every_day(alloc)?;
-    let refused = NamedPlan::build(alloc, &day, &[row]).err();
-    assert!(rt; refused == Some(PlanRefusal::UnknownUnit(1)));
+    let text = built(alloc, &day, &[row])?;
+    assert!(rt; text.as_str() == "UnknownUnit(1)", "{text}");
     Ok(())
 }

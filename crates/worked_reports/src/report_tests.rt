@@ -1,67 +1,42 @@
 //! Worked days: the reports of plans, and of compositions that are picked.
 
-ghost use Rattle.std.specs.Prelude.{◌≤◌, length};
-ghost use Rattle.rail_base.specs.declared.limits.TheConstants.{MOST_TRIPS};
-
 use planner_app::{costs_table, duties_table, yards_table};
-use rail_base::limits::MOST_TRIPS;
 use rail_base::{CompNo, TripNo};
 use sample_days::{Texts, day_of, plan_of};
 use sample_picks::may_run;
 use std::alloc::Global;
+use std::process::Abort;
 use std::test::Fail;
-use timetable::{Instance, Picks};
+use timetable::Picks;
 
 /// Two units leave together, and the second one comes back alone.
-fn day_of_two_trips(alloc: Global) -> Result<Instance, Fail> {
-    day_of(
-        alloc,
-        &Texts {
-            types: b"type,carriages,seats,metres,family\nA,3,200,80,regional\n",
-            stations: b"station,platform,reallocation\nX,200,30\nY,200,30\n",
-            stock: b"station,type,start,end\nX,A,2,1\nY,A,0,1\n",
-            trips: b"trip,from,departure,to,arrival,km,demand\nT1,X,08:00,Y,09:00,10,300\nT2,Y,09:10,X,10:10,10,150\n",
-            links: b"kind,arriving,arriving2,departing,departing2,reverse,uncouple,couple\n\
-                turn,T1,,T2,,yes,rear,none\n",
-        },
-    )
-}
+const TWO_TRIPS: Texts<'static> = Texts {
+    types: b"type,carriages,seats,metres,family\nA,3,200,80,regional\n",
+    stations: b"station,platform,reallocation\nX,200,30\nY,200,30\n",
+    stock: b"station,type,start,end\nX,A,2,1\nY,A,0,1\n",
+    trips: b"trip,from,departure,to,arrival,km,demand\n\
+        T1,X,08:00,Y,09:00,10,300\nT2,Y,09:10,X,10:10,10,150\n",
+    links: b"kind,arriving,arriving2,departing,departing2,reverse,uncouple,couple\n\
+        turn,T1,,T2,,yes,rear,none\n",
+};
 
 /// Two units leave a station whose name has a comma, one of them goes on alone and back, and both come home together. A
 /// third unit, of another type, stays.
-fn day_of_four_trips(alloc: Global) -> Result<Instance, Fail> {
-    day_of(
-        alloc,
-        &Texts {
-            types: b"type,carriages,seats,metres,family\nIC-3,3,192,81,inter\nIC-4,4,254,108,inter\n",
-            stations: b"station,platform,reallocation\n\
-                \"Northport, Central\",340,20\nMidford,340,20\nSouthhaven,270,20\n",
-            stock: b"station,type,start,end\n\"Northport, Central\",IC-3,2,2\n\"Northport, Central\",IC-4,1,1\n",
-            trips: b"trip,from,departure,to,arrival,km,demand\n\
-                101,\"Northport, Central\",06:02,Midford,06:58,74,310\n\
-                102,Midford,07:05,Southhaven,07:50,58,180\n\
-                103,Southhaven,08:10,Midford,08:55,58,170\n\
-                104,Midford,09:02,\"Northport, Central\",09:58,74,290\n",
-            links: b"kind,arriving,arriving2,departing,departing2,reverse,uncouple,couple\n\
-                turn,101,,102,,no,rear,none\n\
-                turn,102,,103,,yes,none,none\n\
-                turn,103,,104,,no,none,rear\n",
-        },
-    )
-}
-
-/// Picks of these compositions, one for each trip.
-fn picks_of(alloc: Global, compositions: &[u32]) -> Result<Picks, Fail>
-    requires { length compositions.now ≤ MOST_TRIPS }
-{
-    let mut picks = Picks::new(alloc, compositions.len() as u32)?;
-    for place in 0..compositions.len() {
-        if place < picks.len() as usize {
-            picks.set(TripNo(place as u32), CompNo(compositions[place]));
-        }
-    }
-    Ok(picks)
-}
+const FOUR_TRIPS: Texts<'static> = Texts {
+    types: b"type,carriages,seats,metres,family\nIC-3,3,192,81,inter\nIC-4,4,254,108,inter\n",
+    stations: b"station,platform,reallocation\n\
+        \"Northport, Central\",340,20\nMidford,340,20\nSouthhaven,270,20\n",
+    stock: b"station,type,start,end\n\"Northport, Central\",IC-3,2,2\n\"Northport, Central\",IC-4,1,1\n",
+    trips: b"trip,from,departure,to,arrival,km,demand\n\
+        101,\"Northport, Central\",06:02,Midford,06:58,74,310\n\
+        102,Midford,07:05,Southhaven,07:50,58,180\n\
+        103,Southhaven,08:10,Midford,08:55,58,170\n\
+        104,Midford,09:02,\"Northport, Central\",09:58,74,290\n",
+    links: b"kind,arriving,arriving2,departing,departing2,reverse,uncouple,couple\n\
+        turn,101,,102,,no,rear,none\n\
+        turn,102,,103,,yes,none,none\n\
+        turn,103,,104,,no,none,rear\n",
+};
 
 const TWO_TRIPS_DUTIES: &[u8] = b"unit,type,home,trip,from,departure,to,arrival,position\n\
     0,A,X,T1,X,08:00,Y,09:00,0\n\
@@ -109,43 +84,100 @@ const FOUR_TRIPS_YARDS: &[u8] = b"station,type,time,taken,ready,count\n\
     Southhaven,IC-4,08:10,0,0,0\n\
     Southhaven,IC-4,end,0,0,0\n";
 
+/// Days, plans of them, and the tables of the duties of their units.
+const DUTIES: &[(Texts<'static>, &[u8], &[u8])] = &[
+    (TWO_TRIPS, b"trip,units\nT1,0 1\nT2,1\n", TWO_TRIPS_DUTIES),
+    (
+        FOUR_TRIPS,
+        b"trip,units\n101,0 1\n102,0\n103,0\n104,0 1\n",
+        FOUR_TRIPS_DUTIES,
+    ),
+];
+
+/// Days, the compositions that are picked for their trips, and the tables of the yards.
+const YARDS: &[(Texts<'static>, &[u32], &[u8])] = &[
+    (TWO_TRIPS, &[1, 0], TWO_TRIPS_YARDS),
+    (FOUR_TRIPS, &[2, 0, 0, 2], FOUR_TRIPS_YARDS),
+];
+
+/// Days, the compositions that are picked for their trips, and the tables of what these cost.
+const COSTS: &[(Texts<'static>, &[u32], &[u8])] = &[(TWO_TRIPS, &[1, 0], TWO_TRIPS_COSTS)];
+
+/// Picks of these compositions, in the order of the trips.
+fn picks_of(alloc: Global, compositions: &[u32]) -> Result<Picks, Fail> {
+    let Ok(trips) = u32::try_from(compositions.len()) else {
+        return Err(Fail::new("the compositions are too many"));
+    };
+    let mut picks = Picks::new(alloc, trips)?;
+    for trip in 0..trips {
+        if trip < picks.len() {
+            picks.set(TripNo(trip), CompNo(compositions[trip as usize]));
+        }
+    }
+    Ok(picks)
+}
+
+/// The table of the duties of the units in a plan of a day.
+fn duties_of(
+    rt: &impl Abort,
+    alloc: Global,
+    texts: &Texts<'_>,
+    plan: &[u8],
+) -> Result<Vec<u8>, Fail> {
+    let day = day_of(rt, alloc, texts)?;
+    let plan = plan_of(rt, alloc, &day, plan)?;
+    Ok(duties_table(alloc, &day, &plan)?)
+}
+
+/// The table of the yards of a day with these compositions, which may run.
+fn yards_of(
+    rt: &impl Abort,
+    alloc: Global,
+    texts: &Texts<'_>,
+    compositions: &[u32],
+) -> Result<Vec<u8>, Fail> {
+    let day = day_of(rt, alloc, texts)?;
+    let picks = picks_of(alloc, compositions)?;
+    assert!(rt; may_run(&day, &picks));
+    Ok(yards_table(alloc, &day, &picks)?)
+}
+
+/// The table of what these compositions, which may run, cost on a day.
+fn costs_of(
+    rt: &impl Abort,
+    alloc: Global,
+    texts: &Texts<'_>,
+    compositions: &[u32],
+) -> Result<Vec<u8>, Fail> {
+    let day = day_of(rt, alloc, texts)?;
+    let picks = picks_of(alloc, compositions)?;
+    assert!(rt; may_run(&day, &picks));
+    Ok(costs_table(alloc, &day, &picks)?)
+}
+
 #[test]
 fn duties_of_plans(rt: HostRuntime) -> Result<(), Fail> {
-    let alloc = rt.alloc();
-    let day = day_of_two_trips(alloc)?;
-    let plan = plan_of(alloc, &day, b"trip,units\nT1,0 1\nT2,1\n")?;
-    let text = duties_table(alloc, &day, &plan)?;
-    assert!(rt; text.as_slice() == TWO_TRIPS_DUTIES);
-    let day = day_of_four_trips(alloc)?;
-    let plan = plan_of(alloc, &day, b"trip,units\n101,0 1\n102,0\n103,0\n104,0 1\n")?;
-    let text = duties_table(alloc, &day, &plan)?;
-    assert!(rt; text.as_slice() == FOUR_TRIPS_DUTIES);
+    for (texts, plan, wanted) in DUTIES {
+        let text = duties_of(&rt, rt.alloc(), texts, *plan)?;
+        assert!(rt; text.as_slice() == *wanted, "{text:?}");
+    }
     Ok(())
 }
 
 #[test]
 fn yards_of_picks(rt: HostRuntime) -> Result<(), Fail> {
-    let alloc = rt.alloc();
-    let day = day_of_two_trips(alloc)?;
-    let picks = picks_of(alloc, &[1, 0])?;
-    assert!(rt; may_run(&day, &picks));
-    let text = yards_table(alloc, &day, &picks)?;
-    assert!(rt; text.as_slice() == TWO_TRIPS_YARDS);
-    let day = day_of_four_trips(alloc)?;
-    let picks = picks_of(alloc, &[2, 0, 0, 2])?;
-    assert!(rt; may_run(&day, &picks));
-    let text = yards_table(alloc, &day, &picks)?;
-    assert!(rt; text.as_slice() == FOUR_TRIPS_YARDS);
+    for (texts, compositions, wanted) in YARDS {
+        let text = yards_of(&rt, rt.alloc(), texts, *compositions)?;
+        assert!(rt; text.as_slice() == *wanted, "{text:?}");
+    }
     Ok(())
 }
 
 #[test]
 fn costs_of_picks(rt: HostRuntime) -> Result<(), Fail> {
-    let alloc = rt.alloc();
-    let day = day_of_two_trips(alloc)?;
-    let picks = picks_of(alloc, &[1, 0])?;
-    assert!(rt; may_run(&day, &picks));
-    let text = costs_table(alloc, &day, &picks)?;
-    assert!(rt; text.as_slice() == TWO_TRIPS_COSTS);
+    for (texts, compositions, wanted) in COSTS {
+        let text = costs_of(&rt, rt.alloc(), texts, *compositions)?;
+        assert!(rt; text.as_slice() == *wanted, "{text:?}");
+    }
     Ok(())
 }

@@ -3,20 +3,11 @@
 //! On the day where one unit is left at Y, with multipliers u, v, w and x at its four indices, (A, A) has the priced
 //! value 1060 - u - w + x, (AA, A) has 190 and is a solution, and (AA, AA) has 120 - w + x.
 
-use crate::days::Sample;
+use crate::days::{APART, EARLY_BACK, LEVEL_BACK, ONE_LEFT, TOO_FEW, TWO_ALIKE};
 use crate::scripts::{Call, CutNumbers, SILENT};
-use crate::trials::{Task, expect, expect_of_two};
+use crate::trials::{Search, expect_all};
 use advisors::Word;
 use std::test::Fail;
-
-/// A search of that day with this grant and these rounds.
-fn granting(grant: u32, rounds: u8) -> Task {
-    Task {
-        sample: Sample::OneLeft,
-        grant,
-        rounds,
-    }
-}
 
 /// The root after its evaluation with no multipliers.
 const ROOT: &str =
@@ -219,119 +210,145 @@ const LONG_RAY: &[Call] = &[Call {
     ..SILENT
 }];
 
+/// Searches of that day.
+const ADVISED: &[Search] = &[
+    Search {
+        about: "what an advisor is shown",
+        texts: ONE_LEFT,
+        grant: 2,
+        rounds: 4,
+        scripts: &[LOOKS],
+        told: "optimal 190 by 1 0; only 0 1; cost 190 3:70; ray 2:-1; asked 6",
+    },
+    // The second one is shown what the first one's proposal gave, and the cut that the first one proposed stays.
+    Search {
+        about: "two advisors are asked in turn",
+        texts: ONE_LEFT,
+        grant: 2,
+        rounds: 2,
+        scripts: &[FIRST, SECOND],
+        told: "optimal 190 by 1 0; most 0 0 1; ray 2:-1; cost 190 3:70; asked 3; asked 2",
+    },
+    Search {
+        about: "none is asked about a node that is closed",
+        texts: ONE_LEFT,
+        grant: 0,
+        rounds: 3,
+        scripts: &[CLOSING, UNASKED],
+        told: "optimal 190 by 1 0; cost 190 3:70; asked 1; asked 0",
+    },
+    Search {
+        about: "what comes with quitting is not used",
+        texts: ONE_LEFT,
+        grant: 1,
+        rounds: 3,
+        scripts: &[QUITTING_WITH_MORE],
+        told: "bounded 120; only 0 1; cost 120; ray 2:-1; asked 2, quit",
+    },
+    Search {
+        about: "a cut is taken",
+        texts: ONE_LEFT,
+        grant: 1,
+        rounds: 1,
+        scripts: &[CUTS],
+        told: "optimal 190 by 1 0; only 1 0; cost 190; ray 2:-1; asked 1",
+    },
+    Search {
+        about: "a later cut is taken in its place",
+        texts: ONE_LEFT,
+        grant: 1,
+        rounds: 2,
+        scripts: &[CUTS],
+        told: "optimal 190 by 1 0; only 1 1; ray 2:-1; cost 190; asked 2",
+    },
+    // The cut of the third round stays where none is proposed, and one that is not proper takes its place and is not taken.
+    Search {
+        about: "the last cut is taken",
+        texts: ONE_LEFT,
+        grant: 1,
+        rounds: 3,
+        scripts: &[CUTS],
+        told: "bounded 130; most 0 0 1; ray 2:-1; cost 130 3:10; asked 6",
+    },
+    Search {
+        about: "the last cut stays",
+        texts: ONE_LEFT,
+        grant: 1,
+        rounds: 4,
+        scripts: &[CUTS],
+        told: "bounded 130; most 0 0 1; ray 2:-1; cost 130 3:10; asked 8",
+    },
+    Search {
+        about: "a cut that is not proper is not taken",
+        texts: ONE_LEFT,
+        grant: 1,
+        rounds: 5,
+        scripts: &[CUTS],
+        told: "bounded 130; only 0 1; cost 130 3:10; ray 2:-1; asked 10",
+    },
+    Search {
+        about: "multipliers of no higher value are not kept",
+        texts: ONE_LEFT,
+        grant: 0,
+        rounds: 1,
+        scripts: &[NO_HIGHER],
+        told: "bounded 120; cost 120; asked 1",
+    },
+];
+
+/// Searches of other days.
+const ADVISED_ELSEWHERE: &[Search] = &[
+    Search {
+        about: "multipliers show that there is none",
+        texts: EARLY_BACK,
+        grant: 2,
+        rounds: 3,
+        scripts: &[RAY],
+        told: "infeasible; ray 1:1 2:1; asked 1",
+    },
+    // A node whose first bound is as dear as the best solution is closed before it is evaluated under what it inherits.
+    Search {
+        about: "a node that is closed inherits nothing",
+        texts: LEVEL_BACK,
+        grant: 2,
+        rounds: 1,
+        scripts: &[ONCE],
+        told: "optimal 120 by 1 1; only 0 0; only 1 1; ray 1:1; cost 120; cost 120; asked 2",
+    },
+    Search {
+        about: "the left side is shown before the right one",
+        texts: APART,
+        grant: 1,
+        rounds: 1,
+        scripts: &[SIDES],
+        told: "bounded 150; only 0 0; cost 150; cost 150; asked 3",
+    },
+    // (A, A) is found in the second round of the left side. (AA, AA), which the right side begins with, costs no less.
+    Search {
+        about: "the right side waits for the rounds of the left one",
+        texts: TWO_ALIKE,
+        grant: 1,
+        rounds: 2,
+        scripts: &[LATE],
+        told: "optimal 120 by 0 0; only 0 0; cost 120 1:70; cost 120; asked 4",
+    },
+    // Of two rays the one that is named for the picks comes before the multipliers themselves.
+    Search {
+        about: "the named ray comes first",
+        texts: TOO_FEW,
+        grant: 0,
+        rounds: 1,
+        scripts: &[LONG_RAY],
+        told: "infeasible; ray 2:1; asked 1",
+    },
+];
+
 #[test]
-fn what_an_advisor_is_shown(rt: HostRuntime) -> Result<(), Fail> {
-    let wanted = "optimal 190 by 1 0; only 0 1; cost 190 3:70; ray 2:-1; asked 6";
-    expect(&rt, rt.alloc(), granting(2, 4), LOOKS, wanted)?;
-    Ok(())
+fn advice_on_one_day(rt: HostRuntime) -> Result<(), Fail> {
+    expect_all(&rt, rt.alloc(), ADVISED)
 }
 
-// The second one is shown what the first one's proposal gave, and the cut that the first one proposed stays.
 #[test]
-fn two_advisors_are_asked_in_turn(rt: HostRuntime) -> Result<(), Fail> {
-    let wanted = "optimal 190 by 1 0; most 0 0 1; ray 2:-1; cost 190 3:70; asked 3; asked 2";
-    expect_of_two(&rt, rt.alloc(), granting(2, 2), FIRST, SECOND, wanted)?;
-    Ok(())
-}
-
-#[test]
-fn none_is_asked_about_a_node_that_is_closed(rt: HostRuntime) -> Result<(), Fail> {
-    let wanted = "optimal 190 by 1 0; cost 190 3:70; asked 1; asked 0";
-    expect_of_two(&rt, rt.alloc(), granting(0, 3), CLOSING, UNASKED, wanted)?;
-    Ok(())
-}
-
-#[test]
-fn what_comes_with_quitting_is_not_used(rt: HostRuntime) -> Result<(), Fail> {
-    let wanted = "bounded 120; only 0 1; cost 120; ray 2:-1; asked 2, quit";
-    expect(&rt, rt.alloc(), granting(1, 3), QUITTING_WITH_MORE, wanted)?;
-    Ok(())
-}
-
-#[test]
-fn a_cut_is_taken(rt: HostRuntime) -> Result<(), Fail> {
-    let alloc = rt.alloc();
-    let first = "optimal 190 by 1 0; only 1 0; cost 190; ray 2:-1; asked 1";
-    expect(&rt, alloc, granting(1, 1), CUTS, first)?;
-    let second = "optimal 190 by 1 0; only 1 1; ray 2:-1; cost 190; asked 2";
-    expect(&rt, alloc, granting(1, 2), CUTS, second)?;
-    Ok(())
-}
-
-// The cut of the third round stays where none is proposed, and one that is not proper takes its place and is not taken.
-#[test]
-fn the_last_cut_is_taken(rt: HostRuntime) -> Result<(), Fail> {
-    let alloc = rt.alloc();
-    let third = "bounded 130; most 0 0 1; ray 2:-1; cost 130 3:10; asked 6";
-    expect(&rt, alloc, granting(1, 3), CUTS, third)?;
-    let fourth = "bounded 130; most 0 0 1; ray 2:-1; cost 130 3:10; asked 8";
-    expect(&rt, alloc, granting(1, 4), CUTS, fourth)?;
-    let fifth = "bounded 130; only 0 1; cost 130 3:10; ray 2:-1; asked 10";
-    expect(&rt, alloc, granting(1, 5), CUTS, fifth)?;
-    Ok(())
-}
-
-#[test]
-fn multipliers_of_no_higher_value_are_not_kept(rt: HostRuntime) -> Result<(), Fail> {
-    let wanted = "bounded 120; cost 120; asked 1";
-    expect(&rt, rt.alloc(), granting(0, 1), NO_HIGHER, wanted)?;
-    Ok(())
-}
-
-#[test]
-fn multipliers_show_that_there_is_none(rt: HostRuntime) -> Result<(), Fail> {
-    let early = Task {
-        sample: Sample::EarlyBack,
-        ..granting(2, 3)
-    };
-    let wanted = "infeasible; ray 1:1 2:1; asked 1";
-    expect(&rt, rt.alloc(), early, RAY, wanted)?;
-    Ok(())
-}
-
-// A node whose first bound is as dear as the best solution is closed before it is evaluated under what it inherits.
-#[test]
-fn a_node_that_is_closed_inherits_nothing(rt: HostRuntime) -> Result<(), Fail> {
-    let level = Task {
-        sample: Sample::LevelBack,
-        ..granting(2, 1)
-    };
-    let wanted = "optimal 120 by 1 1; only 0 0; only 1 1; ray 1:1; cost 120; cost 120; asked 2";
-    expect(&rt, rt.alloc(), level, ONCE, wanted)?;
-    Ok(())
-}
-
-#[test]
-fn the_left_side_is_shown_before_the_right_one(rt: HostRuntime) -> Result<(), Fail> {
-    let apart = Task {
-        sample: Sample::Apart,
-        ..granting(1, 1)
-    };
-    let wanted = "bounded 150; only 0 0; cost 150; cost 150; asked 3";
-    expect(&rt, rt.alloc(), apart, SIDES, wanted)?;
-    Ok(())
-}
-
-// (A, A) is found in the second round of the left side. (AA, AA), which the right side begins with, costs no less.
-#[test]
-fn the_right_side_waits_for_the_rounds_of_the_left_one(rt: HostRuntime) -> Result<(), Fail> {
-    let alike = Task {
-        sample: Sample::TwoAlike,
-        ..granting(1, 2)
-    };
-    let wanted = "optimal 120 by 0 0; only 0 0; cost 120 1:70; cost 120; asked 4";
-    expect(&rt, rt.alloc(), alike, LATE, wanted)?;
-    Ok(())
-}
-
-// Of two rays the one that is named for the picks comes before the multipliers themselves.
-#[test]
-fn the_named_ray_comes_first(rt: HostRuntime) -> Result<(), Fail> {
-    let few = Task {
-        sample: Sample::TooFew,
-        ..granting(0, 1)
-    };
-    let wanted = "infeasible; ray 2:1; asked 1";
-    expect(&rt, rt.alloc(), few, LONG_RAY, wanted)?;
-    Ok(())
+fn advice_on_other_days(rt: HostRuntime) -> Result<(), Fail> {
+    expect_all(&rt, rt.alloc(), ADVISED_ELSEWHERE)
 }

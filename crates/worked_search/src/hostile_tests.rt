@@ -1,18 +1,11 @@
 //! Advisors that propose what is refused, what is no use, or as much as they may.
 
-use crate::days::Sample;
+use crate::days::ONE_LEFT;
 use crate::scripts::{Call, CutNumbers, SILENT};
-use crate::trials::{Task, expect};
+use crate::trials::{Search, expect_all};
 use advisors::Word;
 use branch_tree::PutRefusal;
 use std::test::Fail;
-
-/// A search with two branchings and three rounds.
-const TASK: Task = Task {
-    sample: Sample::OneLeft,
-    grant: 2,
-    rounds: 3,
-};
 
 /// Puts at an index that is not there, below 0 where that is not allowed, and over the limit.
 const REFUSED: &[Call] = &[Call {
@@ -54,39 +47,64 @@ const QUITTING: &[Call] = &[Call {
     ..SILENT
 }];
 
-/// What is found without any advice.
-const UNADVISED: &str = "optimal 190 by 1 0; only 0 1; only 1 1; ray 2:-1; cost 190; ray 2:-1";
+/// What is found without any advice in two branchings and three rounds, by an advisor that may be asked each time.
+const UNADVISED: &str =
+    "optimal 190 by 1 0; only 0 1; only 1 1; ray 2:-1; cost 190; ray 2:-1; asked 6";
+
+/// Searches with two branchings and three rounds, and one advisor.
+const HOSTILE: &[Search] = &[
+    Search {
+        about: "refused multipliers change nothing",
+        texts: ONE_LEFT,
+        grant: 2,
+        rounds: 3,
+        scripts: &[REFUSED],
+        told: UNADVISED,
+    },
+    Search {
+        about: "a trip that is not there changes nothing",
+        texts: ONE_LEFT,
+        grant: 2,
+        rounds: 3,
+        scripts: &[NO_TRIP],
+        told: UNADVISED,
+    },
+    Search {
+        about: "a composition that is not there changes nothing",
+        texts: ONE_LEFT,
+        grant: 2,
+        rounds: 3,
+        scripts: &[NO_COMPOSITION],
+        told: UNADVISED,
+    },
+    Search {
+        about: "a multiplier may be as small as can be",
+        texts: ONE_LEFT,
+        grant: 2,
+        rounds: 3,
+        scripts: &[LEAST],
+        told: UNADVISED,
+    },
+    // Under it the bound is that of the cheapest picks that leave a unit at Y.
+    Search {
+        about: "a multiplier may be as great as can be",
+        texts: ONE_LEFT,
+        grant: 2,
+        rounds: 3,
+        scripts: &[GREATEST],
+        told: "optimal 190 by 1 0; cost 190 3:1000000000000; asked 1",
+    },
+    Search {
+        about: "an advisor may quit at once",
+        texts: ONE_LEFT,
+        grant: 2,
+        rounds: 3,
+        scripts: &[QUITTING],
+        told: "optimal 190 by 1 0; only 0 1; only 1 1; ray 2:-1; cost 190; ray 2:-1; asked 1, quit",
+    },
+];
 
 #[test]
-fn what_is_refused_changes_nothing(rt: HostRuntime) -> Result<(), Fail> {
-    let alloc = rt.alloc();
-    let wanted = format!(in alloc; "{UNADVISED}; asked 6")?;
-    expect(&rt, alloc, TASK, REFUSED, wanted.as_str())?;
-    expect(&rt, alloc, TASK, NO_TRIP, wanted.as_str())?;
-    expect(&rt, alloc, TASK, NO_COMPOSITION, wanted.as_str())?;
-    Ok(())
-}
-
-#[test]
-fn a_multiplier_may_be_as_small_as_can_be(rt: HostRuntime) -> Result<(), Fail> {
-    let alloc = rt.alloc();
-    let wanted = format!(in alloc; "{UNADVISED}; asked 6")?;
-    expect(&rt, alloc, TASK, LEAST, wanted.as_str())?;
-    Ok(())
-}
-
-// Under it the bound is that of the cheapest picks that leave a unit at Y.
-#[test]
-fn a_multiplier_may_be_as_great_as_can_be(rt: HostRuntime) -> Result<(), Fail> {
-    let wanted = "optimal 190 by 1 0; cost 190 3:1000000000000; asked 1";
-    expect(&rt, rt.alloc(), TASK, GREATEST, wanted)?;
-    Ok(())
-}
-
-#[test]
-fn an_advisor_may_quit_at_once(rt: HostRuntime) -> Result<(), Fail> {
-    let alloc = rt.alloc();
-    let wanted = format!(in alloc; "{UNADVISED}; asked 1, quit")?;
-    expect(&rt, alloc, TASK, QUITTING, wanted.as_str())?;
-    Ok(())
+fn hostile_advisors_do_no_harm(rt: HostRuntime) -> Result<(), Fail> {
+    expect_all(&rt, rt.alloc(), HOSTILE)
 }

@@ -1,9 +1,8 @@
-//! A search of a day, with the advisors that a test gives it.
+//! Searches of days, with the advisors that a test gives them.
 
 ghost use Rattle.std.specs.Prelude.{◌≤◌, ◌^◌, All};
 ghost use Rattle.transitions.specs.Edges.{AreGraphs};
 
-use crate::days::{Sample, day};
 use crate::scripts::{Call, Scripted};
 use crate::telling::{write_asked, write_found};
 use advisors::Advisor;
@@ -11,88 +10,104 @@ use branch_tree::Region;
 use price_bound::DayBounds;
 use rail_base::NoMemory;
 use rail_base::limits::{MOST_BRANCHINGS, MOST_ROUNDS};
+use sample_days::{Texts, day_of};
 use search::{Found, solve};
-use std::alloc::Global;
+use std::alloc::{AllocError, Global};
 use std::process::Abort;
 use std::test::Fail;
 use timetable::Instance;
 use transitions::Graphs;
 
-/// What is searched: a day, how many branchings are granted, and how many rounds of advice.
-#[derive(Clone, Copy)]
-pub(crate) struct Task {
-    pub(crate) sample: Sample,
+/// A search of a day, and what comes of it.
+pub(crate) struct Search {
+    /// What it shows.
+    pub(crate) about: &'static str,
+    pub(crate) texts: Texts<'static>,
+    /// How many branchings are granted.
     pub(crate) grant: u32,
+    /// How many rounds of advice there are.
     pub(crate) rounds: u8,
+    /// The advisors, in the order in which they are asked.
+    pub(crate) scripts: &'static [&'static [Call]],
+    /// What is found, and then of each advisor how often it was asked, and whether it has quit.
+    pub(crate) told: &'static str,
 }
 
-/// Asserts what a search without advisors finds.
-pub(crate) fn expect_unadvised(
-    rt: &impl Abort,
-    alloc: Global,
-    task: Task,
-    wanted: &str,
-) -> Result<(), Fail> {
-    let mut advisors: Vec<Box<dyn Advisor>> = Vec::new(alloc);
-    expect_course(rt, alloc, task, &mut advisors, wanted)
-}
-
-/// Asserts what comes of a search with one advisor: what is found, how often it was asked, and whether it has quit.
-pub(crate) fn expect(
-    rt: &impl Abort,
-    alloc: Global,
-    task: Task,
-    script: &'static [Call],
-    wanted: &str,
-) -> Result<(), Fail> {
-    let mut advisors: Vec<Box<dyn Advisor>> = Vec::new(alloc);
-    advisors.push(Box::new(alloc, Scripted::by(alloc, script))?)?;
-    expect_course(rt, alloc, task, &mut advisors, wanted)
-}
-
-/// Asserts the same of a search with two advisors, the first of which is asked first.
-pub(crate) fn expect_of_two(
-    rt: &impl Abort,
-    alloc: Global,
-    task: Task,
-    first: &'static [Call],
-    second: &'static [Call],
-    wanted: &str,
-) -> Result<(), Fail> {
-    let mut advisors: Vec<Box<dyn Advisor>> = Vec::new(alloc);
-    advisors.push(Box::new(alloc, Scripted::by(alloc, first))?)?;
-    advisors.push(Box::new(alloc, Scripted::by(alloc, second))?)?;
-    expect_course(rt, alloc, task, &mut advisors, wanted)
-}
-
-/// Asserts what comes of a search with these advisors.
-fn expect_course(
-    rt: &impl Abort,
-    alloc: Global,
-    task: Task,
-    advisors: &mut Vec<Box<dyn Advisor>>,
-    wanted: &str,
-) -> Result<(), Fail>
-    requires asked { All (λ advisor. asked advisor ≤ 2 ^ 63) advisors.old.items }
-{
-    let text = course_of(alloc, task, advisors)?;
-    assert!(rt; text.as_str() == wanted, "{text}");
+/// Asserts what comes of each of these searches.
+pub(crate) fn expect_all(rt: &impl Abort, alloc: Global, searches: &[Search]) -> Result<(), Fail> {
+    for search in searches {
+        let text = told(rt, alloc, search)?;
+        assert!(rt; text.as_str() == search.told, "{}: {text}", search.about);
+    }
     Ok(())
 }
 
-/// What comes of a search: what is found, and then of each advisor how often it was asked, and whether it has quit.
-fn course_of(
+/// What comes of a search, which has two advisors at most.
+fn told(rt: &impl Abort, alloc: Global, search: &Search) -> Result<String, Fail> {
+    match search.scripts {
+        [] => told_of_none(rt, alloc, search),
+        [script] => told_of_one(rt, alloc, search, *script),
+        [first, second] => told_of_two(rt, alloc, search, *first, *second),
+        _ => Err(Fail::new("there are more than two advisors")),
+    }
+}
+
+/// What comes of a search without advisors.
+fn told_of_none(rt: &impl Abort, alloc: Global, search: &Search) -> Result<String, Fail> {
+    let mut advisors: Vec<Box<dyn Advisor>> = Vec::new(alloc);
+    course_of(rt, alloc, search, &mut advisors)
+}
+
+/// What comes of a search with one advisor.
+fn told_of_one(
+    rt: &impl Abort,
     alloc: Global,
-    task: Task,
+    search: &Search,
+    script: &'static [Call],
+) -> Result<String, Fail> {
+    let mut advisors: Vec<Box<dyn Advisor>> = Vec::new(alloc);
+    advisors.push(Box::new(alloc, Scripted::by(alloc, script))?)?;
+    course_of(rt, alloc, search, &mut advisors)
+}
+
+/// What comes of a search with two advisors, the first of which is asked first.
+fn told_of_two(
+    rt: &impl Abort,
+    alloc: Global,
+    search: &Search,
+    first: &'static [Call],
+    second: &'static [Call],
+) -> Result<String, Fail> {
+    let mut advisors: Vec<Box<dyn Advisor>> = Vec::new(alloc);
+    advisors.push(Box::new(alloc, Scripted::by(alloc, first))?)?;
+    advisors.push(Box::new(alloc, Scripted::by(alloc, second))?)?;
+    course_of(rt, alloc, search, &mut advisors)
+}
+
+/// What comes of a search with these advisors.
+fn course_of(
+    rt: &impl Abort,
+    alloc: Global,
+    search: &Search,
     advisors: &mut Vec<Box<dyn Advisor>>,
 ) -> Result<String, Fail>
     requires asked { All (λ advisor. asked advisor ≤ 2 ^ 63) advisors.old.items }
 {
-    let day = day(alloc, task.sample)?;
+    let day = day_of(rt, alloc, &search.texts)?;
     let graphs = Graphs::build(alloc, &day)?;
-    let found = found_on(alloc, &day, &graphs, task, advisors)?;
+    let (grant, rounds) = (search.grant, search.rounds);
+    let found = found_on(alloc, &day, &graphs, grant, rounds, advisors)?;
+    Ok(text_of(alloc, &found, advisors.as_slice())?)
+}
+
+/// What was found, and of each advisor how often it was asked, and whether it has quit.
+fn text_of(
+    alloc: Global,
+    found: &Found,
+    advisors: &[Box<dyn Advisor>],
+) -> Result<String, AllocError> {
     let mut text = String::new(alloc);
-    write_found(&mut text, &found)?;
+    write_found(&mut text, found)?;
     write_asked(&mut text, advisors)?;
     Ok(text)
 }
@@ -102,17 +117,18 @@ fn found_on(
     alloc: Global,
     day: &Instance,
     graphs: &Graphs,
-    task: Task,
+    grant: u32,
+    rounds: u8,
     advisors: &mut Vec<Box<dyn Advisor>>,
 ) -> Result<Found, NoMemory>
     requires graphs { AreGraphs day.now graphs.now }
     requires asked { All (λ advisor. asked advisor ≤ 2 ^ 63) advisors.old.items }
 {
-    if task.grant > MOST_BRANCHINGS || u32::from(task.rounds) > MOST_ROUNDS {
+    if grant > MOST_BRANCHINGS || u32::from(rounds) > MOST_ROUNDS {
         return Err(NoMemory);
     }
     let root = Region::root(alloc, day)?;
     let mut bounds = DayBounds::new(alloc, day, graphs)?;
-    let found = solve(alloc, &mut bounds, &root, task.grant, task.rounds, advisors)?;
+    let found = solve(alloc, &mut bounds, &root, grant, rounds, advisors)?;
     Ok(found)
 }

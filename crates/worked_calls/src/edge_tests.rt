@@ -2,9 +2,8 @@
 
 ghost use Rattle.std.specs.Prelude.{◌<◌, length};
 
-use crate::days::day_of;
 use rail_base::{CompNo, LinkNo};
-use sample_days::Texts;
+use sample_days::{Texts, day_of};
 use std::alloc::{AllocError, Global};
 use std::process::Abort;
 use std::test::Fail;

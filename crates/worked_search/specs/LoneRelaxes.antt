@@ -5,7 +5,7 @@ use Rattle.std.proofs.lemmas.Bool.{ltb-true, ne_eqb, false_from_ne_true}
 use Rattle.std.proofs.lemmas.Int.{ints}
 use Rattle.timetable.specs.Lists.{count_of}
 use Rattle.branch_tree.specs.Meanings.{IsRelaxation}
-use Rattle.worked_trees.specs.LonePicks.{is_short, lone_picks}
+use Rattle.worked_search.specs.LonePicks.{is_short, lone_picks}
 
 positive_short : (b : Bool) → (b ≡ false → ⊥) → pos 0 <ℤ (pos 1 *ℤ (if b then pos 1 else pos 0))
 positive_short true short = omega (arith, ints)

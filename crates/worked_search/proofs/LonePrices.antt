@@ -9,7 +9,7 @@ use Rattle.branch_tree.specs.declared.relaxation.Weight.{Weight}
 use Rattle.branch_tree.specs.Entries.{AreMultipliers, AreRising, DoFit, value_at}
 use Rattle.branch_tree.specs.IntSums.{int_sum}
 use Rattle.branch_tree.specs.Meanings.{priced, weighted}
-use Rattle.worked_trees.specs.LonePicks.{is_short, lone, lone_picks}
+use Rattle.worked_search.specs.LonePicks.{is_short, lone, lone_picks}
 
 times_one : (value : ℤ) → ((value *ℤ pos 1) +ℤ pos 0) ≡ value
 times_one value = omega (arith, ints)

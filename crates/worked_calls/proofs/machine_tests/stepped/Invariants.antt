@@ -1,5 +1,5 @@
 use Rattle.std.proofs.Common.{◌≡◌}
-use Rattle.worked_machine.proofs.machine_tests.stepped.Given as goal
+use Rattle.worked_calls.proofs.machine_tests.stepped.Given as goal
 
 abbrev pub invariant-loop-taken : goal.invariant-loop-taken
 invariant-loop-taken l = record {

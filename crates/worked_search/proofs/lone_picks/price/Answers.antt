@@ -3,9 +3,9 @@ use Rattle.std.proofs.lemmas.Int.{ints}
 use Rattle.std.proofs.lemmas.List.{nil_from_length}
 use Rattle.branch_tree.specs.Entries.{value_at}
 use Rattle.branch_tree.specs.Meanings.{priced, weighted}
-use Rattle.worked_trees.specs.LonePicks.{is_short, lone, lone_picks}
-use Rattle.worked_trees.proofs.LonePrices.{short_price, solved_price, free_price}
-use Rattle.worked_trees.proofs.lone_picks.price.Goals as goal
+use Rattle.worked_search.specs.LonePicks.{is_short, lone, lone_picks}
+use Rattle.worked_search.proofs.LonePrices.{short_price, solved_price, free_price}
+use Rattle.worked_search.proofs.lone_picks.price.Goals as goal
 
 pub returns-then-len-eq0 : goal.returns-then-len-eq0
 returns-then-len-eq0 c =

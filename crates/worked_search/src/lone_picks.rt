@@ -4,8 +4,8 @@ ghost use Rattle.std.specs.Prelude.{◌≡◌, ◌<◌, ◌≤◌, ◌≤ℤ◌,
 ghost use Rattle.branch_tree.specs.Entries.{DoFit};
 ghost use Rattle.branch_tree.specs.Meanings.{priced, weighted};
 ghost use Rattle.branch_tree.specs.Regions.{are_in};
-ghost use Rattle.worked_trees.specs.LonePicks.{is_short, lone, lone_picks};
-ghost use Rattle.worked_trees.specs.LoneRelaxes.{lone_picks_relax};
+ghost use Rattle.worked_search.specs.LonePicks.{is_short, lone, lone_picks};
+ghost use Rattle.worked_search.specs.LoneRelaxes.{lone_picks_relax};
 
 use branch_tree::{BoundAnswer, Entry, Multipliers, Region, Relaxation, Settled, Slacks, Weight};
 use compositions::Catalogue;

@@ -4,10 +4,9 @@ ghost use Rattle.std.specs.Prelude.{◌≡◌, ◌<◌, length};
 ghost use Rattle.timetable.specs.Running.{IsPlan};
 ghost use Rattle.day_simulator.specs.State.{trip_of};
 
-use crate::days::{day_of, plan_of};
 use day_simulator::{Day, DayEvent, Place, StepFault, simulate};
 use rail_base::{TripNo, UnitNo};
-use sample_days::Texts;
+use sample_days::{Texts, day_of, plan_of};
 use std::alloc::{AllocError, Global};
 use std::process::Abort;
 use std::test::Fail;

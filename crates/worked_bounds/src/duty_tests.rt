@@ -1,0 +1,148 @@
+//! Worked days: plans of named units for compositions that are picked, and the duties of the units of a plan.
+
+ghost use Rattle.timetable.specs.Picking.{ArePicks};
+ghost use Rattle.timetable.specs.Running.{IsPlan};
+ghost use Rattle.unit_duties.specs.Broken.{AreAdmissible};
+
+use crate::days::{EARLY_EXCHANGE, EXCHANGE, TURN, picks_of};
+use crate::ledger_tests::fault_of;
+use rail_base::{TripNo, UnitNo};
+use sample_days::{Texts, day_of, plan_of};
+use sample_picks::may_run;
+use std::alloc::{AllocError, Global};
+use std::process::Abort;
+use std::test::Fail;
+use timetable::{Instance, NamedPlan, Picks};
+use transitions::Graphs;
+use unit_duties::{Stop, duties, name_units};
+
+/// Writes the trips of a unit, and its place in each.
+fn write_stops(text: &mut String, unit: u32, stops: &[Stop]) -> Result<(), AllocError> {
+    write!(text, "{unit}:")?;
+    for stop in stops {
+        write!(text, " {}/{}", stop.trip.0, stop.position)?;
+    }
+    text.push_str("\n")
+}
+
+/// Writes the duties of the units in a plan of a day, a line for each unit: its trips, and its place in each.
+fn write_duties(
+    text: &mut String,
+    alloc: Global,
+    day: &Instance,
+    plan: &NamedPlan,
+) -> Result<(), Fail>
+    requires { IsPlan day.now plan.now }
+{
+    let duties = duties(alloc, day, plan)?;
+    for unit in 0..day.units() {
+        write_stops(text, unit, duties.stops(UnitNo(unit)))?;
+    }
+    Ok(())
+}
+
+/// The duties of the units in a plan of a day.
+fn duties_of(
+    rt: &impl Abort,
+    alloc: Global,
+    texts: &Texts<'_>,
+    plan: &[u8],
+) -> Result<String, Fail> {
+    let day = day_of(rt, alloc, texts)?;
+    let plan = plan_of(rt, alloc, &day, plan)?;
+    let mut text = String::new(alloc);
+    write_duties(&mut text, alloc, &day, &plan)?;
+    Ok(text)
+}
+
+#[test]
+fn duties_with_places(rt: HostRuntime) -> Result<(), Fail> {
+    let text = duties_of(&rt, rt.alloc(), &TURN, b"trip,units\nT1,0 1\nT2,1\n")?;
+    assert!(rt; text.as_str() == "0: 0/0\n1: 0/1 1/0\n", "{text}");
+    Ok(())
+}
+
+/// Days, what is picked for their two trips, and what naming units for that tells: the units of each trip, or a refusal.
+const NAMED: &[(Texts<'static>, u32, u32, &str)] = &[
+    // Both units must leave X, and one come back.
+    (TURN, 1, 0, "0: 0 1\n1: 1\n"),
+    (
+        TURN,
+        1,
+        1,
+        "Stock(Balance { station: StationNo(0), unit_type: TypeNo(0), count: 2 })",
+    ),
+    (TURN, 0, 1, "LinkBroken(LinkNo(0))"),
+    // The unit that is uncoupled at 09:00 is ready at 09:30.
+    (EXCHANGE, 2, 3, "0: 0 1\n1: 1 0\n"),
+    (
+        EARLY_EXCHANGE,
+        2,
+        3,
+        "Stock(Short { station: StationNo(1), unit_type: TypeNo(0), place: 0, count: -1 })",
+    ),
+];
+
+/// Writes the units of a trip.
+fn write_units(text: &mut String, trip: u32, units: &[UnitNo]) -> Result<(), AllocError> {
+    write!(text, "{trip}:")?;
+    for unit in units {
+        write!(text, " {}", unit.0)?;
+    }
+    text.push_str("\n")
+}
+
+/// Writes the units of each trip of a plan, a line for each trip.
+fn write_lists(text: &mut String, plan: &NamedPlan) -> Result<(), AllocError> {
+    for trip in 0..plan.trips() {
+        write_units(text, trip, plan.units(TripNo(trip)))?;
+    }
+    Ok(())
+}
+
+/// Writes what naming units for picks tells.
+fn write_named(text: &mut String, alloc: Global, day: &Instance, picks: &Picks) -> Result<(), Fail>
+    requires picks { ArePicks day.now picks.now }
+    requires admissible { AreAdmissible day.now picks.now }
+{
+    let graphs = Graphs::build(alloc, day)?;
+    match name_units(alloc, day, &graphs, picks) {
+        Ok(plan) => write_lists(text, &plan)?,
+        Err(refusal) => write!(text, "{refusal:?}")?,
+    }
+    Ok(())
+}
+
+/// What naming units for two picks, which may run, tells.
+fn named(
+    rt: &impl Abort,
+    alloc: Global,
+    texts: &Texts<'_>,
+    first: u32,
+    second: u32,
+) -> Result<String, Fail> {
+    let day = day_of(rt, alloc, texts)?;
+    let picks = picks_of(alloc, first, second)?;
+    assert!(rt; may_run(&day, &picks));
+    let mut text = String::new(alloc);
+    write_named(&mut text, alloc, &day, &picks)?;
+    Ok(text)
+}
+
+#[test]
+fn units_are_named(rt: HostRuntime) -> Result<(), Fail> {
+    for (texts, first, second, wanted) in NAMED {
+        let text = named(&rt, rt.alloc(), texts, *first, *second)?;
+        assert!(rt; text.as_str() == *wanted, "{text}");
+    }
+    Ok(())
+}
+
+// One unit goes out and two come back, so that the turn is broken and the yard of Y is short too.
+#[test]
+fn broken_link_told_before_a_fault(rt: HostRuntime) -> Result<(), Fail> {
+    assert!(rt; fault_of(&rt, rt.alloc(), &TURN, 0, 1)?.is_some());
+    let text = named(&rt, rt.alloc(), &TURN, 0, 1)?;
+    assert!(rt; text.as_str() == "LinkBroken(LinkNo(0))", "{text}");
+    Ok(())
+}

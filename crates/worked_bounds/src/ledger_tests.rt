@@ -1,0 +1,55 @@
+//! Worked days: the first fault of the yards for picked compositions.
+
+use crate::days::{EARLY_EXCHANGE, EXCHANGE, TURN, picks_of};
+use inventory::{Ledger, StockFault};
+use sample_days::{Texts, day_of};
+use sample_picks::may_run;
+use std::alloc::Global;
+use std::process::Abort;
+use std::test::Fail;
+
+/// Days, what is picked for their two trips, and the first fault of the yards.
+const FAULTS: &[(Texts<'static>, u32, u32, &str)] = &[
+    // Both units come back, though one is wanted at the other station; or the second one comes back alone.
+    (
+        TURN,
+        1,
+        1,
+        "Some(Balance { station: StationNo(0), unit_type: TypeNo(0), count: 2 })",
+    ),
+    (TURN, 1, 0, "None"),
+    // The unit that is uncoupled is coupled again, and ready at 09:30. Compositions 2 and 3 are AB and BA.
+    (EXCHANGE, 2, 3, "None"),
+    (
+        EARLY_EXCHANGE,
+        2,
+        3,
+        "Some(Short { station: StationNo(1), unit_type: TypeNo(0), place: 0, count: -1 })",
+    ),
+];
+
+/// The first fault for two picks, which may run.
+pub(crate) fn fault_of(
+    rt: &impl Abort,
+    alloc: Global,
+    texts: &Texts<'_>,
+    first: u32,
+    second: u32,
+) -> Result<Option<StockFault>, Fail> {
+    let day = day_of(rt, alloc, texts)?;
+    let picks = picks_of(alloc, first, second)?;
+    assert!(rt; may_run(&day, &picks));
+    let mut ledger = Ledger::new(alloc, &day)?;
+    ledger.load(&picks);
+    Ok(ledger.first_fault())
+}
+
+#[test]
+fn first_faults(rt: HostRuntime) -> Result<(), Fail> {
+    for (texts, first, second, wanted) in FAULTS {
+        let fault = fault_of(&rt, rt.alloc(), texts, *first, *second)?;
+        let text = format!(in rt.alloc(); "{fault:?}")?;
+        assert!(rt; text.as_str() == *wanted, "{text}");
+    }
+    Ok(())
+}
