@@ -103,11 +103,11 @@ fn write_outcome<K: Sink>(alloc: Global, outcome: &Outcome, out: &mut K) -> u8
 /// Each "exactly where" yields to statuses 5, 6 and 7. What is said of the files holds where the folder tells what it
 /// holds, and what is said of the document where the sink tells what was written.
 ///
-/// Each advisor was asked at most 2^63 times before. The advisors stay in the list at their places, whatever the status
-/// is. One that has quit is not asked; each is asked at most K times at the root and at both sides of each branching;
-/// and one that has not quit at the end was asked once at least, where K is not 0, for each branching of the answer and
-/// for each of its open leaves. Other commands leave the list as it is. Words that ask for no command on a folder leave
-/// the folder as it is, those of `trial` among them.
+/// Each advisor was asked at most 2^63 times before. Afterwards there are as many advisors, and place by place none was
+/// asked fewer times than before, whatever the status is. One that has quit stays so and is not asked; each is asked at
+/// most K times at the root and at both sides of each branching; and one that has not quit at the end was asked once at
+/// least, where K is not 0, for each branching of the answer and for each of its open leaves. Other commands leave the
+/// list as it is. Words that ask for no command on a folder leave the folder as it is, those of `trial` among them.
 #[tactic(auto, using(crate::proofs::Statuses::unread_rose))]
 pub fn railplan<F: Folder, K: Sink>(
     alloc: Global,

@@ -49,10 +49,11 @@ struct Search {
 /// are granted are made and a leaf is open: its bound is below the cost of the best solution, or there is none yet.
 /// Else it is `Optimal` where a solution was found, and `Infeasible` where none was: then there is none in the root.
 ///
-/// The advisors stay in the list at their places, whatever the answer is. One that has quit, before or meanwhile, is
-/// not asked again. Each was asked at most `rounds` times as often as nodes were made, or, after the error, as nodes
-/// may be made. Where there is no error and there are rounds, one that has not quit was asked at least as often as
-/// there are branchings and leaves that are open at the end.
+/// There are as many advisors afterwards, whatever the answer is, and place by place none was asked fewer times than
+/// before. One that has quit, before or meanwhile, stays so and is not asked again. Each was asked at most `rounds`
+/// times as often as nodes were made, or, after the error, as nodes may be made. Where there is no error and there are
+/// rounds, one that has not quit was asked at least as often as there are branchings and leaves that are open at the
+/// end.
 ///
 /// The error is want of memory alone, here or in an advisor. What the problem means is as before after any answer.
 pub fn solve<R: Relaxation>(
