@@ -20,6 +20,8 @@ mod plan_tests;
 #[cfg(test)]
 mod refusal_tests;
 #[cfg(test)]
+mod report_call_tests;
+#[cfg(test)]
 mod report_tests;
 #[cfg(test)]
 mod simulate_tests;
