@@ -7,7 +7,6 @@ ghost use Rattle.timetable.specs.Accepted.{IsDay};
 use sample_days::{Texts, day_of};
 use std::alloc::Global;
 use std::marker::Model;
-use std::process::Abort;
 use std::test::Fail;
 use timetable::Instance;
 
@@ -191,11 +190,7 @@ fn links_text(alloc: Global, draws: &mut Draws, pattern: &Pattern) -> Result<Str
 }
 
 /// A day of two to six trips with two types of units, or nothing where its texts are too long to be drawn ones.
-pub fn drawn_day(
-    rt: &impl Abort,
-    alloc: Global,
-    draws: &mut Draws,
-) -> Result<Option<Instance>, Fail>
+pub fn drawn_day(alloc: Global, draws: &mut Draws) -> Result<Option<Instance>, Fail>
     ensures { IfOk result (λ drawn. IfSome drawn IsDay) }
 {
     let pattern = pattern_of(draws.below(8));
@@ -215,7 +210,6 @@ pub fn drawn_day(
         return Ok(None);
     }
     let day = day_of(
-        rt,
         alloc,
         &Texts {
             types: b"type,carriages,seats,metres,family\nA,3,200,80,regional\nB,2,100,60,regional\n",

@@ -6,7 +6,6 @@ ghost use Rattle.timetable.specs.Running.{IsPlan};
 
 use rail_base::limits::MOST_TABLE_BYTES;
 use std::alloc::Global;
-use std::process::Abort;
 use std::test::Fail;
 use timetable::{Instance, NamedPlan, Rows, Tables};
 
@@ -26,21 +25,23 @@ pub struct Texts<'a> {
 }
 
 /// The bytes of a table, which are no more than a table may have: more of them fail the test.
-pub fn table<'a>(rt: &impl Abort, bytes: &'a [u8]) -> &'a [u8]
-    ensures same { result.now ≡ bytes.now }
-    ensures length { length result.now ≤ MOST_TABLE_BYTES }
+pub fn table(bytes: &[u8]) -> Result<&[u8], Fail>
+    ensures same { IfOk result (λ table. table.now ≡ bytes.now) }
+    ensures length { IfOk result (λ table. length table.now ≤ MOST_TABLE_BYTES) }
 {
-    assert!(rt; bytes.len() as u64 <= MOST_TABLE_BYTES);
-    bytes
+    if bytes.len() as u64 > MOST_TABLE_BYTES {
+        return Err(Fail::new("a table is too long"));
+    }
+    Ok(bytes)
 }
 
 /// The day of these tables. A table or a day that is refused fails the test, and so does want of memory.
-pub fn day_of(rt: &impl Abort, alloc: Global, texts: &Texts<'_>) -> Result<Instance, Fail> {
-    let types = rail_csv::types(alloc, table(rt, texts.types))?;
-    let stations = rail_csv::stations(alloc, table(rt, texts.stations))?;
-    let stock = rail_csv::stock(alloc, table(rt, texts.stock))?;
-    let trips = rail_csv::trips(alloc, table(rt, texts.trips))?;
-    let links = rail_csv::links(alloc, table(rt, texts.links))?;
+pub fn day_of(alloc: Global, texts: &Texts<'_>) -> Result<Instance, Fail> {
+    let types = rail_csv::types(alloc, table(texts.types)?)?;
+    let stations = rail_csv::stations(alloc, table(texts.stations)?)?;
+    let stock = rail_csv::stock(alloc, table(texts.stock)?)?;
+    let trips = rail_csv::trips(alloc, table(texts.trips)?)?;
+    let links = rail_csv::links(alloc, table(texts.links)?)?;
     let weights = rail_csv::weights(alloc, b"carriage,shortage,shunting\n1,1,100\n")?;
     Ok(Instance::build(
         alloc,
@@ -56,14 +57,9 @@ pub fn day_of(rt: &impl Abort, alloc: Global, texts: &Texts<'_>) -> Result<Insta
 }
 
 /// The plan of a day that a table makes. A table or a plan that is refused fails the test, and so does want of memory.
-pub fn plan_of(
-    rt: &impl Abort,
-    alloc: Global,
-    instance: &Instance,
-    text: &[u8],
-) -> Result<NamedPlan, Fail>
+pub fn plan_of(alloc: Global, instance: &Instance, text: &[u8]) -> Result<NamedPlan, Fail>
     ensures { IfOk result (λ plan. IsPlan instance.now plan) }
 {
-    let rows = rail_csv::plan(alloc, table(rt, text))?;
+    let rows = rail_csv::plan(alloc, table(text)?)?;
     Ok(NamedPlan::build(alloc, instance, rows.as_slice())?)
 }

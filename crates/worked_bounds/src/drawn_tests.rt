@@ -17,7 +17,6 @@ use price_bound::Change;
 use rail_base::TripNo;
 use sample_picks::may_run;
 use std::alloc::Global;
-use std::process::Abort;
 use std::test::Fail;
 use timetable::{Instance, Picks};
 use transitions::Graphs;
@@ -350,13 +349,8 @@ fn try_day(
 }
 
 /// Draws a day and changes, and asks of it. The answer says whether all is as it is wanted.
-fn draw(
-    rt: &impl Abort,
-    alloc: Global,
-    draws: &mut Draws,
-    counts: &mut Counts,
-) -> Result<bool, Fail> {
-    let Some(day) = drawn_day(rt, alloc, draws)? else {
+fn draw(alloc: Global, draws: &mut Draws, counts: &mut Counts) -> Result<bool, Fail> {
+    let Some(day) = drawn_day(alloc, draws)? else {
         return Ok(false);
     };
     let graphs = Graphs::build(alloc, &day)?;
@@ -392,11 +386,11 @@ fn are_many(counts: &Counts) -> bool {
 
 /// Draws a thousand days from a seed. The answer is the number of the first at which something is not as it is wanted,
 /// and a thousand where there is none such but the days were too much alike.
-fn first_wrong(rt: &impl Abort, alloc: Global, seed: u32) -> Result<Option<u32>, Fail> {
+fn first_wrong(alloc: Global, seed: u32) -> Result<Option<u32>, Fail> {
     let mut draws = Draws::from_seed(seed);
     let mut counts = none_yet();
     for day in 0..1000 {
-        if !draw(rt, alloc, &mut draws, &mut counts)? {
+        if !draw(alloc, &mut draws, &mut counts)? {
             return Ok(Some(day));
         }
     }
@@ -405,18 +399,18 @@ fn first_wrong(rt: &impl Abort, alloc: Global, seed: u32) -> Result<Option<u32>,
 
 #[test]
 fn thousand_days_from_seed_1(rt: HostRuntime) -> Result<(), Fail> {
-    assert_eq!(rt; first_wrong(&rt, rt.alloc(), 1)?, None);
+    assert_eq!(rt; first_wrong(rt.alloc(), 1)?, None);
     Ok(())
 }
 
 #[test]
 fn thousand_days_from_seed_2(rt: HostRuntime) -> Result<(), Fail> {
-    assert_eq!(rt; first_wrong(&rt, rt.alloc(), 2)?, None);
+    assert_eq!(rt; first_wrong(rt.alloc(), 2)?, None);
     Ok(())
 }
 
 #[test]
 fn thousand_days_from_seed_3(rt: HostRuntime) -> Result<(), Fail> {
-    assert_eq!(rt; first_wrong(&rt, rt.alloc(), 3)?, None);
+    assert_eq!(rt; first_wrong(rt.alloc(), 3)?, None);
     Ok(())
 }

@@ -12,7 +12,6 @@ use inventory::{Ledger, StockFault};
 use rail_base::{CompNo, LinkNo, TripNo};
 use sample_picks::may_run;
 use std::alloc::Global;
-use std::process::Abort;
 use std::test::Fail;
 use timetable::{Instance, LinkKind, NamedPlan, Picks};
 use transitions::{Edge, Graphs};
@@ -125,13 +124,8 @@ fn draw_some(
 }
 
 /// Draws a day and some picks for it, and counts what they come to. The answer says whether all is as it is wanted.
-fn draw(
-    rt: &impl Abort,
-    alloc: Global,
-    draws: &mut Draws,
-    counts: &mut Counts,
-) -> Result<bool, Fail> {
-    let Some(day) = drawn_day(rt, alloc, draws)? else {
+fn draw(alloc: Global, draws: &mut Draws, counts: &mut Counts) -> Result<bool, Fail> {
+    let Some(day) = drawn_day(alloc, draws)? else {
         return Ok(false);
     };
     let graphs = Graphs::build(alloc, &day)?;
@@ -149,10 +143,7 @@ fn answers_for_drawn_picks(rt: HostRuntime) -> Result<(), Fail> {
         both: 0,
     };
     for day in 0..60 {
-        assert!(rt;
-            draw(&rt, rt.alloc(), &mut draws, &mut counts)?,
-            "day {day}"
-        );
+        assert!(rt; draw(rt.alloc(), &mut draws, &mut counts)?, "day {day}");
     }
     assert!(rt; counts.plans > 100 && counts.shorts > 100 && counts.balances > 100);
     assert!(rt; counts.broken_links > 10 && counts.both > 100);

@@ -42,14 +42,9 @@ fn write_duties(
 }
 
 /// The duties of the units in a plan of a day.
-fn duties_of(
-    rt: &impl Abort,
-    alloc: Global,
-    texts: &Texts<'_>,
-    plan: &[u8],
-) -> Result<String, Fail> {
-    let day = day_of(rt, alloc, texts)?;
-    let plan = plan_of(rt, alloc, &day, plan)?;
+fn duties_of(alloc: Global, texts: &Texts<'_>, plan: &[u8]) -> Result<String, Fail> {
+    let day = day_of(alloc, texts)?;
+    let plan = plan_of(alloc, &day, plan)?;
     let mut text = String::new(alloc);
     write_duties(&mut text, alloc, &day, &plan)?;
     Ok(text)
@@ -57,7 +52,7 @@ fn duties_of(
 
 #[test]
 fn duties_with_places(rt: HostRuntime) -> Result<(), Fail> {
-    let text = duties_of(&rt, rt.alloc(), &TURN, b"trip,units\nT1,0 1\nT2,1\n")?;
+    let text = duties_of(rt.alloc(), &TURN, b"trip,units\nT1,0 1\nT2,1\n")?;
     assert!(rt; text.as_str() == "0: 0/0\n1: 0/1 1/0\n", "{text}");
     Ok(())
 }
@@ -121,7 +116,7 @@ fn named(
     first: u32,
     second: u32,
 ) -> Result<String, Fail> {
-    let day = day_of(rt, alloc, texts)?;
+    let day = day_of(alloc, texts)?;
     let picks = picks_of(alloc, first, second)?;
     assert!(rt; may_run(&day, &picks));
     let mut text = String::new(alloc);

@@ -36,7 +36,7 @@ pub(crate) fn fault_of(
     first: u32,
     second: u32,
 ) -> Result<Option<StockFault>, Fail> {
-    let day = day_of(rt, alloc, texts)?;
+    let day = day_of(alloc, texts)?;
     let picks = picks_of(alloc, first, second)?;
     assert!(rt; may_run(&day, &picks));
     let mut ledger = Ledger::new(alloc, &day)?;

@@ -236,8 +236,8 @@ const BOUNDS: &[Case] = &[
         },
         told: "Value(Money(1)) by 0 0",
     },
-    // The part A of the split costs 500, and T3 earns 500 by A; the part AA of the join earns 470, and T2 pays 470 by AA.
-    // The least values of the chains are 1120, by AAA and A or AAA and AA, and 150, by A and AAA or AA and AAA.
+    // The part A of the split costs 500, and T3 earns 500 by A; the part AA of the join earns 470, and T2 pays 470 by
+    // AA. The least values of the chains are 1120, by AAA and A or AAA and AA, and 150, by A and AAA or AA and AAA.
     Case {
         about: "chains that hand over",
         texts: RING,
@@ -439,15 +439,15 @@ const PICKS: &[Case] = &[
 /// Asserts that each answer is as it is wanted.
 fn expect_all(rt: &impl Abort, alloc: Global, cases: &[Case]) -> Result<(), Fail> {
     for case in cases {
-        let text = told(rt, alloc, case)?;
+        let text = told(alloc, case)?;
         assert!(rt; text.as_str() == case.told, "{}: {text}", case.about);
     }
     Ok(())
 }
 
 /// What is answered in a case.
-fn told(rt: &impl Abort, alloc: Global, case: &Case) -> Result<String, Fail> {
-    let day = day_of(rt, alloc, &case.texts)?;
+fn told(alloc: Global, case: &Case) -> Result<String, Fail> {
+    let day = day_of(alloc, &case.texts)?;
     let graphs = Graphs::build(alloc, &day)?;
     match case.change {
         Some(cost) => told_under(alloc, &day, &graphs, &[change(cost)], &case.asked),

@@ -47,7 +47,7 @@ fn told(alloc: Global, day: &Instance, first: u32, second: u32) -> Result<String
 #[test]
 fn picks_have_their_cost(rt: HostRuntime) -> Result<(), Fail> {
     for (texts, first, second, wanted) in PICKS {
-        let day = day_of(&rt, rt.alloc(), texts)?;
+        let day = day_of(rt.alloc(), texts)?;
         let text = told(rt.alloc(), &day, *first, *second)?;
         assert!(rt; text.as_str() == *wanted, "{text}");
     }
@@ -62,9 +62,9 @@ const PLANS: &[(&[u8], i128)] = &[
 
 #[test]
 fn plans_have_their_cost(rt: HostRuntime) -> Result<(), Fail> {
-    let day = day_of(&rt, rt.alloc(), &TURN)?;
+    let day = day_of(rt.alloc(), &TURN)?;
     for (bytes, wanted) in PLANS {
-        let plan = plan_of(&rt, rt.alloc(), &day, *bytes)?;
+        let plan = plan_of(rt.alloc(), &day, *bytes)?;
         assert!(rt; plan_cost(&day, &plan).0 == *wanted);
     }
     Ok(())

@@ -4,7 +4,6 @@ use rail_base::{CompNo, LinkNo, StationNo, TripNo, TypeNo, UnitNo};
 use rail_csv::{links, stations, stock, trips, types, weights};
 use sample_days::{Texts, table};
 use std::alloc::{AllocError, Global};
-use std::process::Abort;
 use std::test::Fail;
 use timetable::{Instance, Rows, Tables};
 
@@ -32,13 +31,13 @@ pub(crate) const RING: Texts<'static> = Texts {
 };
 
 /// What is told of the day of these tables, or why they make none.
-pub(crate) fn told(rt: &impl Abort, alloc: Global, texts: &Texts<'_>) -> Result<String, Fail> {
+pub(crate) fn told(alloc: Global, texts: &Texts<'_>) -> Result<String, Fail> {
     let tables = Tables {
-        types: Rows::of(types(alloc, table(rt, texts.types))?),
-        stations: Rows::of(stations(alloc, table(rt, texts.stations))?),
-        stock: Rows::of(stock(alloc, table(rt, texts.stock))?),
-        trips: Rows::of(trips(alloc, table(rt, texts.trips))?),
-        links: Rows::of(links(alloc, table(rt, texts.links))?),
+        types: Rows::of(types(alloc, table(texts.types)?)?),
+        stations: Rows::of(stations(alloc, table(texts.stations)?)?),
+        stock: Rows::of(stock(alloc, table(texts.stock)?)?),
+        trips: Rows::of(trips(alloc, table(texts.trips)?)?),
+        links: Rows::of(links(alloc, table(texts.links)?)?),
         weights: weights(alloc, b"carriage,shortage,shunting\n1,1,100\n")?,
     };
     match Instance::build(alloc, tables) {

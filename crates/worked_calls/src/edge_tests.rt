@@ -5,7 +5,6 @@ ghost use Rattle.std.specs.Prelude.{◌<◌, length};
 use rail_base::{CompNo, LinkNo};
 use sample_days::{Texts, day_of};
 use std::alloc::{AllocError, Global};
-use std::process::Abort;
 use std::test::Fail;
 use transitions::{Edge, Graphs};
 
@@ -180,9 +179,9 @@ const PARTS: &[Row] = &[
 ];
 
 /// What is answered of the only link of a day; nothing where there is another number of links.
-fn told(rt: &impl Abort, alloc: Global, texts: &Texts<'_>, asked: Asked) -> Result<String, Fail> {
+fn told(alloc: Global, texts: &Texts<'_>, asked: Asked) -> Result<String, Fail> {
     let mut text = String::new(alloc);
-    let day = day_of(rt, alloc, texts)?;
+    let day = day_of(alloc, texts)?;
     let graphs = Graphs::build(alloc, &day)?;
     if day.links() == 1 {
         write_answers(&mut text, &graphs, asked)?;
@@ -231,7 +230,7 @@ fn write_edge(text: &mut String, edge: Edge) -> Result<(), AllocError> {
 fn links_have_their_edges(rt: HostRuntime) -> Result<(), Fail> {
     for rows in [TURNS, EXCHANGES, PARTS] {
         for row in rows {
-            let text = told(&rt, rt.alloc(), &row.texts, row.asked)?;
+            let text = told(rt.alloc(), &row.texts, row.asked)?;
             assert!(rt; text.as_str() == row.told, "{text}");
         }
     }

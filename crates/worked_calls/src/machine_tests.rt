@@ -8,7 +8,6 @@ use day_simulator::{Day, DayEvent, Place, StepFault, simulate};
 use rail_base::{TripNo, UnitNo};
 use sample_days::{Texts, day_of, plan_of};
 use std::alloc::{AllocError, Global};
-use std::process::Abort;
 use std::test::Fail;
 use timetable::{Instance, NamedPlan};
 
@@ -103,14 +102,9 @@ const SIMULATED: &[(Texts<'static>, &[u8], &str)] = &[
 ];
 
 /// What simulating a plan of a day tells.
-fn simulated(
-    rt: &impl Abort,
-    alloc: Global,
-    texts: &Texts<'_>,
-    plan: &[u8],
-) -> Result<String, Fail> {
-    let day = day_of(rt, alloc, texts)?;
-    let plan = plan_of(rt, alloc, &day, plan)?;
+fn simulated(alloc: Global, texts: &Texts<'_>, plan: &[u8]) -> Result<String, Fail> {
+    let day = day_of(alloc, texts)?;
+    let plan = plan_of(alloc, &day, plan)?;
     match simulate(alloc, &day, &plan) {
         Ok(ran) => Ok(format!(in alloc; "runs {}", ran.cost.0)?),
         Err(why) => Ok(format!(in alloc; "{why:?}")?),
@@ -120,7 +114,7 @@ fn simulated(
 #[test]
 fn days_are_simulated(rt: HostRuntime) -> Result<(), Fail> {
     for (texts, plan, wanted) in SIMULATED {
-        let text = simulated(&rt, rt.alloc(), texts, *plan)?;
+        let text = simulated(rt.alloc(), texts, *plan)?;
         assert!(rt; text.as_str() == *wanted, "{text}");
     }
     Ok(())
@@ -367,22 +361,16 @@ fn stepped(
 }
 
 /// What is told of a day that is made of its tables, with a plan in these steps.
-fn told(
-    rt: &impl Abort,
-    alloc: Global,
-    texts: &Texts<'_>,
-    plan: &[u8],
-    steps: &[Step],
-) -> Result<String, Fail> {
-    let day = day_of(rt, alloc, texts)?;
-    let plan = plan_of(rt, alloc, &day, plan)?;
+fn told(alloc: Global, texts: &Texts<'_>, plan: &[u8], steps: &[Step]) -> Result<String, Fail> {
+    let day = day_of(alloc, texts)?;
+    let plan = plan_of(alloc, &day, plan)?;
     stepped(alloc, &day, &plan, steps)
 }
 
 #[test]
 fn events_come_in_turn(rt: HostRuntime) -> Result<(), Fail> {
     for row in IN_TURN {
-        let text = told(&rt, rt.alloc(), &row.texts, row.plan, row.steps)?;
+        let text = told(rt.alloc(), &row.texts, row.plan, row.steps)?;
         assert!(rt; text.as_str() == row.told, "{text}");
     }
     Ok(())
@@ -392,7 +380,7 @@ fn events_come_in_turn(rt: HostRuntime) -> Result<(), Fail> {
 fn events_of_one_minute_come_in_any_order(rt: HostRuntime) -> Result<(), Fail> {
     for (texts, plan, wanted) in ALIKE {
         for steps in ORDERS {
-            let text = told(&rt, rt.alloc(), texts, *plan, *steps)?;
+            let text = told(rt.alloc(), texts, *plan, *steps)?;
             assert!(rt; text.as_str() == *wanted, "{text}");
         }
     }

@@ -5,7 +5,6 @@ use rail_base::{Name, NoMemory, StationNo, TripNo, TypeNo, UnitNo};
 use rail_csv::{PlanRow, UnitList, plan};
 use sample_days::{Texts, day_of, table};
 use std::alloc::{AllocError, Global};
-use std::process::Abort;
 use std::test::Fail;
 use timetable::{Instance, NamedPlan, Place};
 
@@ -132,7 +131,7 @@ const REFUSED: &[(Texts<'static>, &str)] = &[
 fn days_are_built_or_refused(rt: HostRuntime) -> Result<(), Fail> {
     for days in [DAYS, REFUSED] {
         for (texts, wanted) in days {
-            let text = told(&rt, rt.alloc(), texts)?;
+            let text = told(rt.alloc(), texts)?;
             assert!(rt; text.as_str() == *wanted, "{text}");
         }
     }
@@ -164,7 +163,7 @@ fn first_free(day: &Instance) -> Option<Place> {
 
 #[test]
 fn multipliers_are_numbered(rt: HostRuntime) -> Result<(), Fail> {
-    let day = day_of(&rt, rt.alloc(), &RING)?;
+    let day = day_of(rt.alloc(), &RING)?;
     assert!(rt; are_numbered(&day));
     assert!(rt;
         matches!(
@@ -197,8 +196,8 @@ fn built(alloc: Global, day: &Instance, rows: &[PlanRow]) -> Result<String, Allo
 }
 
 /// The plan of a day that the bytes of a table make, or why they make none.
-fn plan_told(rt: &impl Abort, alloc: Global, day: &Instance, bytes: &[u8]) -> Result<String, Fail> {
-    let rows = plan(alloc, table(rt, bytes))?;
+fn plan_told(alloc: Global, day: &Instance, bytes: &[u8]) -> Result<String, Fail> {
+    let rows = plan(alloc, table(bytes)?)?;
     Ok(built(alloc, day, &rows)?)
 }
 
@@ -217,9 +216,9 @@ fn units_told(alloc: Global, plan: &NamedPlan) -> Result<String, AllocError> {
 #[test]
 fn plans_are_built_or_refused(rt: HostRuntime) -> Result<(), Fail> {
     let alloc = rt.alloc();
-    let day = day_of(&rt, alloc, &TURN)?;
+    let day = day_of(alloc, &TURN)?;
     for (bytes, wanted) in PLANS {
-        let text = plan_told(&rt, alloc, &day, *bytes)?;
+        let text = plan_told(alloc, &day, *bytes)?;
         assert!(rt; text.as_str() == *wanted, "{text}");
     }
     Ok(())
@@ -239,7 +238,7 @@ fn row_past_every_day(alloc: Global) -> Result<PlanRow, NoMemory> {
 #[test]
 fn a_unit_past_every_day_is_refused(rt: HostRuntime) -> Result<(), Fail> {
     let alloc = rt.alloc();
-    let day = day_of(&rt, alloc, &TURN)?;
+    let day = day_of(alloc, &TURN)?;
     let row = row_past_every_day(alloc)?;
     let text = built(alloc, &day, &[row])?;
     assert!(rt; text.as_str() == "UnknownUnit(1)", "{text}");

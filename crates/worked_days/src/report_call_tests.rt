@@ -118,14 +118,9 @@ fn picks_of(alloc: Global, compositions: &[u32]) -> Result<Picks, Fail> {
 }
 
 /// The table of the duties of the units in a plan of a day.
-fn duties_of(
-    rt: &impl Abort,
-    alloc: Global,
-    texts: &Texts<'_>,
-    plan: &[u8],
-) -> Result<Vec<u8>, Fail> {
-    let day = day_of(rt, alloc, texts)?;
-    let plan = plan_of(rt, alloc, &day, plan)?;
+fn duties_of(alloc: Global, texts: &Texts<'_>, plan: &[u8]) -> Result<Vec<u8>, Fail> {
+    let day = day_of(alloc, texts)?;
+    let plan = plan_of(alloc, &day, plan)?;
     Ok(duties_table(alloc, &day, &plan)?)
 }
 
@@ -136,7 +131,7 @@ fn yards_of(
     texts: &Texts<'_>,
     compositions: &[u32],
 ) -> Result<Vec<u8>, Fail> {
-    let day = day_of(rt, alloc, texts)?;
+    let day = day_of(alloc, texts)?;
     let picks = picks_of(alloc, compositions)?;
     assert!(rt; may_run(&day, &picks));
     Ok(yards_table(alloc, &day, &picks)?)
@@ -149,7 +144,7 @@ fn costs_of(
     texts: &Texts<'_>,
     compositions: &[u32],
 ) -> Result<Vec<u8>, Fail> {
-    let day = day_of(rt, alloc, texts)?;
+    let day = day_of(alloc, texts)?;
     let picks = picks_of(alloc, compositions)?;
     assert!(rt; may_run(&day, &picks));
     Ok(costs_table(alloc, &day, &picks)?)
@@ -158,7 +153,7 @@ fn costs_of(
 #[test]
 fn duties_of_plans(rt: HostRuntime) -> Result<(), Fail> {
     for (texts, plan, wanted) in DUTIES {
-        let text = duties_of(&rt, rt.alloc(), texts, *plan)?;
+        let text = duties_of(rt.alloc(), texts, *plan)?;
         assert!(rt; text.as_slice() == *wanted, "{text:?}");
     }
     Ok(())

@@ -261,7 +261,8 @@ const ADVISED: &[Search] = &[
         scripts: &[CUTS],
         told: "optimal 190 by 1 0; only 1 1; ray 2:-1; cost 190; asked 2",
     },
-    // The cut of the third round stays where none is proposed, and one that is not proper takes its place and is not taken.
+    // The cut of the third round stays where none is proposed, and one that is not proper takes its place and is not
+    // taken.
     Search {
         about: "the last cut is taken",
         texts: ONE_LEFT,

@@ -66,7 +66,7 @@ fn sides_of(alloc: Global, day: &Instance, cut: &Cut) -> Result<String, Fail> {
 
 #[test]
 fn cuts_of_the_root(rt: HostRuntime) -> Result<(), Fail> {
-    let day = day_of(&rt, rt.alloc(), &TWO_TYPES)?;
+    let day = day_of(rt.alloc(), &TWO_TYPES)?;
     let cut = Cut::AtMost {
         trip: TripNo(0),
         unit_type: TypeNo(0),

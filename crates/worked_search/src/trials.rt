@@ -36,43 +36,37 @@ pub(crate) struct Search {
 /// Asserts what comes of each of these searches.
 pub(crate) fn expect_all(rt: &impl Abort, alloc: Global, searches: &[Search]) -> Result<(), Fail> {
     for search in searches {
-        let text = told(rt, alloc, search)?;
+        let text = told(alloc, search)?;
         assert!(rt; text.as_str() == search.told, "{}: {text}", search.about);
     }
     Ok(())
 }
 
 /// What comes of a search, which has two advisors at most.
-fn told(rt: &impl Abort, alloc: Global, search: &Search) -> Result<String, Fail> {
+fn told(alloc: Global, search: &Search) -> Result<String, Fail> {
     match search.scripts {
-        [] => told_of_none(rt, alloc, search),
-        [script] => told_of_one(rt, alloc, search, *script),
-        [first, second] => told_of_two(rt, alloc, search, *first, *second),
+        [] => told_of_none(alloc, search),
+        [script] => told_of_one(alloc, search, *script),
+        [first, second] => told_of_two(alloc, search, *first, *second),
         _ => Err(Fail::new("there are more than two advisors")),
     }
 }
 
 /// What comes of a search without advisors.
-fn told_of_none(rt: &impl Abort, alloc: Global, search: &Search) -> Result<String, Fail> {
+fn told_of_none(alloc: Global, search: &Search) -> Result<String, Fail> {
     let mut advisors: Vec<Box<dyn Advisor>> = Vec::new(alloc);
-    course_of(rt, alloc, search, &mut advisors)
+    course_of(alloc, search, &mut advisors)
 }
 
 /// What comes of a search with one advisor.
-fn told_of_one(
-    rt: &impl Abort,
-    alloc: Global,
-    search: &Search,
-    script: &'static [Call],
-) -> Result<String, Fail> {
+fn told_of_one(alloc: Global, search: &Search, script: &'static [Call]) -> Result<String, Fail> {
     let mut advisors: Vec<Box<dyn Advisor>> = Vec::new(alloc);
     advisors.push(Box::new(alloc, Scripted::by(alloc, script))?)?;
-    course_of(rt, alloc, search, &mut advisors)
+    course_of(alloc, search, &mut advisors)
 }
 
 /// What comes of a search with two advisors, the first of which is asked first.
 fn told_of_two(
-    rt: &impl Abort,
     alloc: Global,
     search: &Search,
     first: &'static [Call],
@@ -81,19 +75,18 @@ fn told_of_two(
     let mut advisors: Vec<Box<dyn Advisor>> = Vec::new(alloc);
     advisors.push(Box::new(alloc, Scripted::by(alloc, first))?)?;
     advisors.push(Box::new(alloc, Scripted::by(alloc, second))?)?;
-    course_of(rt, alloc, search, &mut advisors)
+    course_of(alloc, search, &mut advisors)
 }
 
 /// What comes of a search with these advisors.
 fn course_of(
-    rt: &impl Abort,
     alloc: Global,
     search: &Search,
     advisors: &mut Vec<Box<dyn Advisor>>,
 ) -> Result<String, Fail>
     requires asked { All (λ advisor. asked advisor ≤ 2 ^ 63) advisors.old.items }
 {
-    let day = day_of(rt, alloc, &search.texts)?;
+    let day = day_of(alloc, &search.texts)?;
     let graphs = Graphs::build(alloc, &day)?;
     let (grant, rounds) = (search.grant, search.rounds);
     let found = found_on(alloc, &day, &graphs, grant, rounds, advisors)?;
