@@ -181,7 +181,11 @@ fn has_edge(kind: &LinkKind, edges: &[Edge], picks: &Picks) -> bool {
 }
 
 /// The first fault of the yards.
-fn first_fault(alloc: Global, day: &Instance, picks: &Picks) -> Result<Option<StockFault>, Fail>
+pub(crate) fn first_fault(
+    alloc: Global,
+    day: &Instance,
+    picks: &Picks,
+) -> Result<Option<StockFault>, Fail>
     requires { ArePicks day.now picks.now }
 {
     let mut ledger = Ledger::new(alloc, day)?;

@@ -1,7 +1,8 @@
 //! Worked days: the first fault of the yards for picked compositions.
 
 use crate::days::{EARLY_EXCHANGE, EXCHANGE, TURN, picks_of};
-use inventory::{Ledger, StockFault};
+use crate::drawn_yards_tests::first_fault;
+use inventory::StockFault;
 use sample_days::{Texts, day_of};
 use sample_picks::may_run;
 use std::alloc::Global;
@@ -39,9 +40,7 @@ pub(crate) fn fault_of(
     let day = day_of(alloc, texts)?;
     let picks = picks_of(alloc, first, second)?;
     assert!(rt; may_run(&day, &picks));
-    let mut ledger = Ledger::new(alloc, &day)?;
-    ledger.load(&picks);
-    Ok(ledger.first_fault())
+    first_fault(alloc, &day, &picks)
 }
 
 #[test]

@@ -104,25 +104,29 @@ const ROUNDS: &[Rounds] = &[
     },
 ];
 
-/// A look in a round at a node whose bound with no multipliers is `first`. A multiplier may be negative from index 2
-/// on.
-fn look<'a>(
-    round: u8,
-    first: i128,
-    multipliers: &'a Multipliers,
-    picks: &'a Picks,
-    slacks: &'a Slacks,
-) -> Look<'a> {
-    Look {
-        round,
-        sizes: &[2, 2],
-        first: Money(first),
-        kept: Money(first),
-        last: Money(first),
-        multipliers,
-        picks,
-        slacks,
-        free_from: 2,
+/// What an evaluation of a node gave.
+#[derive(Drop)]
+struct Evaluated {
+    multipliers: Multipliers,
+    picks: Picks,
+    slacks: Slacks,
+}
+
+impl Evaluated {
+    /// A look in a round at the node, whose bound with no multipliers is `first`. A multiplier may be negative from
+    /// index 2 on.
+    fn look<'a>(&'a self, round: u8, first: i128, sizes: &'a [u32]) -> Look<'a> {
+        Look {
+            round,
+            sizes,
+            first: Money(first),
+            kept: Money(first),
+            last: Money(first),
+            multipliers: &self.multipliers,
+            picks: &self.picks,
+            slacks: &self.slacks,
+            free_from: 2,
+        }
     }
 }
 
@@ -164,6 +168,15 @@ fn slacks_of(alloc: Global, slack: Slack) -> Result<Slacks, NoMemory> {
     Ok(slacks)
 }
 
+/// The evaluation before the first of some rounds.
+fn evaluated_before(alloc: Global, row: &Rounds) -> Result<Evaluated, Fail> {
+    Ok(Evaluated {
+        multipliers: multipliers_of(alloc, row.multipliers)?,
+        picks: Picks::new(alloc, 2)?,
+        slacks: slacks_of(alloc, row.slacks)?,
+    })
+}
+
 /// Writes the values of multipliers at these indices.
 fn write_values(
     text: &mut String,
@@ -190,32 +203,41 @@ fn write_word(
     Ok(write!(text, "{word:?}")?)
 }
 
-/// Writes what is proposed.
+/// Writes what is proposed: the cut, how many multipliers there are, and their values at these indices.
 fn write_proposal(text: &mut String, proposal: &Proposal, at: &[u32]) -> Result<(), AllocError> {
     let multipliers = proposal.multipliers();
     write!(text, ", {:?}, {}:", proposal.asked_cut(), multipliers.len())?;
     write_values(text, multipliers, at)
 }
 
-/// What is told of the rounds of a subgradient.
-fn told(alloc: Global, row: &Rounds) -> Result<String, Fail> {
-    let mut text = String::new(alloc);
+/// Asks a subgradient in these rounds, and writes what is told of them.
+fn write_rounds(
+    text: &mut String,
+    alloc: Global,
+    row: &Rounds,
+    evaluated: &mut Evaluated,
+    proposal: &mut Proposal,
+) -> Result<(), Fail> {
     let mut subgradient = Subgradient::new();
-    let mut proposal = Proposal::new(alloc, row.indices, 2)?;
-    let mut multipliers = multipliers_of(alloc, row.multipliers)?;
-    let picks = Picks::new(alloc, 2)?;
-    let slacks = slacks_of(alloc, row.slacks)?;
     for (round, first) in row.rounds {
         proposal.clear();
-        let look = look(*round, *first, &multipliers, &picks, &slacks);
-        write_word(&mut text, &mut subgradient, &look, &mut proposal)?;
-        write_proposal(&mut text, &proposal, row.at)?;
+        let look = evaluated.look(*round, *first, &[2, 2]);
+        write_word(text, &mut subgradient, &look, proposal)?;
+        write_proposal(text, proposal, row.at)?;
         if row.goes_on {
-            multipliers = proposal.multipliers().copy(alloc)?;
+            evaluated.multipliers = proposal.multipliers().copy(alloc)?;
         }
     }
     let quit = subgradient.has_quit();
-    write!(text, "{} {quit}\n", subgradient.asked())?;
+    Ok(write!(text, "{} {quit}\n", subgradient.asked())?)
+}
+
+/// What is told of the rounds of a subgradient.
+fn told(alloc: Global, row: &Rounds) -> Result<String, Fail> {
+    let mut text = String::new(alloc);
+    let mut evaluated = evaluated_before(alloc, row)?;
+    let mut proposal = Proposal::new(alloc, row.indices, 2)?;
+    write_rounds(&mut text, alloc, row, &mut evaluated, &mut proposal)?;
     Ok(text)
 }
 
@@ -241,48 +263,74 @@ const DIVES: &[(&[u32], &str)] = &[
     (&[1, 1, 0, 1], "None"),
 ];
 
-/// The cut that a diver proposes where so many compositions are left for each of four trips.
-fn dive(alloc: Global, sizes: &[u32]) -> Result<Option<Cut>, NoMemory> {
+/// An evaluation of four trips, with no multipliers and no slacks, and with composition 1 for the third trip.
+fn evaluated_dive(alloc: Global) -> Result<Evaluated, NoMemory> {
     let mut picks = Picks::new(alloc, 4)?;
     picks.set(TripNo(2), CompNo(1));
-    let multipliers = Multipliers::new(alloc)?;
-    let slacks = Slacks::new(alloc)?;
+    Ok(Evaluated {
+        multipliers: Multipliers::new(alloc)?,
+        picks,
+        slacks: Slacks::new(alloc)?,
+    })
+}
+
+/// The cut that a diver proposes where so many compositions are left for each of four trips.
+fn dive(alloc: Global, sizes: &[u32]) -> Result<Option<Cut>, NoMemory> {
+    let evaluated = evaluated_dive(alloc)?;
     let mut proposal = Proposal::new(alloc, 4, 2)?;
-    let look = Look {
-        sizes,
-        ..look(0, 120, &multipliers, &picks, &slacks)
-    };
-    Diver::new().advise(&look, &mut proposal)?;
+    Diver::new().advise(&evaluated.look(0, 120, sizes), &mut proposal)?;
     Ok(proposal.asked_cut())
+}
+
+/// The cut that a diver proposes, as a text.
+fn dive_told(alloc: Global, sizes: &[u32]) -> Result<String, Fail> {
+    Ok(format!(in alloc; "{:?}", dive(alloc, sizes)?)?)
 }
 
 #[test]
 fn cuts_of_the_narrowest_trip(rt: HostRuntime) -> Result<(), Fail> {
     for (sizes, wanted) in DIVES {
-        let cut = dive(rt.alloc(), *sizes)?;
-        let text = format!(in rt.alloc(); "{cut:?}")?;
+        let text = dive_told(rt.alloc(), *sizes)?;
         assert!(rt; text.as_str() == *wanted, "{text}");
     }
     Ok(())
 }
 
-/// Values that are put at indices of a proposal, one after another, and what each put answers.
-const PUTS: &[(u32, i64, &str)] = &[
-    (4, -1, "Err(NoIndex)"),
-    (1, -1_000_000_000_001, "Err(Negative)"),
-    (2, -1_000_000_000_001, "Err(TooLarge)"),
-    (3, 70, "Ok(())"),
+/// Values that are put at indices of a proposal, one after another.
+const PUTS: &[(u32, i64)] = &[
+    (4, -1),
+    (1, -1_000_000_000_001),
+    (2, -1_000_000_000_001),
+    (3, 70),
 ];
+
+/// What each put answers, and the values at the indices in the end.
+const PUTS_TOLD: &str = "Err(NoIndex)\nErr(Negative)\nErr(TooLarge)\nOk(())\n 0 0 0 70\n";
+
+/// Puts these values, and writes what each put answers.
+fn write_puts(
+    text: &mut String,
+    proposal: &mut Proposal,
+    puts: &[(u32, i64)],
+) -> Result<(), AllocError> {
+    for (index, value) in puts {
+        write!(text, "{:?}\n", proposal.put(*index, *value))?;
+    }
+    Ok(())
+}
+
+/// What is told of the puts.
+fn puts_told(alloc: Global) -> Result<String, Fail> {
+    let mut text = String::new(alloc);
+    let mut proposal = Proposal::new(alloc, 4, 2)?;
+    write_puts(&mut text, &mut proposal, PUTS)?;
+    write_values(&mut text, proposal.multipliers(), &[0, 1, 2, 3])?;
+    Ok(text)
+}
 
 #[test]
 fn refusals_of_a_proposal(rt: HostRuntime) -> Result<(), Fail> {
-    let mut proposal = Proposal::new(rt.alloc(), 4, 2)?;
-    for (index, value, wanted) in PUTS {
-        let text = format!(in rt.alloc(); "{:?}", proposal.put(*index, *value))?;
-        assert!(rt; text.as_str() == *wanted, "{text}");
-    }
-    let mut text = String::new(rt.alloc());
-    write_values(&mut text, proposal.multipliers(), &[0, 1, 2, 3])?;
-    assert!(rt; text.as_str() == " 0 0 0 70\n", "{text}");
+    let text = puts_told(rt.alloc())?;
+    assert!(rt; text.as_str() == PUTS_TOLD, "{text}");
     Ok(())
 }
