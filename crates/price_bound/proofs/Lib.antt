@@ -47,6 +47,7 @@ mod ChangedRelaxation
 mod ChangedPlans
 mod Alone
 mod Closing
+mod ChangedClosing
 mod BrokenPlaces
 mod FewGiven
 mod FewCosts

@@ -10,7 +10,10 @@ use Rattle.inventory.specs.declared.faults.StockFault.{StockFault}
 use Rattle.inventory.specs.StockFaults.{IsFirstFault}
 use Rattle.branch_tree.specs.Bounds.{IsEmpty}
 use Rattle.branch_tree.specs.Claims.{IsRay}
+use Rattle.branch_tree.specs.Meanings.{Meanings}
 use Rattle.branch_tree.specs.Regions.{alone}
+use Rattle.price_bound.specs.declared.changes.Change.{Change}
+use Rattle.price_bound.specs.ChangedDays.{changed_day, changed_meanings}
 use Rattle.price_bound.specs.DayMeanings.{IsAccepted, meanings_of}
 use Rattle.price_bound.specs.Following.{Follow}
 use Rattle.price_bound.specs.Parts.{IsFirstMissed, NoneMissed}
@@ -51,15 +54,22 @@ SolvedWithoutFault = (day : Day) (picks : List ℕ) → IsAccepted day → Follo
 abbrev pub handovers_begin : Day → ℕ
 handovers_begin day = length (lambdas_of day) + length (mus_of day)
 
--- Why the region of picks alone has no solution: where they are broken at a hand-over, nothing is near the region;
--- where they are broken at a yard, the one multiplier that is named, with its sign, is a ray there.
-pub record AreClosedAlone (day : Day) (picks : List ℕ) : Type 0 where
-  pub at_handover : handovers_begin day ≤ (broken_at day picks).index → IsEmpty (meanings_of day) (alone picks)
+-- Why the region of picks alone has no solution in a relaxation of the day, with changes or without: where they are
+-- broken at a hand-over, nothing is near the region; where they are broken at a yard, the one multiplier that is named,
+-- with its sign, is a ray there.
+pub record AreClosedAlone (day : Day) (problem : Meanings) (picks : List ℕ) : Type 0 where
+  pub at_handover : handovers_begin day ≤ (broken_at day picks).index → IsEmpty problem (alone picks)
   pub at_yard : (broken_at day picks).index < handovers_begin day →
-      IsRay (meanings_of day) (alone picks) (broken_at day picks ∷ [])
+      IsRay problem (alone picks) (broken_at day picks ∷ [])
 
 -- So it is of all picks that follow and are no solution, of a day with no more compositions than a catalogue may have.
 abbrev pub BrokenPicksAreClosed : Type 0
 BrokenPicksAreClosed = (day : Day) (picks : List ℕ) → IsAccepted day →
     length (compositions_of day) ≤ MOST_COMPOSITIONS → Follow day picks → (IsSolution day picks → ⊥) →
-    AreClosedAlone day picks
+    AreClosedAlone day (meanings_of day) picks
+
+-- So it is under any changes.
+abbrev pub ChangedBrokenPicksAreClosed : Type 0
+ChangedBrokenPicksAreClosed = (day : Day) (changes : List Change) (picks : List ℕ) → IsAccepted day →
+    length (compositions_of day) ≤ MOST_COMPOSITIONS → Follow day picks → (IsSolution day picks → ⊥) →
+    AreClosedAlone day (changed_meanings (changed_day day changes)) picks

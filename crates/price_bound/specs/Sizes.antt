@@ -1,5 +1,5 @@
 -- How large the slacks and the priced values of picks are.
-use Rattle.std.specs.Prelude.{ℕ, ◌<◌, ◌≤◌, List, unsigned_abs}
+use Rattle.std.specs.Prelude.{ℕ, ◌≡◌, ◌<◌, ◌≤◌, List, unsigned_abs}
 use Rattle.timetable.specs.Day.{Day}
 use Rattle.branch_tree.specs.declared.multipliers.Entry.{Entry}
 use Rattle.branch_tree.specs.declared.relaxation.Weight.{Weight}
@@ -11,6 +11,11 @@ use Rattle.price_bound.specs.ChangedDays.{AreChanges, changed_day, changed_meani
 use Rattle.price_bound.specs.DayMeanings.{IsAccepted, meanings_of}
 use Rattle.price_bound.specs.Following.{Follow}
 use Rattle.price_bound.specs.Slacks.{slack_of}
+
+-- The most that a slack is: the 2,000 units of a type that a station may start with or want, and the 6 units that each
+-- of 400 trips may give or take.
+pub record IsMostSlack : Type 0 where
+  pub slack : MOST_SLACK ≡ 4400
 
 -- The slacks of picks that follow are small.
 abbrev pub SlacksAreSmall : Type 0
@@ -30,7 +35,8 @@ abbrev pub ChangedSlacksAreSmall : Type 0
 ChangedSlacksAreSmall = (day : Day) (changes : List Change) (picks : List ℕ) (index : ℕ) → IsAccepted day →
     Follow day picks → unsigned_abs ((changed_meanings (changed_day day changes)).slack picks index) ≤ MOST_SLACK
 
--- So are the priced values, where the trips of the changes rise and the cost of each is within the limit.
+-- So are the priced values, where the trips of the changes rise and are the day's, each base is in the catalogue, and
+-- the cost of each is within the limit.
 abbrev pub ChangedValuesAreSmall : Type 0
 ChangedValuesAreSmall = (day : Day) (changes : List Change) (picks : List ℕ) (multipliers : List Entry)
     (weight : Weight) → IsAccepted day → AreChanges day changes → Follow day picks → AreMultipliers multipliers →

@@ -3,13 +3,14 @@
 //! A law is the contract of a function that does nothing.
 
 ghost use Rattle.price_bound.specs.BrokenLaws.{BrokenAtFirstFault, BrokenAtFirstMissed, BrokenPicksAreClosed};
-ghost use Rattle.price_bound.specs.BrokenLaws.{PartsAreMissedOrNot, SolvedWithoutFault};
+ghost use Rattle.price_bound.specs.BrokenLaws.{ChangedBrokenPicksAreClosed, PartsAreMissedOrNot, SolvedWithoutFault};
 ghost use Rattle.price_bound.specs.ChangedDays.{ChangedDaysAreRelaxations, UnchangedDaysAreDays};
 ghost use Rattle.price_bound.specs.DayMeanings.{DaysAreRelaxations};
 ghost use Rattle.price_bound.specs.PlanBounds.{ChangedPlansArePricedLow, ChangedSolutionsBoundPlans};
 ghost use Rattle.price_bound.specs.PlanBounds.{NoChangedSolutionsNoPlans, NoSolutionsNoPlans, PlansArePricedLow};
 ghost use Rattle.price_bound.specs.PlanBounds.{PlansHavePicks, SolutionsBoundPlans};
-ghost use Rattle.price_bound.specs.Sizes.{ChangedSlacksAreSmall, ChangedValuesAreSmall, SlacksAreSmall, ValuesAreSmall};
+ghost use Rattle.price_bound.specs.Sizes.{ChangedSlacksAreSmall, ChangedValuesAreSmall, IsMostSlack, SlacksAreSmall};
+ghost use Rattle.price_bound.specs.Sizes.{ValuesAreSmall};
 
 /// Every accepted day is a relaxation of its solutions, which are the picks that are the types of a plan that runs:
 /// what is said of a solution's slacks, of near picks and of picks that are no solution holds of the day.
@@ -68,11 +69,19 @@ pub fn broken_picks_are_closed()
     ensures law { BrokenPicksAreClosed }
 {}
 
-/// The slacks of picks that follow are at most `MOST_SLACK` in size, and their priced values are below `MOST_VALUE`, on
-/// the day itself and under the changes that `DayBounds::with_changes` takes.
+/// Under changes too picks that follow and are no solution have no open region alone, and for the same cause: at a
+/// hand-over nothing is near it, and at a yard the multiplier that is named for them is a ray there, since what changes
+/// add has no part in a value without cost. The day has no more compositions than a catalogue may have.
+pub fn changed_broken_picks_are_closed()
+    ensures law { ChangedBrokenPicksAreClosed }
+{}
+
+/// The slacks of picks that follow are at most `MOST_SLACK` in size, which is 4,400, and their priced values are below
+/// `MOST_VALUE`, on the day itself and under the changes that `DayBounds::with_changes` takes.
 pub fn values_are_small()
     ensures slacks { SlacksAreSmall }
     ensures values { ValuesAreSmall }
     ensures changed_slacks { ChangedSlacksAreSmall }
     ensures changed_values { ChangedValuesAreSmall }
+    ensures limit { IsMostSlack }
 {}
