@@ -5,3 +5,4 @@ pub mod OnePicks
 pub mod Checked
 pub mod Refuting
 pub mod OneVerdict
+pub mod Coming

@@ -9,10 +9,12 @@ use Rattle.branch_tree.specs.declared.claims.Claim.{Claim}
 use Rattle.branch_tree.specs.Claims.{said_by}
 use Rattle.branch_tree.specs.Regions.{root_of}
 use Rattle.cert_check.specs.declared.verdict.Reason.{Reason}
+use Rattle.cert_check.specs.declared.verdict.Reason.TheVariants.{PicksFail}
 use Rattle.cert_check.specs.declared.verdict.Verdict.TheVariants.{Invalid}
 use Rattle.cert_check.specs.Verdicts.{IsVerdict}
 use Rattle.day_simulator.specs.declared.events.StepFault.{StepFault}
 use Rattle.day_simulator.specs.Finish.{simulation}
+use Rattle.day_simulator.specs.Laws.{IsInTurn}
 use Rattle.price_bound.specs.DayMeanings.{meanings_of}
 use Rattle.answer_text.specs.declared.answer.Answer.{Answer}
 use Rattle.answer_text.specs.Limits.{has_plan}
@@ -71,6 +73,13 @@ IsAnswerVerdict day answer (UnknownUnit trip) =
     HasPlan answer × (length answer.runs ≡ length day.trips) × IsFirstUnknown day answer.runs trip
 IsAnswerVerdict day answer (Stops fault) = HasPlan answer × DoRunsStop day answer.runs fault
 IsAnswerVerdict day answer (verdict.Claim reason) = IsRefuted day answer reason
+
+-- A verdict that an answer can have: two that have a text never come.
+pub record CanCome (found : AnswerVerdict) : Type 0 where
+  -- a plan stops for a cause of its own, and never since an event is out of turn
+  pub in_turn : (fault : StepFault) → found ≡ Stops fault → IsInTurn fault
+  -- the picks of a plan never fail, since they are looked at only where it runs
+  pub picks : found ≢ verdict.Claim PicksFail
 
 -- ---- the inside of the check
 

@@ -9,7 +9,7 @@ ghost use Rattle.cert_check.specs.Verdicts.{IsVerdict};
 ghost use Rattle.price_bound.specs.DayMeanings.{meanings_of};
 ghost use Rattle.transitions.specs.Edges.{AreGraphs};
 ghost use Rattle.answer_check.specs.Validity.{HasPicks, IsTrueOf, conclusion_of};
-ghost use Rattle.answer_check.specs.Verdicts.{IsAnswerVerdict, IsPicksRefusal, VerdictOf};
+ghost use Rattle.answer_check.specs.Verdicts.{CanCome, IsAnswerVerdict, IsPicksRefusal, VerdictOf};
 
 use crate::answered_plan::{RunsRefusal, picks_of};
 use answer_text::{Answer, Head};
@@ -44,9 +44,9 @@ pub enum AnswerVerdict {
 }
 
 /// Checks an answer against the day: it is valid exactly where its plan, if it has one, runs, and its tree proves what
-/// it says; else the verdict is the first thing that is wrong, in the order of `AnswerVerdict`. A valid answer is true
-/// of all plans of named units, whoever wrote it. The graphs are of the day, and the answer has at most 400 runs. The
-/// error is want of memory.
+/// it says; else the verdict is the first thing that is wrong, in the order of `AnswerVerdict`, and never that an event
+/// is out of turn or that the picks of a plan fail. A valid answer is true of all plans of named units, whoever wrote
+/// it. The graphs are of the day, and the answer has at most 400 runs. The error is want of memory.
 pub fn check_answer(
     alloc: Global,
     instance: &Instance,
@@ -57,7 +57,11 @@ pub fn check_answer(
     requires runs { length answer.now.runs ≤ MOST_TRIPS }
     ensures verdict { IfOk result (IsAnswerVerdict instance.now answer.now) }
     ensures holds { IfOk result (λ verdict. verdict ≡ AnswerVerdict.Valid → IsTrueOf instance.now answer.now) }
+    ensures can_come { IfOk result CanCome }
 {
+    // What these calls ensure of trips and links, and a catalogue within its limit, leave some verdicts out.
+    let _known = (instance.trips(), instance.links());
+    prove!(instance.catalogue().len() as usize <= MOST_COMPOSITIONS);
     match picks_for(alloc, instance, answer) {
         Ok(picks) => check_claim(alloc, instance, graphs, answer, &picks),
         Err(refusal) => verdict_of(refusal),
@@ -74,6 +78,7 @@ pub fn verdict_on(
     requires { length answer.now.runs ≤ MOST_TRIPS }
     ensures verdict { IfOk result (IsAnswerVerdict instance.now answer.now) }
     ensures holds { IfOk result (λ verdict. verdict ≡ AnswerVerdict.Valid → IsTrueOf instance.now answer.now) }
+    ensures can_come { IfOk result CanCome }
 {
     let graphs = Graphs::build(alloc, instance)?;
     check_answer(alloc, instance, &graphs, answer)
