@@ -24,7 +24,7 @@ use Rattle.trial_day.specs.Trial.{trial_tables_of}
 use Rattle.answer_check.specs.declared.checking.AnswerVerdict.{AnswerVerdict}
 use Rattle.answer_check.specs.declared.checking.AnswerVerdict.TheVariants.{Valid}
 use Rattle.answer_check.specs.Validity.{IsTrueOf, IsValid}
-use Rattle.answer_check.specs.Verdicts.{IsAnswerVerdict}
+use Rattle.answer_check.specs.Verdicts.{CanCome, IsAnswerVerdict}
 use Rattle.day_planner.specs.Headline.{IsHeadline}
 use Rattle.run_documents.specs.declared.answer_file.AnswerError.{AnswerError}
 use Rattle.run_documents.specs.declared.outcome.Outcome.{Outcome}
@@ -140,6 +140,7 @@ pub record IsVerdictOn (day : Day) (answer : Answer) (head : Head) (verdict : An
   pub says : head ≡ answer.head
   pub is : IsAnswerVerdict day answer verdict
   pub holds : verdict ≡ Valid → IsTrueOf day answer
+  pub can_come : CanCome verdict
 
 -- the answer of the files was checked, alone or before a report, which is told only where the answer is valid
 pub record IsChecked (words : List (List ℕ)) (files : Files) (head : Head) (verdict : AnswerVerdict) : Type 0 where
