@@ -15,6 +15,7 @@ use Rattle.day_files.specs.declared.errors.ReadError.TheVariants.{CannotRead, Re
 use Rattle.day_files.specs.declared.inputs.Inputs.{Inputs}
 use Rattle.day_files.specs.Inputs.{day_in, inputs_in}
 use Rattle.day_files.specs.Order.{Reaches}
+use Rattle.day_files.specs.Tables.{IsMadeDay}
 use Rattle.day_files.specs.Answers.{Reads, IsCaused, IsErrorOf}
 use Rattle.day_files.specs.declared.errors.Refusal.TheVariants.{TooLong, WrongTable}
 use Rattle.day_files.specs.declared.errors.Refusal.TheVariants as refusal
@@ -168,14 +169,14 @@ module _ {F : Type 0} (holds : F → Option Files) (may_fail : F → List ℕ �
       → IsErrorOf (λ read. read ≢ table.Plan) error → Caused error → Comes (NoInputs error)
   day_not_reported kind error asked = no_day (about_reported words dir kind asked) (report_plain kind dir) error
 
-  pub planned : (nodes rounds : ℕ) (day : Day) (answer : Answer) → AskToPlan words dir nodes rounds
+  pub planned : (nodes rounds : ℕ) (day : Day) (answer : Answer) → AskToPlan words dir nodes rounds → IsMadeDay day
       → ((files : Files) → holds before ≡ Some files → day_in files dir ≡ Ok day)
       → IsHeadline day nodes answer → Comes (Planned answer)
-  planned nodes rounds day answer asked told headline =
+  planned nodes rounds day answer asked made told headline =
       let is : IsPlanned words day answer = record { dir = dir; nodes = nodes; rounds = rounds; asked = asked; headline = headline } in
       record {
         told = λ files tells. (day, is, told files tells);
-        sound = (day, is);
+        sound = (day, made, is);
         usage = λ e. absurd cc;
         understood = λ vain. absurd (vain (command.Plan dir nodes rounds) asked);
         caused = tt;
@@ -212,9 +213,10 @@ module _ {F : Type 0} (holds : F → Option Files) (may_fail : F → List ℕ �
       answer_not_read (about_reported words dir kind asked) (report_reads kind dir) error day
 
   pub checked : (head : Head) (verdict : AnswerVerdict) (day : Day) (answer : Answer) → AskToCheck words dir
+      → IsMadeDay day
       → ((files : Files) → holds before ≡ Some files → AreAnswered files dir day answer)
       → IsVerdictOn day answer head verdict → Comes (Checked head verdict)
-  checked head verdict day answer asked told on = record {
+  checked head verdict day answer asked made told on = record {
     told = λ files tells. record {
       dir = dir;
       asked = about_checked words dir asked;
@@ -225,29 +227,29 @@ module _ {F : Type 0} (holds : F → Option Files) (may_fail : F → List ℕ �
       accepted = told files tells;
       on = on;
     };
-    sound = (dir, about_checked words dir asked, refl, λ is. asked, day, answer, on);
+    sound = (dir, about_checked words dir asked, refl, λ is. asked, day, made, answer, on);
     usage = λ e. absurd cc;
     understood = λ vain. absurd (vain (command.Check dir) asked);
     caused = tt;
   }
 
-  pub plan_runs : (inputs : Inputs) (money : Money) → AskToSimulate words dir
+  pub plan_runs : (inputs : Inputs) (money : Money) → AskToSimulate words dir → IsMadeDay inputs.instance
       → ((files : Files) → holds before ≡ Some files → inputs_in files dir ≡ Ok inputs)
       → PlanRuns inputs → IsCost (plan_cost inputs.instance inputs.plan) money → Comes (Runs money)
-  plan_runs inputs money asked told runs cost = record {
+  plan_runs inputs money asked made told runs cost = record {
     told = λ files tells. (inputs, record { dir = dir; asked = asked; accepted = told files tells }, runs, cost);
-    sound = (dir, asked, inputs, runs, cost);
+    sound = (dir, asked, inputs, made, runs, cost);
     usage = λ e. absurd cc;
     understood = λ vain. absurd (vain (command.Simulate dir) asked);
     caused = tt;
   }
 
-  pub plan_stops : (inputs : Inputs) (fault : StepFault) → AskToSimulate words dir
+  pub plan_stops : (inputs : Inputs) (fault : StepFault) → AskToSimulate words dir → IsMadeDay inputs.instance
       → ((files : Files) → holds before ≡ Some files → inputs_in files dir ≡ Ok inputs)
       → ¬ (PlanRuns inputs) → simulation inputs.instance inputs.plan ≡ Err fault → IsInTurn fault → Comes (Stops fault)
-  plan_stops inputs fault asked told stops is in_turn = record {
+  plan_stops inputs fault asked made told stops is in_turn = record {
     told = λ files tells. (inputs, record { dir = dir; asked = asked; accepted = told files tells }, stops, is, in_turn);
-    sound = (dir, asked, inputs, stops, is, in_turn);
+    sound = (dir, asked, inputs, made, stops, is, in_turn);
     usage = λ e. absurd cc;
     understood = λ vain. absurd (vain (command.Simulate dir) asked);
     caused = tt;
@@ -256,9 +258,9 @@ module _ {F : Type 0} (holds : F → Option Files) (may_fail : F → List ℕ �
   -- ---- a report
 
   rejected : (kind : Report) (head : Head) (verdict : AnswerVerdict) (day : Day) (answer : Answer) → AskToReport words kind dir
-      → ((files : Files) → holds before ≡ Some files → AreAnswered files dir day answer)
+      → IsMadeDay day → ((files : Files) → holds before ≡ Some files → AreAnswered files dir day answer)
       → IsVerdictOn day answer head verdict → verdict ≢ Valid → Comes (Checked head verdict)
-  rejected kind head verdict day answer asked told on wrong = record {
+  rejected kind head verdict day answer asked made told on wrong = record {
     told = λ files tells. record {
       dir = dir;
       asked = about_reported words dir kind asked;
@@ -269,16 +271,16 @@ module _ {F : Type 0} (holds : F → Option Files) (may_fail : F → List ℕ �
       accepted = told files tells;
       on = on;
     };
-    sound = (dir, about_reported words dir kind asked, report_reads kind dir, λ is. absurd (wrong is), day, answer, on);
+    sound = (dir, about_reported words dir kind asked, report_reads kind dir, λ is. absurd (wrong is), day, made, answer, on);
     usage = λ e. absurd cc;
     understood = λ vain. absurd (vain (command_for kind dir) asked);
     caused = tt;
   }
 
   reported : (kind : Report) (text : List ℕ) (day : Day) (answer : Answer) → AskToReport words kind dir
-      → ((files : Files) → holds before ≡ Some files → AreAnswered files dir day answer)
+      → IsMadeDay day → ((files : Files) → holds before ≡ Some files → AreAnswered files dir day answer)
       → IsReportOf kind day answer text → Comes (Reported text)
-  reported kind text day answer asked told of = record {
+  reported kind text day answer asked made told of = record {
     told = λ files tells. record {
       dir = dir;
       kind = kind;
@@ -288,16 +290,16 @@ module _ {F : Type 0} (holds : F → Option Files) (may_fail : F → List ℕ �
       accepted = told files tells;
       of = of;
     };
-    sound = (dir, kind, asked, day, answer, of);
+    sound = (dir, kind, asked, day, made, answer, of);
     usage = λ e. absurd cc;
     understood = λ vain. absurd (vain (command_for kind dir) asked);
     caused = tt;
   }
 
   without_plan : (kind : Report) (day : Day) (answer : Answer) → AskToReport words kind dir
-      → ((files : Files) → holds before ≡ Some files → AreAnswered files dir day answer)
+      → IsMadeDay day → ((files : Files) → holds before ≡ Some files → AreAnswered files dir day answer)
       → IsValid day answer → has_plan answer.head ≡ false → Comes NoPlan
-  without_plan kind day answer asked told valid none = record {
+  without_plan kind day answer asked made told valid none = record {
     told = λ files tells. record {
       dir = dir;
       kind = kind;
@@ -308,26 +310,26 @@ module _ {F : Type 0} (holds : F → Option Files) (may_fail : F → List ℕ �
       valid = valid;
       none = none;
     };
-    sound = (dir, kind, asked, day, answer, valid, none);
+    sound = (dir, kind, asked, day, made, answer, valid, none);
     usage = λ e. absurd cc;
     understood = λ vain. absurd (vain (command_for kind dir) asked);
     caused = tt;
   }
 
   pub report_comes : (kind : Report) (it : Outcome) (day : Day) (answer : Answer) → AskToReport words kind dir
-      → ((files : Files) → holds before ≡ Some files → AreAnswered files dir day answer)
+      → IsMadeDay day → ((files : Files) → holds before ≡ Some files → AreAnswered files dir day answer)
       → IsReportOutcome kind day answer it → Comes it
-  report_comes kind (Checked head verdict) day answer asked told is =
-      rejected kind head verdict day answer asked told is.0 is.1
-  report_comes kind (Reported text) day answer asked told is = reported kind text day answer asked told is
-  report_comes kind NoPlan day answer asked told is = without_plan kind day answer asked told is.0 is.1
-  report_comes kind (Planned planned) day answer asked told is = absurd is
-  report_comes kind (Tried seed trips tried) day answer asked told is = absurd is
-  report_comes kind (Runs money) day answer asked told is = absurd is
-  report_comes kind (Stops fault) day answer asked told is = absurd is
-  report_comes kind Usage day answer asked told is = absurd is
-  report_comes kind (NoInputs error) day answer asked told is = absurd is
-  report_comes kind (NoAnswer error) day answer asked told is = absurd is
+  report_comes kind (Checked head verdict) day answer asked made told is =
+      rejected kind head verdict day answer asked made told is.0 is.1
+  report_comes kind (Reported text) day answer asked made told is = reported kind text day answer asked made told is
+  report_comes kind NoPlan day answer asked made told is = without_plan kind day answer asked made told is.0 is.1
+  report_comes kind (Planned planned) day answer asked made told is = absurd is
+  report_comes kind (Tried seed trips tried) day answer asked made told is = absurd is
+  report_comes kind (Runs money) day answer asked made told is = absurd is
+  report_comes kind (Stops fault) day answer asked made told is = absurd is
+  report_comes kind Usage day answer asked made told is = absurd is
+  report_comes kind (NoInputs error) day answer asked made told is = absurd is
+  report_comes kind (NoAnswer error) day answer asked made told is = absurd is
 
   -- ---- a trial day
 

@@ -207,7 +207,7 @@ module _ (words : List (List ℕ)) (seed trips nodes rounds : ℕ) (asked : AskT
       by (outcome.Tried s t answer) sound usage cause text document written undisturbed =
           trial_ends s t answer sound (subst (λ (x : List ℕ). Appends x before after) document written)
       by (outcome.Planned answer) sound usage cause text document written undisturbed =
-          absurd (omega (arith, named_trial (command.Plan sound.1.dir sound.1.nodes sound.1.rounds) sound.1.asked))
+          absurd (omega (arith, named_trial (command.Plan sound.2.dir sound.2.nodes sound.2.rounds) sound.2.asked))
       by (outcome.Runs money) sound usage cause text document written undisturbed =
           absurd (omega (arith, named_trial (command.Simulate sound.0) sound.1))
       by (outcome.Stops fault) sound usage cause text document written undisturbed =

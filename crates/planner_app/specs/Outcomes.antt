@@ -13,6 +13,7 @@ use Rattle.day_files.specs.declared.errors.ReadError.TheVariants.{CannotRead, Re
 use Rattle.day_files.specs.declared.inputs.Inputs.{Inputs}
 use Rattle.day_files.specs.Inputs.{day_in, inputs_in}
 use Rattle.day_files.specs.Order.{Reaches}
+use Rattle.day_files.specs.Tables.{IsMadeDay}
 use Rattle.day_files.specs.Answers.{IsCaused, IsErrorOf}
 use Rattle.day_simulator.specs.Calls.{IsCost}
 use Rattle.day_simulator.specs.Finish.{simulation}
@@ -231,22 +232,25 @@ Says words files (NoInputs NoMemory) = ⊤
 Says words files (NoAnswer error) = IsAnswerRefused words files error
 
 -- What an outcome says whatever the files are: it is one of the command that is asked for; an answer meets the headline
--- for some day; a plan of some day runs at this cost, or stops with this fault; a verdict is that on an answer of some
--- day, and is told by a check alone where the answer is valid; and a report, or that there is none, is of a valid
--- answer.
+-- for some day that tables make; a plan of some such day runs at this cost, or stops with this fault; a verdict is that
+-- on an answer of some such day, and is told by a check alone where the answer is valid; and a report, or that there is
+-- none, is of a valid answer.
 abbrev pub IsSound : List (List ℕ) → Outcome → Type 0
-IsSound words (Planned answer) = (day : Day) × IsPlanned words day answer
+IsSound words (Planned answer) = (day : Day) × IsMadeDay day × IsPlanned words day answer
 IsSound words (Tried seed trips answer) = IsTried words seed trips answer
 IsSound words (Runs money) = (dir : List ℕ) × AskToSimulate words dir
-    × (inputs : Inputs) × PlanRuns inputs × IsCost (plan_cost inputs.instance inputs.plan) money
+    × (inputs : Inputs) × IsMadeDay inputs.instance × PlanRuns inputs
+    × IsCost (plan_cost inputs.instance inputs.plan) money
 IsSound words (Stops fault) = (dir : List ℕ) × AskToSimulate words dir
-    × (inputs : Inputs) × ¬ (PlanRuns inputs) × (simulation inputs.instance inputs.plan ≡ Err fault) × IsInTurn fault
+    × (inputs : Inputs) × IsMadeDay inputs.instance × ¬ (PlanRuns inputs)
+    × (simulation inputs.instance inputs.plan ≡ Err fault) × IsInTurn fault
 IsSound words (Checked head verdict) = (dir : List ℕ) × (about : AskAbout words dir) × (reads_answer about.named ≡ true)
-    × (verdict ≡ Valid → AskToCheck words dir) × (day : Day) × (answer : Answer) × IsVerdictOn day answer head verdict
+    × (verdict ≡ Valid → AskToCheck words dir) × (day : Day) × IsMadeDay day
+    × (answer : Answer) × IsVerdictOn day answer head verdict
 IsSound words (Reported text) = (dir : List ℕ) × (kind : Report) × AskToReport words kind dir
-    × (day : Day) × (answer : Answer) × IsReportOf kind day answer text
+    × (day : Day) × IsMadeDay day × (answer : Answer) × IsReportOf kind day answer text
 IsSound words NoPlan = (dir : List ℕ) × (kind : Report) × AskToReport words kind dir
-    × (day : Day) × (answer : Answer) × IsValid day answer × (has_plan answer.head ≡ false)
+    × (day : Day) × IsMadeDay day × (answer : Answer) × IsValid day answer × (has_plan answer.head ≡ false)
 IsSound words Usage = ⊤
 IsSound words (NoInputs error) = ⊤
 IsSound words (NoAnswer error) = ⊤

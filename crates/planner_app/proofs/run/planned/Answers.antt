@@ -15,4 +15,4 @@ returns-in-Err-clause-asked g c =
 pub returns-in-Ok-answer_for-clause-outcome : goal.returns-in-Ok-answer_for-clause-outcome
 returns-in-Ok-answer_for-clause-outcome g c words asked =
     planned _ _ _ _ words _ _ c.args.dir.now c.args.nodes c.args.rounds c.in-Ok.instance c.in-Ok-answer_for.answer asked
-    c.in-Ok.ensures.told c.in-Ok-answer_for.ensures.headline
+    c.in-Ok.ensures.made c.in-Ok.ensures.told c.in-Ok-answer_for.ensures.headline
