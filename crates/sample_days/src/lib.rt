@@ -1,4 +1,5 @@
-//! Days and plans of which tests are made, from the texts of their tables.
+//! Days and plans of which tests are made, from the texts of their tables, and the texts of days that several crates of
+//! tests take.
 #![tactic(auto)]
 
 ghost use Rattle.std.specs.Prelude.{◌≡◌, ◌≤◌, length, IfOk};
@@ -23,6 +24,48 @@ pub struct Texts<'a> {
     /// The table of links.
     pub links: &'a [u8],
 }
+
+/// Two units of one type stand at X and are wanted there at the end: a trip from X to Y, and one back ten minutes later
+/// by a turn that may uncouple at the rear. The compositions are A and AA.
+pub const TURN: Texts<'static> = Texts {
+    types: b"type,carriages,seats,metres,family\nA,3,200,80,regional\n",
+    stations: b"station,platform,reallocation\nX,200,30\nY,200,30\n",
+    stock: b"station,type,start,end\nX,A,2,2\n",
+    trips: b"trip,from,departure,to,arrival,km,demand\n\
+        T1,X,08:00,Y,09:00,10,300\nT2,Y,09:10,X,10:10,10,150\n",
+    links: b"kind,arriving,arriving2,departing,departing2,reverse,uncouple,couple\n\
+        turn,T1,,T2,,yes,rear,none\n",
+};
+
+/// The same, where one of the two units is wanted at Y at the end.
+pub const ONE_LEFT: Texts<'static> = Texts {
+    stock: b"station,type,start,end\nX,A,2,1\nY,A,0,1\n",
+    ..TURN
+};
+
+/// Such a turn with one unit of each of two types at X, of which that of A is wanted at Y at the end. The compositions
+/// are A, B, AB, BA and BB.
+pub const TWO_TYPES: Texts<'static> = Texts {
+    types: b"type,carriages,seats,metres,family\nA,3,200,80,regional\nB,2,100,60,regional\n",
+    stations: b"station,platform,reallocation\nX,140,30\nY,140,30\n",
+    stock: b"station,type,start,end\nX,A,1,0\nX,B,1,1\nY,A,0,1\n",
+    trips: b"trip,from,departure,to,arrival,km,demand\n\
+        T1,X,08:00,Y,09:00,10,300\nT2,Y,09:10,X,10:10,10,100\n",
+    ..TURN
+};
+
+/// A ring of four trips, with three units of one type: the train of T1 is split over T2 and T3, and that of T4 is
+/// joined of theirs in the other order. The compositions are A, AA and AAA.
+pub const RING: Texts<'static> = Texts {
+    stations: b"station,platform,reallocation\nX,240,30\nY,240,30\nZ,240,30\n",
+    stock: b"station,type,start,end\nX,A,3,3\n",
+    trips: b"trip,from,departure,to,arrival,km,demand\n\
+        T1,X,08:00,Y,09:00,10,300\nT2,Y,09:10,Z,10:00,10,300\n\
+        T3,Y,09:20,Z,10:10,10,300\nT4,Z,10:30,X,11:30,10,300\n",
+    links: b"kind,arriving,arriving2,departing,departing2,reverse,uncouple,couple\n\
+        split,T1,,T2,T3,no,none,none\njoin,T3,T2,T4,,no,none,none\n",
+    ..TURN
+};
 
 /// The bytes of a table, which are no more than a table may have: more of them fail the test.
 pub fn table(bytes: &[u8]) -> Result<&[u8], Fail>

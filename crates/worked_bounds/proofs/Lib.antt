@@ -1,1 +1,3 @@
-mod RisingChanges
+pub mod RisingChanges
+pub mod Rooted
+pub mod LonePrices

@@ -7,8 +7,8 @@ ghost use Rattle.timetable.specs.Picking.{ArePicks};
 ghost use Rattle.transitions.specs.Edges.{AreGraphs};
 ghost use Rattle.price_bound.specs.ChangedDays.{AreChanges};
 
+use crate::drawn_days::Draws;
 use cost_model::cost;
-use drawn_days::Draws;
 use price_bound::{Change, DayBounds};
 use rail_base::limits::MOST_CHANGE;
 use rail_base::{CompNo, TripNo};

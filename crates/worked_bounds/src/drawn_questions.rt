@@ -1,8 +1,9 @@
 //! Regions and multipliers by chance.
 
+use crate::drawn_days::Draws;
+use crate::drawn_picks::pick_of;
 use crate::listing::choices_of;
 use branch_tree::{Cut, Multipliers, Region, Side};
-use drawn_days::{Draws, pick_of};
 use rail_base::{CompNo, TripNo, TypeNo};
 use std::alloc::Global;
 use std::test::Fail;

@@ -7,12 +7,13 @@ ghost use Rattle.unit_duties.specs.Broken.{AreAdmissible};
 
 use crate::asking::{Bound, bound_of, do_follow, settled, slacks_of};
 use crate::changed::{bounds_under, cost_under, drawn_changes};
+use crate::drawn_days::{Draws, drawn_day};
+use crate::drawn_picks::drawn_picks;
 use crate::drawn_questions::{drawn_multipliers, drawn_region};
 use crate::link_rule::lead_on;
 use crate::listing::{Choices, Listing, Question, choices_of, first_of, list};
 use crate::plain_slacks::{are_slacks, plain_slacks};
 use branch_tree::{BoundAnswer, Multipliers, Region, Relaxation, Settled, Weight};
-use drawn_days::{Draws, drawn_day, drawn_picks};
 use price_bound::Change;
 use rail_base::TripNo;
 use sample_picks::may_run;

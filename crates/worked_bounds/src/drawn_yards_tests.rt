@@ -6,8 +6,9 @@ ghost use Rattle.timetable.specs.Picking.{ArePicks};
 ghost use Rattle.transitions.specs.Edges.{AreGraphs};
 ghost use Rattle.unit_duties.specs.Broken.{AreAdmissible};
 
+use crate::drawn_days::{Draws, drawn_day};
+use crate::drawn_picks::{drawn_picks, pick_of};
 use day_simulator::simulate;
-use drawn_days::{Draws, drawn_day, drawn_picks, pick_of};
 use inventory::{Ledger, StockFault};
 use rail_base::{CompNo, LinkNo, TripNo};
 use sample_picks::may_run;

@@ -4,10 +4,11 @@ ghost use Rattle.timetable.specs.Picking.{ArePicks};
 ghost use Rattle.timetable.specs.Running.{IsPlan};
 ghost use Rattle.unit_duties.specs.Broken.{AreAdmissible};
 
-use crate::days::{EARLY_EXCHANGE, EXCHANGE, TURN, picks_of};
+use crate::asking::picks_of;
+use crate::exchange_days::{EARLY_EXCHANGE, EXCHANGE};
 use crate::ledger_tests::fault_of;
 use rail_base::{TripNo, UnitNo};
-use sample_days::{Texts, day_of, plan_of};
+use sample_days::{ONE_LEFT, Texts, day_of, plan_of};
 use sample_picks::may_run;
 use std::alloc::{AllocError, Global};
 use std::process::Abort;
@@ -52,22 +53,23 @@ fn duties_of(alloc: Global, texts: &Texts<'_>, plan: &[u8]) -> Result<String, Fa
 
 #[test]
 fn duties_with_places(rt: HostRuntime) -> Result<(), Fail> {
-    let text = duties_of(rt.alloc(), &TURN, b"trip,units\nT1,0 1\nT2,1\n")?;
+    let text = duties_of(rt.alloc(), &ONE_LEFT, b"trip,units\nT1,0 1\nT2,1\n")?;
     assert!(rt; text.as_str() == "0: 0/0\n1: 0/1 1/0\n", "{text}");
     Ok(())
 }
 
-/// Days, what is picked for their two trips, and what naming units for that tells: the units of each trip, or a refusal.
+/// Days, what is picked for their two trips, and what naming units for that tells: the units of each trip, or a
+/// refusal.
 const NAMED: &[(Texts<'static>, u32, u32, &str)] = &[
     // Both units must leave X, and one come back.
-    (TURN, 1, 0, "0: 0 1\n1: 1\n"),
+    (ONE_LEFT, 1, 0, "0: 0 1\n1: 1\n"),
     (
-        TURN,
+        ONE_LEFT,
         1,
         1,
         "Stock(Balance { station: StationNo(0), unit_type: TypeNo(0), count: 2 })",
     ),
-    (TURN, 0, 1, "LinkBroken(LinkNo(0))"),
+    (ONE_LEFT, 0, 1, "LinkBroken(LinkNo(0))"),
     // The unit that is uncoupled at 09:00 is ready at 09:30.
     (EXCHANGE, 2, 3, "0: 0 1\n1: 1 0\n"),
     (
@@ -117,7 +119,7 @@ fn named(
     second: u32,
 ) -> Result<String, Fail> {
     let day = day_of(alloc, texts)?;
-    let picks = picks_of(alloc, first, second)?;
+    let picks = picks_of(alloc, &[first, second])?;
     assert!(rt; may_run(&day, &picks));
     let mut text = String::new(alloc);
     write_named(&mut text, alloc, &day, &picks)?;
@@ -136,8 +138,8 @@ fn units_are_named(rt: HostRuntime) -> Result<(), Fail> {
 // One unit goes out and two come back, so that the turn is broken and the yard of Y is short too.
 #[test]
 fn broken_link_told_before_a_fault(rt: HostRuntime) -> Result<(), Fail> {
-    assert!(rt; fault_of(&rt, rt.alloc(), &TURN, 0, 1)?.is_some());
-    let text = named(&rt, rt.alloc(), &TURN, 0, 1)?;
+    assert!(rt; fault_of(&rt, rt.alloc(), &ONE_LEFT, 0, 1)?.is_some());
+    let text = named(&rt, rt.alloc(), &ONE_LEFT, 0, 1)?;
     assert!(rt; text.as_str() == "LinkBroken(LinkNo(0))", "{text}");
     Ok(())
 }

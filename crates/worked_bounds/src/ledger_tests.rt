@@ -1,9 +1,10 @@
 //! Worked days: the first fault of the yards for picked compositions.
 
-use crate::days::{EARLY_EXCHANGE, EXCHANGE, TURN, picks_of};
+use crate::asking::picks_of;
 use crate::drawn_yards_tests::first_fault;
+use crate::exchange_days::{EARLY_EXCHANGE, EXCHANGE};
 use inventory::StockFault;
-use sample_days::{Texts, day_of};
+use sample_days::{ONE_LEFT, Texts, day_of};
 use sample_picks::may_run;
 use std::alloc::Global;
 use std::process::Abort;
@@ -13,12 +14,12 @@ use std::test::Fail;
 const FAULTS: &[(Texts<'static>, u32, u32, &str)] = &[
     // Both units come back, though one is wanted at the other station; or the second one comes back alone.
     (
-        TURN,
+        ONE_LEFT,
         1,
         1,
         "Some(Balance { station: StationNo(0), unit_type: TypeNo(0), count: 2 })",
     ),
-    (TURN, 1, 0, "None"),
+    (ONE_LEFT, 1, 0, "None"),
     // The unit that is uncoupled is coupled again, and ready at 09:30. Compositions 2 and 3 are AB and BA.
     (EXCHANGE, 2, 3, "None"),
     (
@@ -38,7 +39,7 @@ pub(crate) fn fault_of(
     second: u32,
 ) -> Result<Option<StockFault>, Fail> {
     let day = day_of(alloc, texts)?;
-    let picks = picks_of(alloc, first, second)?;
+    let picks = picks_of(alloc, &[first, second])?;
     assert!(rt; may_run(&day, &picks));
     first_fault(alloc, &day, &picks)
 }

@@ -3,9 +3,9 @@
 ghost use Rattle.std.specs.Prelude.{◌<◌, length};
 ghost use Rattle.timetable.specs.Picking.{ArePicks};
 
+use crate::drawn_picks::pick_of;
 use crate::link_rule::part_of;
 use branch_tree::Slacks;
-use drawn_days::pick_of;
 use rail_base::{CompNo, LinkNo, Minute, StationNo, TripNo, TypeNo};
 use std::alloc::Global;
 use std::test::Fail;

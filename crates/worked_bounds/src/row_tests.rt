@@ -1,41 +1,29 @@
 //! Bounds, settling and slacks of small days, by hand.
+//!
+//! On the days of two trips with units of one type the indices are those of the departure minute of X, of that of Y, of
+//! the end of X and of the end of Y. On the ring, whose chains are T1 and T2, and T3 and T4, indices 6 to 8 are those
+//! of the split, and 9 to 11 those of the join.
 
 ghost use Rattle.transitions.specs.Edges.{AreGraphs};
 
 use crate::asking::{bound_of, do_follow, multipliers_of, picks_of, settled, slacks_of};
 use crate::changed::bounds_under;
-use branch_tree::{Cut, Region, Relaxation, Side, Slacks, Weight};
+use crate::exchange_days::EXCHANGE;
+use crate::telling::{write_picks, write_slacks};
+use branch_tree::{Cut, Region, Relaxation, Side, Weight};
 use price_bound::Change;
 use rail_base::{CompNo, TripNo, TypeNo};
-use sample_days::{Texts, day_of};
-use std::alloc::{AllocError, Global};
+use sample_days::{ONE_LEFT, RING, TURN, TWO_TYPES, Texts, day_of};
+use std::alloc::Global;
 use std::process::Abort;
 use std::test::Fail;
-use timetable::{Instance, Picks};
+use timetable::Instance;
 use transitions::Graphs;
 
-/// Two units leave X, and both may come back, or one, which is wanted at Y at the end. The compositions are A and AA.
-/// The indices are those of the departure minute of X, of that of Y, of the end of X and of the end of Y.
-const ONE_LEFT: Texts<'static> = Texts {
-    types: b"type,carriages,seats,metres,family\nA,3,200,80,regional\n",
-    stations: b"station,platform,reallocation\nX,200,30\nY,200,30\n",
-    stock: b"station,type,start,end\nX,A,2,1\nY,A,0,1\n",
-    trips: b"trip,from,departure,to,arrival,km,demand\n\
-        T1,X,08:00,Y,09:00,10,300\nT2,Y,09:10,X,10:10,10,150\n",
-    links: b"kind,arriving,arriving2,departing,departing2,reverse,uncouple,couple\n\
-        turn,T1,,T2,,yes,rear,none\n",
-};
-
-/// The same, where both units are wanted at X at the end.
-const BOTH_BACK: Texts<'static> = Texts {
-    stock: b"station,type,start,end\nX,A,2,2\n",
-    ..ONE_LEFT
-};
-
-/// The same, where both are wanted at Y.
+/// The day of a turn, where both units are wanted at Y at the end.
 const BOTH_LEFT: Texts<'static> = Texts {
     stock: b"station,type,start,end\nX,A,2,0\nY,A,0,2\n",
-    ..ONE_LEFT
+    ..TURN
 };
 
 /// A unit goes from X to Y, and another trip leaves Y one minute before that unit is ready.
@@ -44,46 +32,11 @@ const EARLY_TRIP: Texts<'static> = Texts {
     trips: b"trip,from,departure,to,arrival,km,demand\n\
         T1,X,08:00,Y,09:00,10,150\nT2,Y,09:29,X,10:30,10,150\n",
     links: b"kind,arriving,arriving2,departing,departing2,reverse,uncouple,couple\n",
-    ..ONE_LEFT
+    ..TURN
 };
 
-/// A split and a join, whose chains are T1 and T2, and T3 and T4. The compositions are A, AA and AAA. Indices 6 to 8
-/// are those of the split, 9 to 11 those of the join.
-const RING: Texts<'static> = Texts {
-    types: b"type,carriages,seats,metres,family\nA,3,200,80,regional\n",
-    stations: b"station,platform,reallocation\nX,240,30\nY,240,30\nZ,240,30\n",
-    stock: b"station,type,start,end\nX,A,3,3\n",
-    trips: b"trip,from,departure,to,arrival,km,demand\n\
-        T1,X,08:00,Y,09:00,10,300\nT2,Y,09:10,Z,10:00,10,300\n\
-        T3,Y,09:20,Z,10:10,10,300\nT4,Z,10:30,X,11:30,10,300\n",
-    links: b"kind,arriving,arriving2,departing,departing2,reverse,uncouple,couple\n\
-        split,T1,,T2,T3,no,none,none\njoin,T3,T2,T4,,no,none,none\n",
-};
-
-/// Units of two types. The compositions are A, B, AB, BA and BB.
-const TWO_TYPES: Texts<'static> = Texts {
-    types: b"type,carriages,seats,metres,family\nA,3,200,80,regional\nB,2,100,60,regional\n",
-    stations: b"station,platform,reallocation\nX,140,30\nY,140,30\n",
-    stock: b"station,type,start,end\nX,A,1,0\nX,B,1,1\nY,A,0,1\n",
-    trips: b"trip,from,departure,to,arrival,km,demand\n\
-        T1,X,08:00,Y,09:00,10,300\nT2,Y,09:10,X,10:10,10,100\n",
-    links: b"kind,arriving,arriving2,departing,departing2,reverse,uncouple,couple\n\
-        turn,T1,,T2,,yes,rear,none\n",
-};
-
-/// The same types, and a turn that uncouples at the front and couples at the rear: a unit that is uncoupled is ready
-/// when the train leaves with it again.
-const EXCHANGE: Texts<'static> = Texts {
-    stock: b"station,type,start,end\nX,A,1,1\nX,B,1,1\n",
-    trips: b"trip,from,departure,to,arrival,km,demand\n\
-        T1,X,08:00,Y,09:00,10,300\nT2,Y,09:30,X,10:30,10,150\n",
-    links: b"kind,arriving,arriving2,departing,departing2,reverse,uncouple,couple,exchange\n\
-        turn,T1,,T2,,no,front,rear,yes\n",
-    ..TWO_TYPES
-};
-
-/// The same, where the train leaves a minute earlier.
-const EARLY_EXCHANGE: Texts<'static> = Texts {
+/// The day of an exchange, where the second trip leaves and arrives a minute earlier.
+const EARLIER_EXCHANGE: Texts<'static> = Texts {
     trips: b"trip,from,departure,to,arrival,km,demand\n\
         T1,X,08:00,Y,09:00,10,300\nT2,Y,09:29,X,10:29,10,150\n",
     ..EXCHANGE
@@ -146,7 +99,7 @@ const BOUNDS: &[Case] = &[
     // (AA, AA) costs 120 and the change, and (AA, A) costs 190.
     Case {
         about: "a low change",
-        texts: BOTH_BACK,
+        texts: TURN,
         change: Some(7),
         asked: Asked::Bound {
             region: &[],
@@ -157,7 +110,7 @@ const BOUNDS: &[Case] = &[
     },
     Case {
         about: "a high change",
-        texts: BOTH_BACK,
+        texts: TURN,
         change: Some(100),
         asked: Asked::Bound {
             region: &[],
@@ -341,14 +294,14 @@ const REGIONS: &[Case] = &[
 const PICKS: &[Case] = &[
     Case {
         about: "a low change",
-        texts: BOTH_BACK,
+        texts: TURN,
         change: Some(7),
         asked: Asked::Settled(&[1, 1]),
         told: "Costs(Money(127))",
     },
     Case {
         about: "a high change",
-        texts: BOTH_BACK,
+        texts: TURN,
         change: Some(100),
         asked: Asked::Settled(&[1, 1]),
         told: "Costs(Money(220))",
@@ -399,7 +352,7 @@ const PICKS: &[Case] = &[
     },
     Case {
         about: "a unit that is not ready again",
-        texts: EARLY_EXCHANGE,
+        texts: EARLIER_EXCHANGE,
         change: None,
         asked: Asked::Settled(&[2, 3]),
         told: "Broken { index: 2, sign: 1 }",
@@ -518,14 +471,6 @@ fn told_of_bound<R: Relaxation>(
     Ok(text)
 }
 
-/// Writes the compositions of picks, each after a space.
-fn write_picks(text: &mut String, picks: &Picks) -> Result<(), AllocError> {
-    for trip in 0..picks.len() {
-        write!(text, " {}", picks.get(TripNo(trip)).0)?;
-    }
-    Ok(())
-}
-
 /// What settling answers for picks that follow.
 fn told_of_settling<R: Relaxation>(
     alloc: Global,
@@ -555,15 +500,6 @@ fn told_of_slacks<R: Relaxation>(
     let mut text = String::new(alloc);
     write_slacks(&mut text, &slacks)?;
     Ok(text)
-}
-
-/// Writes slacks, each after a space and its index.
-fn write_slacks(text: &mut String, slacks: &Slacks) -> Result<(), AllocError> {
-    for place in 0..slacks.len() {
-        let entry = slacks.at(place);
-        write!(text, " {}:{}", entry.index, entry.value)?;
-    }
-    Ok(())
 }
 
 /// The root region after cuts, of which these sides are kept.

@@ -1,9 +1,8 @@
 //! What the worked day of a turn costs, with picks and with plans, by hand.
 
-use crate::days::TURN;
 use cost_model::{cost, parts, plan_cost};
 use rail_base::{CompNo, TripNo};
-use sample_days::{Texts, day_of, plan_of};
+use sample_days::{TURN, Texts, day_of, plan_of};
 use std::alloc::Global;
 use std::test::Fail;
 use timetable::{Instance, Picks};

@@ -3,31 +3,29 @@
 ghost use Rattle.std.specs.Prelude.{◌<◌, length};
 
 use rail_base::{CompNo, LinkNo};
-use sample_days::{Texts, day_of};
+use sample_days::{TURN, Texts, day_of};
 use std::alloc::{AllocError, Global};
 use std::test::Fail;
 use transitions::{Edge, Graphs};
 
 /// A day of one type on which T1 and T2 arrive before T3 and T4 leave, with one turn. The platforms fit two units.
-const TURN: Texts<'static> = Texts {
-    types: b"type,carriages,seats,metres,family\nA,3,200,80,regional\n",
-    stations: b"station,platform,reallocation\nX,200,30\nY,200,30\n",
-    stock: b"station,type,start,end\nX,A,2,2\n",
+const FOUR_TRIPS: Texts<'static> = Texts {
     trips: b"trip,from,departure,to,arrival,km,demand\n\
         T1,X,08:00,Y,09:00,10,0\nT2,X,08:30,Y,09:30,10,0\n\
         T3,Y,09:40,X,10:40,10,0\nT4,Y,09:50,X,10:50,10,0\n",
     links: b"kind,arriving,arriving2,departing,departing2,reverse,uncouple,couple\n\
         turn,T1,,T3,,yes,rear,none\n",
+    ..TURN
 };
 
 /// Two types of one length.
 const ALIKE: &[u8] =
     b"type,carriages,seats,metres,family\nA,3,200,80,regional\nB,3,200,80,regional\n";
 
-/// The same day with two types.
-const TWO_TYPES: Texts<'static> = Texts {
+/// The same day with these two types.
+const ALIKE_TYPES: Texts<'static> = Texts {
     types: ALIKE,
-    ..TURN
+    ..FOUR_TRIPS
 };
 
 /// Two types of which one is shorter, a turn that may exchange units, and platforms that fit a unit of each type, but
@@ -37,7 +35,7 @@ const EXCHANGE: Texts<'static> = Texts {
     stations: b"station,platform,reallocation\nX,140,30\nY,140,30\n",
     links: b"kind,arriving,arriving2,departing,departing2,reverse,uncouple,couple,exchange\n\
         turn,T1,,T3,,yes,rear,rear,yes\n",
-    ..TURN
+    ..FOUR_TRIPS
 };
 
 /// A join of trains of up to three units of two types.
@@ -45,7 +43,7 @@ const JOIN: Texts<'static> = Texts {
     stations: b"station,platform,reallocation\nX,250,30\nY,250,30\n",
     links: b"kind,arriving,arriving2,departing,departing2,reverse,uncouple,couple\n\
         join,T1,T2,T3,,yes,none,none\n",
-    ..TWO_TYPES
+    ..ALIKE_TYPES
 };
 
 /// What is asked of the only link of a day.
@@ -69,13 +67,13 @@ struct Row {
 const TURNS: &[Row] = &[
     // The compositions are A and AA.
     Row {
-        texts: TURN,
+        texts: FOUR_TRIPS,
         asked: Asked::Edges,
         told: "0 0 Keep\n1 0 Uncouple { units: 1 }\n1 1 Keep\n",
     },
     // The compositions are A, B, AA, AB, BA and BB. AB turns round into BA, whose rear unit is A.
     Row {
-        texts: TWO_TYPES,
+        texts: ALIKE_TYPES,
         asked: Asked::Shunts(&[(3, 1), (3, 4), (3, 0)]),
         told: "Some(Uncouple { units: 1 })\nSome(Keep)\nNone\n",
     },
@@ -84,7 +82,7 @@ const TURNS: &[Row] = &[
         texts: Texts {
             links: b"kind,arriving,arriving2,departing,departing2,reverse,uncouple,couple\n\
                 turn,T1,,T3,,no,front,front\n",
-            ..TWO_TYPES
+            ..ALIKE_TYPES
         },
         asked: Asked::Edges,
         told: "0 0 Keep\n0 2 Couple { units: 1 }\n0 4 Couple { units: 1 }\n\
@@ -171,7 +169,7 @@ const PARTS: &[Row] = &[
         texts: Texts {
             links: b"kind,arriving,arriving2,departing,departing2,reverse,uncouple,couple\n\
                 split,T1,,T3,T4,no,none,none\n",
-            ..TURN
+            ..FOUR_TRIPS
         },
         asked: Asked::Edges,
         told: "1 0 Keep with 0\n",

@@ -7,8 +7,6 @@ mod composition_tests;
 #[cfg(test)]
 mod cost_tests;
 #[cfg(test)]
-mod days;
-#[cfg(test)]
 mod edge_tests;
 #[cfg(test)]
 mod file_tests;
@@ -16,6 +14,8 @@ mod file_tests;
 mod machine_tests;
 #[cfg(test)]
 mod row_tests;
+#[cfg(test)]
+mod telling;
 #[cfg(test)]
 mod timetable_tests;
 #[cfg(test)]

@@ -6,68 +6,44 @@ ghost use Rattle.day_simulator.specs.State.{trip_of};
 
 use day_simulator::{Day, DayEvent, Place, StepFault, simulate};
 use rail_base::{TripNo, UnitNo};
-use sample_days::{Texts, day_of, plan_of};
+use sample_days::{RING, TURN, TWO_TYPES, Texts, day_of, plan_of};
 use std::alloc::{AllocError, Global};
 use std::test::Fail;
 use timetable::{Instance, NamedPlan};
 
-/// A turn that turns round and may uncouple at the rear.
-const UNCOUPLING: Texts<'static> = Texts {
-    types: b"type,carriages,seats,metres,family\nA,3,200,80,regional\nB,2,100,60,regional\n",
-    stations: b"station,platform,reallocation\nX,140,30\nY,140,30\n",
-    stock: b"station,type,start,end\nX,A,1,0\nX,B,1,1\nY,A,0,1\n",
-    trips: b"trip,from,departure,to,arrival,km,demand\n\
-        T1,X,08:00,Y,09:00,10,300\nT2,Y,09:10,X,10:10,10,100\n",
-    links: b"kind,arriving,arriving2,departing,departing2,reverse,uncouple,couple\n\
-        turn,T1,,T2,,yes,rear,none\n",
-};
-
-/// A split, and a join of its trains in the other order.
-const SPLIT_AND_JOIN: Texts<'static> = Texts {
-    types: b"type,carriages,seats,metres,family\nA,3,200,80,regional\n",
-    stations: b"station,platform,reallocation\nX,240,30\nY,240,30\nZ,240,30\n",
-    stock: b"station,type,start,end\nX,A,3,3\n",
-    trips: b"trip,from,departure,to,arrival,km,demand\n\
-        T1,X,08:00,Y,09:00,10,300\nT2,Y,09:10,Z,10:00,10,300\n\
-        T3,Y,09:20,Z,10:10,10,300\nT4,Z,10:30,X,11:30,10,300\n",
-    links: b"kind,arriving,arriving2,departing,departing2,reverse,uncouple,couple\n\
-        split,T1,,T2,T3,no,none,none\njoin,T3,T2,T4,,no,none,none\n",
-};
-
-/// The same, where both turn their trains round.
+/// The ring, where the split and the join turn their trains round.
 const TURNING_ROUND: Texts<'static> = Texts {
     links: b"kind,arriving,arriving2,departing,departing2,reverse,uncouple,couple\n\
         split,T1,,T2,T3,yes,none,none\njoin,T3,T2,T4,,yes,none,none\n",
-    ..SPLIT_AND_JOIN
+    ..RING
 };
 
 /// A turn that may couple in front, and one that may uncouple in front.
 const FRONT_ENDS: Texts<'static> = Texts {
-    types: b"type,carriages,seats,metres,family\nA,3,200,80,regional\n",
-    stations: b"station,platform,reallocation\nX,200,30\nY,200,30\n",
     stock: b"station,type,start,end\nX,A,1,1\nY,A,1,1\n",
     trips: b"trip,from,departure,to,arrival,km,demand\n\
         T1,X,08:00,Y,09:00,10,150\nT2,Y,09:10,X,10:10,10,150\nT3,X,10:20,Y,11:20,10,150\n",
     links: b"kind,arriving,arriving2,departing,departing2,reverse,uncouple,couple\n\
         turn,T1,,T2,,no,none,front\nturn,T2,,T3,,no,front,none\n",
+    ..TURN
 };
 
 /// Days, plans of them, and what simulating these tells.
 const SIMULATED: &[(Texts<'static>, &[u8], &str)] = &[
-    (UNCOUPLING, b"trip,units\nT1,0 1\nT2,1\n", "runs 170"),
+    (TWO_TYPES, b"trip,units\nT1,0 1\nT2,1\n", "runs 170"),
     (
-        UNCOUPLING,
+        TWO_TYPES,
         b"trip,units\nT1,0 1\nT2,0\n",
         "Stops(LinkBroken(LinkNo(0)))",
     ),
     // The train of the third trip in front, and that of the second.
     (
-        SPLIT_AND_JOIN,
+        RING,
         b"trip,units\nT1,0 1 2\nT2,0 1\nT3,2\nT4,2 0 1\n",
         "runs 1270",
     ),
     (
-        SPLIT_AND_JOIN,
+        RING,
         b"trip,units\nT1,0 1 2\nT2,0 1\nT3,2\nT4,0 1 2\n",
         "Stops(LinkBroken(LinkNo(1)))",
     ),
@@ -142,13 +118,13 @@ struct Steps {
 
 /// Two trips that arrive in the minute in which two leave, without links.
 const ONE_MINUTE: Texts<'static> = Texts {
-    types: b"type,carriages,seats,metres,family\nA,3,200,80,regional\n",
     stations: b"station,platform,reallocation\nX,200,30\nY,200,0\nZ,200,20\n",
     stock: b"station,type,start,end\nX,A,1,1\nZ,A,1,1\n",
     trips: b"trip,from,departure,to,arrival,km,demand\n\
         T1,X,08:00,Y,09:00,10,150\nT2,Z,08:00,Y,09:00,10,150\n\
         T3,Y,09:00,X,10:00,10,150\nT4,Y,09:00,Z,10:00,10,150\n",
     links: b"kind,arriving,arriving2,departing,departing2,reverse,uncouple,couple\n",
+    ..TURN
 };
 
 /// Two trips that arrive in the minute in which two leave, with a turn from each: one may uncouple, the other couple.

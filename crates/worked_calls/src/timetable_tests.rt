@@ -1,9 +1,9 @@
 //! Days, plans and multipliers: days of two stations, and days of four trips with links; and what is refused.
 
-use crate::days::{RING, TURN, told};
+use crate::telling::told;
 use rail_base::{Name, NoMemory, StationNo, TripNo, TypeNo, UnitNo};
 use rail_csv::{PlanRow, UnitList, plan};
-use sample_days::{Texts, day_of, table};
+use sample_days::{RING, TURN, Texts, day_of, table};
 use std::alloc::{AllocError, Global};
 use std::test::Fail;
 use timetable::{Instance, NamedPlan, Place};

@@ -2,23 +2,12 @@
 
 use planner_app::{costs_table, duties_table, yards_table};
 use rail_base::{CompNo, TripNo};
-use sample_days::{Texts, day_of, plan_of};
+use sample_days::{ONE_LEFT, Texts, day_of, plan_of};
 use sample_picks::may_run;
 use std::alloc::Global;
 use std::process::Abort;
 use std::test::Fail;
 use timetable::Picks;
-
-/// Two units leave together, and the second one comes back alone.
-const TWO_TRIPS: Texts<'static> = Texts {
-    types: b"type,carriages,seats,metres,family\nA,3,200,80,regional\n",
-    stations: b"station,platform,reallocation\nX,200,30\nY,200,30\n",
-    stock: b"station,type,start,end\nX,A,2,1\nY,A,0,1\n",
-    trips: b"trip,from,departure,to,arrival,km,demand\n\
-        T1,X,08:00,Y,09:00,10,300\nT2,Y,09:10,X,10:10,10,150\n",
-    links: b"kind,arriving,arriving2,departing,departing2,reverse,uncouple,couple\n\
-        turn,T1,,T2,,yes,rear,none\n",
-};
 
 /// Two units leave a station whose name has a comma, one of them goes on alone and back, and both come home together. A
 /// third unit, of another type, stays.
@@ -38,12 +27,12 @@ const FOUR_TRIPS: Texts<'static> = Texts {
         turn,103,,104,,no,none,rear\n",
 };
 
-const TWO_TRIPS_DUTIES: &[u8] = b"unit,type,home,trip,from,departure,to,arrival,position\n\
+const ONE_LEFT_DUTIES: &[u8] = b"unit,type,home,trip,from,departure,to,arrival,position\n\
     0,A,X,T1,X,08:00,Y,09:00,0\n\
     1,A,X,T1,X,08:00,Y,09:00,1\n\
     1,A,X,T2,Y,09:10,X,10:10,0\n";
 
-const TWO_TRIPS_YARDS: &[u8] = b"station,type,time,taken,ready,count\n\
+const ONE_LEFT_YARDS: &[u8] = b"station,type,time,taken,ready,count\n\
     X,A,start,0,0,2\n\
     X,A,08:00,2,0,0\n\
     X,A,end,0,1,1\n\
@@ -51,7 +40,7 @@ const TWO_TRIPS_YARDS: &[u8] = b"station,type,time,taken,ready,count\n\
     Y,A,09:10,0,0,0\n\
     Y,A,end,0,1,1\n";
 
-const TWO_TRIPS_COSTS: &[u8] = b"part,amount\ncarriage,90\nshortage,0\nshunting,100\ntotal,190\n";
+const ONE_LEFT_COSTS: &[u8] = b"part,amount\ncarriage,90\nshortage,0\nshunting,100\ntotal,190\n";
 
 const FOUR_TRIPS_DUTIES: &[u8] = b"unit,type,home,trip,from,departure,to,arrival,position\n\
     0,IC-3,\"Northport, Central\",101,\"Northport, Central\",06:02,Midford,06:58,0\n\
@@ -86,7 +75,7 @@ const FOUR_TRIPS_YARDS: &[u8] = b"station,type,time,taken,ready,count\n\
 
 /// Days, plans of them, and the tables of the duties of their units.
 const DUTIES: &[(Texts<'static>, &[u8], &[u8])] = &[
-    (TWO_TRIPS, b"trip,units\nT1,0 1\nT2,1\n", TWO_TRIPS_DUTIES),
+    (ONE_LEFT, b"trip,units\nT1,0 1\nT2,1\n", ONE_LEFT_DUTIES),
     (
         FOUR_TRIPS,
         b"trip,units\n101,0 1\n102,0\n103,0\n104,0 1\n",
@@ -96,12 +85,12 @@ const DUTIES: &[(Texts<'static>, &[u8], &[u8])] = &[
 
 /// Days, the compositions that are picked for their trips, and the tables of the yards.
 const YARDS: &[(Texts<'static>, &[u32], &[u8])] = &[
-    (TWO_TRIPS, &[1, 0], TWO_TRIPS_YARDS),
+    (ONE_LEFT, &[1, 0], ONE_LEFT_YARDS),
     (FOUR_TRIPS, &[2, 0, 0, 2], FOUR_TRIPS_YARDS),
 ];
 
 /// Days, the compositions that are picked for their trips, and the tables of what these cost.
-const COSTS: &[(Texts<'static>, &[u32], &[u8])] = &[(TWO_TRIPS, &[1, 0], TWO_TRIPS_COSTS)];
+const COSTS: &[(Texts<'static>, &[u32], &[u8])] = &[(ONE_LEFT, &[1, 0], ONE_LEFT_COSTS)];
 
 /// Picks of these compositions, in the order of the trips.
 fn picks_of(alloc: Global, compositions: &[u32]) -> Result<Picks, Fail> {

@@ -1,0 +1,356 @@
+//! How advisors are asked, and what is made of what they propose, by hand.
+//!
+//! On the day where one unit is left at Y, with multipliers u, v, w and x at its four indices, (A, A) has the priced
+//! value 1060 - u - w + x, (AA, A) has 190 and is a solution, and (AA, AA) has 120 - w + x.
+
+use crate::scripts::{Call, CutNumbers, SILENT};
+use crate::search_days::{APART, EARLY_BACK, LEVEL_BACK, TOO_FEW, TWO_ALIKE};
+use crate::trials::{Search, expect_all};
+use advisors::Word;
+use sample_days::ONE_LEFT;
+use std::test::Fail;
+
+/// The root after its evaluation with no multipliers.
+const ROOT: &str =
+    "round 0; left 2 2; first 120, kept 120, last 120; at; picks 1 1; slacks 2:-1 3:1; free from 2";
+
+/// The root after 30 was proposed at index 3.
+const RAISED: &str =
+    "round 0; left 2 2; first 120, kept 150, last 150; at 3:30; picks 1 1; slacks 2:-1 3:1; free from 2";
+
+/// The same in the next round.
+const RAISED_BEFORE: &str =
+    "round 1; left 2 2; first 120, kept 150, last 150; at 3:30; picks 1 1; slacks 2:-1 3:1; free from 2";
+
+/// The node where T1 has AA alone, which inherits that.
+const HEIR: &str =
+    "round 0; left 1 2; first 120, kept 150, last 150; at 3:30; picks 1 1; slacks 2:-1 3:1; free from 2";
+
+/// The same in the next round.
+const HEIR_AGAIN: &str =
+    "round 1; left 1 2; first 120, kept 150, last 150; at 3:30; picks 1 1; slacks 2:-1 3:1; free from 2";
+
+/// Proposes 30 at index 3, under which (AA, AA) has 150.
+const RAISES: Call = Call {
+    puts: &[(3, 30)],
+    ..SILENT
+};
+
+/// Proposes 70 at index 3, under which both (AA, A) and (AA, AA) have 190.
+const CLOSES: Call = Call {
+    puts: &[(3, 70)],
+    ..SILENT
+};
+
+/// The first trip with one unit at most, and with more.
+const FIRST_SHORT: CutNumbers = CutNumbers::AtMost(0, 0, 1);
+
+/// What one advisor is shown at the root in four rounds, and then at the node where T1 has AA alone: a lower value is
+/// the last one and is not kept, and the picks and their slacks are those of the last evaluation.
+const LOOKS: &[Call] = &[
+    Call {
+        shown: ROOT,
+        ..RAISES
+    },
+    Call {
+        shown: RAISED_BEFORE,
+        puts: &[(3, 10)],
+        ..SILENT
+    },
+    Call {
+        shown: "round 2; left 2 2; first 120, kept 150, last 130; at 3:10; picks 1 1; slacks 2:-1 3:1; free from 2",
+        puts: &[(0, 1000)],
+        ..SILENT
+    },
+    Call {
+        shown: "round 3; left 2 2; first 120, kept 150, last 60; at 0:1000; picks 0 0; slacks 0:-1 2:-1 3:1; \
+            free from 2",
+        word: Word::Enough,
+        ..SILENT
+    },
+    Call {
+        shown: HEIR,
+        ..SILENT
+    },
+    Call {
+        shown: HEIR_AGAIN,
+        ..CLOSES
+    },
+];
+
+/// The first of two advisors, which proposes multipliers and a cut before the other one is asked.
+const FIRST: &[Call] = &[
+    Call {
+        shown: ROOT,
+        cut: FIRST_SHORT,
+        ..RAISES
+    },
+    Call {
+        shown: "round 1; left 2 2; first 120, kept 150, last 140; at 2:-20; picks 1 1; slacks 2:-1 3:1; free from 2",
+        ..SILENT
+    },
+    Call {
+        shown: HEIR,
+        word: Word::Enough,
+        ..SILENT
+    },
+];
+
+/// The second one, which has enough of the root, and is asked again at the next node.
+const SECOND: &[Call] = &[
+    Call {
+        shown: RAISED,
+        puts: &[(2, -20)],
+        word: Word::Enough,
+        ..SILENT
+    },
+    Call {
+        shown: HEIR,
+        ..CLOSES
+    },
+];
+
+/// An advisor that proposes a cut in each round, the second one with a multiplier, and in the fourth none.
+const CUTS: &[Call] = &[
+    Call {
+        cut: CutNumbers::Only(1, 0),
+        ..SILENT
+    },
+    Call {
+        cut: CutNumbers::Only(1, 1),
+        puts: &[(3, 10)],
+        ..SILENT
+    },
+    Call {
+        cut: FIRST_SHORT,
+        ..SILENT
+    },
+    SILENT,
+    Call {
+        cut: CutNumbers::Only(400, 0),
+        ..SILENT
+    },
+];
+
+/// Closes the node at its first call.
+const CLOSING: &[Call] = &[CLOSES];
+
+/// Is never asked, and would quit.
+const UNASKED: &[Call] = &[Call {
+    word: Word::Quit,
+    ..SILENT
+}];
+
+/// Quits at its second call with a proposal.
+const QUITTING_WITH_MORE: &[Call] = &[
+    SILENT,
+    Call {
+        cut: FIRST_SHORT,
+        word: Word::Quit,
+        ..CLOSES
+    },
+];
+
+/// Proposes multipliers under which (AA, AA) has 120, as with none.
+const NO_HIGHER: &[Call] = &[Call {
+    puts: &[(0, 5)],
+    ..SILENT
+}];
+
+/// Puts multipliers under which each picks have a positive value without cost, on the day where T2 leaves early.
+const RAY: &[Call] = &[Call {
+    puts: &[(1, 1), (2, 1)],
+    ..SILENT
+}];
+
+/// Proposes a multiplier at its first call and has enough of that node, and proposes no more.
+const ONCE: &[Call] = &[
+    Call {
+        puts: &[(1, 1)],
+        word: Word::Enough,
+        ..SILENT
+    },
+    SILENT,
+];
+
+/// What an advisor is shown on the day of two trips without a link: the root, its left side, where T1 has A alone, and
+/// its right side.
+const SIDES: &[Call] = &[
+    Call {
+        shown: "round 0; left 3 3; first 150, kept 150, last 150; at; picks 0 2; slacks 0:-1 1:2 2:-3 3:3; \
+            free from 2",
+        ..SILENT
+    },
+    Call {
+        shown: "round 0; left 1 3; first 150, kept 150, last 150; at; picks 0 2; slacks 0:-1 1:2 2:-3 3:3; \
+            free from 2",
+        ..SILENT
+    },
+    Call {
+        shown: "round 0; left 2 3; first 150, kept 150, last 150; at; picks 1 2; slacks 1:1 2:-2 3:2; free from 2",
+        ..SILENT
+    },
+];
+
+/// Proposes nothing at its first three calls, and then a multiplier under which (A, A) has 120 and (A, AA) has 160, on
+/// the day with two solutions of one cost.
+const LATE: &[Call] = &[
+    SILENT,
+    SILENT,
+    SILENT,
+    Call {
+        puts: &[(1, 70)],
+        ..SILENT
+    },
+];
+
+/// Proposes a multiplier that is a ray by itself.
+const LONG_RAY: &[Call] = &[Call {
+    puts: &[(2, 1000)],
+    word: Word::Enough,
+    ..SILENT
+}];
+
+/// Searches of that day.
+const ADVISED: &[Search] = &[
+    Search {
+        about: "what an advisor is shown",
+        texts: ONE_LEFT,
+        grant: 2,
+        rounds: 4,
+        scripts: &[LOOKS],
+        told: "optimal 190 by 1 0; only 0 1; cost 190 3:70; ray 2:-1; asked 6",
+    },
+    // The second one is shown what the first one's proposal gave, and the cut that the first one proposed stays.
+    Search {
+        about: "two advisors are asked in turn",
+        texts: ONE_LEFT,
+        grant: 2,
+        rounds: 2,
+        scripts: &[FIRST, SECOND],
+        told: "optimal 190 by 1 0; most 0 0 1; ray 2:-1; cost 190 3:70; asked 3; asked 2",
+    },
+    Search {
+        about: "none is asked about a node that is closed",
+        texts: ONE_LEFT,
+        grant: 0,
+        rounds: 3,
+        scripts: &[CLOSING, UNASKED],
+        told: "optimal 190 by 1 0; cost 190 3:70; asked 1; asked 0",
+    },
+    Search {
+        about: "what comes with quitting is not used",
+        texts: ONE_LEFT,
+        grant: 1,
+        rounds: 3,
+        scripts: &[QUITTING_WITH_MORE],
+        told: "bounded 120; only 0 1; cost 120; ray 2:-1; asked 2, quit",
+    },
+    Search {
+        about: "a cut is taken",
+        texts: ONE_LEFT,
+        grant: 1,
+        rounds: 1,
+        scripts: &[CUTS],
+        told: "optimal 190 by 1 0; only 1 0; cost 190; ray 2:-1; asked 1",
+    },
+    Search {
+        about: "a later cut is taken in its place",
+        texts: ONE_LEFT,
+        grant: 1,
+        rounds: 2,
+        scripts: &[CUTS],
+        told: "optimal 190 by 1 0; only 1 1; ray 2:-1; cost 190; asked 2",
+    },
+    // The cut of the third round stays where none is proposed, and one that is not proper takes its place and is not
+    // taken.
+    Search {
+        about: "the last cut is taken",
+        texts: ONE_LEFT,
+        grant: 1,
+        rounds: 3,
+        scripts: &[CUTS],
+        told: "bounded 130; most 0 0 1; ray 2:-1; cost 130 3:10; asked 6",
+    },
+    Search {
+        about: "the last cut stays",
+        texts: ONE_LEFT,
+        grant: 1,
+        rounds: 4,
+        scripts: &[CUTS],
+        told: "bounded 130; most 0 0 1; ray 2:-1; cost 130 3:10; asked 8",
+    },
+    Search {
+        about: "a cut that is not proper is not taken",
+        texts: ONE_LEFT,
+        grant: 1,
+        rounds: 5,
+        scripts: &[CUTS],
+        told: "bounded 130; only 0 1; cost 130 3:10; ray 2:-1; asked 10",
+    },
+    Search {
+        about: "multipliers of no higher value are not kept",
+        texts: ONE_LEFT,
+        grant: 0,
+        rounds: 1,
+        scripts: &[NO_HIGHER],
+        told: "bounded 120; cost 120; asked 1",
+    },
+];
+
+/// Searches of other days.
+const ADVISED_ELSEWHERE: &[Search] = &[
+    Search {
+        about: "multipliers show that there is none",
+        texts: EARLY_BACK,
+        grant: 2,
+        rounds: 3,
+        scripts: &[RAY],
+        told: "infeasible; ray 1:1 2:1; asked 1",
+    },
+    // A node whose first bound is as dear as the best solution is closed before it is evaluated under what it inherits.
+    Search {
+        about: "a node that is closed inherits nothing",
+        texts: LEVEL_BACK,
+        grant: 2,
+        rounds: 1,
+        scripts: &[ONCE],
+        told: "optimal 120 by 1 1; only 0 0; only 1 1; ray 1:1; cost 120; cost 120; asked 2",
+    },
+    Search {
+        about: "the left side is shown before the right one",
+        texts: APART,
+        grant: 1,
+        rounds: 1,
+        scripts: &[SIDES],
+        told: "bounded 150; only 0 0; cost 150; cost 150; asked 3",
+    },
+    // (A, A) is found in the second round of the left side. (AA, AA), which the right side begins with, costs no less.
+    Search {
+        about: "the right side waits for the rounds of the left one",
+        texts: TWO_ALIKE,
+        grant: 1,
+        rounds: 2,
+        scripts: &[LATE],
+        told: "optimal 120 by 0 0; only 0 0; cost 120 1:70; cost 120; asked 4",
+    },
+    // Of two rays the one that is named for the picks comes before the multipliers themselves.
+    Search {
+        about: "the named ray comes first",
+        texts: TOO_FEW,
+        grant: 0,
+        rounds: 1,
+        scripts: &[LONG_RAY],
+        told: "infeasible; ray 2:1; asked 1",
+    },
+];
+
+#[test]
+fn advice_on_one_day(rt: HostRuntime) -> Result<(), Fail> {
+    expect_all(&rt, rt.alloc(), ADVISED)
+}
+
+#[test]
+fn advice_on_other_days(rt: HostRuntime) -> Result<(), Fail> {
+    expect_all(&rt, rt.alloc(), ADVISED_ELSEWHERE)
+}
