@@ -11,6 +11,7 @@ use Rattle.rail_csv.specs.declared.rows.TypeRow.{TypeRow}
 use Rattle.rail_csv.specs.declared.rows.StationRow.{StationRow}
 use Rattle.rail_csv.specs.declared.rows.StockRow.{StockRow}
 use Rattle.rail_csv.specs.declared.rows.TripRow.{TripRow}
+use Rattle.rail_csv.specs.declared.rows.LinkRow.{LinkRow}
 use Rattle.rail_csv.specs.declared.rows.WeightsRow.{WeightsRow}
 use Rattle.rail_csv.specs.declared.rows.Table.TheVariants as tables
 use Rattle.timetable.specs.declared.day.records.Station.{Station}
@@ -147,25 +148,30 @@ trips_in stations types rows = accept_each (accept_trip stations types) [] rows
 abbrev pub weights_in : WeightsRow → Weights
 weights_in row = record { carriage = row.carriage; shortage = row.shortage; shunting = row.shunting }
 
--- The day that tables make: types, stations, stock, the number of units, the number of compositions, trips, and then
--- links.
+-- The day over these types, stations and stock: the number of compositions, trips, and then links.
+abbrev pub day_over : List UnitType → List Station → List Stock → List TripRow → List LinkRow → WeightsRow
+    → Result Day InstanceRefusal
+day_over types stations stock trip_rows link_rows weights = do
+  catalogue ← catalogue_in types stations
+  trips ← trips_in stations types trip_rows
+  links ← links_in trips link_rows
+  Ok (record {
+    types = types;
+    stations = stations;
+    stock = stock;
+    trips = trips;
+    links = links;
+    weights = weights_in weights;
+  })
+
+-- The day that tables make: types, stations, stock, the number of units, and then what is over them.
 unfoldable pub day_of : Tables → Result Day InstanceRefusal
 day_of tables = do
   types ← types_in tables.types
   stations ← stations_in tables.stations
   stock ← stock_in stations types tables.stock
-  if nat_lt MOST_UNITS (starts_of stock) then Err TooManyUnits else do
-    catalogue ← catalogue_in types stations
-    trips ← trips_in stations types tables.trips
-    links ← links_in trips tables.links
-    Ok (record {
-      types = types;
-      stations = stations;
-      stock = stock;
-      trips = trips;
-      links = links;
-      weights = weights_in tables.weights;
-    })
+  if nat_lt MOST_UNITS (starts_of stock) then Err TooManyUnits
+      else day_over types stations stock tables.trips tables.links tables.weights
 
 -- ---- what a call may answer besides
 

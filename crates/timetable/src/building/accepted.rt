@@ -1,22 +1,24 @@
 //! The six tables together: the first test that fails, or their rows as entries of a day.
 
-ghost use Rattle.std.specs.Prelude.{◌≡◌, IfOk};
+ghost use Rattle.std.specs.Prelude.{◌≡◌, ◌≤◌, length, IfOk};
 ghost use Rattle.rail_csv.specs.Rows.{AreTypeRows, AreStationRows, AreStockRows, AreTripRows, AreLinkRows};
 ghost use Rattle.rail_csv.specs.Rows.{IsWeightsRow};
 ghost use Rattle.compositions.specs.Catalogue.{catalogue_of};
 ghost use Rattle.timetable.specs.AcceptedRows.{GivesDay};
-ghost use Rattle.timetable.specs.Build.{day_of, weights_in};
+ghost use Rattle.timetable.specs.Build.{day_of, day_over, weights_in};
 ghost use Rattle.timetable.specs.Compositions.{greatest_in};
 
 use crate::building::entries::{
     are_too_many, catalogue_of, stations_of, stock_of, trips_of, types_of,
 };
 use crate::building::link_rows::links_of;
+use crate::building::named::Named;
 use crate::building::refusal::InstanceRefusal;
-use crate::building::tables::Tables;
+use crate::building::tables::{Rows, Tables};
 use crate::day::records::{Link, Station, Stock, Trip, Weights};
 use compositions::{Catalogue, UnitTypes};
-use rail_csv::WeightsRow;
+use rail_base::limits::MOST_STATIONS;
+use rail_csv::{LinkRow, TripRow, WeightsRow};
 use std::alloc::Global;
 
 /// The entries of a day that the rows of its tables make, and the catalogue of its compositions.
@@ -42,7 +44,8 @@ pub(crate) fn accept(alloc: Global, tables: Tables) -> Result<AcceptedRows, Inst
     requires links { AreLinkRows tables.links }
     requires weights { IsWeightsRow tables.weights }
     ensures exact { GivesDay result (day_of tables) }
-    ensures catalogue { IfOk result (λ rows. rows.catalogue ≡ catalogue_of rows.types (greatest_in rows.stations.items)) }
+    ensures catalogue { IfOk result (λ rows.
+        rows.catalogue ≡ catalogue_of rows.types (greatest_in rows.stations.items)) }
 {
     let types = types_of(alloc, tables.types)?;
     let stations = stations_of(alloc, tables.stations)?;
@@ -50,18 +53,48 @@ pub(crate) fn accept(alloc: Global, tables: Tables) -> Result<AcceptedRows, Inst
     if are_too_many(&stock) {
         return Err(InstanceRefusal::TooManyUnits);
     }
-    let types = UnitTypes::new(types.into_entries());
-    let catalogue = catalogue_of(alloc, &types, stations.entries())?;
-    let trips = trips_of(alloc, &stations, types.items(), tables.trips)?;
-    let links = links_of(alloc, &trips, tables.links.items())?;
-    Ok(AcceptedRows {
-        types,
-        stations: stations.into_entries(),
+    let yards = Yards {
+        types: UnitTypes::new(types.into_entries()),
+        stations,
         stock,
+    };
+    accept_runs(alloc, yards, tables.trips, tables.links, tables.weights)
+}
+
+/// What stands at the stations: the entries of a day before its trips.
+#[derive(Drop)]
+struct Yards {
+    types: UnitTypes,
+    stations: Named<Station>,
+    stock: Vec<Stock>,
+}
+
+/// The entries of a day over these yards, or the first test that fails: the catalogue, trips, and then links.
+fn accept_runs(
+    alloc: Global,
+    yards: Yards,
+    trips: Rows<TripRow>,
+    links: Rows<LinkRow>,
+    weights: WeightsRow,
+) -> Result<AcceptedRows, InstanceRefusal>
+    requires stations { length yards.stations ≤ MOST_STATIONS }
+    requires trips { AreTripRows trips }
+    requires links { AreLinkRows links }
+    ensures exact { GivesDay result (day_over yards.types yards.stations yards.stock.items trips links weights) }
+    ensures catalogue { IfOk result (λ rows.
+        rows.catalogue ≡ catalogue_of rows.types (greatest_in rows.stations.items)) }
+{
+    let catalogue = catalogue_of(alloc, &yards.types, yards.stations.entries())?;
+    let trips = trips_of(alloc, &yards.stations, yards.types.items(), trips)?;
+    let links = links_of(alloc, &trips, links.items())?;
+    Ok(AcceptedRows {
+        types: yards.types,
+        stations: yards.stations.into_entries(),
+        stock: yards.stock,
         catalogue,
         trips: trips.into_entries(),
         links,
-        weights: weights_of(tables.weights),
+        weights: weights_of(weights),
     })
 }
 
