@@ -1,5 +1,5 @@
 -- How far the reading comes, by the files that were accepted.
-use Rattle.std.proofs.Common.{◌≡◌, ◌≢◌, ℕ, List, Result, Ok, Err, refl, sym, subst}
+use Rattle.std.proofs.Common.{◌≡◌, ◌≢◌, ◌∷◌, ℕ, List, Ok, Err, refl, sym, subst}
 use Rattle.std.specs.List.{AllByRecursion}
 use Rattle.rail_io.specs.Folders.{Files}
 use Rattle.rail_csv.specs.declared.rows.PlanRow.{PlanRow}
@@ -10,11 +10,13 @@ use Rattle.day_files.specs.declared.errors.Refusal.{Refusal}
 use Rattle.day_files.specs.declared.errors.ReadError.{ReadError}
 use Rattle.day_files.specs.declared.errors.ReadError.TheVariants.{CannotRead, Refused, NoMemory}
 use Rattle.day_files.specs.declared.inputs.Inputs.{Inputs}
+use Rattle.day_files.specs.declared.inputs.YardTables.{YardTables}
 use Rattle.timetable.specs.declared.building.tables.Tables.{Tables}
 use Rattle.day_files.specs.Tables.{RowsOf, table_in}
 use Rattle.day_files.specs.Inputs.{tables_in, day_in, inputs_in}
 use Rattle.day_files.specs.Order.{IsRead, Reaches, before}
 use Rattle.day_files.specs.Answers.{Reads}
+use Rattle.day_files.specs.YardTables.{AreYardsIn}
 use Rattle.day_files.proofs.Accepted.{file_of, file_is, day_accepted_if}
 
 -- a file that was read is right by itself
@@ -42,6 +44,18 @@ plan_reached files dir day made =
       );
       day = λ _. (day, accepted);
     }
+
+-- the first three files were read, and so were those of a list behind them
+pub yards_read : (files : Files) (dir : List ℕ) (yards : YardTables) → AreYardsIn files dir yards → (tables : List Table)
+    → AllByRecursion (IsRead files dir) tables
+    → AllByRecursion (IsRead files dir) (table.Types ∷ table.Stations ∷ table.Stock ∷ tables)
+yards_read files dir yards held tables rest = (
+  is_read files dir table.Types yards.types held.types,
+  (
+    is_read files dir table.Stations yards.stations held.stations,
+    (is_read files dir table.Stock yards.stock held.stock, rest),
+  ),
+)
 
 -- what the reading of the six tables ends in, where a file that it reaches is refused
 pub tables_ended : (files : Files) (dir : List ℕ) (t : Table) (why : Refusal) → t ≢ table.Plan → AllByRecursion (IsRead files dir) (before t)

@@ -1,5 +1,5 @@
 -- The first file that is wrong is the one that is refused.
-use Rattle.std.proofs.Common.{◌≡◌, ◌≢◌, ◌⊎◌, ℕ, List, Result, Ok, Err, inl, inr, refl, subst}
+use Rattle.std.proofs.Common.{◌≡◌, ◌≢◌, ◌⊎◌, ℕ, List, Err, inl, inr, refl, subst}
 use Rattle.std.proofs.lemmas.Bool.{lt-ltb, le-ltb}
 use Rattle.rail_io.specs.Folders.{Files}
 use Rattle.rail_csv.specs.declared.rows.Table.{Table}

@@ -8,13 +8,14 @@ ghost use Rattle.timetable.specs.Build.{day_of};
 ghost use Rattle.timetable.specs.Plans.{plan_of};
 ghost use Rattle.timetable.specs.Running.{IsPlan};
 ghost use Rattle.day_files.specs.Tables.{AreTables, IsMadeDay};
+ghost use Rattle.day_files.specs.YardTables.{AreYardTables, AreYardsIn};
 ghost use Rattle.day_files.specs.Inputs.{as_day, as_plan, day_in, inputs_in, tables_in};
 ghost use Rattle.day_files.specs.Order.{Reaches};
 ghost use Rattle.day_files.specs.Answers.{Reads, IsCaused, IsMade, IsErrorOf};
 
 use crate::errors::{ReadError, Refusal};
 use crate::tables::table_in;
-use rail_csv::PlanRow;
+use rail_csv::{PlanRow, StationRow, StockRow, TypeRow};
 use rail_io::Folder;
 use std::alloc::Global;
 use timetable::{Instance, InstanceRefusal, NamedPlan, PlanRefusal, Rows, Tables};
@@ -38,13 +39,49 @@ fn tables_in<F: Folder>(alloc: Global, folder: &mut F, dir: &str) -> Result<Tabl
     ensures caused { IfErr result (IsCaused F.may_fail F.faults F.taken dir.now folder.old folder.new) }
     ensures only_reads { OnlyReads F.holds F.may_fail F.faults F.taken folder.old folder.new }
 {
-    Ok(Tables {
+    let yards = YardTables {
         types: table_in(alloc, folder, dir)?,
         stations: table_in(alloc, folder, dir)?,
         stock: table_in(alloc, folder, dir)?,
-        trips: table_in(alloc, folder, dir)?,
-        links: table_in(alloc, folder, dir)?,
-        weights: table_in(alloc, folder, dir)?,
+    };
+    tables_with(alloc, folder, dir, yards)
+}
+
+/// The rows of the tables of what stands at the stations, which are read first.
+#[derive(Drop)]
+struct YardTables {
+    types: Rows<TypeRow>,
+    stations: Rows<StationRow>,
+    stock: Rows<StockRow>,
+}
+
+/// The rows of the six tables, of which these were read.
+#[tactic(auto, unfolding(crate::specs::Inputs::tables_in))]
+fn tables_with<F: Folder>(
+    alloc: Global,
+    folder: &mut F,
+    dir: &str,
+    yards: YardTables,
+) -> Result<Tables, ReadError>
+    requires read { (files : Files) → F.holds folder.old ≡ Some files → AreYardsIn files dir.now yards }
+    requires within { AreYardTables yards }
+    ensures told { (files : Files) → F.holds folder.old ≡ Some files
+        → Reads (Reaches files dir.now) result (tables_in files dir.now) }
+    ensures within { IfOk result AreTables }
+    ensures says { IfErr result (IsErrorOf (λ table. table ≢ Plan)) }
+    ensures caused { IfErr result (IsCaused F.may_fail F.faults F.taken dir.now folder.old folder.new) }
+    ensures only_reads { OnlyReads F.holds F.may_fail F.faults F.taken folder.old folder.new }
+{
+    let trips = table_in(alloc, folder, dir)?;
+    let links = table_in(alloc, folder, dir)?;
+    let weights = table_in(alloc, folder, dir)?;
+    Ok(Tables {
+        types: yards.types,
+        stations: yards.stations,
+        stock: yards.stock,
+        trips,
+        links,
+        weights,
     })
 }
 
