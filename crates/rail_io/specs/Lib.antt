@@ -4,3 +4,4 @@ pub mod InMemory
 pub mod MemoryFiles
 pub mod Sure
 pub mod OnDisk
+pub mod Wholes

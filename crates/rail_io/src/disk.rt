@@ -88,16 +88,23 @@ impl<'a, R: Files> DiskFolder<'a, R> {
         }
     }
 
+    /// Takes out the file of a path, which is opened if it doesn't stand open.
+    fn take_open(&mut self, path: &str) -> io::Result<OpenFile<R::File>>
+        ensures { self.new ≡ self.old }
+    {
+        match self.open.take() {
+            Some(open) if open.is_of(path) => Ok(open),
+            _ => OpenFile::new(self.rt, path),
+        }
+    }
+
     /// Reads some bytes of a file from a place on, and answers how many: 0 only at its end, which closes it as an error
     /// does.
     fn read_on(&mut self, path: &str, from: u64, into: &mut [u8]) -> io::Result<usize>
         ensures room { IfOk result (λ n. n ≤ length into.new) }
         ensures counts { self.new ≡ self.old }
     {
-        let mut open = match self.open.take() {
-            Some(open) if open.is_of(path) => open,
-            _ => OpenFile::new(self.rt, path)?,
-        };
+        let mut open = self.take_open(path)?;
         let count = open.read_from(from, into)?;
         if count > 0 {
             self.open = Some(open);

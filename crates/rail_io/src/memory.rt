@@ -1,7 +1,7 @@
 //! A folder and a sink in memory, whose calls fail where they are told to. They are for tests.
 
 ghost use Rattle.std.specs.Prelude.{◌≡◌, ◌<◌, ◌≤◌, ◌++◌, [], length, take, IsTrue, MatchOption, None, Some, IfOk};
-ghost use Rattle.std.specs.Prelude.{OnErr, if◌then◌else◌};
+ghost use Rattle.std.specs.Prelude.{IfSome, OnErr, if◌then◌else◌, is_none};
 ghost use Rattle.std.specs.Result.{is_err};
 ghost use Rattle.std.specs.FinMap as map;
 ghost use Rattle.rail_base.specs.Names.{is_name};
@@ -112,6 +112,19 @@ impl MemoryFolder {
             taken: 0,
         })
     }
+
+    /// Copies as the next read is to do, and answers how many bytes that was, or `None` where that read is to fail.
+    fn copied(&self, path: &str, from: u64, into: &mut [u8]) -> Option<usize>
+        ensures fails { is_none result ≡ read_fails self.now path.now }
+        ensures told { IfSome result (λ n. IsReadFrom (file_at self.now.files path.now) from n into.new) }
+        ensures room { IfSome result (λ n. n ≤ length into.new) }
+    {
+        if self.failing.contains(&self.calls) {
+            return None;
+        }
+        let bytes = find_file(&self.files, path)?;
+        Some(copy_from(bytes, from, into))
+    }
 }
 
 impl Folder for MemoryFolder {
@@ -139,17 +152,12 @@ impl Folder for MemoryFolder {
         ensures calls { self.new.calls ≡ counted self.old.calls }
         ensures failing { self.new.failing ≡ self.old.failing }
     {
-        let call = self.calls;
-        self.calls = call.saturating_add(1);
-        if self.failing.contains(&call) {
-            self.faults = self.faults.saturating_add(1);
-            return Err(Failed);
-        }
-        let Some(bytes) = find_file(&self.files, path) else {
+        let copied = self.copied(path, from, into);
+        self.calls = self.calls.saturating_add(1);
+        let Some(count) = copied else {
             self.faults = self.faults.saturating_add(1);
             return Err(Failed);
         };
-        let count = copy_from(bytes, from, into);
         self.taken = self.taken.saturating_add(count as u64);
         Ok(count)
     }
@@ -221,6 +229,27 @@ impl MemorySink {
     {
         self.written.as_slice()
     }
+
+    /// Whether the next write of a piece fails.
+    fn fails(&self, piece: &[u8]) -> bool
+        ensures { result ≡ write_fails self.now piece.now }
+    {
+        if piece.is_empty() {
+            return false;
+        }
+        self.room <= self.written.len() || self.failing.contains(&self.calls)
+    }
+
+    /// Takes what there is room for of a piece, and answers how many bytes that was.
+    fn take(&mut self, piece: &[u8]) -> usize
+        ensures count { result ≡ write_takes self.old piece.now }
+        ensures sink { self.new ≡ record self.old { written = self.old.written ++ take result piece.now } }
+    {
+        let left = self.room - self.written.len();
+        let count = piece.len().min(self.most).min(left);
+        self.written.extend_from_slice(&piece[..count]).unwrap();
+        count
+    }
 }
 
 impl Sink for MemorySink {
@@ -244,18 +273,12 @@ impl Sink for MemorySink {
         ensures most_stays { self.new.most ≡ self.old.most }
         ensures failing { self.new.failing ≡ self.old.failing }
     {
-        let call = self.calls;
-        self.calls = call.saturating_add(1);
-        if piece.is_empty() {
-            return Ok(0);
-        }
-        let left = self.room - self.written.len();
-        if left == 0 || self.failing.contains(&call) {
+        let fails = self.fails(piece);
+        self.calls = self.calls.saturating_add(1);
+        if fails {
             self.faults = self.faults.saturating_add(1);
             return Err(Failed);
         }
-        let count = piece.len().min(self.most).min(left);
-        self.written.extend_from_slice(&piece[..count]).unwrap();
-        Ok(count)
+        Ok(self.take(piece))
     }
 }

@@ -41,6 +41,13 @@ impl SureFolder {
     {
         Ok(SureFolder { files, taken: 0 })
     }
+
+    /// The bytes of a path's file.
+    fn file(&self, path: &str) -> &[u8]
+        ensures { result.now ≡ file_at self.now.files path.now }
+    {
+        find_file(&self.files, path).unwrap_or(&[])
+    }
 }
 
 impl Folder for SureFolder {
@@ -61,8 +68,7 @@ impl Folder for SureFolder {
 
         ensures sure { IsTrue (is_ok result) }
     {
-        let bytes = find_file(&self.files, path).unwrap_or(&[]);
-        let count = copy_from(bytes, from, into);
+        let count = copy_from(self.file(path), from, into);
         self.taken = self.taken.saturating_add(count as u64);
         Ok(count)
     }
@@ -109,6 +115,27 @@ impl SureSink {
         }
         Some(self.kept.as_slice())
     }
+
+    /// Notes a loss where a piece has more bytes than there is room for.
+    fn note_loss(&mut self, piece: &[u8])
+        ensures { self.new ≡ record self.old {
+          has_lost = self.old.has_lost || nat_lt self.old.room (length self.old.kept + length piece.now);
+        } }
+    {
+        if piece.len() > self.room - self.kept.len() {
+            self.has_lost = true;
+        }
+    }
+
+    /// Keeps what there is room for of a piece.
+    fn keep(&mut self, piece: &[u8])
+        ensures kept { self.new.kept ≡ take self.old.room (self.old.kept ++ piece.now) }
+        ensures room_stays { self.new.room ≡ self.old.room }
+        ensures lost { self.new.has_lost ≡ self.old.has_lost }
+    {
+        let count = piece.len().min(self.room - self.kept.len());
+        self.kept.extend_from_slice(&piece[..count]).unwrap();
+    }
 }
 
 impl Sink for SureSink {
@@ -125,12 +152,8 @@ impl Sink for SureSink {
             ≡ (self.old.has_lost || nat_lt self.old.room (length self.old.kept + length piece.now)) }
         ensures room_stays { self.new.room ≡ self.old.room }
     {
-        let left = self.room - self.kept.len();
-        if piece.len() > left {
-            self.has_lost = true;
-        }
-        let count = piece.len().min(left);
-        self.kept.extend_from_slice(&piece[..count]).unwrap();
+        self.note_loss(piece);
+        self.keep(piece);
         Ok(piece.len())
     }
 }

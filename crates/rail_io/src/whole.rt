@@ -1,8 +1,9 @@
 //! Whole files in, and whole documents out.
 
-ghost use Rattle.std.specs.Prelude.{◌≡◌, ◌+◌, ◌<◌, ◌≤◌, Some, IsTrue, length, IfOk, IsErrOf, OnOk, OnErr};
+ghost use Rattle.std.specs.Prelude.{◌≡◌, ◌+◌, ◌<◌, ◌≤◌, [], Some, IsTrue, length, IfOk, IsErrOf, OnOk, OnErr};
 ghost use Rattle.rail_io.specs.Folders.{Files, OnlyReads, Rose, RosePast, file_at};
 ghost use Rattle.rail_io.specs.Sinks.{Appends, AppendsPart};
+ghost use Rattle.rail_io.specs.Wholes.{HasRead};
 ghost use Rattle.rail_io.specs.declared.whole.FileRefusal.TheVariants.{NoMemory, ReadFault};
 
 use crate::{Failed, Folder, Sink};
@@ -71,11 +72,26 @@ pub fn read_file<F: Folder>(
     ensures taken_at_most { IfOk result (λ bytes. F.taken folder.new ≤ F.taken folder.old + length bytes.items) }
 {
     let mut bytes = Vec::new(alloc);
+    read_into(folder, path, limit, &mut bytes)?;
+    Ok(bytes)
+}
+
+/// Reads the whole file of a path, where it has at most `limit` bytes, into a vector that has none.
+fn read_into<F: Folder>(
+    folder: &mut F,
+    path: &str,
+    limit: u64,
+    bytes: &mut Vec<u8>,
+) -> Result<(), FileRefusal>
+    requires small { limit ≤ MOST_FILE_BYTES }
+    requires empty { bytes.old.items ≡ [] }
+    ensures { HasRead F.holds F.may_fail F.faults F.taken folder.old folder.new path.now limit bytes.new.items result }
+{
     let mut piece = [0; PIECE_BYTES];
     loop {
         let count = folder.read_at(path, bytes.len() as u64, &mut piece)?;
         if count == 0 {
-            return Ok(bytes);
+            return Ok(());
         }
         if count as u64 > limit - bytes.len() as u64 {
             return Err(FileRefusal::TooLong);
