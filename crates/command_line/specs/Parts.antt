@@ -16,6 +16,11 @@ pub use Rattle.command_line.specs.Items.{is_positional}
 abbrev pub begins_with : List ℕ → List ℕ → Bool
 begins_with front word = bytes_eq (take (length front) word) front
 
+-- what a word is that is neither a plain word nor an option's name
+abbrev pub whole_kind_of : List ℕ → Kind
+whole_kind_of word = if begins_with (codes "--nodes=") word then Whole Nodes
+    else (if begins_with (codes "--rounds=") word then Whole Rounds else Other)
+
 -- what a word is, where no option waits for its value
 abbrev pub kind_of : List ℕ → Kind
 kind_of word = if is_positional word then Plain

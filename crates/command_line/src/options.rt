@@ -42,9 +42,8 @@ fn folder<'a>(alloc: Global) -> Result<Command<'a>, AllocError>
 fn day<'a>(alloc: Global) -> Result<Command<'a>, AllocError>
     ensures { IfOk result (λ command. app_of command ≡ day_app) }
 {
-    let seed = Arg::new(alloc, "seed");
-    let trips = Arg::new(alloc, "trips");
-    words_alone(alloc).arg(seed)?.arg(trips)
+    let seeded = words_alone(alloc).arg(Arg::new(alloc, "seed"))?;
+    seeded.arg(Arg::new(alloc, "trips"))
 }
 
 /// A command with nothing of its own: no name before the words, and no word that asks for help.
@@ -60,7 +59,6 @@ fn words_alone<'a>(alloc: Global) -> Command<'a>
 fn with_options<'a>(alloc: Global, command: Command<'a>) -> Result<Command<'a>, AllocError>
     ensures { IfOk result (λ r. app_of r ≡ with_rule (with_rule (app_of command.entry) nodes_rule) rounds_rule) }
 {
-    let nodes = Arg::new(alloc, "nodes").long("nodes");
-    let rounds = Arg::new(alloc, "rounds").long("rounds");
-    command.arg(nodes)?.arg(rounds)
+    let with_nodes = command.arg(Arg::new(alloc, "nodes").long("nodes"))?;
+    with_nodes.arg(Arg::new(alloc, "rounds").long("rounds"))
 }

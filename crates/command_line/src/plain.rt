@@ -2,7 +2,7 @@
 
 ghost use Rattle.std.specs.Prelude.{◌≡◌, map};
 ghost use Rattle.command_line.specs.Parts.{HasRoom, counted, fits, is_positional, kind_of, no_counts, parts_of, times};
-ghost use Rattle.command_line.specs.Parts.{fitting, places, with_option};
+ghost use Rattle.command_line.specs.Parts.{fitting, places, whole_kind_of, with_option};
 
 use crate::form::{Choice, Form, Kind};
 use std::marker::Model;
@@ -135,6 +135,13 @@ fn kind_of(word: &str) -> Kind
     if word == "--rounds" {
         return Kind::Name(Choice::Rounds);
     }
+    whole_kind_of(word)
+}
+
+/// What a word is that is neither plain nor an option's name.
+fn whole_kind_of(word: &str) -> Kind
+    ensures { result ≡ whole_kind_of word.now }
+{
     if word.as_bytes().starts_with(b"--nodes=") {
         return Kind::Whole(Choice::Nodes);
     }

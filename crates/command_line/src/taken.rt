@@ -1,11 +1,14 @@
 //! The words after a command word, taken apart by `clap`.
 
 ghost use Rattle.std.specs.Prelude.{◌≡◌, IfOk, drop, map, true};
+ghost use Rattle.clap.specs.Words.{found_of, matches_of, rows_of};
+ghost use Rattle.command_line.specs.Apps.{app};
 ghost use Rattle.command_line.specs.Parts.{fits, parts_of};
 ghost use Rattle.command_line.specs.Texts.{SaysItems, texts_in, texts_of};
 
 use crate::form::Form;
 use crate::options::{command, first_id};
+use clap::ArgMatches;
 use clap::error::ErrorKind;
 use rail_base::{NoMemory, Words};
 use std::alloc::Global;
@@ -33,14 +36,24 @@ pub fn take_apart<'a>(
     ensures value { IfOk result (λ taken. texts_in taken ≡ texts_of (parts_of (map (λ word. word.now) words.now))) }
     ensures meaning { IfOk result (λ taken. SaysItems (map (λ word. word.now) words.now) (texts_in taken)) }
 {
+    let matches = matches(alloc, form, words)?;
+    Ok(Taken {
+        first: matches.get_str(first_id(form)),
+        second: matches.get_str("trips"),
+        nodes: matches.get_str("nodes"),
+        rounds: matches.get_str("rounds"),
+    })
+}
+
+/// What `clap` finds in words of the plain form. The only refusal is want of memory.
+fn matches<'a>(alloc: Global, form: Form, words: &'a [&'a str]) -> Result<ArgMatches<'a>, NoMemory>
+    requires { fits form (parts_of (map (λ word. word.now) words.now)) ≡ true }
+    ensures { IfOk result (λ found.
+        rows_of (found_of found) ≡ matches_of (app form) (map (λ word. word.now) words.now)) }
+{
     let command = command(alloc, form)?;
     match command.try_get_matches_from(words) {
-        Ok(matches) => Ok(Taken {
-            first: matches.get_str(first_id(form)),
-            second: matches.get_str("trips"),
-            nodes: matches.get_str("nodes"),
-            rounds: matches.get_str("rounds"),
-        }),
+        Ok(found) => Ok(found),
         Err(error) => match error.kind() {
             ErrorKind::OutOfMemory => Err(NoMemory),
             _ => unreachable!(),
