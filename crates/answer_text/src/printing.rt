@@ -1,6 +1,7 @@
 //! The text of an answer.
 
 ghost use Rattle.std.specs.Prelude.{◌≡◌, ◌++◌, ◌∷◌, [], IfOk, OnOk, string_bytes};
+ghost use Rattle.branch_tree.specs.declared.tree.Node.TheVariants.{Branch};
 ghost use Rattle.answer_text.specs.Lines.{Adds};
 ghost use Rattle.answer_text.specs.Texts.{branchings_line, entries_end, head_line, node_line, node_lines, run_line};
 ghost use Rattle.answer_text.specs.Texts.{run_lines, text_of};
@@ -88,18 +89,7 @@ fn write_node(text: &mut String, node: &Node) -> Result<(), NoMemory>
     ensures { OnOk result (Adds (string_bytes text.old) (string_bytes text.new) (node_line node.now ∷ [])) }
 {
     match node {
-        Node::Branch(Cut::Only { trip, comp }) => {
-            write!(text, "only {} {}\n", trip.0, comp.0)?;
-        }
-        Node::Branch(
-            Cut::AtMost {
-                trip,
-                unit_type,
-                count,
-            },
-        ) => {
-            write!(text, "most {} {} {count}\n", trip.0, unit_type.0)?;
-        }
+        Node::Branch(cut) => write_cut(text, cut)?,
         Node::CostLeaf { bound, multipliers } => {
             write!(text, "cost {}", bound.0)?;
             write_entries(text, multipliers.entries())?;
@@ -109,6 +99,25 @@ fn write_node(text: &mut String, node: &Node) -> Result<(), NoMemory>
             write_entries(text, multipliers.entries())?;
         }
         Node::EmptyLeaf => text.push_str("empty\n")?,
+    }
+    Ok(())
+}
+
+/// Adds the node that branches by a cut.
+fn write_cut(text: &mut String, cut: &Cut) -> Result<(), NoMemory>
+    ensures { OnOk result (Adds (string_bytes text.old) (string_bytes text.new) (node_line (Branch cut.now) ∷ [])) }
+{
+    match cut {
+        Cut::Only { trip, comp } => {
+            write!(text, "only {} {}\n", trip.0, comp.0)?;
+        }
+        Cut::AtMost {
+            trip,
+            unit_type,
+            count,
+        } => {
+            write!(text, "most {} {} {count}\n", trip.0, unit_type.0)?;
+        }
     }
     Ok(())
 }
