@@ -334,5 +334,5 @@ module _ (day : Day) (plan : List (List ℕ)) (state : State) (t : ℕ) where
       (λ now. rule_tested day plan false IsTurnOrSplit turns_and_splits (outgoing day t))
 
 pub steps_are_tested : StepsAreTested
-steps_are_tested day plan state (Depart t) is_plan places = told (step_tests day plan state (Depart t)) (fault_of day plan state (Depart t)) (departure_tested day plan state t is_plan places)
-steps_are_tested day plan state (Arrive t) is_plan places = told (step_tests day plan state (Arrive t)) (fault_of day plan state (Arrive t)) (arrival_tested day plan state t)
+steps_are_tested day plan state (Depart t) is_plan trip places = told (step_tests day plan state (Depart t)) (fault_of day plan state (Depart t)) (departure_tested day plan state t is_plan places)
+steps_are_tested day plan state (Arrive t) is_plan trip places = told (step_tests day plan state (Arrive t)) (fault_of day plan state (Arrive t)) (arrival_tested day plan state t)

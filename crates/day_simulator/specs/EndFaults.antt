@@ -75,9 +75,9 @@ IsEndFault day state (Balance station unit_type count wanted) =
     AllWereMade day state × IsFirstDiffering day state station unit_type count wanted
 IsEndFault day state _ = ⊥
 
--- What is told at the end of a day is its first fault, or what the plan costs where all events were made and each yard
--- has as many units as are wanted. It speaks of states that have a place for each unit and a stage for each trip, as a
--- day that is stepped always has.
+-- What is told at the end of a day, in any state, is its first fault, or what the plan costs where all events were made
+-- and each yard has as many units as are wanted. A day that is stepped has a place for each unit and a stage for each
+-- trip; in other states a trip without a stage counts as arrived, and a unit without a place as one of the first yard.
 pub record EndsAreTold : Type 0 where
   pub fault : (day : Day) (plan : List (List ℕ)) (state : State) (fault : StepFault)
       → (finish_of day plan state ≡ Err fault) ↔ IsEndFault day state fault

@@ -17,7 +17,7 @@ use Rattle.day_simulator.specs.declared.events.Stage.TheVariants as stage
 use Rattle.day_simulator.specs.declared.events.StepFault.{StepFault}
 use Rattle.day_simulator.specs.declared.events.StepFault.TheVariants.{NotNow, NoUnits, NotAdmissible, LinkBroken}
 use Rattle.day_simulator.specs.declared.events.StepFault.TheVariants.{NotInYard}
-use Rattle.day_simulator.specs.State.{State, place_of, stage_of}
+use Rattle.day_simulator.specs.State.{State, place_of, stage_of, trip_of}
 use Rattle.day_simulator.specs.Steps.{fault_of}
 
 -- ---- that an event comes now
@@ -106,9 +106,9 @@ pub record IsToldBy {E : Type 0} (tests : List (Test E)) (fault : Option E) : Ty
   pub none : (fault ≡ None) ↔ NoneFailed tests
   pub first : (told : E) → (fault ≡ Some told) ↔ IsFirstFailed tests told
 
--- The fault of an event is that of the first test that fails, where the plan is one of the day and each unit has its
--- place.
+-- The fault of an event of one of the day's trips is that of the first test that fails, where the plan is one of the
+-- day and each unit has its place.
 abbrev pub StepsAreTested : Type 0
 StepsAreTested = (day : Day) (plan : List (List ℕ)) (state : State) (event : DayEvent)
-    → IsPlan day plan → length state.places ≡ unit_count day
+    → IsPlan day plan → trip_of event < length day.trips → length state.places ≡ unit_count day
     → IsToldBy (step_tests day plan state event) (fault_of day plan state event)

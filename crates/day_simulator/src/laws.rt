@@ -37,8 +37,8 @@ pub fn is_always_in_turn()
     ensures law { InTurn }
 {}
 
-/// Of a plan of the day, and a state that has a place for each unit: the fault of an event is that of the first test
-/// that fails, and there is none exactly where none fails. A departure is tested in this order: it comes now; the trip
+/// Of a plan of the day, a state that has a place for each unit, and an event of one of the day's trips: its fault is
+/// that of the first test that fails, and there is none exactly where none fails. A departure is tested in this order: it comes now; the trip
 /// has units; their types are admissible; the rule of the join into it holds, where a join leads into it; each unit
 /// that it takes, from the front on, stands in the yard of its station, is ready, and is none of those before it. An
 /// arrival comes now, and the rule of the turn or split on from it holds, where one leads on.
@@ -46,10 +46,9 @@ pub fn steps_are_tested()
     ensures law { StepsAreTested }
 {}
 
-/// Of a state that has a place for each unit and a stage for each trip: what is told at the end of the day is the
-/// first event that was not made, by minute, in a minute arrivals before departures, and then by trip number; or else
-/// the first station and type, in this order, of which the yard has another number of units than is wanted, with both
-/// numbers; or else what the plan costs.
+/// Of any state: what is told at the end of the day is the first event that was not made, by minute, in a minute
+/// arrivals before departures, and then by trip number; or else the first station and type, in this order, of which the
+/// yard has another number of units than is wanted, with both numbers; or else what the plan costs.
 pub fn ends_are_told()
     ensures law { EndsAreTold }
 {}
