@@ -50,13 +50,13 @@ pub enum StepFault {
     #[error("link {} is broken", .0.0)]
     LinkBroken(LinkNo),
     /// The unit is not in the yard and ready when the trip takes it.
-    #[error("unit {} is not ready for trip {}", .unit.0, .trip.0)]
+    #[error("unit {} is not ready for its trip", .unit.0)]
     NotInYard {
         unit: UnitNo,
         trip: TripNo,
     },
     /// A station has another number of units of a type at the end than is wanted.
-    #[error("station {} has {count} units of type {}, {wanted} wanted", .station.0, .unit_type.0)]
+    #[error("station {} has another number of units of a type than is wanted", .station.0)]
     Balance {
         station: StationNo,
         unit_type: TypeNo,
