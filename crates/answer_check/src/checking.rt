@@ -17,7 +17,7 @@ use branch_tree::{Claim, ClaimHead, Region, Relaxation};
 use cert_check::{Checker, Reason, Verdict};
 use day_simulator::StepFault;
 use price_bound::DayBounds;
-use rail_base::limits::MOST_COMPOSITIONS;
+use rail_base::limits::{MOST_COMPOSITIONS, MOST_LINKS, MOST_TRIPS};
 use rail_base::{NoMemory, TripNo};
 use std::alloc::Global;
 use timetable::{Instance, Picks};
@@ -60,7 +60,8 @@ pub fn check_answer(
     ensures can_come { IfOk result CanCome }
 {
     // What these calls ensure of trips and links, and a catalogue within its limit, leave some verdicts out.
-    let _known = (instance.trips(), instance.links());
+    prove!(instance.trips() as usize <= MOST_TRIPS);
+    prove!(instance.links() as usize <= MOST_LINKS);
     prove!(instance.catalogue().len() as usize <= MOST_COMPOSITIONS);
     match picks_for(alloc, instance, answer) {
         Ok(picks) => check_claim(alloc, instance, graphs, answer, &picks),
@@ -167,8 +168,9 @@ fn checked(
     ensures verdict { IfOk result (IsVerdict (meanings_of instance.now) (root_of instance.now) claim.now) }
     ensures relaxation { IfOk result (λ _. IsRelaxation (meanings_of instance.now)) }
 {
-    let mut bounds = DayBounds::new(alloc, instance, graphs)?;
     let mut root = Region::root(alloc, instance)?;
-    let mut checker = Checker::new(alloc, claim.tree.len(), bounds.trips())?;
+    let mut checker = Checker::new(alloc, claim.tree.len(), instance.trips())?;
+    let mut bounds = DayBounds::new(alloc, instance, graphs)?;
+    prove!(bounds.trips() == instance.trips());
     Ok(checker.check(&mut bounds, &mut root, claim))
 }

@@ -22,6 +22,7 @@ use answer_text::{Answer, Head, Runs};
 use branch_tree::{Region, Tree};
 use price_bound::DayBounds;
 use price_bound::laws::values_are_small;
+use rail_base::limits::{MOST_COMPOSITIONS, MOST_LINKS, MOST_TRIPS, MOST_UNITS};
 use rail_base::{Money, NoMemory, NodeNo, TripNo};
 use rail_csv::UnitList;
 use search::{Best, Found, solve};
@@ -85,8 +86,7 @@ fn find(
 {
     let root = Region::root(alloc, instance)?;
     let mut bounds = DayBounds::new(alloc, instance, graphs)?;
-    let found = solve(alloc, &mut bounds, &root, nodes, rounds, advisors)?;
-    Ok(found)
+    solve(alloc, &mut bounds, &root, nodes, rounds, advisors)
 }
 
 /// The answer that says what was found: where a plan was found, its units are named. The error is want of memory.
@@ -103,9 +103,11 @@ fn answer_of(
         IsSolved (meanings_of instance.now) (root_of instance.now) nodes found → IsHeadline instance.now nodes answer) }
 {
     // What is known of an accepted day, and of how large its values are.
-    let _known = (instance.trips(), instance.links(), instance.units());
-    let _indices = instance.indices();
-    let _compositions = instance.catalogue().len();
+    prove!(instance.trips() as usize <= MOST_TRIPS);
+    prove!(instance.links() as usize <= MOST_LINKS);
+    prove!(instance.units() <= MOST_UNITS);
+    prove!(instance.free_from() <= instance.indices());
+    prove!(instance.catalogue().len() as usize <= MOST_COMPOSITIONS);
     values_are_small();
     let answer = said(alloc, instance, graphs, found)?;
     Ok(answer)

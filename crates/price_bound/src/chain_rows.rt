@@ -16,6 +16,7 @@ use crate::part_prices::PartPrices;
 use crate::priced::Pricing;
 use crate::turn_prices::{TurnPrices, TurnTrips};
 use crate::worths::TripWorths;
+use rail_base::limits::MOST_TRIPS;
 use rail_base::{CompNo, LinkNo, NoMemory, TripNo};
 use std::alloc::Global;
 use std::marker::Model;
@@ -119,7 +120,7 @@ fn fill_rows(pricing: &Pricing<'_>, chain: &[TripNo], rows: &mut [CellRow])
     ensures rows { take (length chain.now) rows.new ≡ chain_rows (priced_by pricing.now) chain.now }
     ensures small { AreSmallCells (length chain.now * 50000000000000000) (get_or rows.new 0 []) }
 {
-    let _trips = pricing.instance.trips();
+    prove!(pricing.instance.trips() as usize <= MOST_TRIPS);
     let mut place = chain.len() - 1;
     fill_last(pricing, chain[place], &mut rows[place]);
     while place > 0 {

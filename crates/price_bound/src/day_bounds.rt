@@ -14,6 +14,7 @@ use branch_tree::{BoundAnswer, Multipliers, Region, Relaxation, Settled, Slacks,
 use compositions::Catalogue;
 use inventory::Ledger;
 use rail_base::NoMemory;
+use rail_base::limits::{MOST_LINKS, MOST_UNITS};
 use std::alloc::Global;
 use std::marker::Model;
 use timetable::{Instance, Picks};
@@ -72,8 +73,8 @@ impl<'a> DayBounds<'a> {
     {
         let ledger = Ledger::new(alloc, instance)?;
         let room = Workspace::new(alloc, instance, changes)?;
-        let _links = instance.links();
-        let _units = instance.units();
+        prove!(instance.links() as usize <= MOST_LINKS);
+        prove!(instance.units() <= MOST_UNITS);
         Ok(DayBounds {
             instance,
             graphs,

@@ -52,7 +52,7 @@ impl<'a> PartPrices<'a> {
             ≡ price_of (priced_by self.now.pricing.now) (Some self.now.link) edge.now }
         ensures small { IfSome result (λ price. IsSmall 30000000000000000 price.0) }
     {
-        let _comps = self.pricing.instance.catalogue().len();
+        prove!(self.pricing.instance.catalogue().len() as usize <= MOST_COMPOSITIONS);
         let Some(part) = edge.part else {
             return Some(Amount(0));
         };

@@ -18,6 +18,7 @@ ghost use Rattle.price_bound.specs.Slacks.{slack_at};
 use crate::parts::{part_at, second_at};
 use branch_tree::{Entry, Slacks};
 use inventory::Ledger;
+use rail_base::limits::{MOST_HANDOVERS, MOST_SLACKS, MOST_TRIPS};
 use rail_base::{StationNo, TypeNo};
 use std::marker::Model;
 use timetable::{Instance, Picks};
@@ -41,10 +42,9 @@ pub(crate) fn put_slacks(
 {
     into.clear();
     ledger.load(picks);
-    let _trips = instance.trips();
-    let _multipliers = instance.free_from();
-    let _indices = instance.indices();
-    let _handovers = instance.handovers();
+    prove!(instance.trips() as usize <= MOST_TRIPS);
+    prove!(instance.free_from() <= instance.indices());
+    prove!(instance.handovers() as usize <= MOST_HANDOVERS);
     let counted = CountedPicks {
         instance,
         graphs,
@@ -54,7 +54,7 @@ pub(crate) fn put_slacks(
     let ends = counted.put_minutes(into);
     let parts = counted.put_ends(ends, into);
     counted.put_parts(parts, into);
-    let _slacks = into.len();
+    prove!(into.len() as usize <= MOST_SLACKS);
 }
 
 /// Picks that follow, with the counts that they make in the yards. A contract sees the day and the picks.

@@ -25,7 +25,7 @@ use crate::price_tables::PriceTables;
 use crate::priced::Pricing;
 use crate::worths::added;
 use branch_tree::{BoundAnswer, Entry, Multipliers, Region, Weight};
-use rail_base::limits::{MOST_ENTRIES, MOST_MULTIPLIER};
+use rail_base::limits::{MOST_ENTRIES, MOST_LINKS, MOST_MULTIPLIER, MOST_TRIPS};
 use rail_base::{Money, NoMemory, TripNo};
 use std::alloc::Global;
 use timetable::{Instance, Picks, Place};
@@ -55,14 +55,14 @@ impl Workspace {
     ) -> Result<Workspace, NoMemory>
         ensures { IfOk result (λ room. IsRoomFor instance.now changes.now room) }
     {
-        let tables = PriceTables::new(alloc, instance)?;
+        let choice = Picks::new(alloc, instance.trips())?;
         let trips = instance.trips() as usize;
         let comps = instance.catalogue().len() as usize;
         let mut costs = AmountTable::new(alloc, trips, comps)?;
         fill_costs(instance, changes, &mut costs);
         let credits = AmountTable::new(alloc, trips, comps)?;
         let rows = ChainRows::new(alloc, instance)?;
-        let choice = Picks::new(alloc, instance.trips())?;
+        let tables = PriceTables::new(alloc, instance)?;
         Ok(Workspace {
             costs,
             tables,
@@ -97,9 +97,9 @@ impl Workspace {
         ensures bound { IsBound (changed_meanings (changed_day instance.now changes.now)) region.now
             multipliers.now weight result best.old best.new }
     {
-        let _entries = multipliers.entries();
-        let _chains = instance.chains();
-        let _links = instance.links();
+        prove!(multipliers.entries().len() <= MOST_ENTRIES);
+        prove!(instance.chains() as usize <= MOST_TRIPS);
+        prove!(instance.links() as usize <= MOST_LINKS);
         self.tables.fill(instance, multipliers);
         fill_sums(instance, &self.tables.gives, &mut self.credits);
         let pricing = Pricing {
@@ -134,7 +134,7 @@ fn first_paths(pricing: &Pricing<'_>, rows: &mut ChainRows, choice: &mut Picks) 
     ensures found { AreFound (priced_by pricing.now) result choice.new }
     ensures small { IfSome result (λ value. IsSmall 10000000000000000000000 value.0) }
 {
-    let _trips = pricing.instance.trips();
+    prove!(pricing.instance.trips() as usize <= MOST_TRIPS);
     let mut value = Money(0);
     for chain in 0..pricing.instance.chains() {
         let trips = pricing.instance.chain(chain);

@@ -83,7 +83,7 @@ impl<'a> TripWorths<'a> {
             ≡ worth_of (priced_by self.now.pricing.now) self.now.trip comp }
         ensures small { IfSome result (λ worth. IsSmall 20000000000000000 worth.0) }
     {
-        let _comps = self.pricing.instance.catalogue().len();
+        prove!(self.pricing.instance.catalogue().len() as usize <= MOST_COMPOSITIONS);
         if !self.set.has(comp) {
             return None;
         }

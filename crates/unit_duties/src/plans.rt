@@ -12,6 +12,7 @@ use crate::broken::first_broken;
 use crate::naming::named_plan;
 use crate::refusal::DutyRefusal;
 use inventory::Ledger;
+use rail_base::limits::{MOST_LINKS, MOST_TRIPS, MOST_UNITS};
 use std::alloc::Global;
 use timetable::{Instance, NamedPlan, Picks};
 use transitions::Graphs;
@@ -38,7 +39,9 @@ pub fn name_units(
     ensures refusal { IfErr result (IsRefusal instance.now picks.now) }
     ensures none { IfErr result (HaveNoPlan instance.now picks.now) }
 {
-    let _known = (instance.trips(), instance.links(), instance.units());
+    prove!(instance.trips() as usize <= MOST_TRIPS);
+    prove!(instance.links() as usize <= MOST_LINKS);
+    prove!(instance.units() <= MOST_UNITS);
     if let Some(link) = first_broken(instance, graphs, picks) {
         return Err(DutyRefusal::LinkBroken(link));
     }

@@ -16,4 +16,4 @@ returns-clause-verdict c =
 pub returns-clause-relaxation : goal.returns-clause-relaxation
 returns-clause-relaxation c =
     at_day c.args.instance.now c.in_ok-bounds.bounds c.in_ok-root.root (λ problem root. IsRelaxation problem)
-    (search rules) (search rules) c.trips.ensures.accepted
+    (search rules) (search rules) c.trips-2.ensures.accepted

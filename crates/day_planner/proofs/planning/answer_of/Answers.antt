@@ -18,8 +18,8 @@ returns-clause-headline c = λ nodes few solved.
     } in
     let counted : length c.catalogue.result.now ≡ length (compositions_of day) = ap length c.catalogue.ensures in
     let comps : length (compositions_of day) ≤ MOST_COMPOSITIONS =
-    omega (arith, counted, c.len-compositions.ensures.value, c.len-compositions.ensures.few) in
+    omega (arith, counted, c.len.ensures.value, c.len.ensures.few) in
     let indices : length (places_of day) ≤ MOST_INDEX =
-    omega (arith, c.indices-indices.ensures.value, c.indices-indices.ensures.few) in
+    omega (arith, c.indices.ensures.value, c.indices.ensures.few) in
     says_headline day accepted c.trips.ensures.served comps indices c.values_are_small.ensures.values c.args.found
     c.in_ok-answer.answer c.in_ok-answer.ensures nodes few solved

@@ -1,4 +1,4 @@
-use Rattle.std.proofs.Common.{◌+◌, ◌*◌, length, refl}
+use Rattle.std.proofs.Common.{◌+◌, ◌*◌, length, IfOk, refl}
 use Rattle.search.specs.Solving.{IsSolved}
 use Rattle.search.proofs.Asking.{are_unasked}
 use Rattle.answer_check.proofs.Checked.{at_day, root_over}
@@ -20,5 +20,5 @@ solve-requires-clause-over g c =
 pub returns-clause-solved : goal.returns-clause-solved
 returns-clause-solved g c =
     at_day c.args.instance.now c.in_ok-bounds.bounds c.in_ok-root.root
-    (λ problem region. IsSolved problem region c.args.nodes c.in_ok-found.found)
-    c.in_ok-bounds.ensures c.in_ok-root.ensures c.in_ok-found.ensures.solved
+    (λ problem region. IfOk c.solve.result (IsSolved problem region c.args.nodes))
+    c.in_ok-bounds.ensures c.in_ok-root.ensures c.solve.ensures.solved

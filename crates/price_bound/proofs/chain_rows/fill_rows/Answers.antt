@@ -36,7 +36,7 @@ pub fill_place-requires-clause-ahead : goal.fill_place-requires-clause-ahead
 fill_place-requires-clause-ahead c =
     let same : c.loop-place.place ≡ c.loop-place.place - 1 + 1 = omega (arith, c.loop-place-test.true) in
     let few : length (drop c.loop-place.place c.args.chain.now) ≤ 400 =
-    omega (arith, length-drop c.loop-place.place c.args.chain.now, c.requires.few, c.trips-trips.ensures.value, c.trips-trips.ensures.few) in
+    omega (arith, length-drop c.loop-place.place c.args.chain.now, c.requires.few, c.trips.ensures.value, c.trips.ensures.few) in
     subst (λ (k : ℕ). AreSmallCells 1000000000000000000000000000 (get_or c.loop-place.rows k [])) same
     (cells_more (length (drop c.loop-place.place c.args.chain.now) * 50000000000000000) 1000000000000000000000000000
     (get_or c.loop-place.rows c.loop-place.place []) (omega (arith, few)) c.loop-place.invariant.rows.small)

@@ -15,12 +15,12 @@ use Rattle.price_bound.proofs.slacks.put_slacks.Goals as goal
 pub invariant_of-counted : goal.invariant_of-counted
 invariant_of-counted c =
     let sound = c.requires.accepted.sound in
-    let indices = c.indices-indices.ensures.value in
-    let most = c.indices-indices.ensures.few in
-    let lambdas = c.free_from-multipliers.ensures.value in
-    let few_lambdas = c.free_from-multipliers.ensures.few in
-    let handovers = c.handovers-handovers.ensures.value in
-    let ends = c.handovers-handovers.ensures.ends in
+    let indices = c.indices.ensures.value in
+    let most = c.indices.ensures.few in
+    let lambdas = c.free_from.ensures.value in
+    let few_lambdas = c.free_from.ensures.few in
+    let handovers = c.handovers.ensures.value in
+    let ends = c.handovers.ensures.ends in
     let trips = sound.trip_count in
     let few_mus = mul-le (length c.args.instance.now.stations) (length c.args.instance.now.types) 60 6 sound.station_count sound.type_count in
     let mus = length-mus c.args.instance.now in
@@ -36,7 +36,7 @@ invariant_of-counted c =
 pub returns-clause-slacks : goal.returns-clause-slacks
 returns-clause-slacks c =
     let all : c.put_parts.new.into ≡ entered c.args.instance.now c.args.picks.now (length (places_of c.args.instance.now)) = c.put_parts.ensures in record {
-      listed = c.len-slacks.ensures.slacks;
+      listed = c.len.ensures.slacks;
       below = λ index less.
           ap (λ (entries : List Entry). value_at entries index) all
           ∙ value_below (slack_of c.args.instance.now c.args.picks.now) (length (places_of c.args.instance.now)) index less;

@@ -49,8 +49,8 @@ with_begin-value-requires-clause-begin c =
     let few : length chain ≤ 400 = omega (
       arith,
       chain_few c.args.pricing.now.instance.now c.loop-chain.chain chain c.chain-trips.ensures.value,
-      c.trips-trips.ensures.value,
-      c.trips-trips.ensures.few,
+      c.trips.ensures.value,
+      c.trips.ensures.few,
     ) in
     small_more (length chain * 50000000000000000) 1000000000000000000000000000000 c.in-Some.begin.value (omega (arith, few))
     (begin_small (length chain * 50000000000000000) c.fill.new.self c.in-Some.begin (sym c.begin.ensures ∙ c.in-Some.is)
@@ -64,7 +64,7 @@ loop-chain-preserved c =
     let begin : Cell = c.in-Some.begin in
     let few : length chain ≤ length c.args.pricing.now.instance.now.trips =
     chain_few c.args.pricing.now.instance.now i chain c.chain-trips.ensures.value in
-    let most : length c.args.pricing.now.instance.now.trips ≤ 400 = omega (arith, c.trips-trips.ensures.value, c.trips-trips.ensures.few) in
+    let most : length c.args.pricing.now.instance.now.trips ≤ 400 = omega (arith, c.trips.ensures.value, c.trips.ensures.few) in
     let some : 1 ≤ length chain = some_trip (priced_by c.args.pricing.now) c.requires.priced.graphs_are c.chains-chain-end.ensures.whole
     i chain c.chain-trips.ensures.value chain c.chain-trips.ensures.whole in
     let next : suc i ≡ i + 1 = omega arith in

@@ -13,12 +13,12 @@ use Rattle.price_bound.proofs.workspaces.Workspace.bound.Goals as goal
 pub fill_sums-requires-clause-small : goal.fill_sums-requires-clause-small
 fill_sums-requires-clause-small c t lt =
     gives_small c.args.instance.now c.args.multipliers.now c.fill.new.self c.fill.ensures t
-    (omega (arith, lt, c.fill.ensures.sized.gives.height)) c.entries-entries.ensures.multipliers
+    (omega (arith, lt, c.fill.ensures.sized.gives.height)) c.entries.ensures.multipliers
 
 pub first_paths-requires-clause-priced : goal.first_paths-requires-clause-priced
 first_paths-requires-clause-priced c = record {
   graphs_are = c.requires.graphs;
-  multipliers_are = c.entries-entries.ensures.multipliers;
+  multipliers_are = c.entries.ensures.multipliers;
   costs = c.requires.room.costs;
   prices = c.fill.ensures;
   credits = credits_are c.args.instance.now c.args.multipliers.now c.fill.new.self c.fill_sums.new.sums c.fill.ensures
@@ -40,8 +40,8 @@ returns-in-Some-clause-bound c =
     subst (AreFound priced (Some c.in-Some.value)) (sym c.copy_picks.ensures)
     (subst (λ (o : Option Money). AreFound priced o c.first_paths.new.choice) c.in-Some.is c.first_paths.ensures.found) in
     found_bound (changed_meanings (changed_day c.args.instance.now c.args.changes.now)) priced
-    (day_priced priced c.links-links.ensures.sound c.requires.changes) c.links-links.ensures.sound c.requires.graphs
-    c.chains-chains.ensures.whole c.requires.region c.copy_picks.new.to c.args.best.now c.in-Some.value c.added.result
+    (day_priced priced c.links.ensures.sound c.requires.changes) c.links.ensures.sound c.requires.graphs
+    c.chains.ensures.whole c.requires.region c.copy_picks.new.to c.args.best.now c.in-Some.value c.added.result
     (ap length c.copy_picks.ensures ∙ c.first_paths.ensures.choice) found
     (c.added.ensures ∙ ap (λ (z : ℤ). z +ℤ c.in-Some.value.0) c.constant.ensures.value)
 
@@ -56,6 +56,6 @@ returns-in-None-clause-bound c =
       region = c.args.region.now;
     } in
     none_bound (changed_meanings (changed_day c.args.instance.now c.args.changes.now)) priced
-    (day_priced priced c.links-links.ensures.sound c.requires.changes) c.links-links.ensures.sound c.requires.graphs
-    c.chains-chains.ensures.whole c.requires.region c.args.best.now
+    (day_priced priced c.links.ensures.sound c.requires.changes) c.links.ensures.sound c.requires.graphs
+    c.chains.ensures.whole c.requires.region c.args.best.now
     (subst (λ (o : Option Money). AreFound priced o c.first_paths.new.choice) c.in-None.is c.first_paths.ensures.found)
