@@ -74,7 +74,7 @@ IsAnswerVerdict day answer (UnknownUnit trip) =
 IsAnswerVerdict day answer (Stops fault) = HasPlan answer × DoRunsStop day answer.runs fault
 IsAnswerVerdict day answer (verdict.Claim reason) = IsRefuted day answer reason
 
--- A verdict that an answer can have: two that have a text never come.
+-- Two verdicts that have a text never come: this is none of them.
 pub record CanCome (found : AnswerVerdict) : Type 0 where
   -- a plan stops for a cause of its own, and never since an event is out of turn
   pub in_turn : (fault : StepFault) → found ≡ Stops fault → IsInTurn fault

@@ -22,8 +22,8 @@ pub fn what_is_accepted_as_day()
 /// For every folder: its files are accepted as a day and a plan exactly where each of the seven is a table of its rows,
 /// the six tables make the day and the rows of the plan make the plan. A refusal comes exactly where its file is the
 /// first that is wrong by itself, and wrong in this way; or, where all six are right, the tables make no day for this
-/// reason; or, where they make a day and the file of the plan is right, its rows make no plan of it for this reason. The
-/// file of the plan counts only where the tables make a day.
+/// reason; or, where they make a day and the file of the plan is right, its rows make no plan of it for this reason.
+/// The file of the plan counts only where the tables make a day.
 pub fn what_is_accepted()
     ensures accepted { (files : Files) (dir : List ℕ) (inputs : Inputs)
         → (inputs_in files dir ≡ Ok inputs) ↔ AreAccepted files dir inputs }

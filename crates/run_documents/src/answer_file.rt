@@ -43,8 +43,8 @@ fn path_of(alloc: Global, dir: &str) -> Result<String, NoMemory>
 /// - `CannotRead`: the count of failed reads rose, and a read of that file may fail.
 /// - `TooLong`: more bytes were handed out than an answer may have, or their count had reached 2^63; the file is
 ///   longer.
-/// - `Refused`: the bytes are no answer, for the first wrong line; or memory ran out. There are such bytes also where the
-///   folder doesn't tell what it holds.
+/// - `Refused`: the bytes are no answer, for the first wrong line; or memory ran out. There are such bytes also where
+///   the folder doesn't tell what it holds.
 pub fn answer_in<F: Folder>(alloc: Global, folder: &mut F, dir: &str) -> Result<Answer, AnswerError>
     ensures told { (files : Files) → F.holds folder.old ≡ Some files → ReadsAnswer files dir.now result }
     ensures within { IfOk result (IsWithin MOST_NODES) }
