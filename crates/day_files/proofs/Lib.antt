@@ -3,3 +3,4 @@ pub mod Accepted
 pub mod Reached
 pub mod FirstRefused
 pub mod RefusedFirst
+pub mod ErrorTables

@@ -10,13 +10,13 @@ use Rattle.day_files.specs.declared.errors.Refusal.{Refusal}
 use Rattle.day_files.specs.declared.errors.ReadError.{ReadError}
 use Rattle.day_files.specs.declared.errors.ReadError.TheVariants.{CannotRead, Refused, NoMemory}
 use Rattle.day_files.specs.declared.inputs.Inputs.{Inputs}
-use Rattle.day_files.specs.declared.inputs.YardTables.{YardTables}
+use Rattle.day_files.specs.declared.inputs.UnitTables.{UnitTables}
 use Rattle.timetable.specs.declared.building.tables.Tables.{Tables}
 use Rattle.day_files.specs.Tables.{RowsOf, table_in}
 use Rattle.day_files.specs.Inputs.{tables_in, day_in, inputs_in}
 use Rattle.day_files.specs.Order.{IsRead, Reaches, before}
 use Rattle.day_files.specs.Answers.{Reads}
-use Rattle.day_files.specs.YardTables.{AreYardsIn}
+use Rattle.day_files.specs.UnitTables.{AreUnitTablesIn}
 use Rattle.day_files.proofs.Accepted.{file_of, file_is, day_accepted_if}
 
 -- a file that was read is right by itself
@@ -46,14 +46,14 @@ plan_reached files dir day made =
     }
 
 -- the first three files were read, and so were those of a list behind them
-pub yards_read : (files : Files) (dir : List ℕ) (yards : YardTables) → AreYardsIn files dir yards → (tables : List Table)
+pub units_read : (files : Files) (dir : List ℕ) (units : UnitTables) → AreUnitTablesIn files dir units → (tables : List Table)
     → AllByRecursion (IsRead files dir) tables
     → AllByRecursion (IsRead files dir) (table.Types ∷ table.Stations ∷ table.Stock ∷ tables)
-yards_read files dir yards held tables rest = (
-  is_read files dir table.Types yards.types held.types,
+units_read files dir units held tables rest = (
+  is_read files dir table.Types units.types held.types,
   (
-    is_read files dir table.Stations yards.stations held.stations,
-    (is_read files dir table.Stock yards.stock held.stock, rest),
+    is_read files dir table.Stations units.stations held.stations,
+    (is_read files dir table.Stock units.stock held.stock, rest),
   ),
 )
 

@@ -15,9 +15,10 @@ use Rattle.day_files.specs.declared.errors.Refusal.TheVariants.{TooLong, WrongTa
 use Rattle.day_files.specs.declared.errors.ReadError.{ReadError}
 use Rattle.day_files.specs.declared.errors.ReadError.TheVariants.{CannotRead, Refused, NoMemory}
 use Rattle.rail_csv.specs.declared.refusal.TableRefusal.{TableRefusal}
+use Rattle.rail_csv.specs.Rows.{ArePlanRows}
 use Rattle.rail_csv.specs.Tables.{is_memory}
 use Rattle.day_files.specs.Names.{path_of}
-use Rattle.day_files.specs.Tables.{reading}
+use Rattle.day_files.specs.Tables.{reading, AreTables, IsMadeDay}
 
 -- A call reads what the files hold: its answer is theirs, and its refusal too. A file that could not be read is one
 -- that is reached. Want of memory says nothing of the files.
@@ -48,15 +49,16 @@ pub record AreRefused (table : Table) (bytes : List ℕ) (why : TableRefusal) : 
 
 -- What an error says whatever the folder tells, where a call reads these tables: a file that could not be read, or that
 -- is refused as it stands, is one of theirs; some bytes are no such table, some tables make no day, or some rows no
--- plan of a day, for the reason that is told; and no refusal is want of memory.
+-- plan of a day that tables make, for the reason that is told, where rows keep within the ranges of their columns; and
+-- no refusal is want of memory.
 abbrev pub IsErrorOf : (Table → Type 0) → ReadError → Type 0
 IsErrorOf AreRead (CannotRead table) = AreRead table
 IsErrorOf AreRead (Refused (TooLong table)) = AreRead table
 IsErrorOf AreRead (Refused (WrongTable table why)) =
     AreRead table × (is_memory why ≡ false) × (bytes : List ℕ) × AreRefused table bytes why
-IsErrorOf AreRead (Refused (NoDay why)) = (tables : Tables) × (day_of tables ≡ Err why)
+IsErrorOf AreRead (Refused (NoDay why)) = (tables : Tables) × AreTables tables × (day_of tables ≡ Err why)
 IsErrorOf AreRead (Refused (NoPlan why)) =
-    AreRead Plan × (day : Day) × (rows : List PlanRow) × (plan_of day rows ≡ Err why)
+    AreRead Plan × (day : Day) × IsMadeDay day × (rows : List PlanRow) × ArePlanRows rows × (plan_of day rows ≡ Err why)
 IsErrorOf AreRead NoMemory = ⊤
 
 -- what the refusal of a table comes to

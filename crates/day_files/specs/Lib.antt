@@ -4,7 +4,7 @@ pub mod Texts
 -- the day and the plan in a folder, or the first file that is refused
 pub mod Tables
 pub mod Inputs
-pub mod YardTables
+pub mod UnitTables
 pub mod Order
 pub mod Acceptance
 -- what a call that reads a folder answers

@@ -8,7 +8,7 @@ ghost use Rattle.timetable.specs.Build.{day_of};
 ghost use Rattle.timetable.specs.Plans.{plan_of};
 ghost use Rattle.timetable.specs.Running.{IsPlan};
 ghost use Rattle.day_files.specs.Tables.{AreTables, IsMadeDay};
-ghost use Rattle.day_files.specs.YardTables.{AreYardTables, AreYardsIn};
+ghost use Rattle.day_files.specs.UnitTables.{AreUnitTables, AreUnitTablesIn};
 ghost use Rattle.day_files.specs.Inputs.{as_day, as_plan, day_in, inputs_in, tables_in};
 ghost use Rattle.day_files.specs.Order.{Reaches};
 ghost use Rattle.day_files.specs.Answers.{Reads, IsCaused, IsMade, IsErrorOf};
@@ -39,17 +39,17 @@ fn tables_in<F: Folder>(alloc: Global, folder: &mut F, dir: &str) -> Result<Tabl
     ensures caused { IfErr result (IsCaused F.may_fail F.faults F.taken dir.now folder.old folder.new) }
     ensures only_reads { OnlyReads F.holds F.may_fail F.faults F.taken folder.old folder.new }
 {
-    let yards = YardTables {
+    let units = UnitTables {
         types: table_in(alloc, folder, dir)?,
         stations: table_in(alloc, folder, dir)?,
         stock: table_in(alloc, folder, dir)?,
     };
-    tables_with(alloc, folder, dir, yards)
+    tables_with(alloc, folder, dir, units)
 }
 
-/// The rows of the tables of what stands at the stations, which are read first.
+/// The rows of the tables of units, with their types and the stations where they stand, which are read first.
 #[derive(Drop)]
-struct YardTables {
+struct UnitTables {
     types: Rows<TypeRow>,
     stations: Rows<StationRow>,
     stock: Rows<StockRow>,
@@ -61,10 +61,10 @@ fn tables_with<F: Folder>(
     alloc: Global,
     folder: &mut F,
     dir: &str,
-    yards: YardTables,
+    units: UnitTables,
 ) -> Result<Tables, ReadError>
-    requires read { (files : Files) → F.holds folder.old ≡ Some files → AreYardsIn files dir.now yards }
-    requires within { AreYardTables yards }
+    requires read { (files : Files) → F.holds folder.old ≡ Some files → AreUnitTablesIn files dir.now units }
+    requires within { AreUnitTables units }
     ensures told { (files : Files) → F.holds folder.old ≡ Some files
         → Reads (Reaches files dir.now) result (tables_in files dir.now) }
     ensures within { IfOk result AreTables }
@@ -76,9 +76,9 @@ fn tables_with<F: Folder>(
     let links = table_in(alloc, folder, dir)?;
     let weights = table_in(alloc, folder, dir)?;
     Ok(Tables {
-        types: yards.types,
-        stations: yards.stations,
-        stock: yards.stock,
+        types: units.types,
+        stations: units.stations,
+        stock: units.stock,
         trips,
         links,
         weights,
@@ -103,7 +103,8 @@ fn day_of(alloc: Global, tables: Tables) -> Result<Instance, ReadError>
 
 /// The plan of a day that rows make.
 fn plan_of(alloc: Global, instance: &Instance, rows: &[PlanRow]) -> Result<NamedPlan, ReadError>
-    requires { ArePlanRows rows.now }
+    requires made { IsMadeDay instance.now }
+    requires rows { ArePlanRows rows.now }
     ensures told { Reads (λ _. ⊥) result (as_plan (plan_of instance.now rows.now)) }
     ensures ended { IfErr result IsMade }
     ensures says { IfErr result (IsErrorOf (λ table. table ≡ Plan)) }
@@ -121,10 +122,12 @@ fn plan_of(alloc: Global, instance: &Instance, rows: &[PlanRow]) -> Result<Named
 /// of the day come after the six files. The day is one that tables make whose rows keep within the ranges of their
 /// columns, also where the folder doesn't tell what it holds.
 ///
-/// - `CannotRead`: the count of failed reads rose, a read of that file may fail, and each file before it is accepted.
-///   It is never the file of the plan, which isn't read.
-/// - `Refused`: a file is refused, and it is the first; or the tables make no day. It is never want of memory.
+/// - `CannotRead`: the count of failed reads rose, and a read of that file may fail. It is never the file of the plan,
+///   which isn't read.
+/// - `Refused`: a file is refused, or the tables make no day. It is never want of memory.
 /// - `NoMemory`: want of memory.
+///
+/// Where the folder tells what it holds, each file before that one is accepted.
 #[tactic(auto, unfolding(crate::specs::Inputs::day_in))]
 pub fn day_in<F: Folder>(alloc: Global, folder: &mut F, dir: &str) -> Result<Instance, ReadError>
     ensures told { (files : Files) → F.holds folder.old ≡ Some files
@@ -142,11 +145,13 @@ pub fn day_in<F: Folder>(alloc: Global, folder: &mut F, dir: &str) -> Result<Ins
 /// first file that is refused or cannot be read ends the reading. The day is one that tables make whose rows keep
 /// within the ranges of their columns, also where the folder doesn't tell what it holds.
 ///
-/// - `CannotRead`: the count of failed reads rose, a read of that file may fail, and each file before it is accepted;
-///   where it is that of the plan, the tables make a day.
-/// - `Refused`: a file is refused, and it is the first; or the tables make no day, or the rows of the plan no plan of
-///   it. It is never want of memory.
+/// - `CannotRead`: the count of failed reads rose, and a read of that file may fail.
+/// - `Refused`: a file is refused, the tables make no day, or the rows of the plan no plan of it. It is never want of
+///   memory.
 /// - `NoMemory`: want of memory.
+///
+/// Where the folder tells what it holds, each file before that one is accepted; where it is that of the plan, the
+/// tables make a day.
 #[tactic(auto, using(crate::proofs::Reached::plan_ended), unfolding(crate::specs::Inputs::inputs_in))]
 pub fn inputs_in<F: Folder>(alloc: Global, folder: &mut F, dir: &str) -> Result<Inputs, ReadError>
     ensures told { (files : Files) → F.holds folder.old ≡ Some files

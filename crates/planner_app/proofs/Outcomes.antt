@@ -1,15 +1,16 @@
 -- Outcomes of errors, by what a call that reads the folder answers.
-use Rattle.std.proofs.Common.{◌≡◌, ℕ, ◌⊎◌, inl, inr, Bool, List, Option, Some, None, Ok, Err, refl, sym, subst}
+use Rattle.std.proofs.Common.{◌≡◌, ℕ, inl, inr, Bool, List, Option, Some, Ok, Err, refl, sym, subst}
 use Rattle.std.specs.Prelude.{◌≢◌, true, false, ⊤}
 use Rattle.rail_io.specs.Folders.{Files}
-use Rattle.rail_csv.specs.declared.rows.Table.{Table}
 use Rattle.rail_csv.specs.declared.rows.Table.TheVariants as table
+use Rattle.rail_base.specs.declared.limits.TheConstants.{MOST_NODES}
 use Rattle.rail_base.specs.declared.numbers.Money.{Money}
 use Rattle.timetable.specs.Cost.{plan_cost}
 use Rattle.timetable.specs.Build.{day_of}
 use Rattle.timetable.specs.Day.{Day}
+use Rattle.timetable.specs.Running.{IsPlan}
 use Rattle.trial_day.specs.Trial.{trial_tables_of}
-use Rattle.answer_text.specs.Limits.{has_plan}
+use Rattle.answer_text.specs.Limits.{IsWithin, has_plan}
 use Rattle.day_files.specs.declared.errors.ReadError.{ReadError}
 use Rattle.day_files.specs.declared.errors.ReadError.TheVariants.{CannotRead, Refused, NoMemory}
 use Rattle.day_files.specs.declared.inputs.Inputs.{Inputs}
@@ -17,8 +18,7 @@ use Rattle.day_files.specs.Inputs.{day_in, inputs_in}
 use Rattle.day_files.specs.Order.{Reaches}
 use Rattle.day_files.specs.Tables.{IsMadeDay}
 use Rattle.day_files.specs.Answers.{Reads, IsCaused, IsErrorOf}
-use Rattle.day_files.specs.declared.errors.Refusal.TheVariants.{TooLong, WrongTable}
-use Rattle.day_files.specs.declared.errors.Refusal.TheVariants as refusal
+use Rattle.day_files.proofs.ErrorTables.{of_more}
 use Rattle.day_simulator.specs.declared.events.StepFault.{StepFault}
 use Rattle.day_simulator.specs.Calls.{IsCost}
 use Rattle.day_simulator.specs.Finish.{simulation}
@@ -39,7 +39,7 @@ use Rattle.planner_app.specs.declared.reports.Report.{Report}
 use Rattle.planner_app.specs.declared.reports.Report.TheVariants as report
 use Rattle.planner_app.specs.Outcomes.{AreAnswered, AskAbout, AskInVain, AskToCheck, AskToPlan, AskToReport}
 use Rattle.planner_app.specs.Outcomes.{AskToSimulate}
-use Rattle.planner_app.specs.Outcomes.{AskToTry, HasCause, IsOutcome, IsReadBy, IsPlanned, IsRefusedFor, IsReportOf}
+use Rattle.planner_app.specs.Outcomes.{AskToTry, HasCause, IsOutcome, IsReadBy, IsPlanned, IsReportOf}
 use Rattle.planner_app.specs.Outcomes.{IsTried, IsVerdictOn}
 use Rattle.planner_app.specs.Outcomes.{OfDay, OfDayAndPlan, PlanRuns, Says, command_for, folder_of, reads_answer}
 use Rattle.planner_app.specs.Outcomes.{reads_plan}
@@ -74,15 +74,6 @@ report_reads report.Costs dir = refl
 abbrev about_reported : (words : List (List ℕ)) (dir : List ℕ) (kind : Report) → AskToReport words kind dir → AskAbout words dir
 about_reported words dir kind asked =
     record { named = command_for kind dir; asked = asked; folder = report_folder kind dir }
-
--- an error of some tables is one of more tables
-of_more : {A B : Table → Type 0} → ((read : Table) → A read → B read) → (error : ReadError) → IsErrorOf A error → IsErrorOf B error
-of_more more (CannotRead read) of = more read of
-of_more more (Refused (TooLong read)) of = more read of
-of_more more (Refused (WrongTable read why)) of = (more read of.0, of.1, of.2, of.3)
-of_more more (Refused (refusal.NoDay why)) of = of
-of_more more (Refused (refusal.NoPlan why)) of = (more table.Plan of.0, of.1, of.2, of.3)
-of_more more NoMemory of = tt
 
 module _ {F : Type 0} (holds : F → Option Files) (may_fail : F → List ℕ → Bool) (faults taken : F → ℕ) (words : List (List ℕ)) (before after : F) (dir : List ℕ) where
   abbrev Caused : ReadError → Type 0
@@ -213,10 +204,10 @@ module _ {F : Type 0} (holds : F → Option Files) (may_fail : F → List ℕ �
       answer_not_read (about_reported words dir kind asked) (report_reads kind dir) error day
 
   pub checked : (head : Head) (verdict : AnswerVerdict) (day : Day) (answer : Answer) → AskToCheck words dir
-      → IsMadeDay day
+      → IsMadeDay day → IsWithin MOST_NODES answer
       → ((files : Files) → holds before ≡ Some files → AreAnswered files dir day answer)
       → IsVerdictOn day answer head verdict → Comes (Checked head verdict)
-  checked head verdict day answer asked made told on = record {
+  checked head verdict day answer asked made within told on = record {
     told = λ files tells. record {
       dir = dir;
       asked = about_checked words dir asked;
@@ -227,7 +218,7 @@ module _ {F : Type 0} (holds : F → Option Files) (may_fail : F → List ℕ �
       accepted = told files tells;
       on = on;
     };
-    sound = (dir, about_checked words dir asked, refl, λ is. asked, day, made, answer, on);
+    sound = (dir, about_checked words dir asked, refl, λ is. asked, day, made, answer, within, on);
     usage = λ e. absurd cc;
     understood = λ vain. absurd (vain (command.Check dir) asked);
     caused = tt;
@@ -245,11 +236,11 @@ module _ {F : Type 0} (holds : F → Option Files) (may_fail : F → List ℕ �
   }
 
   pub plan_stops : (inputs : Inputs) (fault : StepFault) → AskToSimulate words dir → IsMadeDay inputs.instance
-      → ((files : Files) → holds before ≡ Some files → inputs_in files dir ≡ Ok inputs)
+      → IsPlan inputs.instance inputs.plan → ((files : Files) → holds before ≡ Some files → inputs_in files dir ≡ Ok inputs)
       → ¬ (PlanRuns inputs) → simulation inputs.instance inputs.plan ≡ Err fault → IsInTurn fault → Comes (Stops fault)
-  plan_stops inputs fault asked made told stops is in_turn = record {
+  plan_stops inputs fault asked made is_plan told stops is in_turn = record {
     told = λ files tells. (inputs, record { dir = dir; asked = asked; accepted = told files tells }, stops, is, in_turn);
-    sound = (dir, asked, inputs, made, stops, is, in_turn);
+    sound = (dir, asked, inputs, made, is_plan, stops, is, in_turn);
     usage = λ e. absurd cc;
     understood = λ vain. absurd (vain (command.Simulate dir) asked);
     caused = tt;
@@ -258,9 +249,9 @@ module _ {F : Type 0} (holds : F → Option Files) (may_fail : F → List ℕ �
   -- ---- a report
 
   rejected : (kind : Report) (head : Head) (verdict : AnswerVerdict) (day : Day) (answer : Answer) → AskToReport words kind dir
-      → IsMadeDay day → ((files : Files) → holds before ≡ Some files → AreAnswered files dir day answer)
+      → IsMadeDay day → IsWithin MOST_NODES answer → ((files : Files) → holds before ≡ Some files → AreAnswered files dir day answer)
       → IsVerdictOn day answer head verdict → verdict ≢ Valid → Comes (Checked head verdict)
-  rejected kind head verdict day answer asked made told on wrong = record {
+  rejected kind head verdict day answer asked made within told on wrong = record {
     told = λ files tells. record {
       dir = dir;
       asked = about_reported words dir kind asked;
@@ -271,16 +262,16 @@ module _ {F : Type 0} (holds : F → Option Files) (may_fail : F → List ℕ �
       accepted = told files tells;
       on = on;
     };
-    sound = (dir, about_reported words dir kind asked, report_reads kind dir, λ is. absurd (wrong is), day, made, answer, on);
+    sound = (dir, about_reported words dir kind asked, report_reads kind dir, λ is. absurd (wrong is), day, made, answer, within, on);
     usage = λ e. absurd cc;
     understood = λ vain. absurd (vain (command_for kind dir) asked);
     caused = tt;
   }
 
   reported : (kind : Report) (text : List ℕ) (day : Day) (answer : Answer) → AskToReport words kind dir
-      → IsMadeDay day → ((files : Files) → holds before ≡ Some files → AreAnswered files dir day answer)
+      → IsMadeDay day → IsWithin MOST_NODES answer → ((files : Files) → holds before ≡ Some files → AreAnswered files dir day answer)
       → IsReportOf kind day answer text → Comes (Reported text)
-  reported kind text day answer asked made told of = record {
+  reported kind text day answer asked made within told of = record {
     told = λ files tells. record {
       dir = dir;
       kind = kind;
@@ -290,16 +281,16 @@ module _ {F : Type 0} (holds : F → Option Files) (may_fail : F → List ℕ �
       accepted = told files tells;
       of = of;
     };
-    sound = (dir, kind, asked, day, made, answer, of);
+    sound = (dir, kind, asked, day, made, answer, within, of);
     usage = λ e. absurd cc;
     understood = λ vain. absurd (vain (command_for kind dir) asked);
     caused = tt;
   }
 
   without_plan : (kind : Report) (day : Day) (answer : Answer) → AskToReport words kind dir
-      → IsMadeDay day → ((files : Files) → holds before ≡ Some files → AreAnswered files dir day answer)
+      → IsMadeDay day → IsWithin MOST_NODES answer → ((files : Files) → holds before ≡ Some files → AreAnswered files dir day answer)
       → IsValid day answer → has_plan answer.head ≡ false → Comes NoPlan
-  without_plan kind day answer asked made told valid none = record {
+  without_plan kind day answer asked made within told valid none = record {
     told = λ files tells. record {
       dir = dir;
       kind = kind;
@@ -310,26 +301,26 @@ module _ {F : Type 0} (holds : F → Option Files) (may_fail : F → List ℕ �
       valid = valid;
       none = none;
     };
-    sound = (dir, kind, asked, day, made, answer, valid, none);
+    sound = (dir, kind, asked, day, made, answer, within, valid, none);
     usage = λ e. absurd cc;
     understood = λ vain. absurd (vain (command_for kind dir) asked);
     caused = tt;
   }
 
   pub report_comes : (kind : Report) (it : Outcome) (day : Day) (answer : Answer) → AskToReport words kind dir
-      → IsMadeDay day → ((files : Files) → holds before ≡ Some files → AreAnswered files dir day answer)
+      → IsMadeDay day → IsWithin MOST_NODES answer → ((files : Files) → holds before ≡ Some files → AreAnswered files dir day answer)
       → IsReportOutcome kind day answer it → Comes it
-  report_comes kind (Checked head verdict) day answer asked made told is =
-      rejected kind head verdict day answer asked made told is.0 is.1
-  report_comes kind (Reported text) day answer asked made told is = reported kind text day answer asked made told is
-  report_comes kind NoPlan day answer asked made told is = without_plan kind day answer asked made told is.0 is.1
-  report_comes kind (Planned planned) day answer asked made told is = absurd is
-  report_comes kind (Tried seed trips tried) day answer asked made told is = absurd is
-  report_comes kind (Runs money) day answer asked made told is = absurd is
-  report_comes kind (Stops fault) day answer asked made told is = absurd is
-  report_comes kind Usage day answer asked made told is = absurd is
-  report_comes kind (NoInputs error) day answer asked made told is = absurd is
-  report_comes kind (NoAnswer error) day answer asked made told is = absurd is
+  report_comes kind (Checked head verdict) day answer asked made within told is =
+      rejected kind head verdict day answer asked made within told is.0 is.1
+  report_comes kind (Reported text) day answer asked made within told is = reported kind text day answer asked made within told is
+  report_comes kind NoPlan day answer asked made within told is = without_plan kind day answer asked made within told is.0 is.1
+  report_comes kind (Planned planned) day answer asked made within told is = absurd is
+  report_comes kind (Tried seed trips tried) day answer asked made within told is = absurd is
+  report_comes kind (Runs money) day answer asked made within told is = absurd is
+  report_comes kind (Stops fault) day answer asked made within told is = absurd is
+  report_comes kind Usage day answer asked made within told is = absurd is
+  report_comes kind (NoInputs error) day answer asked made within told is = absurd is
+  report_comes kind (NoAnswer error) day answer asked made within told is = absurd is
 
   -- ---- a trial day
 

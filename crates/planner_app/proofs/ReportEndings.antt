@@ -1,5 +1,5 @@
 -- The status of a report and of a trial day, by what its outcome says of the files.
-use Rattle.std.proofs.Common.{◌≡◌, ◌≢◌, ℕ, ◌<◌, ◌≤◌, ◌⊎◌, inl, inr, List, length, Bool, true, false, Option, Some, None}
+use Rattle.std.proofs.Common.{◌≡◌, ◌≢◌, ℕ, ◌⊎◌, inl, inr, List, Bool, false, Option, Some, None}
 use Rattle.std.proofs.Common.{Ok, Err, refl, sym, subst, ap, ◌∙◌, arith}
 use Rattle.std.specs.Prelude.{IsTrue}
 use Rattle.rail_io.specs.Folders.{Files}
@@ -7,21 +7,18 @@ use Rattle.rail_io.specs.Sinks.{Appends}
 use Rattle.timetable.specs.Build.{day_of}
 use Rattle.timetable.specs.Day.{Day}
 use Rattle.trial_day.specs.Trial.{trial_tables_of}
-use Rattle.day_files.specs.declared.errors.Refusal.{Refusal}
 use Rattle.day_files.specs.declared.errors.ReadError.TheVariants.{CannotRead, Refused, NoMemory}
 use Rattle.day_files.specs.Inputs.{day_in}
 use Rattle.answer_text.specs.declared.answer.Answer.{Answer}
-use Rattle.answer_text.specs.declared.refusal.AnswerRefusal.TheVariants as answer_refusal
 use Rattle.answer_text.specs.Limits.{has_plan}
 use Rattle.answer_check.specs.declared.checking.AnswerVerdict.{AnswerVerdict}
 use Rattle.answer_check.specs.declared.checking.AnswerVerdict.TheVariants.{Valid}
 use Rattle.answer_check.specs.Validity.{IsValid}
 use Rattle.day_planner.specs.Headline.{IsHeadline}
 use Rattle.run_documents.specs.declared.answer_file.AnswerError.{AnswerError}
-use Rattle.run_documents.specs.declared.answer_file.AnswerError.TheVariants as answer_error
 use Rattle.run_documents.specs.declared.outcome.Outcome.{Outcome}
 use Rattle.run_documents.specs.declared.outcome.Outcome.TheVariants as outcome
-use Rattle.run_documents.specs.AnswerFiles.{IsWrongAnswer, answer_bytes}
+use Rattle.run_documents.specs.AnswerFiles.{IsWrongAnswer}
 use Rattle.run_documents.specs.Texts.{IsDocument}
 use Rattle.run_documents.specs.TrialTexts.{trial_text}
 use Rattle.commands.specs.declared.command.Command.{Command}
@@ -31,14 +28,14 @@ use Rattle.planner_app.specs.declared.reports.Report.{Report}
 use Rattle.planner_app.specs.Statuses.{status_said}
 use Rattle.planner_app.specs.Outcomes.{AreAnswered, AskToReport, AskToTry, IsTried, OfDay, OfDayAndPlan, Says}
 use Rattle.planner_app.specs.Outcomes.{command_for}
-use Rattle.planner_app.specs.Outcomes.{AskAbout, AskInVain, HasCause, IsOutcome, IsSound, folder_of, reads_plan}
+use Rattle.planner_app.specs.Outcomes.{AskAbout, AskInVain, HasCause, IsOutcome, IsSound, folder_of}
 use Rattle.planner_app.specs.ReportTexts.{report_text}
 use Rattle.planner_app.specs.Statuses.{EndsReport, EndsTrial, IsAnswerRefusedIn, IsUndisturbed, status_of}
 use Rattle.planner_app.specs.Statuses.{status_of_verdict}
 use Rattle.planner_app.proofs.Allowed.{IsAllowed, code, is_allowed, report_code}
 use Rattle.planner_app.proofs.Asking.{about_folder, one_command}
 use Rattle.planner_app.proofs.Endings.{answered_once, answered_right, at_answer, at_folder, day_or_not, folder_is}
-use Rattle.planner_app.proofs.Endings.{one_report, only_valid, refused_answer, report_plain, same_answer, status_by_verdict}
+use Rattle.planner_app.proofs.Endings.{one_report, only_valid, refused_answer, same_answer, status_by_verdict}
 
 module _ (words : List (List ℕ)) (files : Files) (dir : List ℕ) (kind : Report) (asked : AskToReport words kind dir)
     (before after : Option (List ℕ)) where

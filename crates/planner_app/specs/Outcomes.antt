@@ -1,5 +1,6 @@
 -- What a run comes to, by its words and the files in the folder that they name.
-use Rattle.std.specs.Prelude.{ℕ, ◌≡◌, ◌⊎◌, List, Bool, true, false, IsTrue, Option, Some, None, Result, Ok, Err, ⊤}
+use Rattle.std.specs.Prelude.{ℕ, ◌≡◌, ◌⊎◌, List, Bool, true, false, IsTrue, Option, Some, None, Ok, Err, ⊤}
+use Rattle.rail_base.specs.declared.limits.TheConstants.{MOST_NODES}
 use Rattle.rail_csv.specs.declared.rows.Table.{Table}
 use Rattle.rail_csv.specs.declared.rows.Table.TheVariants as table
 use Rattle.rail_io.specs.Folders.{Files}
@@ -8,7 +9,6 @@ use Rattle.timetable.specs.Day.{Day}
 use Rattle.timetable.specs.Running as running
 use Rattle.timetable.specs.Cost.{plan_cost}
 use Rattle.day_files.specs.declared.errors.Refusal.{Refusal}
-use Rattle.day_files.specs.declared.errors.ReadError.{ReadError}
 use Rattle.day_files.specs.declared.errors.ReadError.TheVariants.{CannotRead, Refused, NoMemory}
 use Rattle.day_files.specs.declared.inputs.Inputs.{Inputs}
 use Rattle.day_files.specs.Inputs.{day_in, inputs_in}
@@ -20,7 +20,7 @@ use Rattle.day_simulator.specs.Finish.{simulation}
 use Rattle.day_simulator.specs.Laws.{IsInTurn}
 use Rattle.answer_text.specs.declared.answer.Answer.{Answer}
 use Rattle.answer_text.specs.declared.answer.Head.{Head}
-use Rattle.answer_text.specs.Limits.{has_plan}
+use Rattle.answer_text.specs.Limits.{IsWithin, has_plan}
 use Rattle.trial_day.specs.Trial.{trial_tables_of}
 use Rattle.answer_check.specs.declared.checking.AnswerVerdict.{AnswerVerdict}
 use Rattle.answer_check.specs.declared.checking.AnswerVerdict.TheVariants.{Valid}
@@ -231,11 +231,12 @@ Says words files (NoInputs (CannotRead table)) = IsReached words files table
 Says words files (NoInputs NoMemory) = ⊤
 Says words files (NoAnswer error) = IsAnswerRefused words files error
 
--- What an outcome says whatever the files are: an answer, a run, a verdict and a report are of the command that is asked
--- for; an answer meets the headline for some day that tables make; a plan of some such day runs at this cost, or stops
--- with this fault; a verdict is that on an answer of some such day, and is told by a check alone where the answer is
--- valid; and a report, or that there is none, is of a valid answer. Words that are not understood, and files that are
--- not read or refused, say nothing here: what they are caused by is said below.
+-- What an outcome says whatever the files are: an answer, a run, a verdict and a report are of the command that is
+-- asked for; an answer meets the headline for some day that tables make; a plan of some such day runs at this cost, or
+-- stops with this fault; a verdict is that on an answer of some such day, which is within the limits of a document, and
+-- is told by a check alone where the answer is valid; and a report, or that there is none, is of such an answer that is
+-- valid. Words that are not understood, and files that are not read or refused, say nothing here: what they are caused
+-- by is said below.
 abbrev pub IsSound : List (List ℕ) → Outcome → Type 0
 IsSound words (Planned answer) = (day : Day) × IsMadeDay day × IsPlanned words day answer
 IsSound words (Tried seed trips answer) = IsTried words seed trips answer
@@ -243,15 +244,16 @@ IsSound words (Runs money) = (dir : List ℕ) × AskToSimulate words dir
     × (inputs : Inputs) × IsMadeDay inputs.instance × PlanRuns inputs
     × IsCost (plan_cost inputs.instance inputs.plan) money
 IsSound words (Stops fault) = (dir : List ℕ) × AskToSimulate words dir
-    × (inputs : Inputs) × IsMadeDay inputs.instance × ¬ (PlanRuns inputs)
-    × (simulation inputs.instance inputs.plan ≡ Err fault) × IsInTurn fault
+    × (inputs : Inputs) × IsMadeDay inputs.instance × running.IsPlan inputs.instance inputs.plan
+    × ¬ (PlanRuns inputs) × (simulation inputs.instance inputs.plan ≡ Err fault) × IsInTurn fault
 IsSound words (Checked head verdict) = (dir : List ℕ) × (about : AskAbout words dir) × (reads_answer about.named ≡ true)
     × (verdict ≡ Valid → AskToCheck words dir) × (day : Day) × IsMadeDay day
-    × (answer : Answer) × IsVerdictOn day answer head verdict
+    × (answer : Answer) × IsWithin MOST_NODES answer × IsVerdictOn day answer head verdict
 IsSound words (Reported text) = (dir : List ℕ) × (kind : Report) × AskToReport words kind dir
-    × (day : Day) × IsMadeDay day × (answer : Answer) × IsReportOf kind day answer text
+    × (day : Day) × IsMadeDay day × (answer : Answer) × IsWithin MOST_NODES answer × IsReportOf kind day answer text
 IsSound words NoPlan = (dir : List ℕ) × (kind : Report) × AskToReport words kind dir
-    × (day : Day) × IsMadeDay day × (answer : Answer) × IsValid day answer × (has_plan answer.head ≡ false)
+    × (day : Day) × IsMadeDay day × (answer : Answer) × IsWithin MOST_NODES answer × IsValid day answer
+    × (has_plan answer.head ≡ false)
 IsSound words Usage = ⊤
 IsSound words (NoInputs error) = ⊤
 IsSound words (NoAnswer error) = ⊤

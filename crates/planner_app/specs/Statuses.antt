@@ -1,6 +1,5 @@
 -- The status that a run ends with, and what it wrote.
-use Rattle.std.specs.Prelude.{ℕ, ◌≡◌, ◌≢◌, ◌⊎◌, ◌≤◌, ◌<◌, ◌↔◌, List, length, Option, Ok, Err, Bool, true, false, IsTrue}
-use Rattle.std.specs.Prelude.{if◌then◌else◌}
+use Rattle.std.specs.Prelude.{ℕ, ◌≡◌, ◌≢◌, ◌⊎◌, ◌≤◌, ◌<◌, ◌↔◌, List, length, Option, Ok, Err, false, IsTrue}
 use Rattle.rail_base.specs.declared.limits.TheConstants.{MOST_FILE_BYTES}
 use Rattle.rail_io.specs.Folders.{Files, Rose}
 use Rattle.rail_io.specs.Sinks.{Appends, AppendsPart}

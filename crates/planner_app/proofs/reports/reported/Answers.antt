@@ -15,4 +15,4 @@ returns-in-Err-answer_in-clause-outcome g c words asked =
 pub returns-in-Ok-report_on-clause-outcome : goal.returns-in-Ok-report_on-clause-outcome
 returns-in-Ok-report_on-clause-outcome g c words asked =
     report_comes _ _ _ _ words _ _ c.args.dir.now c.args.kind c.in-Ok-report_on.outcome c.in-Ok.instance c.in-Ok-answer_in.answer
-    asked c.in-Ok.ensures.made (search rules) c.in-Ok-report_on.ensures
+    asked c.in-Ok.ensures.made c.in-Ok-answer_in.ensures.within (search rules) c.in-Ok-report_on.ensures

@@ -14,4 +14,4 @@ returns-in-Err-answer_in-clause-outcome g c words asked =
 pub returns-in-Ok-verdict_on-clause-outcome : goal.returns-in-Ok-verdict_on-clause-outcome
 returns-in-Ok-verdict_on-clause-outcome g c words asked =
     checked _ _ _ _ words _ _ c.args.dir.now c.in-Ok-answer_in.answer.head c.in-Ok-verdict_on.verdict c.in-Ok.instance
-    c.in-Ok-answer_in.answer asked c.in-Ok.ensures.made (search rules) (search rules)
+    c.in-Ok-answer_in.answer asked c.in-Ok.ensures.made c.in-Ok-answer_in.ensures.within (search rules) (search rules)

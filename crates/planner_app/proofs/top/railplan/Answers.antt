@@ -1,5 +1,5 @@
 use Rattle.planner_app.proofs.Statuses.{ends_check, ends_in_usage, ends_planning, ends_report, ends_simulation}
-use Rattle.planner_app.proofs.Statuses.{ends_trial, unread_rose}
+use Rattle.planner_app.proofs.Statuses.{ends_trial}
 use Rattle.planner_app.proofs.top.railplan.Goals as goal
 
 pub returns-clause-plan : goal.returns-clause-plan

@@ -1,4 +1,4 @@
-use Rattle.std.proofs.Common.{sym, subst, refl, ◌∙◌}
+use Rattle.std.proofs.Common.{sym, subst, refl}
 use Rattle.run_documents.specs.Texts.{IsDocument}
 use Rattle.planner_app.specs.Statuses.{Whole, Part}
 use Rattle.planner_app.proofs.top.write_outcome.Goals as goal
