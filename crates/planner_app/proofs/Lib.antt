@@ -5,3 +5,4 @@ pub mod ReportEndings
 pub mod Outcomes
 pub mod Statuses
 pub mod Rereading
+pub mod OneOutcome

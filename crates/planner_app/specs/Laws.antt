@@ -1,15 +1,23 @@
--- What holds of every answer that is found to a day.
-use Rattle.std.specs.Prelude.{ℕ, ◌≡◌, List, IsTrue, Ok, Option}
+-- What holds of every answer that is found to a day, and of every outcome that the files tell.
+use Rattle.std.specs.Prelude.{ℕ, ◌≡◌, List, false, IsTrue, Ok, Option, ⊤}
 use Rattle.rail_io.specs.Folders.{Files}
 use Rattle.timetable.specs.Day.{Day}
+use Rattle.day_files.specs.declared.errors.ReadError.TheVariants.{CannotRead, NoMemory}
 use Rattle.day_files.specs.Inputs.{day_in}
 use Rattle.answer_text.specs.declared.answer.Answer.{Answer}
+use Rattle.answer_text.specs.Grammar.{is_memory}
 use Rattle.answer_text.specs.Texts.{text_of}
 use Rattle.answer_text.specs.Limits.{has_plan}
 use Rattle.day_planner.specs.Headline.{IsHeadline}
+use Rattle.run_documents.specs.declared.answer_file.AnswerError.TheVariants as answer_error
+use Rattle.run_documents.specs.declared.outcome.Outcome.{Outcome}
+use Rattle.run_documents.specs.declared.outcome.Outcome.TheVariants.{Planned, Tried, NoInputs, NoAnswer}
 use Rattle.run_documents.specs.AnswerFiles.{answer_bytes}
 use Rattle.planner_app.specs.declared.reports.Report.{Report}
-use Rattle.planner_app.specs.Statuses.{EndsCheck, EndsReport}
+use Rattle.planner_app.specs.Outcomes.{Says}
+use Rattle.planner_app.specs.Statuses.{EndsCheck, EndsReport, IsUndisturbed, status_of}
+
+-- ---- answers that are found
 
 -- Where the answer's file of a folder is the text of an answer that meets the headline of the folder's day, whatever
 -- was granted for it, a check of that folder ends with status 0.
@@ -24,3 +32,36 @@ HeadlinesAreReported = (files : Files) (dir : List ℕ) (day : Day) (granted : �
     (status : ℕ) (before after : Option (List ℕ)) →
     day_in files dir ≡ Ok day → answer_bytes files dir ≡ text_of answer → IsHeadline day granted answer →
     IsTrue (has_plan answer.head) → EndsReport files dir kind status before after → status ≡ 0
+
+-- ---- outcomes that the files tell
+
+-- the outcomes of a search: an answer to the day of a folder, or to a trial day
+abbrev pub IsOfSearch : Outcome → Type 0
+IsOfSearch (Planned answer) = ⊤
+IsOfSearch (Tried seed trips answer) = ⊤
+IsOfSearch other = ⊥
+
+-- The outcomes that the words and the files alone decide: not those of a search, which may find another answer as good,
+-- and not that a file could not be read or that memory ran out.
+abbrev pub IsToldByFiles : Outcome → Type 0
+IsToldByFiles (Planned answer) = ⊥
+IsToldByFiles (Tried seed trips answer) = ⊥
+IsToldByFiles (NoInputs (CannotRead table)) = ⊥
+IsToldByFiles (NoInputs NoMemory) = ⊥
+IsToldByFiles (NoAnswer answer_error.CannotRead) = ⊥
+IsToldByFiles (NoAnswer (answer_error.Refused refusal)) = is_memory refusal ≡ false
+IsToldByFiles other = ⊤
+
+-- Words and files tell one such outcome at most.
+abbrev pub OutcomesAreOne : Type 0
+OutcomesAreOne = (words : List (List ℕ)) (files : Files) (one other : Outcome) →
+    IsToldByFiles one → IsToldByFiles other → Says words files one → Says words files other → one ≡ other
+
+-- And where they tell one, no search comes to an answer: whether a day is refused is told by its files alone.
+abbrev pub SearchesAreApart : Type 0
+SearchesAreApart = (words : List (List ℕ)) (files : Files) (one other : Outcome) →
+    IsToldByFiles one → IsOfSearch other → Says words files one → ¬ (Says words files other)
+
+-- Each other outcome whose status is none of 5, 6 and 7 is told so.
+abbrev pub OthersAreTold : Type 0
+OthersAreTold = (it : Outcome) → IsUndisturbed (status_of it) → ¬ (IsOfSearch it) → IsToldByFiles it

@@ -1,9 +1,10 @@
-//! What holds of every answer that is found to a day.
+//! What holds of every answer that is found to a day, and of every outcome that the files tell.
 //!
 //! A law is the contract of a function that does nothing.
 
 ghost use Rattle.commands.specs.Limits.{AreWordLimits};
 ghost use Rattle.planner_app.specs.Laws.{HeadlinesAreReported, HeadlinesAreValid};
+ghost use Rattle.planner_app.specs.Laws.{OthersAreTold, OutcomesAreOne, SearchesAreApart};
 ghost use Rattle.planner_app.specs.Limits.{AreColumnLimits, AreDayLimits, AreRowLimits, AreRunLimits};
 
 pub use answer_check::laws::valid_answers_are_found;
@@ -14,6 +15,17 @@ pub use answer_check::laws::valid_answers_are_found;
 pub fn headlines_are_valid()
     ensures check { HeadlinesAreValid }
     ensures report { HeadlinesAreReported }
+{}
+
+/// Words and files tell one outcome at most, and so one document and one status: what a run of the plan comes to, what
+/// is found of the answer, what a report says, what is refused, and that the words are not understood. They don't tell
+/// the answer that a search finds, since another may be as good, nor that a file could not be read or memory ran out.
+/// Where they tell an outcome, a search comes to no answer: so that `plan` ends with 3 is told by the files alone too.
+/// Every outcome but these is told so, where the status is none of 5, 6 and 7.
+pub fn outcomes_are_one()
+    ensures one { OutcomesAreOne }
+    ensures search { SearchesAreApart }
+    ensures others { OthersAreTold }
 {}
 
 /// The limits of tables, columns, days, words, files and answers, and what an option is that is not given, as numbers.
