@@ -27,4 +27,6 @@ pub mod InTurn
 pub mod Simulating
 pub mod FirstTests
 pub mod StepTests
+pub mod StepEffects
 pub mod EndFaults
+pub mod Moments

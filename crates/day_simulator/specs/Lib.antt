@@ -7,7 +7,9 @@ pub mod Calls
 pub mod Orders
 pub mod Laws
 pub mod StepTests
+pub mod StepEffects
 pub mod EndFaults
+pub mod Moments
 pub use Rattle.timetable.specs.Day
 pub use Rattle.timetable.specs.Links
 pub use Rattle.timetable.specs.Running

@@ -1,6 +1,6 @@
 -- The orders in which a day's events may come, and how a day ends.
 use Rattle.std.specs.Prelude.{ℕ, ◌+◌, ◌<◌, ◌≤◌, ◌≡◌, List, [], ◌∷◌, ◌==◌, if◌then◌else◌, length, Ok}
-use Rattle.timetable.specs.Day.{Day, to_of, unit_count, ready_at}
+use Rattle.timetable.specs.Day.{Day, unit_count, ready_at}
 use Rattle.timetable.specs.Duties.{duty, last_place}
 use Rattle.timetable.specs.Running.{Runs}
 use Rattle.timetable.specs.Cost.{plan_cost}

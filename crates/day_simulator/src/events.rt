@@ -19,7 +19,7 @@ pub enum Place {
     Yard { station: StationNo, ready: u32 },
     /// In a trip that is under way.
     Aboard(TripNo),
-    /// In the train of a trip that has arrived, for the trip that it goes on as.
+    /// In the train of this trip, which has arrived and goes on as another.
     Standing(TripNo),
 }
 

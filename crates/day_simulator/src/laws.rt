@@ -9,7 +9,15 @@
 
 ghost use Rattle.day_simulator.specs.EndFaults.{EndsAreTold};
 ghost use Rattle.day_simulator.specs.Laws.{IsInFixedOrder, InEveryOrder, RunInFixedOrder, InTurn};
+ghost use Rattle.day_simulator.specs.Moments.{MomentsAreOfMinutes};
+ghost use Rattle.day_simulator.specs.StepEffects.{StepsChangeStates};
 ghost use Rattle.day_simulator.specs.StepTests.{StepsAreTested};
+
+/// Of two events of a day: the one comes at an earlier moment exactly where it comes in an earlier minute, or in the
+/// same minute as an arrival before a departure. By these moments the orders of a day go.
+pub fn moments_are_of_minutes()
+    ensures law { MomentsAreOfMinutes }
+{}
 
 /// Of every day, the fixed order, in which the whole day is stepped, is an order of the day: each trip departs once
 /// and arrives once, minutes never fall, and in each minute arrivals come before departures. Arrivals of one minute
@@ -38,12 +46,21 @@ pub fn is_always_in_turn()
 {}
 
 /// Of a plan of the day, a state that has a place for each unit, and an event of one of the day's trips: its fault is
-/// that of the first test that fails, and there is none exactly where none fails. A departure is tested in this order: it comes now; the trip
-/// has units; their types are admissible; the rule of the join into it holds, where a join leads into it; each unit
-/// that it takes, from the front on, stands in the yard of its station, is ready, and is none of those before it. An
-/// arrival comes now, and the rule of the turn or split on from it holds, where one leads on.
+/// that of the first test that fails, and there is none exactly where none fails. A departure is tested in this order:
+/// it comes now; the trip has units; their types are admissible; the rule of the join into it holds, where a join leads
+/// into it; each unit that it takes, from the front on, stands in the yard of its station, is ready, and is none of
+/// those before it. An arrival comes now, and the rule of the turn or split on from it holds, where one leads on.
 pub fn steps_are_tested()
     ensures law { StepsAreTested }
+{}
+
+/// Of a plan of the day, a state that has a place for each unit and a stage for each trip, and an event of one of the
+/// day's trips, the state after it: when the trip leaves, the units of its list are aboard; when it arrives, those that
+/// it gives stand in the yard of the station that it comes to, ready once the reallocation time is over, and the others
+/// of its list stand in its train. All other units and trips are as they were, and the last minute is that of the
+/// event.
+pub fn steps_change_states()
+    ensures law { StepsChangeStates }
 {}
 
 /// Of any state: what is told at the end of the day is the first event that was not made, by minute, in a minute

@@ -1,4 +1,4 @@
-use Rattle.std.proofs.Common.{◌≡◌, ℕ, List, Some, None, Err, IsTrue, sym, ap, ◌∙◌, subst, refl, ◌+◌, true, length}
+use Rattle.std.proofs.Common.{◌≡◌, ℕ, List, Some, None, Err, IsTrue, sym, ap, ◌∙◌, subst, true, length}
 use Rattle.std.proofs.Common.{arith}
 use Rattle.day_simulator.specs.declared.events.DayEvent.TheVariants.{Arrive}
 use Rattle.day_simulator.specs.declared.events.StepFault.TheVariants.{NotNow, LinkBroken}
