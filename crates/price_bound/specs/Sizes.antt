@@ -1,5 +1,5 @@
 -- How large the slacks and the priced values of picks are.
-use Rattle.std.specs.Prelude.{ℕ, ◌≡◌, ◌<◌, ◌≤◌, List, unsigned_abs}
+use Rattle.std.specs.Prelude.{ℕ, ◌≡◌, ◌<◌, ◌≤◌, ◌^◌, List, unsigned_abs}
 use Rattle.timetable.specs.Day.{Day}
 use Rattle.branch_tree.specs.declared.multipliers.Entry.{Entry}
 use Rattle.branch_tree.specs.declared.relaxation.Weight.{Weight}
@@ -13,9 +13,10 @@ use Rattle.price_bound.specs.Following.{Follow}
 use Rattle.price_bound.specs.Slacks.{slack_of}
 
 -- The most that a slack is: the 2,000 units of a type that a station may start with or want, and the 6 units that each
--- of 400 trips may give or take.
-pub record IsMostSlack : Type 0 where
+-- of 400 trips may give or take; and what the size of a priced value is below.
+pub record AreSizeLimits : Type 0 where
   pub slack : MOST_SLACK ≡ 4400
+  pub value : MOST_VALUE ≡ 10 ^ 20
 
 -- The slacks of picks that follow are small.
 abbrev pub SlacksAreSmall : Type 0

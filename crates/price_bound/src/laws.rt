@@ -9,7 +9,7 @@ ghost use Rattle.price_bound.specs.DayMeanings.{DaysAreRelaxations};
 ghost use Rattle.price_bound.specs.PlanBounds.{ChangedPlansArePricedLow, ChangedSolutionsBoundPlans};
 ghost use Rattle.price_bound.specs.PlanBounds.{NoChangedSolutionsNoPlans, NoSolutionsNoPlans, PlansArePricedLow};
 ghost use Rattle.price_bound.specs.PlanBounds.{PlansHavePicks, SolutionsBoundPlans};
-ghost use Rattle.price_bound.specs.Sizes.{ChangedSlacksAreSmall, ChangedValuesAreSmall, IsMostSlack, SlacksAreSmall};
+ghost use Rattle.price_bound.specs.Sizes.{AreSizeLimits, ChangedSlacksAreSmall, ChangedValuesAreSmall, SlacksAreSmall};
 ghost use Rattle.price_bound.specs.Sizes.{ValuesAreSmall};
 
 /// Every accepted day is a relaxation of its solutions, which are the picks that are the types of a plan that runs:
@@ -76,12 +76,13 @@ pub fn changed_broken_picks_are_closed()
     ensures law { ChangedBrokenPicksAreClosed }
 {}
 
-/// The slacks of picks that follow are at most `MOST_SLACK` in size, which is 4,400, and their priced values are below
-/// `MOST_VALUE`, on the day itself and under the changes that `DayBounds::with_changes` takes.
+/// The slacks of picks that follow are at most `MOST_SLACK` in size, which is 4,400. Under multipliers within their
+/// limits the priced values of picks that follow are below `MOST_VALUE` in size, which is 10^20. So it is on the day
+/// itself and under the changes that `DayBounds::with_changes` takes.
 pub fn values_are_small()
     ensures slacks { SlacksAreSmall }
     ensures values { ValuesAreSmall }
     ensures changed_slacks { ChangedSlacksAreSmall }
     ensures changed_values { ChangedValuesAreSmall }
-    ensures limit { IsMostSlack }
+    ensures limits { AreSizeLimits }
 {}

@@ -8,5 +8,5 @@ returns c = record {
   values = values_are_small;
   changed_slacks = changed_slacks_are_small;
   changed_values = changed_values_are_small;
-  limit = record { slack = refl };
+  limits = record { slack = refl; value = refl };
 }
