@@ -246,7 +246,7 @@ enum Step {
     Remove,
     /// At most four bytes of it are read from this place on.
     Read(u64),
-    /// At most four bytes of a file that is not there are read.
+    /// At most four bytes of a file that is not there are read, whose path is as long as that of a `txt` file.
     ReadMissing,
     /// The whole is read, where so many bytes may be read.
     ReadWhole(u64),
@@ -284,7 +284,7 @@ const ON_DISK: &[OnDisk] = &[
             Step::Read(1),
             Step::Read(6),
             Step::Read(0),
-            // A read of another path closes it.
+            // A read of another path closes it, also of one that is as long.
             Step::Remove,
             Step::ReadMissing,
             Step::Read(3),
@@ -330,7 +330,10 @@ fn write_step(
         Step::Write(bytes) => write_file(rt, path, bytes),
         Step::Remove => Ok(fs::remove_file(rt, path)?),
         Step::Read(at) => Ok(write_piece(text, folder, path.as_str(), at)?),
-        Step::ReadMissing => Ok(write_piece(text, folder, "no such file", 0)?),
+        Step::ReadMissing => {
+            let missing = path_on_disk(rt, "not")?;
+            Ok(write_piece(text, folder, missing.as_path().as_str(), 0)?)
+        }
         Step::ReadWhole(most) => { Ok(write_whole(text, rt.alloc(), folder, path.as_str(), most)?) }
     }
 }
