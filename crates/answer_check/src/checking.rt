@@ -26,7 +26,8 @@ use transitions::Graphs;
 /// What a check finds of an answer.
 #[derive(Clone, Copy, Debug, PartialEq, Eq)]
 pub enum AnswerVerdict {
-    /// Its plan, where it has one, runs and costs what it says, and what it says is true of every plan of the day.
+    /// Its plan, where it has one, runs and costs what it says, and its tree proves what it says of every plan of the
+    /// day.
     Valid,
     /// It has a plan with another number of runs than the day has trips.
     RunsDiffer {

@@ -47,9 +47,11 @@ impl From<NoMemory> for WordsRefusal {
 ///
 /// | Words | Numbers |
 /// |---|---|
-/// | `plan DIR [--nodes N] [--rounds K]` | N at most 4,000, else 200; K at most 100, else 20 |
+/// | `plan DIR [--nodes N] [--rounds K]` | N at most 4,000, K at most 100 |
 /// | `simulate DIR`, `check DIR`, `duties DIR`, `yards DIR`, `costs DIR` | none |
 /// | `trial SEED TRIPS [--nodes N] [--rounds K]` | SEED at most 4,294,967,295; TRIPS even, 2 to 400; N, K as above |
+///
+/// Where N is not given it is 200, and K is 20.
 ///
 /// `NotUnderstood` comes exactly where the words are not of this form; `NoMemory` is want of memory.
 pub fn read_words(alloc: Global, words: &Words) -> Result<Command, WordsRefusal>

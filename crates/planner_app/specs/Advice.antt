@@ -5,9 +5,9 @@ use Rattle.day_planner.specs.Headline.{open_leaves}
 use Rattle.run_documents.specs.declared.outcome.Outcome.{Outcome}
 use Rattle.run_documents.specs.declared.outcome.Outcome.TheVariants.{Planned, Tried}
 
--- Where an answer comes of so many rounds, each advisor that has not quit was asked once at least for each branching
--- and for each open leaf, unless there are no rounds, and once a round at most at the root and at both sides of each
--- branching.
+-- Where an answer comes of so many rounds, each advisor that has not quit was asked, in all, at least as many times as
+-- the answer has branchings and open leaves, unless there are no rounds; and at most as many times a round as there are
+-- a root and both sides of each branching.
 abbrev pub AreAskedFor : {A : Type 0} → ℕ → Outcome → List A → List A → (A → ℕ) → (A → Bool) → Type 0
 AreAskedFor rounds (Planned answer) before after asked has_quit =
     AreAsked before after asked has_quit (in_rounds rounds (answer.branchings + open_leaves answer))

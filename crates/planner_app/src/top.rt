@@ -87,10 +87,10 @@ fn write_outcome<K: Sink>(alloc: Global, outcome: &Outcome, out: &mut K) -> u8
 ///
 /// The statuses:
 ///
-/// - 0 comes exactly where the files are accepted, and the answer found is optimal, the plan runs, the answer is valid,
-///   or it is valid and has a plan to report on.
-/// - 1 comes exactly where they are accepted, and no plan runs, the plan doesn't, the answer isn't valid, or it has no
-///   plan to report on.
+/// - 0 comes exactly where the files that the command reads are accepted, and the answer found is optimal, the plan
+///   runs, the answer is valid, or it is valid and has a plan to report on.
+/// - 1 comes exactly where they are accepted, and the answer found is infeasible, the plan doesn't run, the answer is
+///   not valid, or it has no plan to report on.
 /// - 2 comes exactly where the words are none of these commands.
 /// - 3 comes exactly where a file is refused.
 /// - 4 comes exactly where they are accepted, and the answer found is bounded: all granted branchings were made, and a
@@ -101,13 +101,15 @@ fn write_outcome<K: Sink>(alloc: Global, outcome: &Outcome, out: &mut K) -> u8
 /// - 7 is want of memory; nothing was written.
 ///
 /// Each "exactly where" yields to statuses 5, 6 and 7. What is said of the files holds where the folder tells what it
-/// holds, and what is said of the document where the sink tells what was written.
+/// holds, and what is said of the document where the sink tells what was written. A count rises where it is greater
+/// afterwards, or stands at 2^64 - 1.
 ///
 /// Each advisor was asked at most 2^63 times before. Afterwards there are as many advisors, and place by place none was
-/// asked fewer times than before, whatever the status is. One that has quit stays so and is not asked; each is asked at
-/// most K times at the root and at both sides of each branching; and one that has not quit at the end was asked once at
-/// least, where K is not 0, for each branching of the answer and for each of its open leaves. Other commands leave the
-/// list as it is. Words that ask for no command on a folder leave the folder as it is, those of `trial` among them.
+/// asked fewer times than before, whatever the status is. One that has quit stays so and is not asked. Where an answer
+/// with B branchings and L open leaves comes, each was asked K (2 B + 1) times at most, which is K times for the root
+/// and for both sides of each branching; and one that has not quit at the end was asked B + L times at least, unless K
+/// is 0. Other commands leave the list as it is. Words that ask for no command on a folder leave the folder as it is,
+/// those of `trial` among them.
 #[tactic(auto, using(crate::proofs::Statuses::unread_rose))]
 pub fn railplan<F: Folder, K: Sink>(
     alloc: Global,

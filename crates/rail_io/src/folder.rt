@@ -24,10 +24,11 @@ pub trait Folder {
     /// Whether a read of a path may fail: where nothing else is said, each may. It never changes.
     ghost may_fail: { Self → List ℕ → Bool } = { λ _ _. true };
 
-    /// Puts bytes of the path's file, from place `from` on, at the front of `into`, and answers how many.
-    /// It answers 0 exactly where `into` is empty or nothing is left from there on. What stands in `into` past the
-    /// bytes put there is left open. `Failed` comes only where the count of faults rose, and where a read of this path
-    /// may fail; of the bytes handed out it says no more than that their count has not fallen.
+    /// Puts bytes of the path's file, from place `from` on, at the front of `into`, and answers how many. Where the
+    /// folder tells what it holds, it answers 0 exactly where `into` is empty or nothing is left from there on. What
+    /// stands in `into` past the bytes put there is left open. `Failed` comes only where the count of faults rose, and
+    /// where a read of this path may fail; of the bytes handed out it says no more than that their count has not
+    /// fallen.
     fn read_at(&mut self, path: &str, from: u64, into: &mut [u8]) -> Result<usize, Failed>
         ensures told { (files : Files) → holds self.old ≡ Some files →
             IfOk result (λ n. IsReadFrom (file_at files path.now) from n into.new) }

@@ -48,7 +48,7 @@ impl From<AllocError> for FileRefusal {
 /// `limit` bytes were taken, and keeps no byte past the limit. The limit is at most that of a file of any kind.
 ///
 /// - `ReadFault`: a read failed, so reads of this path may fail.
-/// - `TooLong`: no read failed, and the file is longer than `limit`.
+/// - `TooLong`: more than `limit` bytes were taken; where the folder tells what it holds, the file is longer.
 /// - `NoMemory`: the memory for its bytes could not be had.
 pub fn read_file<F: Folder>(
     alloc: Global,

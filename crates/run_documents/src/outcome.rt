@@ -38,7 +38,7 @@ pub enum Outcome {
     NoPlan,
     /// The words are not understood.
     Usage,
-    /// There is no day, or no plan of it: a file could not be read or is refused, or memory ran out.
+    /// There is no day, or no plan of it: a file could not be read or is refused. Or memory ran out, wherever it did.
     NoInputs(ReadError),
     /// There is no answer for the day: its file could not be read or is refused, or memory ran out.
     NoAnswer(AnswerError),
