@@ -2,7 +2,7 @@
 pub mod Proposed
 pub mod Proposals
 -- what an advisor answers
-pub mod Advising
+pub mod Quits
 -- the advisors that are there
-pub mod Diving
-pub mod Stepping
+pub mod Dives
+pub mod MultiplierSteps

@@ -1,7 +1,7 @@
 //! Advisors, what they are shown of a node, and what they answer.
 
 ghost use Rattle.std.specs.Prelude.{◌≡◌, ℕ, ◌+◌, ◌<◌, ◌^◌, Bool, false};
-ghost use Rattle.advisors.specs.Advising.{quit_after};
+ghost use Rattle.advisors.specs.Quits.{quit_after};
 ghost use Rattle.advisors.specs.Proposals.{DoesFit, IsOverSame};
 
 use crate::proposal::Proposal;

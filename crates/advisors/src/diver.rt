@@ -2,7 +2,7 @@
 
 ghost use Rattle.std.specs.Prelude.{◌≡◌, ◌+◌, ◌<◌, ◌^◌, length, false, Ok};
 ghost use Rattle.advisors.specs.declared.advisor.Word.TheVariants.{Enough};
-ghost use Rattle.advisors.specs.Diving.{IsDived, IsNarrowestOf};
+ghost use Rattle.advisors.specs.Dives.{IsDived, IsNarrowestOf};
 ghost use Rattle.advisors.specs.Proposals.{DoesFit, IsOverSame};
 
 use crate::advisor::{Advisor, Look, Word};

@@ -3,7 +3,7 @@
 ghost use Rattle.std.specs.Prelude.{◌≡◌, ◌+◌, ◌<◌, ◌≤◌, ◌^◌, [], pos, unsigned_abs, false, Ok};
 ghost use Rattle.rail_base.specs.declared.limits.TheConstants.{MOST_MULTIPLIER};
 ghost use Rattle.advisors.specs.Proposals.{DoesFit, IsOverSame};
-ghost use Rattle.advisors.specs.Stepping.{moved, step_of, word_for};
+ghost use Rattle.advisors.specs.MultiplierSteps.{moved, step_of, word_for};
 
 use crate::advisor::{Advisor, Look, Word};
 use crate::proposal::Proposal;

@@ -8,7 +8,7 @@ use Rattle.rail_base.specs.declared.numbers.Money.{Money}
 use Rattle.timetable.specs.Accepted.{AreLinks, IsDay}
 use Rattle.timetable.specs.Compositions.{compositions_of}
 use Rattle.timetable.specs.Day.{Day}
-use Rattle.timetable.specs.Picking.{IsSolution}
+use Rattle.timetable.specs.Picks.{IsSolution}
 use Rattle.branch_tree.specs.declared.claims.Claim.{Claim}
 use Rattle.branch_tree.specs.declared.tree.Node.{Node}
 use Rattle.branch_tree.specs.declared.tree.Node.TheVariants.{Branch, CostLeaf, RayLeaf, EmptyLeaf}

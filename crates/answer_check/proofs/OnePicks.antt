@@ -4,7 +4,7 @@ use Rattle.std.proofs.Common.{◌∙◌, ap, arith}
 use Rattle.std.specs.Prelude.{All}
 use Rattle.timetable.specs.Compositions.{compositions_of, composition_at}
 use Rattle.timetable.specs.Day.{Day}
-use Rattle.timetable.specs.Picking.{picked}
+use Rattle.timetable.specs.Picks.{picked}
 use Rattle.price_bound.proofs.Solving.{same_number}
 use Rattle.answer_text.specs.declared.answer.Answer.{Answer}
 use Rattle.answer_text.specs.declared.answer.Head.{Head}

@@ -3,7 +3,7 @@ use Rattle.std.specs.Prelude.{ℕ, ◌≡◌, List, map, IsTrue, ℤ, pos, Optio
 use Rattle.rail_base.specs.declared.numbers.Money.{Money}
 use Rattle.timetable.specs.Cost.{plan_cost}
 use Rattle.timetable.specs.Day.{Day, types_of}
-use Rattle.timetable.specs.Picking.{ArePicks, picked}
+use Rattle.timetable.specs.Picks.{ArePicks, picked}
 use Rattle.timetable.specs.Running.{Runs}
 use Rattle.branch_tree.specs.Claims.{Conclusion, IsProved, optimal, infeasible, bounded, bounded_plan}
 use Rattle.branch_tree.specs.Regions.{root_of}

@@ -10,7 +10,7 @@ use Rattle.timetable.specs.Admissible.{is_admissible}
 use Rattle.timetable.specs.Compositions.{compositions_of, composition_at}
 use Rattle.timetable.specs.Day.{Day, types_of}
 use Rattle.timetable.specs.Links.{list_of}
-use Rattle.timetable.specs.Picking.{IsSolution, picked}
+use Rattle.timetable.specs.Picks.{IsSolution, picked}
 use Rattle.timetable.proofs.AdmittedTypes.{CompositionOf, composition_of}
 use Rattle.timetable.proofs.ListedUnits.{list_of-types}
 use Rattle.branch_tree.specs.Laws.{RootsAreFilled, SolutionsLieInRoots}

@@ -6,7 +6,7 @@ use Rattle.rail_base.specs.declared.numbers.Money.{Money}
 use Rattle.timetable.specs.Accepted.{HaveCompositions}
 use Rattle.timetable.specs.Day.{Day}
 use Rattle.timetable.specs.Compositions.{compositions_of}
-use Rattle.timetable.specs.Picking.{IsSolution}
+use Rattle.timetable.specs.Picks.{IsSolution}
 use Rattle.branch_tree.specs.declared.cuts.Cut.{Cut}
 use Rattle.branch_tree.specs.declared.cuts.Cut.TheVariants.{Only}
 use Rattle.branch_tree.specs.declared.cuts.Side.{Side}

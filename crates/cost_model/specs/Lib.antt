@@ -1,4 +1,4 @@
-pub mod Leading
+pub mod LinkedTrains
 pub mod Sums
 pub mod WithoutExchange
 pub use Rattle.timetable.specs.Day

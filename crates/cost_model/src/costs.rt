@@ -3,7 +3,7 @@
 ghost use Rattle.std.specs.Prelude.{◌≡◌, ◌<◌, ◌≤◌, ◌*◌, ◌+ℤ◌, ◌≤ℤ◌, length, pos};
 ghost use Rattle.timetable.specs.Cost.{link_cost, cost_of, plan_cost};
 ghost use Rattle.timetable.specs.Running.{IsPlan};
-ghost use Rattle.timetable.specs.Picking.{ArePicks, picked};
+ghost use Rattle.timetable.specs.Picks.{ArePicks, picked};
 ghost use Rattle.cost_model.specs.Sums.{carriage_of, shortage_of, shunting_of};
 
 use crate::links::{MOST_LINK_COST, link_cost};

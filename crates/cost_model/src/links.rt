@@ -2,7 +2,7 @@
 
 ghost use Rattle.std.specs.Prelude.{◌≡◌, ◌<◌, ◌≤◌, ◌&&◌, ◌==◌, not, unwrap_or, List, ℕ, length};
 ghost use Rattle.timetable.specs.Cost.{link_cost};
-ghost use Rattle.cost_model.specs.Leading.{LeadsBetween};
+ghost use Rattle.cost_model.specs.LinkedTrains.{LeadsBetween};
 
 use rail_base::limits::{MOST_COMPOSITION, MOST_WEIGHT};
 use rail_base::{LinkNo, TypeNo};

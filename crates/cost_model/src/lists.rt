@@ -5,7 +5,7 @@ ghost use Rattle.compositions.specs.Composition.{are_types};
 ghost use Rattle.timetable.specs.Day.{Day, types_of};
 ghost use Rattle.timetable.specs.Links.{list_of};
 ghost use Rattle.timetable.specs.Running.{IsPlan};
-ghost use Rattle.timetable.specs.Picking.{ArePicks, picked};
+ghost use Rattle.timetable.specs.Picks.{ArePicks, picked};
 
 use arrayvec::ArrayVec;
 use rail_base::limits::MOST_COMPOSITION;

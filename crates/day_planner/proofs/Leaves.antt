@@ -26,11 +26,11 @@ use Rattle.branch_tree.specs.Sets.{kept}
 use Rattle.branch_tree.specs.Trees.{Walks, bounds_of, cut_of, multipliers_of, regions_below}
 use Rattle.price_bound.specs.declared.sizes.TheConstants.{MOST_VALUE}
 use Rattle.price_bound.specs.DayMeanings.{IsAccepted, meanings_of}
-use Rattle.price_bound.specs.Following.{Follow}
+use Rattle.price_bound.specs.FollowingPicks.{Follow}
 use Rattle.price_bound.specs.Sizes.{ValuesAreSmall}
 use Rattle.answer_text.specs.declared.limits.TheConstants.{MOST_INDEX}
 use Rattle.answer_text.specs.Limits.{AreEntries, IsAmount, IsCut, IsNode}
-use Rattle.day_planner.specs.Planning.{AreKept}
+use Rattle.day_planner.specs.FoundAnswers.{AreKept}
 
 -- the region has a set for each trip
 abbrev pub IsLong : ℕ → List (List Bool) → Type 0

@@ -12,7 +12,7 @@ use Rattle.timetable.specs.Links.{list_of}
 use Rattle.timetable.specs.Lists.{count_of, has}
 use Rattle.timetable.specs.Running.{Runs}
 use Rattle.timetable.specs.Admissible.{is_admissible}
-use Rattle.timetable.specs.Picking.{IsSolution}
+use Rattle.timetable.specs.Picks.{IsSolution}
 use Rattle.unit_duties.specs.Broken.{AreAdmissible}
 use Rattle.price_bound.proofs.Solving.{list_read}
 use Rattle.answer_text.specs.Limits.{IsRun}

@@ -17,13 +17,13 @@ use Rattle.branch_tree.proofs.Covering.{leaves_exceed_branches}
 use Rattle.branch_tree.proofs.Over.{roots_are_over}
 use Rattle.branch_tree.proofs.Walking.{proved_at}
 use Rattle.price_bound.specs.DayMeanings.{IsAccepted, meanings_of}
-use Rattle.price_bound.specs.Following.{Follow}
+use Rattle.price_bound.specs.FollowingPicks.{Follow}
 use Rattle.price_bound.specs.Sizes.{ValuesAreSmall}
 use Rattle.price_bound.proofs.Whole.{relaxes}
 use Rattle.search.specs.declared.found.Found.{Found}
 use Rattle.search.specs.declared.found.Found.TheVariants as found
-use Rattle.search.specs.Solving.{IsBounded, IsSolved, nodes_found, plan_found}
-use Rattle.search.specs.Solving as search
+use Rattle.search.specs.Conclusions.{IsBounded, IsSolved, nodes_found, plan_found}
+use Rattle.search.specs.Conclusions as search
 use Rattle.answer_text.specs.declared.answer.Answer.{Answer}
 use Rattle.answer_text.specs.declared.answer.Head.{Head}
 use Rattle.answer_text.specs.declared.answer.Head.TheVariants.{Optimal, Infeasible, Bounded, BoundedPlan}
@@ -32,7 +32,7 @@ use Rattle.answer_text.specs.Limits.{IsAmount, IsHead, IsNode, IsRun, IsWithin, 
 use Rattle.answer_check.specs.Validity.{IsProvedBy, IsValid, RunsByPicks, bound_said, conclusion_of}
 use Rattle.answer_check.proofs.Truth.{valid_answers_are_true}
 use Rattle.day_planner.specs.Headline.{IsHeadline, plan_said}
-use Rattle.day_planner.specs.Planning.{SaysFound}
+use Rattle.day_planner.specs.FoundAnswers.{SaysFound}
 use Rattle.day_planner.proofs.Granting.{enough_leave_none_open}
 use Rattle.day_planner.proofs.Leaves.{bounds_within, cost_within, nodes_within}
 use Rattle.day_planner.proofs.Naming.{few_runs, runs_within}

@@ -2,19 +2,19 @@
 
 ghost use Rattle.std.specs.Prelude.{ℕ, List, ◌≡◌, ◌≤◌, ◌+◌, ◌*◌, ◌^◌, [], All, IfOk};
 ghost use Rattle.rail_base.specs.declared.limits.TheConstants.{MOST_BRANCHINGS, MOST_ROUNDS};
-ghost use Rattle.timetable.specs.Picking.{IsSolution};
+ghost use Rattle.timetable.specs.Picks.{IsSolution};
 ghost use Rattle.transitions.specs.Edges.{AreGraphs};
 ghost use Rattle.branch_tree.specs.Claims.{open_leaves_of};
 ghost use Rattle.branch_tree.specs.Regions.{root_of};
 ghost use Rattle.branch_tree.specs.Trees.{branchings_of};
 ghost use Rattle.price_bound.specs.DayMeanings.{meanings_of};
-ghost use Rattle.search.specs.Asking.{AreAsked, in_rounds};
-ghost use Rattle.search.specs.Solving.{IsSolved, nodes_found, plan_found};
+ghost use Rattle.search.specs.Questions.{AreAsked, in_rounds};
+ghost use Rattle.search.specs.Conclusions.{IsSolved, nodes_found, plan_found};
 ghost use Rattle.search.specs.declared.found.Found.TheVariants.{Bounded};
 ghost use Rattle.answer_check.specs.Validity.{RunsByPicks};
 ghost use Rattle.answer_check.specs.Verdicts.{IsAnswerVerdict};
 ghost use Rattle.day_planner.specs.Headline.{IsHeadline, open_leaves};
-ghost use Rattle.day_planner.specs.Planning.{AreKept, IsPlanFound, SaysFound};
+ghost use Rattle.day_planner.specs.FoundAnswers.{AreKept, IsPlanFound, SaysFound};
 
 use advisors::Advisor;
 use answer_check::AnswerVerdict;

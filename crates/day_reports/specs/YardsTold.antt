@@ -2,7 +2,7 @@
 use Rattle.std.specs.Prelude.{ℕ, ◌≡◌, ◌<◌, List, length}
 use Rattle.inventory.specs.Loaded.{Loaded}
 use Rattle.timetable.specs.Day.{Day}
-use Rattle.timetable.specs.Picking.{ArePicks, picked}
+use Rattle.timetable.specs.Picks.{ArePicks, picked}
 
 -- the counts that were loaded are those of the picks of the day, whose stations and types these are
 pub record IsToldOf (day : Day) (picks : List ℕ) (loaded : Loaded) (s m : ℕ) : Type 0 where

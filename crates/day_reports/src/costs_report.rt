@@ -1,7 +1,7 @@
 //! The report of costs.
 
 ghost use Rattle.std.specs.Prelude.{◌≡◌, ◌++◌, ◌∷◌, [], IfOk, OnOk};
-ghost use Rattle.timetable.specs.Picking.{ArePicks, picked};
+ghost use Rattle.timetable.specs.Picks.{ArePicks, picked};
 ghost use Rattle.day_reports.specs.CostRows.{amount_row, amount_rows, costs_text};
 
 use crate::report::Report;

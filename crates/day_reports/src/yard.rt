@@ -27,7 +27,7 @@ pub(crate) struct Yard<'day, 'picks, 'ledger> {
 }
 
 impl<'day, 'picks, 'ledger> Model for Yard<'day, 'picks, 'ledger> {
-    ghost use Rattle.timetable.specs.Picking.{picked};
+    ghost use Rattle.timetable.specs.Picks.{picked};
     ghost use Rattle.day_reports.specs.YardRows.{YardOf};
     ghost use Rattle.day_reports.specs.YardsTold.{IsToldOf};
 

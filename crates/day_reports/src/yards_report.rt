@@ -2,7 +2,7 @@
 
 ghost use Rattle.std.specs.Prelude.{◌≡◌, ◌<◌, ◌++◌, ◌∷◌, [], length, get_or, IfOk, OnOk};
 ghost use Rattle.timetable.specs.Minutes.{minutes_of};
-ghost use Rattle.timetable.specs.Picking.{ArePicks, picked};
+ghost use Rattle.timetable.specs.Picks.{ArePicks, picked};
 ghost use Rattle.day_reports.specs.YardRows.{end_row, minute_row, start_row, station_rows, yard_row, yard_rows};
 ghost use Rattle.day_reports.specs.YardRows.{yards_text};
 

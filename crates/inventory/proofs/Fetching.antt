@@ -8,7 +8,7 @@ use Rattle.std.proofs.lemmas.Bool.{ltb-false, and_parts, and_from, eqb-true, eq-
 use Rattle.std.proofs.lemmas.Bool.Decides.{nat_tests}
 use Rattle.timetable.specs.Day.{Day, type_of, types_of, unit_count}
 use Rattle.timetable.specs.Lists.{count_of, has, count_below}
-use Rattle.inventory.specs.Naming.{InYard, may_be_taken, ready_since, is_earlier, earliest, next_unit, fetched}
+use Rattle.inventory.specs.NamedUnits.{InYard, may_be_taken, ready_since, is_earlier, earliest, next_unit, fetched}
 use Rattle.inventory.proofs.Order.{in_list}
 use Rattle.inventory.specs.NamingLaws.{IsAvailable, IsNextUnit, UnitsAreTakenInTurn}
 use Rattle.inventory.proofs.Sums.{one, one_same, one_other, sum_one_more}

@@ -9,7 +9,7 @@ use Rattle.timetable.specs.Links.{list_of}
 use Rattle.timetable.specs.Lists.{has, below}
 use Rattle.timetable.specs.Running.{BeginsAt, EachFollows}
 use Rattle.inventory.specs.NamedBefore.{IsNamedBefore, MayFollowByPlaces, duty_before}
-use Rattle.inventory.specs.Naming.{named_from, latest_first}
+use Rattle.inventory.specs.NamedUnits.{named_from, latest_first}
 use Rattle.inventory.specs.NamingLaws.{RunsOn, ServedPlansRun, NamedPlansRun}
 use Rattle.inventory.proofs.Order.{filter_in_order, is_there, latest_in_turn}
 use Rattle.inventory.proofs.Standing.{AreRight}

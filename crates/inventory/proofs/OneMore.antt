@@ -10,7 +10,8 @@ use Rattle.timetable.specs.Duties.{in_order}
 use Rattle.timetable.specs.Links.{list_of, itself, taken_with}
 use Rattle.timetable.specs.Lists.{count_of, has, below}
 use Rattle.inventory.specs.Counts.{AreServed}
-use Rattle.inventory.specs.Naming.{InYard, after_trip, standing, fetched, named_list, list_from, naming, latest_first}
+use Rattle.inventory.specs.NamedUnits.{InYard, after_trip, standing, fetched, named_list, list_from, naming}
+use Rattle.inventory.specs.NamedUnits.{latest_first}
 use Rattle.inventory.proofs.Sums.{one_same, one_other}
 use Rattle.inventory.proofs.Order.{AreInTurn, latest_in_turn}
 use Rattle.inventory.proofs.Fetching.{AreFetched, are_fetched}

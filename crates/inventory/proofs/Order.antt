@@ -10,7 +10,7 @@ use Rattle.std.proofs.lemmas.List.Elements.{filter-append}
 use Rattle.timetable.specs.Day.{Day, leaves}
 use Rattle.timetable.specs.Lists.{count_of, below}
 use Rattle.timetable.specs.Duties.{is_before, insert_trip, in_order}
-use Rattle.inventory.specs.Naming.{latest_first}
+use Rattle.inventory.specs.NamedUnits.{latest_first}
 use Rattle.timetable.proofs.Shares.{count_of-append, count_of-turned}
 use Rattle.inventory.proofs.Sums.{one_same, one_other}
 

@@ -13,7 +13,7 @@ use Rattle.timetable.specs.Links.{list_of, itself, taken_with}
 use Rattle.timetable.specs.Lists.{count_of, has}
 use Rattle.inventory.specs.Counts.{AreServed}
 use Rattle.inventory.specs.NamedBefore.{IsListOf, MayFollowByPlaces, IsNamedBefore}
-use Rattle.inventory.specs.Naming.{after_trip, standing, may_be_taken, fetched, named_list, list_from}
+use Rattle.inventory.specs.NamedUnits.{after_trip, standing, may_be_taken, fetched, named_list, list_from}
 use Rattle.inventory.specs.Places.{going_on, given_places, kept_places, taken_places, coming}
 use Rattle.inventory.proofs.Order.{in_list, AreInTurn, before_leaves}
 use Rattle.inventory.proofs.Fetching.{AreFetched, are_fetched}

@@ -16,7 +16,7 @@ use Rattle.timetable.specs.Lists.{count_of, has, below}
 use Rattle.timetable.specs.Running.{MayFollow, EachFollows, BeginsAt, ending, Runs}
 use Rattle.timetable.proofs.ListedUnits.{list_of-types}
 use Rattle.inventory.specs.Counts.{AreServed}
-use Rattle.inventory.specs.Naming.{after_trip, standing, may_be_taken, latest_first}
+use Rattle.inventory.specs.NamedUnits.{after_trip, standing, may_be_taken, latest_first}
 use Rattle.inventory.specs.Places.{going_on, given_places, kept_places, taken_places, coming}
 use Rattle.inventory.proofs.Sums.{sum_same}
 use Rattle.inventory.proofs.Order.{in_list, AreInTurn, is_strict, not_itself, leaves_before, filter_in_order, is_there}

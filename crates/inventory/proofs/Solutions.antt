@@ -16,10 +16,10 @@ use Rattle.timetable.specs.Day.{Day, leaves, from_of}
 use Rattle.timetable.specs.Links.{list_of, itself}
 use Rattle.timetable.specs.Lists.{count_of}
 use Rattle.timetable.specs.Minutes.{minutes_of}
-use Rattle.timetable.specs.Picking.{picked}
+use Rattle.timetable.specs.Picks.{picked}
 use Rattle.timetable.specs.Starts.{start_of}
 use Rattle.inventory.specs.Counts.{AreServed, takes_of, taken_until, ready_until}
-use Rattle.inventory.specs.Naming.{named_plan}
+use Rattle.inventory.specs.NamedUnits.{named_plan}
 use Rattle.inventory.specs.NamingLaws.{RunsWith}
 use Rattle.inventory.specs.SolutionLaws.{SolutionsAreServed, FaultsDecide, KeepTheRules}
 use Rattle.inventory.specs.StockFaults.{NoneShort, AllBalanced}

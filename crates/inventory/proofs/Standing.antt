@@ -9,7 +9,7 @@ use Rattle.timetable.specs.Day.{Day, leaves, from_of, home_of, types_of, unit_co
 use Rattle.timetable.specs.Links.{list_of}
 use Rattle.timetable.specs.Lists.{count_of, has}
 use Rattle.inventory.specs.Places.{going_on, given_places, kept_places, taken_places, feeding, coming}
-use Rattle.inventory.specs.Naming.{InYard, after_trip, standing, may_be_taken}
+use Rattle.inventory.specs.NamedUnits.{InYard, after_trip, standing, may_be_taken}
 use Rattle.inventory.proofs.Sums.{one_same}
 use Rattle.inventory.proofs.Order.{in_list, IsTurn, AreInTurn, leaves_before}
 use Rattle.inventory.proofs.Linked.{Goes, goes, feeds, coming_from, places_share}

@@ -12,7 +12,7 @@ use Rattle.timetable.specs.Lists.{count_of, has, sum_below}
 use Rattle.timetable.specs.Starts.{start_of}
 use Rattle.inventory.specs.Counts.{takes_of, gives_of}
 use Rattle.inventory.specs.Places.{given_places, taken_places}
-use Rattle.inventory.specs.Naming.{InYard, after_trip, standing, may_be_taken}
+use Rattle.inventory.specs.NamedUnits.{InYard, after_trip, standing, may_be_taken}
 use Rattle.inventory.proofs.Sums.{one_same, one_other, sum_same, sum_add, sum_zero, sum_one_more, sum_of_type}
 use Rattle.inventory.proofs.Order.{IsTurn, AreInTurn}
 use Rattle.inventory.proofs.Linked.{Goes, AllHold, goes, coming_from, places_share, taken_is, given_is}

@@ -9,7 +9,7 @@ pub mod FirstIn
 pub mod CountTable
 -- which units run on which trip
 pub mod Places
-pub mod Naming
+pub mod NamedUnits
 pub mod NamedBefore
 pub mod NamingLaws
 -- which picks are solutions

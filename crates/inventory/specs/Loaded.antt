@@ -1,7 +1,7 @@
 -- What a ledger has loaded.
 use Rattle.std.specs.Prelude.{ℕ, List, [], Bool, if◌then◌else◌}
 use Rattle.timetable.specs.Day.{Day}
-use Rattle.timetable.specs.Picking.{picked}
+use Rattle.timetable.specs.Picks.{picked}
 
 -- a day, and the types of the compositions that were picked for its trips; none before picks were loaded
 pub record Loaded : Type 0 where

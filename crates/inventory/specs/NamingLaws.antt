@@ -7,7 +7,7 @@ use Rattle.timetable.specs.Lists.{count_of}
 use Rattle.timetable.specs.Running.{Runs}
 use Rattle.inventory.specs.Counts.{AreServed}
 use Rattle.inventory.specs.NamedBefore.{IsNamedBefore}
-use Rattle.inventory.specs.Naming.{InYard, may_be_taken, ready_since, next_unit, named_from, named_plan}
+use Rattle.inventory.specs.NamedUnits.{InYard, may_be_taken, ready_since, next_unit, named_from, named_plan}
 
 -- the plan runs, and its trips have these types
 pub record RunsWith (day : Day) (types plan : List (List ℕ)) : Type 0 where

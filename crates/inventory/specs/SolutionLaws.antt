@@ -5,7 +5,7 @@ use Rattle.timetable.specs.Accepted.{IsDay, AreLinks, IsStocked}
 use Rattle.timetable.specs.Admissible.{is_admissible}
 use Rattle.timetable.specs.Day.{Day}
 use Rattle.timetable.specs.Links.{list_of, itself, link_holds}
-use Rattle.timetable.specs.Picking.{ArePicks, picked, IsSolution}
+use Rattle.timetable.specs.Picks.{ArePicks, picked, IsSolution}
 use Rattle.inventory.specs.Counts.{AreServed}
 use Rattle.inventory.specs.StockFaults.{IsFirstFault}
 

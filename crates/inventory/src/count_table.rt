@@ -8,7 +8,7 @@
 ghost use Rattle.std.specs.Prelude.{ℕ, ◌≡◌, ◌<◌, ◌≤◌, ◌+◌, ◌^◌, [], map, length, get_or, take, drop, pos, OnOk, IfOk};
 ghost use Rattle.std.specs.List.{AllPairs};
 ghost use Rattle.timetable.specs.Links.{itself, given_with, taken_with};
-ghost use Rattle.timetable.specs.Picking.{ArePicks, picked};
+ghost use Rattle.timetable.specs.Picks.{ArePicks, picked};
 ghost use Rattle.timetable.specs.Day.{ready_at};
 ghost use Rattle.inventory.specs.CountTable.{earlier, changed_at, changed_in, changed, changed_for, with_given};
 ghost use Rattle.inventory.specs.CountTable.{with_taken, with_trips, sums_from, zeros, zeros_for, zero_table, cleared};

@@ -2,7 +2,7 @@
 
 ghost use Rattle.std.specs.Prelude.{◌≡◌, ◌<◌, length, IfOk, []};
 ghost use Rattle.timetable.specs.Minutes.{minutes_of};
-ghost use Rattle.timetable.specs.Picking.{ArePicks, picked};
+ghost use Rattle.timetable.specs.Picks.{ArePicks, picked};
 ghost use Rattle.inventory.specs.Counts.{count_of_place, last_of};
 ghost use Rattle.inventory.specs.FirstIn.{ShortAt, ShortIn, ShortOn, UnbalancedAt, UnbalancedIn, UnbalancedOn};
 ghost use Rattle.inventory.specs.Loaded.{Loaded};

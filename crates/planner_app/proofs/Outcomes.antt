@@ -43,7 +43,7 @@ use Rattle.planner_app.specs.Outcomes.{AskToTry, HasCause, IsOutcome, IsReadBy, 
 use Rattle.planner_app.specs.Outcomes.{IsTried, IsVerdictOn}
 use Rattle.planner_app.specs.Outcomes.{OfDay, OfDayAndPlan, PlanRuns, Says, command_for, folder_of, reads_answer}
 use Rattle.planner_app.specs.Outcomes.{reads_plan}
-use Rattle.planner_app.specs.Reporting.{IsReportOutcome, IsTrialOutcome}
+use Rattle.planner_app.specs.ReportOutcomes.{IsReportOutcome, IsTrialOutcome}
 
 -- commands are about their folders
 abbrev about_planned : (words : List (List ℕ)) (dir : List ℕ) (nodes rounds : ℕ) → AskToPlan words dir nodes rounds → AskAbout words dir

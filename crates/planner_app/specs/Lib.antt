@@ -1,7 +1,7 @@
 -- what a run comes to, and the status of it
 pub mod ReportTexts
 pub mod Outcomes
-pub mod Reporting
+pub mod ReportOutcomes
 pub mod Statuses
 pub mod Advice
 -- what holds of every answer that is found

@@ -7,7 +7,7 @@ ghost use Rattle.timetable.specs.Running as running;
 ghost use Rattle.answer_text.specs.Limits.{has_plan};
 ghost use Rattle.answer_check.specs.Validity.{IsValid};
 ghost use Rattle.planner_app.specs.Outcomes.{AskToReport, IsOutcome};
-ghost use Rattle.planner_app.specs.Reporting.{IsReportOutcome};
+ghost use Rattle.planner_app.specs.ReportOutcomes.{IsReportOutcome};
 ghost use Rattle.planner_app.specs.ReportTexts.{report_text};
 
 use answer_check::{AnswerVerdict, copy_of, picks_of_plan, verdict_on};

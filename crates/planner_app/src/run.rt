@@ -3,11 +3,11 @@
 ghost use Rattle.std.specs.Prelude.{ℕ, List, ◌≡◌, ◌≤◌, ◌+◌, ◌*◌, ◌^◌, Some, All};
 ghost use Rattle.rail_base.specs.declared.limits.TheConstants.{MOST_BRANCHINGS, MOST_ROUNDS};
 ghost use Rattle.rail_io.specs.Folders.{OnlyReads};
-ghost use Rattle.search.specs.Asking.{AreAsked};
+ghost use Rattle.search.specs.Questions.{AreAsked};
 ghost use Rattle.trial_day.specs.Trial.{IsTrialSize};
 ghost use Rattle.planner_app.specs.Advice.{AreAskedFor};
 ghost use Rattle.planner_app.specs.Outcomes.{AskAbout, AskToCheck, AskToPlan, AskToSimulate, Grants, IsOutcome};
-ghost use Rattle.planner_app.specs.Reporting.{IsTrialOutcome};
+ghost use Rattle.planner_app.specs.ReportOutcomes.{IsTrialOutcome};
 
 use crate::reports::{Report, reported};
 use advisors::Advisor;

@@ -2,7 +2,7 @@
 
 ghost use Rattle.std.specs.Prelude.{ℕ, List, ◌≡◌, ◌≤◌, ◌+◌, ◌*◌, ◌^◌, ◌↔◌, Some, All};
 ghost use Rattle.rail_io.specs.Folders.{Files, OnlyReads, Rose};
-ghost use Rattle.search.specs.Asking.{AreAsked};
+ghost use Rattle.search.specs.Questions.{AreAsked};
 ghost use Rattle.run_documents.specs.declared.outcome.Outcome.{Outcome};
 ghost use Rattle.planner_app.specs.declared.reports.Report.{Report};
 ghost use Rattle.planner_app.specs.Advice.{AreAskedFor};

@@ -9,7 +9,7 @@ use Rattle.branch_tree.specs.declared.relaxation.Settled.TheVariants.{Broken}
 use Rattle.branch_tree.specs.Bounds.{IsSettled}
 use Rattle.price_bound.specs.BrokenLaws.{AreBrokenAt, BrokenAtFirstMissed, BrokenAtFirstFault, SolvedWithoutFault}
 use Rattle.price_bound.specs.DayMeanings.{IsAccepted, meanings_of}
-use Rattle.price_bound.specs.Settling.{fault_sign, place_of}
+use Rattle.price_bound.specs.BrokenPlaces.{fault_sign, place_of}
 use Rattle.price_bound.specs.Slacks.{broken_index, sign_of, slack_at}
 use Rattle.price_bound.proofs.SettledBy.{fault_first, fault_place, fault_signed, first_place, named, sigma_first}
 use Rattle.price_bound.proofs.SettledBy.{sigma_signed, solution}

@@ -15,7 +15,7 @@ use Rattle.timetable.specs.Day.{Day}
 use Rattle.timetable.specs.Handovers.{second_of}
 use Rattle.timetable.specs.Links.{arriving_in, departing_in, list_of, outgoing}
 use Rattle.timetable.specs.Lists.{count_of}
-use Rattle.timetable.specs.Picking.{picked}
+use Rattle.timetable.specs.Picks.{picked}
 use Rattle.timetable.specs.Running.{EachFollows}
 use Rattle.timetable.proofs.NamedTrips.{place_is}
 use Rattle.timetable.proofs.Ones.{one_same, one_other}
@@ -26,7 +26,7 @@ use Rattle.branch_tree.specs.IntSums.{int_sum}
 use Rattle.price_bound.specs.ChainStages.{Priced, along, cost_on, edges_of, may_have, part_is_in, price_by_link}
 use Rattle.price_bound.specs.ChainStages.{price_of, stage_of, stages_of, worth_of}
 use Rattle.price_bound.specs.EdgeValues.{edge_value}
-use Rattle.price_bound.specs.Following.{IsStep, pick_of}
+use Rattle.price_bound.specs.FollowingPicks.{IsStep, pick_of}
 use Rattle.price_bound.specs.Paths.{IsPath, IsStepAt}
 use Rattle.price_bound.specs.Regrouped.{trip_value, value_at_link}
 use Rattle.price_bound.proofs.ByLink.{adds_none, adds_one, adds_to}

@@ -11,7 +11,7 @@ use Rattle.timetable.proofs.Sums.{sum_one_more, sum_zero}
 use Rattle.price_bound.specs.declared.changes.Change.{Change}
 use Rattle.price_bound.specs.ChangedDays.{added_cost, own_cost}
 use Rattle.price_bound.specs.Changes.{change_cost}
-use Rattle.price_bound.specs.Following.{pick_of}
+use Rattle.price_bound.specs.FollowingPicks.{pick_of}
 
 -- trips before all changes have none
 no_change : (changes : List Change) (t comp : ℕ) → All (λ change. t < change.trip) changes → change_cost changes t comp ≡ 0

@@ -1,7 +1,7 @@
 -- What is said of solutions under changes is said of plans, with what the changes add for their picks.
 use Rattle.std.proofs.Common.{ℕ, ◌+◌, sym, ap, subst, pos, ◌≤ℤ◌}
 use Rattle.timetable.specs.Cost.{cost_of}
-use Rattle.timetable.specs.Picking.{IsSolution}
+use Rattle.timetable.specs.Picks.{IsSolution}
 use Rattle.branch_tree.specs.declared.relaxation.Weight.TheVariants.{Cost}
 use Rattle.branch_tree.specs.Claims.{CostsAtLeast}
 use Rattle.branch_tree.specs.Meanings.{priced}

@@ -2,15 +2,16 @@
 use Rattle.std.proofs.Common.{◌≡◌, ℕ, ◌+◌, List, ℤ, pos, arith, refl, ap}
 use Rattle.timetable.specs.declared.day.indices.Place.{Place}
 use Rattle.timetable.specs.Cost.{cost_of}
-use Rattle.timetable.specs.Picking.{picked}
+use Rattle.timetable.specs.Picks.{picked}
 use Rattle.branch_tree.specs.declared.relaxation.Settled.{Settled}
 use Rattle.branch_tree.specs.declared.relaxation.Settled.TheVariants.{Costs, Broken}
 use Rattle.branch_tree.specs.Bounds.{IsSettled}
 use Rattle.branch_tree.specs.Meanings.{IsBroken, IsMet, IsRelaxation}
 use Rattle.branch_tree.specs.declared.multipliers.Entry.{Entry}
-use Rattle.price_bound.specs.ChangedDays.{ChangedDay, ChangedDaysAreRelaxations, UnchangedDaysAreDays, changed_day, changed_meanings}
+use Rattle.price_bound.specs.ChangedDays.{ChangedDay, ChangedDaysAreRelaxations, UnchangedDaysAreDays, changed_day}
+use Rattle.price_bound.specs.ChangedDays.{changed_meanings}
 use Rattle.price_bound.specs.DayMeanings.{IsAccepted, meanings_of}
-use Rattle.price_bound.specs.Settling.{Names}
+use Rattle.price_bound.specs.BrokenPlaces.{Names}
 use Rattle.price_bound.proofs.Whole.{relaxes}
 
 broken_alike : (changed : ChangedDay) (picks : List ℕ) (at : Entry) → IsBroken (meanings_of changed.day) picks at

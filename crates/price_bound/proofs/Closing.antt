@@ -11,7 +11,7 @@ use Rattle.timetable.specs.Compositions.{compositions_of, composition_at}
 use Rattle.timetable.specs.Day.{Day}
 use Rattle.timetable.specs.Handovers.{IsHandover, handovers_of}
 use Rattle.timetable.specs.Indices.{lambdas_of, mus_of, sigmas_of, places_of}
-use Rattle.timetable.specs.Picking.{IsSolution, picked}
+use Rattle.timetable.specs.Picks.{IsSolution, picked}
 use Rattle.timetable.proofs.Handovers.{are_handovers}
 use Rattle.timetable.proofs.LinkNames.{names_below}
 use Rattle.timetable.proofs.Listing.{get_second}
@@ -25,7 +25,7 @@ use Rattle.branch_tree.proofs.Lying.{picks_lie_by_trip}
 use Rattle.branch_tree.proofs.Settling.{broken_picks_have_rays}
 use Rattle.price_bound.specs.BrokenLaws.{BrokenPicksAreClosed, handovers_begin}
 use Rattle.price_bound.specs.DayMeanings.{IsAccepted, meanings_of}
-use Rattle.price_bound.specs.Following.{Follow, part_of, pick_of}
+use Rattle.price_bound.specs.FollowingPicks.{Follow, part_of, pick_of}
 use Rattle.price_bound.specs.Near.{AreNear, LieIn}
 use Rattle.price_bound.specs.Parts.{IsPartAt, NoneMissed, second_pick}
 use Rattle.price_bound.specs.Slacks.{broken_at, broken_index, first_from, is_none, is_positive, or_else, sign_of}

@@ -1,7 +1,7 @@
 -- What is known of picks that are looked at with their counts.
 use Rattle.std.proofs.Common.{◌≡◌, ℕ, List, subst, ap, sym, ◌∙◌, ℤ, pos, neg_ℤ, ◌≤ℤ◌}
 use Rattle.timetable.specs.Day.{Day}
-use Rattle.timetable.specs.Picking.{picked}
+use Rattle.timetable.specs.Picks.{picked}
 use Rattle.inventory.specs.Counts.{count_of_place, last_of}
 use Rattle.inventory.specs.Loaded.{Loaded}
 use Rattle.transitions.specs.declared.edge.Edge.{Edge}

@@ -5,7 +5,7 @@ use Rattle.timetable.specs.Compositions.{composition_at}
 use Rattle.timetable.specs.Cost.{cost_of, link_cost, trip_cost}
 use Rattle.timetable.specs.Links.{list_of}
 use Rattle.timetable.specs.Lists.{sum_below}
-use Rattle.timetable.specs.Picking.{picked}
+use Rattle.timetable.specs.Picks.{picked}
 use Rattle.timetable.proofs.Sums.{sum_add, sum_same}
 use Rattle.branch_tree.specs.IntSums.{int_sum}
 use Rattle.branch_tree.specs.Meanings.{weighted}
@@ -13,7 +13,7 @@ use Rattle.price_bound.specs.ChainStages.{Priced, cost_on}
 use Rattle.price_bound.specs.ChangedDays.{AreChanges, added_cost, changed_day, changed_meanings}
 use Rattle.price_bound.specs.Changes.{change_cost, changed_cost}
 use Rattle.price_bound.specs.FirstPaths.{IsPricedBy}
-use Rattle.price_bound.specs.Following.{pick_of}
+use Rattle.price_bound.specs.FollowingPicks.{pick_of}
 use Rattle.price_bound.specs.Slacks.{slack_of}
 use Rattle.price_bound.proofs.ChangedCosts.{added_by_trips}
 use Rattle.price_bound.proofs.Regrouping.{are_regrouped}

@@ -42,7 +42,7 @@ use Rattle.branch_tree.specs.IntSums.{int_sum}
 use Rattle.branch_tree.specs.Meanings.{weighted}
 use Rattle.price_bound.specs.EdgeValues.{coupled, edge_value, part_multiplier, part_value, shunt_cost, stayed, stays_by}
 use Rattle.price_bound.specs.EdgeValues.{turn_value}
-use Rattle.price_bound.specs.Following.{part_by}
+use Rattle.price_bound.specs.FollowingPicks.{part_by}
 use Rattle.price_bound.specs.Regrouped.{of_handover, part_price, value_at_link}
 use Rattle.price_bound.specs.YardPrices.{by_place, giving, taking, yard_price}
 use Rattle.price_bound.proofs.IntLaws.{sum_append, sum_none, sum_same}

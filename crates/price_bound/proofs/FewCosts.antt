@@ -12,7 +12,7 @@ use Rattle.timetable.specs.Cost.{cost_of, is_shunted, kind_cost, link_cost, miss
 use Rattle.timetable.specs.Day.{Day, km_of, demand_of, first_demand_of}
 use Rattle.timetable.specs.Links.{list_of, turned}
 use Rattle.timetable.specs.Lists.{sum_below}
-use Rattle.timetable.specs.Picking.{ArePicks, picked}
+use Rattle.timetable.specs.Picks.{ArePicks, picked}
 use Rattle.timetable.proofs.Carriages.{carriages_le}
 use Rattle.cost_model.specs.declared.costs.TheConstants.{MOST_DAY_COST}
 use Rattle.price_bound.proofs.FewTaken.{few_listed}

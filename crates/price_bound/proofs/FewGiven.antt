@@ -14,7 +14,7 @@ use Rattle.timetable.specs.declared.day.records.Unit as unit
 use Rattle.timetable.specs.Accepted.{IsDay}
 use Rattle.timetable.specs.Day.{Day, to_of, units_in, units_of, ready_at}
 use Rattle.timetable.specs.Links.{list_of, itself, link_out, given_by, given_with, turned}
-use Rattle.timetable.specs.Picking.{ArePicks, picked}
+use Rattle.timetable.specs.Picks.{ArePicks, picked}
 use Rattle.timetable.specs.Starts.{start_in, start_of}
 use Rattle.timetable.specs.Turns.{Parts, beyond, kept_length, may_shunt, parts_at, same, staying, turn_parts}
 use Rattle.transitions.proofs.Kept.{length-turned}

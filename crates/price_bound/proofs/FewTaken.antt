@@ -17,11 +17,11 @@ use Rattle.timetable.specs.Compositions.{composition_at}
 use Rattle.timetable.specs.Day.{Day, leaves, from_of}
 use Rattle.timetable.specs.Links.{list_of, itself, link_into, taken_by, taken_with, turned}
 use Rattle.timetable.specs.Lists.{count_of, sum_below}
-use Rattle.timetable.specs.Picking.{ArePicks, picked}
+use Rattle.timetable.specs.Picks.{ArePicks, picked}
 use Rattle.timetable.specs.Turns.{Parts, beyond, kept_length, may_shunt, parts_at, same, staying, turn_parts}
 use Rattle.transitions.proofs.Listed.{few_units}
 use Rattle.inventory.specs.Counts.{all_taken, count_at, last_of, takes_of, taken_until}
-use Rattle.price_bound.specs.Following.{pick_of}
+use Rattle.price_bound.specs.FollowingPicks.{pick_of}
 use Rattle.price_bound.proofs.Solving.{list_picked}
 
 pub count_le : (m : ℕ) (us : List ℕ) → count_of m us ≤ length us

@@ -16,7 +16,7 @@ use Rattle.timetable.specs.Indices.{IsLambda, IsPlace, Precedes, lambdas_of, mus
 use Rattle.timetable.proofs.Indices.{have_multipliers, known_place}
 use Rattle.timetable.proofs.Listing.{get_first, get_second}
 use Rattle.timetable.proofs.NamedTrips.{position_some}
-use Rattle.price_bound.specs.Following.{pick_of}
+use Rattle.price_bound.specs.FollowingPicks.{pick_of}
 use Rattle.price_bound.specs.Parts.{HasPart, IsPartAt, Misses, second_pick}
 use Rattle.price_bound.specs.Slacks.{handover_slack, is_positive, one_if, slack_at}
 use Rattle.price_bound.proofs.Steps.{entry_below}

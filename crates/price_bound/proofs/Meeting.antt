@@ -16,7 +16,7 @@ use Rattle.timetable.specs.Day.{Day, wanted_of}
 use Rattle.timetable.specs.Handovers.{IsHandover, handovers_of}
 use Rattle.timetable.specs.Indices.{IsLambda, IsPlace, lambdas_of, places_of}
 use Rattle.timetable.specs.Minutes.{minutes_of}
-use Rattle.timetable.specs.Picking.{IsSolution, picked}
+use Rattle.timetable.specs.Picks.{IsSolution, picked}
 use Rattle.timetable.specs.Starts.{start_of}
 use Rattle.timetable.specs.Turns.{same}
 use Rattle.timetable.proofs.Handovers.{are_handovers}
@@ -25,7 +25,7 @@ use Rattle.timetable.proofs.Shares.{same_lists}
 use Rattle.inventory.specs.Counts.{AreServed, taken_until, ready_until, all_taken, all_given}
 use Rattle.branch_tree.specs.Meanings.{IsMet}
 use Rattle.price_bound.specs.DayMeanings.{meanings_of}
-use Rattle.price_bound.specs.Following.{part_of, pick_of}
+use Rattle.price_bound.specs.FollowingPicks.{part_of, pick_of}
 use Rattle.price_bound.specs.Slacks.{one_if, is_part, handover_slack, slack_at, slack_of}
 use Rattle.price_bound.proofs.Solving.{same_number, second_is_part, second_listed}
 use Rattle.price_bound.proofs.Steps.{entry_below}

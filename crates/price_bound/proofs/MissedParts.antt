@@ -6,11 +6,11 @@ use Rattle.timetable.specs.declared.day.indices.Place.{Place}
 use Rattle.timetable.specs.declared.day.indices.Place.TheVariants.{Sigma}
 use Rattle.timetable.specs.Day.{Day}
 use Rattle.timetable.specs.Handovers.{IsHandover, handovers_of}
-use Rattle.timetable.specs.Picking.{picked}
+use Rattle.timetable.specs.Picks.{picked}
 use Rattle.timetable.proofs.Handovers.{are_handovers}
 use Rattle.price_bound.specs.BrokenLaws.{PartsAreMissedOrNot}
 use Rattle.price_bound.specs.DayMeanings.{IsAccepted}
-use Rattle.price_bound.specs.Following.{Follow, part_of}
+use Rattle.price_bound.specs.FollowingPicks.{Follow, part_of}
 use Rattle.price_bound.specs.Parts.{HasPart, IsFirstMissed, IsPartAt, Misses, second_pick}
 use Rattle.price_bound.proofs.PartsFound.{part_there}
 use Rattle.price_bound.proofs.Ruling.{edge_part, step}

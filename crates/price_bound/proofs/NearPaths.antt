@@ -14,7 +14,7 @@ use Rattle.timetable.specs.Compositions.{composition_at}
 use Rattle.timetable.specs.Handovers.{second_of}
 use Rattle.timetable.specs.Links.{departing_in}
 use Rattle.timetable.specs.Lists.{count_of}
-use Rattle.timetable.specs.Picking.{picked}
+use Rattle.timetable.specs.Picks.{picked}
 use Rattle.timetable.proofs.LinkNames.{names_below}
 use Rattle.timetable.proofs.Ones.{one_same, one_other}
 use Rattle.transitions.specs.declared.edge.Edge.{Edge}
@@ -24,7 +24,7 @@ use Rattle.branch_tree.specs.IntSums.{int_sum}
 use Rattle.branch_tree.proofs.Lying.{picks_lie_by_trip}
 use Rattle.price_bound.specs.ChainStages.{Priced, cost_on, ArePaths, part_is_in}
 use Rattle.price_bound.specs.DayMeanings.{one_after_another}
-use Rattle.price_bound.specs.Following.{IsStep, part_of}
+use Rattle.price_bound.specs.FollowingPicks.{IsStep, part_of}
 use Rattle.price_bound.specs.IntBelow.{int_below}
 use Rattle.price_bound.specs.Near.{AreNear, LieIn}
 use Rattle.price_bound.specs.Regrouped.{constant_of, link_value, regrouped}

@@ -16,7 +16,7 @@ use Rattle.timetable.specs.Handovers.{IsHandover, handovers_of}
 use Rattle.timetable.specs.Links.{itself, given_with, taken_with}
 use Rattle.timetable.specs.Lists.{count_of, sum_below}
 use Rattle.timetable.specs.Minutes.{minutes_of}
-use Rattle.timetable.specs.Picking.{picked}
+use Rattle.timetable.specs.Picks.{picked}
 use Rattle.timetable.specs.Starts.{start_of}
 use Rattle.timetable.specs.Turns.{same}
 use Rattle.timetable.proofs.Handovers.{are_handovers}
@@ -24,7 +24,7 @@ use Rattle.timetable.proofs.LinkNames.{names_below}
 use Rattle.std.proofs.lemmas.Option.{slice_get_within, get_or_from_slice_get}
 use Rattle.inventory.specs.Counts.{takes_of, gives_of, taken_until, ready_until, all_taken, all_given}
 use Rattle.branch_tree.specs.IntSums.{int_sum}
-use Rattle.price_bound.specs.Following.{part_of, pick_of}
+use Rattle.price_bound.specs.FollowingPicks.{part_of, pick_of}
 use Rattle.price_bound.specs.IntBelow.{int_below}
 use Rattle.price_bound.specs.Regrouped.{constant_by, of_handover}
 use Rattle.price_bound.specs.Slacks.{handover_slack, is_part, one_if, slack_at}

@@ -13,7 +13,7 @@ use Rattle.timetable.proofs.LinkNames.{names_below}
 use Rattle.branch_tree.specs.declared.multipliers.Entry.{Entry}
 use Rattle.branch_tree.specs.Entries.{IsPastLast, entry_of}
 use Rattle.price_bound.specs.Entered.{entered, handover_index}
-use Rattle.price_bound.specs.Following.{Follow, pick_of}
+use Rattle.price_bound.specs.FollowingPicks.{Follow, pick_of}
 use Rattle.price_bound.specs.Parts.{IsPartAt, second_pick}
 use Rattle.price_bound.specs.Slacks.{slack_of}
 use Rattle.price_bound.proofs.SlackIndices.{after_high, after_low, at_part, at_second, past_entered}

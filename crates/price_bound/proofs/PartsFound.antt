@@ -12,12 +12,12 @@ use Rattle.timetable.specs.Chains.{leads_from, leads_to}
 use Rattle.timetable.specs.Compositions.{compositions_of, composition_at}
 use Rattle.timetable.specs.Day.{Day}
 use Rattle.timetable.specs.Handovers.{IsHandover, handovers_of, second_of}
-use Rattle.timetable.specs.Picking.{picked}
+use Rattle.timetable.specs.Picks.{picked}
 use Rattle.timetable.specs.Turns.{same}
 use Rattle.timetable.proofs.Shares.{same_lists}
 use Rattle.transitions.specs.declared.edge.Edge.{Edge}
 use Rattle.transitions.specs.Edges.{AreGraphs, IsFound}
-use Rattle.price_bound.specs.Following.{Follow, part_of, pick_of}
+use Rattle.price_bound.specs.FollowingPicks.{Follow, part_of, pick_of}
 use Rattle.price_bound.specs.Parts.{IsPartAt}
 use Rattle.price_bound.specs.Slacks.{is_part}
 use Rattle.price_bound.proofs.Ruling.{edge_part, step}

@@ -15,7 +15,7 @@ use Rattle.branch_tree.specs.Meanings as meanings
 use Rattle.price_bound.specs.ChainStages.{Priced, along, AreFirstPaths, ArePaths, stages_of}
 use Rattle.price_bound.specs.DayMeanings.{one_after_another, trips_by_chain}
 use Rattle.price_bound.specs.FirstPaths.{IsPricedBy}
-use Rattle.price_bound.specs.Following.{pick_of}
+use Rattle.price_bound.specs.FollowingPicks.{pick_of}
 use Rattle.price_bound.specs.Paths.{IsNoLaterPath, IsPath}
 use Rattle.price_bound.specs.Regrouped.{constant_of}
 use Rattle.price_bound.proofs.NearPaths.{HavePaths, near_have_paths, paths_are_near, paths_value, regrouped_is}

@@ -7,7 +7,7 @@ use Rattle.std.proofs.lemmas.Int.{ints, by_lt_z}
 use Rattle.compositions.specs.Catalogue.{is_lower}
 use Rattle.price_bound.specs.ChainStages.{Priced, along, AreFirstPaths, ArePaths}
 use Rattle.price_bound.specs.DayMeanings.{one_after_another}
-use Rattle.price_bound.specs.Following.{pick_of}
+use Rattle.price_bound.specs.FollowingPicks.{pick_of}
 use Rattle.price_bound.specs.Paths.{IsNoLaterPath}
 
 -- ---- lists in order, one after another

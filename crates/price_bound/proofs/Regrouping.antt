@@ -16,7 +16,7 @@ use Rattle.timetable.specs.Day.{Day}
 use Rattle.timetable.specs.Links.{arriving_in, departing_in, given_by, given_with, incoming, itself, link_into}
 use Rattle.timetable.specs.Links.{link_out, list_of, outgoing, taken_by, taken_with}
 use Rattle.timetable.specs.Lists.{count_of, sum_below}
-use Rattle.timetable.specs.Picking.{picked}
+use Rattle.timetable.specs.Picks.{picked}
 use Rattle.timetable.proofs.LinkNames.{names_below}
 use Rattle.timetable.proofs.NamedTrips.{IsNamed, named_or_not}
 use Rattle.timetable.proofs.Ones.{one_same, one_other}
@@ -25,7 +25,7 @@ use Rattle.branch_tree.specs.declared.relaxation.Weight.{Weight}
 use Rattle.branch_tree.specs.declared.relaxation.Weight.TheVariants.{Cost, NoCost}
 use Rattle.branch_tree.specs.IntSums.{int_sum}
 use Rattle.branch_tree.specs.Meanings.{weighted}
-use Rattle.price_bound.specs.Following.{part_of, pick_of}
+use Rattle.price_bound.specs.FollowingPicks.{part_of, pick_of}
 use Rattle.price_bound.specs.IntBelow.{int_below}
 use Rattle.price_bound.specs.Regrouped.{AreRegrouped, constant_of, link_value, part_price, regrouped, second_price}
 use Rattle.price_bound.specs.Regrouped.{trip_value, value_at_link}

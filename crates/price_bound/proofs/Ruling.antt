@@ -19,7 +19,7 @@ use Rattle.timetable.specs.Handovers.{handovers_of, second_of}
 use Rattle.timetable.specs.Indices.{sigmas_of}
 use Rattle.timetable.specs.Links.{itself, link_holds, list_of}
 use Rattle.timetable.specs.Lists.{listed, joined}
-use Rattle.timetable.specs.Picking.{picked}
+use Rattle.timetable.specs.Picks.{picked}
 use Rattle.timetable.specs.Turns.{same}
 use Rattle.timetable.proofs.Handovers.{are_handovers}
 use Rattle.timetable.proofs.LinkNames.{names_below}
@@ -29,7 +29,7 @@ use Rattle.transitions.specs.declared.edge.Edge.{Edge}
 use Rattle.transitions.specs.Edges.{IsKindEdge}
 use Rattle.transitions.specs.Laws.{AreOn}
 use Rattle.transitions.proofs.ByRule.{edges_by_rule}
-use Rattle.price_bound.specs.Following.{Follow, IsStep, part_of, pick_of}
+use Rattle.price_bound.specs.FollowingPicks.{Follow, IsStep, part_of, pick_of}
 use Rattle.price_bound.specs.Slacks.{one_if, handover_slack, is_positive, slack_at}
 use Rattle.price_bound.proofs.Solving.{LeadWithin, lead_within, second_within, list_picked, part_is, IsPart}
 

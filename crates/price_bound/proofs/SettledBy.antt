@@ -14,7 +14,7 @@ use Rattle.timetable.specs.Compositions.{composition_at}
 use Rattle.timetable.specs.Day.{Day, wanted_of}
 use Rattle.timetable.specs.Handovers.{handovers_of}
 use Rattle.timetable.specs.Indices.{IsIndexOf, IsPlace, Precedes, lambdas_of, mus_of, sigmas_of, places_of}
-use Rattle.timetable.specs.Picking.{IsSolution, picked}
+use Rattle.timetable.specs.Picks.{IsSolution, picked}
 use Rattle.timetable.specs.Turns.{same}
 use Rattle.timetable.proofs.Handovers.{are_handovers}
 use Rattle.timetable.proofs.Shares.{same_lists}
@@ -29,9 +29,9 @@ use Rattle.branch_tree.specs.declared.relaxation.Settled.TheVariants.{Costs, Bro
 use Rattle.branch_tree.specs.Bounds.{IsSettled}
 use Rattle.branch_tree.specs.Meanings.{IsBroken, IsMet, Meanings}
 use Rattle.price_bound.specs.DayMeanings.{IsAccepted, meanings_of}
-use Rattle.price_bound.specs.Following.{Follow, part_of, pick_of}
+use Rattle.price_bound.specs.FollowingPicks.{Follow, part_of, pick_of}
 use Rattle.price_bound.specs.Parts.{HasPart, IsFirstMissed, Misses, NoneMissed, second_pick}
-use Rattle.price_bound.specs.Settling.{Names, fault_sign, place_of}
+use Rattle.price_bound.specs.BrokenPlaces.{Names, fault_sign, place_of}
 use Rattle.price_bound.specs.Slacks.{broken_at, broken_index, first_from, is_none, is_part, is_positive, or_else}
 use Rattle.price_bound.specs.Slacks.{sign_of, slack_at, slack_of}
 use Rattle.price_bound.proofs.Breaking.{broken_there}

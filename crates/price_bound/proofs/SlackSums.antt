@@ -10,10 +10,10 @@ use Rattle.timetable.specs.Accepted.{AreLinks}
 use Rattle.timetable.specs.Day.{Day, leaves, from_of, to_of, ready_at}
 use Rattle.timetable.specs.Indices.{places_of}
 use Rattle.timetable.specs.Links.{given_with, itself, taken_with}
-use Rattle.timetable.specs.Picking.{picked}
+use Rattle.timetable.specs.Picks.{picked}
 use Rattle.branch_tree.specs.declared.multipliers.Entry.{Entry}
 use Rattle.branch_tree.specs.IntSums.{int_sum}
-use Rattle.price_bound.specs.Following.{part_of, pick_of}
+use Rattle.price_bound.specs.FollowingPicks.{part_of, pick_of}
 use Rattle.price_bound.specs.IntBelow.{int_below}
 use Rattle.price_bound.specs.Regrouped.{constant_by, constant_of, of_handover, part_price, second_price}
 use Rattle.price_bound.specs.Slacks.{slack_at, slack_of}

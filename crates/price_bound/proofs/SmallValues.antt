@@ -15,7 +15,7 @@ use Rattle.timetable.specs.Handovers.{handovers_of}
 use Rattle.timetable.specs.Indices.{places_of}
 use Rattle.timetable.specs.Lists.{sum_below}
 use Rattle.timetable.specs.Minutes.{minutes_of}
-use Rattle.timetable.specs.Picking.{ArePicks, picked}
+use Rattle.timetable.specs.Picks.{ArePicks, picked}
 use Rattle.timetable.specs.Starts.{start_of}
 use Rattle.inventory.specs.Counts.{all_given, all_taken, ready_until, taken_until}
 use Rattle.branch_tree.specs.declared.multipliers.Entry.{Entry}
@@ -29,7 +29,7 @@ use Rattle.price_bound.specs.declared.sizes.TheConstants.{MOST_SLACK}
 use Rattle.price_bound.specs.ChangedDays.{AreChanges, added_cost, changed_day, changed_meanings}
 use Rattle.price_bound.specs.Changes.{change_cost}
 use Rattle.price_bound.specs.DayMeanings.{IsAccepted, meanings_of}
-use Rattle.price_bound.specs.Following.{Follow, pick_of}
+use Rattle.price_bound.specs.FollowingPicks.{Follow, pick_of}
 use Rattle.price_bound.specs.Sizes.{ChangedSlacksAreSmall, ChangedValuesAreSmall, SlacksAreSmall, ValuesAreSmall}
 use Rattle.price_bound.specs.Slacks.{handover_slack, is_part, one_if, slack_at, slack_of}
 use Rattle.price_bound.proofs.ChangedCosts.{added_by_trips}

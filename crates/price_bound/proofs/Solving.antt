@@ -17,7 +17,7 @@ use Rattle.timetable.specs.Day.{Day, types_of}
 use Rattle.timetable.specs.Handovers.{second_of}
 use Rattle.timetable.specs.LinkRows.{NamesBelow}
 use Rattle.timetable.specs.Links.{list_of, turned, join_holds, split_holds}
-use Rattle.timetable.specs.Picking.{IsSolution, picked}
+use Rattle.timetable.specs.Picks.{IsSolution, picked}
 use Rattle.timetable.proofs.LinkNames.{names_below}
 use Rattle.timetable.proofs.Shares.{same_lists}
 use Rattle.transitions.specs.declared.edge.Edge.{Edge}
@@ -28,7 +28,7 @@ use Rattle.transitions.proofs.Kept.{turned_twice, length-turned}
 use Rattle.transitions.proofs.Numbers.{same_place, at_number}
 use Rattle.branch_tree.specs.Regions.{are_in}
 use Rattle.branch_tree.proofs.Lying.{picks_lie_by_trip}
-use Rattle.price_bound.specs.Following.{Follow, IsStep, part_by, part_of, pick_of}
+use Rattle.price_bound.specs.FollowingPicks.{Follow, IsStep, part_by, part_of, pick_of}
 use Rattle.price_bound.specs.Near.{AreNear, LieIn}
 
 -- compositions of the same types have one number

@@ -7,7 +7,7 @@ use Rattle.timetable.specs.Day.{Day}
 use Rattle.transitions.specs.declared.edge.Edge.{Edge}
 use Rattle.transitions.specs.Edges.{AreGraphs, IsFound}
 use Rattle.transitions.proofs.Following.{edges_found}
-use Rattle.price_bound.specs.Following.{IsStep, pick_of}
+use Rattle.price_bound.specs.FollowingPicks.{IsStep, pick_of}
 
 -- the edge of a step is found between its two picks
 pub found_by : (day : Day) (graphs : List (List Edge)) (picks : List ℕ) (l from to : ℕ) (link : Link) → AreGraphs day graphs

@@ -22,7 +22,7 @@ use Rattle.price_bound.specs.declared.cells.Cell.{Cell}
 use Rattle.price_bound.specs.CellRows.{put_along}
 use Rattle.price_bound.specs.ChainStages.{Priced, along, AreFirstPaths, edges_of, may_have, stage_of, stages_of}
 use Rattle.price_bound.specs.ChainStages.{worth_of}
-use Rattle.price_bound.specs.Following.{pick_of}
+use Rattle.price_bound.specs.FollowingPicks.{pick_of}
 use Rattle.price_bound.specs.Paths.{IsFirstPath, IsOver, IsPath, begin_of, rows_of, walked}
 use Rattle.price_bound.proofs.Begins.{first_path}
 use Rattle.price_bound.proofs.Solving.{AreListed, edge_listed}

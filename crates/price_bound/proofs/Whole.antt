@@ -16,7 +16,7 @@ use Rattle.timetable.specs.Day.{Day, wanted_of}
 use Rattle.timetable.specs.Handovers.{second_of}
 use Rattle.timetable.specs.Indices.{IsPlace, lambdas_of, mus_of, sigmas_of, places_of}
 use Rattle.timetable.specs.Lists.{listed, joined}
-use Rattle.timetable.specs.Picking.{ArePicks, IsSolution, picked}
+use Rattle.timetable.specs.Picks.{ArePicks, IsSolution, picked}
 use Rattle.timetable.proofs.Indices.{get_place, have_multipliers, index_in}
 use Rattle.timetable.proofs.Listing.{get_first, get_joined, get_listed, length-listed}
 use Rattle.timetable.proofs.NamedTrips.{position_none}
@@ -26,7 +26,7 @@ use Rattle.inventory.specs.StockFaults.{NoneShort, AllBalanced}
 use Rattle.inventory.proofs.Solutions.{faults_decide, solutions_are_served}
 use Rattle.branch_tree.specs.Meanings.{IsBroken, IsRelaxation}
 use Rattle.price_bound.specs.DayMeanings.{IsAccepted, meanings_of}
-use Rattle.price_bound.specs.Following.{Follow, part_of, pick_of}
+use Rattle.price_bound.specs.FollowingPicks.{Follow, part_of, pick_of}
 use Rattle.price_bound.specs.Slacks.{broken_at, broken_index, first_from, is_none, is_positive, or_else, slack_at}
 use Rattle.price_bound.proofs.Breaking.{broken_there}
 use Rattle.price_bound.proofs.Meeting.{solution_met}

@@ -5,7 +5,7 @@ use Rattle.timetable.specs.declared.day.indices.Place.{Place}
 use Rattle.timetable.specs.Compositions.{compositions_of}
 use Rattle.timetable.specs.Day.{Day}
 use Rattle.timetable.specs.Indices.{IsIndexOf, lambdas_of, mus_of}
-use Rattle.timetable.specs.Picking.{IsSolution, picked}
+use Rattle.timetable.specs.Picks.{IsSolution, picked}
 use Rattle.inventory.specs.declared.faults.StockFault.{StockFault}
 use Rattle.inventory.specs.StockFaults.{IsFirstFault}
 use Rattle.branch_tree.specs.Bounds.{IsEmpty}
@@ -15,9 +15,9 @@ use Rattle.branch_tree.specs.Regions.{alone}
 use Rattle.price_bound.specs.declared.changes.Change.{Change}
 use Rattle.price_bound.specs.ChangedDays.{changed_day, changed_meanings}
 use Rattle.price_bound.specs.DayMeanings.{IsAccepted, meanings_of}
-use Rattle.price_bound.specs.Following.{Follow}
+use Rattle.price_bound.specs.FollowingPicks.{Follow}
 use Rattle.price_bound.specs.Parts.{IsFirstMissed, NoneMissed}
-use Rattle.price_bound.specs.Settling.{fault_sign, place_of}
+use Rattle.price_bound.specs.BrokenPlaces.{fault_sign, place_of}
 use Rattle.price_bound.specs.Slacks.{broken_at}
 
 -- ---- where picks are broken

@@ -15,7 +15,7 @@ use Rattle.branch_tree.specs.Regions.{has}
 use Rattle.price_bound.specs.declared.changes.Change.{Change}
 use Rattle.price_bound.specs.Changes.{changed_cost}
 use Rattle.price_bound.specs.EdgeValues.{edge_value}
-use Rattle.price_bound.specs.Following.{pick_of}
+use Rattle.price_bound.specs.FollowingPicks.{pick_of}
 use Rattle.price_bound.specs.Paths.{Stage, IsFirstPath, IsPath}
 use Rattle.price_bound.specs.Regrouped.{trip_value}
 

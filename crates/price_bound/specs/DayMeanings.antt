@@ -6,12 +6,12 @@ use Rattle.timetable.specs.Compositions.{compositions_of}
 use Rattle.timetable.specs.Cost.{cost_of}
 use Rattle.timetable.specs.Day.{Day}
 use Rattle.timetable.specs.Indices.{lambdas_of, places_of}
-use Rattle.timetable.specs.Picking.{IsSolution, picked}
+use Rattle.timetable.specs.Picks.{IsSolution, picked}
 use Rattle.branch_tree.specs.Meanings.{IsRelaxation, Meanings}
 use Rattle.inventory.specs.Loaded.{Loaded}
 use Rattle.transitions.specs.declared.edge.Edge.{Edge}
 use Rattle.transitions.specs.Edges.{AreGraphs}
-use Rattle.price_bound.specs.Following.{Follow}
+use Rattle.price_bound.specs.FollowingPicks.{Follow}
 use Rattle.price_bound.specs.Near.{AreNear}
 use Rattle.price_bound.specs.Slacks.{broken_at, slack_of}
 

@@ -7,14 +7,14 @@ use Rattle.timetable.specs.Day.{Day}
 use Rattle.timetable.specs.Handovers.{handovers_of}
 use Rattle.timetable.specs.Indices.{lambdas_at, lambdas_of, mus_of, places_of}
 use Rattle.timetable.specs.Lists.{joined, listed}
-use Rattle.timetable.specs.Picking.{picked}
+use Rattle.timetable.specs.Picks.{picked}
 use Rattle.inventory.specs.Loaded.{Loaded}
 use Rattle.transitions.specs.declared.edge.Edge.{Edge}
 use Rattle.transitions.specs.Edges.{AreGraphs}
 use Rattle.branch_tree.specs.declared.multipliers.Entry.{Entry}
 use Rattle.branch_tree.specs.Entries.{entry_of}
 use Rattle.price_bound.specs.DayMeanings.{IsAccepted}
-use Rattle.price_bound.specs.Following.{Follow}
+use Rattle.price_bound.specs.FollowingPicks.{Follow}
 use Rattle.price_bound.specs.Slacks.{slack_of}
 
 -- the entries of numbers that are not 0, of those below an index

@@ -1,5 +1,5 @@
 -- picks that follow, and the parts of joins and splits
-pub mod Following
+pub mod FollowingPicks
 pub mod Near
 -- slacks, and where picks are broken
 pub mod Slacks
@@ -7,7 +7,7 @@ pub mod Parts
 -- the relaxation
 pub mod DayMeanings
 -- what settling names
-pub mod Settling
+pub mod BrokenPlaces
 -- where picks are broken first
 pub mod BrokenLaws
 -- what is entered of the slacks

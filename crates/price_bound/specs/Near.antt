@@ -4,9 +4,9 @@ use Rattle.timetable.specs.declared.day.records.Link.{Link}
 use Rattle.timetable.specs.Compositions.{compositions_of, composition_at}
 use Rattle.timetable.specs.Day.{Day}
 use Rattle.timetable.specs.Handovers.{second_of}
-use Rattle.timetable.specs.Picking.{picked}
+use Rattle.timetable.specs.Picks.{picked}
 use Rattle.branch_tree.specs.Regions.{are_in, has}
-use Rattle.price_bound.specs.Following.{Follow, part_of}
+use Rattle.price_bound.specs.FollowingPicks.{Follow, part_of}
 
 -- types are those of a composition that a region has for a trip
 pub record LieIn (day : Day) (region : List (List Bool)) (t : ℕ) (types : List ℕ) : Type 0 where

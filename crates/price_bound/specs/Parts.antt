@@ -7,7 +7,7 @@ use Rattle.timetable.specs.declared.day.records.Handover.{Handover}
 use Rattle.timetable.specs.Compositions.{compositions_of}
 use Rattle.timetable.specs.Day.{Day}
 use Rattle.timetable.specs.Handovers.{handovers_of}
-use Rattle.price_bound.specs.Following.{pick_of}
+use Rattle.price_bound.specs.FollowingPicks.{pick_of}
 use Rattle.price_bound.specs.Slacks.{is_part}
 
 -- a composition is the part of a hand-over, and no other is

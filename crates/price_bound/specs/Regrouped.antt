@@ -14,14 +14,14 @@ use Rattle.timetable.specs.Day.{Day, wanted_of}
 use Rattle.timetable.specs.Handovers.{handovers_of}
 use Rattle.timetable.specs.Links.{itself, given_by, incoming, outgoing, taken_by}
 use Rattle.timetable.specs.Lists.{sum_below}
-use Rattle.timetable.specs.Picking.{picked}
+use Rattle.timetable.specs.Picks.{picked}
 use Rattle.timetable.specs.Starts.{start_of}
 use Rattle.timetable.specs.Turns.{same}
 use Rattle.branch_tree.specs.declared.multipliers.Entry.{Entry}
 use Rattle.branch_tree.specs.declared.relaxation.Weight.{Weight}
 use Rattle.branch_tree.specs.IntSums.{int_sum}
 use Rattle.branch_tree.specs.Meanings.{weighted}
-use Rattle.price_bound.specs.Following.{part_of, pick_of}
+use Rattle.price_bound.specs.FollowingPicks.{part_of, pick_of}
 use Rattle.price_bound.specs.IntBelow.{int_below}
 use Rattle.price_bound.specs.Slacks.{slack_of}
 use Rattle.price_bound.specs.YardPrices.{by_place, giving, taking}

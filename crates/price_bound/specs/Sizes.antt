@@ -9,7 +9,7 @@ use Rattle.price_bound.specs.declared.changes.Change.{Change}
 use Rattle.price_bound.specs.declared.sizes.TheConstants.{MOST_SLACK, MOST_VALUE}
 use Rattle.price_bound.specs.ChangedDays.{AreChanges, changed_day, changed_meanings}
 use Rattle.price_bound.specs.DayMeanings.{IsAccepted, meanings_of}
-use Rattle.price_bound.specs.Following.{Follow}
+use Rattle.price_bound.specs.FollowingPicks.{Follow}
 use Rattle.price_bound.specs.Slacks.{slack_of}
 
 -- The most that a slack is: the 2,000 units of a type that a station may start with or want, and the 6 units that each

@@ -9,11 +9,11 @@ use Rattle.timetable.specs.Compositions.{composition_at}
 use Rattle.timetable.specs.Day.{Day, wanted_of}
 use Rattle.timetable.specs.Handovers.{handovers_of}
 use Rattle.timetable.specs.Indices.{lambdas_of, mus_of, sigmas_of, places_of}
-use Rattle.timetable.specs.Picking.{picked}
+use Rattle.timetable.specs.Picks.{picked}
 use Rattle.timetable.specs.Turns.{same}
 use Rattle.inventory.specs.Counts.{count_of_place, last_of}
 use Rattle.branch_tree.specs.declared.multipliers.Entry.{Entry}
-use Rattle.price_bound.specs.Following.{part_of, pick_of}
+use Rattle.price_bound.specs.FollowingPicks.{part_of, pick_of}
 
 -- 1 where it is so, and 0 else
 abbrev pub one_if : Bool → ℤ

@@ -3,7 +3,7 @@
 ghost use Rattle.std.specs.Prelude.{ℕ, ◌≡◌, ◌<◌, ◌↔◌, IsTrue, length, slice_get, Some};
 ghost use Rattle.timetable.specs.declared.day.records.Link.{Link};
 ghost use Rattle.transitions.specs.Edges.{AreGraphs, MayRun};
-ghost use Rattle.price_bound.specs.Following.{Follow, IsStep, pick_of};
+ghost use Rattle.price_bound.specs.FollowingPicks.{Follow, IsStep, pick_of};
 
 use rail_base::{CompNo, LinkNo, TripNo};
 use timetable::{Instance, Picks};

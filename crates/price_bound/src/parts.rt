@@ -4,7 +4,7 @@ ghost use Rattle.std.specs.Prelude.{◌≡◌, ◌<◌, length, MatchOption};
 ghost use Rattle.timetable.specs.Handovers.{handovers_of};
 ghost use Rattle.transitions.specs.Edges.{AreGraphs};
 ghost use Rattle.price_bound.specs.DayMeanings.{IsAccepted};
-ghost use Rattle.price_bound.specs.Following.{Follow};
+ghost use Rattle.price_bound.specs.FollowingPicks.{Follow};
 ghost use Rattle.price_bound.specs.Parts.{IsFirstMissed, IsMissed, IsPartAt, NoneMissed, second_pick};
 
 use rail_base::CompNo;

@@ -6,8 +6,8 @@ ghost use Rattle.transitions.specs.Edges.{AreGraphs};
 ghost use Rattle.branch_tree.specs.Bounds.{IsSettled};
 ghost use Rattle.price_bound.specs.ChangedDays.{AreChanges, changed_day, changed_meanings};
 ghost use Rattle.price_bound.specs.DayMeanings.{IsAccepted};
-ghost use Rattle.price_bound.specs.Following.{Follow};
-ghost use Rattle.price_bound.specs.Settling.{Names, fault_sign, place_of};
+ghost use Rattle.price_bound.specs.FollowingPicks.{Follow};
+ghost use Rattle.price_bound.specs.BrokenPlaces.{Names, fault_sign, place_of};
 ghost use Rattle.price_bound.specs.Slacks.{sign_of};
 
 use crate::changes::{Change, added_cost};

@@ -12,7 +12,7 @@ ghost use Rattle.branch_tree.specs.Bounds.{AreSlacks};
 ghost use Rattle.branch_tree.specs.Entries.{IsPastLast, entry_of};
 ghost use Rattle.price_bound.specs.DayMeanings.{IsAccepted, meanings_of};
 ghost use Rattle.price_bound.specs.Entered.{end_index, entered, handover_index, station_index, yard_index};
-ghost use Rattle.price_bound.specs.Following.{Follow};
+ghost use Rattle.price_bound.specs.FollowingPicks.{Follow};
 ghost use Rattle.price_bound.specs.Slacks.{slack_at};
 
 use crate::parts::{part_at, second_at};

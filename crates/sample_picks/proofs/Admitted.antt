@@ -8,7 +8,7 @@ use Rattle.timetable.specs.Admissible.{is_admissible}
 use Rattle.timetable.specs.Compositions.{composition_at}
 use Rattle.timetable.specs.Day.{Day}
 use Rattle.timetable.specs.Links.{list_of}
-use Rattle.timetable.specs.Picking.{ArePicks, picked}
+use Rattle.timetable.specs.Picks.{ArePicks, picked}
 use Rattle.transitions.specs.Edges.{MayRun}
 use Rattle.unit_duties.specs.Broken.{AreAdmissible}
 

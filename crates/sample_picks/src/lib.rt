@@ -2,7 +2,7 @@
 #![tactic(auto)]
 
 ghost use Rattle.std.specs.Prelude.{◌<◌, length, IsTrue};
-ghost use Rattle.timetable.specs.Picking.{ArePicks};
+ghost use Rattle.timetable.specs.Picks.{ArePicks};
 ghost use Rattle.transitions.specs.Edges.{MayRun};
 ghost use Rattle.unit_duties.specs.Broken.{AreAdmissible};
 

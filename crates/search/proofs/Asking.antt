@@ -3,7 +3,7 @@ use Rattle.std.proofs.Common.{◌≡◌, ℕ, zero, suc, ◌+◌, ◌<◌, ◌�
 use Rattle.std.proofs.Common.{Bool, true, false, refl, sym, ap, subst, arith, add-one, ◌∙◌, ◌⊎◌, inl, inr}
 use Rattle.std.proofs.lemmas.List.{get_or_default}
 use Rattle.std.proofs.lemmas.List.Elements.{All-cons, All-nil, All-head, All-tail}
-use Rattle.search.specs.Asking.{IsAsked, AreAsked, AreAskedUpTo, CanAsk, IsAskedAt, MayBeAsked, in_rounds, once}
+use Rattle.search.specs.Questions.{IsAsked, AreAsked, AreAskedUpTo, CanAsk, IsAskedAt, MayBeAsked, in_rounds, once}
 
 -- ---- one advisor
 

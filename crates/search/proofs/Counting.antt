@@ -7,9 +7,9 @@ use Rattle.branch_tree.specs.declared.tree.Node.{Node}
 use Rattle.branch_tree.specs.Claims.{Priced, is_below, is_open}
 use Rattle.branch_tree.specs.Trees.{cut_of}
 use Rattle.search.specs.declared.found.Best.{Best}
-use Rattle.search.specs.Asking.{AreAsked, MayBeAsked, in_rounds}
+use Rattle.search.specs.Questions.{AreAsked, MayBeAsked, in_rounds}
 use Rattle.search.specs.Ends.{bounded_by, closed_by, found_by, made_or_open}
-use Rattle.search.specs.Solving.{nodes_found, plan_found, plan_in, bounded_with}
+use Rattle.search.specs.Conclusions.{nodes_found, plan_found, plan_in, bounded_with}
 use Rattle.branch_tree.specs.Claims.{plan_of}
 use Rattle.search.proofs.Asking.{are_asked_again, are_asked_within, in_rounds_less, in_rounds_sum, in_rounds_zero}
 use Rattle.search.proofs.Growing.{leaf_made}

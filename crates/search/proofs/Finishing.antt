@@ -25,7 +25,7 @@ use Rattle.search.specs.Frontiers.{can_improve}
 use Rattle.search.specs.Ends.{HasEnded, found_by, least_of, lesser, lesser_of, closed_by, bounded_by}
 use Rattle.search.specs.Nodes.{CanBranch, IsNodeOf, IsPlaced, IsSearched, cut_at, tree_node, tree_nodes}
 use Rattle.search.specs.Offers.{HasPlanIn}
-use Rattle.search.specs.Solving.{IsSolved, plan_in, bounded_with}
+use Rattle.search.specs.Conclusions.{IsSolved, plan_in, bounded_with}
 use Rattle.search.proofs.Below.{lower, not_lower, not_lower_test}
 
 -- ---- the tree

@@ -19,7 +19,7 @@ use Rattle.search.specs.declared.work.Work.{Work}
 use Rattle.search.specs.Evaluations.{AreSettled, IsEnding, IsEvaluated, IsOutcome, leaf_of}
 use Rattle.search.specs.Nodes.{IsLeafOf, tree_node}
 use Rattle.search.proofs.Below.{below_less}
-use Rattle.search.specs.Working.{IsWorkedOn, ended_by, is_left_open, left_by, node_by, node_from}
+use Rattle.search.specs.NodesInWork.{IsWorkedOn, ended_by, is_left_open, left_by, node_by, node_from}
 
 pub chain_of : (problem : Meanings) (region : List (List Bool)) (evaluation : Evaluation) → IsEvaluated problem region evaluation → IsChainValue problem region evaluation.multipliers Cost evaluation.value.0
 chain_of problem region evaluation is = bounds_are_chain_values problem region evaluation.multipliers Cost evaluation.value [] evaluation.picks (is.choice, is.value)

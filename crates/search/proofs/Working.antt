@@ -8,7 +8,7 @@ use Rattle.search.specs.declared.evaluation.Evaluation.{Evaluation}
 use Rattle.search.specs.declared.work.Work.{Work}
 use Rattle.search.specs.Evaluations.{IsEvaluated}
 use Rattle.search.specs.Offers.{IsOffered}
-use Rattle.search.specs.Working.{IsWorkedOn, learned}
+use Rattle.search.specs.NodesInWork.{IsWorkedOn, learned}
 use Rattle.search.proofs.Below.{lower}
 
 pub worked_with_cut : (problem : Meanings) (best : Option Priced) (work : Work) (cut : Option Cut) → IsWorkedOn problem best work → IsWorkedOn problem best (record work { cut = cut })

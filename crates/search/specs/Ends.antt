@@ -9,7 +9,7 @@ use Rattle.branch_tree.specs.Trees.{branchings_of}
 use Rattle.search.specs.declared.found.Best.{Best}
 use Rattle.search.specs.declared.found.Found.{Found}
 use Rattle.search.specs.declared.found.Found.TheVariants.{Optimal, Infeasible, Bounded}
-use Rattle.search.specs.Solving.{plan_in}
+use Rattle.search.specs.Conclusions.{plan_in}
 
 -- the lesser of two bounds, where there is a first
 abbrev pub lesser_of : Option Money → Money → Money

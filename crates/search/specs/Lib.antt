@@ -1,12 +1,12 @@
 -- how the advisors of a search are asked
-pub mod Asking
+pub mod Questions
 -- what a search finds
-pub mod Solving
+pub mod Conclusions
 -- the best solution so far, and evaluations of a region
 pub mod Offers
 pub mod Evaluations
 -- a node in work, and its advisors' desk
-pub mod Working
+pub mod NodesInWork
 pub mod Desks
 -- the nodes of a search, and those of them that may be branched
 pub mod Nodes

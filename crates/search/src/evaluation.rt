@@ -6,7 +6,7 @@ ghost use Rattle.branch_tree.specs.Claims.{is_below};
 ghost use Rattle.branch_tree.specs.Meanings.{DoFitFor};
 ghost use Rattle.search.specs.Evaluations.{IsOutcome, IsRayTest, IsSettledAs, leaf_of};
 ghost use Rattle.search.specs.Offers.{IsOffered};
-ghost use Rattle.search.specs.Solving.{plan_in};
+ghost use Rattle.search.specs.Conclusions.{plan_in};
 
 use crate::found::Best;
 use branch_tree::{BoundAnswer, Multipliers, Node, Region, Relaxation, Settled, Weight};

@@ -4,7 +4,7 @@ ghost use Rattle.std.specs.Prelude.{◌≡◌, ◌<◌, true, false, length, get
 ghost use Rattle.std.specs.BTreeMap.{ContainsKey, IsEmpty};
 ghost use Rattle.branch_tree.specs.Claims.{Priced};
 ghost use Rattle.search.specs.Frontiers.{IsEntered, IsOpenAt, can_improve, has_rank, rank_order};
-ghost use Rattle.search.specs.Solving.{plan_in};
+ghost use Rattle.search.specs.Conclusions.{plan_in};
 ghost use Rattle.search.specs.declared.nodes.SearchNode.{SearchNode};
 
 use crate::evaluation::is_below;

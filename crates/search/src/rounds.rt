@@ -1,13 +1,13 @@
 //! Rounds of advice: each advisor that has not quit is asked once a round, while a node is open.
 
 ghost use Rattle.std.specs.Prelude.{◌≡◌, ◌+◌, ◌<◌, ◌^◌, false, true, length, All, IfOk, OnOk};
-ghost use Rattle.advisors.specs.Advising.{quit_after};
+ghost use Rattle.advisors.specs.Quits.{quit_after};
 ghost use Rattle.advisors.specs.Proposals.{IsOverSame};
-ghost use Rattle.search.specs.Asking.{AreAsked, CanAsk, IsAskedAt, MayBeAsked, in_rounds, once};
+ghost use Rattle.search.specs.Questions.{AreAsked, CanAsk, IsAskedAt, MayBeAsked, in_rounds, once};
 ghost use Rattle.search.specs.Desks.{AreNotedBut, IsLaidOut};
 ghost use Rattle.search.specs.Offers.{IsOffered};
-ghost use Rattle.search.specs.Solving.{plan_in};
-ghost use Rattle.search.specs.Working.{IsWorkedOn, is_left_open};
+ghost use Rattle.search.specs.Conclusions.{plan_in};
+ghost use Rattle.search.specs.NodesInWork.{IsWorkedOn, is_left_open};
 
 use crate::found::Best;
 use crate::work::Work;

@@ -7,13 +7,13 @@ ghost use Rattle.branch_tree.specs.Claims.{Priced, is_open, open_leaves_of};
 ghost use Rattle.branch_tree.specs.Meanings.{DoFitFor};
 ghost use Rattle.branch_tree.specs.Regions.{IsOver};
 ghost use Rattle.branch_tree.specs.Trees.{branchings_of};
-ghost use Rattle.search.specs.Asking.{AreAsked, MayBeAsked, in_rounds};
+ghost use Rattle.search.specs.Questions.{AreAsked, MayBeAsked, in_rounds};
 ghost use Rattle.search.specs.Ends.{HasEnded, HaveKeptUp, found_by, least_of, lesser, made_or_open};
 ghost use Rattle.search.specs.Frontiers.{IsEntered, IsOpenAt};
 ghost use Rattle.search.specs.Nodes.{IsDivisionAt, IsLeafOf, IsSearched, branched, tree_node, tree_nodes};
 ghost use Rattle.search.specs.Offers.{IsOffered};
-ghost use Rattle.search.specs.Solving.{IsSolved, nodes_found, plan_found, plan_in};
-ghost use Rattle.search.specs.Working.{IsWorkedOn};
+ghost use Rattle.search.specs.Conclusions.{IsSolved, nodes_found, plan_found, plan_in};
+ghost use Rattle.search.specs.NodesInWork.{IsWorkedOn};
 ghost use Rattle.search.specs.declared.nodes.SearchNode.{SearchNode};
 
 use crate::evaluation::{Outcome, evaluate, is_below};

@@ -3,8 +3,8 @@
 ghost use Rattle.std.specs.Prelude.{◌≡◌, None, length, IfOk, OnOk};
 ghost use Rattle.branch_tree.specs.Meanings.{DoFitFor};
 ghost use Rattle.search.specs.Offers.{IsOffered};
-ghost use Rattle.search.specs.Solving.{plan_in};
-ghost use Rattle.search.specs.Working.{IsWorkedOn, is_left_open, learned, node_from, or_else};
+ghost use Rattle.search.specs.Conclusions.{plan_in};
+ghost use Rattle.search.specs.NodesInWork.{IsWorkedOn, is_left_open, learned, node_from, or_else};
 
 use crate::evaluation::{Ending, Evaluation, Outcome, evaluate, is_below};
 use crate::found::Best;

@@ -8,7 +8,7 @@ use Rattle.std.proofs.lemmas.Option.{same_Some}
 use Rattle.std.proofs.lemmas.List.Elements.{All-push, All-head, All-tail}
 use Rattle.std.proofs.lemmas.List.Quantifiers.{all_pairs_push}
 use Rattle.timetable.specs.declared.building.refusal.InstanceRefusal.{InstanceRefusal}
-use Rattle.timetable.specs.Naming.{found_or}
+use Rattle.timetable.specs.NamedEntries.{found_or}
 use Rattle.rail_base.specs.Answers.{◌>>=◌}
 use Rattle.timetable.specs.Rowwise.{accept_each}
 

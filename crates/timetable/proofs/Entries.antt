@@ -34,7 +34,7 @@ use Rattle.timetable.specs.Rowwise.{row_after}
 use Rattle.timetable.specs.Build.{new_stock, trip_between, has_fitting, platform_at, accept_type, types_in, type_in}
 use Rattle.timetable.specs.Build.{accept_station, stations_in, station_in, has_stock, accept_stock, stock_in}
 use Rattle.timetable.specs.Build.{accept_trip, accept_run, trips_in}
-use Rattle.timetable.specs.Naming.{has_name, find_name, found_or}
+use Rattle.timetable.specs.NamedEntries.{has_name, find_name, found_or}
 use Rattle.timetable.specs.Within.{AreTypes, AreStations, IsStation, IsStockAt, IsTripAt, AreTrips}
 use Rattle.timetable.proofs.Accepting.{bind_ok, guard_ok, choice_ok, found_ok, same_ok, accepted_all, accepted_length}
 

@@ -29,7 +29,7 @@ use Rattle.timetable.specs.LinkRows.{each_pair, accept_trips, accept_link, links
 use Rattle.timetable.specs.Links.{arriving_in, departing_in}
 use Rattle.timetable.specs.Lists.{count_of, has}
 use Rattle.timetable.specs.Meaning.{IsKindOf}
-use Rattle.timetable.specs.Naming.{find_name}
+use Rattle.timetable.specs.NamedEntries.{find_name}
 use Rattle.rail_base.specs.Answers.{◌>>=◌}
 use Rattle.timetable.specs.Rowwise.{row_after, accept_each}
 use Rattle.timetable.proofs.Accepting.{bind_ok, guard_ok, choice_ok, found_ok, same_ok, accepted_all}

@@ -28,7 +28,7 @@ use Rattle.timetable.specs.LinkRows.{accept_link, links_in}
 use Rattle.timetable.specs.Links.{arriving_in, departing_in}
 use Rattle.timetable.specs.Lists.{of_entry, has}
 use Rattle.timetable.specs.Meaning.{IsKindOf}
-use Rattle.timetable.specs.Naming.{find_name}
+use Rattle.timetable.specs.NamedEntries.{find_name}
 use Rattle.timetable.specs.Refusals.{IsNoTrip, FitsKind, NamesArriving, NamesDeparting, NamedBefore, UsesTwice}
 use Rattle.timetable.specs.Refusals.{HasTripsThat, kind_tests, meeting_tests, link_tests}
 use Rattle.timetable.specs.Tests.{Test, ◌when◌, row_tests}

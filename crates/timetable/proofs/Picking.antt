@@ -11,7 +11,7 @@ use Rattle.compositions.proofs.Listing.{catalogue_listed}
 use Rattle.timetable.specs.Compositions.{compositions_of, composition_at}
 use Rattle.timetable.specs.Day.{Day}
 use Rattle.timetable.specs.Links.{list_of}
-use Rattle.timetable.specs.Picking.{ArePicks, picked}
+use Rattle.timetable.specs.Picks.{ArePicks, picked}
 
 -- the list of a trip is that of the composition that is picked for it
 pub picked_on : (day : Day) (picks : List ℕ) (t comp : ℕ) (types : List ℕ) → slice_get picks t ≡ Some comp → slice_get (compositions_of day) comp ≡ Some types

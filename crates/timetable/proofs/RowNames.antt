@@ -12,7 +12,7 @@ use Rattle.std.proofs.lemmas.Option.{slice_get_within, slice_get-map, slice_get-
 use Rattle.std.proofs.lemmas.Option.{get_or_from_slice_get}
 use Rattle.std.proofs.lemmas.Slice.Eq.{bytes_eq-Decides}
 use Rattle.timetable.specs.Meaning.{IsNumberOf, AreNamedApart}
-use Rattle.timetable.specs.Naming.{has_name, find_name}
+use Rattle.timetable.specs.NamedEntries.{has_name, find_name}
 use Rattle.timetable.specs.Refusals.{HasName, HasNoName}
 use Rattle.timetable.proofs.Accepting.{any_front}
 use Rattle.timetable.proofs.Days.{entry_at}

@@ -25,7 +25,7 @@ use Rattle.timetable.specs.declared.building.tables.Tables.{Tables}
 use Rattle.timetable.specs.Admissible.{is_admissible}
 use Rattle.timetable.specs.Build.{has_stock, platform_at, accept_type, accept_station, accept_stock, accept_trip}
 use Rattle.timetable.specs.Build.{type_in, station_in, types_in, stations_in, stock_in, trips_in, day_of}
-use Rattle.timetable.specs.Naming.{has_name, find_name}
+use Rattle.timetable.specs.NamedEntries.{has_name, find_name}
 use Rattle.timetable.specs.Compositions.{greatest_platform}
 use Rattle.timetable.specs.Day.{Day, leaves, arrives, from_of, to_of, platform_of, units_of}
 use Rattle.timetable.specs.LinkRows.{accept_link, links_in}

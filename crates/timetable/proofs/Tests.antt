@@ -5,7 +5,7 @@ use Rattle.std.specs.Prelude.{◌||◌}
 use Rattle.std.specs.List.{AllZip, Any, list_any}
 use Rattle.rail_base.specs.Answers.{◌>>=◌}
 use Rattle.timetable.specs.declared.building.refusal.InstanceRefusal.{InstanceRefusal}
-use Rattle.timetable.specs.Naming.{found_or}
+use Rattle.timetable.specs.NamedEntries.{found_or}
 use Rattle.timetable.specs.Rowwise.{row_after, accept_each}
 use Rattle.timetable.specs.Tests.{Test, NoneFailed, IsFirstFailed, row_tests}
 use Rattle.timetable.proofs.Accepting.{zip_push}

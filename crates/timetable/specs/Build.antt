@@ -29,7 +29,7 @@ use Rattle.timetable.specs.Compositions.{greatest_in}
 use Rattle.timetable.specs.Day.{Day}
 use Rattle.timetable.specs.LinkRows.{links_in}
 use Rattle.timetable.specs.Lists.{of_entry}
-use Rattle.timetable.specs.Naming.{has_name, find_name, found_or}
+use Rattle.timetable.specs.NamedEntries.{has_name, find_name, found_or}
 use Rattle.timetable.specs.Rowwise.{row_after, accept_each}
 
 -- ---- types

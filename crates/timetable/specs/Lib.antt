@@ -11,7 +11,7 @@ pub mod Links
 pub mod Duties
 pub mod Running
 pub mod Cost
-pub mod Picking
+pub mod Picks
 -- its chains and hand-overs
 pub mod Chains
 pub mod Handovers
@@ -22,7 +22,7 @@ pub mod Indices
 -- which tables make a day, and which rows make a plan
 pub mod Rowwise
 pub mod Tests
-pub mod Naming
+pub mod NamedEntries
 pub mod LinkRows
 pub mod Build
 pub mod Plans
@@ -36,7 +36,7 @@ pub mod Laws
 -- the inside of an instance, and of the building of one
 pub mod AcceptedRows
 pub mod LinkTables
-pub mod Holding
+pub mod InstanceParts
 pub mod Flags
 pub mod Flagged
 pub use Rattle.compositions.specs.Composition

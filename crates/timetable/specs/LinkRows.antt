@@ -20,7 +20,7 @@ use Rattle.timetable.specs.declared.building.refusal.InstanceRefusal.TheVariants
 use Rattle.timetable.specs.declared.building.refusal.InstanceRefusal.TheVariants.{WrongLinkFields}
 use Rattle.timetable.specs.Links.{arriving_in, departing_in}
 use Rattle.timetable.specs.Lists.{of_entry, has}
-use Rattle.timetable.specs.Naming.{find_name, found_or}
+use Rattle.timetable.specs.NamedEntries.{find_name, found_or}
 use Rattle.timetable.specs.Rowwise.{row_after, accept_each}
 
 -- ---- the kind of a row, with the trips that it names

@@ -19,7 +19,7 @@ use Rattle.timetable.specs.Refusals.{NamedBefore, HasTripsThat, type_tests, stat
 use Rattle.timetable.specs.Refusals.{trip_tests, link_tests, day_tests}
 use Rattle.timetable.specs.Rowwise.{row_after}
 use Rattle.timetable.specs.Tests.{NoneFailed, row_tests}
-use Rattle.trial_day.specs.Accepting.{TrialDaysAreAccepted}
+use Rattle.trial_day.specs.AcceptedTables.{TrialDaysAreAccepted}
 use Rattle.trial_day.specs.Trial.{type_a, type_b, trial_types, station_x, station_y, trial_stations, stock_at_x}
 use Rattle.trial_day.specs.Trial.{trial_stock, out_name, back_name, begin_minute, drawn_out, drawn_back, pair_rows}
 use Rattle.trial_day.specs.Trial.{turn_row, trial_trips, trial_links, trial_tables_of}

@@ -6,7 +6,7 @@ use Rattle.std.proofs.lemmas.List.Elements.{All-from_recursion}
 use Rattle.rail_base.specs.Names.{is_name}
 use Rattle.rail_csv.specs.Rows.{IsTypeRow, IsStationRow, IsStockRow, IsTripRow, IsLinkRow, IsWeightsRow, AreTypeRows}
 use Rattle.rail_csv.specs.Rows.{AreStationRows, AreStockRows, AreTripRows, AreLinkRows}
-use Rattle.trial_day.specs.Accepting.{AreWithinLimits}
+use Rattle.trial_day.specs.AcceptedTables.{AreWithinLimits}
 use Rattle.trial_day.specs.Draws.{drawn, state_after}
 use Rattle.trial_day.specs.Trial.{type_a, type_b, trial_types, station_x, station_y, trial_stations, stock_at_x}
 use Rattle.trial_day.specs.Trial.{trial_stock, trial_weights, drawn_out, drawn_back, turn_row, trial_trips, trial_links}

@@ -2,4 +2,4 @@
 pub mod Draws
 pub mod Trial
 -- what is so of these tables
-pub mod Accepting
+pub mod AcceptedTables

@@ -3,7 +3,7 @@
 ghost use Rattle.std.specs.Prelude.{◌≡◌, Ok, IfOk};
 ghost use Rattle.timetable.specs.Build.{day_of};
 ghost use Rattle.timetable.specs.Meaning.{IsDayOf};
-ghost use Rattle.trial_day.specs.Accepting.{MakeADay};
+ghost use Rattle.trial_day.specs.AcceptedTables.{MakeADay};
 ghost use Rattle.trial_day.specs.Trial.{IsTrialSize, trial_tables_of};
 
 use crate::rows;

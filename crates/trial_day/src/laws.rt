@@ -2,7 +2,7 @@
 //!
 //! A law is the contract of a function that does nothing.
 
-ghost use Rattle.trial_day.specs.Accepting.{TrialDaysAreAccepted};
+ghost use Rattle.trial_day.specs.AcceptedTables.{TrialDaysAreAccepted};
 
 /// The tables of every trial day make a day: their rows are within the limits of the tables, and no test fails on
 /// them.

@@ -15,7 +15,7 @@ use Rattle.timetable.specs.Day.{Day}
 use Rattle.timetable.specs.Handovers.{second_of}
 use Rattle.timetable.specs.LinkRows.{NamesBelow}
 use Rattle.timetable.specs.Links.{itself, list_of, link_holds}
-use Rattle.timetable.specs.Picking.{ArePicks, picked}
+use Rattle.timetable.specs.Picks.{ArePicks, picked}
 use Rattle.timetable.proofs.Picking.{picked_on, pick_within}
 use Rattle.transitions.specs.declared.edge.Edge.{Edge}
 use Rattle.transitions.specs.declared.edge.Shunt.{Shunt}

@@ -11,7 +11,7 @@ use Rattle.std.proofs.lemmas.Bool.Decides.{nat_tests}
 use Rattle.std.proofs.lemmas.List.{reverse-append, drop_more, drop_all}
 use Rattle.timetable.specs.Day.{Day, type_of, unit_count}
 use Rattle.timetable.specs.Lists.{count_of, has}
-use Rattle.inventory.specs.Naming.{InYard, may_be_taken, ready_since, is_earlier, earliest, next_unit, fetched}
+use Rattle.inventory.specs.NamedUnits.{InYard, may_be_taken, ready_since, is_earlier, earliest, next_unit, fetched}
 use Rattle.inventory.proofs.Fetching.{earliest_passes}
 use Rattle.unit_duties.specs.declared.yards.Waiting.{Waiting}
 use Rattle.unit_duties.proofs.AtHome.{same_waiting}

@@ -4,7 +4,7 @@ use Rattle.std.specs.Prelude.{◌==◌}
 use Rattle.std.proofs.lemmas.Bool.{false≢true, and_parts, eqb-true, leb-true}
 use Rattle.timetable.specs.Day.{Day, type_of, types_of}
 use Rattle.timetable.specs.Lists.{count_of}
-use Rattle.inventory.specs.Naming.{InYard, may_be_taken, next_unit, fetched}
+use Rattle.inventory.specs.NamedUnits.{InYard, may_be_taken, next_unit, fetched}
 use Rattle.inventory.proofs.Fetching.{AreFetched}
 use Rattle.inventory.proofs.OneMore.{fetched_less}
 use Rattle.inventory.proofs.Sums.{one_same}

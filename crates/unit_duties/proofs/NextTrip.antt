@@ -15,12 +15,12 @@ use Rattle.timetable.specs.Day.{Day, leaves, from_of, to_of, type_of, types_of, 
 use Rattle.timetable.specs.Links.{list_of, itself, taken_with}
 use Rattle.timetable.specs.Lists.{count_of, has, below}
 use Rattle.timetable.specs.Duties.{in_order}
-use Rattle.timetable.specs.Picking.{picked}
+use Rattle.timetable.specs.Picks.{picked}
 use Rattle.timetable.specs.Running.{AreUnits}
 use Rattle.timetable.proofs.Shares.{count_of-turned}
 use Rattle.inventory.specs.Counts.{AreServed}
-use Rattle.inventory.specs.Naming.{InYard, standing, may_be_taken, fetched, named_list, naming, latest_first}
-use Rattle.inventory.specs.Naming.{named_from, named_plan}
+use Rattle.inventory.specs.NamedUnits.{InYard, standing, may_be_taken, fetched, named_list, naming, latest_first}
+use Rattle.inventory.specs.NamedUnits.{named_from, named_plan}
 use Rattle.inventory.specs.Places.{given_places, kept_places, taken_places, put_together, coming}
 use Rattle.inventory.proofs.Order.{AreInTurn}
 use Rattle.inventory.proofs.Fetching.{AreFetched}
@@ -33,7 +33,7 @@ use Rattle.inventory.proofs.Laws.{none_before}
 use Rattle.inventory.proofs.OneMore.{reverse_more, turns_so_far, so_far, named_here, named_elsewhere, stands_here}
 use Rattle.inventory.proofs.OneMore.{stands_elsewhere, right_so_far, fetched_next}
 use Rattle.unit_duties.specs.declared.yards.Waiting.{Waiting}
-use Rattle.unit_duties.specs.Fetching.{CanFetch, HasFetched}
+use Rattle.unit_duties.specs.FetchedUnits.{CanFetch, HasFetched}
 use Rattle.unit_duties.specs.Yards.{AreStanding, AreAtHome, AllFound, ArePutIn}
 use Rattle.unit_duties.proofs.Found.{all_found}
 use Rattle.unit_duties.proofs.Stopping.{lists_known}

@@ -6,7 +6,7 @@ use Rattle.std.proofs.lemmas.Int.{ints}
 use Rattle.std.proofs.lemmas.Option.{slice_get_within}
 use Rattle.timetable.specs.Accepted.{IsDay, AreLinks, IsStocked}
 use Rattle.timetable.specs.Day.{Day}
-use Rattle.timetable.specs.Picking.{ArePicks, picked, IsSolution}
+use Rattle.timetable.specs.Picks.{ArePicks, picked, IsSolution}
 use Rattle.inventory.specs.declared.faults.StockFault.{StockFault}
 use Rattle.inventory.specs.declared.faults.StockFault.TheVariants.{Short, Balance}
 use Rattle.inventory.specs.Counts.{AreServed}

@@ -16,7 +16,7 @@ use Rattle.inventory.proofs.Named.{length-below}
 use Rattle.inventory.proofs.Order.{filter_in_order}
 use Rattle.unit_duties.specs.declared.stops.Stop.{Stop}
 use Rattle.unit_duties.specs.Stops.{first_place, stop_on, stops_of, duties_of}
-use Rattle.unit_duties.specs.Adding.{stops_at, stop_of}
+use Rattle.unit_duties.specs.AddedStops.{stops_at, stop_of}
 
 -- ---- one list of units, one unit more
 

@@ -10,7 +10,7 @@ use Rattle.timetable.specs.Duties.{is_before, in_order}
 use Rattle.timetable.specs.Links.{list_of, itself, taken_with}
 use Rattle.timetable.specs.Lists.{count_of, below}
 use Rattle.timetable.proofs.Ones.{one_same}
-use Rattle.inventory.specs.Naming.{InYard, next_unit, fetched, named_list, list_from, latest_first, named_plan}
+use Rattle.inventory.specs.NamedUnits.{InYard, next_unit, fetched, named_list, list_from, latest_first, named_plan}
 use Rattle.inventory.specs.NamingLaws.{IsAvailable, IsNextUnit}
 use Rattle.inventory.specs.Places.{coming, put_together}
 use Rattle.inventory.proofs.Fetching.{next_units}

@@ -4,7 +4,7 @@ use Rattle.timetable.specs.declared.day.records.Link.{Link}
 use Rattle.timetable.specs.Admissible.{is_admissible}
 use Rattle.timetable.specs.Day.{Day}
 use Rattle.timetable.specs.Links.{itself, list_of, link_holds}
-use Rattle.timetable.specs.Picking.{picked}
+use Rattle.timetable.specs.Picks.{picked}
 
 -- the composition that is picked for a trip, and the first one where there is no such trip
 abbrev pub pick_of : List ℕ → ℕ → ℕ

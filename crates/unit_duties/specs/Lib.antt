@@ -1,8 +1,8 @@
 pub mod Stops
-pub mod Adding
+pub mod AddedStops
 pub mod Trains
 pub mod Yards
-pub mod Fetching
+pub mod FetchedUnits
 pub mod Broken
 pub mod Refusals
 pub mod DutyLaws

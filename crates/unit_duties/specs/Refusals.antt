@@ -1,7 +1,7 @@
 -- Why picked compositions have no plan that runs.
 use Rattle.std.specs.Prelude.{ℕ, ◌≡◌, List}
 use Rattle.timetable.specs.Day.{Day}
-use Rattle.timetable.specs.Picking.{picked, IsSolution}
+use Rattle.timetable.specs.Picks.{picked, IsSolution}
 use Rattle.inventory.specs.StockFaults.{IsFault}
 use Rattle.unit_duties.specs.declared.refusal.DutyRefusal.{DutyRefusal}
 use Rattle.unit_duties.specs.declared.refusal.DutyRefusal.TheVariants.{LinkBroken, Stock, NoMemory}

@@ -7,7 +7,7 @@ use Rattle.timetable.specs.Day.{Day, leaves, from_of, unit_count}
 use Rattle.timetable.specs.Duties.{is_before, in_order}
 use Rattle.timetable.specs.Links.{list_of, itself, taken_with}
 use Rattle.timetable.specs.Lists.{below}
-use Rattle.inventory.specs.Naming.{InYard, standing, named_plan}
+use Rattle.inventory.specs.NamedUnits.{InYard, standing, named_plan}
 use Rattle.inventory.specs.NamingLaws.{IsAvailable, IsNextUnit}
 use Rattle.inventory.specs.Places.{coming, put_together}
 use Rattle.unit_duties.specs.Broken.{EachHolds}

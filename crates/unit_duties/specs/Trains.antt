@@ -4,7 +4,7 @@ use Rattle.inventory.specs.Places.{given_places}
 use Rattle.timetable.specs.declared.day.records.Link.{Link}
 use Rattle.timetable.specs.Chains.{leads_from, leads_to}
 use Rattle.timetable.specs.Day.{Day}
-use Rattle.timetable.specs.Picking.{picked}
+use Rattle.timetable.specs.Picks.{picked}
 use Rattle.timetable.specs.Links.{list_of, turned, itself, taken_with}
 use Rattle.timetable.specs.Turns.{kept_of}
 

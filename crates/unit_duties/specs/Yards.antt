@@ -2,7 +2,7 @@
 use Rattle.std.specs.Prelude.{ℕ, ◌≡◌, ◌<◌, ◌≤◌, ◌⊎◌, ◌↔◌, ⊤, List, [], ◌∷◌, Option, Some}
 use Rattle.std.specs.List.{Contains}
 use Rattle.std.specs.BTreeSet.{BTreeSet}
-use Rattle.inventory.specs.Naming.{InYard, next_unit}
+use Rattle.inventory.specs.NamedUnits.{InYard, next_unit}
 use Rattle.timetable.specs.Day.{Day, home_of, type_of, unit_count}
 use Rattle.timetable.specs.Lists.{count_of}
 use Rattle.unit_duties.specs.declared.yards.Waiting.{Waiting}

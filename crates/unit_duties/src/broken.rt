@@ -5,7 +5,7 @@ ghost use Rattle.timetable.specs.declared.day.records.Link.{Link};
 ghost use Rattle.timetable.specs.Handovers.{second_of};
 ghost use Rattle.timetable.specs.LinkRows.{NamesBelow};
 ghost use Rattle.timetable.specs.Links.{itself, link_holds};
-ghost use Rattle.timetable.specs.Picking.{ArePicks, picked};
+ghost use Rattle.timetable.specs.Picks.{ArePicks, picked};
 ghost use Rattle.transitions.specs.Edges.{AreGraphs};
 ghost use Rattle.unit_duties.specs.Broken.{pick_of, AreAdmissible, EachHolds, IsFirstBroken};
 

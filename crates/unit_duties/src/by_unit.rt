@@ -4,7 +4,7 @@ ghost use Rattle.std.specs.Prelude.{ℕ, ◌≡◌, ◌<◌, ◌≤◌, ◌++◌
 ghost use Rattle.timetable.specs.Day.{unit_count};
 ghost use Rattle.timetable.specs.Lists.{has};
 ghost use Rattle.timetable.specs.Running.{IsPlan};
-ghost use Rattle.unit_duties.specs.Adding.{stops_at, stop_of};
+ghost use Rattle.unit_duties.specs.AddedStops.{stops_at, stop_of};
 ghost use Rattle.unit_duties.specs.Stops.{duties_of};
 
 use crate::order::trips_in_order;

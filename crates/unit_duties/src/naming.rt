@@ -7,9 +7,9 @@ ghost use Rattle.timetable.specs.Day.{to_of, ready_at};
 ghost use Rattle.timetable.specs.Running.{AreUnits};
 ghost use Rattle.unit_duties.specs.Trains.{given_units};
 ghost use Rattle.unit_duties.specs.Yards.{ArePutIn};
-ghost use Rattle.inventory.specs.Naming.{InYard, named_plan};
-ghost use Rattle.timetable.specs.Picking.{ArePicks, picked};
-ghost use Rattle.unit_duties.specs.Fetching.{CanFetch, HasFetched};
+ghost use Rattle.inventory.specs.NamedUnits.{InYard, named_plan};
+ghost use Rattle.timetable.specs.Picks.{ArePicks, picked};
+ghost use Rattle.unit_duties.specs.FetchedUnits.{CanFetch, HasFetched};
 
 use crate::order::{departure, origin, trips_in_order};
 use crate::trains::{given_units, put_together};

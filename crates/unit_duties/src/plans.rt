@@ -1,9 +1,9 @@
 //! Plans of named units, for compositions that are picked.
 
 ghost use Rattle.std.specs.Prelude.{◌≡◌, IfOk, IfErr};
-ghost use Rattle.inventory.specs.Naming.{named_plan};
+ghost use Rattle.inventory.specs.NamedUnits.{named_plan};
 ghost use Rattle.inventory.specs.NamingLaws.{RunsWith};
-ghost use Rattle.timetable.specs.Picking.{ArePicks, picked};
+ghost use Rattle.timetable.specs.Picks.{ArePicks, picked};
 ghost use Rattle.transitions.specs.Edges.{AreGraphs};
 ghost use Rattle.unit_duties.specs.Broken.{AreAdmissible};
 ghost use Rattle.unit_duties.specs.Refusals.{IsRefusal, HaveNoPlan};

@@ -6,7 +6,7 @@ ghost use Rattle.inventory.specs.Places.{going_on, going_by, given_places, put_t
 ghost use Rattle.timetable.specs.Chains.{leads_from};
 ghost use Rattle.timetable.specs.LinkRows.{NamesBelow};
 ghost use Rattle.timetable.specs.Links.{list_of, arriving_in};
-ghost use Rattle.timetable.specs.Picking.{ArePicks, picked};
+ghost use Rattle.timetable.specs.Picks.{ArePicks, picked};
 ghost use Rattle.timetable.specs.Turns.{staying, beyond};
 ghost use Rattle.unit_duties.specs.Trains.{kept_at};
 

@@ -3,7 +3,7 @@
 ghost use Rattle.std.specs.Prelude.{◌<◌, ◌≤◌, All, IsTrue, length};
 ghost use Rattle.rail_base.specs.declared.limits.TheConstants.{MOST_CHANGE};
 ghost use Rattle.timetable.specs.Compositions.{compositions_of};
-ghost use Rattle.timetable.specs.Picking.{ArePicks};
+ghost use Rattle.timetable.specs.Picks.{ArePicks};
 ghost use Rattle.transitions.specs.Edges.{AreGraphs};
 ghost use Rattle.price_bound.specs.ChangedDays.{AreChanges};
 

@@ -1,7 +1,7 @@
 //! Drawn days: what bounds, settling and slacks answer on three thousand days, two in three of them under changes,
 //! against lists of all choices, slacks that are counted trip by trip, and plans of named units.
 
-ghost use Rattle.timetable.specs.Picking.{ArePicks};
+ghost use Rattle.timetable.specs.Picks.{ArePicks};
 ghost use Rattle.transitions.specs.Edges.{AreGraphs};
 ghost use Rattle.unit_duties.specs.Broken.{AreAdmissible};
 

@@ -2,7 +2,7 @@
 //! counts of the yards and the simulated day say.
 
 ghost use Rattle.std.specs.Prelude.{◌<◌, length};
-ghost use Rattle.timetable.specs.Picking.{ArePicks};
+ghost use Rattle.timetable.specs.Picks.{ArePicks};
 ghost use Rattle.transitions.specs.Edges.{AreGraphs};
 ghost use Rattle.unit_duties.specs.Broken.{AreAdmissible};
 

@@ -1,6 +1,6 @@
 //! Worked days: plans of named units for compositions that are picked, and the duties of the units of a plan.
 
-ghost use Rattle.timetable.specs.Picking.{ArePicks};
+ghost use Rattle.timetable.specs.Picks.{ArePicks};
 ghost use Rattle.timetable.specs.Running.{IsPlan};
 ghost use Rattle.unit_duties.specs.Broken.{AreAdmissible};
 

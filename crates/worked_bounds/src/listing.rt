@@ -1,6 +1,6 @@
 //! All choices of a region one after another, by number, and the first of least value among those that are near.
 
-ghost use Rattle.timetable.specs.Picking.{ArePicks};
+ghost use Rattle.timetable.specs.Picks.{ArePicks};
 
 use crate::changed::cost_under;
 use crate::link_rule::{has, lead_on};

@@ -1,7 +1,7 @@
 //! The slacks of picks at all indices, by counting trip by trip.
 
 ghost use Rattle.std.specs.Prelude.{◌<◌, length};
-ghost use Rattle.timetable.specs.Picking.{ArePicks};
+ghost use Rattle.timetable.specs.Picks.{ArePicks};
 
 use crate::drawn_picks::pick_of;
 use crate::link_rule::part_of;

@@ -1,7 +1,7 @@
 //! Advisors that answer by a script, and want to be shown what stands in it.
 
 ghost use Rattle.std.specs.Prelude.{◌≡◌};
-ghost use Rattle.advisors.specs.Advising.{quit_after};
+ghost use Rattle.advisors.specs.Quits.{quit_after};
 ghost use Rattle.advisors.specs.Proposals.{DoesFit, IsOverSame};
 
 use crate::telling::write_look;

@@ -2,7 +2,7 @@
 //! memory.
 
 ghost use Rattle.std.specs.Prelude.{◌≡◌, ◌≤◌, ◌^◌, All};
-ghost use Rattle.advisors.specs.Advising.{quit_after};
+ghost use Rattle.advisors.specs.Quits.{quit_after};
 ghost use Rattle.advisors.specs.Proposals.{DoesFit, IsOverSame};
 
 use crate::day::{folder_of, one_stays, words_of};

@@ -8,7 +8,7 @@ ghost use Rattle.timetable.specs.Build.{trips_in, catalogue_in, is_memory};
 ghost use Rattle.rail_base.specs.Answers.{Gives, GivesRows};
 ghost use Rattle.compositions.specs.Catalogue.{catalogue_of};
 ghost use Rattle.timetable.specs.Compositions.{greatest_in};
-ghost use Rattle.timetable.specs.Naming.{has_name, find_name};
+ghost use Rattle.timetable.specs.NamedEntries.{has_name, find_name};
 
 use crate::building::named::Named;
 use crate::building::refusal::InstanceRefusal;

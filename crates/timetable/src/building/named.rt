@@ -1,7 +1,7 @@
 //! Entries that have names: kept in order, and each found by its name in steps that do not grow with their number.
 
 ghost use Rattle.std.specs.Prelude.{◌≡◌, ◌<◌, ◌++◌, ◌∷◌, [], List, ℕ, length, false, IfSome, OnOk, OnErr};
-ghost use Rattle.timetable.specs.Naming.{has_name, find_name};
+ghost use Rattle.timetable.specs.NamedEntries.{has_name, find_name};
 
 use crate::day::records::{Station, Trip};
 use compositions::UnitType;

@@ -63,7 +63,7 @@ impl Model for Instance {
 
     ghost Value = { Day };
 
-    ghost use Rattle.timetable.specs.Holding.{day_in, Holds};
+    ghost use Rattle.timetable.specs.InstanceParts.{day_in, Holds};
 
     ghost view = { day_in };
 

@@ -1,4 +1,4 @@
-use Rattle.advisors.specs.Diving.{IsNarrowestOf}
+use Rattle.advisors.specs.Dives.{IsNarrowestOf}
 use Rattle.advisors.proofs.diver.narrowest.Given as goal
 
 abbrev pub invariant-loop-trip : goal.invariant-loop-trip

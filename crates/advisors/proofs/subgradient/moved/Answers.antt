@@ -4,7 +4,7 @@ use Rattle.std.specs.Int.{w128}
 use Rattle.std.proofs.lemmas.Int.{ints}
 use mir.Val.{to_z, of_z}
 use Rattle.rail_base.specs.declared.limits.TheConstants.{MOST_MULTIPLIER}
-use Rattle.advisors.specs.Stepping.{least_value}
+use Rattle.advisors.specs.MultiplierSteps.{least_value}
 use Rattle.advisors.proofs.Saturating.{IsNarrow, brought, nearest, brought-exact}
 use Rattle.advisors.proofs.subgradient.moved.Goals as goal
 use Rattle.advisors.proofs.subgradient.moved.Goals.{then-may_be_negative, else-may_be_negative}

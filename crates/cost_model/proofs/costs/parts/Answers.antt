@@ -1,7 +1,7 @@
 -- The parts add up to the cost.
 use Rattle.std.proofs.Common.{◌≡◌, ◌+◌, ap, pos}
 use Rattle.timetable.specs.Cost.{cost_of}
-use Rattle.timetable.specs.Picking.{picked}
+use Rattle.timetable.specs.Picks.{picked}
 use Rattle.cost_model.proofs.Adding.{add_up}
 use Rattle.cost_model.proofs.costs.parts.Goals as goal
 

@@ -1,12 +1,12 @@
 use Rattle.std.proofs.Common.{ℕ, Option, ◌+◌, ◌*◌, ◌≡◌, sym, ap, subst, ◌∙◌}
 use Rattle.branch_tree.specs.Claims.{Priced, open_leaves_of, plan_of}
 use Rattle.branch_tree.specs.Trees.{branchings_of}
-use Rattle.search.specs.Asking.{AreAsked, in_rounds}
-use Rattle.search.specs.Solving.{nodes_found, plan_found}
+use Rattle.search.specs.Questions.{AreAsked, in_rounds}
+use Rattle.search.specs.Conclusions.{nodes_found, plan_found}
 use Rattle.search.proofs.Asking.{are_unasked}
 use Rattle.answer_check.proofs.Refuting.{only_valid}
 use Rattle.day_planner.specs.Headline.{open_leaves, plan_said}
-use Rattle.day_planner.specs.Planning.{SaysFound}
+use Rattle.day_planner.specs.FoundAnswers.{SaysFound}
 use Rattle.day_planner.proofs.OpenLeaves.{open_by_cost}
 use Rattle.day_planner.proofs.planning.answer_for.Goals as goal
 

@@ -1,5 +1,5 @@
 use Rattle.std.proofs.Common.{◌+◌, ◌*◌, length, IfOk, refl}
-use Rattle.search.specs.Solving.{IsSolved}
+use Rattle.search.specs.Conclusions.{IsSolved}
 use Rattle.search.proofs.Asking.{are_unasked}
 use Rattle.answer_check.proofs.Checked.{at_day, root_over}
 use Rattle.day_planner.proofs.planning.find.Goals as goal

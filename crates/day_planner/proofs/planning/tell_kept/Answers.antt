@@ -5,7 +5,7 @@ use Rattle.std.proofs.lemmas.Option.{slice_get-get_or}
 use Rattle.branch_tree.specs.declared.tree.Node.{Node}
 use Rattle.branch_tree.specs.Entries.{AreMultipliers}
 use Rattle.branch_tree.specs.Trees.{multipliers_of}
-use Rattle.day_planner.specs.Planning.{AreKept}
+use Rattle.day_planner.specs.FoundAnswers.{AreKept}
 use Rattle.day_planner.proofs.planning.tell_kept.Goals as goal
 
 pub loop-node-preserved : goal.loop-node-preserved

@@ -1,5 +1,5 @@
 use Rattle.std.proofs.Common.{take}
-use Rattle.day_planner.specs.Planning.{AreKept}
+use Rattle.day_planner.specs.FoundAnswers.{AreKept}
 use Rattle.day_planner.proofs.planning.tell_kept.Given as goal
 
 -- the multipliers of the nodes before this one are known

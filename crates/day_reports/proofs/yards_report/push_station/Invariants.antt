@@ -1,6 +1,6 @@
 use Rattle.std.proofs.Common.{◌≡◌, ◌++◌}
 use Rattle.timetable.specs.Lists.{joined}
-use Rattle.timetable.specs.Picking.{picked}
+use Rattle.timetable.specs.Picks.{picked}
 use Rattle.day_reports.specs.YardRows.{yard_rows}
 use Rattle.day_reports.proofs.yards_report.push_station.Given as goal
 

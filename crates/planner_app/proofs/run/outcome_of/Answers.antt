@@ -1,5 +1,5 @@
 use Rattle.std.proofs.Common.{ℕ, List, [], refl, inl, inr, ◌+◌, ◌*◌, rules, subst}
-use Rattle.search.specs.Asking.{AreAsked}
+use Rattle.search.specs.Questions.{AreAsked}
 use Rattle.search.proofs.Asking.{are_unasked}
 use Rattle.commands.specs.declared.command.Command.TheVariants as command
 use Rattle.planner_app.specs.Advice.{AreAskedFor}

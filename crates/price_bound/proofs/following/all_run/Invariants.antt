@@ -1,6 +1,6 @@
 use Rattle.std.proofs.Common.{ℕ, ◌<◌}
 use Rattle.transitions.specs.Edges.{MayRun}
-use Rattle.price_bound.specs.Following.{pick_of}
+use Rattle.price_bound.specs.FollowingPicks.{pick_of}
 use Rattle.price_bound.proofs.following.all_run.Given as goal
 
 abbrev pub invariant-loop-trip : goal.invariant-loop-trip

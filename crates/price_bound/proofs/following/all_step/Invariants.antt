@@ -1,6 +1,6 @@
 use Rattle.std.proofs.Common.{ℕ, ◌≡◌, ◌<◌, slice_get, Some}
 use Rattle.timetable.specs.declared.day.records.Link.{Link}
-use Rattle.price_bound.specs.Following.{IsStep}
+use Rattle.price_bound.specs.FollowingPicks.{IsStep}
 use Rattle.price_bound.proofs.following.all_step.Given as goal
 
 abbrev pub invariant-loop-link : goal.invariant-loop-link

@@ -7,12 +7,12 @@ use Rattle.price_bound.proofs.ChangedRelaxation.{changed_named}
 use Rattle.std.specs.Prelude.{MatchOption}
 use Rattle.timetable.specs.declared.day.indices.Place.{Place}
 use Rattle.timetable.specs.Day.{Day}
-use Rattle.timetable.specs.Picking.{ArePicks, picked}
+use Rattle.timetable.specs.Picks.{ArePicks, picked}
 use Rattle.inventory.specs.declared.faults.StockFault.{StockFault}
 use Rattle.inventory.specs.Loaded.{Loaded}
 use Rattle.inventory.specs.StockFaults.{IsFirstFault}
 use Rattle.price_bound.specs.Parts.{IsFirstMissed, NoneMissed}
-use Rattle.price_bound.specs.Settling.{fault_sign, place_of}
+use Rattle.price_bound.specs.BrokenPlaces.{fault_sign, place_of}
 use Rattle.price_bound.proofs.SettledBy.{fault_first, fault_signed, named, sigma_first, sigma_signed, solution}
 use Rattle.price_bound.proofs.Whole.{are_picks}
 use Rattle.price_bound.proofs.settling.settle.Goals as goal

@@ -1,9 +1,9 @@
 use Rattle.std.proofs.Common.{◌≡◌, ℕ, suc, ◌≤◌, true, false, length, refl, sym, ap, subst, ◌∙◌, arith}
-use Rattle.search.specs.Asking.{once}
+use Rattle.search.specs.Questions.{once}
 use Rattle.search.specs.Desks.{IsLaidOut}
 use Rattle.search.specs.Offers.{IsOffered}
-use Rattle.search.specs.Solving.{plan_in}
-use Rattle.search.specs.Working.{IsWorkedOn}
+use Rattle.search.specs.Conclusions.{plan_in}
+use Rattle.search.specs.NodesInWork.{IsWorkedOn}
 use Rattle.search.proofs.Asking.{asked_all, asked_so_far, can_ask, length-up_to, once_most, once_read, pass_over}
 use Rattle.search.proofs.Asking.{pass_unclaimed, then_asked, up_to_next}
 use Rattle.search.proofs.Evaluating.{not_offered, offered_again}

@@ -1,9 +1,9 @@
 use Rattle.std.proofs.Common.{◌≡◌, ℕ, ◌≤◌, false, length, get_or}
-use Rattle.search.specs.Asking.{AreAskedUpTo, once}
+use Rattle.search.specs.Questions.{AreAskedUpTo, once}
 use Rattle.search.specs.Desks.{IsLaidOut}
 use Rattle.search.specs.Offers.{IsOffered}
-use Rattle.search.specs.Solving.{plan_in}
-use Rattle.search.specs.Working.{IsWorkedOn}
+use Rattle.search.specs.Conclusions.{plan_in}
+use Rattle.search.specs.NodesInWork.{IsWorkedOn}
 use Rattle.search.proofs.rounds.make_round.Given as goal
 
 abbrev pub invariant-loop-place : goal.invariant-loop-place

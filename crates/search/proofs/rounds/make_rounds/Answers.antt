@@ -1,9 +1,9 @@
 use Rattle.std.proofs.Common.{◌≡◌, ℕ, ◌+◌, ◌≤◌, true, false, length, refl, sym, subst, ◌∙◌, arith}
-use Rattle.search.specs.Asking.{once}
+use Rattle.search.specs.Questions.{once}
 use Rattle.search.specs.Desks.{IsLaidOut}
 use Rattle.search.specs.Offers.{IsOffered}
-use Rattle.search.specs.Solving.{plan_in}
-use Rattle.search.specs.Working.{IsWorkedOn, is_left_open}
+use Rattle.search.specs.Conclusions.{plan_in}
+use Rattle.search.specs.NodesInWork.{IsWorkedOn, is_left_open}
 use Rattle.search.proofs.Asking.{are_asked_again, are_asked_within, are_unasked, asked_in_all, asked_once, length-asked}
 use Rattle.search.proofs.Asking.{may_be_asked_yet}
 use Rattle.search.proofs.Evaluating.{not_offered, offered_again}

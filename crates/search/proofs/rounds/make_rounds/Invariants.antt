@@ -1,9 +1,9 @@
 use Rattle.std.proofs.Common.{◌≡◌, ◌≤◌, true, length}
-use Rattle.search.specs.Asking.{AreAsked, once}
+use Rattle.search.specs.Questions.{AreAsked, once}
 use Rattle.search.specs.Desks.{IsLaidOut}
 use Rattle.search.specs.Offers.{IsOffered}
-use Rattle.search.specs.Solving.{plan_in}
-use Rattle.search.specs.Working.{IsWorkedOn, is_left_open}
+use Rattle.search.specs.Conclusions.{plan_in}
+use Rattle.search.specs.NodesInWork.{IsWorkedOn, is_left_open}
 use Rattle.search.proofs.rounds.make_rounds.Given as goal
 
 abbrev pub invariant-loop-round : goal.invariant-loop-round

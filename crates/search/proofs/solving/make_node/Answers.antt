@@ -4,8 +4,8 @@ use Rattle.search.specs.declared.nodes.SearchNode.TheVariants.{Fixed}
 use Rattle.search.specs.Evaluations.{IsOutcome}
 use Rattle.search.specs.Nodes.{IsLeafOf}
 use Rattle.search.specs.Offers.{IsOffered}
-use Rattle.search.specs.Solving.{plan_in}
-use Rattle.search.specs.Working.{IsWorkedOn}
+use Rattle.search.specs.Conclusions.{plan_in}
+use Rattle.search.specs.NodesInWork.{IsWorkedOn}
 use Rattle.search.proofs.Asking.{are_unasked}
 use Rattle.search.proofs.Evaluating.{offered_again}
 use Rattle.search.proofs.Placing.{begun, ended_leaf, ended_not_open}

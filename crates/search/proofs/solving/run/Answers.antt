@@ -1,11 +1,11 @@
 use Rattle.std.proofs.Common.{◌≡◌, ℕ, ◌+◌, ◌*◌, ◌≤◌, ◌∷◌, [], All, false, length, sym, ap, subst, ◌∙◌, arith, inl, inr}
 use Rattle.std.proofs.Math.Nat.{mul-le-mul_left}
 use Rattle.branch_tree.specs.Trees.{branchings_of}
-use Rattle.search.specs.Asking.{AreAsked, in_rounds}
+use Rattle.search.specs.Questions.{AreAsked, in_rounds}
 use Rattle.search.specs.Ends.{made_or_open}
 use Rattle.search.specs.Frontiers.{IsEntered, can_improve}
 use Rattle.search.specs.Nodes.{IsSearched, tree_nodes}
-use Rattle.search.specs.Solving.{plan_in}
+use Rattle.search.specs.Conclusions.{plan_in}
 use Rattle.search.proofs.Asking.{are_asked_within, may_be_asked_yet}
 use Rattle.search.proofs.Counting.{asked_on, asked_at_most, asked_within_grant, few_rounds, room_for}
 use Rattle.search.proofs.Finishing.{length-tree, none_left}

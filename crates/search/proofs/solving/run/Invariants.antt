@@ -1,10 +1,10 @@
 use Rattle.std.proofs.Common.{◌≡◌, ◌+◌, ◌*◌, All}
 use Rattle.branch_tree.specs.Trees.{branchings_of}
-use Rattle.search.specs.Asking.{AreAsked, in_rounds}
+use Rattle.search.specs.Questions.{AreAsked, in_rounds}
 use Rattle.search.specs.Ends.{made_or_open}
 use Rattle.search.specs.Frontiers.{IsEntered}
 use Rattle.search.specs.Nodes.{IsSearched, tree_nodes}
-use Rattle.search.specs.Solving.{plan_in}
+use Rattle.search.specs.Conclusions.{plan_in}
 use Rattle.search.proofs.solving.run.Given as goal
 
 abbrev pub invariant-loop-branching : goal.invariant-loop-branching

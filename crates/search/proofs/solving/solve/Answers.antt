@@ -1,10 +1,10 @@
 use Rattle.std.proofs.Common.{◌≡◌, ◌+◌, ◌*◌, length, sym, ap, subst, ◌∙◌, arith}
 use Rattle.branch_tree.specs.Claims.{open_leaves_of}
 use Rattle.branch_tree.specs.Trees.{branchings_of}
-use Rattle.search.specs.Asking.{AreAsked, in_rounds}
+use Rattle.search.specs.Questions.{AreAsked, in_rounds}
 use Rattle.search.specs.Ends.{least_of}
 use Rattle.search.specs.Nodes.{tree_nodes}
-use Rattle.search.specs.Solving.{IsSolved, nodes_found, plan_found, plan_in}
+use Rattle.search.specs.Conclusions.{IsSolved, nodes_found, plan_found, plan_in}
 use Rattle.search.proofs.Counting.{found_nodes}
 use Rattle.search.proofs.Finishing.{length-tree, solved}
 use Rattle.search.proofs.solving.solve.Goals as goal

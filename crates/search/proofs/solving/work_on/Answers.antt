@@ -1,7 +1,7 @@
 use Rattle.std.proofs.Common.{subst, ◌∙◌}
 use Rattle.search.specs.Offers.{IsOffered}
-use Rattle.search.specs.Solving.{plan_in}
-use Rattle.search.specs.Working.{IsWorkedOn}
+use Rattle.search.specs.Conclusions.{plan_in}
+use Rattle.search.specs.NodesInWork.{IsWorkedOn}
 use Rattle.search.proofs.Asking.{are_unasked}
 use Rattle.search.proofs.Evaluating.{offered_again}
 use Rattle.search.proofs.Placing.{leaf_made_from, left_open_made}

@@ -1,6 +1,6 @@
 use Rattle.std.proofs.Common.{◌≡◌, ◌∙◌, sym, subst}
 use Rattle.timetable.specs.declared.building.tables.Tables.{Tables}
-use Rattle.trial_day.specs.Accepting.{MakeADay}
+use Rattle.trial_day.specs.AcceptedTables.{MakeADay}
 use Rattle.trial_day.specs.Trial.{trial_tables_of, trial_weights}
 use Rattle.trial_day.proofs.Accepting.{trial_days_are_accepted}
 use Rattle.trial_day.proofs.building.trial_tables.Goals as goal

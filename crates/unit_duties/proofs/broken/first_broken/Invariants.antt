@@ -1,4 +1,4 @@
-use Rattle.timetable.specs.Picking.{picked}
+use Rattle.timetable.specs.Picks.{picked}
 use Rattle.unit_duties.specs.Broken.{HoldBelow}
 use Rattle.unit_duties.proofs.broken.first_broken.Given as goal
 

@@ -1,7 +1,7 @@
 use Rattle.std.proofs.Common.{ℕ, ◌≤◌, Option, length}
-use Rattle.inventory.specs.Naming.{InYard}
+use Rattle.inventory.specs.NamedUnits.{InYard}
 use Rattle.timetable.specs.Day.{from_of, leaves}
-use Rattle.unit_duties.specs.Fetching.{CanFetch}
+use Rattle.unit_duties.specs.FetchedUnits.{CanFetch}
 use Rattle.unit_duties.specs.Trains.{taken_types}
 use Rattle.unit_duties.proofs.Fetching.{FetchedSoFar}
 use Rattle.unit_duties.proofs.naming.fetch.Given as goal

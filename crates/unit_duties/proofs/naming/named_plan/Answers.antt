@@ -2,7 +2,7 @@ use Rattle.std.proofs.Common.{◌≡◌, ◌∙◌, ◌≤◌, ◌∷◌, [], �
 use Rattle.std.proofs.lemmas.List.{take_all}
 use Rattle.rail_base.specs.declared.limits.TheConstants.{MOST_COMPOSITION}
 use Rattle.timetable.specs.Day.{to_of, ready_at}
-use Rattle.timetable.specs.Picking.{picked}
+use Rattle.timetable.specs.Picks.{picked}
 use Rattle.timetable.specs.Running.{AreUnits}
 use Rattle.inventory.specs.Places.{given_places}
 use Rattle.unit_duties.specs.Yards.{ArePutIn}

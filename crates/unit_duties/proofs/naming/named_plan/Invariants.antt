@@ -1,7 +1,7 @@
 use Rattle.std.proofs.Common.{length, reverse, take}
 use Rattle.timetable.specs.Duties.{in_order}
 use Rattle.timetable.specs.Lists.{below}
-use Rattle.timetable.specs.Picking.{picked}
+use Rattle.timetable.specs.Picks.{picked}
 use Rattle.unit_duties.proofs.NextTrip.{NamedSoFar}
 use Rattle.unit_duties.proofs.naming.named_plan.Given as goal
 

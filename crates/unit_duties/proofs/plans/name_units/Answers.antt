@@ -1,5 +1,5 @@
 use Rattle.std.proofs.Common.{None, Some, sym, subst}
-use Rattle.timetable.specs.Picking.{picked}
+use Rattle.timetable.specs.Picks.{picked}
 use Rattle.inventory.specs.NamingLaws.{RunsWith}
 use Rattle.inventory.proofs.Laws.{served_plans_run}
 use Rattle.unit_duties.proofs.Refusing.{fault_of, serve, broken_not_solved, faulty_not_solved}

@@ -1,6 +1,6 @@
 -- The trips so far are noted.
 use Rattle.std.proofs.Common.{◌≡◌, ℕ, ◌<◌}
-use Rattle.timetable.specs.Picking.{picked}
+use Rattle.timetable.specs.Picks.{picked}
 use Rattle.inventory.specs.CountTable.{cleared, with_trips, MoveFew}
 use Rattle.inventory.proofs.count_table.CountTable.fill.Given as goal
 

@@ -1,6 +1,6 @@
 -- The table that is filled with picks holds their counts.
 use Rattle.std.proofs.Common.{ℕ, List, length, ℤ, ap, sym, subst, ◌∙◌}
-use Rattle.timetable.specs.Picking.{picked}
+use Rattle.timetable.specs.Picks.{picked}
 use Rattle.inventory.specs.Counted.{IsCountTable}
 use Rattle.inventory.specs.Loaded.{Loaded}
 use Rattle.inventory.proofs.Holds.{filled}

@@ -1,6 +1,6 @@
 use Rattle.std.proofs.Common.{◌≡◌, false, get_or, sym, ◌∙◌}
 use Rattle.search.specs.Frontiers.{has_rank}
-use Rattle.search.specs.Solving.{plan_in}
+use Rattle.search.specs.Conclusions.{plan_in}
 use Rattle.search.proofs.Entering.{entered_but, shut_rank}
 use Rattle.search.proofs.frontier.Frontier.next_open.Goals.{then-is_below+in_default-place_of, else-is_below}
 use Rattle.search.proofs.frontier.Frontier.next_open.Goals as goal

@@ -1,6 +1,6 @@
 use Rattle.std.proofs.Common.{All, length}
 use Rattle.search.specs.Frontiers.{IsEntered}
-use Rattle.search.specs.Solving.{plan_in}
+use Rattle.search.specs.Conclusions.{plan_in}
 use Rattle.search.proofs.frontier.Frontier.next_open.Given as goal
 
 abbrev pub decreases-loop-bound : goal.decreases-loop-bound

@@ -1,12 +1,12 @@
 use Rattle.std.proofs.Common.{◌≡◌, None, [], ◌∷◌, ◌++◌, All, sym, ap, subst, ◌∙◌}
 use Rattle.std.proofs.lemmas.List.Elements.{All-cons, All-nil}
 use Rattle.branch_tree.specs.Trees.{branchings_of}
-use Rattle.search.specs.Asking.{AreAsked, in_rounds}
+use Rattle.search.specs.Questions.{AreAsked, in_rounds}
 use Rattle.search.specs.Ends.{made_or_open}
 use Rattle.search.specs.Frontiers.{IsEntered}
 use Rattle.search.specs.Nodes.{IsLeafOf, IsSearched, tree_node, tree_nodes}
 use Rattle.search.specs.Offers.{IsOffered}
-use Rattle.search.specs.Solving.{plan_in}
+use Rattle.search.specs.Conclusions.{plan_in}
 use Rattle.search.proofs.Asking.{are_unasked}
 use Rattle.search.proofs.Counting.{asked_for_leaf}
 use Rattle.search.proofs.Growing.{one_if_leaf, one_node}

@@ -5,7 +5,7 @@ use Rattle.search.specs.Ends.{made_or_open}
 use Rattle.search.specs.Frontiers.{IsEntered}
 use Rattle.search.specs.Nodes.{IsLeafOf, IsSearched, tree_node, tree_nodes}
 use Rattle.search.specs.Offers.{IsOffered}
-use Rattle.search.specs.Solving.{plan_in}
+use Rattle.search.specs.Conclusions.{plan_in}
 use Rattle.search.proofs.Asking.{are_asked_again, are_asked_within, are_unasked, may_be_asked_yet}
 use Rattle.search.proofs.Counting.{asked_for_both, asked_if_open}
 use Rattle.search.proofs.Entering.{entered_on}

@@ -2,7 +2,7 @@ use Rattle.std.proofs.Common.{◌≡◌, ℕ, ◌<◌, List, true, length, get_o
 use Rattle.search.specs.declared.nodes.SearchNode.TheVariants.{Pending}
 use Rattle.search.specs.Frontiers.{can_improve}
 use Rattle.search.specs.Nodes.{IsDivision}
-use Rattle.search.specs.Solving.{plan_in}
+use Rattle.search.specs.Conclusions.{plan_in}
 use Rattle.search.proofs.Growing.{IsReady, division_at, ready_at}
 use Rattle.search.proofs.solving.Search.divide_at.Goals as goal
 

@@ -1,7 +1,7 @@
 use Rattle.std.proofs.Common.{sym, subst}
 use Rattle.search.specs.Evaluations.{IsOutcome}
-use Rattle.search.specs.Solving.{plan_in}
-use Rattle.search.specs.Working.{IsWorkedOn}
+use Rattle.search.specs.Conclusions.{plan_in}
+use Rattle.search.specs.NodesInWork.{IsWorkedOn}
 use Rattle.search.proofs.Working.{worked_after}
 use Rattle.search.proofs.work.Work.consider.Goals as goal
 

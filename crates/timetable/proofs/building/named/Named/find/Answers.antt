@@ -1,7 +1,7 @@
 -- The place of a name in the set is that of its entry.
 use Rattle.std.proofs.Common.{◌∙◌, ◌≡◌, ◌<◌, ℕ, length, ap, subst}
 use Rattle.std.specs.Prelude.{string_bytes, IfSome}
-use Rattle.timetable.specs.Naming.{find_name}
+use Rattle.timetable.specs.NamedEntries.{find_name}
 use Rattle.timetable.proofs.Names.{as_many, find_among}
 use Rattle.timetable.proofs.building.named.Named.find.Goals as goal
 

@@ -1,7 +1,7 @@
 -- A name of the set is that of an entry.
 use Rattle.std.proofs.Common.{◌∙◌}
 use Rattle.std.specs.Prelude.{string_bytes}
-use Rattle.timetable.specs.Naming.{has_name}
+use Rattle.timetable.specs.NamedEntries.{has_name}
 use Rattle.timetable.proofs.Names.{has_among}
 use Rattle.timetable.proofs.building.named.Named.has.Goals as goal
 

@@ -1,7 +1,7 @@
 -- The name of the entry comes last among the names, as the entry does among the entries.
 use Rattle.std.proofs.Common.{◌∙◌, ◌≡◌, false}
 use Rattle.std.specs.Prelude.{string_bytes}
-use Rattle.timetable.specs.Naming.{has_name}
+use Rattle.timetable.specs.NamedEntries.{has_name}
 use Rattle.timetable.proofs.Names.{names_after}
 use Rattle.timetable.proofs.building.named.Named.push.Goals as goal
 

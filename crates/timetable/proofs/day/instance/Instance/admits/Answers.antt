@@ -8,7 +8,7 @@ use Rattle.timetable.specs.declared.day.records.Trip.{Trip}
 use Rattle.timetable.specs.Build.{platform_at}
 use Rattle.timetable.specs.Compositions.{compositions_of, greatest_platform}
 use Rattle.timetable.specs.Day.{Day}
-use Rattle.timetable.specs.Holding.{day_in}
+use Rattle.timetable.specs.InstanceParts.{day_in}
 use Rattle.timetable.proofs.Admitting.{from_within, to_within, fits_is_admissible}
 use Rattle.timetable.proofs.day.instance.Instance.admits.Goals as goal
 

@@ -3,7 +3,7 @@ use Rattle.std.proofs.Common.{◌≡◌, ℕ, ◌<◌, List, length, get_or, ref
 use Rattle.std.specs.List.{All}
 use Rattle.timetable.specs.Chains.{IsChain, chains_of}
 use Rattle.timetable.specs.Day.{Day}
-use Rattle.timetable.specs.Holding.{day_in}
+use Rattle.timetable.specs.InstanceParts.{day_in}
 use Rattle.timetable.proofs.WholeChains.{are_chains}
 use Rattle.timetable.proofs.Within.{entry_has, chains_within}
 use Rattle.timetable.proofs.day.instance.Instance.chain.Goals as goal

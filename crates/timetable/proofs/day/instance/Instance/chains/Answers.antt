@@ -2,7 +2,7 @@
 use Rattle.std.proofs.Common.{◌≡◌, ◌≤◌, ℕ, List, length, arith, ap}
 use Rattle.timetable.specs.Chains.{chains_of}
 use Rattle.timetable.specs.Day.{Day}
-use Rattle.timetable.specs.Holding.{day_in}
+use Rattle.timetable.specs.InstanceParts.{day_in}
 use Rattle.timetable.proofs.WholeChains.{are_chains, few_chains}
 use Rattle.timetable.proofs.day.instance.Instance.chains.Goals as goal
 

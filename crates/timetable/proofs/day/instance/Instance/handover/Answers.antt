@@ -4,7 +4,7 @@ use Rattle.std.specs.List.{All}
 use Rattle.timetable.specs.declared.day.records.Handover.{Handover}
 use Rattle.timetable.specs.Day.{Day}
 use Rattle.timetable.specs.Handovers.{IsHandover, handovers_of}
-use Rattle.timetable.specs.Holding.{day_in}
+use Rattle.timetable.specs.InstanceParts.{day_in}
 use Rattle.timetable.proofs.Handovers.{are_handovers}
 use Rattle.timetable.proofs.Within.{entry_has, second_within}
 use Rattle.timetable.proofs.day.instance.Instance.handover.Goals as goal

@@ -3,7 +3,7 @@ use Rattle.std.proofs.Common.{◌≡◌, ◌∙◌, ℕ, ◌<◌, List, length, 
 use Rattle.std.specs.List.{All}
 use Rattle.rail_base.specs.declared.limits.TheConstants.{MOST_MINUTES}
 use Rattle.timetable.specs.Day.{Day}
-use Rattle.timetable.specs.Holding.{day_in}
+use Rattle.timetable.specs.InstanceParts.{day_in}
 use Rattle.timetable.specs.Lists.{listed}
 use Rattle.timetable.specs.Minutes.{minutes_of, AreMinutes}
 use Rattle.timetable.proofs.Listing.{length-listed, listed_entry}

@@ -8,7 +8,7 @@ use Rattle.branch_tree.specs.Regions.{root_of}
 use Rattle.branch_tree.specs.Trees.{branchings_of, multipliers_of}
 use Rattle.price_bound.specs.DayMeanings.{meanings_of}
 use Rattle.search.specs.declared.found.Found.{Found}
-use Rattle.search.specs.Solving as search
+use Rattle.search.specs.Conclusions as search
 use Rattle.answer_text.specs.declared.answer.Answer.{Answer}
 use Rattle.answer_text.specs.Limits.{has_plan}
 use Rattle.answer_check.specs.Validity.{HasPicks, conclusion_of}

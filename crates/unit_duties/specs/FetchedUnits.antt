@@ -1,7 +1,7 @@
 -- The units that a trip takes from the yard.
 use Rattle.std.specs.Prelude.{ℕ, ◌≡◌, List, [], Option, reverse}
 use Rattle.std.specs.BTreeSet.{BTreeSet}
-use Rattle.inventory.specs.Naming.{InYard, fetched}
+use Rattle.inventory.specs.NamedUnits.{InYard, fetched}
 use Rattle.timetable.specs.Day.{Day, from_of, leaves}
 use Rattle.unit_duties.specs.declared.yards.Waiting.{Waiting}
 use Rattle.unit_duties.specs.Trains.{taken_types}
