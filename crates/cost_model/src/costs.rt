@@ -15,7 +15,7 @@ use rail_base::limits::{MOST_LINKS, MOST_TRIPS};
 use rail_base::{LinkNo, Money, TripNo};
 use timetable::{Instance, NamedPlan, Picks};
 
-/// The most that a day costs: each trip and each link the most.
+/// No day costs more: the bound of each trip, and of each link.
 pub const MOST_DAY_COST: u64 = MOST_TRIP_COST * MOST_TRIPS as u64
     + MOST_LINK_COST * MOST_LINKS as u64;
 
@@ -24,7 +24,8 @@ pub const MOST_DAY_COST: u64 = MOST_TRIP_COST * MOST_TRIPS as u64
 pub struct CostParts {
     /// The carriages of all trips, each for the kilometres of its trip, at the weight of a carriage.
     pub carriage: Money,
-    /// The missing seats of all trips, of both classes, each for the kilometres of its trip, at the weight of a seat.
+    /// The missing seats of all trips, of both classes, each for the kilometres of its trip, at the weight of a missing
+    /// seat.
     pub shortage: Money,
     /// The turns that couple or uncouple units, each at the weight of shunting.
     pub shunting: Money,

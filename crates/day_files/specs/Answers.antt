@@ -47,10 +47,11 @@ pub record AreRefused (table : Table) (bytes : List ℕ) (why : TableRefusal) : 
   pub few : length bytes ≤ MOST_TABLE_BYTES
   pub read : reading table bytes ≡ Err why
 
--- What an error says whatever the folder tells, where a call reads these tables: a file that could not be read, or that
--- is refused as it stands, is one of theirs; some bytes are no such table, some tables make no day, or some rows no
--- plan of a day that tables make, for the reason that is told, where rows keep within the ranges of their columns; and
--- no refusal is want of memory.
+-- What an error says whatever the folder tells, where a call reads these tables: a file that could not be read, that is
+-- too long or that is refused as it stands, is one of theirs; of a refusal but that of a file that is too long, some
+-- bytes are no such table, some tables make no day, or some rows no plan of a day that tables make, for the reason that
+-- is told, where rows keep within the ranges of their columns; and no refusal of a table is want of memory. Want of
+-- memory says nothing.
 abbrev pub IsErrorOf : (Table → Type 0) → ReadError → Type 0
 IsErrorOf AreRead (CannotRead table) = AreRead table
 IsErrorOf AreRead (Refused (TooLong table)) = AreRead table

@@ -122,9 +122,9 @@ fn plan_of(alloc: Global, instance: &Instance, rows: &[PlanRow]) -> Result<Named
 /// of the day come after the six files. The day is one that tables make whose rows keep within the ranges of their
 /// columns, also where the folder doesn't tell what it holds.
 ///
-/// - `CannotRead`: the count of failed reads rose, and a read of that file may fail. It is never the file of the plan,
-///   which isn't read.
-/// - `Refused`: a file is refused, or the tables make no day. It is never want of memory.
+/// - `CannotRead`: the count of failed reads rose or stands at its last value, and a read of that file may fail. It is
+///   never the file of the plan, which isn't read.
+/// - `Refused`: a file is refused, never that of the plan, or the tables make no day. It is never want of memory.
 /// - `NoMemory`: want of memory.
 ///
 /// Where the folder tells what it holds, each file before that one is accepted.
@@ -145,7 +145,7 @@ pub fn day_in<F: Folder>(alloc: Global, folder: &mut F, dir: &str) -> Result<Ins
 /// first file that is refused or cannot be read ends the reading. The day is one that tables make whose rows keep
 /// within the ranges of their columns, also where the folder doesn't tell what it holds.
 ///
-/// - `CannotRead`: the count of failed reads rose, and a read of that file may fail.
+/// - `CannotRead`: the count of failed reads rose or stands at its last value, and a read of that file may fail.
 /// - `Refused`: a file is refused, the tables make no day, or the rows of the plan no plan of it. It is never want of
 ///   memory.
 /// - `NoMemory`: want of memory.

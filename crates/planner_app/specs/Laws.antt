@@ -41,8 +41,8 @@ IsOfSearch (Planned answer) = ⊤
 IsOfSearch (Tried seed trips answer) = ⊤
 IsOfSearch other = ⊥
 
--- The outcomes that the words and the files alone decide: not those of a search, which may find another answer as good,
--- and not that a file could not be read or that memory ran out.
+-- The outcomes that the words and the files alone decide: not those of a search, which may find another answer that
+-- meets the headline too, and not that a file could not be read or that memory ran out.
 abbrev pub IsToldByFiles : Outcome → Type 0
 IsToldByFiles (Planned answer) = ⊥
 IsToldByFiles (Tried seed trips answer) = ⊥

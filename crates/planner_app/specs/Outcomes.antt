@@ -232,11 +232,11 @@ Says words files (NoInputs NoMemory) = ⊤
 Says words files (NoAnswer error) = IsAnswerRefused words files error
 
 -- What an outcome says whatever the files are: an answer, a run, a verdict and a report are of the command that is
--- asked for; an answer meets the headline for some day that tables make; a plan of some such day runs at this cost, or
--- stops with this fault; a verdict is that on an answer of some such day, which is within the limits of a document, and
--- is told by a check alone where the answer is valid; and a report, or that there is none, is of such an answer that is
--- valid. Words that are not understood, and files that are not read or refused, say nothing here: what they are caused
--- by is said below.
+-- asked for; an answer meets the headline for some day that tables make, or for the trial day that is asked for; a plan
+-- of some day that tables make runs at this cost, or stops with this fault; a verdict is that on an answer to some such
+-- day, an answer within the limits of a document, and is told by a check alone where the answer is valid; and a report,
+-- or that there is none, is of such an answer that is valid. Words that are not understood, and files that are not read
+-- or refused, say nothing here: what they are caused by is said below.
 abbrev pub IsSound : List (List ℕ) → Outcome → Type 0
 IsSound words (Planned answer) = (day : Day) × IsMadeDay day × IsPlanned words day answer
 IsSound words (Tried seed trips answer) = IsTried words seed trips answer

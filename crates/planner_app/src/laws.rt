@@ -19,7 +19,8 @@ pub fn headlines_are_valid()
 
 /// Words and files tell one outcome at most, and so one document and one status: what a run of the plan comes to, what
 /// is found of the answer, what a report says, what is refused, and that the words are not understood. They don't tell
-/// the answer that a search finds, since another may be as good, nor that a file could not be read or memory ran out.
+/// the answer that a search finds, since another may meet the headline too, nor that a file could not be read or memory
+/// ran out.
 /// Where they tell an outcome, a search comes to no answer: so that `plan` ends with 3 is told by the files alone too.
 /// Every outcome but these is told so, where the status is none of 5, 6 and 7.
 pub fn outcomes_are_one()

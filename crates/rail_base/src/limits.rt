@@ -1,4 +1,5 @@
-//! The limits of a day: what goes past one of them is refused, so that every sum within them fits its type.
+//! The limits of a day, a search and an answer. What goes past one of them is refused, breaks a rule, or is no argument
+//! of a call, so that every sum within them fits its type.
 
 // Files.
 
@@ -40,7 +41,7 @@ pub const MOST_FIRST_SEATS: u32 = 2_000;
 pub const MOST_METRES: u32 = 500;
 /// Metres of a platform.
 pub const MOST_PLATFORM: u32 = 1_000;
-/// Minutes from the arrival of an uncoupled unit until it may depart again.
+/// Minutes from the arrival at which a unit is given to the yard until it may be taken from it.
 pub const MOST_REALLOCATION: u32 = 600;
 /// Units of one type at one station, as the day begins and as it ends.
 pub const MOST_STOCK: u32 = 2_000;

@@ -158,8 +158,8 @@ impl NodeNo {
     }
 }
 
-/// A minute of the planned day and the day after it, counted from 0 at the first midnight: a time of a timetable is
-/// below 2880, and the minute from which a unit may be taken again can be later.
+/// A minute, counted from 0 at the first midnight: a time of a timetable is below 2880, of the planned day or the day
+/// after it, and the minute from which a unit may be taken again can be later.
 #[derive(Clone, Copy, Debug, Default, PartialEq, Eq, Hash, PartialOrd, Ord)]
 pub struct Minute(pub u16);
 
@@ -182,6 +182,6 @@ impl Minute {
 }
 
 /// An amount of cost, in the unit of the weights table: one carriage kilometre at weight 1. It may be negative, as a
-/// bound is.
+/// bound may be.
 #[derive(Clone, Copy, Debug, PartialEq, Eq, Hash, PartialOrd, Ord)]
 pub struct Money(pub i128);

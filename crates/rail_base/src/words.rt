@@ -55,7 +55,7 @@ impl Words {
         self.words.len() as u32
     }
 
-    /// The word at a place, counted from 0.
+    /// The word at a place, counted from 0 and below `len`.
     pub fn at(&self, place: u32) -> &str
         requires { place < length self.now }
         ensures { slice_get self.now place ≡ Some result.now }

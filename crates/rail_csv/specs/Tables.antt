@@ -202,6 +202,15 @@ weights_of bytes = do
 abbrev pub plan_header : List (List ℕ)
 plan_header = codes "trip" ∷ codes "units" ∷ []
 
+unfoldable pub plan_columns : Columns PlanRow
+plan_columns row fields = do
+  trip ← name_column row 0 (field fields 0)
+  units ← units_column row 1 (field fields 1)
+  Ok (record { trip = trip; units = units })
+
+unfoldable pub plan_of : List ℕ → Result (List PlanRow) TableRefusal
+plan_of bytes = table_of plan_header 2 MOST_PLAN_ROWS plan_columns bytes
+
 -- ---- the columns of any table
 
 -- the header of the last version of a table
@@ -217,12 +226,3 @@ header_of Plan = plan_header
 -- the header word of a column, counted from 0; nothing where the table has no such column
 abbrev pub column_name : Table → ℕ → List ℕ
 column_name table column = field (header_of table) column
-
-unfoldable pub plan_columns : Columns PlanRow
-plan_columns row fields = do
-  trip ← name_column row 0 (field fields 0)
-  units ← units_column row 1 (field fields 1)
-  Ok (record { trip = trip; units = units })
-
-unfoldable pub plan_of : List ℕ → Result (List PlanRow) TableRefusal
-plan_of bytes = table_of plan_header 2 MOST_PLAN_ROWS plan_columns bytes

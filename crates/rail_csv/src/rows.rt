@@ -30,7 +30,7 @@ pub struct StationRow {
     pub name: Name,
     /// Length of the platform in metres, 1 to 1,000.
     pub platform: u32,
-    /// Minutes from the arrival of an uncoupled unit until it may depart again, 0 to 600.
+    /// Minutes from the arrival at which a unit is given to the yard until it may be taken from it, 0 to 600.
     pub reallocation: u32,
 }
 

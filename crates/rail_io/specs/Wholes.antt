@@ -4,8 +4,8 @@ use Rattle.rail_io.specs.Folders.{Files, OnlyReads, Rose, RosePast, file_at}
 use Rattle.rail_io.specs.declared.whole.FileRefusal.{FileRefusal}
 use Rattle.rail_io.specs.declared.whole.FileRefusal.TheVariants.{ReadFault, TooLong}
 
--- from before to after a read of a path's whole file, of at most so many bytes: the bytes and the answer, each refusal
--- with its cause
+-- from before to after a read of a path's whole file, of at most so many bytes: the bytes and the answer, and what a
+-- failed read and a file that is too long are caused by; want of memory has no cause
 pub record HasRead {F : Type 0} (holds : F → Option Files) (may_fail : F → List ℕ → Bool) (faults taken : F → ℕ)
     (before after : F) (path : List ℕ) (limit : ℕ) (bytes : List ℕ) (answer : Result ⊤ FileRefusal) : Type 0 where
   pub told : (files : Files) → holds before ≡ Some files → IfOk answer (λ _. bytes ≡ file_at files path)

@@ -44,11 +44,13 @@ impl From<AllocError> for FileRefusal {
     }
 }
 
-/// The whole file of a path, where it has at most `limit` bytes. It reads until a read gives nothing or more than
-/// `limit` bytes were taken, and keeps no byte past the limit. The limit is at most that of a file of any kind.
+/// The whole file of a path, where it has at most `limit` bytes, and no byte past the limit. The limit is at most that
+/// of a file of any kind.
 ///
-/// - `ReadFault`: a read failed, so reads of this path may fail.
-/// - `TooLong`: more than `limit` bytes were taken; where the folder tells what it holds, the file is longer.
+/// - `ReadFault`: a read failed: the count of failed reads rose or stands at its last value, and reads of this path may
+///   fail.
+/// - `TooLong`: more than `limit` bytes were taken, or the count of them has reached 2^63; where the folder tells what
+///   it holds, the file is longer.
 /// - `NoMemory`: the memory for its bytes could not be had.
 pub fn read_file<F: Folder>(
     alloc: Global,

@@ -15,15 +15,15 @@ use Rattle.timetable.specs.declared.day.records.Link.{Link}
 use Rattle.timetable.specs.declared.day.records.LinkKind.{LinkKind}
 use Rattle.timetable.specs.declared.day.records.Stock.{Stock}
 
--- the numbers of a unit type are within the limits
+-- no number of a unit type is over its limit
 pub record IsUnitType (t : UnitType) : Type 0 where
   pub carriages : t.carriages ≤ MOST_CARRIAGES
   pub seats : t.seats ≤ MOST_SEATS
   pub metres : t.metres ≤ MOST_METRES
   pub first : t.first ≤ MOST_FIRST_SEATS
 
--- every trip arrives after it leaves and on the second day at the latest, what it names is there, and each number is
--- within its limit
+-- every trip arrives after it leaves and on the second day at the latest, what it names is there, and no number is over
+-- its limit
 pub record IsDay (day : Day) : Type 0 where
   pub time : (t : ℕ) → t < length day.trips → leaves day t < arrives day t
   pub late : (t : ℕ) → t < length day.trips → arrives day t < MOST_MINUTES

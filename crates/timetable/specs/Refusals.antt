@@ -102,8 +102,8 @@ trip_tests tables number before row =
 
 -- ---- links
 
--- the fields of a link row fit its kind: a turn has no second names, and two ends where units are exchanged; a join and
--- a split have one second name, no ends and no exchange
+-- the fields of a link row fit its kind: a turn has no second names, and two ends where units are exchanged; a join has
+-- a second arriving name alone, a split a second departing name alone, and both have no ends and no exchange
 abbrev pub FitsKind : KindWord → Option (List ℕ) → Option (List ℕ) → End → End → Bool → Type 0
 FitsKind words.Turn None None uncouple couple false = Unit {0}
 FitsKind words.Turn None None uncouple couple true = (uncouple ≢ at.None) × (couple ≢ at.None)

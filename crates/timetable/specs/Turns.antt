@@ -1,6 +1,6 @@
 -- The rule of a turn: which units stay in the train. A turn has an end at which it may uncouple units, and one at which
--- it may couple units. Which places of the two lists stay is read off the types; that the same units stand there is the
--- rule.
+-- it may couple units. Which places of the two lists stay is read off the types; the rule is that the same units stand
+-- there, and that no more are taken off and put on than may be.
 use Rattle.std.specs.Prelude.{ℕ, zero, suc, ◌-◌, ◌≡◌, ◌≤◌, List, [], ◌++◌, length, take, drop, map, Bool, ◌&&◌, ◌||◌}
 use Rattle.std.specs.Prelude.{◌==◌, if◌then◌else◌, nat_le, Option, Some, None, option_and_then, unwrap_or, MatchOption}
 use Rattle.std.specs.Prelude.{IsTrue}

@@ -1,4 +1,4 @@
--- What is known of the entries of a day that was accepted: each within its limits, and what it names is there.
+-- What is known of the entries of a day that was accepted: none is over its limits, and what it names is there.
 use Rattle.std.specs.Prelude.{ℕ, List, length, ◌≤◌, ◌<◌, ◌≡◌}
 use Rattle.std.specs.List.{All}
 use Rattle.rail_base.specs.declared.limits.TheConstants.{MOST_TYPES, MOST_PLATFORM, MOST_REALLOCATION, MOST_STATIONS}

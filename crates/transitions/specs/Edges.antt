@@ -19,9 +19,10 @@ pub record MayRun (day : Day) (t comp : ℕ) : Type 0 where
   pub listed : comp < length (compositions_of day)
   pub admissible : IsTrue (is_admissible day t (composition_at day comp))
 
--- A turn of trip a into trip b: the types that depart are those that arrive, or what is left of them after units were
--- uncoupled at the uncoupling end, or they with units coupled at the coupling end; or, with exchange, what is left of
--- them with units coupled. The shunt says which, and how many units.
+-- A turn of trip a into trip b. After a reversal of the arriving train the types that depart are those that arrive, or
+-- what is left of them after units were uncoupled at the uncoupling end, or they with units coupled at the coupling
+-- end; or, with exchange, what is left of them with others coupled, one or two each. The shunt says which, and how many
+-- units.
 pub record IsTurnEdge (day : Day) (reversed : Bool) (a b : ℕ) (uncouple couple : End) (exchange : Bool)
     (edge : Edge) : Type 0 where
   pub arriving : MayRun day a edge.from
@@ -30,8 +31,8 @@ pub record IsTurnEdge (day : Day) (reversed : Bool) (a b : ℕ) (uncouple couple
       (composition_at day edge.to) ≡ Some edge.shunt
   pub no_part : edge.part ≡ None
 
--- A join of trips a1 and a2 into trip b: the types that depart are those of the first train and then those of the
--- second, whose composition is the part.
+-- A join of trips a1 and a2 into trip b. After a reversal of each arriving train the types that depart are those of the
+-- first train and then those of the second, whose composition is the part.
 pub record IsJoinEdge (day : Day) (reversed : Bool) (a1 a2 b : ℕ) (edge : Edge) : Type 0 where
   pub part : ℕ
   pub is_part : edge.part ≡ Some part
@@ -42,8 +43,8 @@ pub record IsJoinEdge (day : Day) (reversed : Bool) (a1 a2 b : ℕ) (edge : Edge
       (turned reversed (composition_at day part)) (composition_at day edge.to))
   pub kept : edge.shunt ≡ Keep
 
--- A split of trip a into trips b1 and b2: the types that arrive are those of the first train and then those of the
--- second, whose composition is the part.
+-- A split of trip a into trips b1 and b2. After a reversal of the arriving train its types are those of the first train
+-- and then those of the second, whose composition is the part.
 pub record IsSplitEdge (day : Day) (reversed : Bool) (a b1 b2 : ℕ) (edge : Edge) : Type 0 where
   pub part : ℕ
   pub is_part : edge.part ≡ Some part

@@ -1,4 +1,4 @@
--- A plan that runs follows an edge of each link.
+-- A plan that runs follows an edge of each link; each edge is found; and edges are there by the rules of links.
 use Rattle.std.specs.Prelude.{ℕ, ◌≡◌, ◌↔◌, IsTrue, List, Bool, Some, option_map, slice_get}
 use Rattle.timetable.specs.declared.day.records.Link.{Link}
 use Rattle.timetable.specs.declared.day.records.LinkKind.{LinkKind}

@@ -11,8 +11,8 @@ pub enum Shunt {
     Uncouple { units: u8 },
     /// So many units are coupled, which were taken from the yard.
     Couple { units: u8 },
-    /// So many units are uncoupled and given to the yard, and so many are coupled, which were taken from it. The end
-    /// may be one and the same.
+    /// So many units are uncoupled and given to the yard, and so many are coupled, which were taken from it. The two
+    /// ends may be one and the same.
     Exchange { uncouple: u8, couple: u8 },
 }
 

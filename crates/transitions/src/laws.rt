@@ -1,4 +1,4 @@
-//! What holds of the edges of every day.
+//! What holds of the edges of days, the links of which are such as an accepted day has.
 //!
 //! Each law is the contract of a function that does nothing.
 

@@ -61,7 +61,7 @@ pub(crate) fn accept(alloc: Global, tables: Tables) -> Result<AcceptedRows, Inst
     accept_runs(alloc, yards, tables.trips, tables.links, tables.weights)
 }
 
-/// What stands at the stations: the entries of a day before its trips.
+/// The unit types, the stations and what stands in their yards: the entries of a day before its trips.
 #[derive(Drop)]
 struct Yards {
     types: UnitTypes,

@@ -38,10 +38,10 @@ pub enum InstanceRefusal {
     /// The link names a trip as arriving, or as departing, that it or an earlier link has named so already.
     #[error("row {0}: trip used twice")]
     TripUsedTwice(u32),
-    /// A trip of the link arrives at another station than one of its trips departs from.
+    /// An arriving trip of the link ends at another station than a departing trip of it begins at.
     #[error("row {0}: trips do not meet at a station")]
     WrongStation(u32),
-    /// A trip of the link departs when one that goes on as it has yet to arrive.
+    /// A departing trip of the link departs before an arriving trip of it arrives.
     #[error("row {0}: departure before arrival")]
     TooEarly(u32),
     /// The fields of the link do not fit its kind.

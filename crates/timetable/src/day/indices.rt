@@ -23,7 +23,7 @@ pub enum Place {
         station: StationNo,
         unit_type: TypeNo,
     },
-    /// A hand-over and a composition of its second trip.
+    /// A hand-over and a composition of the catalogue.
     Sigma {
         handover: u32,
         comp: CompNo,
@@ -56,7 +56,8 @@ impl Instance {
         minutes
     }
 
-    /// How many multipliers belong to a departure minute. The index of the first that may be negative.
+    /// How many multipliers belong to a departure minute: the index of the first that may be negative, where there is
+    /// one.
     pub fn free_from(&self) -> u32
         ensures value { result ≡ length (lambdas_of self.now) }
         ensures few { result ≤ MOST_TYPES * MOST_TRIPS }

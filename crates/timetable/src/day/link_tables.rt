@@ -2,7 +2,6 @@
 
 ghost use Rattle.std.specs.Prelude.{◌≡◌, ◌≤◌, Some, length, set, IfOk};
 ghost use Rattle.timetable.specs.LinkTables.{trips_on, noted, link_table};
-ghost use Rattle.timetable.specs.Lists.{has};
 
 use crate::day::records::{Link, LinkKind};
 use rail_base::limits::MOST_LINKS;
@@ -16,20 +15,6 @@ pub enum Side {
     Arriving,
     /// The trips that these trains go on as.
     Departing,
-}
-
-/// Whether a link names the trip on one side.
-pub fn is_named_by(kind: LinkKind, side: Side, trip: TripNo) -> bool
-    ensures { result ≡ has trip (trips_on side kind) }
-{
-    match (side, kind) {
-        (Side::Arriving, LinkKind::Turn { arriving, .. }) => arriving == trip,
-        (Side::Arriving, LinkKind::Join { first, second, .. }) => first == trip || second == trip,
-        (Side::Arriving, LinkKind::Split { arriving, .. }) => arriving == trip,
-        (Side::Departing, LinkKind::Turn { departing, .. }) => departing == trip,
-        (Side::Departing, LinkKind::Join { departing, .. }) => departing == trip,
-        (Side::Departing, LinkKind::Split { first, second, .. }) => first == trip || second == trip,
-    }
 }
 
 /// Notes a link at a trip, where the table has an entry for the trip.

@@ -106,7 +106,7 @@ impl Link {
 }
 
 impl Instance {
-    /// The composition that is picked for a trip, which is below `trips`.
+    /// The composition that is picked for a trip, which is below `trips`. The picks are of the day.
     #[tactic(auto, unfolding(crate::specs::Links::list_of))]
     pub fn composition(&self, picks: &Picks, trip: TripNo) -> &Composition
         requires picks { ArePicks self.now picks.now }
