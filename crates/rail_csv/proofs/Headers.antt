@@ -45,7 +45,7 @@ text_all (first ∷ fields) h =
     let parts = both (is_utf8 first) (list_all is_utf8 fields) h in
     (IsUtf8-from_is_utf8 first parts.0, text_all fields parts.1)
 
-refuted : (b : Bool) → ¬ (b ≡ true) → b ≡ false
+pub refuted : (b : Bool) → ¬ (b ≡ true) → b ≡ false
 refuted true h = absurd (h refl)
 refuted false h = refl
 

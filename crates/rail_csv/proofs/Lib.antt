@@ -6,3 +6,4 @@ pub mod Turns
 pub mod Accepted
 pub mod Whole
 pub mod OneRow
+pub mod RowFaults

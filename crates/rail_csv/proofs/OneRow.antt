@@ -24,7 +24,7 @@ use Rattle.rail_csv.specs.Tables.{trips_of, link_header, link_columns, links_of,
 use Rattle.rail_csv.specs.Tables.{weights_of, plan_header, plan_columns, plan_of}
 use Rattle.rail_csv.specs.Laws.{IsFirstWrong, IsWeightsTable, NoOtherTableWantsARow}
 use Rattle.rail_csv.proofs.Accepted.{step}
-use Rattle.rail_csv.proofs.Whole.{is_table, table_is, is_first_wrong}
+use Rattle.rail_csv.proofs.Whole.{is_table, table_is, is_first_wrong, first_wrong_is}
 
 -- ---- steps that don't end for want of a row
 
@@ -239,3 +239,7 @@ pub wrong_if : (bytes : List ℕ) (why : TableRefusal) → weights_of bytes ≡ 
 unfolding weights_of table_of
 wrong_if bytes why e other =
     ends e (λ no. is_first_wrong weight_header 3 MOST_WEIGHT_ROWS weight_columns (records_of bytes) why no) (λ rows read e1. absurd (other (wants_a_row rows why e1)))
+
+pub if_wrong : (bytes : List ℕ) (why : TableRefusal) → IsFirstWrong weight_header 3 MOST_WEIGHT_ROWS weight_columns (records_of bytes) why → weights_of bytes ≡ Err why
+unfolding weights_of table_of
+if_wrong bytes why wrong = rw (first_wrong_is weight_header 3 MOST_WEIGHT_ROWS weight_columns (records_of bytes) why wrong) refl

@@ -3,13 +3,13 @@ use Rattle.std.proofs.Common.{◌≡◌, ℕ, zero, suc, ◌+◌, ◌≤◌, ◌
 use Rattle.std.proofs.Common.{get_or, Some, Result, Ok, Err, refl, sym, ap, subst, ◌∙◌, arith, inl, inr, ◌⊎◌, add-one}
 use Rattle.std.specs.Prelude.{IsOk}
 use Rattle.std.specs.List.{slice_get}
-use Rattle.std.proofs.lemmas.Bool.{ltb-false, ltb-true, le-ltb, false≢true}
+use Rattle.std.proofs.lemmas.Bool.{ltb-false, ltb-true, le-ltb, lt-ltb, false≢true}
 use Rattle.rail_csv.specs.declared.refusal.TableRefusal.{TableRefusal}
 use Rattle.rail_csv.specs.declared.refusal.TableRefusal.TheVariants.{TooManyRows}
 use Rattle.rail_base.specs.Answers.{◌>>=◌}
 use Rattle.rail_csv.specs.Tables.{Columns, is_header, row_of, rows_from, rows_under}
 use Rattle.rail_csv.specs.Laws.{row_at, IsTable, AreRightBefore, IsFirstWrong, IsFirstWrongUnder}
-use Rattle.rail_csv.proofs.Headers.{has_header, header_is, no_header}
+use Rattle.rail_csv.proofs.Headers.{has_header, header_is, no_header, refuted}
 use Rattle.rail_csv.proofs.Accepted.{step, same, went_on}
 
 -- ---- rows that are read
@@ -158,6 +158,65 @@ wrong_from width limit columns (fields ∷ others) row e le h =
           ]
     ]
 
+-- and back
+
+is_right : {A : Type 0} (read : Result A TableRefusal) → IsOk read → (a : A) × (read ≡ Ok a)
+is_right (Ok a) right = (a, refl)
+is_right (Err d) right = absurd cc
+
+right_first : {Row : Type 0} (width : ℕ) (columns : Columns Row) (row : ℕ) (fields : List (List ℕ)) (others : List (List (List ℕ))) → IsRightAt width columns row (fields ∷ others) 0 → (a : Row) × (row_of width columns row fields ≡ Ok a)
+right_first width columns row fields others right =
+    let number : 0 + row ≡ row = omega arith in
+    is_right (row_of width columns row fields) (subst (λ (n : ℕ). IsOk (row_of width columns n fields)) number right)
+
+shifted : (k row : ℕ) → suc k + row ≡ k + (row + 1)
+shifted k row = omega arith
+
+right_later : {Row : Type 0} (width : ℕ) (columns : Columns Row) (row : ℕ) (fields : List (List ℕ)) (others : List (List (List ℕ))) (k : ℕ)
+    → ((j : ℕ) → j < suc k → IsRightAt width columns row (fields ∷ others) j) → (j : ℕ) → j < k → IsRightAt width columns (row + 1) others j
+right_later width columns row fields others k before j lt =
+    subst (λ (n : ℕ). IsOk (row_of width columns n (get_or others j []))) (shifted j row) (before (suc j) (omega arith))
+
+pub from_wrong : {Row : Type 0} (width limit : ℕ) (columns : Columns Row) (records : List (List (List ℕ))) (row : ℕ) (e : TableRefusal)
+    → IsWrongFrom width limit columns row records e → rows_from width limit columns row records ≡ Err e
+unfolding rows_from
+from_wrong width limit columns [] row e (inl w) = absurd (omega (arith, w.1.there))
+from_wrong width limit columns [] row e (inr w) = absurd (omega (arith, w.1.there))
+from_wrong width limit columns (fields ∷ others) row e (inl (zero, w)) =
+    let below : ltb limit row ≡ false = le-ltb _ _ (omega (arith, w.few)) in
+    let number : 0 + row ≡ row = omega arith in
+    let here : row_of width columns row fields ≡ Err e = rw number at w.wrong in
+    rw (below, here) refl
+from_wrong width limit columns (fields ∷ others) row e (inl (suc k, w)) =
+    let below : ltb limit row ≡ false = le-ltb _ _ (omega (arith, w.few)) in
+    let here = right_first width columns row fields others (w.before 0 (omega arith)) in
+    let later : IsWrongFrom width limit columns (row + 1) others e = inl (
+      k,
+      record {
+        few = omega (arith, w.few);
+        there = omega (arith, w.there);
+        before = right_later width columns row fields others k w.before;
+        wrong = subst (λ (n : ℕ). row_of width columns n (get_or others k []) ≡ Err e) (shifted k row) w.wrong;
+      },
+    ) in
+    rw (below, here.1, from_wrong width limit columns others (row + 1) e later) refl
+from_wrong width limit columns (fields ∷ others) row e (inr (zero, w, many)) =
+    let above : ltb limit row ≡ true = lt-ltb _ _ (omega (arith, w.reaches)) in
+    rw (above, many) refl
+from_wrong width limit columns (fields ∷ others) row e (inr (suc k, w, many)) =
+    let below : ltb limit row ≡ false = le-ltb _ _ (omega (arith, w.reaches)) in
+    let here = right_first width columns row fields others (w.before 0 (omega arith)) in
+    let later : IsWrongFrom width limit columns (row + 1) others e = inr (
+      k,
+      record {
+        reaches = omega (arith, w.reaches);
+        there = omega (arith, w.there);
+        before = right_later width columns row fields others k w.before;
+      },
+      many,
+    ) in
+    rw (below, here.1, from_wrong width limit columns others (row + 1) e later) refl
+
 -- ---- the whole table
 
 by_header : {A : Type 0} (b : Bool) (read : Result A TableRefusal) (d : TableRefusal) (r : Result A TableRefusal) → cond b read (Err d) ≡ r → ((b ≡ true) × (read ≡ r)) ⊎ ((b ≡ false) × (Err d ≡ r))
@@ -237,3 +296,42 @@ is_first_wrong words fewest limit columns (first ∷ others) e h =
           inr (width, has_header words fewest first others read.0, wrong_under width limit columns first others e (wrong_from width limit columns others 1 e (omega arith) read.1))
       | inr none ↦ inl (λ width has. absurd (false≢true (sym none.0 ∙ (header_is words fewest width first others has).is)), cc)
     ]
+
+right_under : {Row : Type 0} (width : ℕ) (columns : Columns Row) (first : List (List ℕ)) (others : List (List (List ℕ))) (n : ℕ) → AreRightBefore width columns (first ∷ others) (n + 1) → (j : ℕ) → j < n → IsRightAt width columns 1 others j
+right_under width columns first others n before j lt =
+    subst (λ (i : ℕ). IsOk (row_of width columns i (get_or others j []))) (sym (add-one j)) (before (suc j) (omega arith) (omega arith))
+
+under_wrong : {Row : Type 0} (width limit : ℕ) (columns : Columns Row) (first : List (List ℕ)) (others : List (List (List ℕ))) (e : TableRefusal) → IsFirstWrongUnder width limit columns (first ∷ others) e → IsWrongFrom width limit columns 1 others e
+under_wrong width limit columns first others e (inl (zero, w)) = absurd (omega (arith, w.one))
+under_wrong width limit columns first others e (inl (suc k, w)) =
+    inl (
+      k,
+      record {
+        few = omega (arith, w.few);
+        there = omega (arith, w.there);
+        before = right_under width columns first others k (subst (λ (n : ℕ). AreRightBefore width columns (first ∷ others) n) (sym (add-one k)) w.before);
+        wrong = subst (λ (i : ℕ). row_of width columns i (get_or others k []) ≡ Err e) (sym (add-one k)) w.wrong;
+      },
+    )
+under_wrong width limit columns first others e (inr (many, is)) =
+    inr (
+      limit,
+      record {
+        reaches = refl;
+        there = omega (arith, many.more);
+        before = right_under width columns first others limit many.before;
+      },
+      is,
+    )
+
+-- and the first wrong thing is a refusal
+pub first_wrong_is : {Row : Type 0} (words : List (List ℕ)) (fewest limit : ℕ) (columns : Columns Row) (records : List (List (List ℕ))) (e : TableRefusal) → IsFirstWrong words fewest limit columns records e → rows_under words fewest limit columns records ≡ Err e
+unfolding rows_under
+first_wrong_is words fewest limit columns [] e (inl none) = rw none.1 refl
+first_wrong_is words fewest limit columns [] e (inr (width, has, under)) = absurd (no_header words fewest width has)
+first_wrong_is words fewest limit columns (first ∷ others) e (inl none) =
+    let other : is_header words fewest first ≡ false = refuted _ (λ h. none.0 (length first) (has_header words fewest first others h)) in
+    rw (other, none.1) refl
+first_wrong_is words fewest limit columns (first ∷ others) e (inr (width, has, under)) =
+    let right = header_is words fewest width first others has in
+    rw (right.is, right.wide) (from_wrong width limit columns others 1 e (under_wrong width limit columns first others e under))

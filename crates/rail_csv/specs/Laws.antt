@@ -82,12 +82,13 @@ pub record NoOtherTableWantsARow : Type 0 where
   pub plan : (bytes : List ℕ) → plan_of bytes ≢ Err NoRow
 
 -- Bytes are read as a row of weights exactly where all of their records are a table of this one row. They are refused
--- for want of a row exactly where all of their records are a table of none, which is the header alone. Each other
--- refusal is the first wrong thing in the records. No other table is refused for want of a row.
+-- for want of a row exactly where all of their records are a table of none, which is the header alone. They are refused
+-- for anything else exactly where it is the first wrong thing in the records. No other table is refused for want of a
+-- row.
 pub record WeightsAreOneRow : Type 0 where
   pub row : (bytes : List ℕ) (row : WeightsRow) → (weights_of bytes ≡ Ok row)
       ↔ IsWeightsTable (records_of bytes) (row ∷ [])
   pub none : (bytes : List ℕ) → (weights_of bytes ≡ Err NoRow) ↔ IsWeightsTable (records_of bytes) []
-  pub wrong : (bytes : List ℕ) (e : TableRefusal) → weights_of bytes ≡ Err e → e ≢ NoRow
-      → IsFirstWrong weight_header 3 MOST_WEIGHT_ROWS weight_columns (records_of bytes) e
+  pub wrong : (bytes : List ℕ) (e : TableRefusal) → e ≢ NoRow → (weights_of bytes ≡ Err e)
+      ↔ IsFirstWrong weight_header 3 MOST_WEIGHT_ROWS weight_columns (records_of bytes) e
   pub others : NoOtherTableWantsARow

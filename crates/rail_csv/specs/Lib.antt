@@ -4,3 +4,4 @@ pub mod Tables
 pub mod Records
 pub mod Rows
 pub mod Laws
+pub mod RowFaults
