@@ -5,7 +5,6 @@ pub mod ByKind
 pub mod PlacesByKind
 pub mod Linked
 pub mod Standing
-pub mod Stock
 pub mod Yards
 pub mod OnDuty
 pub mod Serving

@@ -13,10 +13,10 @@ use Rattle.timetable.specs.Running.{Runs, ending}
 use Rattle.timetable.specs.Starts.{start_of}
 use Rattle.timetable.proofs.ListedUnits.{list_of-types}
 use Rattle.timetable.proofs.TypeRule.{link-map, given-map, taken-map}
+use Rattle.timetable.proofs.AtHome.{at_home}
 use Rattle.inventory.specs.Counts.{AreServed, taken_until, ready_until, all_taken, all_given}
 use Rattle.inventory.proofs.Sums.{sum_same, sum_add, sum_le, sum_zero, sum_of_type}
 use Rattle.inventory.proofs.Standing.{le_has}
-use Rattle.inventory.proofs.Stock.{at_home}
 use Rattle.inventory.proofs.Yards.{sum_if, both_if}
 use Rattle.inventory.proofs.OnDuty.{takes_until, gives_until, takes_here, gives_here, taken_less, given_less}
 use Rattle.inventory.proofs.OnDuty.{until_unit, here_unit}

@@ -10,6 +10,7 @@ use Rattle.timetable.specs.Day.{Day, leaves, from_of, to_of, home_of, type_of, t
 use Rattle.timetable.specs.Links.{list_of, itself, taken_with, given_with}
 use Rattle.timetable.specs.Lists.{count_of, has, sum_below}
 use Rattle.timetable.specs.Starts.{start_of}
+use Rattle.timetable.proofs.AtHome.{at_home}
 use Rattle.inventory.specs.Counts.{takes_of, gives_of}
 use Rattle.inventory.specs.Places.{given_places, taken_places}
 use Rattle.inventory.specs.NamedUnits.{InYard, after_trip, standing, may_be_taken}
@@ -19,7 +20,6 @@ use Rattle.inventory.proofs.Linked.{Goes, AllHold, goes, coming_from, places_sha
 use Rattle.inventory.proofs.Linked.{taken_places-map, given_places-map}
 use Rattle.inventory.proofs.Standing.{IsRight, AreRight, stands_after, standing_is, latest_here, latest_before}
 use Rattle.inventory.proofs.Standing.{right_of, go_on, not_in_yard, fed_before, none_has, le_has}
-use Rattle.inventory.proofs.Stock.{at_home}
 
 -- ---- sums over trips of a list
 

@@ -12,8 +12,9 @@ use Rattle.timetable.specs.Refusals.{day_tests}
 use Rattle.timetable.specs.Tests.{Test, NoneFailed, IsFirstFailed}
 use Rattle.timetable.proofs.Refused as refused
 use Rattle.timetable.proofs.Plans as plans
-use Rattle.timetable.proofs.Plans.{plan_is_said}
+use Rattle.timetable.proofs.Plans.{plan_is_said, plan_is_meant}
 use Rattle.timetable.proofs.Accepting.{bind_ok, guard_ok, same_ok}
+use Rattle.timetable.proofs.Meant.{day_is_meant}
 use Rattle.timetable.proofs.Said.{is_day_of}
 use Rattle.timetable.proofs.SameChains.{chains_are_one}
 
@@ -43,7 +44,7 @@ module _ {E : Type 0} where
 pub days_are_made : DaysAreMade
 days_are_made = record {
   decided = λ tables. decided Day (day_of tables) (day_tests tables) (refused.none_failed tables) (refused.first_failed tables);
-  meaning = is_day_of;
+  meaning = λ tables day. (is_day_of tables day, day_is_meant tables day);
 }
 
 -- the plan that was made is that of the rows
@@ -58,7 +59,7 @@ is_plan_of day rows plan e =
 pub plans_are_made : PlansAreMade
 plans_are_made = record {
   decided = λ day rows. decided (List (List ℕ)) (plan_of day rows) (plan_tests day rows) (plans.none_failed day rows) (plans.first_failed day rows);
-  meaning = is_plan_of;
+  meaning = λ day rows plan. (is_plan_of day rows plan, plan_is_meant day rows plan);
 }
 
 pub chains_are_all_one : ChainsAreOne

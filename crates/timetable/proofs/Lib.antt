@@ -1,4 +1,5 @@
 pub mod Accepting
+pub mod Passing
 pub mod Tests
 pub mod Names
 pub mod Entries
@@ -26,6 +27,7 @@ pub mod Leading
 pub mod WholeChains
 pub mod SameChains
 pub mod Handovers
+pub mod Meant
 pub mod Deciding
 pub mod Turning
 pub mod PlainTurns
@@ -41,6 +43,7 @@ pub mod AdmittedTypes
 pub mod Picking
 pub mod YardTypes
 pub mod StockRows
+pub mod AtHome
 pub mod Ones
 pub mod Sums
 pub mod Ends

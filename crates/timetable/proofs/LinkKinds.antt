@@ -56,7 +56,7 @@ not_alone x y ne = let o = one_other y x (λ e. ne (sym e)) in omega arith
 not_both : (x y z : ℕ) → x ≢ y → x ≢ z → count_of x (y ∷ z ∷ []) ≡ 0
 not_both x y z ne ne' = let o = one_other y x (λ e. ne (sym e)) in let o' = one_other z x (λ e. ne' (sym e)) in omega arith
 
-two_apart : (x y : ℕ) → count_of x (x ∷ y ∷ []) ≤ 1 → x ≢ y
+pub two_apart : (x y : ℕ) → count_of x (x ∷ y ∷ []) ≤ 1 → x ≢ y
 two_apart x y once e = let o = one_same x x refl in let o' = one_same y x (sym e) in absurd (omega arith)
 
 -- what arrives by a link is given, or kept for two trips at most

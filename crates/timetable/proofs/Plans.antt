@@ -1,11 +1,12 @@
 -- What rows say where they make a plan, and where they are refused.
 use Rattle.std.proofs.Common.{◌≡◌, inl, inr, ℕ, suc, ◌<◌, ◌≤◌, Bool, true, false, List, [], ◌∷◌, map, length, get_or}
-use Rattle.std.proofs.Common.{refl, sym, ap, subst, ◌∙◌, arith, Option, Some, None, Result, Ok, Err, slice_get}
-use Rattle.std.specs.Prelude.{nat_lt, option_map, IfErr}
+use Rattle.std.proofs.Common.{refl, sym, ap, subst, ◌∙◌, ◌+◌, ◌++◌, append_assoc, append-nil, length-append, zero-add}
+use Rattle.std.proofs.Common.{arith, Option, Some, None, Result, Ok, Err, slice_get}
+use Rattle.std.specs.Prelude.{nat_lt, option_map, if◌then◌else◌, IfErr}
 use Rattle.std.specs.List.{All, Any, list_all}
-use Rattle.std.proofs.lemmas.Bool.{and_cases, ltb-true, ltb-false, both_ways}
-use Rattle.std.proofs.lemmas.List.Elements.{All-weaker}
-use Rattle.std.proofs.lemmas.List.Sums.{AllPass-from_list_all}
+use Rattle.std.proofs.lemmas.Bool.{and_cases, ltb-true, ltb-false, lt-ltb, le-ltb, both_ways}
+use Rattle.std.proofs.lemmas.List.Elements.{All-head, All-tail, All-weaker}
+use Rattle.std.proofs.lemmas.List.Sums.{AllPass-from_list_all, list_all-from_AllPass}
 use Rattle.std.proofs.lemmas.Option.{slice_get-map, slice_get-get_or, same_Some}
 use Rattle.std.proofs.lemmas.Slice.Eq.{bytes_eq-Decides}
 use Rattle.rail_base.specs.Answers.{Unless, Gives}
@@ -13,12 +14,15 @@ use Rattle.rail_base.proofs.Answers.{Unless-then}
 use Rattle.rail_csv.specs.declared.rows.PlanRow.{PlanRow}
 use Rattle.timetable.specs.declared.day.records.Trip.{Trip}
 use Rattle.timetable.specs.declared.building.refusal.PlanRefusal.{PlanRefusal}
+use Rattle.timetable.specs.declared.building.refusal.PlanRefusal.TheVariants.{WrongTrip, UnknownUnit, MissingTrip}
 use Rattle.timetable.specs.Day.{Day, unit_count}
 use Rattle.timetable.specs.Plans.{NamesTrip, AreRunRows, IsPlanOf, run_tests, plan_tests, is_named, are_units}
 use Rattle.timetable.specs.Plans.{accept_list, lists_in, plan_of, is_memory}
+use Rattle.timetable.specs.Rowwise.{row_after, accept_each}
 use Rattle.timetable.specs.Tests.{NoneFailed, IsFirstFailed, row_tests}
 use Rattle.timetable.proofs.Accepting.{accepted_at, accepted_map}
 use Rattle.timetable.proofs.Lists.{IsListOfRow, list_of_row, few_lists, length-lists_in}
+use Rattle.timetable.proofs.Passing.{ok_same, then_ok, unless_ok, when_ok}
 use Rattle.timetable.proofs.Tests.{Outcome, outcome_guard, outcome_choice, outcome_then, outcome_each, outcome_ok}
 use Rattle.timetable.proofs.Tests.{all_passed, first_of_failed, length-zip}
 
@@ -80,6 +84,35 @@ plan_is_said day rows plan e all =
       whole = omega arith;
       lists = accepted_map (accept_list day) (λ row. row.units) (λ before row units is. (list_of_row day before row units is).is) [] rows plan e;
     }
+
+-- ---- rows that are right make their plan
+
+list_accepted : (day : Day) (before : List (List ℕ)) (row : PlanRow) → NamesTrip day (length before) row → All (λ u. u < unit_count day) row.units → accept_list day before row ≡ Ok row.units
+unfolding accept_list
+list_accepted day before row named units =
+    let known : Result (List ℕ) PlanRefusal = if are_units day row.units then Ok row.units else Err (UnknownUnit (row_after before)) in
+    when_ok (is_named (slice_get day.trips (length before)) row.trip) (WrongTrip (row_after before)) known row.units (is_then_named day.trips (length before) row.trip named)
+    (when_ok (are_units day row.units) (UnknownUnit (row_after before)) (Ok row.units) row.units
+    (list_all-from_AllPass (λ u. nat_lt u (unit_count day)) row.units (All-weaker (λ u. u < unit_count day) (λ u. nat_lt u (unit_count day) ≡ true) (λ u below. lt-ltb u (unit_count day) below) row.units units)) refl)
+
+lists_made : (day : Day) (before : List (List ℕ)) (rows : List PlanRow) → ((t : ℕ) (row : PlanRow) → slice_get rows t ≡ Some row → NamesTrip day (length before + t) row) → All (λ row. All (λ u. u < unit_count day) row.units) rows
+    → accept_each (accept_list day) before rows ≡ Ok (before ++ map (λ row. row.units) rows)
+lists_made day before [] named units = ok_same before (before ++ []) (sym (append-nil before))
+lists_made day before (row ∷ rows) named units =
+    let first : length before + 0 ≡ length before = omega arith in
+    let next : (t : ℕ) → length before + suc t ≡ length (before ++ row.units ∷ []) + t = λ t. omega (arith, length-append before (row.units ∷ [])) in
+    then_ok (accept_list day before row) (λ us. accept_each (accept_list day) (before ++ us ∷ []) rows) row.units (before ++ map (λ row. row.units) (row ∷ rows))
+    (list_accepted day before row (subst (λ (t : ℕ). NamesTrip day t row) first (named 0 row refl)) (All-head (λ row. All (λ u. u < unit_count day) row.units) row rows units))
+    (lists_made day (before ++ row.units ∷ []) rows (λ t later at. subst (λ (k : ℕ). NamesTrip day k later) (next t) (named (suc t) later at)) (All-tail (λ row. All (λ u. u < unit_count day) row.units) row rows units)
+    ∙ ok_same ((before ++ row.units ∷ []) ++ map (λ row. row.units) rows) (before ++ row.units ∷ map (λ row. row.units) rows) (append_assoc before (row.units ∷ []) (map (λ row. row.units) rows)))
+
+pub plan_is_meant : (day : Day) (rows : List PlanRow) (plan : List (List ℕ)) → IsPlanOf day rows plan → plan_of day rows ≡ Ok plan
+unfolding plan_of lists_in
+plan_is_meant day rows plan is =
+    let lists : List (List ℕ) = map (λ row. row.units) rows in
+    then_ok (lists_in day rows) (λ plan. if nat_lt (length rows) (length day.trips) then Err (MissingTrip (length rows)) else Ok plan) plan plan
+    (lists_made day [] rows (λ t row at. subst (λ (k : ℕ). NamesTrip day k row) (sym (zero-add t)) (is.right.trips t row at)) is.right.units ∙ ok_same lists plan (sym is.lists))
+    (unless_ok (nat_lt (length rows) (length day.trips)) (MissingTrip (length rows)) (Ok plan) plan (le-ltb (length rows) (length day.trips) (omega (arith, is.whole))) refl)
 
 -- ---- the tests
 

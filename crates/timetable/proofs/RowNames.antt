@@ -1,6 +1,6 @@
 -- Names of rows and of the entries that they gave: found or not, and by which number.
 use Rattle.std.proofs.Common.{◌≡◌, ◌≢◌, inl, inr, ℕ, zero, suc, ◌<◌, ◌≤◌, Bool, true, false, List, [], ◌∷◌, map, length}
-use Rattle.std.proofs.Common.{get_or, refl, sym, ap, subst, ◌∙◌, arith, Some, None, ltb, cond, slice_get}
+use Rattle.std.proofs.Common.{get_or, refl, sym, ap, subst, ◌∙◌, arith, Option, Some, None, ltb, cond, slice_get}
 use Rattle.std.specs.Prelude.{option_map}
 use Rattle.std.specs.List.{All, AllZip, position_or_len}
 use Rattle.std.specs.Str.{bytes_eq}
@@ -59,6 +59,17 @@ same_number {X} name_of entries name i j apart is_i is_j =
         | inr after ↦ absurd (apart j i x after below_i (at_j x ∙ sym (at_i x)))
       ]
     ]
+
+-- where names are apart, the number of a name is the one that is found
+pub number_is_found : {X : Type 0} (name_of : X → List ℕ) (entries : List X) (name : List ℕ) (n : ℕ) → AreNamedApart name_of entries → IsNumberOf name_of entries name n → find_name name_of entries name ≡ Some n
+number_is_found name_of entries name n apart is = on (find_name name_of entries name) refl
+  where
+    on : (o : Option ℕ) → find_name name_of entries name ≡ o → o ≡ Some n
+    on None none =
+        let (below, at) = number_at name_of entries name n is in
+        let (x, _, _) = entry_at (λ _. Unit {0}) entries n below (λ k d b. tt) in
+        absurd (not_found name_of entries name none n x below (at x))
+    on (Some m) found = ap Some (same_number name_of entries name m n apart (number_found name_of entries name m found) is)
 
 -- ---- rows and their entries
 

@@ -1,6 +1,6 @@
 -- The day of the tests is the day of the tables in their own words.
-use Rattle.std.proofs.Common.{◌≡◌, ◌≢◌, ℕ, ◌<◌, true, false, List, [], length, get_or, sym, ap, subst, ◌∙◌, arith, Some}
-use Rattle.std.proofs.Common.{Ok, slice_get}
+use Rattle.std.proofs.Common.{◌≡◌, ◌≢◌, ℕ, ◌<◌, true, false, List, [], length, get_or, refl, sym, ap, subst, ◌∙◌, arith}
+use Rattle.std.proofs.Common.{Some, Ok, slice_get}
 use Rattle.std.specs.Prelude.{◌==◌, ◌&&◌, min, option_map}
 use Rattle.std.specs.List.{All, AllPairs}
 use Rattle.std.specs.Str.{bytes_eq}
@@ -15,6 +15,7 @@ use Rattle.rail_csv.specs.declared.rows.LinkRow.{LinkRow}
 use Rattle.rail_csv.specs.declared.rows.StationRow.{StationRow}
 use Rattle.rail_csv.specs.declared.rows.StockRow.{StockRow}
 use Rattle.rail_csv.specs.declared.rows.TripRow.{TripRow}
+use Rattle.rail_csv.specs.declared.rows.TypeRow.{TypeRow}
 use Rattle.timetable.specs.declared.day.records.Link.{Link}
 use Rattle.timetable.specs.declared.day.records.LinkKind.{LinkKind}
 use Rattle.timetable.specs.declared.day.records.LinkKind.TheVariants.{Turn, Join, Split}
@@ -24,14 +25,14 @@ use Rattle.timetable.specs.declared.day.records.Trip.{Trip}
 use Rattle.timetable.specs.declared.building.tables.Tables.{Tables}
 use Rattle.timetable.specs.Admissible.{is_admissible}
 use Rattle.timetable.specs.Build.{has_stock, platform_at, accept_type, accept_station, accept_stock, accept_trip}
-use Rattle.timetable.specs.Build.{type_in, station_in, types_in, stations_in, stock_in, trips_in, day_of}
+use Rattle.timetable.specs.Build.{types_in, stations_in, stock_in, trips_in, day_of}
 use Rattle.timetable.specs.NamedEntries.{has_name, find_name}
 use Rattle.timetable.specs.Compositions.{greatest_platform}
 use Rattle.timetable.specs.Day.{Day, leaves, arrives, from_of, to_of, platform_of, units_of}
 use Rattle.timetable.specs.LinkRows.{accept_link, links_in}
-use Rattle.timetable.specs.Meaning.{IsNumberOf, IsStockOf, IsTripOf, IsKindOf, IsLinkOf, AreNamedApart, IsOtherStock}
-use Rattle.timetable.specs.Meaning.{IsDayOf}
-use Rattle.timetable.proofs.Accepting.{accepted_all, accepted_map, accepted_zip, accepted_pairs}
+use Rattle.timetable.specs.Meaning.{IsNumberOf, IsTypeOf, IsStationOf, AreWeightsOf, IsStockOf, IsTripOf, IsKindOf}
+use Rattle.timetable.specs.Meaning.{IsLinkOf, AreNamedApart, IsOtherStock, IsDayOf}
+use Rattle.timetable.proofs.Accepting.{accepted_all, accepted_zip, accepted_pairs}
 use Rattle.timetable.proofs.Days.{IsMade, entry_at, entry_is, length-units_in, day_is_made}
 use Rattle.timetable.proofs.Entries.{IsStockOfRow, IsTripOfRow, Passes, found_name, type_of_row, station_of_row}
 use Rattle.timetable.proofs.Entries.{stock_of_row, trip_of_row}
@@ -77,6 +78,12 @@ trips_apart stations types rows trips e = accepted_pairs (accept_trip stations t
     let of_row : IsTripOfRow stations types before row t = trip_of_row stations types before row t is in
     subst (λ (t : Trip). (get_or before k d).name ≢ t.name) (sym of_row.is) (new_name (λ t. t.name) before row.name of_row.new k d below))
     [] rows trips (none_apart (λ a b. a.name ≢ b.name)) e
+
+type_said : (before : List UnitType) (row : TypeRow) (t : UnitType) → accept_type before row ≡ Ok t → IsTypeOf row t
+type_said before row t e = subst (IsTypeOf row) (type_of_row before row t e).1 (record { name = refl; carriages = refl; seats = refl; metres = refl; family = refl; first = refl })
+
+station_said : (before : List Station) (row : StationRow) (s : Station) → accept_station before row ≡ Ok s → IsStationOf row s
+station_said before row s e = subst (IsStationOf row) (station_of_row before row s e).1 (record { name = refl; platform = refl; reallocation = refl })
 
 stock_said : (day : Day) (before : List Stock) (row : StockRow) (stock : Stock) → accept_stock day.stations day.types before row ≡ Ok stock → IsStockOf day row stock
 stock_said day before row stock e =
@@ -172,12 +179,12 @@ is_day_of tables day e =
     let made = day_is_made tables day e in
     let pass = all_pass tables day made in
     record {
-      types = accepted_map accept_type type_in (λ before row t is. (type_of_row before row t is).1) [] tables.types day.types made.types;
-      stations = accepted_map accept_station station_in (λ before row s is. (station_of_row before row s is).1) [] tables.stations day.stations made.stations;
+      types = accepted_zip accept_type IsTypeOf type_said [] [] tables.types day.types tt made.types;
+      stations = accepted_zip accept_station IsStationOf station_said [] [] tables.stations day.stations tt made.stations;
       stock = accepted_zip (accept_stock day.stations day.types) (IsStockOf day) (stock_said day) [] [] tables.stock day.stock tt made.stock;
       trips = accepted_zip (accept_trip day.stations day.types) (IsTripOf day) (trip_said day) [] [] tables.trips day.trips tt made.trips;
       links = accepted_zip (accept_link day.trips) (IsLinkOf day) (link_said day) [] [] tables.links day.links tt made.links;
-      weights = made.weights;
+      weights = subst (AreWeightsOf tables.weights) (sym made.weights) (record { carriage = refl; shortage = refl; shunting = refl });
       type_names = accepted_pairs accept_type (λ a b. a.name ≢ b.name)
           (λ before row t is k d below. subst (λ (t : UnitType). (get_or before k d).name ≢ t.name) (type_of_row before row t is).1 (new_name (λ t. t.name) before row.name (type_of_row before row t is).0 k d below))
           [] tables.types day.types (none_apart (λ a b. a.name ≢ b.name)) made.types;

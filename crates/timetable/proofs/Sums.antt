@@ -7,6 +7,11 @@ use Rattle.timetable.proofs.Ones.{one, one_same, one_other}
 pub sum_next : (f : ℕ → ℕ) (n : ℕ) → sum_below f (n + 1) ≡ sum_below f n + f n
 sum_next f n = let next : n + 1 ≡ suc n = omega arith in ap (sum_below f) next
 
+-- the first number apart
+pub sum_first : (f : ℕ → ℕ) (n : ℕ) → sum_below f (suc n) ≡ f 0 + sum_below (λ k. f (suc k)) n
+sum_first f zero = omega arith
+sum_first f (suc n) = let rest = sum_first f n in omega arith
+
 pub sum_same : (f g : ℕ → ℕ) (n : ℕ) → ((k : ℕ) → k < n → f k ≡ g k) → sum_below f n ≡ sum_below g n
 sum_same f g zero h = refl
 sum_same f g (suc n) h = let rest = sum_same f g n (λ k lt. h k (omega arith)) in let last = h n (omega arith) in omega arith

@@ -1,18 +1,20 @@
--- Which tables make a day and which rows make a plan, decided by tests in their order; that a day's chains are no
--- others; what a turn keeps, gives and takes; and what has a multiplier.
-use Rattle.std.specs.Prelude.{ℕ, ◌≡◌, ◌↔◌, List, Bool, Result, Ok, Err, IsOk, Some, length}
+-- Which tables make a day and which rows make a plan, decided by tests in their order; how many units are at home at a
+-- station; that a day's chains are no others; what a turn keeps, gives and takes; and what has a multiplier.
+use Rattle.std.specs.Prelude.{ℕ, ◌≡◌, ◌↔◌, ◌==◌, ◌&&◌, List, Bool, Result, Ok, Err, IsOk, Some, length}
 use Rattle.rail_csv.specs.declared.rows.End.{End}
 use Rattle.rail_csv.specs.declared.rows.PlanRow.{PlanRow}
 use Rattle.timetable.specs.declared.building.tables.Tables.{Tables}
 use Rattle.timetable.specs.declared.day.records.LinkKind.{LinkKind}
-use Rattle.timetable.specs.Accepted.{AreLinks}
+use Rattle.timetable.specs.Accepted.{AreLinks, IsStocked}
 use Rattle.timetable.specs.Build.{day_of}
 use Rattle.timetable.specs.Chains.{AreChains}
-use Rattle.timetable.specs.Day.{Day}
+use Rattle.timetable.specs.Day.{Day, home_of, type_of, unit_count}
 use Rattle.timetable.specs.Indices.{HaveMultipliers, lambdas_of, places_of}
+use Rattle.timetable.specs.Lists.{count_below}
 use Rattle.timetable.specs.Meaning.{IsDayOf}
 use Rattle.timetable.specs.Plans.{plan_of, plan_tests, IsPlanOf}
 use Rattle.timetable.specs.Refusals.{day_tests}
+use Rattle.timetable.specs.Starts.{start_of}
 use Rattle.timetable.specs.Tests.{Test, NoneFailed, IsFirstFailed}
 use Rattle.timetable.specs.Turns.{IsKept, kept_of, Parts, AreParts, turn_parts}
 
@@ -24,13 +26,18 @@ pub record IsDecided {X E : Type 0} (made : Result X E) (tests : List (Test E)) 
 -- the day that tables make
 pub record DaysAreMade : Type 0 where
   pub decided : (tables : Tables) → IsDecided (day_of tables) (day_tests tables)
-  pub meaning : (tables : Tables) (day : Day) → day_of tables ≡ Ok day → IsDayOf tables day
+  pub meaning : (tables : Tables) (day : Day) → (day_of tables ≡ Ok day) ↔ IsDayOf tables day
 
 -- the plan of a day that rows make
 pub record PlansAreMade : Type 0 where
   pub decided : (day : Day) (rows : List PlanRow) → IsDecided (plan_of day rows) (plan_tests day rows)
-  pub meaning : (day : Day) (rows : List PlanRow) (plan : List (List ℕ)) → plan_of day rows ≡ Ok plan
-      → IsPlanOf day rows plan
+  pub meaning : (day : Day) (rows : List PlanRow) (plan : List (List ℕ)) → (plan_of day rows ≡ Ok plan)
+      ↔ IsPlanOf day rows plan
+
+-- as many units of a type are at home at a station as stand there at the start of the day
+abbrev pub UnitsAreAtHome : Type 0
+UnitsAreAtHome = (day : Day) (s m : ℕ) → IsStocked day
+    → count_below (λ u. (home_of day u == s) && (type_of day u == m)) (unit_count day) ≡ start_of day s m
 
 -- two lists that are the chains of a day are one
 abbrev pub ChainsAreOne : Type 0

@@ -3,26 +3,52 @@
 use Rattle.std.specs.Prelude.{ℕ, ◌≡◌, ◌≢◌, ◌<◌, ◌≤◌, List, map, length, Bool, true, false, Some, None, slice_get}
 use Rattle.std.specs.List.{AllZip, AllPairs}
 use Rattle.rail_base.specs.declared.limits.TheConstants.{MOST_UNITS, MOST_COMPOSITIONS}
+use Rattle.compositions.specs.declared.types.UnitType.{UnitType}
 use Rattle.rail_csv.specs.declared.rows.End.{End}
 use Rattle.rail_csv.specs.declared.rows.End.TheVariants as at
 use Rattle.rail_csv.specs.declared.rows.KindWord.TheVariants as words
 use Rattle.rail_csv.specs.declared.rows.LinkRow.{LinkRow}
+use Rattle.rail_csv.specs.declared.rows.StationRow.{StationRow}
 use Rattle.rail_csv.specs.declared.rows.StockRow.{StockRow}
 use Rattle.rail_csv.specs.declared.rows.TripRow.{TripRow}
+use Rattle.rail_csv.specs.declared.rows.TypeRow.{TypeRow}
+use Rattle.rail_csv.specs.declared.rows.WeightsRow.{WeightsRow}
 use Rattle.timetable.specs.declared.day.records.Link.{Link}
 use Rattle.timetable.specs.declared.day.records.LinkKind.{LinkKind}
 use Rattle.timetable.specs.declared.day.records.LinkKind.TheVariants.{Turn, Join, Split}
+use Rattle.timetable.specs.declared.day.records.Station.{Station}
 use Rattle.timetable.specs.declared.day.records.Stock.{Stock}
 use Rattle.timetable.specs.declared.day.records.Trip.{Trip}
+use Rattle.timetable.specs.declared.day.records.Weights.{Weights}
 use Rattle.timetable.specs.declared.building.tables.Tables.{Tables}
 use Rattle.timetable.specs.Accepted.{AreLinks, DoMeet, HaveCompositions}
-use Rattle.timetable.specs.Build.{type_in, station_in, weights_in}
 use Rattle.timetable.specs.Compositions.{compositions_of}
 use Rattle.timetable.specs.Day.{Day, leaves, arrives, from_of, to_of, unit_count}
 
 -- the number is that of the entry with the name
 abbrev pub IsNumberOf : {X : Type 0} → (X → List ℕ) → List X → List ℕ → ℕ → Type 0
 IsNumberOf name_of entries name n = slice_get (map name_of entries) n ≡ Some name
+
+-- the unit type of a row
+pub record IsTypeOf (row : TypeRow) (t : UnitType) : Type 0 where
+  pub name : t.name ≡ row.name
+  pub carriages : t.carriages ≡ row.carriages
+  pub seats : t.seats ≡ row.seats
+  pub metres : t.metres ≡ row.metres
+  pub family : t.family ≡ row.family
+  pub first : t.first ≡ row.first
+
+-- the station of a row
+pub record IsStationOf (row : StationRow) (station : Station) : Type 0 where
+  pub name : station.name ≡ row.name
+  pub platform : station.platform ≡ row.platform
+  pub reallocation : station.reallocation ≡ row.reallocation
+
+-- the weights of their row
+pub record AreWeightsOf (row : WeightsRow) (weights : Weights) : Type 0 where
+  pub carriage : weights.carriage ≡ row.carriage
+  pub shortage : weights.shortage ≡ row.shortage
+  pub shunting : weights.shunting ≡ row.shunting
 
 -- the stock of a row
 pub record IsStockOf (day : Day) (row : StockRow) (stock : Stock) : Type 0 where
@@ -101,12 +127,12 @@ IsOtherStock a b = ¬ ((a.station ≡ b.station) × (a.unit_type ≡ b.unit_type
 
 pub record IsDayOf (tables : Tables) (day : Day) : Type 0 where
   -- the rows in order, with the numbers of what they name
-  pub types : day.types ≡ map type_in tables.types
-  pub stations : day.stations ≡ map station_in tables.stations
+  pub types : AllZip IsTypeOf tables.types day.types
+  pub stations : AllZip IsStationOf tables.stations day.stations
   pub stock : AllZip (IsStockOf day) tables.stock day.stock
   pub trips : AllZip (IsTripOf day) tables.trips day.trips
   pub links : AllZip (IsLinkOf day) tables.links day.links
-  pub weights : day.weights ≡ weights_in tables.weights
+  pub weights : AreWeightsOf tables.weights day.weights
   -- each name once, and each station and type once in the stock
   pub type_names : AreNamedApart (λ t. t.name) day.types
   pub station_names : AreNamedApart (λ s. s.name) day.stations

@@ -1,24 +1,31 @@
-//! What is so of every day, every table and every plan, whether a call meets them or not.
+//! What is so of days, tables and plans, whether a call meets them or not.
 //!
 //! Each law is the contract of a function that does nothing.
 
 ghost use Rattle.timetable.specs.Laws.{DaysAreMade, PlansAreMade, ChainsAreOne, KeepTheLongest, HaveParts};
-ghost use Rattle.timetable.specs.Laws.{PlacesHaveMultipliers};
+ghost use Rattle.timetable.specs.Laws.{UnitsAreAtHome, PlacesHaveMultipliers};
 ghost use Rattle.timetable.specs.TurnsWithoutExchange.{IsPlainTurn};
 
-/// Tables make a day exactly where no test on them fails, and then it is the day of the tables; a refusal is that of
-/// the first test that fails.
+/// Tables make a day exactly where no test on them fails, and a refusal is that of the first test that fails. A day is
+/// the one that they make exactly where it is the day of the tables in their own words.
 pub fn days_are_made()
     ensures law { DaysAreMade }
 {}
 
-/// Rows make a plan of a day exactly where no test on them fails, and then it is the plan of the rows; a refusal is
-/// that of the first test that fails.
+/// Rows make a plan of a day exactly where no test on them fails, and a refusal is that of the first test that fails. A
+/// plan is the one that they make exactly where it is the plan of the rows in their own words.
 pub fn plans_are_made()
     ensures law { PlansAreMade }
 {}
 
-/// No other lists are the chains of a day.
+/// As many units of a type are at home at a station as stand there at the start of the day, where no station has two
+/// stock rows of one type, and none wants more units at the end than a stock row may say.
+pub fn units_are_at_home()
+    ensures law { UnitsAreAtHome }
+{}
+
+/// Where no trip arrives for two links or departs by two, and links keep time, as on every accepted day, no other lists
+/// are the chains of the day.
 pub fn chains_are_one()
     ensures law { ChainsAreOne }
 {}

@@ -148,7 +148,8 @@ impl Instance {
     }
 
     /// How many units there are. No two stock rows are of one station and one type, so of each type as many units are
-    /// at home at a station as `start` tells; and no row wants more units at the end than a stock row may say.
+    /// at home at a station as `start` tells, by the law `units_are_at_home`; and no row wants more units at the end
+    /// than a stock row may say.
     pub fn units(&self) -> u32
         ensures value { result ≡ unit_count self.now }
         ensures few { result ≤ MOST_UNITS }
@@ -157,7 +158,7 @@ impl Instance {
         self.units.len() as u32
     }
 
-    /// The types of the units: at most six, each with its numbers within the limits.
+    /// The types of the units: at most six, none with a number over its limit.
     pub fn types(&self) -> &UnitTypes
         ensures value { result.now ≡ self.now.types }
         ensures within { AreTypes self.now.types }
@@ -165,7 +166,7 @@ impl Instance {
         &self.types
     }
 
-    /// The compositions that fit the greatest platform of the stations, and 0 metres where there is no station.
+    /// The compositions that fit the greatest platform of the stations; none where there is no station.
     #[tactic(auto, unfolding(crate::specs::Compositions::greatest_platform))]
     pub fn catalogue(&self) -> &Catalogue
         ensures { result.now ≡ compositions_of self.now }
@@ -186,7 +187,7 @@ impl Instance {
         self.catalogue.get(comp).fits(&self.types, longest)
     }
 
-    /// The weights of the cost, each within its limit.
+    /// The weights of the cost, none over its limit.
     pub fn weights(&self) -> Weights
         ensures value { result ≡ self.now.weights }
         ensures within { AreWeights result }
@@ -194,7 +195,7 @@ impl Instance {
         self.weights
     }
 
-    /// The station of this number, which is below `stations`. Its platform and its reallocation time are within the
+    /// The station of this number, which is below `stations`. Its platform and its reallocation time are not over their
     /// limits.
     pub fn station(&self, station: StationNo) -> &Station
         requires { station < length self.now.stations }
@@ -205,7 +206,7 @@ impl Instance {
     }
 
     /// The trip of this number, which is below `trips`. It leaves before it arrives, within the two days, its
-    /// stations are there, and its kilometres and its demand are within the limits.
+    /// stations are there, and its kilometres and its demand are not over their limits.
     pub fn trip(&self, trip: TripNo) -> &Trip
         requires { trip < length self.now.trips }
         ensures value { slice_get self.now.trips trip ≡ Some result.now }
@@ -237,8 +238,8 @@ impl Instance {
         &self.links[link.place()]
     }
 
-    /// The link that leads into the trip, which is below `trips`: nothing where the trip takes all its units from the
-    /// yard. The number is that of a link.
+    /// The link that leads into the trip, which is below `trips`: nothing where no link does; then the trip takes all
+    /// its units from the yard. The number is that of a link.
     pub fn incoming(&self, trip: TripNo) -> Option<LinkNo>
         requires { trip < length self.now.trips }
         ensures value { result ≡ incoming self.now trip }
@@ -247,8 +248,8 @@ impl Instance {
         self.incoming[trip.place()]
     }
 
-    /// The link that leads on from the trip, which is below `trips`: nothing where the trip gives all its units to
-    /// the yard. The number is that of a link.
+    /// The link that leads on from the trip, which is below `trips`: nothing where no link does; then the trip gives
+    /// all its units to the yard. The number is that of a link.
     pub fn outgoing(&self, trip: TripNo) -> Option<LinkNo>
         requires { trip < length self.now.trips }
         ensures value { result ≡ outgoing self.now trip }

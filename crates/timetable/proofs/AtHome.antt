@@ -7,14 +7,10 @@ use Rattle.timetable.specs.declared.day.records.Stock.{Stock}
 use Rattle.timetable.specs.declared.day.records.Unit as unit
 use Rattle.timetable.specs.Accepted.{rows_of, IsStocked}
 use Rattle.timetable.specs.Day.{Day, type_of, home_of, units_in, units_of, unit_count}
+use Rattle.timetable.specs.Laws.{UnitsAreAtHome}
 use Rattle.timetable.specs.Lists.{of_entry, sum_below}
 use Rattle.timetable.specs.Starts.{start_in, start_of}
-
--- ---- sums, the first number apart
-
-pub sum_first : (f : ℕ → ℕ) (n : ℕ) → sum_below f (suc n) ≡ f 0 + sum_below (λ k. f (suc k)) n
-sum_first f zero = omega arith
-sum_first f (suc n) = let rest = sum_first f n in omega arith
+use Rattle.timetable.proofs.Sums.{sum_first, sum_same}
 
 -- ---- units of a list that are of a type and at home at a station
 
@@ -97,3 +93,14 @@ by_number s m (x ∷ xs) =
 pub at_home : (day : Day) (s m : ℕ) → IsStocked day → sum_below (λ u. if type_of day u == m then (if home_of day u == s then 1 else 0) else 0) (unit_count day) ≡ start_of day s m
 unfolding type_of home_of units_of start_of
 at_home day s m stocked = by_number s m (units_in day.stock) ∙ all_of_rows s m day.stock (stocked.once s m)
+
+pub units_are_at_home : UnitsAreAtHome
+units_are_at_home day s m stocked =
+    sum_same (λ u. if (home_of day u == s) && (type_of day u == m) then 1 else 0) (λ u. if type_of day u == m then (if home_of day u == s then 1 else 0) else 0) (unit_count day)
+    (λ u lt. both (home_of day u == s) (type_of day u == m)) ∙ at_home day s m stocked
+  where
+    both : (b c : Bool) → cond {A = ℕ} (b && c) 1 0 ≡ cond {A = ℕ} c (cond {A = ℕ} b 1 0) 0
+    both true true = refl
+    both true false = refl
+    both false true = refl
+    both false false = refl
