@@ -10,7 +10,7 @@ ghost use Rattle.timetable.specs.Picks.{ArePicks, picked};
 use arrayvec::ArrayVec;
 use rail_base::limits::MOST_COMPOSITION;
 use rail_base::{TripNo, TypeNo};
-use timetable::{Instance, NamedPlan, Picks};
+use timetable::{Instance, NamedPlan, Picks, copy_of};
 
 /// What gives each trip of a day a list of types, front to rear.
 pub(crate) trait TypeLists {
@@ -46,16 +46,4 @@ impl TypeLists for NamedPlan {
     fn types_on(&self, instance: &Instance, trip: TripNo) -> ArrayVec<TypeNo, MOST_COMPOSITION> {
         self.types(instance, trip)
     }
-}
-
-/// The same types in the same order.
-fn copy_of(types: &[TypeNo]) -> ArrayVec<TypeNo, MOST_COMPOSITION>
-    requires { length types.now ≤ MOST_COMPOSITION }
-    ensures { result.items ≡ types.now }
-{
-    let mut copy = ArrayVec::new();
-    for unit_type in types {
-        copy.push(*unit_type);
-    }
-    copy
 }

@@ -3,6 +3,7 @@
 ghost use Rattle.std.specs.Prelude.{◌≡◌, ◌<◌, ◌≤◌, length, IsTrue};
 ghost use Rattle.compositions.specs.Composition.{are_types, carriages_of, first_seats_of, seats_of};
 ghost use Rattle.timetable.specs.Cost.{missing_seats, trip_cost};
+ghost use Rattle.timetable.specs.Day.{demand_of, first_demand_of};
 ghost use Rattle.cost_model.specs.Sums.{carriages_on, missing_on};
 
 use compositions::Composition;
@@ -23,7 +24,7 @@ const MOST_MISSING_SEATS: u32 = MOST_FIRST_DEMAND + MOST_DEMAND;
 /// The most that the missing seats of a trip cost: the most weight, for the most missing seats, for the most
 /// kilometres.
 pub const MOST_SHORTAGE_COST: u64 = MOST_WEIGHT as u64 * MOST_MISSING_SEATS as u64 * MOST_KM as u64;
-/// The most that a trip costs.
+/// No trip costs more.
 pub const MOST_TRIP_COST: u64 = MOST_CARRIAGE_COST + MOST_SHORTAGE_COST;
 
 /// What a trip costs with units of these types: the weight of a carriage for each of its carriages and kilometres, and
@@ -71,7 +72,7 @@ pub(crate) fn shortage_cost(instance: &Instance, trip: TripNo, types: &[TypeNo])
 
 /// The seats that are missing on a trip, of both classes: in each as many as are wanted beyond its seats. What one
 /// class has to spare does not help the other.
-#[tactic(auto, unfolding(timetable::specs::Cost::missing_seats, timetable::specs::Day::demand_of, timetable::specs::Day::first_demand_of))]
+#[tactic(auto, unfolding(timetable::specs::Cost::missing_seats))]
 fn missing_seats(instance: &Instance, trip: TripNo, types: &[TypeNo]) -> u32
     requires trip { trip < length instance.now.trips }
     requires few { length types.now ≤ MOST_COMPOSITION }
@@ -79,9 +80,9 @@ fn missing_seats(instance: &Instance, trip: TripNo, types: &[TypeNo]) -> u32
     ensures value { result ≡ missing_seats instance.now trip types.now }
     ensures few { result ≤ MOST_MISSING_SEATS }
 {
+    let wanted = wanted_seats(instance, trip);
     let seats = seats_of(instance, types);
-    let trip = instance.trip(trip);
-    trip.first.saturating_sub(seats.first) + trip.demand.saturating_sub(seats.second)
+    wanted.first.saturating_sub(seats.first) + wanted.second.saturating_sub(seats.second)
 }
 
 /// The carriages of units of these types.
@@ -97,11 +98,27 @@ fn carriages_of(instance: &Instance, types: &[TypeNo]) -> u32
     }
 }
 
-/// The seats of a train, by class.
+/// Seats by class: those of a train, or those that are wanted.
 #[derive(Clone, Copy)]
 struct Seats {
     first: u32,
     second: u32,
+}
+
+/// The seats that are wanted on a trip.
+#[tactic(auto, unfolding(timetable::specs::Day::demand_of, timetable::specs::Day::first_demand_of))]
+fn wanted_seats(instance: &Instance, trip: TripNo) -> Seats
+    requires { trip < length instance.now.trips }
+    ensures first { result.first ≡ first_demand_of instance.now trip }
+    ensures second { result.second ≡ demand_of instance.now trip }
+    ensures few_first { result.first ≤ MOST_FIRST_DEMAND }
+    ensures few_second { result.second ≤ MOST_DEMAND }
+{
+    let trip = instance.trip(trip);
+    Seats {
+        first: trip.first,
+        second: trip.demand,
+    }
 }
 
 /// The seats of units of these types.

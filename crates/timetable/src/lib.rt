@@ -12,5 +12,5 @@ pub use day::instance::Instance;
 pub use day::picks::Picks;
 pub use day::plan::NamedPlan;
 pub use day::records::{Handover, Link, LinkKind, Station, Stock, Trip, Unit, Weights};
-pub use day::rule::turned;
+pub use day::rule::{copy_of, turned};
 pub use day::turns::{beyond, may_shunt, staying};

@@ -15,7 +15,7 @@ use rail_base::limits::MOST_COMPOSITION;
 use rail_base::{NoMemory, TripNo, TypeNo, UnitNo};
 use rail_csv::{End, UnitList};
 use std::alloc::Global;
-use timetable::{Instance, Link, LinkKind, Picks, beyond, staying, turned};
+use timetable::{Instance, Link, LinkKind, Picks, beyond, copy_of, staying, turned};
 
 /// The types of the composition that is picked for a trip, front to rear.
 fn types_on<'a>(instance: &'a Instance, picks: &Picks, trip: TripNo) -> &'a [TypeNo]
@@ -48,7 +48,7 @@ fn staying_of<T: Copy + Default + Drop>(
     requires { length whole.now ≤ MOST_COMPOSITION }
     ensures { result.items ≡ staying end whole.now kept }
 {
-    turned(false, staying(end, whole, kept.min(whole.len())))
+    copy_of(staying(end, whole, kept.min(whole.len())))
 }
 
 /// What goes of a list at a turn that keeps so many.
@@ -60,7 +60,7 @@ fn beyond_of<T: Copy + Default + Drop>(
     requires { length whole.now ≤ MOST_COMPOSITION }
     ensures { result.items ≡ beyond end whole.now kept }
 {
-    turned(false, beyond(end, whole, kept.min(whole.len())))
+    copy_of(beyond(end, whole, kept.min(whole.len())))
 }
 
 /// Of the units of a trip, those that go on in a later one.
@@ -136,7 +136,7 @@ fn front_of(units: &[UnitNo], number: usize) -> ArrayVec<UnitNo, MOST_COMPOSITIO
     requires { length units.now ≤ MOST_COMPOSITION }
     ensures { result.items ≡ take number units.now }
 {
-    turned(false, &units[..number.min(units.len())])
+    copy_of(&units[..number.min(units.len())])
 }
 
 /// The units behind so many at the front.
@@ -144,7 +144,7 @@ fn behind(units: &[UnitNo], number: usize) -> ArrayVec<UnitNo, MOST_COMPOSITION>
     requires { length units.now ≤ MOST_COMPOSITION }
     ensures { result.items ≡ drop number units.now }
 {
-    turned(false, &units[number.min(units.len())..])
+    copy_of(&units[number.min(units.len())..])
 }
 
 /// The units that come into a trip with the trains that arrive for the link into it.
@@ -210,7 +210,7 @@ pub(crate) fn given_units(
     ensures { result.items ≡ given_places instance.now (picked instance.now picks.now) trip units.now }
 {
     let Some(link) = instance.link_out(trip) else {
-        return turned(false, units);
+        return copy_of(units);
     };
     match link.kind {
         LinkKind::Turn { uncouple, .. } => {

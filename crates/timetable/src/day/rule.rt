@@ -75,8 +75,8 @@ impl LinkKind {
     }
 }
 
-/// The same entries in the same order.
-pub(crate) fn copy_of<T: Copy + Default + Drop>(list: &[T]) -> ArrayVec<T, MOST_COMPOSITION>
+/// The same entries, which are at most six, in the same order.
+pub fn copy_of<T: Copy + Default + Drop>(list: &[T]) -> ArrayVec<T, MOST_COMPOSITION>
     requires { length list.now ≤ MOST_COMPOSITION }
     ensures { result.items ≡ list.now }
 {
@@ -87,7 +87,7 @@ pub(crate) fn copy_of<T: Copy + Default + Drop>(list: &[T]) -> ArrayVec<T, MOST_
     copy
 }
 
-/// An arriving list as it stands after the train has turned round, or not.
+/// An arriving list of at most six as it stands after the train has turned round, or not.
 pub fn turned<T: Copy + Default + Drop>(reversed: bool, list: &[T]) -> ArrayVec<T, MOST_COMPOSITION>
     requires { length list.now ≤ MOST_COMPOSITION }
     ensures { result.items ≡ turned reversed list.now }
