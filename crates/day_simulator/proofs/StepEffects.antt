@@ -1,5 +1,6 @@
 -- What an event changes.
 use Rattle.std.proofs.Common.{◌≡◌, ℕ, ◌<◌, List, length, Bool, true, false, cond, ap, ◌∙◌, arith}
+use Rattle.std.proofs.lemmas.List.{length-set}
 use Rattle.timetable.specs.Day.{Day, to_of, ready_at, unit_count}
 use Rattle.timetable.specs.Links.{list_of, given}
 use Rattle.timetable.specs.Lists.{has}
@@ -36,6 +37,8 @@ module _ (day : Day) (plan : List (List ℕ)) (state : State) (t : ℕ) (is_plan
     other_units = λ u unit other. left_there state.places (list_of plan t) (Aboard t) u (inside u unit) other;
     trip = stage_same state.stages t stage.UnderWay in_stages;
     other_trips = λ s other. stage_other state.stages t s stage.UnderWay other;
+    places = length-put_all state.places (list_of plan t) (Aboard t) ∙ places;
+    stages = length-set state.stages t stage.UnderWay ∙ stages;
     minute = omega arith;
     event = omega arith;
   }
@@ -60,6 +63,9 @@ module _ (day : Day) (plan : List (List ℕ)) (state : State) (t : ℕ) (is_plan
         ∙ left_there state.places (list_of plan t) (Standing t) u (inside u unit) other;
     trip = stage_same state.stages t stage.Arrived in_stages;
     other_trips = λ s other. stage_other state.stages t s stage.Arrived other;
+    places = length-put_all train (given day plan t) (Yard (to_of day t) (ready_at day t))
+        ∙ length-put_all state.places (list_of plan t) (Standing t) ∙ places;
+    stages = length-set state.stages t stage.Arrived ∙ stages;
     minute = omega arith;
     event = λ one. omega (arith, one);
   }

@@ -12,20 +12,22 @@ use Rattle.day_simulator.specs.State.{State, place_of, stage_of, trip_of}
 use Rattle.day_simulator.specs.Steps.{after}
 use Rattle.day_simulator.specs.StepTests.{last_minute, DepartedInLastMinute}
 
--- From one state to the next the trip leaves: the units of its list are aboard, and all other units and trips are as
--- they were.
+-- From one state to the next the trip leaves: the units of its list are aboard, the trip is under way, and all other
+-- units and trips are as they were. Each unit has its place and each trip its stage as before.
 pub record Leaves (day : Day) (plan : List (List ℕ)) (before next : State) (t : ℕ) : Type 0 where
   pub listed : (u : ℕ) → IsTrue (has u (list_of plan t)) → place_of next.places u ≡ Aboard t
   pub other_units : (u : ℕ) → u < unit_count day → has u (list_of plan t) ≡ false
       → place_of next.places u ≡ place_of before.places u
   pub trip : stage_of next.stages t ≡ stage.UnderWay
   pub other_trips : (s : ℕ) → s ≢ t → stage_of next.stages s ≡ stage_of before.stages s
+  pub places : length next.places ≡ unit_count day
+  pub stages : length next.stages ≡ length day.trips
   pub minute : last_minute next ≡ leaves day t
   pub event : DepartedInLastMinute next
 
 -- From one state to the next the trip arrives: the units that it gives stand in the yard of the station that it comes
--- to, ready once the reallocation time is over; the other units of its list stand in its train; and all other units and
--- trips are as they were.
+-- to, ready once the reallocation time is over; the other units of its list stand in its train; the trip has arrived;
+-- and all other units and trips are as they were. Each unit has its place and each trip its stage as before.
 pub record Arrives (day : Day) (plan : List (List ℕ)) (before next : State) (t : ℕ) : Type 0 where
   pub in_yard : (u : ℕ) → IsTrue (has u (given day plan t))
       → place_of next.places u ≡ Yard (to_of day t) (ready_at day t)
@@ -35,6 +37,8 @@ pub record Arrives (day : Day) (plan : List (List ℕ)) (before next : State) (t
       → place_of next.places u ≡ place_of before.places u
   pub trip : stage_of next.stages t ≡ stage.Arrived
   pub other_trips : (s : ℕ) → s ≢ t → stage_of next.stages s ≡ stage_of before.stages s
+  pub places : length next.places ≡ unit_count day
+  pub stages : length next.stages ≡ length day.trips
   pub minute : last_minute next ≡ arrives day t
   pub event : ¬ DepartedInLastMinute next
 
