@@ -1,6 +1,6 @@
 -- A tree of cuts as a list in preorder: after a branch comes its left subtree, and then its right one.
 -- What is a node is left open: it has a cut where it is a branch, and none where it is a leaf.
-use Rattle.std.specs.Prelude.{ℕ, ◌+◌, ◌≡◌, List, [], ◌∷◌, ◌++◌, is_some, is_none, filter, if◌then◌else◌, Bool, ℤ}
+use Rattle.std.specs.Prelude.{ℕ, ◌+◌, ◌≡◌, List, [], ◌∷◌, ◌++◌, is_some, is_none, filter, if◌then◌else◌, All, Bool, ℤ}
 use Rattle.std.specs.Prelude.{Option, Some, None, MatchOption}
 use Rattle.branch_tree.specs.declared.cuts.Cut.{Cut}
 use Rattle.branch_tree.specs.declared.cuts.Side.TheVariants.{Left, Right}
@@ -8,6 +8,7 @@ use Rattle.branch_tree.specs.declared.multipliers.Entry.{Entry}
 use Rattle.branch_tree.specs.declared.tree.Node.{Node}
 use Rattle.branch_tree.specs.declared.tree.Node.TheVariants.{Branch, CostLeaf, RayLeaf}
 use Rattle.branch_tree.specs.Cuts.{side_of, IsProper}
+use Rattle.branch_tree.specs.Entries.{AreMultipliers}
 use Rattle.branch_tree.specs.Regions.{IsSingle}
 
 -- the regions below a node: the two sides of the cut of a branch, and none below a leaf
@@ -81,6 +82,10 @@ IsProperAt catalogue region node = MatchOption (cut_of node) (Unit {0}) (IsPrope
 
 abbrev pub branchings_of : List Node → ℕ
 branchings_of nodes = branches_in cut_of nodes
+
+-- the multipliers of each node keep within the limits of such lists
+abbrev pub KeepLimits : List Node → Type 0
+KeepLimits nodes = All (λ node. AreMultipliers (multipliers_of node)) nodes
 
 -- the bounds of the cost leaves, in order
 abbrev pub bounds_of : List Node → List ℤ

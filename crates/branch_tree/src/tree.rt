@@ -2,7 +2,7 @@
 
 ghost use Rattle.std.specs.Prelude.{◌≡◌, ◌<◌, ◌≤◌, ◌++◌, [], ◌∷◌, length, slice_get, Some, IfOk, OnOk, OnErr};
 ghost use Rattle.branch_tree.specs.Entries.{AreMultipliers};
-ghost use Rattle.branch_tree.specs.Trees.{branchings_of, cut_of, multipliers_of};
+ghost use Rattle.branch_tree.specs.Trees.{KeepLimits, branchings_of, cut_of, multipliers_of};
 
 use crate::cuts::Cut;
 use crate::multipliers::Multipliers;
@@ -113,12 +113,14 @@ impl Tree {
         node
     }
 
-    /// How many nodes are branches.
+    /// How many nodes are branches. The multipliers of each leaf keep within the limits of such lists.
     pub fn branchings(&self) -> u32
-        ensures { result ≡ branchings_of self.now }
+        ensures value { result ≡ branchings_of self.now }
+        ensures within { KeepLimits self.now }
     {
         let mut branchings = 0;
-        for node in &self.nodes {
+        for number in 0..self.len() {
+            let node = self.node(NodeNo(number));
             branchings += u32::from(node.cut().is_some());
         }
         branchings

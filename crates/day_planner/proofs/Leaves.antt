@@ -23,14 +23,13 @@ use Rattle.branch_tree.specs.Entries.{AreMultipliers, DoFit}
 use Rattle.branch_tree.specs.Meanings.{priced}
 use Rattle.branch_tree.specs.Regions.{set_at}
 use Rattle.branch_tree.specs.Sets.{kept}
-use Rattle.branch_tree.specs.Trees.{Walks, bounds_of, cut_of, multipliers_of, regions_below}
+use Rattle.branch_tree.specs.Trees.{KeepLimits, Walks, bounds_of, cut_of, multipliers_of, regions_below}
 use Rattle.price_bound.specs.declared.sizes.TheConstants.{MOST_VALUE}
 use Rattle.price_bound.specs.DayMeanings.{IsAccepted, meanings_of}
 use Rattle.price_bound.specs.FollowingPicks.{Follow}
 use Rattle.price_bound.specs.Sizes.{ValuesAreSmall}
 use Rattle.answer_text.specs.declared.limits.TheConstants.{MOST_INDEX}
 use Rattle.answer_text.specs.Limits.{AreEntries, IsAmount, IsCut, IsNode}
-use Rattle.day_planner.specs.FoundAnswers.{AreKept}
 
 -- the region has a set for each trip
 abbrev pub IsLong : ℕ → List (List Bool) → Type 0
@@ -87,7 +86,7 @@ module _ (day : Day) (accepted : IsAccepted day) (comps : length (compositions_o
 
   -- the nodes of trees are within the limits
   pub nodes_within : (regions : List (List (List Bool))) (nodes : List Node) → All (IsLong (length day.trips)) regions
-      → Walks cut_of (compositions_of day) (IsProvedAt (meanings_of day)) regions nodes → AreKept nodes
+      → Walks cut_of (compositions_of day) (IsProvedAt (meanings_of day)) regions nodes → KeepLimits nodes
       → All IsNode nodes
   nodes_within regions [] long walks keeps = All-nil IsNode
   nodes_within [] (node ∷ nodes) long walks keeps = absurd walks

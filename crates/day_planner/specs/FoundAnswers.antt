@@ -1,21 +1,15 @@
 -- How an answer says what a search has found.
-use Rattle.std.specs.Prelude.{ℕ, ◌≡◌, List, [], false, All, MatchOption}
+use Rattle.std.specs.Prelude.{ℕ, ◌≡◌, List, [], false, MatchOption}
 use Rattle.timetable.specs.Day.{Day}
-use Rattle.branch_tree.specs.declared.tree.Node.{Node}
 use Rattle.branch_tree.specs.Claims.{IsPlanIn}
-use Rattle.branch_tree.specs.Entries.{AreMultipliers}
 use Rattle.branch_tree.specs.Regions.{root_of}
-use Rattle.branch_tree.specs.Trees.{branchings_of, multipliers_of}
+use Rattle.branch_tree.specs.Trees.{KeepLimits, branchings_of}
 use Rattle.price_bound.specs.DayMeanings.{meanings_of}
 use Rattle.search.specs.declared.found.Found.{Found}
 use Rattle.search.specs.Conclusions as search
 use Rattle.answer_text.specs.declared.answer.Answer.{Answer}
 use Rattle.answer_text.specs.Limits.{has_plan}
 use Rattle.answer_check.specs.Validity.{HasPicks, conclusion_of}
-
--- the multipliers of each node keep within the limits of such lists
-abbrev pub AreKept : List Node → Type 0
-AreKept nodes = All (λ node. AreMultipliers (multipliers_of node)) nodes
 
 -- where a plan was found, it is a solution of the day, with the cost that was found
 abbrev pub IsPlanFound : Day → Found → Type 0
@@ -31,4 +25,4 @@ pub record SaysFound (day : Day) (found : Found) (answer : Answer) : Type 0 wher
   pub tree : answer.tree ≡ search.nodes_found found
   -- runs, only where there is a plan
   pub no_runs : has_plan answer.head ≡ false → answer.runs ≡ []
-  pub kept : AreKept answer.tree
+  pub kept : KeepLimits answer.tree

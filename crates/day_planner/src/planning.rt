@@ -6,7 +6,7 @@ ghost use Rattle.timetable.specs.Picks.{IsSolution};
 ghost use Rattle.transitions.specs.Edges.{AreGraphs};
 ghost use Rattle.branch_tree.specs.Claims.{open_leaves_of};
 ghost use Rattle.branch_tree.specs.Regions.{root_of};
-ghost use Rattle.branch_tree.specs.Trees.{branchings_of};
+ghost use Rattle.branch_tree.specs.Trees.{KeepLimits, branchings_of};
 ghost use Rattle.price_bound.specs.DayMeanings.{meanings_of};
 ghost use Rattle.search.specs.Questions.{AreAsked, in_rounds};
 ghost use Rattle.search.specs.Conclusions.{IsSolved, nodes_found, plan_found};
@@ -14,7 +14,7 @@ ghost use Rattle.search.specs.declared.found.Found.TheVariants.{Bounded};
 ghost use Rattle.answer_check.specs.Validity.{RunsByPicks};
 ghost use Rattle.answer_check.specs.Verdicts.{IsAnswerVerdict};
 ghost use Rattle.day_planner.specs.Headline.{IsHeadline, open_leaves};
-ghost use Rattle.day_planner.specs.FoundAnswers.{AreKept, IsPlanFound, SaysFound};
+ghost use Rattle.day_planner.specs.FoundAnswers.{IsPlanFound, SaysFound};
 
 use advisors::Advisor;
 use answer_check::AnswerVerdict;
@@ -23,7 +23,7 @@ use branch_tree::{Region, Tree};
 use price_bound::DayBounds;
 use price_bound::laws::values_are_small;
 use rail_base::limits::{MOST_COMPOSITIONS, MOST_LINKS, MOST_TRIPS, MOST_UNITS};
-use rail_base::{Money, NoMemory, NodeNo, TripNo};
+use rail_base::{Money, NoMemory, TripNo};
 use rail_csv::UnitList;
 use search::{Best, Found, solve};
 use std::alloc::Global;
@@ -162,23 +162,13 @@ fn answer_with(head: Head, runs: Runs, tree: Tree) -> Answer
     ensures branchings { result.branchings ≡ branchings_of result.tree }
     ensures runs { result.runs ≡ runs }
     ensures tree { result.tree ≡ tree }
-    ensures kept { AreKept result.tree }
+    ensures kept { KeepLimits result.tree }
 {
-    tell_kept(&tree);
     Answer {
         head,
         branchings: tree.branchings(),
         runs,
         tree,
-    }
-}
-
-/// Tells what is known of the multipliers of each node of a tree.
-fn tell_kept(tree: &Tree)
-    ensures { AreKept tree.now }
-{
-    for node in 0..tree.len() {
-        let _kept = tree.node(NodeNo(node));
     }
 }
 
