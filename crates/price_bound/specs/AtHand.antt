@@ -15,7 +15,7 @@ use Rattle.price_bound.specs.declared.part_prices.PartPrices.{PartPrices}
 use Rattle.price_bound.specs.declared.turn_prices.TurnPrices.{TurnPrices}
 use Rattle.price_bound.specs.declared.turn_prices.TurnTrips.{TurnTrips}
 use Rattle.price_bound.specs.declared.worths.TripWorths.{TripWorths}
-use Rattle.price_bound.specs.CellSizes.{IsSmall}
+use Rattle.price_bound.specs.CellSizes.{IsSmall, most_cost}
 use Rattle.price_bound.specs.EdgeValues.{came, coupled}
 use Rattle.price_bound.specs.Pricing.{ArePriced}
 use Rattle.price_bound.specs.YardPrices.{giving, taking}
@@ -50,7 +50,7 @@ pub record IsForTurn (prices : TurnPrices) : Type 0 where
   pub turn : IsTurnOf prices.pricing.now.instance.now prices.link prices.turn
   pub shunting : prices.shunting.0
       ≡ weighted prices.pricing.now.weight (pos prices.pricing.now.instance.now.weights.shunting)
-  pub small : IsSmall 1000000000000 prices.shunting.0
+  pub small : IsSmall most_cost prices.shunting.0
   pub takes : prices.takes.now ≡ get_or prices.pricing.now.tables.now.takes prices.turn.departing []
   pub gives : prices.gives.now ≡ get_or prices.pricing.now.tables.now.gives prices.turn.arriving []
   pub credits : prices.credits.now ≡ get_or prices.pricing.now.credits.now prices.turn.arriving []

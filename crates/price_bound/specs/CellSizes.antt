@@ -1,5 +1,5 @@
 -- How large amounts are.
-use Rattle.std.specs.Prelude.{ℕ, ◌+◌, ◌*◌, List, get_or, Option, Some, None, ◌≡◌, ℤ, pos, neg_ℤ, ◌≤ℤ◌}
+use Rattle.std.specs.Prelude.{ℕ, ◌+◌, ◌*◌, ◌^◌, List, get_or, Option, Some, None, ◌≡◌, ℤ, pos, neg_ℤ, ◌≤ℤ◌}
 use Rattle.rail_base.specs.declared.limits.TheConstants.{MOST_COMPOSITION, MOST_ENTRIES, MOST_MULTIPLIER}
 use Rattle.price_bound.specs.declared.cells.Cell.{Cell}
 
@@ -15,6 +15,46 @@ most_price = MOST_ENTRIES * MOST_MULTIPLIER
 
 abbrev pub most_units_price : ℕ
 most_units_price = MOST_COMPOSITION * most_price
+
+-- a number of units, or what a change costs, is below it: a number of 32 bits
+abbrev pub most_number : ℕ
+most_number = 2 ^ 32
+
+-- the most that a trip costs, with what a change adds, and that a shunt costs, rounded up
+abbrev pub most_cost : ℕ
+most_cost = 1000000000000
+
+-- the most that a composition is worth on a trip, rounded up: its cost, the price of its units where they are taken and
+-- where they are given, and its multipliers at hand-overs
+abbrev pub most_worth : ℕ
+most_worth = 20000000000000000
+
+-- the most that an edge is priced, rounded up: what a shunt costs, and four times the price of a composition's units
+abbrev pub most_edge_price : ℕ
+most_edge_price = 30000000000000000
+
+-- the most by which the cells of a trip differ from those ahead: a worth and the price of an edge
+abbrev pub most_step : ℕ
+most_step = 50000000000000000
+
+-- the most that the first paths come to, rounded up: so many steps as the day may have trips, for as many chains
+abbrev pub most_found : ℕ
+most_found = 10000000000000000000000
+
+-- Amounts are added where they are no larger than the first of these, so that the sum has 64 bits; values where they
+-- are no larger than the last, so that it has 128. The cells ahead of a trip, and those that are offered to it, keep
+-- below that by more than a step.
+abbrev pub most_amount : ℕ
+most_amount = 1000000000000000000
+
+abbrev pub most_ahead : ℕ
+most_ahead = 1000000000000000000000000000
+
+abbrev pub most_offered : ℕ
+most_offered = 10000000000000000000000000000
+
+abbrev pub most_value : ℕ
+most_value = 1000000000000000000000000000000
 
 -- each cell of a row has a small value
 abbrev pub AreSmallCells : ℕ → List (Option Cell) → Type 0

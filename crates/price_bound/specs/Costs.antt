@@ -4,7 +4,7 @@ use Rattle.timetable.specs.Admissible.{is_admissible}
 use Rattle.timetable.specs.Compositions.{compositions_of, composition_at}
 use Rattle.timetable.specs.Day.{Day}
 use Rattle.price_bound.specs.declared.changes.Change.{Change}
-use Rattle.price_bound.specs.CellSizes.{IsSmall}
+use Rattle.price_bound.specs.CellSizes.{IsSmall, most_cost}
 use Rattle.price_bound.specs.Changes.{changed_cost}
 use Rattle.price_bound.specs.PriceTables.{HasSize, amount_at}
 
@@ -20,7 +20,7 @@ cost_in amount = if int_lt amount (pos 0) then None else Some amount
 -- an amount stands for the cost of a trip with a composition
 pub record IsCostOf (day : Day) (changes : List Change) (t comp : ℕ) (amount : ℤ) : Type 0 where
   pub is : cost_in amount ≡ admitted_cost day changes t comp
-  pub small : IsSmall 1000000000000 amount
+  pub small : IsSmall most_cost amount
 
 -- a table has the costs of a trip, in the columns below a number
 abbrev pub AreCostsIn : Day → List Change → ℕ → ℕ → List (List ℤ) → Type 0

@@ -11,7 +11,7 @@ use std::alloc::Global;
 use std::marker::Model;
 
 /// The amounts of one row. A contract sees the list of them.
-#[derive(Debug, Drop)]
+#[derive(Drop)]
 pub(crate) struct AmountRow {
     amounts: Vec<i64>,
 }
@@ -25,7 +25,7 @@ impl Model for AmountRow {
 }
 
 /// Amounts by row and column. A contract sees a list for each row.
-#[derive(Debug, Drop)]
+#[derive(Drop)]
 pub(crate) struct AmountTable {
     rows: Vec<AmountRow>,
 }

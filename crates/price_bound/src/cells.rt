@@ -5,7 +5,7 @@ ghost use Rattle.std.specs.Prelude.{ℕ, ◌≡◌, ◌<◌, ◌+◌, map, lengt
 ghost use Rattle.std.specs.Prelude.{None, if◌then◌else◌, option_map};
 ghost use Rattle.price_bound.specs.CellRows.{lower_at};
 ghost use Rattle.price_bound.specs.Paths.{entered, least_from, lower_cell, offer_by, with_worth};
-ghost use Rattle.price_bound.specs.CellSizes.{AreSmallCells, IsSmall};
+ghost use Rattle.price_bound.specs.CellSizes.{AreSmallCells, IsSmall, most_edge_price, most_value, most_worth};
 
 use crate::worths::{Amount, wide};
 use rail_base::{CompNo, NoMemory};
@@ -13,7 +13,7 @@ use std::alloc::Global;
 use std::marker::Model;
 
 /// The first path of least value from a composition of a trip to the end of its chain.
-#[derive(Clone, Copy, Debug, PartialEq, Eq)]
+#[derive(Clone, Copy)]
 pub(crate) struct Cell {
     /// Its value.
     pub value: i128,
@@ -22,7 +22,7 @@ pub(crate) struct Cell {
 }
 
 /// The cells of one trip, by composition. A contract sees the list of them.
-#[derive(Debug, Drop)]
+#[derive(Drop)]
 pub(crate) struct CellRow {
     cells: Vec<Option<Cell>>,
 }
@@ -97,12 +97,12 @@ impl CellRow {
     pub(crate) fn add(&mut self, comp: CompNo, worth: Option<Amount>)
         requires comp { comp < length self.old }
         requires small { IfSome (get_or self.old comp None)
-            (λ cell. IsSmall 1000000000000000000000000000000 cell.value) }
-        requires worth { IfSome worth (λ worth. IsSmall 20000000000000000 worth.0) }
+            (λ cell. IsSmall most_value cell.value) }
+        requires worth { IfSome worth (λ worth. IsSmall most_worth worth.0) }
         ensures value { self.new ≡ set self.old comp
             (with_worth (option_map (λ worth. worth.0) worth) (get_or self.old comp None)) }
         ensures small { (bound : ℕ) → IfSome (get_or self.old comp None) (λ cell. IsSmall bound cell.value)
-            → IfSome (get_or self.new comp None) (λ cell. IsSmall (bound + 20000000000000000) cell.value) }
+            → IfSome (get_or self.new comp None) (λ cell. IsSmall (bound + most_worth) cell.value) }
     {
         let place = comp.place();
         self.cells[place] = with_worth(worth, self.cells[place]);
@@ -145,11 +145,11 @@ fn is_lower(cell: &Option<Cell>, other: &Option<Cell>) -> bool
 
 /// The cell of an edge to a composition: what is ahead there, at the edge's price.
 pub(crate) fn offer_by(to: CompNo, price: Option<Amount>, ahead: Option<Cell>) -> Option<Cell>
-    requires price { IfSome price (λ price. IsSmall 30000000000000000 price.0) }
-    requires ahead { IfSome ahead (λ cell. IsSmall 1000000000000000000000000000000 cell.value) }
+    requires price { IfSome price (λ price. IsSmall most_edge_price price.0) }
+    requires ahead { IfSome ahead (λ cell. IsSmall most_value cell.value) }
     ensures value { result ≡ offer_by to (option_map (λ price. price.0) price) ahead }
     ensures small { (bound : ℕ) → IfSome ahead (λ cell. IsSmall bound cell.value)
-        → IfSome result (λ cell. IsSmall (bound + 30000000000000000) cell.value) }
+        → IfSome result (λ cell. IsSmall (bound + most_edge_price) cell.value) }
 {
     let price = wide(price?);
     let ahead = ahead?;
@@ -161,11 +161,11 @@ pub(crate) fn offer_by(to: CompNo, price: Option<Amount>, ahead: Option<Cell>) -
 
 /// A cell with the worth of its composition.
 fn with_worth(worth: Option<Amount>, cell: Option<Cell>) -> Option<Cell>
-    requires worth { IfSome worth (λ worth. IsSmall 20000000000000000 worth.0) }
-    requires cell { IfSome cell (λ cell. IsSmall 1000000000000000000000000000000 cell.value) }
+    requires worth { IfSome worth (λ worth. IsSmall most_worth worth.0) }
+    requires cell { IfSome cell (λ cell. IsSmall most_value cell.value) }
     ensures value { result ≡ with_worth (option_map (λ worth. worth.0) worth) cell }
     ensures small { (bound : ℕ) → IfSome cell (λ cell. IsSmall bound cell.value)
-        → IfSome result (λ cell. IsSmall (bound + 20000000000000000) cell.value) }
+        → IfSome result (λ cell. IsSmall (bound + most_worth) cell.value) }
 {
     let worth = wide(worth?);
     let cell = cell?;

@@ -6,7 +6,8 @@ ghost use Rattle.timetable.specs.Compositions.{compositions_of};
 ghost use Rattle.price_bound.specs.AtHand.{IsForParts, IsForTurn};
 ghost use Rattle.price_bound.specs.CellRows.{HaveRoom, HaveRoomFor, chain_rows, comps_of, edges_offered, last_row_on};
 ghost use Rattle.price_bound.specs.CellRows.{offered_on, put_along, row_on};
-ghost use Rattle.price_bound.specs.CellSizes.{AreSmallCells, AreSmallOffers, IsSmallStep};
+ghost use Rattle.price_bound.specs.CellSizes.{AreSmallCells, AreSmallOffers, IsSmallStep, most_ahead, most_edge_price};
+ghost use Rattle.price_bound.specs.CellSizes.{most_offered, most_step, most_worth};
 ghost use Rattle.price_bound.specs.ChainStages.{stage_of};
 ghost use Rattle.price_bound.specs.Paths.{begin_of, next_of, walked, with_worths};
 ghost use Rattle.price_bound.specs.Pricing.{ArePriced, priced_by};
@@ -23,7 +24,7 @@ use std::marker::Model;
 use timetable::{Instance, LinkKind, Picks};
 
 /// Room for the rows of any chain of a day. A contract sees a list of cells for each row.
-#[derive(Debug, Drop)]
+#[derive(Drop)]
 pub(crate) struct ChainRows {
     rows: Vec<CellRow>,
 }
@@ -59,7 +60,7 @@ impl ChainRows {
         requires room { HaveRoomFor (priced_by pricing.now) self.old }
         ensures room { HaveRoomFor (priced_by pricing.now) self.new }
         ensures rows { take (length chain.now) self.new ≡ chain_rows (priced_by pricing.now) chain.now }
-        ensures small { AreSmallCells (length chain.now * 50000000000000000) (get_or self.new 0 []) }
+        ensures small { AreSmallCells (length chain.now * most_step) (get_or self.new 0 []) }
     {
         fill_rows(pricing, chain, &mut self.rows);
     }
@@ -118,7 +119,7 @@ fn fill_rows(pricing: &Pricing<'_>, chain: &[TripNo], rows: &mut [CellRow])
     requires room { HaveRoomFor (priced_by pricing.now) rows.old }
     ensures room { HaveRoomFor (priced_by pricing.now) rows.new }
     ensures rows { take (length chain.now) rows.new ≡ chain_rows (priced_by pricing.now) chain.now }
-    ensures small { AreSmallCells (length chain.now * 50000000000000000) (get_or rows.new 0 []) }
+    ensures small { AreSmallCells (length chain.now * most_step) (get_or rows.new 0 []) }
 {
     prove!(pricing.instance.trips() as usize <= MOST_TRIPS);
     let mut place = chain.len() - 1;
@@ -135,10 +136,10 @@ fn fill_place(pricing: &Pricing<'_>, trip: TripNo, rows: &mut [CellRow], place: 
     requires trip { trip < length pricing.now.instance.now.trips }
     requires place { place + 1 < length pricing.now.instance.now.trips }
     requires room { HaveRoomFor (priced_by pricing.now) rows.old }
-    requires ahead { AreSmallCells 1000000000000000000000000000 (get_or rows.old (place + 1) []) }
+    requires ahead { AreSmallCells most_ahead (get_or rows.old (place + 1) []) }
     ensures room { HaveRoomFor (priced_by pricing.now) rows.new }
     ensures row { rows.new ≡ set rows.old place (row_on (priced_by pricing.now) trip (get_or rows.old (place + 1) [])) }
-    ensures small { IsSmallStep 50000000000000000 (get_or rows.old (place + 1) []) (get_or rows.new place []) }
+    ensures small { IsSmallStep most_step (get_or rows.old (place + 1) []) (get_or rows.new place []) }
 {
     let (front, back) = rows.split_at_mut(place + 1);
     fill_before(pricing, trip, &mut front[place], &back[0]);
@@ -150,7 +151,7 @@ fn fill_last(pricing: &Pricing<'_>, trip: TripNo, row: &mut CellRow)
     requires trip { trip < length pricing.now.instance.now.trips }
     requires row { length row.old ≡ comps_of (priced_by pricing.now) }
     ensures row { row.new ≡ last_row_on (priced_by pricing.now) trip }
-    ensures small { AreSmallCells 50000000000000000 row.new }
+    ensures small { AreSmallCells most_step row.new }
 {
     row.end();
     weigh(pricing, trip, row);
@@ -162,9 +163,9 @@ fn fill_before(pricing: &Pricing<'_>, trip: TripNo, row: &mut CellRow, ahead: &C
     requires trip { trip < length pricing.now.instance.now.trips }
     requires row { length row.old ≡ comps_of (priced_by pricing.now) }
     requires ahead { length ahead.now ≡ comps_of (priced_by pricing.now) }
-    requires small { AreSmallCells 1000000000000000000000000000 ahead.now }
+    requires small { AreSmallCells most_ahead ahead.now }
     ensures row { row.new ≡ row_on (priced_by pricing.now) trip ahead.now }
-    ensures small { IsSmallStep 50000000000000000 ahead.now row.new }
+    ensures small { IsSmallStep most_step ahead.now row.new }
 {
     row.clear();
     offer_all(pricing, trip, row, ahead);
@@ -177,9 +178,9 @@ fn offer_all(pricing: &Pricing<'_>, trip: TripNo, row: &mut CellRow, ahead: &Cel
     requires trip { trip < length pricing.now.instance.now.trips }
     requires row { length row.old ≡ comps_of (priced_by pricing.now) }
     requires ahead { length ahead.now ≡ comps_of (priced_by pricing.now) }
-    requires small { AreSmallCells 1000000000000000000000000000 ahead.now }
+    requires small { AreSmallCells most_ahead ahead.now }
     ensures row { row.new ≡ offered_on (priced_by pricing.now) trip ahead.now row.old }
-    ensures small { AreSmallOffers 30000000000000000 ahead.now row.old row.new }
+    ensures small { AreSmallOffers most_edge_price ahead.now row.old row.new }
 {
     if let Some(link) = pricing.instance.outgoing(trip) {
         offer_edges(pricing, link, row, ahead);
@@ -192,9 +193,9 @@ fn offer_edges(pricing: &Pricing<'_>, link: LinkNo, row: &mut CellRow, ahead: &C
     requires link { link < length pricing.now.instance.now.links }
     requires row { length row.old ≡ comps_of (priced_by pricing.now) }
     requires ahead { length ahead.now ≡ comps_of (priced_by pricing.now) }
-    requires small { AreSmallCells 1000000000000000000000000000 ahead.now }
+    requires small { AreSmallCells most_ahead ahead.now }
     ensures row { row.new ≡ edges_offered (priced_by pricing.now) (Some link) ahead.now row.old }
-    ensures small { AreSmallOffers 30000000000000000 ahead.now row.old row.new }
+    ensures small { AreSmallOffers most_edge_price ahead.now row.old row.new }
 {
     match pricing.instance.link(link).kind {
         LinkKind::Turn {
@@ -224,9 +225,9 @@ fn offer_turned(prices: &TurnPrices<'_>, row: &mut CellRow, ahead: &CellRow)
     requires prices { IsForTurn prices.now }
     requires row { length row.old ≡ comps_of (priced_by prices.now.pricing.now) }
     requires ahead { length ahead.now ≡ comps_of (priced_by prices.now.pricing.now) }
-    requires small { AreSmallCells 1000000000000000000000000000 ahead.now }
+    requires small { AreSmallCells most_ahead ahead.now }
     ensures row { row.new ≡ edges_offered (priced_by prices.now.pricing.now) (Some prices.now.link) ahead.now row.old }
-    ensures small { AreSmallOffers 30000000000000000 ahead.now row.old row.new }
+    ensures small { AreSmallOffers most_edge_price ahead.now row.old row.new }
 {
     let edges = prices.pricing.graphs.edges(prices.link);
     for place in 0..edges.len() {
@@ -242,9 +243,9 @@ fn offer_handed_over(prices: &PartPrices<'_>, row: &mut CellRow, ahead: &CellRow
     requires prices { IsForParts prices.now }
     requires row { length row.old ≡ comps_of (priced_by prices.now.pricing.now) }
     requires ahead { length ahead.now ≡ comps_of (priced_by prices.now.pricing.now) }
-    requires small { AreSmallCells 1000000000000000000000000000 ahead.now }
+    requires small { AreSmallCells most_ahead ahead.now }
     ensures row { row.new ≡ edges_offered (priced_by prices.now.pricing.now) (Some prices.now.link) ahead.now row.old }
-    ensures small { AreSmallOffers 30000000000000000 ahead.now row.old row.new }
+    ensures small { AreSmallOffers most_edge_price ahead.now row.old row.new }
 {
     let edges = prices.pricing.graphs.edges(prices.link);
     for place in 0..edges.len() {
@@ -260,9 +261,9 @@ fn weigh(pricing: &Pricing<'_>, trip: TripNo, row: &mut CellRow)
     requires priced { ArePriced pricing.now }
     requires trip { trip < length pricing.now.instance.now.trips }
     requires row { length row.old ≡ comps_of (priced_by pricing.now) }
-    requires small { AreSmallCells 10000000000000000000000000000 row.old }
+    requires small { AreSmallCells most_offered row.old }
     ensures row { row.new ≡ with_worths (stage_of (priced_by pricing.now) trip) 0 row.old }
-    ensures small { IsSmallStep 20000000000000000 row.old row.new }
+    ensures small { IsSmallStep most_worth row.old row.new }
 {
     let worths = TripWorths::new(&*pricing, trip);
     for comp in 0..pricing.instance.catalogue().len() {

@@ -1,7 +1,7 @@
 //! Changes: what it costs to give trips other compositions than bases.
 
 ghost use Rattle.std.specs.Prelude.{◌≡◌, ◌<◌, ◌==◌, if◌then◌else◌, All, length, pos};
-ghost use Rattle.price_bound.specs.CellSizes.{IsSmall};
+ghost use Rattle.price_bound.specs.CellSizes.{IsSmall, most_number, most_value};
 ghost use Rattle.price_bound.specs.ChangedDays.{added_cost, own_cost};
 ghost use Rattle.price_bound.specs.Changes.{change_cost};
 
@@ -47,7 +47,7 @@ fn cost_from(change: &Change, comp: CompNo) -> u32
 pub(crate) fn added_cost(changes: &[Change], picks: &Picks) -> Money
     requires { All (λ change. change.trip < length picks.now) changes.now }
     ensures value { result.0 ≡ pos (added_cost changes.now picks.now) }
-    ensures small { IsSmall 1000000000000000000000000000000 result.0 }
+    ensures small { IsSmall most_value result.0 }
 {
     let mut sum = Money(0);
     for place in 0..changes.len() {
@@ -61,7 +61,7 @@ pub(crate) fn added_cost(changes: &[Change], picks: &Picks) -> Money
 fn own_cost(change: &Change, picks: &Picks) -> Money
     requires { change.now.trip < length picks.now }
     ensures value { result.0 ≡ pos (own_cost picks.now change.now) }
-    ensures small { IsSmall 4294967296 result.0 }
+    ensures small { IsSmall most_number result.0 }
 {
     let comp = picks.get(change.trip);
     Money(i128::from(cost_from(change, comp)))

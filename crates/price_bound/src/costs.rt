@@ -4,6 +4,7 @@
 
 ghost use Rattle.std.specs.Prelude.{ℕ, ◌≡◌, ◌<◌, ◌≤◌, length, option_map, pos};
 ghost use Rattle.timetable.specs.Compositions.{compositions_of};
+ghost use Rattle.price_bound.specs.CellSizes.{most_cost};
 ghost use Rattle.price_bound.specs.ChangedDays.{AreChanges};
 ghost use Rattle.price_bound.specs.Changes.{changed_cost};
 ghost use Rattle.price_bound.specs.Costs.{AreCosts, AreCostsIn, IsCostOf, cost_in};
@@ -64,7 +65,7 @@ fn changed_cost(instance: &Instance, changes: &[Change], trip: TripNo, comp: Com
     requires trip { trip < length instance.now.trips }
     requires comp { comp < length (compositions_of instance.now) }
     ensures value { result ≡ pos (changed_cost instance.now changes.now trip comp) }
-    ensures few { changed_cost instance.now changes.now trip comp ≤ 1000000000000 }
+    ensures few { changed_cost instance.now changes.now trip comp ≤ most_cost }
 {
     let cost = trip_cost(instance, trip, types_of(instance, comp));
     let change = change_cost(changes, trip, comp);

@@ -3,7 +3,7 @@
 ghost use Rattle.std.specs.Prelude.{ℕ, ◌≡◌, ◌<◌, length, pos, IfSome, Some, option_map, slice_get};
 ghost use Rattle.timetable.specs.Compositions.{compositions_of};
 ghost use Rattle.price_bound.specs.AtHand.{IsForParts, IsSecondOf};
-ghost use Rattle.price_bound.specs.CellSizes.{IsSmall};
+ghost use Rattle.price_bound.specs.CellSizes.{IsSmall, most_edge_price};
 ghost use Rattle.price_bound.specs.ChainStages.{price_of};
 ghost use Rattle.price_bound.specs.EdgeValues.{part_multiplier};
 ghost use Rattle.price_bound.specs.Pricing.{ArePriced, IsListed, priced_by};
@@ -50,7 +50,7 @@ impl<'a> PartPrices<'a> {
         requires edge { IsListed (length (compositions_of self.now.pricing.now.instance.now)) edge.now }
         ensures value { option_map (λ price. price.0) result
             ≡ price_of (priced_by self.now.pricing.now) (Some self.now.link) edge.now }
-        ensures small { IfSome result (λ price. IsSmall 30000000000000000 price.0) }
+        ensures small { IfSome result (λ price. IsSmall most_edge_price price.0) }
     {
         prove!(self.pricing.instance.catalogue().len() as usize <= MOST_COMPOSITIONS);
         let Some(part) = edge.part else {
@@ -68,7 +68,7 @@ impl<'a> PartPrices<'a> {
         requires part { part < length (compositions_of self.now.pricing.now.instance.now) }
         ensures value { result.0 ≡ part_multiplier self.now.pricing.now.instance.now
             self.now.pricing.now.multipliers.now self.now.link part }
-        ensures small { IsSmall 30000000000000000 result.0 }
+        ensures small { IsSmall most_edge_price result.0 }
     {
         amount_for(self.multipliers, part)
     }

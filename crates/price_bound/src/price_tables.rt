@@ -21,7 +21,7 @@ use std::alloc::Global;
 use timetable::{Instance, Place};
 
 /// The prices under multipliers.
-#[derive(Debug, Drop)]
+#[derive(Drop)]
 pub(crate) struct PriceTables {
     /// For each trip and type the price of a unit that the trip takes.
     pub takes: AmountTable,

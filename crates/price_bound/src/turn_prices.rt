@@ -6,7 +6,7 @@ ghost use Rattle.timetable.specs.declared.day.records.LinkKind.TheVariants.{Turn
 ghost use Rattle.timetable.specs.Compositions.{compositions_of, composition_at};
 ghost use Rattle.branch_tree.specs.Meanings.{weighted};
 ghost use Rattle.price_bound.specs.AtHand.{IsForTurn, IsTurnOf, newly_value};
-ghost use Rattle.price_bound.specs.CellSizes.{IsSmall, most_units_price};
+ghost use Rattle.price_bound.specs.CellSizes.{IsSmall, most_units_price, most_cost, most_edge_price};
 ghost use Rattle.price_bound.specs.ChainStages.{price_of};
 ghost use Rattle.price_bound.specs.EdgeValues.{came, coupled, shunt_cost, turn_value};
 ghost use Rattle.price_bound.specs.Pricing.{ArePriced, IsListed, priced_by};
@@ -21,7 +21,7 @@ use timetable::Instance;
 use transitions::{Edge, Shunt};
 
 /// The trips of a turn, and the end at which it couples.
-#[derive(Clone, Copy, Debug)]
+#[derive(Clone, Copy)]
 pub(crate) struct TurnTrips {
     pub arriving: TripNo,
     pub departing: TripNo,
@@ -72,7 +72,7 @@ impl<'a> TurnPrices<'a> {
         requires is { IsForTurn self.now }
         requires edge { IsListed (length (compositions_of self.now.pricing.now.instance.now)) edge.now }
         ensures value { Some result.0 ≡ price_of (priced_by self.now.pricing.now) (Some self.now.link) edge.now }
-        ensures small { IsSmall 30000000000000000 result.0 }
+        ensures small { IsSmall most_edge_price result.0 }
     {
         let cost = self.shunt_cost(edge.shunt);
         let before = self.credit(edge.from);
@@ -88,7 +88,7 @@ impl<'a> TurnPrices<'a> {
         requires is { IsForTurn self.now }
         ensures value { result.0 ≡ weighted self.now.pricing.now.weight
             (pos (shunt_cost self.now.pricing.now.instance.now shunt)) }
-        ensures small { IsSmall 1000000000000 result.0 }
+        ensures small { IsSmall most_cost result.0 }
     {
         match shunt {
             Shunt::Keep => Amount(0),
@@ -138,7 +138,7 @@ impl<'a> TurnPrices<'a> {
 /// What shunting costs.
 fn shunting_cost(instance: &Instance) -> Amount
     ensures value { result.0 ≡ pos instance.now.weights.shunting }
-    ensures small { IsSmall 1000000000000 result.0 }
+    ensures small { IsSmall most_cost result.0 }
 {
     Amount(i64::from(instance.weights().shunting))
 }

@@ -1,13 +1,13 @@
 //! The least priced value of the picks that are near a region, by one cheapest path for each chain.
 
-ghost use Rattle.std.specs.Prelude.{ℕ, ◌≡◌, ◌≤◌, ◌<◌, ◌*◌, ◌^◌, ◌+ℤ◌, ◌-ℤ◌, ◌*ℤ◌, pos, neg_ℤ, length, IfOk, IfSome};
+ghost use Rattle.std.specs.Prelude.{ℕ, ◌≡◌, ◌≤◌, ◌<◌, ◌*◌, ◌+ℤ◌, ◌-ℤ◌, ◌*ℤ◌, pos, neg_ℤ, length, IfOk, IfSome};
 ghost use Rattle.std.specs.Prelude.{unsigned_abs};
 ghost use Rattle.timetable.specs.Indices.{lambdas_of, places_of};
 ghost use Rattle.transitions.specs.Edges.{AreGraphs};
 ghost use Rattle.branch_tree.specs.Bounds.{IsBound};
 ghost use Rattle.branch_tree.specs.Entries.{DoFit};
 ghost use Rattle.price_bound.specs.CellRows.{HaveRoomFor};
-ghost use Rattle.price_bound.specs.CellSizes.{IsSmall};
+ghost use Rattle.price_bound.specs.CellSizes.{IsSmall, most_found, most_number, most_value};
 ghost use Rattle.price_bound.specs.ChangedDays.{AreChanges, changed_day, changed_meanings};
 ghost use Rattle.price_bound.specs.FirstPaths.{AreFound};
 ghost use Rattle.price_bound.specs.Pricing.{ArePriced, priced_by};
@@ -32,7 +32,7 @@ use timetable::{Instance, Picks, Place};
 use transitions::Graphs;
 
 /// The room in which the bounds of a day are found.
-#[derive(Debug, Drop)]
+#[derive(Drop)]
 pub(crate) struct Workspace {
     /// What each trip costs with each composition, under the changes of the day.
     pub costs: AmountTable,
@@ -132,7 +132,7 @@ fn first_paths(pricing: &Pricing<'_>, rows: &mut ChainRows, choice: &mut Picks) 
     ensures room { HaveRoomFor (priced_by pricing.now) rows.new }
     ensures choice { length choice.new ≡ length pricing.now.instance.now.trips }
     ensures found { AreFound (priced_by pricing.now) result choice.new }
-    ensures small { IfSome result (λ value. IsSmall 10000000000000000000000 value.0) }
+    ensures small { IfSome result (λ value. IsSmall most_found value.0) }
 {
     prove!(pricing.instance.trips() as usize <= MOST_TRIPS);
     let mut value = Money(0);
@@ -150,8 +150,8 @@ fn first_paths(pricing: &Pricing<'_>, rows: &mut ChainRows, choice: &mut Picks) 
 
 /// A value and that of a path more, which begins with a cell.
 fn with_begin(value: Money, begin: Cell) -> Money
-    requires value { IsSmall 1000000000000000000000000000000 value.0 }
-    requires begin { IsSmall 1000000000000000000000000000000 begin.value }
+    requires value { IsSmall most_value value.0 }
+    requires begin { IsSmall most_value begin.value }
     ensures { result.0 ≡ value.0 +ℤ begin.value }
 {
     Money(value.0 + begin.value)
@@ -171,7 +171,7 @@ fn copy_picks(to: &mut Picks, from: &Picks)
 fn constant(instance: &Instance, multipliers: &Multipliers) -> Money
     requires { DoFit (length (places_of instance.now)) (length (lambdas_of instance.now)) multipliers.now }
     ensures value { result.0 ≡ constant_of instance.now multipliers.now }
-    ensures small { IsSmall (MOST_ENTRIES * (MOST_MULTIPLIER * 2 ^ 32)) result.0 }
+    ensures small { IsSmall (MOST_ENTRIES * (MOST_MULTIPLIER * most_number)) result.0 }
 {
     let entries = multipliers.entries();
     let mut sum = Money(0);
@@ -187,7 +187,7 @@ fn constant_by(instance: &Instance, entry: &Entry) -> Money
     requires index { entry.now.index < length (places_of instance.now) }
     requires size { unsigned_abs entry.now.value ≤ MOST_MULTIPLIER }
     ensures value { result.0 ≡ by_place instance.now (constant_by instance.now) entry.now }
-    ensures small { IsSmall (MOST_MULTIPLIER * 2 ^ 32) result.0 }
+    ensures small { IsSmall (MOST_MULTIPLIER * most_number) result.0 }
 {
     match instance.place(entry.index) {
         Place::Lambda {
@@ -206,7 +206,7 @@ fn constant_by(instance: &Instance, entry: &Entry) -> Money
 /// Minus a number of units.
 fn negated(units: u32) -> Money
     ensures value { result.0 ≡ neg_ℤ (pos units) }
-    ensures small { IsSmall (2 ^ 32) result.0 }
+    ensures small { IsSmall most_number result.0 }
 {
     Money(-i128::from(units))
 }
@@ -214,7 +214,7 @@ fn negated(units: u32) -> Money
 /// A number of units less another.
 fn difference(units: u32, other: u32) -> Money
     ensures value { result.0 ≡ pos units -ℤ pos other }
-    ensures small { IsSmall (2 ^ 32) result.0 }
+    ensures small { IsSmall most_number result.0 }
 {
     Money(i128::from(units) - i128::from(other))
 }
@@ -222,9 +222,9 @@ fn difference(units: u32, other: u32) -> Money
 /// A multiplier times a number of units.
 fn times(entry: &Entry, units: Money) -> Money
     requires size { unsigned_abs entry.now.value ≤ MOST_MULTIPLIER }
-    requires units { IsSmall (2 ^ 32) units.0 }
+    requires units { IsSmall most_number units.0 }
     ensures value { result.0 ≡ entry.now.value *ℤ units.0 }
-    ensures small { IsSmall (MOST_MULTIPLIER * 2 ^ 32) result.0 }
+    ensures small { IsSmall (MOST_MULTIPLIER * most_number) result.0 }
 {
     Money(i128::from(entry.value) * units.0)
 }

@@ -8,7 +8,8 @@ ghost use Rattle.timetable.specs.Links.{incoming, outgoing};
 ghost use Rattle.branch_tree.specs.IntSums.{int_sum};
 ghost use Rattle.branch_tree.specs.Meanings.{weighted};
 ghost use Rattle.price_bound.specs.AtHand.{IsForTrip};
-ghost use Rattle.price_bound.specs.CellSizes.{IsSmall, most_price, most_units_price};
+ghost use Rattle.price_bound.specs.CellSizes.{IsSmall, most_price, most_units_price, most_amount, most_cost};
+ghost use Rattle.price_bound.specs.CellSizes.{most_value, most_worth};
 ghost use Rattle.price_bound.specs.ChainStages.{cost_on, worth_of};
 ghost use Rattle.price_bound.specs.Costs.{admitted_cost};
 ghost use Rattle.price_bound.specs.Credits.{AreSmallAmounts, sum_in};
@@ -25,7 +26,7 @@ use rail_base::{CompNo, Money, TripNo, TypeNo};
 use timetable::Instance;
 
 /// An amount that 64 bits hold: a price, a cost or a worth.
-#[derive(Clone, Copy, Debug, PartialEq, Eq)]
+#[derive(Clone, Copy)]
 pub(crate) struct Amount(pub i64);
 
 /// What compositions are worth on a trip: what is the same for each of them is found once.
@@ -81,7 +82,7 @@ impl<'a> TripWorths<'a> {
         requires comp { comp < length (compositions_of self.now.pricing.now.instance.now) }
         ensures value { option_map (λ worth. worth.0) result
             ≡ worth_of (priced_by self.now.pricing.now) self.now.trip comp }
-        ensures small { IfSome result (λ worth. IsSmall 20000000000000000 worth.0) }
+        ensures small { IfSome result (λ worth. IsSmall most_worth worth.0) }
     {
         prove!(self.pricing.instance.catalogue().len() as usize <= MOST_COMPOSITIONS);
         if !self.set.has(comp) {
@@ -97,7 +98,7 @@ impl<'a> TripWorths<'a> {
         requires comp { comp < length (compositions_of self.now.pricing.now.instance.now) }
         ensures value { option_map (λ cost. cost.0) result
             ≡ admitted_cost self.now.pricing.now.instance.now self.now.pricing.now.changes.now self.now.trip comp }
-        ensures small { IfSome result (λ cost. IsSmall 1000000000000 cost.0) }
+        ensures small { IfSome result (λ cost. IsSmall most_cost cost.0) }
     {
         cost_in(amount_for(self.costs, comp))
     }
@@ -109,11 +110,11 @@ impl<'a> TripWorths<'a> {
         requires comp { comp < length (compositions_of self.now.pricing.now.instance.now) }
         requires cost { cost.0 ≡ weighted self.now.pricing.now.weight
             (pos (cost_on (priced_by self.now.pricing.now) self.now.trip comp)) }
-        requires few { IsSmall 1000000000000 cost.0 }
+        requires few { IsSmall most_cost cost.0 }
         ensures value { result.0 ≡ trip_value self.now.pricing.now.instance.now
             (cost_on (priced_by self.now.pricing.now)) self.now.pricing.now.multipliers.now
             self.now.pricing.now.weight self.now.trip comp }
-        ensures small { IsSmall 20000000000000000 result.0 }
+        ensures small { IsSmall most_worth result.0 }
     {
         let taken = self.taken_at_begin(comp);
         let given = self.given_at_end(comp);
@@ -180,9 +181,9 @@ pub(crate) fn types_of(instance: &Instance, comp: CompNo) -> &[TypeNo]
 
 /// A cost under a weight.
 pub(crate) fn weighted(weight: Weight, cost: Amount) -> Amount
-    requires { IsSmall 1000000000000 cost.0 }
+    requires { IsSmall most_cost cost.0 }
     ensures value { result.0 ≡ weighted weight cost.0 }
-    ensures small { IsSmall 1000000000000 result.0 }
+    ensures small { IsSmall most_cost result.0 }
 {
     match weight {
         Weight::Cost => cost,
@@ -235,8 +236,8 @@ fn amount_of(amounts: &[i64], unit_type: TypeNo) -> i64
 
 /// An amount and another.
 fn sum_with(amount: i64, more: i64) -> i64
-    requires amount { IsSmall 1000000000000000000 amount }
-    requires more { IsSmall 1000000000000000000 more }
+    requires amount { IsSmall most_amount amount }
+    requires more { IsSmall most_amount more }
     ensures { result ≡ amount +ℤ more }
 {
     amount + more
@@ -244,8 +245,8 @@ fn sum_with(amount: i64, more: i64) -> i64
 
 /// An amount and another.
 pub(crate) fn plus(amount: Amount, more: Amount) -> Amount
-    requires amount { IsSmall 1000000000000000000 amount.0 }
-    requires more { IsSmall 1000000000000000000 more.0 }
+    requires amount { IsSmall most_amount amount.0 }
+    requires more { IsSmall most_amount more.0 }
     ensures { result.0 ≡ amount.0 +ℤ more.0 }
 {
     Amount(amount.0 + more.0)
@@ -253,8 +254,8 @@ pub(crate) fn plus(amount: Amount, more: Amount) -> Amount
 
 /// An amount less another.
 pub(crate) fn minus(amount: Amount, other: Amount) -> Amount
-    requires amount { IsSmall 1000000000000000000 amount.0 }
-    requires other { IsSmall 1000000000000000000 other.0 }
+    requires amount { IsSmall most_amount amount.0 }
+    requires other { IsSmall most_amount other.0 }
     ensures { result.0 ≡ amount.0 -ℤ other.0 }
 {
     Amount(amount.0 - other.0)
@@ -269,8 +270,8 @@ pub(crate) fn wide(amount: Amount) -> Money
 
 /// Two values together.
 pub(crate) fn added(value: Money, more: Money) -> Money
-    requires value { IsSmall 1000000000000000000000000000000 value.0 }
-    requires more { IsSmall 1000000000000000000000000000000 more.0 }
+    requires value { IsSmall most_value value.0 }
+    requires more { IsSmall most_value more.0 }
     ensures { result.0 ≡ value.0 +ℤ more.0 }
 {
     Money(value.0 + more.0)

@@ -13,7 +13,7 @@ use std::alloc::Global;
 use timetable::Instance;
 
 /// A station, and a place among its departure minutes or after them.
-#[derive(Debug, Clone, Copy)]
+#[derive(Clone, Copy)]
 pub(crate) struct YardPlace {
     /// The station.
     pub station: StationNo,

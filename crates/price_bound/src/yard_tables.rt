@@ -12,7 +12,7 @@ use std::marker::Model;
 use timetable::Instance;
 
 /// Amounts of all stations. A contract sees for each station and type the list of them.
-#[derive(Debug, Drop)]
+#[derive(Drop)]
 pub(crate) struct YardTable {
     stations: Vec<AmountTable>,
 }
