@@ -18,7 +18,7 @@ use std::alloc::Global;
 use timetable::{Instance, NamedPlan, Picks};
 
 /// Why the runs of an answer are no plan that runs.
-#[derive(Clone, Copy, Debug, PartialEq, Eq)]
+#[derive(Clone, Copy)]
 pub(crate) enum RunsRefusal {
     /// There are not as many as the day has trips.
     Differ {

@@ -229,7 +229,7 @@ impl Composition {
 }
 
 /// What is added up over the units of a composition.
-#[derive(Clone, Copy, Debug)]
+#[derive(Clone, Copy)]
 enum Measure {
     Carriages,
     Seats,

@@ -15,7 +15,7 @@ use std::alloc::Global;
 use timetable::Picks;
 
 /// What a region with picks near it has under multipliers.
-#[derive(Debug, Drop)]
+#[derive(Drop)]
 pub(crate) struct Evaluation {
     /// The least priced value, with the cost.
     pub value: Money,
@@ -26,7 +26,7 @@ pub(crate) struct Evaluation {
 }
 
 /// Why a region has no solution.
-#[derive(Debug, Drop)]
+#[derive(Drop)]
 pub(crate) enum Ending {
     /// No picks are near it.
     Empty,
@@ -35,7 +35,7 @@ pub(crate) enum Ending {
 }
 
 /// How an evaluation ends.
-#[derive(Debug, Drop)]
+#[derive(Drop)]
 pub(crate) enum Outcome {
     /// The region has no solution.
     Ended(Ending),

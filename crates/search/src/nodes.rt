@@ -14,7 +14,7 @@ use std::alloc::Global;
 use timetable::Picks;
 
 /// A leaf that may be branched, with what that takes.
-#[derive(Debug, Drop)]
+#[derive(Drop)]
 pub(crate) struct PendingNode {
     /// How many nodes were made before it.
     pub number: u32,
@@ -31,7 +31,7 @@ pub(crate) struct PendingNode {
 }
 
 /// A node of a search.
-#[derive(Debug, Drop)]
+#[derive(Drop)]
 pub(crate) enum SearchNode {
     /// A node that stays as it is.
     Fixed(Node),
@@ -40,7 +40,7 @@ pub(crate) enum SearchNode {
 }
 
 /// What a branching makes of a node.
-#[derive(Debug, Drop)]
+#[derive(Drop)]
 pub(crate) struct Division {
     /// The cut.
     pub cut: Cut,

@@ -17,7 +17,7 @@ use rail_base::{NoMemory, TripNo};
 use std::alloc::Global;
 
 /// What lies before the advisors of one node.
-#[derive(Debug, Drop)]
+#[derive(Drop)]
 struct Desk {
     /// How many compositions each trip has left.
     sizes: Vec<u32>,

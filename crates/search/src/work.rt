@@ -15,7 +15,7 @@ use rail_base::{Money, NoMemory};
 use std::alloc::Global;
 
 /// A node whose first evaluation, with no multipliers, has left it open.
-#[derive(Debug, Drop)]
+#[derive(Drop)]
 pub(crate) struct Work {
     /// The region of the node.
     pub region: Region,

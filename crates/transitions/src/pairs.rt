@@ -20,7 +20,7 @@ use std::alloc::Global;
 use timetable::{Instance, Link, LinkKind};
 
 /// An arriving and a departing composition.
-#[derive(Clone, Copy, Debug, PartialEq, Eq, PartialOrd, Ord)]
+#[derive(Clone, Copy, PartialEq, Eq, PartialOrd, Ord)]
 pub(crate) struct Pair {
     /// The composition that arrives.
     pub(crate) from: CompNo,

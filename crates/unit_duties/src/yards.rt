@@ -11,7 +11,7 @@ use timetable::Instance;
 
 /// A unit in the yard of a station. Units are in order by station, then by type, then by the minute from which they are
 /// ready, and then by number.
-#[derive(Clone, Copy, Debug, PartialEq, Eq, PartialOrd, Ord)]
+#[derive(Clone, Copy, PartialEq, Eq, PartialOrd, Ord)]
 pub(crate) struct Waiting {
     /// The station.
     pub(crate) station: StationNo,

@@ -12,7 +12,7 @@ use std::alloc::Global;
 use std::process::Abort;
 
 /// The texts of a day's files. A file that is None is not in the folder.
-#[derive(Clone, Copy, Debug)]
+#[derive(Clone, Copy)]
 pub(crate) struct Day<'a> {
     pub(crate) types: Option<&'a str>,
     pub(crate) stations: Option<&'a str>,
@@ -25,7 +25,7 @@ pub(crate) struct Day<'a> {
 }
 
 /// A status and what was written.
-#[derive(Debug, Drop)]
+#[derive(Drop)]
 pub(crate) struct Ending {
     pub(crate) status: u8,
     pub(crate) written: Vec<u8>,

@@ -15,7 +15,7 @@ use std::test::Fail;
 const OTHERS: [u8; 4] = *b"09-\n";
 
 /// A day, and the costs of its plans that run, as they are found by hand; there is none where no plan runs.
-#[derive(Clone, Copy, Debug)]
+#[derive(Clone, Copy)]
 struct Known<'a> {
     day: Day<'a>,
     costs: &'a [i64],
