@@ -195,53 +195,33 @@ const IN_TURN: &[Steps] = &[
     },
 ];
 
-/// The four orders of the events of the minute in which the first two trips arrive and the last two leave.
-const ORDERS: &[&[Step]] = &[
-    &[
-        Step::Depart(0),
-        Step::Depart(1),
-        Step::Arrive(0),
-        Step::Arrive(1),
-        Step::Depart(2),
-        Step::Depart(3),
-        Step::Arrive(2),
-        Step::Arrive(3),
-        Step::Finish,
-    ],
-    &[
-        Step::Depart(0),
-        Step::Depart(1),
-        Step::Arrive(1),
-        Step::Arrive(0),
-        Step::Depart(2),
-        Step::Depart(3),
-        Step::Arrive(2),
-        Step::Arrive(3),
-        Step::Finish,
-    ],
-    &[
-        Step::Depart(0),
-        Step::Depart(1),
-        Step::Arrive(0),
-        Step::Arrive(1),
-        Step::Depart(3),
-        Step::Depart(2),
-        Step::Arrive(2),
-        Step::Arrive(3),
-        Step::Finish,
-    ],
-    &[
-        Step::Depart(0),
-        Step::Depart(1),
-        Step::Arrive(1),
-        Step::Arrive(0),
-        Step::Depart(3),
-        Step::Depart(2),
-        Step::Arrive(2),
-        Step::Arrive(3),
-        Step::Finish,
-    ],
+/// The events of four trips, in pairs that may be exchanged: the first two trips leave in one minute, they arrive in
+/// another, in which the last two leave, and these arrive in a third.
+const PAIRS: &[(Step, Step)] = &[
+    (Step::Depart(0), Step::Depart(1)),
+    (Step::Arrive(0), Step::Arrive(1)),
+    (Step::Depart(2), Step::Depart(3)),
+    (Step::Arrive(2), Step::Arrive(3)),
 ];
+
+/// These events in one of their sixteen orders, and the end of the day. Each binary digit of the number, from the
+/// lowest on, says whether a pair is exchanged.
+fn order_of(alloc: Global, number: u32) -> Result<Vec<Step>, AllocError> {
+    let mut steps = Vec::new(alloc);
+    let mut digits = number;
+    for (first, second) in PAIRS {
+        let (earlier, later) = if digits % 2 == 0 {
+            (*first, *second)
+        } else {
+            (*second, *first)
+        };
+        steps.push(earlier)?;
+        steps.push(later)?;
+        digits /= 2;
+    }
+    steps.push(Step::Finish)?;
+    Ok(steps)
+}
 
 /// Days and plans that end alike in each of these orders, and what is told of them.
 const ALIKE: &[(Texts<'static>, &[u8], &str)] = &[
@@ -354,10 +334,11 @@ fn events_come_in_turn(rt: HostRuntime) -> Result<(), Fail> {
 
 #[test]
 fn events_of_one_minute_come_in_any_order(rt: HostRuntime) -> Result<(), Fail> {
-    for (texts, plan, wanted) in ALIKE {
-        for steps in ORDERS {
-            let text = told(rt.alloc(), texts, *plan, *steps)?;
-            assert!(rt; text.as_str() == *wanted, "{text}");
+    for number in 0..16 {
+        let steps = order_of(rt.alloc(), number)?;
+        for (texts, plan, wanted) in ALIKE {
+            let text = told(rt.alloc(), texts, *plan, steps.as_slice())?;
+            assert!(rt; text.as_str() == *wanted, "order {number}: {text}");
         }
     }
     Ok(())

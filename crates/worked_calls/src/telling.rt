@@ -1,21 +1,49 @@
 //! What the calls of `Instance` tell of a day, as a text.
 
+ghost use Rattle.std.specs.Prelude.{IfOk};
+ghost use Rattle.rail_csv.specs.Rows.{AreStationRows, AreStockRows, AreTypeRows};
+
 use rail_base::{CompNo, LinkNo, StationNo, TripNo, TypeNo, UnitNo};
-use rail_csv::{links, stations, stock, trips, types, weights};
+use rail_csv::{StationRow, StockRow, TypeRow, links, stations, stock, trips, types, weights};
 use sample_days::{Texts, table};
 use std::alloc::{AllocError, Global};
 use std::test::Fail;
 use timetable::{Instance, Rows, Tables};
 
-/// What is told of the day of these tables, or why they make none.
-pub(crate) fn told(alloc: Global, texts: &Texts<'_>) -> Result<String, Fail> {
-    let tables = Tables {
+/// The rows of types, stations and stock.
+#[derive(Drop)]
+struct UnitRows {
+    types: Rows<TypeRow>,
+    stations: Rows<StationRow>,
+    stock: Rows<StockRow>,
+}
+
+/// These rows of some tables.
+fn unit_rows(alloc: Global, texts: &Texts<'_>) -> Result<UnitRows, Fail>
+    ensures types { IfOk result (λ rows. AreTypeRows rows.types) }
+    ensures stations { IfOk result (λ rows. AreStationRows rows.stations) }
+    ensures stock { IfOk result (λ rows. AreStockRows rows.stock) }
+{
+    Ok(UnitRows {
         types: Rows::of(types(alloc, table(texts.types)?)?),
         stations: Rows::of(stations(alloc, table(texts.stations)?)?),
         stock: Rows::of(stock(alloc, table(texts.stock)?)?),
-        trips: Rows::of(trips(alloc, table(texts.trips)?)?),
-        links: Rows::of(links(alloc, table(texts.links)?)?),
-        weights: weights(alloc, b"carriage,shortage,shunting\n1,1,100\n")?,
+    })
+}
+
+/// What is told of the day of these tables, or why they make none.
+pub(crate) fn told(alloc: Global, texts: &Texts<'_>) -> Result<String, Fail> {
+    let weights = weights(alloc, b"carriage,shortage,shunting\n1,1,100\n")?;
+    let units = unit_rows(alloc, texts)?;
+    let trips = Rows::of(trips(alloc, table(texts.trips)?)?);
+    let links = Rows::of(links(alloc, table(texts.links)?)?);
+    let tables = Tables {
+        types: units.types,
+        stations: units.stations,
+        stock: units.stock,
+        trips,
+        links,
+        weights,
     };
     match Instance::build(alloc, tables) {
         Ok(day) => Ok(told_of(alloc, &day)?),

@@ -5,7 +5,8 @@ use crate::day::{
     Day, Ending, base_day, ending_of, folder_of, one_stays, ring, run_surely, sure_folder_of,
     two_trips, words_of,
 };
-use crate::report_tests::{COSTS, DUTIES, ONE_RETURNS, YARDS};
+use crate::report_tests::{COSTS, DUTIES, FIRST_BOUND, ONE_RETURNS, WRONG_BOUND, YARDS};
+use crate::simulate_tests::USAGE;
 use rail_base::NoMemory;
 use rail_io::{MemorySink, SureSink};
 use std::alloc::Global;
@@ -131,6 +132,32 @@ fn costs() -> Case<'static> {
     }
 }
 
+/// A check of an answer in which a bound is wrong.
+fn invalid() -> Case<'static> {
+    Case {
+        day: Day {
+            answer: Some(WRONG_BOUND),
+            ..one_stays()
+        },
+        status: 1,
+        document: "invalid: node 0 says 191, found 190\n",
+        ..checked()
+    }
+}
+
+/// The report of the cost of an answer that has no plan.
+fn without_plan() -> Case<'static> {
+    Case {
+        day: Day {
+            answer: Some(FIRST_BOUND),
+            ..one_stays()
+        },
+        status: 1,
+        document: "no plan\n",
+        ..costs()
+    }
+}
+
 /// A trial day that is planned. It reads no file.
 fn tried() -> Case<'static> {
     Case {
@@ -140,6 +167,16 @@ fn tried() -> Case<'static> {
         reads: 0,
         status: 0,
         document: "trial 7 2\noptimal 640\n",
+    }
+}
+
+/// Words that are not understood.
+fn misunderstood() -> Case<'static> {
+    Case {
+        words: &["railplan", "help"],
+        status: 2,
+        document: USAGE,
+        ..tried()
     }
 }
 
@@ -274,9 +311,22 @@ fn each_write_of_a_plan_and_of_a_trial_fails_in_turn(rt: HostRuntime) -> Result<
 
 #[test]
 fn each_write_of_a_check_and_of_a_report_fails_in_turn(rt: HostRuntime) -> Result<(), Fail> {
-    for case in [checked(), duties(), yards(), costs()] {
+    for case in [
+        checked(),
+        duties(),
+        yards(),
+        costs(),
+        invalid(),
+        without_plan(),
+    ] {
         expect_writes_cut(&rt, rt.alloc(), &case)?;
     }
+    Ok(())
+}
+
+#[test]
+fn each_write_of_the_usage_fails_in_turn(rt: HostRuntime) -> Result<(), Fail> {
+    expect_writes_cut(&rt, rt.alloc(), &misunderstood())?;
     Ok(())
 }
 

@@ -10,7 +10,11 @@ use std::test::Fail;
 pub(crate) const ONE_RETURNS: &str =
     "railplan answer 1\noptimal 190\nbranchings 0\nrun 0 0 1\nrun 1 1\ntree\ncost 190 2 2:-45 3:45\nend\n";
 
-const FIRST_BOUND: &str = "railplan answer 1\nbounded 120\nbranchings 0\ntree\ncost 120 0\nend\n";
+pub(crate) const FIRST_BOUND: &str =
+    "railplan answer 1\nbounded 120\nbranchings 0\ntree\ncost 120 0\nend\n";
+
+pub(crate) const WRONG_BOUND: &str =
+    "railplan answer 1\noptimal 190\nbranchings 0\nrun 0 0 1\nrun 1 1\ntree\ncost 191 2 2:-45 3:45\nend\n";
 
 pub(crate) const DUTIES: &str =
     "unit,type,home,trip,from,departure,to,arrival,position\n0,A,X,T1,X,08:00,Y,09:00,0\n\
@@ -49,13 +53,11 @@ fn valid_answers_are_reported(rt: HostRuntime) -> Result<(), Fail> {
         expect_report(&rt, alloc, command, ONE_RETURNS, 0, table)?;
         expect_report(&rt, alloc, command, FIRST_BOUND, 1, "no plan\n")?;
     }
-    let wrong =
-        "railplan answer 1\noptimal 190\nbranchings 0\nrun 0 0 1\nrun 1 1\ntree\ncost 191 2 2:-45 3:45\nend\n";
     expect_report(
         &rt,
         alloc,
         "yards",
-        wrong,
+        WRONG_BOUND,
         1,
         "invalid: node 0 says 191, found 190\n",
     )?;

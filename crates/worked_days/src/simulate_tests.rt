@@ -204,7 +204,7 @@ fn a_sink_that_fails_keeps_a_front(rt: HostRuntime) -> Result<(), Fail> {
     Ok(())
 }
 
-const USAGE: &str = "usage: railplan plan DIR [--nodes N] [--rounds K]
+pub(crate) const USAGE: &str = "usage: railplan plan DIR [--nodes N] [--rounds K]
        railplan simulate DIR
        railplan check DIR
        railplan duties DIR
