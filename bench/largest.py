@@ -16,17 +16,32 @@ TRIPS = 400
 MOST_TABLE_BYTES = 4_194_304
 MOST_ANSWER_BYTES = 134_217_728
 MOST_BRANCHINGS = 4_000
+MOST_SECONDS = 600
 TABLES = ("types", "stations", "stock", "trips", "links", "weights")
 
 
-def write_wide_day(folder):
-    """400 trips in pairs, 1,000 compositions, 2,000 units, and a turn for each pair at which units are exchanged."""
+def pairs():
+    """400 trips in pairs, and a turn for each pair at which units are exchanged."""
     rows, links = [], []
     for pair in range(TRIPS // 2):
         out = 300 + 5 * pair
         rows.append(f"F{pair},X,{clock(out)},Y,{clock(out + 50)},40,{100 + pair}")
         rows.append(f"R{pair},Y,{clock(out + 60)},X,{clock(out + 110)},40,{300 - pair}")
         links.append(f"turn,F{pair},,R{pair},,yes,front,rear,yes")
+    return rows, links
+
+
+def chain():
+    """400 trips in one chain, to and fro, and a turn from each to the next at which units are exchanged."""
+    rows = []
+    for trip in range(TRIPS):
+        origin, end = "YX" if trip % 2 else "XY"
+        rows.append(f"T{trip},{origin},{clock(7 * trip)},{end},{clock(7 * trip + 5)},40,{100 + trip % 200}")
+    return rows, [f"turn,T{trip},,T{trip + 1},,yes,front,rear,yes" for trip in range(TRIPS - 1)]
+
+
+def write_wide_day(folder, rows, links):
+    """A day of these trips and turns, with 1,000 compositions and 2,000 units."""
     metres, counts = (71, 74, 79, 70, 99, 56), (400, 400, 400, 300, 300, 200)
     types = [f"{name},1,{60 + 7 * at},{metres[at]},regional" for at, name in enumerate("ABCDEF")]
     write_tables(folder, {
@@ -106,6 +121,15 @@ def try_tables(program):
                 say(f"`simulate`, {table}.csv of {told}", [program, "simulate", folder])
 
 
+def try_wide_days(program):
+    """Plans of days with 1,000 compositions and exchange turns, without branchings."""
+    for (rows, links), told in ((pairs(), "exchange turns"), (chain(), "one chain of exchange turns")):
+        with tempfile.TemporaryDirectory() as folder:
+            write_wide_day(folder, rows, links)
+            words = ["timeout", str(MOST_SECONDS), program, "plan", folder, "--nodes", "0", "--rounds", "0"]
+            say(f"`plan` without branchings, 1,000 compositions and {told}", words)
+
+
 def try_answers(program):
     """The longest answer that can be read whole, one as long as a file may be, and one byte longer."""
     with tempfile.TemporaryDirectory() as folder:
@@ -131,10 +155,7 @@ def main():
     print("| Run | Status | Line | Time | Memory |")
     print("|---|---|---|---|---|")
     try_tables(program)
-    with tempfile.TemporaryDirectory() as folder:
-        write_wide_day(folder)
-        words = [program, "plan", folder, "--nodes", "0", "--rounds", "0"]
-        say("`plan` without branchings, 1,000 compositions and exchange turns", words)
+    try_wide_days(program)
     try_answers(program)
     try_trees(program)
 
