@@ -132,6 +132,34 @@ const CUTS: &[Call] = &[
     },
 ];
 
+/// Proposes a cut alone, and has enough of the node.
+const CUT_AND_ENOUGH: &[Call] = &[Call {
+    cut: CutNumbers::Only(1, 0),
+    word: Word::Enough,
+    ..SILENT
+}];
+
+/// Proposes three multipliers, under which (A, A) has 1125, and both (AA, A) and (AA, AA) have 190.
+const THREE: &[Call] = &[Call {
+    puts: &[(0, 5), (2, -20), (3, 50)],
+    ..SILENT
+}];
+
+/// The first of two advisors that are both asked in two rounds, which proposes multipliers in the second one.
+const FIRST_IN_EACH_ROUND: &[Call] = &[SILENT, RAISES];
+
+/// The second one, which is shown in the second round what they gave.
+const SECOND_IN_EACH_ROUND: &[Call] = &[
+    Call {
+        shown: ROOT,
+        ..SILENT
+    },
+    Call {
+        shown: RAISED_BEFORE,
+        ..SILENT
+    },
+];
+
 /// Closes the node at its first call.
 const CLOSING: &[Call] = &[CLOSES];
 
@@ -253,6 +281,30 @@ const ADVISED: &[Search] = &[
         rounds: 1,
         scripts: &[CUTS],
         told: "optimal 190 by 1 0; only 1 0; cost 190; ray 2:-1; asked 1",
+    },
+    Search {
+        about: "a cut that comes with enough is taken",
+        texts: ONE_LEFT,
+        grant: 1,
+        rounds: 3,
+        scripts: &[CUT_AND_ENOUGH],
+        told: "optimal 190 by 1 0; only 1 0; cost 190; ray 2:-1; asked 1",
+    },
+    Search {
+        about: "three multipliers are taken together",
+        texts: ONE_LEFT,
+        grant: 0,
+        rounds: 1,
+        scripts: &[THREE],
+        told: "optimal 190 by 1 0; cost 190 0:5 2:-20 3:50; asked 1",
+    },
+    Search {
+        about: "two advisors are asked in turn in each round",
+        texts: ONE_LEFT,
+        grant: 0,
+        rounds: 2,
+        scripts: &[FIRST_IN_EACH_ROUND, SECOND_IN_EACH_ROUND],
+        told: "bounded 150; cost 150 3:30; asked 2; asked 2",
     },
     Search {
         about: "a later cut is taken in its place",
