@@ -21,7 +21,7 @@ pub enum Word {
 }
 
 /// What an advisor is shown of a node: how far its region is divided, and what its evaluations gave.
-#[derive(Debug, Drop)]
+#[derive(Drop)]
 pub struct Look<'a> {
     /// How many rounds of advice this node had before.
     pub round: u8,

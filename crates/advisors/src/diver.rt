@@ -14,7 +14,7 @@ use timetable::Picks;
 
 /// Proposes no multipliers, and the cut that leaves one trip its composition in the last picks alone: the trip with
 /// the fewest compositions left, of those with more than one. A contract sees how often it was asked.
-#[derive(Debug, Drop)]
+#[derive(Drop)]
 pub struct Diver {
     asked: u64,
 }

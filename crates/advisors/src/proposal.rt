@@ -12,7 +12,7 @@ use std::marker::Model;
 
 /// Multipliers that fit a problem's indices, and at most one cut. A contract sees these, how many indices there are,
 /// and the index from which on a multiplier may be negative.
-#[derive(Debug, Drop)]
+#[derive(Drop)]
 pub struct Proposal {
     indices: u32,
     free_from: u32,

@@ -14,7 +14,7 @@ use std::marker::Model;
 
 /// Proposes the last multipliers, raised at each index with a positive slack and lowered at each with a negative one,
 /// by a step that never grows from round to round, and no cut. A contract sees how often it was asked.
-#[derive(Debug, Drop)]
+#[derive(Drop)]
 pub struct Subgradient {
     asked: u64,
 }

@@ -24,7 +24,7 @@ use timetable::{Instance, Picks};
 use transitions::Graphs;
 
 /// What a check finds of an answer.
-#[derive(Clone, Copy, Debug, PartialEq, Eq)]
+#[derive(Clone, Copy, PartialEq, Eq)]
 pub enum AnswerVerdict {
     /// Its plan, where it has one, runs and costs what it says, and its tree proves what it says of every plan of the
     /// day.

@@ -9,7 +9,7 @@ use rail_csv::UnitList;
 use std::marker::Model;
 
 /// What an answer says of the plans of a day.
-#[derive(Clone, Copy, Debug, PartialEq, Eq)]
+#[derive(Clone, Copy)]
 pub enum Head {
     /// The runs are a plan of this cost, and no plan that runs costs less.
     Optimal {
@@ -45,7 +45,7 @@ impl Head {
 }
 
 /// Which units run on each trip, in the order of the trips. A contract sees the list of the trips' lists of units.
-#[derive(Debug, Drop)]
+#[derive(Drop)]
 pub struct Runs {
     runs: Vec<UnitList>,
 }
@@ -75,7 +75,7 @@ impl Runs {
 }
 
 /// An answer: what it says of a day, and what proves it.
-#[derive(Debug, Drop)]
+#[derive(Drop)]
 pub struct Answer {
     /// What it says.
     pub head: Head,

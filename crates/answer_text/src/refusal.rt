@@ -5,16 +5,16 @@ use std::alloc::{AllocError, AllocFailed};
 use thiserror::Error;
 
 /// Why a text is not read as an answer: the first wrong line. Lines are counted from 1, each with its line feed.
-#[derive(Clone, Copy, Debug, PartialEq, Eq, Error)]
+#[derive(Clone, Copy, Debug, Error)]
 pub enum AnswerRefusal {
     /// The line of this number does not fit its place, or has no line feed.
-    #[error("line {0}")]
+    #[error("a line is wrong")]
     BadLine(u32),
     /// All lines are right, and the text ends before the line `end`.
     #[error("no end line")]
     MissingEnd,
     /// A byte follows the line `end`; the line of this number is the one after it.
-    #[error("line {0} after the end")]
+    #[error("a line after the end")]
     Trailing(u32),
     /// The lines before are right, 8,001 of them are nodes, and this one is a node too.
     #[error("too many nodes")]

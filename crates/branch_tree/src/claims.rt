@@ -5,7 +5,7 @@ use rail_base::Money;
 use timetable::Picks;
 
 /// What a claim says of the solutions in a region.
-#[derive(Debug, Drop)]
+#[derive(Drop)]
 pub enum ClaimHead<'a> {
     /// These picks are a solution of this cost, and no solution costs less.
     Optimal {
@@ -33,7 +33,7 @@ pub enum ClaimHead<'a> {
 }
 
 /// A claim and its tree.
-#[derive(Debug, Drop)]
+#[derive(Drop)]
 pub struct Claim<'a> {
     /// What is said.
     pub head: ClaimHead<'a>,

@@ -10,7 +10,7 @@ use compositions::Catalogue;
 use rail_base::{CompNo, TripNo, TypeNo};
 
 /// What divides the compositions of one trip.
-#[derive(Clone, Copy, Debug, PartialEq, Eq)]
+#[derive(Clone, Copy, Debug)]
 pub enum Cut {
     /// Met by this composition alone.
     Only {
@@ -31,7 +31,7 @@ pub enum Cut {
 }
 
 /// A side of a cut.
-#[derive(Clone, Copy, Debug, PartialEq, Eq)]
+#[derive(Clone, Copy)]
 pub enum Side {
     /// The compositions that meet the cut.
     Left,
@@ -40,7 +40,7 @@ pub enum Side {
 }
 
 /// What one trip's set was before a cut.
-#[derive(Debug, Drop)]
+#[derive(Drop)]
 pub struct Mark {
     /// The trip whose set was cut.
     pub trip: TripNo,

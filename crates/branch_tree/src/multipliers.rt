@@ -14,7 +14,7 @@ use std::marker::Model;
 use thiserror::Error;
 
 /// A value at an index: a multiplier, or a slack.
-#[derive(Clone, Copy, Debug, PartialEq, Eq)]
+#[derive(Clone, Copy)]
 pub struct Entry {
     /// The index.
     pub index: u32,
@@ -41,7 +41,7 @@ pub enum PutRefusal {
 
 /// Values by index, with rising indices: none is 0, none is over 10^12 in size, and there are at most 1,000. A contract
 /// sees the list of the entries.
-#[derive(Debug, Drop)]
+#[derive(Drop)]
 pub struct Multipliers {
     entries: Vec<Entry>,
 }

@@ -17,7 +17,7 @@ use std::marker::Model;
 use timetable::{Instance, Picks};
 
 /// For each trip the compositions that it may have. A contract sees a list of sets, one for each trip.
-#[derive(Debug, Drop)]
+#[derive(Drop)]
 pub struct Region {
     sets: Vec<CompositionSet>,
 }

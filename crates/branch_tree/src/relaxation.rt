@@ -12,7 +12,7 @@ use rail_base::Money;
 use timetable::Picks;
 
 /// What is priced besides the slacks.
-#[derive(Clone, Copy, Debug, PartialEq, Eq)]
+#[derive(Clone, Copy)]
 pub enum Weight {
     /// The cost of the picks.
     Cost,
@@ -21,7 +21,7 @@ pub enum Weight {
 }
 
 /// The least priced value over the picks near a region.
-#[derive(Clone, Copy, Debug, PartialEq, Eq)]
+#[derive(Clone, Copy, Debug)]
 pub enum BoundAnswer {
     /// No picks are near the region.
     Empty,
@@ -30,7 +30,7 @@ pub enum BoundAnswer {
 }
 
 /// Whether picks that follow are a solution.
-#[derive(Clone, Copy, Debug, PartialEq, Eq)]
+#[derive(Clone, Copy, Debug)]
 pub enum Settled {
     /// They are a solution of this cost.
     Costs(Money),

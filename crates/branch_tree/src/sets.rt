@@ -15,7 +15,7 @@ const WORDS: usize = 16;
 
 /// A set of compositions of a catalogue. A contract sees the list that says for each number of a composition whether it
 /// is a member.
-#[derive(Debug, Drop)]
+#[derive(Drop)]
 pub struct CompositionSet {
     words: [u64; WORDS],
 }

@@ -10,7 +10,7 @@ use std::alloc::Global;
 use std::marker::Model;
 
 /// Slacks by rising index, none of them 0, at most 4,000. A contract sees the list of the entries.
-#[derive(Debug, Drop)]
+#[derive(Drop)]
 pub struct Slacks {
     entries: Vec<Entry>,
 }

@@ -12,7 +12,7 @@ use std::alloc::Global;
 use std::marker::Model;
 
 /// A node of a tree over a region.
-#[derive(Debug, Drop)]
+#[derive(Drop)]
 pub enum Node {
     /// The region is divided; the left subtree comes next, and then the right one.
     Branch(Cut),
@@ -57,7 +57,7 @@ impl Node {
 }
 
 /// At most 8,001 nodes in preorder. A contract sees the list of them.
-#[derive(Debug, Drop)]
+#[derive(Drop)]
 pub struct Tree {
     nodes: Vec<Node>,
 }

@@ -20,7 +20,7 @@ use std::marker::Model;
 use timetable::Picks;
 
 /// The room in which claims are checked: for trees of at most so many nodes, and problems of so many trips.
-#[derive(Debug, Drop)]
+#[derive(Drop)]
 pub struct Checker {
     nodes: u32,
     taken: Vec<Taken>,

@@ -10,7 +10,7 @@ use branch_tree::{Cut, Mark, Region, Side};
 use compositions::Catalogue;
 
 /// A side of a cut that was taken.
-#[derive(Debug, Drop)]
+#[derive(Drop)]
 pub struct Taken {
     /// The cut.
     pub cut: Cut,

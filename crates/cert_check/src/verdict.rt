@@ -3,7 +3,7 @@
 use rail_base::{Money, NodeNo};
 
 /// Why a claim is not proved by its tree.
-#[derive(Clone, Copy, Debug, PartialEq, Eq)]
+#[derive(Clone, Copy, PartialEq, Eq)]
 pub enum Reason {
     /// The nodes are not one whole tree in preorder. The node is the first after a whole tree, or their number where
     /// there are too few.
@@ -67,7 +67,7 @@ pub enum Reason {
 }
 
 /// What a check says of a claim.
-#[derive(Clone, Copy, Debug, PartialEq, Eq)]
+#[derive(Clone, Copy)]
 pub enum Verdict {
     /// The claim's tree proves it.
     Valid,

@@ -1,7 +1,7 @@
 //! What stands after a command word.
 
 /// An option of a command line, which has one value.
-#[derive(Clone, Copy, Debug, PartialEq, Eq)]
+#[derive(Clone, Copy)]
 pub enum Choice {
     /// `--nodes`: the branchings that are granted.
     Nodes,
@@ -10,7 +10,7 @@ pub enum Choice {
 }
 
 /// What a command has after its command word.
-#[derive(Clone, Copy, Debug, PartialEq, Eq)]
+#[derive(Clone, Copy)]
 pub enum Form {
     /// `DIR`.
     Folder,
@@ -21,7 +21,7 @@ pub enum Form {
 }
 
 /// What a word is, where no option waits for its value.
-#[derive(Clone, Copy, Debug, PartialEq, Eq)]
+#[derive(Clone, Copy)]
 pub enum Kind {
     /// A word that is not empty and doesn't begin with `-`.
     Plain,

@@ -14,7 +14,7 @@ use rail_base::{NoMemory, Words};
 use std::alloc::Global;
 
 /// The texts of a command line: positional words, and the values of options.
-#[derive(Clone, Copy, Debug)]
+#[derive(Clone, Copy)]
 pub struct Taken<'a> {
     /// The first positional word: a folder, or what a day is made from.
     pub first: Option<&'a str>,

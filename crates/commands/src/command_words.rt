@@ -18,7 +18,7 @@ use std::alloc::Global;
 use thiserror::Error;
 
 /// Why words make no command.
-#[derive(Clone, Copy, Debug, PartialEq, Eq, Error)]
+#[derive(Clone, Copy, Debug, Error)]
 pub enum WordsRefusal {
     /// The words are not of the form that the program understands.
     #[error("not understood")]

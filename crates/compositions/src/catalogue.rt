@@ -28,7 +28,7 @@ pub enum CatalogueRefusal {
 
 /// All compositions of one family that fit in so many metres, at most 1,000, by number of units and then by type
 /// numbers from the front. A contract sees the list of them.
-#[derive(Debug, Drop)]
+#[derive(Drop)]
 pub struct Catalogue {
     compositions: Vec<Composition>,
 }

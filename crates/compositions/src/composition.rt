@@ -18,7 +18,7 @@ use std::marker::Model;
 
 /// The types of a train's 1 to 6 units, front to rear in its driving direction. A contract sees the list of the type
 /// numbers.
-#[derive(Debug, Drop)]
+#[derive(Drop)]
 pub struct Composition {
     units: ArrayVec<TypeNo, MOST_COMPOSITION>,
 }

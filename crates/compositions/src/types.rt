@@ -9,7 +9,7 @@ use rail_base::{Name, TypeNo};
 use std::marker::Model;
 
 /// A type of train units.
-#[derive(Debug, Drop)]
+#[derive(Drop)]
 pub struct UnitType {
     /// The name of the type.
     pub name: Name,
@@ -26,7 +26,7 @@ pub struct UnitType {
 }
 
 /// The unit types of a day, at most six. A contract sees the list of them.
-#[derive(Debug, Drop)]
+#[derive(Drop)]
 pub struct UnitTypes {
     types: Vec<UnitType>,
 }

@@ -20,7 +20,7 @@ pub const MOST_DAY_COST: u64 = MOST_TRIP_COST * MOST_TRIPS as u64
     + MOST_LINK_COST * MOST_LINKS as u64;
 
 /// The three parts that add up to the cost of picks. None is negative.
-#[derive(Clone, Copy, Debug, PartialEq, Eq)]
+#[derive(Clone, Copy)]
 pub struct CostParts {
     /// The carriages of all trips, each for the kilometres of its trip, at the weight of a carriage.
     pub carriage: Money,

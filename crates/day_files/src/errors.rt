@@ -11,30 +11,30 @@ use thiserror::Error;
 use timetable::{InstanceRefusal, PlanRefusal};
 
 /// Why a file is refused.
-#[derive(Clone, Copy, Debug, PartialEq, Eq, Error)]
+#[derive(Clone, Copy, Debug, Error)]
 pub enum Refusal {
     /// The file of this table is longer than a table may be.
     #[error("too long")]
     TooLong(Table),
     /// The file of this table is no such table.
-    #[error("{1}")]
+    #[error("the file is no such table")]
     WrongTable(Table, TableRefusal),
     /// The tables make no day.
-    #[error("{0}")]
+    #[error("the tables make no day")]
     NoDay(InstanceRefusal),
     /// The rows of the plan make no plan of the day.
-    #[error("{0}")]
+    #[error("the rows make no plan")]
     NoPlan(PlanRefusal),
 }
 
 /// Why a folder gives no day and no plan of it.
-#[derive(Clone, Copy, Debug, PartialEq, Eq, Error)]
+#[derive(Clone, Copy, Debug, Error)]
 pub enum ReadError {
     /// The file of this table could not be read.
     #[error("a file cannot be read")]
     CannotRead(Table),
     /// A file is refused.
-    #[error("{0}")]
+    #[error("a file is refused")]
     Refused(Refusal),
     /// Want of memory.
     #[error("out of memory")]

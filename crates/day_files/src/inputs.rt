@@ -21,7 +21,7 @@ use std::alloc::Global;
 use timetable::{Instance, InstanceRefusal, NamedPlan, PlanRefusal, Rows, Tables};
 
 /// A day and a plan of it.
-#[derive(Debug, Drop)]
+#[derive(Drop)]
 pub struct Inputs {
     /// The day.
     pub instance: Instance,

@@ -13,7 +13,7 @@ pub enum DayEvent {
 }
 
 /// Where a unit is.
-#[derive(Clone, Copy, Debug, PartialEq, Eq)]
+#[derive(Clone, Copy)]
 pub enum Place {
     /// In the yard of a station, ready from a minute on.
     Yard { station: StationNo, ready: u32 },
@@ -24,7 +24,7 @@ pub enum Place {
 }
 
 /// What has become of a trip.
-#[derive(Clone, Copy, Debug, PartialEq, Eq)]
+#[derive(Clone, Copy)]
 pub enum Stage {
     /// It has not left.
     Waiting,
@@ -41,22 +41,22 @@ pub enum StepFault {
     #[error("event out of turn")]
     NotNow(DayEvent),
     /// The trip has no units.
-    #[error("trip {} has no units", .0.0)]
+    #[error("a trip has no units")]
     NoUnits(TripNo),
     /// The trip's units are no composition that may run on it.
-    #[error("trip {} has no admissible composition", .0.0)]
+    #[error("a trip has no admissible composition")]
     NotAdmissible(TripNo),
     /// The link's rule is broken.
-    #[error("link {} is broken", .0.0)]
+    #[error("a link is broken")]
     LinkBroken(LinkNo),
     /// The unit is not in the yard and ready when the trip takes it.
-    #[error("unit {} is not ready for its trip", .unit.0)]
+    #[error("a unit is not ready for its trip")]
     NotInYard {
         unit: UnitNo,
         trip: TripNo,
     },
     /// A station has another number of units of a type at the end than is wanted.
-    #[error("station {} has another number of units of a type than is wanted", .station.0)]
+    #[error("a station has another number of units of a type than is wanted")]
     Balance {
         station: StationNo,
         unit_type: TypeNo,

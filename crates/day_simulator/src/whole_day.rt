@@ -18,17 +18,17 @@ use thiserror::Error;
 use timetable::{Instance, NamedPlan};
 
 /// What a day that went through to its end tells.
-#[derive(Clone, Copy, Debug, PartialEq, Eq)]
+#[derive(Clone, Copy)]
 pub struct Ran {
     /// What the plan costs.
     pub cost: Money,
 }
 
 /// Why a day did not go through.
-#[derive(Clone, Copy, Debug, PartialEq, Eq, Error)]
+#[derive(Clone, Copy, Debug, Error)]
 pub enum SimulateRefusal {
     /// The plan stops: the first fault in the fixed order.
-    #[error("stops: {0}")]
+    #[error("the day stops")]
     Stops(StepFault),
     /// Want of memory.
     #[error("out of memory")]

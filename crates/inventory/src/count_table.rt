@@ -21,7 +21,7 @@ use std::marker::Model;
 use timetable::{Instance, Picks};
 
 /// The counts of one type at one station. A contract sees the list of them.
-#[derive(Debug, Drop)]
+#[derive(Drop)]
 pub struct TypeCounts {
     counts: Vec<i64>,
 }
@@ -35,7 +35,7 @@ impl Model for TypeCounts {
 }
 
 /// The counts of one station, by type. A contract sees the list of their lists.
-#[derive(Debug, Drop)]
+#[derive(Drop)]
 pub struct StationCounts {
     types: Vec<TypeCounts>,
 }
@@ -52,7 +52,7 @@ impl Model for StationCounts {
 }
 
 /// The counts of all stations. A contract sees a list for each.
-#[derive(Debug, Drop)]
+#[derive(Drop)]
 pub struct CountTable {
     stations: Vec<StationCounts>,
 }

@@ -18,7 +18,7 @@ use timetable::{Instance, Picks};
 /// The counts of the yards of a day, for the compositions that were loaded: for each station and type, how many units
 /// stand there after each departure minute of the station, and at the end of the day. A contract sees the day, and the
 /// types of the compositions, trip by trip. Before a load these are none, so that nothing is taken or given.
-#[derive(Debug, Drop)]
+#[derive(Drop)]
 pub struct Ledger<'a> {
     instance: &'a Instance,
     is_loaded: bool,

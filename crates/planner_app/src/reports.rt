@@ -21,7 +21,7 @@ use std::alloc::Global;
 use timetable::{Instance, NamedPlan};
 
 /// What a report tells of a plan.
-#[derive(Clone, Copy, Debug, PartialEq, Eq)]
+#[derive(Clone, Copy)]
 pub enum Report {
     /// The trips of each unit.
     Duties,

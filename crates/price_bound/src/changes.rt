@@ -10,7 +10,7 @@ use rail_base::{CompNo, Money, TripNo};
 use timetable::Picks;
 
 /// What a trip costs more with another composition than its base.
-#[derive(Clone, Copy, Debug, PartialEq, Eq)]
+#[derive(Clone, Copy)]
 pub struct Change {
     /// The trip.
     pub trip: TripNo,

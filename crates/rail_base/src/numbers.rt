@@ -5,7 +5,7 @@ ghost use Rattle.std.specs.Prelude.{◌≡◌, ℕ, ◌<◌, ◌^◌};
 use std::marker::Model;
 
 /// The number of a station, counted from 0 in the order of the stations table.
-#[derive(Clone, Copy, Debug, Default, PartialEq, Eq, Hash, PartialOrd, Ord)]
+#[derive(Clone, Copy, Debug, PartialEq, Eq, PartialOrd, Ord)]
 pub struct StationNo(pub u32);
 
 impl Model for StationNo {
@@ -27,7 +27,7 @@ impl StationNo {
 }
 
 /// The number of a unit type, counted from 0 in the order of the types table.
-#[derive(Clone, Copy, Debug, Default, PartialEq, Eq, Hash, PartialOrd, Ord)]
+#[derive(Clone, Copy, Debug, Default, PartialEq, Eq, PartialOrd, Ord)]
 pub struct TypeNo(pub u32);
 
 impl Model for TypeNo {
@@ -49,7 +49,7 @@ impl TypeNo {
 }
 
 /// The number of a trip, counted from 0 in the order of the trips table.
-#[derive(Clone, Copy, Debug, Default, PartialEq, Eq, Hash, PartialOrd, Ord)]
+#[derive(Clone, Copy, Debug, PartialEq, Eq)]
 pub struct TripNo(pub u32);
 
 impl Model for TripNo {
@@ -71,7 +71,7 @@ impl TripNo {
 }
 
 /// The number of a link, counted from 0 in the order of the links table.
-#[derive(Clone, Copy, Debug, Default, PartialEq, Eq, Hash, PartialOrd, Ord)]
+#[derive(Clone, Copy, Debug, PartialEq, Eq)]
 pub struct LinkNo(pub u32);
 
 impl Model for LinkNo {
@@ -93,7 +93,7 @@ impl LinkNo {
 }
 
 /// The number of a train unit, counted from 0 by stock row and then within the row.
-#[derive(Clone, Copy, Debug, Default, PartialEq, Eq, Hash, PartialOrd, Ord)]
+#[derive(Clone, Copy, Debug, Default, PartialEq, Eq, PartialOrd, Ord)]
 pub struct UnitNo(pub u32);
 
 impl Model for UnitNo {
@@ -115,7 +115,7 @@ impl UnitNo {
 }
 
 /// The number of a composition in the catalogue, counted from 0.
-#[derive(Clone, Copy, Debug, Default, PartialEq, Eq, Hash, PartialOrd, Ord)]
+#[derive(Clone, Copy, Debug, PartialEq, Eq, PartialOrd, Ord)]
 pub struct CompNo(pub u32);
 
 impl Model for CompNo {
@@ -137,7 +137,7 @@ impl CompNo {
 }
 
 /// The number of a node of a search tree, counted from 0 in preorder.
-#[derive(Clone, Copy, Debug, Default, PartialEq, Eq, Hash, PartialOrd, Ord)]
+#[derive(Clone, Copy, Debug, PartialEq, Eq)]
 pub struct NodeNo(pub u32);
 
 impl Model for NodeNo {
@@ -160,7 +160,7 @@ impl NodeNo {
 
 /// A minute, counted from 0 at the first midnight: a time of a timetable is below 2880, of the planned day or the day
 /// after it, and the minute from which a unit may be taken again can be later.
-#[derive(Clone, Copy, Debug, Default, PartialEq, Eq, Hash, PartialOrd, Ord)]
+#[derive(Clone, Copy, Debug, PartialEq, Eq, PartialOrd, Ord)]
 pub struct Minute(pub u16);
 
 impl Model for Minute {
@@ -183,5 +183,5 @@ impl Minute {
 
 /// An amount of cost, in the unit of the weights table: one carriage kilometre at weight 1. It may be negative, as a
 /// bound may be.
-#[derive(Clone, Copy, Debug, PartialEq, Eq, Hash, PartialOrd, Ord)]
+#[derive(Clone, Copy, Debug, PartialEq, Eq, PartialOrd, Ord)]
 pub struct Money(pub i128);

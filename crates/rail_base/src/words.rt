@@ -9,7 +9,7 @@ use std::marker::Model;
 
 /// The words of a command line, the program's name first. A contract sees the list of their texts, each the list of
 /// its UTF-8 bytes.
-#[derive(Debug, Drop)]
+#[derive(Drop)]
 pub struct Words {
     alloc: Global,
     words: Vec<String>,

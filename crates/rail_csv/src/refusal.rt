@@ -6,16 +6,16 @@ use thiserror::Error;
 
 /// Why a table is refused: the first thing wrong in it. Rows are counted from 1, and row 1 is the record after the
 /// header; columns are counted from 0.
-#[derive(Clone, Copy, Debug, PartialEq, Eq, Error)]
+#[derive(Clone, Copy, Debug, Error)]
 pub enum TableRefusal {
     /// A field of this row is not UTF-8.
-    #[error("row {0} is not UTF-8")]
+    #[error("a field is not UTF-8")]
     NotUtf8(u32),
     /// The first record is absent, or its fields are the columns of no version of the table.
     #[error("wrong header")]
     WrongHeader,
     /// The row has another number of fields than the table's version has columns.
-    #[error("row {row} has {found} fields")]
+    #[error("another number of fields")]
     FieldCount {
         /// The row.
         row: u32,
@@ -23,7 +23,7 @@ pub enum TableRefusal {
         found: u32,
     },
     /// A number is wanted, which is 1 to 9 digits.
-    #[error("row {row}, column {column}: not a number")]
+    #[error("not a number")]
     BadNumber {
         /// The row.
         row: u32,
@@ -31,7 +31,7 @@ pub enum TableRefusal {
         column: u32,
     },
     /// The number is outside the range of its column, or there are too many units.
-    #[error("row {row}, column {column}: out of range")]
+    #[error("out of range")]
     OutOfRange {
         /// The row.
         row: u32,
@@ -39,7 +39,7 @@ pub enum TableRefusal {
         column: u32,
     },
     /// A time is wanted, as `7:05` or `23:59`, with an hour up to 47.
-    #[error("row {row}, column {column}: not a time")]
+    #[error("not a time")]
     BadTime {
         /// The row.
         row: u32,
@@ -47,7 +47,7 @@ pub enum TableRefusal {
         column: u32,
     },
     /// A name is wanted.
-    #[error("row {row}, column {column}: not a name")]
+    #[error("not a name")]
     BadName {
         /// The row.
         row: u32,
@@ -55,7 +55,7 @@ pub enum TableRefusal {
         column: u32,
     },
     /// One of the words of the column is wanted.
-    #[error("row {row}, column {column}: not a word of this column")]
+    #[error("not a word of the column")]
     BadWord {
         /// The row.
         row: u32,

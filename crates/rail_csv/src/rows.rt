@@ -69,7 +69,7 @@ pub struct TripRow {
 }
 
 /// How a link leads from arriving to departing trips.
-#[derive(Clone, Copy, Debug, PartialEq, Eq)]
+#[derive(Clone, Copy, Debug)]
 pub enum KindWord {
     /// One arriving train becomes one departing train.
     Turn,
@@ -80,7 +80,7 @@ pub enum KindWord {
 }
 
 /// The end of a train at which a turn may uncouple or couple units.
-#[derive(Clone, Copy, Debug, PartialEq, Eq)]
+#[derive(Clone, Copy, Debug)]
 pub enum End {
     /// At no end: it may not.
     None,
@@ -114,7 +114,7 @@ pub struct LinkRow {
 }
 
 /// The row of the weights table, each weight 0 to 10,000.
-#[derive(Clone, Copy, Debug, PartialEq, Eq)]
+#[derive(Clone, Copy, Debug)]
 pub struct WeightsRow {
     /// Cost of a carriage kilometre.
     pub carriage: u32,
@@ -169,7 +169,7 @@ pub struct PlanRow {
 }
 
 /// A table, as a refusal names it.
-#[derive(Clone, Copy, Debug, PartialEq, Eq)]
+#[derive(Clone, Copy, Debug)]
 pub enum Table {
     /// The unit types.
     Types,

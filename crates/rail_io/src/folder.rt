@@ -6,7 +6,7 @@ ghost use Rattle.rail_io.specs.Folders.{Files, IsReadFrom, OnlyReads, Rose, Rose
 use thiserror::Error;
 
 /// One call on a folder or a sink failed. Why is known to the system alone.
-#[derive(Clone, Copy, Debug, PartialEq, Eq, Hash, Error)]
+#[derive(Clone, Copy, Debug, PartialEq, Eq, Error)]
 #[error("the call failed")]
 pub struct Failed;
 

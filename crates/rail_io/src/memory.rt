@@ -15,7 +15,7 @@ use std::alloc::Global;
 use std::marker::Model;
 
 /// A file in memory: its path, of at most 64 bytes, and its bytes.
-#[derive(Debug, Drop)]
+#[derive(Drop)]
 pub struct MemoryFile {
     pub path: Name,
     pub bytes: Bytes,
@@ -36,7 +36,7 @@ impl MemoryFile {
 
 /// A folder in memory. A read fails where its number, counted from 0, is among those that are to fail, and where no
 /// file has the path. The count of faults rises in these calls and in no other.
-#[derive(Debug, Drop)]
+#[derive(Drop)]
 pub struct MemoryFolder {
     files: Vec<MemoryFile>,
     failing: Vec<u64>,
@@ -166,7 +166,7 @@ impl Folder for MemoryFolder {
 /// A sink in memory. A write takes at most `most` bytes, and no more than there is room for. A write of a piece that
 /// is not empty fails where no room is left, and where its number, counted from 0, is among those that are to fail.
 /// The count of faults rises in these calls and in no other.
-#[derive(Debug, Drop)]
+#[derive(Drop)]
 pub struct MemorySink {
     written: Vec<u8>,
     room: usize,

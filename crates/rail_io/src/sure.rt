@@ -15,7 +15,7 @@ use std::alloc::Global;
 use std::marker::Model;
 
 /// A folder in memory whose reads never fail. A path that none of its files has is read as an empty file.
-#[derive(Debug, Drop)]
+#[derive(Drop)]
 pub struct SureFolder {
     files: Vec<MemoryFile>,
     taken: u64,
@@ -76,7 +76,7 @@ impl Folder for SureFolder {
 
 /// A sink in memory whose writes never fail: each takes its whole piece. Bytes past its room are not kept, and where
 /// some were not it no longer tells what was written.
-#[derive(Debug, Drop)]
+#[derive(Drop)]
 pub struct SureSink {
     kept: Vec<u8>,
     room: usize,

@@ -15,7 +15,7 @@ use thiserror::Error;
 const PIECE_BYTES: usize = 65_536;
 
 /// Why a file was not read.
-#[derive(Clone, Copy, Debug, PartialEq, Eq, Hash, Error)]
+#[derive(Clone, Copy, Debug, Error)]
 pub enum FileRefusal {
     /// A read failed.
     #[error("cannot be read")]

@@ -17,7 +17,7 @@ use thiserror::Error;
 pub(crate) const ANSWER_FILE: &str = "answer.txt";
 
 /// Why the answer of a folder was not read.
-#[derive(Clone, Copy, Debug, PartialEq, Eq, Error)]
+#[derive(Clone, Copy, Debug, Error)]
 pub enum AnswerError {
     /// Its file could not be read.
     #[error("cannot be read")]
@@ -26,7 +26,7 @@ pub enum AnswerError {
     #[error("too long")]
     TooLong,
     /// The bytes of its file are no answer, or memory ran out.
-    #[error("{0}")]
+    #[error("no answer")]
     Refused(AnswerRefusal),
 }
 

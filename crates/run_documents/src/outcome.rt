@@ -8,7 +8,7 @@ use day_simulator::StepFault;
 use rail_base::{Bytes, Money};
 
 /// What a run comes to: the document that it writes and the status that it ends with follow from it.
-#[derive(Debug, Drop)]
+#[derive(Drop)]
 pub enum Outcome {
     /// The day is planned, and this is the answer to it.
     Planned(Answer),

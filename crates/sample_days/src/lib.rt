@@ -11,7 +11,7 @@ use std::test::Fail;
 use timetable::{Instance, NamedPlan, Rows, Tables};
 
 /// The tables of a day but the weights, which are 1, 1 and 100.
-#[derive(Clone, Copy, Debug)]
+#[derive(Clone, Copy)]
 pub struct Texts<'a> {
     /// The table of unit types.
     pub types: &'a [u8],

@@ -5,7 +5,7 @@ use rail_base::Money;
 use timetable::Picks;
 
 /// A solution and its cost.
-#[derive(Debug, Drop)]
+#[derive(Drop)]
 pub struct Best {
     /// The solution.
     pub picks: Picks,
@@ -14,7 +14,7 @@ pub struct Best {
 }
 
 /// What a search finds of all solutions in its root, and the tree that proves it.
-#[derive(Debug, Drop)]
+#[derive(Drop)]
 pub enum Found {
     /// These picks are a solution, and no solution costs less.
     Optimal {

@@ -3,7 +3,7 @@
 use rail_base::CompNo;
 
 /// What is done to a train between an arriving and a departing trip.
-#[derive(Clone, Copy, Debug, PartialEq, Eq)]
+#[derive(Clone, Copy, Debug)]
 pub enum Shunt {
     /// The same units go on.
     Keep,
@@ -17,7 +17,7 @@ pub enum Shunt {
 }
 
 /// A step that a link allows from one composition of the day's catalogue to another. It takes 20 bytes.
-#[derive(Clone, Copy, Debug, PartialEq, Eq)]
+#[derive(Clone, Copy)]
 pub struct Edge {
     /// The composition of the arriving trip: at a join of the first arriving trip, the train in front.
     pub from: CompNo,

@@ -18,7 +18,7 @@ use std::marker::Model;
 use timetable::{Instance, Link};
 
 /// The edges of one link, in order. A contract sees the list of them.
-#[derive(Debug, Drop)]
+#[derive(Drop)]
 struct EdgeList {
     edges: Vec<Edge>,
 }
@@ -36,7 +36,7 @@ impl Model for EdgeList {
 }
 
 /// For each link of a day the edges that it allows. A contract sees a list for each link.
-#[derive(Debug, Drop)]
+#[derive(Drop)]
 pub struct Graphs {
     lists: Vec<EdgeList>,
 }

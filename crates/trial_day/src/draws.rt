@@ -9,7 +9,7 @@ use std::marker::Model;
 const STATES: u32 = 1 << 31;
 
 /// The draws of a seed. A contract sees the state that the last draw has left.
-#[derive(Debug, Drop)]
+#[derive(Drop)]
 pub struct Draws {
     state: u32,
 }

@@ -8,7 +8,7 @@ use thiserror::Error;
 #[derive(Clone, Copy, Debug, PartialEq, Eq, Error)]
 pub enum DutyRefusal {
     /// The rule of the link is broken by the picked types, and those of the links before it are not.
-    #[error("link {} is broken", .0.0)]
+    #[error("a link is broken")]
     LinkBroken(LinkNo),
     /// No link is broken, and this is the first fault of the yards.
     #[error("a yard is short of units or ends with another number of them than is wanted")]

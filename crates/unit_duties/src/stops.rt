@@ -7,7 +7,7 @@ use std::alloc::Global;
 use std::marker::Model;
 
 /// A trip of a unit's duty.
-#[derive(Clone, Copy, Debug, PartialEq, Eq)]
+#[derive(Clone, Copy)]
 pub struct Stop {
     /// The trip.
     pub trip: TripNo,
@@ -17,7 +17,7 @@ pub struct Stop {
 }
 
 /// The duty of one unit. A contract sees the list of its stops.
-#[derive(Debug, Drop)]
+#[derive(Drop)]
 pub(crate) struct StopList {
     stops: Vec<Stop>,
 }
@@ -32,7 +32,7 @@ impl Model for StopList {
 }
 
 /// The duty of each unit of a day, by the numbers of the units. A contract sees a list of stops for each unit.
-#[derive(Debug, Drop)]
+#[derive(Drop)]
 pub struct Duties {
     pub(crate) lists: Vec<StopList>,
 }

@@ -6,10 +6,10 @@ use std::alloc::{AllocError, AllocFailed};
 use thiserror::Error;
 
 /// Why tables make no day: the first test that fails. Rows are counted from 1, columns from 0.
-#[derive(Clone, Copy, Debug, PartialEq, Eq, Error)]
+#[derive(Clone, Copy, Debug, Error)]
 pub enum InstanceRefusal {
     /// The row has the name of an earlier row of its table.
-    #[error("row {row}: repeated name")]
+    #[error("repeated name")]
     RepeatedName {
         /// The table: types, stations or trips.
         table: Table,
@@ -17,7 +17,7 @@ pub enum InstanceRefusal {
         row: u32,
     },
     /// A column names what no row of the table that it speaks of has as its name.
-    #[error("row {row}, column {column}: unknown name")]
+    #[error("unknown name")]
     UnknownName {
         /// The table that the row is in: stock, trips or links.
         table: Table,
@@ -27,28 +27,28 @@ pub enum InstanceRefusal {
         column: u32,
     },
     /// The stock row has the station and the type of an earlier one.
-    #[error("row {0}: repeated station and type")]
+    #[error("repeated station and type")]
     RepeatedStock(u32),
     /// The trip does not arrive after it departs.
-    #[error("row {0}: arrival is not after departure")]
+    #[error("arrival is not after departure")]
     ArrivalNotAfterDeparture(u32),
     /// The trip goes from a station to the same one.
-    #[error("row {0}: same station")]
+    #[error("same station")]
     SameStation(u32),
     /// The link names a trip as arriving, or as departing, that it or an earlier link has named so already.
-    #[error("row {0}: trip used twice")]
+    #[error("trip used twice")]
     TripUsedTwice(u32),
     /// An arriving trip of the link ends at another station than a departing trip of it begins at.
-    #[error("row {0}: trips do not meet at a station")]
+    #[error("trips do not meet at a station")]
     WrongStation(u32),
     /// A departing trip of the link departs before an arriving trip of it arrives.
-    #[error("row {0}: departure before arrival")]
+    #[error("departure before arrival")]
     TooEarly(u32),
     /// The fields of the link do not fit its kind.
-    #[error("row {0}: fields do not fit the kind")]
+    #[error("fields do not fit the kind")]
     WrongLinkFields(u32),
     /// No composition may run on the trip: each is longer than one of its two platforms.
-    #[error("row {0}: no composition fits")]
+    #[error("no composition fits")]
     NoComposition(u32),
     /// More than 2,000 units stand at the stations as the day begins.
     #[error("too many units")]
@@ -95,16 +95,16 @@ impl<T: Drop> From<AllocFailed<T>> for InstanceRefusal {
 }
 
 /// Why rows make no plan of a day: the first row that is wrong. Rows are counted from 1.
-#[derive(Clone, Copy, Debug, PartialEq, Eq, Error)]
+#[derive(Clone, Copy, Debug, Error)]
 pub enum PlanRefusal {
     /// The row names another trip than that of its number, or there is no such trip.
-    #[error("row {0}: wrong trip")]
+    #[error("wrong trip")]
     WrongTrip(u32),
     /// A unit of the row is no unit of the day.
-    #[error("row {0}: unknown unit")]
+    #[error("unknown unit")]
     UnknownUnit(u32),
     /// All rows are right, and trips are left after this row, the last one.
-    #[error("trip missing after row {0}")]
+    #[error("trip missing")]
     MissingTrip(u32),
     /// Want of memory, which may come at any row.
     #[error("out of memory")]

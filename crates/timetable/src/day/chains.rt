@@ -14,7 +14,7 @@ use std::alloc::Global;
 use std::marker::Model;
 
 /// The trips of a chain, in the order in which they run. A contract sees the list of their numbers.
-#[derive(Debug, Drop)]
+#[derive(Drop)]
 pub struct Chain {
     trips: Vec<TripNo>,
 }
@@ -148,7 +148,7 @@ fn handovers_of(alloc: Global, links: &[Link]) -> Result<Vec<Handover>, NoMemory
 }
 
 /// What the links of a day give.
-#[derive(Debug, Drop)]
+#[derive(Drop)]
 pub struct Linking {
     /// For each trip the link that it departs by.
     pub incoming: Vec<Option<LinkNo>>,

@@ -10,7 +10,7 @@ use rail_base::limits::{MOST_COMPOSITIONS, MOST_HANDOVERS, MOST_STATIONS, MOST_T
 use rail_base::{CompNo, StationNo, TypeNo};
 
 /// What a multiplier belongs to.
-#[derive(Clone, Copy, Debug, PartialEq, Eq)]
+#[derive(Clone, Copy)]
 pub enum Place {
     /// A departure minute of a station, by its place among them, and a type.
     Lambda {

@@ -41,7 +41,7 @@ use std::marker::Model;
 
 /// A day that was accepted: its types, stations, stock, trips and links in the order of their tables, and its units,
 /// numbered by stock row and then within the row. A contract sees the day.
-#[derive(Debug, Drop)]
+#[derive(Drop)]
 pub struct Instance {
     types: UnitTypes,
     stations: Vec<Station>,

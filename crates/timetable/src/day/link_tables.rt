@@ -9,7 +9,7 @@ use rail_base::{LinkNo, NoMemory, TripNo};
 use std::alloc::Global;
 
 /// A side of a link: the trips that arrive for it, or those that depart by it.
-#[derive(Clone, Copy, Debug)]
+#[derive(Clone, Copy)]
 pub enum Side {
     /// The trips whose trains go on by the link.
     Arriving,

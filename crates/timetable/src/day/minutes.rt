@@ -12,7 +12,7 @@ use std::alloc::Global;
 use std::marker::Model;
 
 /// Minutes in rising order. A contract sees the list of their numbers.
-#[derive(Debug, Drop)]
+#[derive(Drop)]
 pub struct Minutes {
     minutes: Vec<Minute>,
 }

@@ -7,7 +7,7 @@ use std::alloc::Global;
 use std::marker::Model;
 
 /// The number of a composition for each trip, in the order of the trips. A contract sees the list of these numbers.
-#[derive(Debug, Drop)]
+#[derive(Drop)]
 pub struct Picks {
     compositions: Vec<CompNo>,
 }

@@ -18,7 +18,7 @@ use std::alloc::Global;
 use std::marker::Model;
 
 /// The units of each trip of a day, front to rear, one list a trip. A contract sees the list of these lists.
-#[derive(Debug, Drop)]
+#[derive(Drop)]
 pub struct NamedPlan {
     lists: Vec<UnitList>,
 }

@@ -4,7 +4,7 @@ use rail_base::{LinkNo, Minute, Name, StationNo, TripNo, TypeNo};
 use rail_csv::End;
 
 /// A station.
-#[derive(Debug, Drop)]
+#[derive(Drop)]
 pub struct Station {
     /// The name of the station.
     pub name: Name,
@@ -15,7 +15,7 @@ pub struct Station {
 }
 
 /// How many units of a type stand at a station at the start of the day, and how many are to stand there at its end.
-#[derive(Clone, Copy, Debug)]
+#[derive(Clone, Copy)]
 pub struct Stock {
     /// The station.
     pub station: StationNo,
@@ -28,7 +28,7 @@ pub struct Stock {
 }
 
 /// A trip of the timetable.
-#[derive(Debug, Drop)]
+#[derive(Drop)]
 pub struct Trip {
     /// The name of the trip.
     pub name: Name,
@@ -49,7 +49,7 @@ pub struct Trip {
 }
 
 /// A link, by which units of trips that arrive stay in the train and leave with other trips.
-#[derive(Clone, Copy, Debug)]
+#[derive(Clone, Copy)]
 pub struct Link {
     /// What becomes of the units.
     pub kind: LinkKind,
@@ -58,7 +58,7 @@ pub struct Link {
 }
 
 /// What becomes of the units of a link's arriving trips.
-#[derive(Clone, Copy, Debug)]
+#[derive(Clone, Copy)]
 pub enum LinkKind {
     /// One train goes on as one train. Units may be uncoupled at the uncoupling end and coupled at the coupling end,
     /// which may be one and the same.
@@ -85,7 +85,7 @@ pub enum LinkKind {
 }
 
 /// A train unit.
-#[derive(Clone, Copy, Debug, PartialEq, Eq)]
+#[derive(Clone, Copy)]
 pub struct Unit {
     /// Its type.
     pub unit_type: TypeNo,
@@ -94,7 +94,7 @@ pub struct Unit {
 }
 
 /// The weights of the three parts of the cost.
-#[derive(Clone, Copy, Debug, PartialEq, Eq)]
+#[derive(Clone, Copy)]
 pub struct Weights {
     /// The cost of a carriage for a kilometre.
     pub carriage: u32,
@@ -105,7 +105,7 @@ pub struct Weights {
 }
 
 /// The second trip of a join or a split, whose units pass from one chain to another.
-#[derive(Clone, Copy, Debug, PartialEq, Eq)]
+#[derive(Clone, Copy)]
 pub struct Handover {
     /// The join or the split.
     pub link: LinkNo,
