@@ -22,6 +22,9 @@ pub struct Entry {
     pub value: i64,
 }
 
+// The memory of a tree is reckoned from the size of one entry.
+const _: () = prove!(size_of::<Entry>() == 16);
+
 /// Why a value is not put at an index.
 #[derive(Clone, Copy, Debug, PartialEq, Eq, Error)]
 pub enum PutRefusal {

@@ -20,6 +20,9 @@ pub struct CompositionSet {
     words: [u64; WORDS],
 }
 
+// The memory of a region is reckoned from the size of one set.
+const _: () = prove!(size_of::<CompositionSet>() == 128);
+
 impl Model for CompositionSet {
     ghost use Rattle.std.specs.Prelude.{List, Bool};
 
