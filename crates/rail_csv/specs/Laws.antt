@@ -81,10 +81,10 @@ pub record NoOtherTableWantsARow : Type 0 where
   pub links : (bytes : List ℕ) → links_of bytes ≢ Err NoRow
   pub plan : (bytes : List ℕ) → plan_of bytes ≢ Err NoRow
 
--- Bytes are read as a row of weights exactly where all of their records are a table of this one row. They are refused
--- for want of a row exactly where all of their records are a table of none, which is the header alone. They are refused
--- for anything else exactly where it is the first wrong thing in the records. No other table is refused for want of a
--- row.
+-- By the definition of the reader of weights, which its call meets but for want of memory, bytes are read as a row of
+-- weights exactly where all of their records are a table of this one row. They are refused for want of a row exactly
+-- where all of their records are a table of none, which is the header alone. They are refused for anything else exactly
+-- where it is the first wrong thing in the records. No other table is refused for want of a row.
 pub record WeightsAreOneRow : Type 0 where
   pub row : (bytes : List ℕ) (row : WeightsRow) → (weights_of bytes ≡ Ok row)
       ↔ IsWeightsTable (records_of bytes) (row ∷ [])

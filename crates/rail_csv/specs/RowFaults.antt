@@ -8,6 +8,7 @@ use Rattle.rail_base.specs.declared.limits.TheConstants.{MOST_PLATFORM, MOST_REA
 use Rattle.rail_base.specs.declared.limits.TheConstants.{MOST_DEMAND, MOST_FIRST_DEMAND, MOST_WEIGHT}
 use Rattle.rail_csv.specs.declared.refusal.TableRefusal.{TableRefusal}
 use Rattle.rail_csv.specs.declared.refusal.TableRefusal.TheVariants.{NotUtf8, FieldCount}
+use Rattle.rail_csv.specs.declared.refusal.TableRefusal.TheVariants.{BadNumber, OutOfRange, BadTime, BadName, BadWord}
 use Rattle.rail_csv.specs.Columns.{field, field_or, number_column, time_column, name_column, optional_name_column}
 use Rattle.rail_csv.specs.Columns.{kind_column, answer_column, end_column, units_column}
 use Rattle.rail_csv.specs.Tables.{Columns, type_columns, station_columns, stock_columns, trip_columns, link_columns}
@@ -30,16 +31,27 @@ IsWrongRow width columns row fields e =
 abbrev pub ColumnFaults : Type 0
 ColumnFaults = ℕ → List (List ℕ) → List (Option TableRefusal)
 
--- the refusal is that of a column, and no column to its left refuses its field
-pub record IsLeftmost (faults : List (Option TableRefusal)) (e : TableRefusal) : Type 0 where
+-- the row and the column that a refusal of a field names
+abbrev pub field_named : TableRefusal → Option (ℕ × ℕ)
+field_named (BadNumber row column) = Some (row, column)
+field_named (OutOfRange row column) = Some (row, column)
+field_named (BadTime row column) = Some (row, column)
+field_named (BadName row column) = Some (row, column)
+field_named (BadWord row column) = Some (row, column)
+field_named e = None
+
+-- the refusal is that of a column of this row, which it names, and no column to its left refuses its field
+pub record IsLeftmost (row : ℕ) (faults : List (Option TableRefusal)) (e : TableRefusal) : Type 0 where
   pub column : ℕ
   pub at : slice_get faults column ≡ Some (Some e)
   pub before : (k : ℕ) → k < column → slice_get faults k ≡ Some None
+  pub named : field_named e ≡ Some (row, column)
 
--- the columns refuse a row for exactly what the leftmost of those that refuse their fields says
+-- the columns refuse a row for exactly what the leftmost of those that refuse their fields says, with the row and the
+-- number of that column
 abbrev pub RefuseLeftmost : {Row : Type 0} → Columns Row → ColumnFaults → Type 0
 RefuseLeftmost columns faults = (row : ℕ) (fields : List (List ℕ)) (e : TableRefusal)
-    → (columns row fields ≡ Err e) ↔ IsLeftmost (faults row fields) e
+    → (columns row fields ≡ Err e) ↔ IsLeftmost row (faults row fields) e
 
 -- ---- the columns of the seven tables
 

@@ -20,10 +20,11 @@ pub fn what_is_read<T: Drop>()
         → (rows_under words fewest limit columns records ≡ Err e) ↔ IsFirstWrong words fewest limit columns records e }
 {}
 
-/// For all bytes: they are read as a row of weights exactly where their records, from the first to the last, are a
-/// weights table of this one row. They are refused for want of a row exactly where their records are a weights table of
-/// no row, which is its header and nothing after it. They are refused for anything else exactly where it is the first
-/// wrong thing in the records. No other table, nor a plan, is ever refused for want of a row.
+/// For all bytes, by the definition of `weights`, which the call meets but for want of memory: they are read as a row of
+/// weights exactly where their records, from the first to the last, are a weights table of this one row. They are
+/// refused for want of a row exactly where their records are a weights table of no row, which is its header and nothing
+/// after it. They are refused for anything else exactly where it is the first wrong thing in the records. No other
+/// table, nor a plan, is ever refused for want of a row.
 pub fn what_weights_are()
     ensures weights { WeightsAreOneRow }
 {}
@@ -31,7 +32,8 @@ pub fn what_weights_are()
 /// For every table, whatever its columns: a row is refused for exactly the first wrong thing in it. That is its number
 /// of fields, where its version has another number of columns; or else a field that is not UTF-8; or else what its
 /// columns refuse. And of the seven tables, one of them the plan: the columns refuse a row for exactly what the
-/// leftmost column says that refuses its field, and every column to the left of it takes its own.
+/// leftmost column says that refuses its field, and every column to the left of it takes its own. The refusal names the
+/// row and the number of that column, counted from 0.
 pub fn what_is_wrong_in_a_row<T: Drop>()
     // The number of fields comes first, then UTF-8, then the columns.
     ensures rows { (width : ℕ) (columns : Columns T) (row : ℕ) (fields : List (List ℕ)) (e : TableRefusal)
