@@ -90,14 +90,17 @@ by_number s m (x ∷ xs) =
     on false true = refl
     on false false = refl
 
-pub at_home : (day : Day) (s m : ℕ) → IsStocked day → sum_below (λ u. if type_of day u == m then (if home_of day u == s then 1 else 0) else 0) (unit_count day) ≡ start_of day s m
+at_home_few : (day : Day) (s m : ℕ) → rows_of day.stock s m ≤ 1 → sum_below (λ u. if type_of day u == m then (if home_of day u == s then 1 else 0) else 0) (unit_count day) ≡ start_of day s m
 unfolding type_of home_of units_of start_of
-at_home day s m stocked = by_number s m (units_in day.stock) ∙ all_of_rows s m day.stock (stocked.once s m)
+at_home_few day s m few = by_number s m (units_in day.stock) ∙ all_of_rows s m day.stock few
+
+pub at_home : (day : Day) (s m : ℕ) → IsStocked day → sum_below (λ u. if type_of day u == m then (if home_of day u == s then 1 else 0) else 0) (unit_count day) ≡ start_of day s m
+at_home day s m stocked = at_home_few day s m (stocked.once s m)
 
 pub units_are_at_home : UnitsAreAtHome
-units_are_at_home day s m stocked =
+units_are_at_home day s m few =
     sum_same (λ u. if (home_of day u == s) && (type_of day u == m) then 1 else 0) (λ u. if type_of day u == m then (if home_of day u == s then 1 else 0) else 0) (unit_count day)
-    (λ u lt. both (home_of day u == s) (type_of day u == m)) ∙ at_home day s m stocked
+    (λ u lt. both (home_of day u == s) (type_of day u == m)) ∙ at_home_few day s m few
   where
     both : (b c : Bool) → cond {A = ℕ} (b && c) 1 0 ≡ cond {A = ℕ} c (cond {A = ℕ} b 1 0) 0
     both true true = refl

@@ -1,11 +1,11 @@
 -- Which tables make a day and which rows make a plan, decided by tests in their order; how many units are at home at a
 -- station; that a day's chains are no others; what a turn keeps, gives and takes; and what has a multiplier.
-use Rattle.std.specs.Prelude.{ℕ, ◌≡◌, ◌↔◌, ◌==◌, ◌&&◌, List, Bool, Result, Ok, Err, IsOk, Some, length}
+use Rattle.std.specs.Prelude.{ℕ, ◌≤◌, ◌≡◌, ◌↔◌, ◌==◌, ◌&&◌, List, Bool, Result, Ok, Err, IsOk, Some, length}
 use Rattle.rail_csv.specs.declared.rows.End.{End}
 use Rattle.rail_csv.specs.declared.rows.PlanRow.{PlanRow}
 use Rattle.timetable.specs.declared.building.tables.Tables.{Tables}
 use Rattle.timetable.specs.declared.day.records.LinkKind.{LinkKind}
-use Rattle.timetable.specs.Accepted.{AreLinks, IsStocked}
+use Rattle.timetable.specs.Accepted.{AreLinks, rows_of}
 use Rattle.timetable.specs.Build.{day_of}
 use Rattle.timetable.specs.Chains.{AreChains}
 use Rattle.timetable.specs.Day.{Day, home_of, type_of, unit_count}
@@ -34,9 +34,10 @@ pub record PlansAreMade : Type 0 where
   pub meaning : (day : Day) (rows : List PlanRow) (plan : List (List ℕ)) → (plan_of day rows ≡ Ok plan)
       ↔ IsPlanOf day rows plan
 
--- as many units of a type are at home at a station as stand there at the start of the day
+-- where a station has at most one stock row of a type, as many numbered units of the type are at home there as the row
+-- says for the start of the day, and none where it has no such row
 abbrev pub UnitsAreAtHome : Type 0
-UnitsAreAtHome = (day : Day) (s m : ℕ) → IsStocked day
+UnitsAreAtHome = (day : Day) (s m : ℕ) → rows_of day.stock s m ≤ 1
     → count_below (λ u. (home_of day u == s) && (type_of day u == m)) (unit_count day) ≡ start_of day s m
 
 -- two lists that are the chains of a day are one

@@ -18,8 +18,8 @@ pub fn plans_are_made()
     ensures law { PlansAreMade }
 {}
 
-/// As many units of a type are at home at a station as stand there at the start of the day, where no station has two
-/// stock rows of one type, and none wants more units at the end than a stock row may say.
+/// Where a station has at most one stock row of a type, as many of the numbered units of the type are at home there as
+/// the row says for the start of the day, and none where it has no such row.
 pub fn units_are_at_home()
     ensures law { UnitsAreAtHome }
 {}
