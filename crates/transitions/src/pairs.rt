@@ -17,7 +17,7 @@ use rail_base::limits::{MOST_COMPOSITION, MOST_EXCHANGED};
 use rail_base::{CompNo, NoMemory};
 use rail_csv::End;
 use std::alloc::Global;
-use timetable::{Instance, Link, LinkKind};
+use timetable::{Instance, Link, LinkKind, staying};
 
 /// An arriving and a departing composition.
 #[derive(Clone, Copy, PartialEq, Eq, PartialOrd, Ord)]
@@ -28,17 +28,16 @@ pub(crate) struct Pair {
     pub(crate) to: CompNo,
 }
 
-/// So many units of a composition, after the others went at this end; all of them where none goes.
+/// What stays of a composition when all but so many units go at this end; all of it where none goes.
 fn left_at(end: End, composition: &Composition, units: u32) -> Composition
     requires some { 1 ≤ units }
     requires within { units ≤ length composition.now }
     ensures { result ≡ staying end composition.now units }
 {
-    match end {
-        End::None => composition.copied(),
-        End::Rear => composition.front(units),
-        End::Front => composition.rear(units),
-    }
+    let Some(left) = Composition::of(staying(end, composition.units(), units as usize)) else {
+        unreachable!()
+    };
+    left
 }
 
 /// Adds the pairs of a departing composition with each arriving one that, after a reversal, is some of its units.

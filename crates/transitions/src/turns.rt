@@ -46,11 +46,11 @@ fn shunt_by_units(given: u8, taken: u8) -> Shunt
 pub(crate) fn turned(reversed: bool, composition: &Composition) -> Composition
     ensures { result ≡ turned reversed composition.now }
 {
-    if reversed {
-        composition.reversed()
-    } else {
-        composition.copied()
-    }
+    let units = timetable::turned(reversed, composition.units());
+    let Some(turned) = Composition::of(units.as_slice()) else {
+        unreachable!()
+    };
+    turned
 }
 
 /// What stands behind a front, or nothing where a whole of at most six types does not begin with the front or ends with
