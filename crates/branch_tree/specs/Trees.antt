@@ -58,7 +58,7 @@ abbrev pub cut_of : Node → Option Cut
 cut_of (Branch cut) = Some cut
 cut_of leaf = None
 
--- the multipliers of a leaf, and none where the node has no bound
+-- the multipliers of a cost leaf or a ray leaf, and none at a branch or an empty leaf
 abbrev pub multipliers_of : Node → List Entry
 multipliers_of (CostLeaf bound multipliers) = multipliers
 multipliers_of (RayLeaf multipliers) = multipliers
@@ -83,7 +83,8 @@ IsProperAt catalogue region node = MatchOption (cut_of node) (Unit {0}) (IsPrope
 abbrev pub branchings_of : List Node → ℕ
 branchings_of nodes = branches_in cut_of nodes
 
--- the multipliers of each node keep within the limits of such lists
+-- the multipliers of each node are a list of multipliers: indices that rise, values that are not 0 and keep within the
+-- limit, at most so many entries
 abbrev pub KeepLimits : List Node → Type 0
 KeepLimits nodes = All (λ node. AreMultipliers (multipliers_of node)) nodes
 

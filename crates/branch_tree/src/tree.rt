@@ -102,7 +102,8 @@ impl Tree {
         self.nodes.len() as u32
     }
 
-    /// The node of a number, which is below `len`. The multipliers of a leaf keep within the limits of such lists.
+    /// The node of a number, which is below `len`. The multipliers of a leaf have indices that rise and values that are
+    /// not 0, and keep within the limits of such lists.
     pub fn node(&self, node: NodeNo) -> &Node
         requires { node < length self.now }
         ensures value { slice_get self.now node ≡ Some result.now }
@@ -113,7 +114,8 @@ impl Tree {
         node
     }
 
-    /// How many nodes are branches. The multipliers of each leaf keep within the limits of such lists.
+    /// How many nodes are branches. The multipliers of each leaf have indices that rise and values that are not 0, and
+    /// keep within the limits of such lists.
     pub fn branchings(&self) -> u32
         ensures value { result ≡ branchings_of self.now }
         ensures within { KeepLimits self.now }

@@ -13,7 +13,8 @@ use Rattle.day_simulator.specs.Steps.{after}
 use Rattle.day_simulator.specs.StepTests.{last_minute, DepartedInLastMinute}
 
 -- From one state to the next the trip leaves: the units of its list are aboard, the trip is under way, and all other
--- units and trips are as they were. Each unit has its place and each trip its stage as before.
+-- units and trips are as they were. There are as many places as units and as many stages as trips. The last minute is
+-- that of the departure, and a trip departed in it.
 pub record Leaves (day : Day) (plan : List (List ℕ)) (before next : State) (t : ℕ) : Type 0 where
   pub listed : (u : ℕ) → IsTrue (has u (list_of plan t)) → place_of next.places u ≡ Aboard t
   pub other_units : (u : ℕ) → u < unit_count day → has u (list_of plan t) ≡ false
@@ -27,7 +28,8 @@ pub record Leaves (day : Day) (plan : List (List ℕ)) (before next : State) (t 
 
 -- From one state to the next the trip arrives: the units that it gives stand in the yard of the station that it comes
 -- to, ready once the reallocation time is over; the other units of its list stand in its train; the trip has arrived;
--- and all other units and trips are as they were. Each unit has its place and each trip its stage as before.
+-- and all other units and trips are as they were. There are as many places as units and as many stages as trips. The
+-- last minute is that of the arrival, and it counts as one in which no trip departed.
 pub record Arrives (day : Day) (plan : List (List ℕ)) (before next : State) (t : ℕ) : Type 0 where
   pub in_yard : (u : ℕ) → IsTrue (has u (given day plan t))
       → place_of next.places u ≡ Yard (to_of day t) (ready_at day t)

@@ -58,8 +58,9 @@ pub fn steps_are_tested()
 /// day's trips, the state after it: when the trip leaves, it is under way and the units of its list are aboard; when it
 /// arrives, it has arrived, those that it gives stand in the yard of the station that it comes to, ready once the
 /// reallocation time is over, and the others of its list stand in its train. All other units and trips are as they
-/// were. The last minute is that of the event, and whether a trip departed in it is told. Each unit has its place and
-/// each trip its stage again, so that the law says of the next event what it says of this one.
+/// were. The last minute is that of the event, and it counts as one with a departure exactly where the event is one.
+/// There are as many places as units and as many stages as trips again, so that the law says of the next event what it
+/// says of this one.
 pub fn steps_change_states()
     ensures law { StepsChangeStates }
 {}

@@ -16,7 +16,7 @@ most_price = MOST_ENTRIES * MOST_MULTIPLIER
 abbrev pub most_units_price : ℕ
 most_units_price = MOST_COMPOSITION * most_price
 
--- a number of units, or what a change costs, is below it: a number of 32 bits
+-- a number of units, or what a change costs: a number of 32 bits, and so no larger than this
 abbrev pub most_number : ℕ
 most_number = 2 ^ 32
 
@@ -64,7 +64,8 @@ AreSmallCells bound row = (comp : ℕ) (cell : Cell) → get_or row comp None �
 abbrev pub IsSmallStep : ℕ → List (Option Cell) → List (Option Cell) → Type 0
 IsSmallStep step row new = (bound : ℕ) → AreSmallCells bound row → AreSmallCells (bound + step) new
 
--- so it is of a row to which cells are offered that are a step from the cells ahead
+-- so it is of a row to which cells are offered that are a step from the cells ahead, where the row's own cells are
+-- small at the bound that is higher by the step
 abbrev pub AreSmallOffers : ℕ → List (Option Cell) → List (Option Cell) → List (Option Cell) → Type 0
 AreSmallOffers step ahead row new = (bound : ℕ) → AreSmallCells bound ahead
     → AreSmallCells (bound + step) row → AreSmallCells (bound + step) new

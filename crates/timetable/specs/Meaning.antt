@@ -25,7 +25,7 @@ use Rattle.timetable.specs.Accepted.{AreLinks, DoMeet, HaveCompositions}
 use Rattle.timetable.specs.Compositions.{compositions_of}
 use Rattle.timetable.specs.Day.{Day, leaves, arrives, from_of, to_of, unit_count}
 
--- the number is that of the entry with the name
+-- the entry of the number has the name
 abbrev pub IsNumberOf : {X : Type 0} → (X → List ℕ) → List X → List ℕ → ℕ → Type 0
 IsNumberOf name_of entries name n = slice_get (map name_of entries) n ≡ Some name
 
