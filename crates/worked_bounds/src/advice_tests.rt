@@ -4,10 +4,10 @@
 //! value 1060 - u - w + x, (AA, A) has 190 and is a solution, and (AA, AA) has 120 - w + x.
 
 use crate::scripts::{Call, CutNumbers, SILENT};
-use crate::search_days::{APART, EARLY_BACK, LEVEL_BACK, TOO_FEW, TWO_ALIKE};
+use crate::search_days::{APART, EARLY_BACK, LEVEL, LEVEL_BACK, TOO_FEW, TWO_ALIKE};
 use crate::trials::{Search, expect_all};
 use advisors::Word;
-use sample_days::ONE_LEFT;
+use sample_days::{ONE_LEFT, RING};
 use std::test::Fail;
 
 /// The root after its evaluation with no multipliers.
@@ -139,6 +139,15 @@ const CUT_AND_ENOUGH: &[Call] = &[Call {
     ..SILENT
 }];
 
+/// Proposes a cut of T2 at the root, and nothing after it.
+const SECOND_TRIP_ONCE: &[Call] = &[
+    Call {
+        cut: CutNumbers::Only(1, 0),
+        ..SILENT
+    },
+    SILENT,
+];
+
 /// Proposes three multipliers, under which (A, A) has 1125, and both (AA, A) and (AA, AA) have 190.
 const THREE: &[Call] = &[Call {
     puts: &[(0, 5), (2, -20), (3, 50)],
@@ -236,6 +245,39 @@ const LATE: &[Call] = &[
 const LONG_RAY: &[Call] = &[Call {
     puts: &[(2, 1000)],
     word: Word::Enough,
+    ..SILENT
+}];
+
+/// Proposes 10 at index 3, under which (AA, AAA) alone has the least value, 170, on the day of two trips without a link.
+const SECOND_AHEAD: &[Call] = &[Call {
+    puts: &[(3, 10)],
+    ..SILENT
+}];
+
+/// The same, with the cut that leaves T1 A alone, and nothing after it.
+const RAY_TO_COME: &[Call] = &[
+    Call {
+        puts: &[(3, 10)],
+        cut: CutNumbers::Only(0, 0),
+        ..SILENT
+    },
+    SILENT,
+];
+
+/// Raises the bound of the third node that it is asked about from 120 to 130, on the day where leaves are as low.
+const RAISES_THE_RIGHT: &[Call] = &[
+    SILENT,
+    SILENT,
+    Call {
+        puts: &[(3, 10)],
+        ..SILENT
+    },
+    SILENT,
+];
+
+/// Proposes the cut that leaves the first trip A alone.
+const FIRST_ALONE: &[Call] = &[Call {
+    cut: CutNumbers::Only(0, 0),
     ..SILENT
 }];
 
@@ -350,6 +392,37 @@ const ADVISED: &[Search] = &[
     },
 ];
 
+/// Searches in which it matters by which cut a node is divided, and which node is next.
+const ADVISED_ORDER: &[Search] = &[
+    // Where T2 has AA and AAA left, T1 has all three; with A on T1 both leave Y with more units than can be there. With
+    // A on T2 the least is 2150.
+    Search {
+        about: "without a proposal the first trip is divided, and not the one with the fewest compositions left",
+        texts: APART,
+        grant: 2,
+        rounds: 1,
+        scripts: &[SECOND_TRIP_ONCE],
+        told: "bounded 150; only 1 0; cost 2150; only 0 0; ray 1:1; cost 150; asked 4",
+    },
+    // With no multipliers the least is that of (A, AAA).
+    Search {
+        about: "the cut goes by the picks of the kept multipliers, and not by those with none",
+        texts: APART,
+        grant: 1,
+        rounds: 1,
+        scripts: &[SECOND_AHEAD],
+        told: "bounded 170; only 0 1; cost 170 3:10; cost 180 3:10; asked 3",
+    },
+    Search {
+        about: "the least kept bound is next, and not the least first one",
+        texts: LEVEL,
+        grant: 3,
+        rounds: 1,
+        scripts: &[RAISES_THE_RIGHT],
+        told: "bounded 130; only 0 0; only 1 1; ray 1:1; only 1 2; ray 1:1; ray 2:-1; cost 130 3:10; asked 4",
+    },
+];
+
 /// Searches of other days.
 const ADVISED_ELSEWHERE: &[Search] = &[
     Search {
@@ -377,6 +450,25 @@ const ADVISED_ELSEWHERE: &[Search] = &[
         scripts: &[SIDES],
         told: "bounded 150; only 0 0; cost 150; cost 150; asked 3",
     },
+    // T1 with A alone can't be split.
+    Search {
+        about: "a side that nothing is near is closed as empty",
+        texts: RING,
+        grant: 1,
+        rounds: 1,
+        scripts: &[FIRST_ALONE],
+        told: "bounded 300; only 0 0; empty; cost 300; asked 2",
+    },
+    // With A on T1 fewer units are at Y at the end than are wanted, whatever T2 has. The ray that is named first, 1:1,
+    // is none there.
+    Search {
+        about: "inherited multipliers are tried as a ray before advice is asked",
+        texts: APART,
+        grant: 1,
+        rounds: 1,
+        scripts: &[RAY_TO_COME],
+        told: "bounded 170; only 0 0; ray 3:10; cost 170 3:10; asked 2",
+    },
     // (A, A) is found in the second round of the left side. (AA, AA), which the right side begins with, costs no less.
     Search {
         about: "the right side waits for the rounds of the left one",
@@ -400,6 +492,11 @@ const ADVISED_ELSEWHERE: &[Search] = &[
 #[test]
 fn advice_on_one_day(rt: HostRuntime) -> Result<(), Fail> {
     expect_all(&rt, rt.alloc(), ADVISED)
+}
+
+#[test]
+fn advice_and_the_order_of_nodes(rt: HostRuntime) -> Result<(), Fail> {
+    expect_all(&rt, rt.alloc(), ADVISED_ORDER)
 }
 
 #[test]

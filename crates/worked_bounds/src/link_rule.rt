@@ -128,12 +128,11 @@ fn turns(
 /// What is left of a list without so many at an end; nothing where it has fewer, or where no end is named and it is to
 /// lose some.
 fn without(end: End, list: &[TypeNo], lost: usize) -> Option<&[TypeNo]> {
-    if lost > list.len() || (lost > 0 && end == End::None) {
+    if lost > list.len() || (lost > 0 && matches!(end, End::None)) {
         return None;
     }
-    if end == End::Front {
-        Some(&list[lost..])
-    } else {
-        Some(&list[..list.len() - lost])
+    match end {
+        End::Front => Some(&list[lost..]),
+        End::None | End::Rear => Some(&list[..list.len() - lost]),
     }
 }
