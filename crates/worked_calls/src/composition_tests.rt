@@ -7,7 +7,8 @@ ghost use Rattle.compositions.specs.UnitTypes.{is_within_limits};
 use compositions::{Catalogue, CatalogueRefusal, Composition, UnitType, UnitTypes};
 use rail_base::limits::MOST_METRES;
 use rail_base::{CompNo, Name, NoMemory, TypeNo};
-use std::alloc::Global;
+use std::alloc::{AllocError, Global};
+use std::test::Fail;
 
 /// A type of so many metres in the family `regional`.
 #[tactic(auto, unfolding(rail_base::specs::Names::is_name))]
@@ -84,25 +85,49 @@ fn measures(rt: HostRuntime) {
     assert!(rt; !pair.fits(&types, 139));
 }
 
+/// What is told of a catalogue: the types of each composition, and the number by which it is found.
+fn told_of(alloc: Global, catalogue: &Catalogue) -> Result<String, AllocError> {
+    let mut text = String::new(alloc);
+    for number in 0..catalogue.len() {
+        let composition = catalogue.get(CompNo(number));
+        for unit_type in composition.units() {
+            write!(text, "{} ", unit_type.0)?;
+        }
+        write!(text, "{:?}\n", catalogue.find(composition))?;
+    }
+    Ok(text)
+}
+
+/// What is told of the catalogue of two types over a platform of 140 metres.
+fn told_of_two(alloc: Global) -> Result<String, Fail> {
+    let types = two_types(alloc)?;
+    let catalogue = Catalogue::build(alloc, &types, 140)?;
+    Ok(told_of(alloc, &catalogue)?)
+}
+
 #[test]
-fn catalogue_in_order(rt: HostRuntime) {
-    let Ok(types) = two_types(rt.alloc()) else {
-        panic!(rt; "memory for two types");
-    };
-    let Ok(catalogue) = Catalogue::build(rt.alloc(), &types, 140) else {
-        panic!(rt; "a catalogue of A, B, AB, BA and BB");
-    };
-    assert!(rt; catalogue.len() == 5);
-    assert!(rt; catalogue.get(CompNo(0)).units() == [TypeNo(0)].as_slice());
-    assert!(rt; catalogue.get(CompNo(1)).units() == [TypeNo(1)].as_slice());
-    assert!(rt; catalogue.get(CompNo(2)).units() == [TypeNo(0), TypeNo(1)].as_slice());
-    assert!(rt; catalogue.get(CompNo(3)).units() == [TypeNo(1), TypeNo(0)].as_slice());
-    assert!(rt; catalogue.get(CompNo(4)).units() == [TypeNo(1), TypeNo(1)].as_slice());
-    assert!(rt; catalogue.find(catalogue.get(CompNo(3))) == Some(CompNo(3)));
-    let Some(too_long) = Composition::of(&[TypeNo(0), TypeNo(0)]) else {
-        panic!(rt; "a composition of two units");
-    };
-    assert!(rt; catalogue.find(&too_long).is_none());
+fn catalogue_in_order(rt: HostRuntime) -> Result<(), Fail> {
+    let text = told_of_two(rt.alloc())?;
+    let wanted = "0 Some(CompNo(0))\n1 Some(CompNo(1))\n0 1 Some(CompNo(2))\n1 0 Some(CompNo(3))\n\
+        1 1 Some(CompNo(4))\n";
+    assert!(rt; text.as_str() == wanted, "{text}");
+    Ok(())
+}
+
+/// Whether the catalogue of two types over a platform of 140 metres has two units of type 0, which are too long.
+fn has_too_long(alloc: Global) -> Result<bool, Fail> {
+    let types = two_types(alloc)?;
+    let catalogue = Catalogue::build(alloc, &types, 140)?;
+    match Composition::of(&[TypeNo(0), TypeNo(0)]) {
+        Some(two) => Ok(catalogue.find(&two).is_some()),
+        None => Err(Fail::new("a composition of two units")),
+    }
+}
+
+#[test]
+fn catalogue_without_long_ones(rt: HostRuntime) -> Result<(), Fail> {
+    assert!(rt; !has_too_long(rt.alloc())?);
+    Ok(())
 }
 
 #[test]

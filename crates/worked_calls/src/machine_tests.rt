@@ -4,7 +4,7 @@ ghost use Rattle.std.specs.Prelude.{◌≡◌, ◌<◌, length};
 ghost use Rattle.timetable.specs.Running.{IsPlan};
 ghost use Rattle.day_simulator.specs.State.{trip_of};
 
-use day_simulator::{Day, DayEvent, Place, StepFault, simulate};
+use day_simulator::{Day, DayEvent, Place, Ran, SimulateRefusal, StepFault, simulate};
 use rail_base::{TripNo, UnitNo};
 use sample_days::{RING, TURN, TWO_TYPES, Texts, day_of, plan_of};
 use std::alloc::{AllocError, Global};
@@ -81,9 +81,14 @@ const SIMULATED: &[(Texts<'static>, &[u8], &str)] = &[
 fn simulated(alloc: Global, texts: &Texts<'_>, plan: &[u8]) -> Result<String, Fail> {
     let day = day_of(alloc, texts)?;
     let plan = plan_of(alloc, &day, plan)?;
-    match simulate(alloc, &day, &plan) {
-        Ok(ran) => Ok(format!(in alloc; "runs {}", ran.cost.0)?),
-        Err(why) => Ok(format!(in alloc; "{why:?}")?),
+    Ok(told_of_run(alloc, simulate(alloc, &day, &plan))?)
+}
+
+/// What a run tells.
+fn told_of_run(alloc: Global, ran: Result<Ran, SimulateRefusal>) -> Result<String, AllocError> {
+    match ran {
+        Ok(ran) => format!(in alloc; "runs {}", ran.cost.0),
+        Err(why) => format!(in alloc; "{why:?}"),
     }
 }
 
