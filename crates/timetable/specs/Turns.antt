@@ -123,17 +123,21 @@ pub record AreParts (type_of : ℕ → ℕ) (uncouple couple : End) (exchange : 
 
 -- ---- the same by numbers: the parts
 
+-- the parts where so many stay: the rest goes and comes, each at its end
+abbrev pub parts_beside : End → End → List ℕ → List ℕ → ℕ → Parts
+parts_beside uncouple couple arriving departing n = record {
+  kept = staying uncouple arriving n;
+  given = beyond uncouple arriving n;
+  taken = beyond couple departing n;
+}
+
 -- the parts of a turn that keeps so many: none where other units stand at the kept places, or where too many are
 -- shunted
 abbrev pub parts_at : End → End → Bool → List ℕ → List ℕ → ℕ → Option Parts
 parts_at uncouple couple exchange arriving departing n =
     if same (staying uncouple arriving n) (staying couple departing n)
     && may_shunt exchange (length arriving - n) (length departing - n)
-    then Some (record {
-      kept = staying uncouple arriving n;
-      given = beyond uncouple arriving n;
-      taken = beyond couple departing n;
-    })
+    then Some (parts_beside uncouple couple arriving departing n)
     else None
 
 -- The parts of a turn, of units whose types are told by a function (of types, by the one that changes nothing), or

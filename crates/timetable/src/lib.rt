@@ -13,4 +13,4 @@ pub use day::picks::Picks;
 pub use day::plan::NamedPlan;
 pub use day::records::{Handover, Link, LinkKind, Station, Stock, Trip, Unit, Weights};
 pub use day::rule::{copy_of, turned};
-pub use day::turns::{beyond, may_shunt, staying};
+pub use day::turns::{beyond, staying, staying_units};

@@ -1,18 +1,17 @@
 -- The shunt of a turn, by the number of units that stay.
-use Rattle.std.proofs.Common.{◌≡◌, ℕ, ◌-◌, ◌≤◌, List, length, map, Bool, true, false, Option, Some, None, refl, sym, ap}
+use Rattle.std.proofs.Common.{◌≡◌, ℕ, ◌-◌, ◌≤◌, List, length, map, Bool, true, Option, Some, None, refl, sym, ap}
 use Rattle.std.proofs.Common.{◌∙◌, arith, length-take, length-drop}
-use Rattle.std.specs.Prelude.{option_map, option_and_then, ◌&&◌}
-use Rattle.std.proofs.lemmas.Bool.{cond-false}
+use Rattle.std.specs.Prelude.{option_map}
 use Rattle.std.proofs.lemmas.List.{map-id}
 use Rattle.rail_csv.specs.declared.rows.End.{End}
 use Rattle.rail_csv.specs.declared.rows.End.TheVariants as at
 use Rattle.timetable.specs.declared.day.records.LinkKind.{LinkKind}
 use Rattle.timetable.specs.declared.day.records.LinkKind.TheVariants.{Turn}
 use Rattle.timetable.specs.Links.{itself}
-use Rattle.timetable.specs.Turns.{Parts, same, staying, beyond, kept_length, may_shunt, parts_at, turn_parts}
-use Rattle.timetable.proofs.Turning.{kept-is, is_staying, parts_at-is, turn_parts-is, turn_parts-some}
+use Rattle.timetable.specs.Turns.{Parts, staying, beyond, kept_length, may_shunt, turn_parts}
+use Rattle.timetable.proofs.Turning.{kept-is, is_staying, turn_parts-some}
 use Rattle.transitions.specs.declared.edge.Shunt.{Shunt}
-use Rattle.transitions.specs.Turns.{shunt_by_units, shunt_of, turn_shunt, turn_shunt_of}
+use Rattle.transitions.specs.Turns.{shunt_of, turn_shunt, turn_shunt_of}
 
 -- so many stay of both lists
 pub record StayOfBoth (uncouple couple : End) (arriving departing : List ℕ) (n : ℕ) : Type 0 where
@@ -28,10 +27,6 @@ pub beyond_long : (end : End) (whole : List ℕ) (n : ℕ) → n ≤ length whol
 beyond_long at.None whole n within long = omega (arith, long)
 beyond_long at.Rear whole n within long = length-drop n whole
 beyond_long at.Front whole n within long = omega (arith, length-take (length whole - n) whole)
-
-and_false : (a b : Bool) → b ≡ false → (a && b) ≡ false
-and_false true b e = e
-and_false false b e = refl
 
 module _ (uncouple couple : End) (exchange : Bool) (arriving departing : List ℕ) where
   pub stay_of_both : (n : ℕ) → kept_length uncouple couple arriving departing ≡ Some n → StayOfBoth uncouple couple arriving departing n
@@ -54,32 +49,6 @@ module _ (uncouple couple : End) (exchange : Bool) (arriving departing : List �
       ap (λ (ms : List ℕ). kept_length uncouple couple ms (map itself departing)) (map-id arriving)
       ∙ ap (λ (ms : List ℕ). kept_length uncouple couple arriving ms) (map-id departing)
 
-  -- no list fits
-  pub none_stay : kept_length uncouple couple arriving departing ≡ None → turn_shunt uncouple couple exchange arriving departing ≡ None
-  unfolding turn_shunt turn_parts
-  none_stay e = ap (λ (o : Option ℕ). option_map shunt_of (option_and_then (parts_at uncouple couple exchange arriving departing) o)) (of_itself ∙ e)
-
-  module _ (n : ℕ) (kept : kept_length uncouple couple arriving departing ≡ Some n) where
-    -- more are shunted than may be
-    pub too_many : may_shunt exchange (length arriving - n) (length departing - n) ≡ false → turn_shunt uncouple couple exchange arriving departing ≡ None
-    unfolding turn_shunt
-    too_many many =
-        ap (option_map shunt_of)
-        (turn_parts-is itself uncouple couple exchange arriving departing n (of_itself ∙ kept)
-        ∙ cond-false (same (staying uncouple arriving n) (staying couple departing n) && may_shunt exchange (length arriving - n) (length departing - n))
-        (Some (record { kept = staying uncouple arriving n; given = beyond uncouple arriving n; taken = beyond couple departing n })) None
-        (and_false (same (staying uncouple arriving n) (staying couple departing n)) (may_shunt exchange (length arriving - n) (length departing - n)) many))
-
-    pub shunted : may_shunt exchange (length arriving - n) (length departing - n) ≡ true
-        → turn_shunt uncouple couple exchange arriving departing ≡ Some (shunt_by_units (length arriving - n) (length departing - n))
-    unfolding turn_shunt
-    shunted few =
-        let stay = stay_of_both n kept in
-        ap (option_map shunt_of)
-        (turn_parts-is itself uncouple couple exchange arriving departing n (of_itself ∙ kept) ∙ parts_at-is uncouple couple exchange arriving departing n stay.one few)
-        ∙ ap (λ (k : ℕ). Some (shunt_by_units k (length (beyond couple departing n)))) (beyond_long uncouple arriving n stay.of_arriving stay.arriving_long)
-        ∙ ap (λ (k : ℕ). Some (shunt_by_units (length arriving - n) k)) (beyond_long couple departing n stay.of_departing stay.departing_long)
-
   -- a turn whose rule holds: so many stay, and no more are shunted than may be
   pub record Turns (n : ℕ) : Type 0 where
     pub stay : StayOfBoth uncouple couple arriving departing n
@@ -95,15 +64,10 @@ module _ (uncouple couple : End) (exchange : Bool) (arriving departing : List �
           let of = turn_parts-some itself uncouple couple exchange arriving departing parts is in
           (of.number, record { stay = stay_of_both of.number (sym of_itself ∙ of.kept); few = of.parts_at.few })
 
--- the same of a link of a kind
-module _ (kind : LinkKind) (a b : ℕ) (uncouple couple : End) (exchange : Bool) (is : kind ≡ Turn a b uncouple couple exchange) (arriving departing : List ℕ) where
-  pub kind_none : kept_length uncouple couple arriving departing ≡ None → turn_shunt_of kind arriving departing ≡ None
-  kind_none e = ap (λ (k : LinkKind). turn_shunt_of k arriving departing) is ∙ none_stay uncouple couple exchange arriving departing e
-
-  module _ (n : ℕ) (kept : kept_length uncouple couple arriving departing ≡ Some n) where
-    pub kind_too_many : may_shunt exchange (length arriving - n) (length departing - n) ≡ false → turn_shunt_of kind arriving departing ≡ None
-    kind_too_many many = ap (λ (k : LinkKind). turn_shunt_of k arriving departing) is ∙ too_many uncouple couple exchange arriving departing n kept many
-
-    pub kind_shunted : may_shunt exchange (length arriving - n) (length departing - n) ≡ true
-        → turn_shunt_of kind arriving departing ≡ Some (shunt_by_units (length arriving - n) (length departing - n))
-    kind_shunted few = ap (λ (k : LinkKind). turn_shunt_of k arriving departing) is ∙ shunted uncouple couple exchange arriving departing n kept few
+-- the shunt of a link of a kind is by the parts of the turn
+pub kind_by_parts : (kind : LinkKind) (a b : ℕ) (uncouple couple : End) (exchange : Bool) → kind ≡ Turn a b uncouple couple exchange
+    → (arriving departing : List ℕ) (o : Option Parts) → turn_parts itself uncouple couple exchange arriving departing ≡ o
+    → turn_shunt_of kind arriving departing ≡ option_map shunt_of o
+unfolding turn_shunt
+kind_by_parts kind a b uncouple couple exchange is arriving departing o e =
+    ap (λ (k : LinkKind). turn_shunt_of k arriving departing) is ∙ ap (option_map shunt_of) e

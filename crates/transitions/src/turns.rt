@@ -9,7 +9,7 @@ use crate::edge::Shunt;
 use compositions::Composition;
 use rail_base::TypeNo;
 use rail_base::limits::MOST_COMPOSITION;
-use timetable::{LinkKind, may_shunt};
+use timetable::{LinkKind, beyond, staying_units};
 
 /// The shunt of a turn between two lists of at most six types each, or nothing where the rule of the turn is broken,
 /// and at a join or a split. The arriving list is the one after a reversal.
@@ -18,16 +18,19 @@ pub(crate) fn turn_shunt(kind: LinkKind, arriving: &[TypeNo], departing: &[TypeN
     requires departing { length departing.now ≤ MOST_COMPOSITION }
     ensures { result ≡ turn_shunt_of kind arriving.now departing.now }
 {
-    let LinkKind::Turn { exchange, .. } = kind else {
+    let LinkKind::Turn {
+        uncouple,
+        couple,
+        exchange,
+        ..
+    } = kind
+    else {
         return None;
     };
-    let kept = kind.kept(arriving, departing)?;
-    let given = arriving.len() - kept;
-    let taken = departing.len() - kept;
-    if !may_shunt(exchange, given, taken) {
-        return None;
-    }
-    Some(shunt_by_units(given as u8, taken as u8))
+    let stay = staying_units(uncouple, couple, exchange, arriving, departing)?;
+    let given = beyond(uncouple, arriving, stay).len() as u8;
+    let taken = beyond(couple, departing, stay).len() as u8;
+    Some(shunt_by_units(given, taken))
 }
 
 /// What is done to a train where so many units are given to the yard and so many are taken from it.

@@ -1,8 +1,10 @@
 //! What a turn keeps of an arriving train, by the types of its units, and which units it gives to the yard and takes
 //! from it.
 
-ghost use Rattle.std.specs.Prelude.{◌≡◌, ◌≤◌, ◌-◌, length, map, IfSome, IsTrue};
+ghost use Rattle.std.specs.Prelude.{◌≡◌, ◌≤◌, ◌-◌, length, map, IfSome, IsTrue, option_map, unwrap_or};
+ghost use Rattle.timetable.specs.Links.{itself, turn_of};
 ghost use Rattle.timetable.specs.Turns.{may_stay, staying, beyond, fits_at, greatest, kept_length, may_shunt, parts_at};
+ghost use Rattle.timetable.specs.Turns.{parts_beside, turn_parts};
 
 use rail_base::limits::MOST_EXCHANGED;
 use rail_base::{TypeNo, UnitNo};
@@ -91,10 +93,40 @@ pub fn beyond<T>(end: End, whole: &[T], stay: usize) -> &[T]
 
 /// Whether a turn may take so many units off and put so many on: it does one of the two, or, with exchange, few of
 /// both.
-pub fn may_shunt(exchange: bool, off: usize, on: usize) -> bool
+fn may_shunt(exchange: bool, off: usize, on: usize) -> bool
     ensures { result ≡ may_shunt exchange off on }
 {
     off == 0 || on == 0 || (exchange && off <= MOST_EXCHANGED && on <= MOST_EXCHANGED)
+}
+
+/// How many units stay at a turn between lists of types, or nothing where its rule is broken: where no list of types
+/// fits it, or where more units would be uncoupled and coupled than may be. The arriving list is the one after a
+/// reversal.
+pub fn staying_units(
+    uncouple: End,
+    couple: End,
+    exchange: bool,
+    arriving: &[TypeNo],
+    departing: &[TypeNo],
+) -> Option<usize>
+    // What stays, goes and comes then are the parts of the turn, of types.
+    ensures parts { option_map (parts_beside uncouple couple arriving.now departing.now) result
+        ≡ turn_parts itself uncouple couple exchange arriving.now departing.now }
+    ensures given { unwrap_or (option_map (beyond uncouple arriving.now) result) arriving.now
+        ≡ (turn_of itself uncouple couple exchange arriving.now departing.now).given }
+    ensures taken { unwrap_or (option_map (beyond couple departing.now) result) departing.now
+        ≡ (turn_of itself uncouple couple exchange arriving.now departing.now).taken }
+    // They are no more than stand in either list.
+    ensures arriving { IfSome result (λ n. n ≤ length arriving.now) }
+    ensures departing { IfSome result (λ n. n ≤ length departing.now) }
+{
+    let Some(stay) = kept_length(uncouple, couple, arriving, departing) else {
+        return None;
+    };
+    if !may_shunt(exchange, arriving.len() - stay, departing.len() - stay) {
+        return None;
+    }
+    Some(stay)
 }
 
 /// What becomes of the units of an arriving and a departing list. A contract sees the three lists.

@@ -3,7 +3,7 @@
 ghost use Rattle.std.specs.Prelude.{◌≡◌, ◌<◌, ◌≤◌, length, IfSome, IsTrue, option_map, unwrap_or};
 ghost use Rattle.compositions.specs.Composition.{are_types};
 ghost use Rattle.timetable.specs.LinkRows.{NamesBelow};
-ghost use Rattle.timetable.specs.Links.{itself, list_of, turn_of, given_by, taken_by, given_with, taken_with};
+ghost use Rattle.timetable.specs.Links.{itself, list_of, given_by, taken_by, given_with, taken_with};
 ghost use Rattle.timetable.specs.Picks.{ArePicks, picked};
 ghost use Rattle.timetable.specs.Turns.{beyond};
 
@@ -11,7 +11,7 @@ use crate::day::instance::Instance;
 use crate::day::picks::Picks;
 use crate::day::records::{Link, LinkKind};
 use crate::day::rule::{copy_of, turned};
-use crate::day::turns::{beyond, kept_length, may_shunt};
+use crate::day::turns::{beyond, staying_units};
 use arrayvec::ArrayVec;
 use compositions::Composition;
 use rail_base::limits::MOST_COMPOSITION;
@@ -25,31 +25,6 @@ struct YardTypes {
     given: ArrayVec<TypeNo, MOST_COMPOSITION>,
     /// Those of the units that the departing trip takes from the yard, front to rear.
     taken: ArrayVec<TypeNo, MOST_COMPOSITION>,
-}
-
-/// How many units stay at a turn between these types, or nothing where its rule is broken. The arriving list is the one
-/// after a reversal.
-fn staying_units(
-    uncouple: End,
-    couple: End,
-    exchange: bool,
-    arriving: &[TypeNo],
-    departing: &[TypeNo],
-) -> Option<usize>
-    ensures given { unwrap_or (option_map (beyond uncouple arriving.now) result) arriving.now
-        ≡ (turn_of itself uncouple couple exchange arriving.now departing.now).given }
-    ensures taken { unwrap_or (option_map (beyond couple departing.now) result) departing.now
-        ≡ (turn_of itself uncouple couple exchange arriving.now departing.now).taken }
-    ensures arriving { IfSome result (λ n. n ≤ length arriving.now) }
-    ensures departing { IfSome result (λ n. n ≤ length departing.now) }
-{
-    let Some(stay) = kept_length(uncouple, couple, arriving, departing) else {
-        return None;
-    };
-    if !may_shunt(exchange, arriving.len() - stay, departing.len() - stay) {
-        return None;
-    }
-    Some(stay)
 }
 
 /// What goes of a list at this end when so many stay, and all of it where none do.

@@ -1,21 +1,19 @@
--- By the number of units that stay.
-use Rattle.std.proofs.Common.{Some, sym, ap, ◌∙◌}
+-- By the parts of the turn, where so many stay.
+use Rattle.std.proofs.Common.{ℕ, List, length, Some, None, sym, ap, ◌∙◌}
+use Rattle.timetable.specs.Turns.{beyond, parts_beside}
 use Rattle.transitions.specs.declared.edge.Shunt.{Shunt}
-use Rattle.transitions.proofs.Shunting.{kind_none, kind_too_many, kind_shunted}
+use Rattle.transitions.specs.Turns.{shunt_by_units}
+use Rattle.transitions.proofs.Shunting.{kind_by_parts}
 use Rattle.transitions.proofs.turns.turn_shunt.Goals as goal
 
-pub returns-in_err-kept : goal.returns-in_err-kept
-returns-in_err-kept c =
+pub returns-in_err-stay : goal.returns-in_err-stay
+returns-in_err-stay c =
     c.from_residual.ensures
-    ∙ sym (kind_none c.args.kind c.in-Turn.arriving c.in-Turn.departing c.in-Turn.uncouple c.in-Turn.couple c.in-Turn.exchange c.in-Turn.is c.args.arriving.now c.args.departing.now (sym c.in_err-kept.ensures.number))
-
-pub returns-then-not-may_shunt : goal.returns-then-not-may_shunt
-returns-then-not-may_shunt c =
-    sym (kind_too_many c.args.kind c.in-Turn.arriving c.in-Turn.departing c.in-Turn.uncouple c.in-Turn.couple c.in-Turn.exchange c.in-Turn.is c.args.arriving.now c.args.departing.now
-    c.in_ok-kept.kept (sym c.in_ok-kept.ensures.number) (sym c.if-not-may_shunt.ensures))
+    ∙ sym (kind_by_parts c.args.kind c.in-Turn.arriving c.in-Turn.departing c.in-Turn.uncouple c.in-Turn.couple c.in-Turn.exchange c.in-Turn.is c.args.arriving.now c.args.departing.now None (sym c.in_err-stay.ensures.parts))
 
 pub returns : goal.returns
 returns c =
     ap (λ (shunt : Shunt). Some shunt) c.shunt_by_units.ensures
-    ∙ sym (kind_shunted c.args.kind c.in-Turn.arriving c.in-Turn.departing c.in-Turn.uncouple c.in-Turn.couple c.in-Turn.exchange c.in-Turn.is c.args.arriving.now c.args.departing.now
-    c.in_ok-kept.kept (sym c.in_ok-kept.ensures.number) (sym c.if-not-may_shunt.ensures))
+    ∙ ap (λ (given : List ℕ). Some (shunt_by_units (length given) (length c.beyond-2.result.now))) c.beyond.ensures.units
+    ∙ ap (λ (taken : List ℕ). Some (shunt_by_units (length (beyond c.in-Turn.uncouple c.args.arriving.now c.in_ok-stay.stay)) (length taken))) c.beyond-2.ensures.units
+    ∙ sym (kind_by_parts c.args.kind c.in-Turn.arriving c.in-Turn.departing c.in-Turn.uncouple c.in-Turn.couple c.in-Turn.exchange c.in-Turn.is c.args.arriving.now c.args.departing.now (Some (parts_beside c.in-Turn.uncouple c.in-Turn.couple c.args.arriving.now c.args.departing.now c.in_ok-stay.stay)) (sym c.in_ok-stay.ensures.parts))
