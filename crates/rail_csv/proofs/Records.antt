@@ -16,7 +16,7 @@ use Rattle.csv.specs.declared.reader.Reader.{Reader}
 use Rattle.csv.specs.declared.reader.Trim.TheVariants as trim
 use Rattle.csv.proofs.ReadFacts.{rows-more, rows-end}
 use Rattle.rail_csv.specs.Tables.{records_of}
-use Rattle.rail_csv.specs.Records.{Records, ReadsOn, unread, text_left, records_left, rest_of}
+use Rattle.rail_csv.specs.Records.{Records, ReadsOn, Took, unread, text_left, records_left, rest_of}
 
 chosen : (b : Bool) (x y : Option Read) (p : Read) → cond b x y ≡ Some p → ((b ≡ true) × (x ≡ Some p)) ⊎ ((b ≡ false) × (y ≡ Some p))
 chosen true x y p e = inl (refl, e)
@@ -119,12 +119,6 @@ source_is o text e = ap (λ (x : Option (List ℕ)). unwrap_or x []) e
 
 same_left : (f g : List (List ℕ)) (s t : State) (x y : List ℕ) → f ≡ g → s ≡ t → x ≡ y → f ∷ rest_of s x ≡ g ∷ rest_of t y
 same_left f g s t x y a b c = rw (a, b, c) refl
-
--- a turn that gave a record
-pub record Took (a b : Records) (fields : List (List ℕ)) : Type 0 where
-  pub next : ReadsOn b
-  pub first : records_left a ≡ fields ∷ records_left b
-  pub few : length fields < 4294967296
 
 pub took : (a b : Records) (x : Row) → ReadsOn a → RowStep unread a.rdr b.rdr b.left (Some (Ok x)) → Took a b (fields_of x)
 unfolding Reached

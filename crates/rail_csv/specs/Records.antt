@@ -1,5 +1,5 @@
 -- The records that csv still has to read.
-use Rattle.std.specs.Prelude.{◌≡◌, ◌<◌, ◌≤◌, ◌+◌, ℕ, List, [], length, Option, Some, unwrap_or}
+use Rattle.std.specs.Prelude.{◌≡◌, ◌<◌, ◌≤◌, ◌+◌, ◌^◌, ℕ, List, [], ◌∷◌, length, Option, Some, unwrap_or}
 use Rattle.std.specs.Borrow.{Bor}
 use Rattle.csv.specs.Reading.{records_from, default_config, source_of, Ready, reader_trim, reader_config, reader_state}
 use Rattle.csv.specs.Reading.{owned_rows_reader, owned_rows_left}
@@ -36,3 +36,9 @@ pub record ReadsOn (records : Records) : Type 0 where
   pub config : reader_config (owned_rows_reader records) ≡ default_config
   pub source : source_of unread (owned_rows_reader records) ≡ Some (text_left records)
   pub small : length (text_left records) ≤ MOST_TABLE_BYTES
+
+-- a record was read: the first of those that were left
+pub record Took (before after : Records) (fields : List (List ℕ)) : Type 0 where
+  pub next : ReadsOn after
+  pub first : records_left before ≡ fields ∷ records_left after
+  pub few : length fields < 2 ^ 32

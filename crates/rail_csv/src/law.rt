@@ -20,8 +20,8 @@ pub fn what_is_read<T: Drop>()
         → (rows_under words fewest limit columns records ≡ Err e) ↔ IsFirstWrong words fewest limit columns records e }
 {}
 
-/// For all bytes, by the definition of `weights`, which the call meets but for want of memory: they are read as a row of
-/// weights exactly where their records, from the first to the last, are a weights table of this one row. They are
+/// For all bytes, by the definition of `weights`, which the call meets but for want of memory: they are read as a row
+/// of weights exactly where their records, from the first to the last, are a weights table of this one row. They are
 /// refused for want of a row exactly where their records are a weights table of no row, which is its header and nothing
 /// after it. They are refused for anything else exactly where it is the first wrong thing in the records. No other
 /// table, nor a plan, is ever refused for want of a row.

@@ -1,11 +1,13 @@
 //! How every table is read: its header, and then its rows in order, up to the limit or the first that is wrong.
 
-ghost use Rattle.std.specs.Prelude.{◌≡◌, ◌≤◌, ◌<◌, ◌^◌, length, map, Ok, IfOk, IfErr};
+ghost use Rattle.std.specs.Prelude.{◌≡◌, ◌≤◌, ◌<◌, ◌+◌, ◌^◌, [], length, map, Ok, IfOk, IfErr, MatchOption, MatchBool};
 ghost use Rattle.csv.specs.Records.{fields_of};
-ghost use Rattle.rail_base.specs.Answers.{Gives, GivesRows};
+ghost use Rattle.rail_base.specs.Answers.{Fails, Gives, GivesRows};
 ghost use Rattle.rail_csv.specs.Columns.{field, field_or};
-ghost use Rattle.rail_csv.specs.Tables.{Columns, is_header, is_memory, records_of, row_of, rows_from, table_of};
-ghost use Rattle.rail_csv.specs.Records.{ReadsOn, records_left};
+ghost use Rattle.rail_csv.specs.Tables.{Columns, is_header, is_memory, records_of, row_of, rows_from, rows_under};
+ghost use Rattle.rail_csv.specs.Tables.{table_of};
+ghost use Rattle.rail_csv.specs.Records.{ReadsOn, Took, records_left};
+ghost use Rattle.rail_csv.specs.ReadRows.{GoesOn, HasOneMore, HasRead, all_rows, row_within, width_of};
 ghost use Rattle.rail_csv.specs.declared.refusal.TableRefusal.TheVariants.{NoMemory};
 
 use crate::refusal::TableRefusal;
@@ -93,17 +95,6 @@ fn read_row<T: TableRow>(
     T::read(alloc, row, &fields)
 }
 
-/// The record of a turn. With bytes in memory and records of any length, csv fails for want of memory alone.
-fn taken(turn: Result<ByteRecord, Error>) -> Result<ByteRecord, TableRefusal>
-    ensures ok { IfOk result (λ found. turn ≡ Ok found) }
-    ensures err { IfErr result (λ e. e ≡ NoMemory) }
-{
-    match turn {
-        Ok(found) => Ok(found),
-        Err(_) => Err(TableRefusal::NoMemory),
-    }
-}
-
 /// The records of a table, in turn, after a byte order mark at its front was dropped once.
 fn records_in(alloc: Global, bytes: &[u8]) -> ByteRecordsIntoIter<&[u8]>
     requires { length bytes.now ≤ MOST_TABLE_BYTES }
@@ -117,29 +108,133 @@ fn records_in(alloc: Global, bytes: &[u8]) -> ByteRecordsIntoIter<&[u8]>
         .into_byte_records()
 }
 
+/// The record of a turn. With bytes in memory and records of any length, csv fails for want of memory alone.
+fn taken(turn: Result<ByteRecord, Error>) -> Result<ByteRecord, TableRefusal>
+    ensures ok { IfOk result (λ found. turn ≡ Ok found) }
+    ensures err { IfErr result (λ e. e ≡ NoMemory) }
+{
+    match turn {
+        Ok(found) => Ok(found),
+        Err(_) => Err(TableRefusal::NoMemory),
+    }
+}
+
+/// The next record; none where all are read.
+fn next_record(records: &mut ByteRecordsIntoIter<&[u8]>) -> Result<Option<ByteRecord>, TableRefusal>
+    requires { ReadsOn records.old }
+    ensures ok { IfOk result (λ turn. MatchOption turn (records_left records.old ≡ [])
+        (λ found. Took records.old records.new (fields_of found))) }
+    ensures err { IfErr result (λ e. e ≡ NoMemory) }
+{
+    let Some(turn) = records.next() else {
+        return Ok(None);
+    };
+    let found = taken(turn)?;
+    Ok(Some(found))
+}
+
+/// Reads the row of a record and puts it behind the rows that were read before it, of which there are at most `limit`.
+fn push_row<T: TableRow>(
+    alloc: Global,
+    width: usize,
+    limit: u32,
+    found: ByteRecord,
+    rows: &mut Vec<T>,
+) -> Result<(), TableRefusal>
+    requires fields { length (fields_of found) < 2 ^ 32 }
+    requires few { length rows.old.items ≤ limit }
+    requires limit { limit ≤ MOST_TABLE_BYTES }
+    ensures ok { IfOk result
+        (λ _. HasOneMore width limit T.columns (fields_of found) rows.old.items rows.new.items) }
+    ensures err { IfErr result
+        (λ e. Fails is_memory e (row_within width limit T.columns (length rows.old.items + 1) (fields_of found))) }
+{
+    if rows.len() == limit as usize {
+        return Err(TableRefusal::TooManyRows);
+    }
+    let number = rows.len() as u32 + 1;
+    let row = read_row(alloc, width, number, found)?;
+    rows.push(row)?;
+    Ok(())
+}
+
+/// Reads one more row: whether there was a record for it.
+fn read_next<T: TableRow>(
+    alloc: Global,
+    width: usize,
+    limit: u32,
+    records: &mut ByteRecordsIntoIter<&[u8]>,
+    rows: &mut Vec<T>,
+) -> Result<bool, TableRefusal>
+    requires reads { ReadsOn records.old }
+    requires few { length rows.old.items ≤ limit }
+    requires limit { limit ≤ MOST_TABLE_BYTES }
+    ensures ok { IfOk result (λ more. MatchBool more
+        (GoesOn width limit T.columns rows.old.items rows.new.items records.old records.new)
+        (all_rows width limit T.columns rows.old.items (records_left records.old) ≡ Ok rows.new.items)) }
+    ensures err { IfErr result
+        (λ e. Fails is_memory e (all_rows width limit T.columns rows.old.items (records_left records.old))) }
+{
+    let Some(found) = next_record(records)? else {
+        return Ok(false);
+    };
+    push_row(alloc, width, limit, found, rows)?;
+    Ok(true)
+}
+
 /// Reads the rows under a header of so many columns, at most `limit`. No more records are read than it takes to know
 /// the answer.
 fn read_rows<T: TableRow>(
     alloc: Global,
     width: usize,
     limit: u32,
-    records: ByteRecordsIntoIter<&[u8]>,
+    records: &mut ByteRecordsIntoIter<&[u8]>,
 ) -> Result<Vec<T>, TableRefusal>
-    requires reads { ReadsOn records }
+    requires reads { ReadsOn records.old }
     requires limit { limit ≤ MOST_TABLE_BYTES }
-    ensures { GivesRows is_memory result (rows_from width limit T.columns 1 (records_left records.entry)) }
+    ensures { GivesRows is_memory result (rows_from width limit T.columns 1 (records_left records.old)) }
 {
     let mut rows: Vec<T> = Vec::new(alloc);
-    for turn in records {
-        let found = taken(turn)?;
-        if rows.len() == limit as usize {
-            return Err(TableRefusal::TooManyRows);
-        }
-        let number = rows.len() as u32 + 1;
-        let row = read_row(alloc, width, number, found)?;
-        rows.push(row)?;
-    }
+    while read_next(alloc, width, limit, records, &mut rows)? {}
     Ok(rows)
+}
+
+/// Reads the header of a version: how many columns it has.
+fn read_header(
+    words: &[&str],
+    fewest: usize,
+    records: &mut ByteRecordsIntoIter<&[u8]>,
+) -> Result<usize, TableRefusal>
+    requires { ReadsOn records.old }
+    ensures ok { IfOk result
+        (λ width. HasRead (map (λ word. word.now) words.now) fewest width records.old records.new) }
+    ensures err { IfErr result
+        (λ e. Fails is_memory e (width_of (map (λ word. word.now) words.now) fewest (records_left records.old))) }
+{
+    let Some(first) = next_record(records)? else {
+        return Err(TableRefusal::WrongHeader);
+    };
+    if !is_header(words, fewest, &first) {
+        return Err(TableRefusal::WrongHeader);
+    }
+    Ok(first.len())
+}
+
+/// Reads the rows under the header of a version, at most `limit`.
+fn read_under<T: TableRow>(
+    alloc: Global,
+    words: &[&str],
+    fewest: usize,
+    limit: u32,
+    records: &mut ByteRecordsIntoIter<&[u8]>,
+) -> Result<Vec<T>, TableRefusal>
+    requires reads { ReadsOn records.old }
+    requires limit { limit ≤ MOST_TABLE_BYTES }
+    ensures { GivesRows is_memory result
+        (rows_under (map (λ word. word.now) words.now) fewest limit T.columns (records_left records.old)) }
+{
+    let width = read_header(words, fewest, records)?;
+    read_rows(alloc, width, limit, records)
 }
 
 /// Reads a table: the words of its columns, how many of them its first version has, and the most rows. Its header tells
@@ -159,12 +254,5 @@ pub fn read_table<T: TableRow>(
         (table_of (map (λ word. word.now) words.now) fewest limit T.columns bytes.now) }
 {
     let mut records = records_in(alloc, bytes);
-    let Some(turn) = records.next() else {
-        return Err(TableRefusal::WrongHeader);
-    };
-    let first = taken(turn)?;
-    if !is_header(words, fewest, &first) {
-        return Err(TableRefusal::WrongHeader);
-    }
-    read_rows(alloc, first.len(), limit, records)
+    read_under(alloc, words, fewest, limit, &mut records)
 }

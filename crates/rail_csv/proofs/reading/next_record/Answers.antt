@@ -1,0 +1,14 @@
+use Rattle.rail_csv.proofs.Records.{took, ended}
+use Rattle.rail_csv.proofs.reading.next_record.Goals as goal
+
+pub returns-in_default-clause-ok : goal.returns-in_default-clause-ok
+returns-in_default-clause-ok c =
+    let r = c.requires in
+    let step = rw c.in_default.is at ((c.next.ensures.steps r.turns r.trim).0 r.ready) in
+    ended c.args.records.now c.next.new.self c.next.new.self.left r step
+
+pub returns-clause-ok : goal.returns-clause-ok
+returns-clause-ok c =
+    let r = c.requires in
+    let step = rw (c.in-Some.is, c.in_ok-found.ensures.ok) at ((c.next.ensures.steps r.turns r.trim).0 r.ready) in
+    took c.args.records.now c.next.new.self c.in_ok-found.found r step
