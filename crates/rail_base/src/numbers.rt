@@ -137,7 +137,7 @@ impl CompNo {
 }
 
 /// The number of a node of a search tree, counted from 0 in preorder.
-#[derive(Clone, Copy, Debug, PartialEq, Eq)]
+#[derive(Clone, Copy, PartialEq, Eq)]
 pub struct NodeNo(pub u32);
 
 impl Model for NodeNo {

@@ -125,7 +125,7 @@ pub struct WeightsRow {
 }
 
 /// At most six units by number, front to rear. A contract sees the list of the numbers.
-#[derive(Debug, Drop)]
+#[derive(Drop)]
 pub struct UnitList {
     units: Vec<UnitNo>,
 }
@@ -160,7 +160,7 @@ impl UnitList {
 }
 
 /// A row of the plan table: which units run on a trip.
-#[derive(Debug, Drop)]
+#[derive(Drop)]
 pub struct PlanRow {
     /// The name of the trip.
     pub trip: Name,
