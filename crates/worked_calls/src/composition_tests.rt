@@ -49,23 +49,35 @@ fn three_types(alloc: Global) -> Result<UnitTypes, NoMemory> {
     Ok(UnitTypes::new(types))
 }
 
+/// Whether a composition is a unit of type 0 and one of type 1 behind it, in each way to look at it.
+fn is_pair(pair: &Composition) -> bool {
+    pair.len() == 2
+        && pair.at(1) == TypeNo(1)
+        && pair.count(TypeNo(0)) == 1
+        && pair.reversed().at(0) == TypeNo(1)
+        && pair.front(1).at(0) == TypeNo(0)
+        && pair.rear(1).at(0) == TypeNo(1)
+        && pair.copied().is(pair)
+}
+
+/// Whether such a pair and its reverse are joined to four units, and these to no more.
+fn is_joined(pair: &Composition) -> bool {
+    match pair.joined(&pair.reversed()) {
+        Some(four) => {
+            four.units() == [TypeNo(0), TypeNo(1), TypeNo(1), TypeNo(0)].as_slice()
+                && four.joined(&four).is_none()
+        }
+        None => false,
+    }
+}
+
 #[test]
 fn list_operations(rt: HostRuntime) {
     let Some(pair) = Composition::of(&[TypeNo(0), TypeNo(1)]) else {
         panic!(rt; "a composition of two units");
     };
-    assert!(rt; pair.len() == 2);
-    assert!(rt; pair.at(1) == TypeNo(1));
-    assert!(rt; pair.count(TypeNo(0)) == 1);
-    assert!(rt; pair.reversed().at(0) == TypeNo(1));
-    assert!(rt; pair.front(1).at(0) == TypeNo(0));
-    assert!(rt; pair.rear(1).at(0) == TypeNo(1));
-    assert!(rt; pair.copied().is(&pair));
-    let Some(four) = pair.joined(&pair.reversed()) else {
-        panic!(rt; "a composition of four units");
-    };
-    assert!(rt; four.units() == [TypeNo(0), TypeNo(1), TypeNo(1), TypeNo(0)].as_slice());
-    assert!(rt; four.joined(&four).is_none());
+    assert!(rt; is_pair(&pair));
+    assert!(rt; is_joined(&pair));
 }
 
 #[test]

@@ -4,6 +4,7 @@ use cost_model::{cost, parts, plan_cost};
 use rail_base::{CompNo, TripNo};
 use sample_days::{TURN, Texts, day_of, plan_of};
 use std::alloc::Global;
+use std::process::Abort;
 use std::test::Fail;
 use timetable::{Instance, Picks};
 
@@ -43,11 +44,16 @@ fn told(alloc: Global, day: &Instance, first: u32, second: u32) -> Result<String
     Ok(format!(in alloc; "{whole}: {carriage} {shortage} {}", part.shunting.0)?)
 }
 
+/// What two picks of the day of these tables cost.
+fn picks_told(alloc: Global, texts: &Texts<'_>, first: u32, second: u32) -> Result<String, Fail> {
+    let day = day_of(alloc, texts)?;
+    told(alloc, &day, first, second)
+}
+
 #[test]
 fn picks_have_their_cost(rt: HostRuntime) -> Result<(), Fail> {
     for (texts, first, second, wanted) in PICKS {
-        let day = day_of(rt.alloc(), texts)?;
-        let text = told(rt.alloc(), &day, *first, *second)?;
+        let text = picks_told(rt.alloc(), texts, *first, *second)?;
         assert!(rt; text.as_str() == *wanted, "{text}");
     }
     Ok(())
@@ -59,12 +65,23 @@ const PLANS: &[(&[u8], i128)] = &[
     (b"trip,units\nT1,0\nT2,\n", 2630),
 ];
 
+/// What the plan of a day costs that the bytes of a table make.
+fn cost_of(alloc: Global, day: &Instance, bytes: &[u8]) -> Result<i128, Fail> {
+    let plan = plan_of(alloc, day, bytes)?;
+    Ok(plan_cost(day, &plan).0)
+}
+
+/// Asserts what each of the plans of a day costs.
+fn costs_are_theirs(rt: &impl Abort, alloc: Global, day: &Instance) -> Result<(), Fail> {
+    for (bytes, wanted) in PLANS {
+        let cost = cost_of(alloc, day, *bytes)?;
+        assert!(rt; cost == *wanted);
+    }
+    Ok(())
+}
+
 #[test]
 fn plans_have_their_cost(rt: HostRuntime) -> Result<(), Fail> {
     let day = day_of(rt.alloc(), &TURN)?;
-    for (bytes, wanted) in PLANS {
-        let plan = plan_of(rt.alloc(), &day, *bytes)?;
-        assert!(rt; plan_cost(&day, &plan).0 == *wanted);
-    }
-    Ok(())
+    costs_are_theirs(&rt, rt.alloc(), &day)
 }

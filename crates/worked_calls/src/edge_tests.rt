@@ -6,6 +6,7 @@ use rail_base::{CompNo, LinkNo};
 use sample_days::{TURN, Texts, day_of};
 use std::alloc::{AllocError, Global};
 use std::test::Fail;
+use timetable::Instance;
 use transitions::{Edge, Graphs};
 
 /// A day of one type on which T1 and T2 arrive before T3 and T4 leave, with one turn. The platforms fit two units.
@@ -176,11 +177,16 @@ const PARTS: &[Row] = &[
     },
 ];
 
-/// What is answered of the only link of a day; nothing where there is another number of links.
+/// What is answered of the only link of the day of these tables.
 fn told(alloc: Global, texts: &Texts<'_>, asked: Asked) -> Result<String, Fail> {
-    let mut text = String::new(alloc);
     let day = day_of(alloc, texts)?;
-    let graphs = Graphs::build(alloc, &day)?;
+    told_of(alloc, &day, asked)
+}
+
+/// What is answered of the only link of a day; nothing where there is another number of links.
+fn told_of(alloc: Global, day: &Instance, asked: Asked) -> Result<String, Fail> {
+    let graphs = Graphs::build(alloc, day)?;
+    let mut text = String::new(alloc);
     if day.links() == 1 {
         write_answers(&mut text, &graphs, asked)?;
     }
@@ -192,27 +198,37 @@ fn write_answers(text: &mut String, graphs: &Graphs, asked: Asked) -> Result<(),
     requires { 0 < length graphs.now }
 {
     match asked {
-        Asked::Edges => {
-            for edge in graphs.edges(LinkNo(0)) {
-                write_edge(text, *edge)?;
-            }
-        }
+        Asked::Edges => write_edges(text, graphs.edges(LinkNo(0))),
         Asked::Shunts(pairs) => {
             for (from, to) in pairs {
                 let shunt = graphs.allowed(LinkNo(0), CompNo(*from), CompNo(*to));
                 write!(text, "{shunt:?}\n")?;
             }
+            Ok(())
         }
         Asked::Found(pairs) => {
             for (from, to) in pairs {
-                match graphs.find(LinkNo(0), CompNo(*from), CompNo(*to)) {
-                    Some(edge) => write_edge(text, edge)?,
-                    None => text.push_str("none\n")?,
-                }
+                write_found(text, graphs.find(LinkNo(0), CompNo(*from), CompNo(*to)))?;
             }
+            Ok(())
         }
     }
+}
+
+/// Writes edges.
+fn write_edges(text: &mut String, edges: &[Edge]) -> Result<(), AllocError> {
+    for edge in edges {
+        write_edge(text, *edge)?;
+    }
     Ok(())
+}
+
+/// Writes an edge, or that none was found.
+fn write_found(text: &mut String, found: Option<Edge>) -> Result<(), AllocError> {
+    match found {
+        Some(edge) => write_edge(text, edge),
+        None => text.push_str("none\n"),
+    }
 }
 
 /// Writes an edge: from where and to where it leads, its shunt, and its part, where there is one.

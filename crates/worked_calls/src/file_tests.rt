@@ -174,23 +174,44 @@ fn reads_told<F: Folder>(
     Ok(text)
 }
 
-/// What the reads of a folder in memory give.
-fn memory_told(rt: &impl Abort, alloc: Global, row: &InMemory) -> Result<String, Fail> {
+/// These files in memory.
+fn files_of(
+    rt: &impl Abort,
+    alloc: Global,
+    rows: &[(&str, Bytes)],
+) -> Result<Vec<MemoryFile>, NoMemory> {
     let mut files = Vec::new(alloc);
-    for (path, bytes) in row.files {
+    for (path, bytes) in rows {
         files.push(file(rt, alloc, path, *bytes)?)?;
     }
+    Ok(files)
+}
+
+/// What these reads of a folder in memory give, of which those of these numbers fail.
+fn failing_told(
+    alloc: Global,
+    files: Vec<MemoryFile>,
+    numbers: &[u64],
+    reads: &[(&str, u64)],
+) -> Result<String, Fail> {
+    let mut failing = Vec::new(alloc);
+    failing.extend_from_slice(numbers)?;
+    let mut folder = MemoryFolder::new(alloc, files, failing)?;
+    Ok(reads_told(alloc, &mut folder, reads)?)
+}
+
+/// What these reads of a sure folder give.
+fn sure_told(alloc: Global, files: Vec<MemoryFile>, reads: &[(&str, u64)]) -> Result<String, Fail> {
+    let mut folder = SureFolder::new(alloc, files)?;
+    Ok(reads_told(alloc, &mut folder, reads)?)
+}
+
+/// What the reads of a folder in memory give.
+fn memory_told(rt: &impl Abort, alloc: Global, row: &InMemory) -> Result<String, Fail> {
+    let files = files_of(rt, alloc, row.files)?;
     match row.failing {
-        Some(numbers) => {
-            let mut failing = Vec::new(alloc);
-            failing.extend_from_slice(numbers)?;
-            let mut folder = MemoryFolder::new(alloc, files, failing)?;
-            Ok(reads_told(alloc, &mut folder, row.reads)?)
-        }
-        None => {
-            let mut folder = SureFolder::new(alloc, files)?;
-            Ok(reads_told(alloc, &mut folder, row.reads)?)
-        }
+        Some(numbers) => failing_told(alloc, files, numbers, row.reads),
+        None => sure_told(alloc, files, row.reads),
     }
 }
 
@@ -281,6 +302,8 @@ const ON_DISK: &[OnDisk] = &[
             Step::Remove,
             Step::Write(Bytes::Text(b"after")),
             Step::Read(3),
+            // One place is read twice.
+            Step::Read(1),
             Step::Read(1),
             Step::Read(6),
             Step::Read(0),
@@ -289,7 +312,7 @@ const ON_DISK: &[OnDisk] = &[
             Step::ReadMissing,
             Step::Read(3),
         ],
-        told: "befo\nore\nefor\n\nafte\nfailed\nfailed\n",
+        told: "befo\nore\nefor\nefor\n\nafte\nfailed\nfailed\n",
     },
     // A seek that fails is told. No file of the system has a place past 2^63.
     OnDisk {

@@ -80,8 +80,14 @@ const SIMULATED: &[(Texts<'static>, &[u8], &str)] = &[
 /// What simulating a plan of a day tells.
 fn simulated(alloc: Global, texts: &Texts<'_>, plan: &[u8]) -> Result<String, Fail> {
     let day = day_of(alloc, texts)?;
-    let plan = plan_of(alloc, &day, plan)?;
-    Ok(told_of_run(alloc, simulate(alloc, &day, &plan))?)
+    run_told(alloc, &day, plan)
+}
+
+/// What simulating the plan of a day tells that the bytes of a table make.
+fn run_told(alloc: Global, day: &Instance, bytes: &[u8]) -> Result<String, Fail> {
+    let plan = plan_of(alloc, day, bytes)?;
+    let ran = simulate(alloc, day, &plan);
+    Ok(told_of_run(alloc, ran)?)
 }
 
 /// What a run tells.

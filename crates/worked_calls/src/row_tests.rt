@@ -9,6 +9,7 @@ use rail_csv::{
     links, plan, stations, stock, trips, types, weights,
 };
 use std::alloc::{AllocError, Global};
+use std::process::Abort;
 use std::test::Fail;
 
 /// The bytes of a table's file, and what they are read as: a line for each row, or why they are refused.
@@ -226,114 +227,102 @@ fn told(alloc: Global, table: Table, bytes: &[u8]) -> Result<String, AllocError>
     requires { length bytes.now ≤ MOST_TABLE_BYTES }
 {
     let mut text = String::new(alloc);
-    match table {
-        Table::Types => write_types(&mut text, types(alloc, bytes))?,
-        Table::Stations => write_stations(&mut text, stations(alloc, bytes))?,
-        Table::Stock => write_stock(&mut text, stock(alloc, bytes))?,
-        Table::Trips => write_trips(&mut text, trips(alloc, bytes))?,
-        Table::Links => write_links(&mut text, links(alloc, bytes))?,
-        Table::Weights => write_weights(&mut text, weights(alloc, bytes))?,
-        Table::Plan => write_plan(&mut text, plan(alloc, bytes))?,
-    }
+    write_table(&mut text, alloc, table, bytes)?;
     Ok(text)
 }
 
-/// Writes why a table is refused.
-fn write_refusal(text: &mut String, why: TableRefusal) -> Result<(), AllocError> {
-    write!(text, "{why:?}")
+/// Writes what the bytes of a table's file are read as.
+fn write_table(
+    text: &mut String,
+    alloc: Global,
+    table: Table,
+    bytes: &[u8],
+) -> Result<(), AllocError>
+    requires { length bytes.now ≤ MOST_TABLE_BYTES }
+{
+    match table {
+        Table::Types => write_rows(text, types(alloc, bytes)),
+        Table::Stations => write_rows(text, stations(alloc, bytes)),
+        Table::Stock => write_rows(text, stock(alloc, bytes)),
+        Table::Trips => write_rows(text, trips(alloc, bytes)),
+        Table::Links => write_rows(text, links(alloc, bytes)),
+        Table::Weights => write_weights(text, weights(alloc, bytes)),
+        Table::Plan => write_rows(text, plan(alloc, bytes)),
+    }
 }
 
-/// Writes the rows of types.
-fn write_types(
+/// A row of a table, which is told as a line.
+trait Line: Drop {
+    /// Writes the row as a line.
+    fn write_line(&self, text: &mut String) -> Result<(), AllocError>;
+}
+
+/// Writes the rows of a table, or why it is refused.
+fn write_rows<R: Line>(
     text: &mut String,
-    read: Result<Vec<TypeRow>, TableRefusal>,
+    read: Result<Vec<R>, TableRefusal>,
 ) -> Result<(), AllocError> {
-    let rows = match read {
-        Ok(rows) => rows,
-        Err(why) => return write_refusal(text, why),
-    };
-    for row in &rows {
-        let (name, family) = (row.name.as_str(), row.family.as_str());
-        write!(text, "{name} {} {}", row.carriages, row.seats)?;
-        write!(text, " {} {family} {}\n", row.metres, row.first)?;
+    match read {
+        Ok(rows) => write_lines(text, &rows),
+        Err(why) => write!(text, "{why:?}"),
+    }
+}
+
+/// Writes rows, a line for each.
+fn write_lines<R: Line>(text: &mut String, rows: &[R]) -> Result<(), AllocError> {
+    for row in rows {
+        row.write_line(text)?;
     }
     Ok(())
 }
 
-/// Writes the rows of stations.
-fn write_stations(
-    text: &mut String,
-    read: Result<Vec<StationRow>, TableRefusal>,
-) -> Result<(), AllocError> {
-    let rows = match read {
-        Ok(rows) => rows,
-        Err(why) => return write_refusal(text, why),
-    };
-    for row in &rows {
-        let name = row.name.as_str();
-        write!(text, "{name} {} {}\n", row.platform, row.reallocation)?;
+impl Line for TypeRow {
+    fn write_line(&self, text: &mut String) -> Result<(), AllocError> {
+        let (name, family) = (self.name.as_str(), self.family.as_str());
+        write!(text, "{name} {} {}", self.carriages, self.seats)?;
+        write!(text, " {} {family} {}\n", self.metres, self.first)
     }
-    Ok(())
 }
 
-/// Writes the rows of stock.
-fn write_stock(
-    text: &mut String,
-    read: Result<Vec<StockRow>, TableRefusal>,
-) -> Result<(), AllocError> {
-    let rows = match read {
-        Ok(rows) => rows,
-        Err(why) => return write_refusal(text, why),
-    };
-    for row in &rows {
-        let (station, unit_type) = (row.station.as_str(), row.unit_type.as_str());
-        write!(text, "{station} {unit_type} {} {}\n", row.start, row.end)?;
+impl Line for StationRow {
+    fn write_line(&self, text: &mut String) -> Result<(), AllocError> {
+        let name = self.name.as_str();
+        write!(text, "{name} {} {}\n", self.platform, self.reallocation)
     }
-    Ok(())
 }
 
-/// Writes the rows of trips, with minutes as numbers.
-fn write_trips(
-    text: &mut String,
-    read: Result<Vec<TripRow>, TableRefusal>,
-) -> Result<(), AllocError> {
-    let rows = match read {
-        Ok(rows) => rows,
-        Err(why) => return write_refusal(text, why),
-    };
-    for row in &rows {
-        let (name, from, to) = (row.name.as_str(), row.from.as_str(), row.to.as_str());
-        write!(
-            text,
-            "{name} {from} {} {to} {}",
-            row.departure.0, row.arrival.0
-        )?;
-        write!(text, " {} {} {}\n", row.km, row.demand, row.first)?;
+impl Line for StockRow {
+    fn write_line(&self, text: &mut String) -> Result<(), AllocError> {
+        let (station, unit_type) = (self.station.as_str(), self.unit_type.as_str());
+        write!(text, "{station} {unit_type} {} {}\n", self.start, self.end)
     }
-    Ok(())
 }
 
-/// Writes the rows of links, with `-` for a trip that is not there.
-fn write_links(
-    text: &mut String,
-    read: Result<Vec<LinkRow>, TableRefusal>,
-) -> Result<(), AllocError> {
-    let rows = match read {
-        Ok(rows) => rows,
-        Err(why) => return write_refusal(text, why),
-    };
-    for row in &rows {
-        let (arriving, departing) = (row.arriving.as_str(), row.departing.as_str());
-        let (arriving2, departing2) = (name_of(&row.arriving2), name_of(&row.departing2));
-        write!(
-            text,
-            "{:?} {arriving} {arriving2} {departing} {departing2}",
-            row.kind
-        )?;
-        write!(text, " {} {:?} {:?}", row.reverse, row.uncouple, row.couple)?;
-        write!(text, " {}\n", row.exchange)?;
+/// With minutes as numbers.
+impl Line for TripRow {
+    fn write_line(&self, text: &mut String) -> Result<(), AllocError> {
+        let (name, from, to) = (self.name.as_str(), self.from.as_str(), self.to.as_str());
+        let (departure, arrival) = (self.departure.0, self.arrival.0);
+        write!(text, "{name} {from} {departure} {to} {arrival}")?;
+        write!(text, " {} {} {}\n", self.km, self.demand, self.first)
     }
-    Ok(())
+}
+
+/// With `-` for a trip that is not there.
+impl Line for LinkRow {
+    fn write_line(&self, text: &mut String) -> Result<(), AllocError> {
+        write_ends(text, self)?;
+        write!(text, " {} {:?}", self.reverse, self.uncouple)?;
+        write!(text, " {:?} {}\n", self.couple, self.exchange)
+    }
+}
+
+/// Writes the kind of a link and its trips.
+fn write_ends(text: &mut String, row: &LinkRow) -> Result<(), AllocError> {
+    let (arriving, departing) = (row.arriving.as_str(), row.departing.as_str());
+    let (arriving2, departing2) = (name_of(&row.arriving2), name_of(&row.departing2));
+    write!(text, "{:?} {arriving} {arriving2}", row.kind)?;
+    write!(text, " {departing} {departing2}")
 }
 
 /// A name, or `-` where there is none.
@@ -344,32 +333,33 @@ fn name_of(name: &Option<Name>) -> &str {
     }
 }
 
-/// Writes the row of weights.
+impl Line for PlanRow {
+    fn write_line(&self, text: &mut String) -> Result<(), AllocError> {
+        text.push_str(self.trip.as_str())?;
+        for unit in self.units.items() {
+            write!(text, " {}", unit.0)?;
+        }
+        text.push_str("\n")
+    }
+}
+
+/// Writes the row of weights, or why its table is refused.
 fn write_weights(
     text: &mut String,
     read: Result<WeightsRow, TableRefusal>,
 ) -> Result<(), AllocError> {
     match read {
         Ok(row) => write!(text, "{} {} {}\n", row.carriage, row.shortage, row.shunting),
-        Err(why) => write_refusal(text, why),
+        Err(why) => write!(text, "{why:?}"),
     }
 }
 
-/// Writes the rows of a plan.
-fn write_plan(
-    text: &mut String,
-    read: Result<Vec<PlanRow>, TableRefusal>,
-) -> Result<(), AllocError> {
-    let rows = match read {
-        Ok(rows) => rows,
-        Err(why) => return write_refusal(text, why),
-    };
-    for row in &rows {
-        text.push_str(row.trip.as_str())?;
-        for unit in row.units.items() {
-            write!(text, " {}", unit.0)?;
-        }
-        text.push_str("\n")?;
+/// Asserts that files are read or refused as is told of them.
+fn are_told(rt: &impl Abort, alloc: Global, files: &[File]) -> Result<(), Fail> {
+    for file in files {
+        assert!(rt; file.bytes.len() as u64 <= MOST_TABLE_BYTES);
+        let text = told(alloc, file.table, file.bytes)?;
+        assert!(rt; text.as_str() == file.told, "{text}");
     }
     Ok(())
 }
@@ -377,11 +367,7 @@ fn write_plan(
 #[test]
 fn files_are_read_or_refused(rt: HostRuntime) -> Result<(), Fail> {
     for files in [FIELDS, UNITS, VERSIONS, FIRST_WRONG] {
-        for file in files {
-            assert!(rt; file.bytes.len() as u64 <= MOST_TABLE_BYTES);
-            let text = told(rt.alloc(), file.table, file.bytes)?;
-            assert!(rt; text.as_str() == file.told, "{text}");
-        }
+        are_told(&rt, rt.alloc(), files)?;
     }
     Ok(())
 }

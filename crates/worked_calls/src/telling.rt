@@ -2,13 +2,16 @@
 
 ghost use Rattle.std.specs.Prelude.{IfOk};
 ghost use Rattle.rail_csv.specs.Rows.{AreStationRows, AreStockRows, AreTypeRows};
+ghost use Rattle.rail_csv.specs.Rows.{AreLinkRows, AreTripRows, IsWeightsRow};
 
 use rail_base::{CompNo, LinkNo, StationNo, TripNo, TypeNo, UnitNo};
-use rail_csv::{StationRow, StockRow, TypeRow, links, stations, stock, trips, types, weights};
+use rail_csv::{
+    LinkRow, StationRow, StockRow, TripRow, TypeRow, links, stations, stock, trips, types, weights,
+};
 use sample_days::{Texts, table};
 use std::alloc::{AllocError, Global};
 use std::test::Fail;
-use timetable::{Instance, Rows, Tables};
+use timetable::{Instance, InstanceRefusal, Rows, Tables, Trip};
 
 /// The rows of types, stations and stock.
 #[derive(Drop)]
@@ -24,50 +27,98 @@ fn unit_rows(alloc: Global, texts: &Texts<'_>) -> Result<UnitRows, Fail>
     ensures stations { IfOk result (λ rows. AreStationRows rows.stations) }
     ensures stock { IfOk result (λ rows. AreStockRows rows.stock) }
 {
+    let types_text = table(texts.types)?;
+    let stations_text = table(texts.stations)?;
+    let stock_text = table(texts.stock)?;
     Ok(UnitRows {
-        types: Rows::of(types(alloc, table(texts.types)?)?),
-        stations: Rows::of(stations(alloc, table(texts.stations)?)?),
-        stock: Rows::of(stock(alloc, table(texts.stock)?)?),
+        types: Rows::of(types(alloc, types_text)?),
+        stations: Rows::of(stations(alloc, stations_text)?),
+        stock: Rows::of(stock(alloc, stock_text)?),
+    })
+}
+
+/// The rows of trips and links.
+#[derive(Drop)]
+struct TripRows {
+    trips: Rows<TripRow>,
+    links: Rows<LinkRow>,
+}
+
+/// These rows of some tables.
+fn trip_rows(alloc: Global, texts: &Texts<'_>) -> Result<TripRows, Fail>
+    ensures trips { IfOk result (λ rows. AreTripRows rows.trips) }
+    ensures links { IfOk result (λ rows. AreLinkRows rows.links) }
+{
+    let trips_text = table(texts.trips)?;
+    let links_text = table(texts.links)?;
+    Ok(TripRows {
+        trips: Rows::of(trips(alloc, trips_text)?),
+        links: Rows::of(links(alloc, links_text)?),
+    })
+}
+
+/// The tables that the readers of tables give for these texts and that of the weights.
+pub(crate) fn tables_of(
+    alloc: Global,
+    texts: &Texts<'_>,
+    weights_text: &[u8],
+) -> Result<Tables, Fail>
+    ensures types { IfOk result (λ tables. AreTypeRows tables.types) }
+    ensures stations { IfOk result (λ tables. AreStationRows tables.stations) }
+    ensures stock { IfOk result (λ tables. AreStockRows tables.stock) }
+    ensures trips { IfOk result (λ tables. AreTripRows tables.trips) }
+    ensures links { IfOk result (λ tables. AreLinkRows tables.links) }
+    ensures weights { IfOk result (λ tables. IsWeightsRow tables.weights) }
+{
+    let weights = weights(alloc, table(weights_text)?)?;
+    let units = unit_rows(alloc, texts)?;
+    let runs = trip_rows(alloc, texts)?;
+    Ok(Tables {
+        types: units.types,
+        stations: units.stations,
+        stock: units.stock,
+        trips: runs.trips,
+        links: runs.links,
+        weights,
     })
 }
 
 /// What is told of the day of these tables, or why they make none.
 pub(crate) fn told(alloc: Global, texts: &Texts<'_>) -> Result<String, Fail> {
-    let weights = weights(alloc, b"carriage,shortage,shunting\n1,1,100\n")?;
-    let units = unit_rows(alloc, texts)?;
-    let trips = Rows::of(trips(alloc, table(texts.trips)?)?);
-    let links = Rows::of(links(alloc, table(texts.links)?)?);
-    let tables = Tables {
-        types: units.types,
-        stations: units.stations,
-        stock: units.stock,
-        trips,
-        links,
-        weights,
-    };
-    match Instance::build(alloc, tables) {
-        Ok(day) => Ok(told_of(alloc, &day)?),
-        Err(why) => Ok(format!(in alloc; "{why:?}")?),
+    let tables = tables_of(alloc, texts, b"carriage,shortage,shunting\n1,1,100\n")?;
+    let built = Instance::build(alloc, tables);
+    Ok(told_of_built(alloc, built)?)
+}
+
+/// What is told of a day that was built, or why it was not.
+fn told_of_built(
+    alloc: Global,
+    built: Result<Instance, InstanceRefusal>,
+) -> Result<String, AllocError> {
+    match built {
+        Ok(day) => told_of(alloc, &day),
+        Err(why) => format!(in alloc; "{why:?}"),
     }
 }
 
 /// What is told of a day.
 fn told_of(alloc: Global, day: &Instance) -> Result<String, AllocError> {
     let mut text = String::new(alloc);
-    write!(
-        &mut text,
-        "{} types, shunting {}\n",
-        day.types().len(),
-        day.weights().shunting
-    )?;
-    write_stations(&mut text, day)?;
-    write_homes(&mut text, day)?;
-    write_compositions(&mut text, day)?;
-    write_trips(&mut text, day)?;
-    write_links(&mut text, day)?;
-    write_chains(&mut text, day)?;
-    write_handovers(&mut text, day)?;
+    write_day(&mut text, day)?;
     Ok(text)
+}
+
+/// Writes what is told of a day.
+fn write_day(text: &mut String, day: &Instance) -> Result<(), AllocError> {
+    let (types, shunting) = (day.types().len(), day.weights().shunting);
+    write!(text, "{types} types, shunting {shunting}\n")?;
+    write_stations(text, day)?;
+    write_homes(text, day)?;
+    write_compositions(text, day)?;
+    write_trips(text, day)?;
+    write_links(text, day)?;
+    write_chains(text, day)?;
+    write_handovers(text, day)
 }
 
 /// Writes of each station its platform, and the units of each type there.
@@ -122,18 +173,7 @@ fn write_compositions(text: &mut String, day: &Instance) -> Result<(), AllocErro
 fn write_trips(text: &mut String, day: &Instance) -> Result<(), AllocError> {
     for number in 0..day.trips() {
         let trip = TripNo(number);
-        write!(
-            text,
-            "trip {} to {}",
-            day.trip(trip).from.0,
-            day.trip(trip).to.0
-        )?;
-        write!(
-            text,
-            ", {:?}, {:?}:",
-            day.incoming(trip),
-            day.outgoing(trip)
-        )?;
+        write_trip(text, day.trip(trip), day.incoming(trip), day.outgoing(trip))?;
         for comp in 0..day.catalogue().len() {
             if day.admits(trip, CompNo(comp)) {
                 write!(text, " {comp}")?;
@@ -142,6 +182,17 @@ fn write_trips(text: &mut String, day: &Instance) -> Result<(), AllocError> {
         text.push_str("\n")?;
     }
     Ok(())
+}
+
+/// Writes the stations of a trip, and the links that lead to it and on from it.
+fn write_trip(
+    text: &mut String,
+    trip: &Trip,
+    incoming: Option<LinkNo>,
+    outgoing: Option<LinkNo>,
+) -> Result<(), AllocError> {
+    write!(text, "trip {} to {}", trip.from.0, trip.to.0)?;
+    write!(text, ", {incoming:?}, {outgoing:?}:")
 }
 
 /// Writes of each link whether it reverses trains.

@@ -5,6 +5,7 @@ use rail_base::{Name, NoMemory, StationNo, TripNo, TypeNo, UnitNo};
 use rail_csv::{PlanRow, UnitList, plan};
 use sample_days::{RING, TURN, Texts, day_of, table};
 use std::alloc::{AllocError, Global};
+use std::process::Abort;
 use std::test::Fail;
 use timetable::{Instance, NamedPlan, Place};
 
@@ -213,15 +214,19 @@ fn units_told(alloc: Global, plan: &NamedPlan) -> Result<String, AllocError> {
     Ok(text)
 }
 
-#[test]
-fn plans_are_built_or_refused(rt: HostRuntime) -> Result<(), Fail> {
-    let alloc = rt.alloc();
-    let day = day_of(alloc, &TURN)?;
+/// Asserts what the files of a plan make with a day.
+fn plans_are_told(rt: &impl Abort, alloc: Global, day: &Instance) -> Result<(), Fail> {
     for (bytes, wanted) in PLANS {
-        let text = plan_told(alloc, &day, *bytes)?;
+        let text = plan_told(alloc, day, *bytes)?;
         assert!(rt; text.as_str() == *wanted, "{text}");
     }
     Ok(())
+}
+
+#[test]
+fn plans_are_built_or_refused(rt: HostRuntime) -> Result<(), Fail> {
+    let day = day_of(rt.alloc(), &TURN)?;
+    plans_are_told(&rt, rt.alloc(), &day)
 }
 
 /// A row with a unit that no day has, which no reader gives.
@@ -235,12 +240,28 @@ fn row_past_every_day(alloc: Global) -> Result<PlanRow, NoMemory> {
     })
 }
 
+/// Rows of which this row is the only one.
+fn one_row(alloc: Global) -> Result<Vec<PlanRow>, NoMemory> {
+    let mut rows = Vec::new(alloc);
+    rows.push(row_past_every_day(alloc)?)?;
+    Ok(rows)
+}
+
+/// The plan that this row makes with a day, or why it makes none.
+fn one_row_told(alloc: Global, day: &Instance) -> Result<String, Fail> {
+    let rows = one_row(alloc)?;
+    Ok(built(alloc, day, &rows)?)
+}
+
+/// The plan that this row makes with the day with one turn, or why it makes none.
+fn told_past_every_day(alloc: Global) -> Result<String, Fail> {
+    let day = day_of(alloc, &TURN)?;
+    one_row_told(alloc, &day)
+}
+
 #[test]
 fn a_unit_past_every_day_is_refused(rt: HostRuntime) -> Result<(), Fail> {
-    let alloc = rt.alloc();
-    let day = day_of(alloc, &TURN)?;
-    let row = row_past_every_day(alloc)?;
-    let text = built(alloc, &day, &[row])?;
+    let text = told_past_every_day(rt.alloc())?;
     assert!(rt; text.as_str() == "UnknownUnit(1)", "{text}");
     Ok(())
 }

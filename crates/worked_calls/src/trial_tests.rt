@@ -1,28 +1,38 @@
 //! Trial days whose draws and rows were worked out apart from the program.
 
-use std::alloc::Global;
+use crate::telling::tables_of;
+use rail_csv::TripRow;
+use sample_days::Texts;
+use std::alloc::{AllocError, Global};
 use std::test::Fail;
-use timetable::{Instance, Rows, Tables};
+use timetable::{Instance, Tables};
 use trial_day::{Draws, trial_instance, trial_tables};
 
-/// The tables that the readers of tables give for the lines of the trial day of seed 7 with 2 trips.
-fn two_trips(alloc: Global) -> Result<Tables, Fail> {
-    let types = b"type,carriages,seats,metres,family\nA,3,200,80,regional\nB,2,120,60,regional\n";
-    let stations = b"station,platform,reallocation\nX,240,15\nY,240,15\n";
-    let stock = b"station,type,start,end\nX,A,2,2\nX,B,1,1\n";
-    let trips =
-        b"trip,from,departure,to,arrival,km,demand\nF0,X,05:00,Y,05:50,40,464\nR0,Y,06:00,X,06:50,40,306\n";
-    let links =
-        b"kind,arriving,arriving2,departing,departing2,reverse,uncouple,couple\nturn,F0,,R0,,yes,rear,rear\n";
-    let weights = b"carriage,shortage,shunting\n1,1,60\n";
-    Ok(Tables {
-        types: Rows::of(rail_csv::types(alloc, types)?),
-        stations: Rows::of(rail_csv::stations(alloc, stations)?),
-        stock: Rows::of(rail_csv::stock(alloc, stock)?),
-        trips: Rows::of(rail_csv::trips(alloc, trips)?),
-        links: Rows::of(rail_csv::links(alloc, links)?),
-        weights: rail_csv::weights(alloc, weights)?,
-    })
+/// The lines of the trial day of seed 7 with 2 trips, but for its weights.
+const TWO_TRIPS: Texts<'static> = Texts {
+    types: b"type,carriages,seats,metres,family\nA,3,200,80,regional\nB,2,120,60,regional\n",
+    stations: b"station,platform,reallocation\nX,240,15\nY,240,15\n",
+    stock: b"station,type,start,end\nX,A,2,2\nX,B,1,1\n",
+    trips: b"trip,from,departure,to,arrival,km,demand\n\
+        F0,X,05:00,Y,05:50,40,464\nR0,Y,06:00,X,06:50,40,306\n",
+    links: b"kind,arriving,arriving2,departing,departing2,reverse,uncouple,couple\n\
+        turn,F0,,R0,,yes,rear,rear\n",
+};
+
+/// Tables as a text.
+fn text_of(alloc: Global, tables: Tables) -> Result<String, AllocError> {
+    format!(in alloc; "{tables:?}")
+}
+
+/// The tables that are made of seed 7 with 2 trips, as a text.
+fn two_trips_made(alloc: Global) -> Result<String, Fail> {
+    Ok(text_of(alloc, trial_tables(alloc, 7, 2)?)?)
+}
+
+/// The tables that the readers of tables give for the lines of that trial day, as a text.
+fn two_trips_read(alloc: Global) -> Result<String, Fail> {
+    let tables = tables_of(alloc, &TWO_TRIPS, b"carriage,shortage,shunting\n1,1,60\n")?;
+    Ok(text_of(alloc, tables)?)
 }
 
 #[test]
@@ -37,35 +47,48 @@ fn draws_of_seed_7(rt: HostRuntime) {
 #[test]
 fn tables_of_two_trips(rt: HostRuntime) -> Result<(), Fail> {
     let alloc = rt.alloc();
-    let made = format!(in alloc; "{:?}", trial_tables(alloc, 7, 2)?)?;
-    let read = format!(in alloc; "{:?}", two_trips(alloc)?)?;
+    let made = two_trips_made(alloc)?;
+    let read = two_trips_read(alloc)?;
     assert_eq!(rt; made, read);
     Ok(())
 }
 
+/// How many trips, links, units and compositions a day has.
+fn counts_of(day: &Instance) -> (u32, u32, u32, u32) {
+    (day.trips(), day.links(), day.units(), day.catalogue().len())
+}
+
+/// The same of the day that is built of the trial tables of seed 7 with 40 trips.
+fn counts_of_forty_trips(alloc: Global) -> Result<(u32, u32, u32, u32), Fail> {
+    let tables = trial_tables(alloc, 7, 40)?;
+    let day = Instance::build(alloc, tables)?;
+    Ok(counts_of(&day))
+}
+
 #[test]
 fn forty_trips(rt: HostRuntime) -> Result<(), Fail> {
-    let alloc = rt.alloc();
-    let day = Instance::build(alloc, trial_tables(alloc, 7, 40)?)?;
-    assert_eq!(rt; (day.trips(), day.links(), day.units()), (40, 20, 60));
-    assert_eq!(rt; day.catalogue().len(), 15);
+    let counts = counts_of_forty_trips(rt.alloc())?;
+    assert_eq!(rt; counts, (40, 20, 60, 15));
     Ok(())
 }
 
-/// What is told of the last trip of the trial day of the last seed with the most trips: its name, the minutes at which
-/// it leaves and arrives, and its demand.
+/// What is told of the last of some trips: its name, the minutes at which it leaves and arrives, and its demand.
+fn told_of_last(alloc: Global, trips: &[TripRow]) -> Result<String, AllocError> {
+    let Some(last) = trips.last() else {
+        return Ok(String::new(alloc));
+    };
+    let (departure, arrival) = (last.departure.minutes(), last.arrival.minutes());
+    format!(in alloc;
+        "{} {departure} {arrival} {}",
+        last.name.as_str(),
+        last.demand
+    )
+}
+
+/// What is told of the last trip of the trial day of the last seed with the most trips.
 fn last_of_the_most_trips(alloc: Global) -> Result<String, Fail> {
     let tables = trial_tables(alloc, u32::MAX, 400)?;
-    match tables.trips.items().last() {
-        Some(last) => Ok(format!(in alloc;
-            "{} {} {} {}",
-            last.name.as_str(),
-            last.departure.minutes(),
-            last.arrival.minutes(),
-            last.demand
-        )?),
-        None => Ok(String::new(alloc)),
-    }
+    Ok(told_of_last(alloc, tables.trips.items())?)
 }
 
 /// How many trips, links and units that day has.
