@@ -5,7 +5,7 @@
 
 use crate::scripts::{Call, CutNumbers, SILENT};
 use crate::search_days::{APART, EARLY_BACK, LEVEL, LEVEL_BACK, TOO_FEW, TWO_ALIKE};
-use crate::trials::{Search, expect_all};
+use crate::trials::{Search, expect, expect_all};
 use advisors::Word;
 use sample_days::{ONE_LEFT, RING};
 use std::test::Fail;
@@ -248,7 +248,8 @@ const LONG_RAY: &[Call] = &[Call {
     ..SILENT
 }];
 
-/// Proposes 10 at index 3, under which (AA, AAA) alone has the least value, 170, on the day of two trips without a link.
+/// Proposes 10 at index 3, under which (AA, AAA) alone has the least value, 170, on the day of two trips without a
+/// link.
 const SECOND_AHEAD: &[Call] = &[Call {
     puts: &[(3, 10)],
     ..SILENT
@@ -317,14 +318,6 @@ const ADVISED: &[Search] = &[
         told: "bounded 120; only 0 1; cost 120; ray 2:-1; asked 2, quit",
     },
     Search {
-        about: "a cut is taken",
-        texts: ONE_LEFT,
-        grant: 1,
-        rounds: 1,
-        scripts: &[CUTS],
-        told: "optimal 190 by 1 0; only 1 0; cost 190; ray 2:-1; asked 1",
-    },
-    Search {
         about: "a cut that comes with enough is taken",
         texts: ONE_LEFT,
         grant: 1,
@@ -349,40 +342,6 @@ const ADVISED: &[Search] = &[
         told: "bounded 150; cost 150 3:30; asked 2; asked 2",
     },
     Search {
-        about: "a later cut is taken in its place",
-        texts: ONE_LEFT,
-        grant: 1,
-        rounds: 2,
-        scripts: &[CUTS],
-        told: "optimal 190 by 1 0; only 1 1; ray 2:-1; cost 190; asked 2",
-    },
-    // The cut of the third round stays where none is proposed, and one that is not proper takes its place and is not
-    // taken.
-    Search {
-        about: "the last cut is taken",
-        texts: ONE_LEFT,
-        grant: 1,
-        rounds: 3,
-        scripts: &[CUTS],
-        told: "bounded 130; most 0 0 1; ray 2:-1; cost 130 3:10; asked 6",
-    },
-    Search {
-        about: "the last cut stays",
-        texts: ONE_LEFT,
-        grant: 1,
-        rounds: 4,
-        scripts: &[CUTS],
-        told: "bounded 130; most 0 0 1; ray 2:-1; cost 130 3:10; asked 8",
-    },
-    Search {
-        about: "a cut that is not proper is not taken",
-        texts: ONE_LEFT,
-        grant: 1,
-        rounds: 5,
-        scripts: &[CUTS],
-        told: "bounded 130; only 0 1; cost 130 3:10; ray 2:-1; asked 10",
-    },
-    Search {
         about: "multipliers of no higher value are not kept",
         texts: ONE_LEFT,
         grant: 0,
@@ -390,6 +349,41 @@ const ADVISED: &[Search] = &[
         scripts: &[NO_HIGHER],
         told: "bounded 120; cost 120; asked 1",
     },
+];
+
+/// The advisor that proposes a cut in each round, alone.
+const CUTS_ALONE: &[&[Call]] = &[CUTS];
+
+/// Searches of that day with one branching and that advisor: what they show, how many rounds there are, and what is
+/// told.
+const CUT_ROUNDS: &[(&str, u8, &str)] = &[
+    (
+        "a cut is taken",
+        1,
+        "optimal 190 by 1 0; only 1 0; cost 190; ray 2:-1; asked 1",
+    ),
+    (
+        "a later cut is taken in its place",
+        2,
+        "optimal 190 by 1 0; only 1 1; ray 2:-1; cost 190; asked 2",
+    ),
+    // The cut of the third round stays where none is proposed, and one that is not proper takes its place and is not
+    // taken.
+    (
+        "the last cut is taken",
+        3,
+        "bounded 130; most 0 0 1; ray 2:-1; cost 130 3:10; asked 6",
+    ),
+    (
+        "the last cut stays",
+        4,
+        "bounded 130; most 0 0 1; ray 2:-1; cost 130 3:10; asked 8",
+    ),
+    (
+        "a cut that is not proper is not taken",
+        5,
+        "bounded 130; only 0 1; cost 130 3:10; ray 2:-1; asked 10",
+    ),
 ];
 
 /// Searches in which it matters by which cut a node is divided, and which node is next.
@@ -492,6 +486,22 @@ const ADVISED_ELSEWHERE: &[Search] = &[
 #[test]
 fn advice_on_one_day(rt: HostRuntime) -> Result<(), Fail> {
     expect_all(&rt, rt.alloc(), ADVISED)
+}
+
+#[test]
+fn cuts_in_some_rounds(rt: HostRuntime) -> Result<(), Fail> {
+    for (about, rounds, told) in CUT_ROUNDS {
+        let search = Search {
+            about: *about,
+            texts: ONE_LEFT,
+            grant: 1,
+            rounds: *rounds,
+            scripts: CUTS_ALONE,
+            told: *told,
+        };
+        expect(&rt, rt.alloc(), &search)?;
+    }
+    Ok(())
 }
 
 #[test]

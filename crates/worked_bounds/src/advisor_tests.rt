@@ -232,13 +232,18 @@ fn write_rounds(
     Ok(write!(text, "{} {quit}\n", subgradient.asked())?)
 }
 
+/// What is told of the rounds of a subgradient that begin from an evaluation.
+fn told_from(alloc: Global, row: &Rounds, evaluated: &mut Evaluated) -> Result<String, Fail> {
+    let mut text = String::new(alloc);
+    let mut proposal = Proposal::new(alloc, row.indices, 2)?;
+    write_rounds(&mut text, alloc, row, evaluated, &mut proposal)?;
+    Ok(text)
+}
+
 /// What is told of the rounds of a subgradient.
 fn told(alloc: Global, row: &Rounds) -> Result<String, Fail> {
-    let mut text = String::new(alloc);
     let mut evaluated = evaluated_before(alloc, row)?;
-    let mut proposal = Proposal::new(alloc, row.indices, 2)?;
-    write_rounds(&mut text, alloc, row, &mut evaluated, &mut proposal)?;
-    Ok(text)
+    told_from(alloc, row, &mut evaluated)
 }
 
 #[test]
@@ -274,12 +279,17 @@ fn evaluated_dive(alloc: Global) -> Result<Evaluated, NoMemory> {
     })
 }
 
+/// The cut that a diver proposes where it is shown this.
+fn dive_at(alloc: Global, look: &Look<'_>) -> Result<Option<Cut>, NoMemory> {
+    let mut proposal = Proposal::new(alloc, 4, 2)?;
+    Diver::new().advise(look, &mut proposal)?;
+    Ok(proposal.asked_cut())
+}
+
 /// The cut that a diver proposes where so many compositions are left for each of four trips.
 fn dive(alloc: Global, sizes: &[u32]) -> Result<Option<Cut>, NoMemory> {
     let evaluated = evaluated_dive(alloc)?;
-    let mut proposal = Proposal::new(alloc, 4, 2)?;
-    Diver::new().advise(&evaluated.look(0, 120, sizes), &mut proposal)?;
-    Ok(proposal.asked_cut())
+    dive_at(alloc, &evaluated.look(0, 120, sizes))
 }
 
 /// The cut that a diver proposes, as a text.

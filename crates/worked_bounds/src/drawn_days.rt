@@ -46,56 +46,81 @@ impl Draws {
 }
 
 /// Trips, and up to three rows of links between them without what is drawn.
-#[derive(Drop)]
+#[derive(Clone, Copy)]
 struct Pattern {
     trips: &'static str,
     links: [&'static str; 3],
 }
 
-const TWO_TRIPS: &str = "T1,X,08:00,Y,09:00,10,300\nT2,Y,09:20,X,10:20,10,300\n";
+const TWO_TRIPS: &str = "trip,from,departure,to,arrival,km,demand\n\
+     T1,X,08:00,Y,09:00,10,300\nT2,Y,09:20,X,10:20,10,300\n";
 
-const THREE_TRIPS: &str =
-    "T1,X,08:00,Y,09:00,10,300\nT2,Y,09:10,X,10:10,10,300\nT3,X,10:30,Y,11:30,10,300\n";
+const THREE_TRIPS: &str = "trip,from,departure,to,arrival,km,demand\n\
+     T1,X,08:00,Y,09:00,10,300\nT2,Y,09:10,X,10:10,10,300\nT3,X,10:30,Y,11:30,10,300\n";
 
-const TWO_AND_ONE_BACK: &str =
-    "T1,X,08:00,Y,09:00,10,300\nT2,X,08:10,Y,09:10,10,300\nT3,Y,09:30,X,10:30,10,300\n";
+const TWO_AND_ONE_BACK: &str = "trip,from,departure,to,arrival,km,demand\n\
+     T1,X,08:00,Y,09:00,10,300\nT2,X,08:10,Y,09:10,10,300\nT3,Y,09:30,X,10:30,10,300\n";
 
-const ONE_AND_TWO_BACK: &str =
-    "T1,X,08:00,Y,09:00,10,300\nT2,Y,09:10,X,10:10,10,300\nT3,Y,09:20,X,10:20,10,300\n";
+const ONE_AND_TWO_BACK: &str = "trip,from,departure,to,arrival,km,demand\n\
+     T1,X,08:00,Y,09:00,10,300\nT2,Y,09:10,X,10:10,10,300\nT3,Y,09:20,X,10:20,10,300\n";
 
-const RING: &str =
-    "T1,X,08:00,Y,09:00,10,300\nT2,Y,09:10,X,10:10,10,300\nT3,Y,09:20,X,10:20,10,300\nT4,X,10:30,Y,11:30,10,300\n";
+const RING: &str = "trip,from,departure,to,arrival,km,demand\n\
+     T1,X,08:00,Y,09:00,10,300\nT2,Y,09:10,X,10:10,10,300\nT3,Y,09:20,X,10:20,10,300\n\
+     T4,X,10:30,Y,11:30,10,300\n";
 
-const TWO_AND_TWO_BACK: &str =
-    "T1,X,08:00,Y,09:00,10,300\nT2,X,08:10,Y,09:10,10,300\nT3,Y,09:20,X,10:20,10,300\nT4,Y,09:30,X,10:30,10,300\n";
+const TWO_AND_TWO_BACK: &str = "trip,from,departure,to,arrival,km,demand\n\
+     T1,X,08:00,Y,09:00,10,300\nT2,X,08:10,Y,09:10,10,300\nT3,Y,09:20,X,10:20,10,300\n\
+     T4,Y,09:30,X,10:30,10,300\n";
 
-const FIVE_TRIPS: &str =
-    "T1,X,08:00,Y,09:00,10,300\nT2,Y,09:10,X,10:10,10,300\nT3,Y,09:20,X,10:20,10,300\n\
+const FIVE_TRIPS: &str = "trip,from,departure,to,arrival,km,demand\n\
+     T1,X,08:00,Y,09:00,10,300\nT2,Y,09:10,X,10:10,10,300\nT3,Y,09:20,X,10:20,10,300\n\
      T4,X,10:30,Y,11:30,10,300\nT5,Y,11:40,X,12:40,10,300\n";
 
-const SIX_TRIPS: &str =
-    "T1,X,08:00,Y,09:00,10,300\nT2,Y,09:10,X,10:10,10,300\nT3,Y,09:20,X,10:20,10,300\n\
+const SIX_TRIPS: &str = "trip,from,departure,to,arrival,km,demand\n\
+     T1,X,08:00,Y,09:00,10,300\nT2,Y,09:10,X,10:10,10,300\nT3,Y,09:20,X,10:20,10,300\n\
      T4,X,10:30,Y,11:30,10,300\nT5,Y,11:40,X,12:40,10,300\nT6,X,10:20,Y,11:20,10,300\n";
+
+/// The patterns but the last one.
+const PATTERNS: &[Pattern] = &[
+    Pattern {
+        trips: TWO_TRIPS,
+        links: ["turn,T1,,T2,,", "", ""],
+    },
+    Pattern {
+        trips: THREE_TRIPS,
+        links: ["turn,T1,,T2,,", "turn,T2,,T3,,", ""],
+    },
+    Pattern {
+        trips: TWO_AND_ONE_BACK,
+        links: ["join,T1,T2,T3,,", "", ""],
+    },
+    Pattern {
+        trips: ONE_AND_TWO_BACK,
+        links: ["split,T1,,T2,T3,", "", ""],
+    },
+    Pattern {
+        trips: RING,
+        links: ["split,T1,,T2,T3,", "join,T3,T2,T4,,", ""],
+    },
+    Pattern {
+        trips: TWO_AND_TWO_BACK,
+        links: ["turn,T1,,T4,,", "turn,T2,,T3,,", ""],
+    },
+    Pattern {
+        trips: FIVE_TRIPS,
+        links: ["turn,T1,,T2,,", "join,T2,T3,T4,,", "turn,T4,,T5,,"],
+    },
+];
 
 /// One of eight patterns.
 fn pattern_of(number: u32) -> Pattern {
-    let (trips, links) = match number {
-        0 => (TWO_TRIPS, ["turn,T1,,T2,,", "", ""]),
-        1 => (THREE_TRIPS, ["turn,T1,,T2,,", "turn,T2,,T3,,", ""]),
-        2 => (TWO_AND_ONE_BACK, ["join,T1,T2,T3,,", "", ""]),
-        3 => (ONE_AND_TWO_BACK, ["split,T1,,T2,T3,", "", ""]),
-        4 => (RING, ["split,T1,,T2,T3,", "join,T3,T2,T4,,", ""]),
-        5 => (TWO_AND_TWO_BACK, ["turn,T1,,T4,,", "turn,T2,,T3,,", ""]),
-        6 => (
-            FIVE_TRIPS,
-            ["turn,T1,,T2,,", "join,T2,T3,T4,,", "turn,T4,,T5,,"],
-        ),
-        _ => (
-            SIX_TRIPS,
-            ["split,T1,,T2,T3,", "turn,T2,,T4,,", "turn,T4,,T5,,"],
-        ),
-    };
-    Pattern { trips, links }
+    match PATTERNS.get(number as usize) {
+        Some(pattern) => *pattern,
+        None => Pattern {
+            trips: SIX_TRIPS,
+            links: ["split,T1,,T2,T3,", "turn,T2,,T4,,", "turn,T4,,T5,,"],
+        },
+    }
 }
 
 /// What is drawn of a link: whether it turns trains round, and where a turn may uncouple and couple.
@@ -188,33 +213,54 @@ fn links_text(alloc: Global, draws: &mut Draws, pattern: &Pattern) -> Result<Str
     )?)
 }
 
+/// The tables of a drawn day beside those of its types and trips.
+#[derive(Drop)]
+struct Drawn {
+    stations: String,
+    stock: String,
+    links: String,
+}
+
+/// Draws the tables of a day of a pattern.
+fn drawn_tables(alloc: Global, draws: &mut Draws, pattern: &Pattern) -> Result<Drawn, Fail> {
+    let stations = stations_text(alloc, draws)?;
+    let stock = stock_text(alloc, draws)?;
+    Ok(Drawn {
+        stations,
+        stock,
+        links: links_text(alloc, draws, pattern)?,
+    })
+}
+
+/// Whether one of the tables of a pattern's day is too long to be a drawn one.
+fn is_one_long(pattern: &Pattern, drawn: &Drawn) -> bool {
+    let longest = drawn
+        .stations
+        .len()
+        .max(drawn.stock.len())
+        .max(drawn.links.len())
+        .max(pattern.trips.len());
+    longest > 4096
+}
+
+/// The day of a pattern with drawn tables, or nothing where they are too long to be drawn ones.
+fn day_by(alloc: Global, pattern: &Pattern, drawn: &Drawn) -> Result<Option<Instance>, Fail> {
+    if is_one_long(pattern, drawn) {
+        return Ok(None);
+    }
+    let texts = Texts {
+        types: b"type,carriages,seats,metres,family\nA,3,200,80,regional\nB,2,100,60,regional\n",
+        stations: drawn.stations.as_bytes(),
+        stock: drawn.stock.as_bytes(),
+        trips: pattern.trips.as_bytes(),
+        links: drawn.links.as_bytes(),
+    };
+    Ok(Some(day_of(alloc, &texts)?))
+}
+
 /// A day of two to six trips with two types of units, or nothing where its texts are too long to be drawn ones.
 pub(crate) fn drawn_day(alloc: Global, draws: &mut Draws) -> Result<Option<Instance>, Fail> {
     let pattern = pattern_of(draws.below(8));
-    let stations = stations_text(alloc, draws)?;
-    let stock = stock_text(alloc, draws)?;
-    let links = links_text(alloc, draws, &pattern)?;
-    let trips = format!(in alloc;
-        "trip,from,departure,to,arrival,km,demand\n{}",
-        pattern.trips
-    )?;
-    let longest = stations
-        .len()
-        .max(stock.len())
-        .max(links.len())
-        .max(trips.len());
-    if longest > 4096 {
-        return Ok(None);
-    }
-    let day = day_of(
-        alloc,
-        &Texts {
-            types: b"type,carriages,seats,metres,family\nA,3,200,80,regional\nB,2,100,60,regional\n",
-            stations: stations.as_bytes(),
-            stock: stock.as_bytes(),
-            trips: trips.as_bytes(),
-            links: links.as_bytes(),
-        },
-    )?;
-    Ok(Some(day))
+    let drawn = drawn_tables(alloc, draws, &pattern)?;
+    day_by(alloc, &pattern, &drawn)
 }

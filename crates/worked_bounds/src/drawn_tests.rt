@@ -336,6 +336,19 @@ fn ask_all<R: Relaxation>(
     ask_some(alloc, asked, bounds, &picks, draws, counts)
 }
 
+/// Asks of a day by its relaxation. The answer says whether all is as it is wanted.
+fn ask_by<R: Relaxation + Drop>(
+    alloc: Global,
+    asked: &Asked<'_>,
+    mut bounds: R,
+    draws: &mut Draws,
+    counts: &mut Counts,
+) -> Result<bool, Fail>
+    requires { AreGraphs asked.now.day.now asked.now.graphs.now }
+{
+    ask_all(alloc, asked, &mut bounds, draws, counts)
+}
+
 /// Makes the relaxation of a day, and asks of it. The answer says whether all is as it is wanted.
 fn try_day(
     alloc: Global,
@@ -345,8 +358,38 @@ fn try_day(
 ) -> Result<bool, Fail>
     requires { AreGraphs asked.now.day.now asked.now.graphs.now }
 {
-    let mut bounds = bounds_under(alloc, asked.day, asked.graphs, asked.changes)?;
-    ask_all(alloc, asked, &mut bounds, draws, counts)
+    let bounds = bounds_under(alloc, asked.day, asked.graphs, asked.changes)?;
+    ask_by(alloc, asked, bounds, draws, counts)
+}
+
+/// Draws changes of a day with its edges, and asks of it. The answer says whether all is as it is wanted.
+fn try_changes(
+    alloc: Global,
+    day: &Instance,
+    graphs: &Graphs,
+    draws: &mut Draws,
+    counts: &mut Counts,
+) -> Result<bool, Fail>
+    requires { AreGraphs day.now graphs.now }
+{
+    let changes = drawn_changes(alloc, day, draws)?;
+    let asked = Asked {
+        day,
+        graphs,
+        changes: changes.as_slice(),
+    };
+    try_day(alloc, &asked, draws, counts)
+}
+
+/// Draws changes of a day, and asks of it. The answer says whether all is as it is wanted.
+fn try_graphs(
+    alloc: Global,
+    day: &Instance,
+    draws: &mut Draws,
+    counts: &mut Counts,
+) -> Result<bool, Fail> {
+    let graphs = Graphs::build(alloc, day)?;
+    try_changes(alloc, day, &graphs, draws, counts)
 }
 
 /// Draws a day and changes, and asks of it. The answer says whether all is as it is wanted.
@@ -354,14 +397,7 @@ fn draw(alloc: Global, draws: &mut Draws, counts: &mut Counts) -> Result<bool, F
     let Some(day) = drawn_day(alloc, draws)? else {
         return Ok(false);
     };
-    let graphs = Graphs::build(alloc, &day)?;
-    let changes = drawn_changes(alloc, &day, draws)?;
-    let asked = Asked {
-        day: &day,
-        graphs: &graphs,
-        changes: changes.as_slice(),
-    };
-    try_day(alloc, &asked, draws, counts)
+    try_graphs(alloc, &day, draws, counts)
 }
 
 /// Nothing counted.

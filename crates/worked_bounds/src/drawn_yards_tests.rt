@@ -124,13 +124,23 @@ fn draw_some(
     Ok(true)
 }
 
+/// Draws some picks for a day, and counts what they come to. The answer says whether all is as it is wanted.
+fn draw_for(
+    alloc: Global,
+    day: &Instance,
+    draws: &mut Draws,
+    counts: &mut Counts,
+) -> Result<bool, Fail> {
+    let graphs = Graphs::build(alloc, day)?;
+    draw_some(alloc, day, &graphs, draws, counts)
+}
+
 /// Draws a day and some picks for it, and counts what they come to. The answer says whether all is as it is wanted.
 fn draw(alloc: Global, draws: &mut Draws, counts: &mut Counts) -> Result<bool, Fail> {
     let Some(day) = drawn_day(alloc, draws)? else {
         return Ok(false);
     };
-    let graphs = Graphs::build(alloc, &day)?;
-    draw_some(alloc, &day, &graphs, draws, counts)
+    draw_for(alloc, &day, draws, counts)
 }
 
 #[test]

@@ -4,12 +4,10 @@ ghost use Rattle.timetable.specs.Picks.{ArePicks};
 ghost use Rattle.timetable.specs.Running.{IsPlan};
 ghost use Rattle.unit_duties.specs.Broken.{AreAdmissible};
 
-use crate::asking::picks_of;
 use crate::exchange_days::{EARLY_EXCHANGE, EXCHANGE};
-use crate::ledger_tests::fault_of;
+use crate::ledger_tests::{fault_of, running_picks};
 use rail_base::{TripNo, UnitNo};
 use sample_days::{ONE_LEFT, Texts, day_of, plan_of};
-use sample_picks::may_run;
 use std::alloc::{AllocError, Global};
 use std::process::Abort;
 use std::test::Fail;
@@ -42,13 +40,25 @@ fn write_duties(
     Ok(())
 }
 
-/// The duties of the units in a plan of a day.
+/// The duties of the units in a plan of a day, as a text.
+fn duties_told(alloc: Global, day: &Instance, plan: &NamedPlan) -> Result<String, Fail>
+    requires { IsPlan day.now plan.now }
+{
+    let mut text = String::new(alloc);
+    write_duties(&mut text, alloc, day, plan)?;
+    Ok(text)
+}
+
+/// The duties of the units in the plan of a day that a table makes.
+fn duties_on(alloc: Global, day: &Instance, plan: &[u8]) -> Result<String, Fail> {
+    let plan = plan_of(alloc, day, plan)?;
+    duties_told(alloc, day, &plan)
+}
+
+/// The duties of the units in a plan of a day, both made of tables.
 fn duties_of(alloc: Global, texts: &Texts<'_>, plan: &[u8]) -> Result<String, Fail> {
     let day = day_of(alloc, texts)?;
-    let plan = plan_of(alloc, &day, plan)?;
-    let mut text = String::new(alloc);
-    write_duties(&mut text, alloc, &day, &plan)?;
-    Ok(text)
+    duties_on(alloc, &day, plan)
 }
 
 #[test]
@@ -110,6 +120,28 @@ fn write_named(text: &mut String, alloc: Global, day: &Instance, picks: &Picks) 
     Ok(())
 }
 
+/// What naming units for picks tells.
+fn named_for(alloc: Global, day: &Instance, picks: &Picks) -> Result<String, Fail>
+    requires picks { ArePicks day.now picks.now }
+    requires admissible { AreAdmissible day.now picks.now }
+{
+    let mut text = String::new(alloc);
+    write_named(&mut text, alloc, day, picks)?;
+    Ok(text)
+}
+
+/// What naming units for two picks, which may run, tells on a day.
+fn named_on(
+    rt: &impl Abort,
+    alloc: Global,
+    day: &Instance,
+    first: u32,
+    second: u32,
+) -> Result<String, Fail> {
+    let picks = running_picks(rt, alloc, day, first, second)?;
+    named_for(alloc, day, &picks)
+}
+
 /// What naming units for two picks, which may run, tells.
 fn named(
     rt: &impl Abort,
@@ -119,11 +151,7 @@ fn named(
     second: u32,
 ) -> Result<String, Fail> {
     let day = day_of(alloc, texts)?;
-    let picks = picks_of(alloc, &[first, second])?;
-    assert!(rt; may_run(&day, &picks));
-    let mut text = String::new(alloc);
-    write_named(&mut text, alloc, &day, &picks)?;
-    Ok(text)
+    named_on(rt, alloc, &day, first, second)
 }
 
 #[test]
@@ -135,11 +163,16 @@ fn units_are_named(rt: HostRuntime) -> Result<(), Fail> {
     Ok(())
 }
 
+/// What naming units tells for A on the first trip and AA on the second, for which the yards have a fault.
+fn named_at_fault(rt: &impl Abort, alloc: Global, texts: &Texts<'_>) -> Result<String, Fail> {
+    assert!(rt; fault_of(rt, alloc, texts, 0, 1)?.is_some());
+    named(rt, alloc, texts, 0, 1)
+}
+
 // One unit goes out and two come back, so that the turn is broken and the yard of Y is short too.
 #[test]
 fn broken_link_told_before_a_fault(rt: HostRuntime) -> Result<(), Fail> {
-    assert!(rt; fault_of(&rt, rt.alloc(), &ONE_LEFT, 0, 1)?.is_some());
-    let text = named(&rt, rt.alloc(), &ONE_LEFT, 0, 1)?;
+    let text = named_at_fault(&rt, rt.alloc(), &ONE_LEFT)?;
     assert!(rt; text.as_str() == "LinkBroken(LinkNo(0))", "{text}");
     Ok(())
 }

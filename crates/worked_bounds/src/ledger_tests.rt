@@ -1,5 +1,9 @@
 //! Worked days: the first fault of the yards for picked compositions.
 
+ghost use Rattle.std.specs.Prelude.{IfOk};
+ghost use Rattle.timetable.specs.Picks.{ArePicks};
+ghost use Rattle.unit_duties.specs.Broken.{AreAdmissible};
+
 use crate::asking::picks_of;
 use crate::drawn_yards_tests::first_fault;
 use crate::exchange_days::{EARLY_EXCHANGE, EXCHANGE};
@@ -9,6 +13,7 @@ use sample_picks::may_run;
 use std::alloc::Global;
 use std::process::Abort;
 use std::test::Fail;
+use timetable::{Instance, Picks};
 
 /// Days, what is picked for their two trips, and the first fault of the yards.
 const FAULTS: &[(Texts<'static>, u32, u32, &str)] = &[
@@ -30,6 +35,34 @@ const FAULTS: &[(Texts<'static>, u32, u32, &str)] = &[
     ),
 ];
 
+/// Two picks for a day, which may run.
+pub(crate) fn running_picks(
+    rt: &impl Abort,
+    alloc: Global,
+    day: &Instance,
+    first: u32,
+    second: u32,
+) -> Result<Picks, Fail>
+    ensures picks { IfOk result (λ picks. ArePicks day.now picks) }
+    ensures admissible { IfOk result (λ picks. AreAdmissible day.now picks) }
+{
+    let picks = picks_of(alloc, &[first, second])?;
+    assert!(rt; may_run(day, &picks));
+    Ok(picks)
+}
+
+/// The first fault for two picks, which may run, on a day.
+fn fault_on(
+    rt: &impl Abort,
+    alloc: Global,
+    day: &Instance,
+    first: u32,
+    second: u32,
+) -> Result<Option<StockFault>, Fail> {
+    let picks = running_picks(rt, alloc, day, first, second)?;
+    first_fault(alloc, day, &picks)
+}
+
 /// The first fault for two picks, which may run.
 pub(crate) fn fault_of(
     rt: &impl Abort,
@@ -39,9 +72,7 @@ pub(crate) fn fault_of(
     second: u32,
 ) -> Result<Option<StockFault>, Fail> {
     let day = day_of(alloc, texts)?;
-    let picks = picks_of(alloc, &[first, second])?;
-    assert!(rt; may_run(&day, &picks));
-    first_fault(alloc, &day, &picks)
+    fault_on(rt, alloc, &day, first, second)
 }
 
 #[test]

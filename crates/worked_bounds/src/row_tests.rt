@@ -392,19 +392,30 @@ const PICKS: &[Case] = &[
 /// Asserts that each answer is as it is wanted.
 fn expect_all(rt: &impl Abort, alloc: Global, cases: &[Case]) -> Result<(), Fail> {
     for case in cases {
-        let text = told(alloc, case)?;
-        assert!(rt; text.as_str() == case.told, "{}: {text}", case.about);
+        expect(rt, alloc, case)?;
     }
+    Ok(())
+}
+
+/// Asserts that an answer is as it is wanted.
+fn expect(rt: &impl Abort, alloc: Global, case: &Case) -> Result<(), Fail> {
+    let text = told(alloc, case)?;
+    assert!(rt; text.as_str() == case.told, "{}: {text}", case.about);
     Ok(())
 }
 
 /// What is answered in a case.
 fn told(alloc: Global, case: &Case) -> Result<String, Fail> {
     let day = day_of(alloc, &case.texts)?;
-    let graphs = Graphs::build(alloc, &day)?;
+    told_on(alloc, &day, case)
+}
+
+/// What is answered in a case on its day.
+fn told_on(alloc: Global, day: &Instance, case: &Case) -> Result<String, Fail> {
+    let graphs = Graphs::build(alloc, day)?;
     match case.change {
-        Some(cost) => told_under(alloc, &day, &graphs, &[change(cost)], &case.asked),
-        None => told_under(alloc, &day, &graphs, &[], &case.asked),
+        Some(cost) => told_under(alloc, day, &graphs, &[change(cost)], &case.asked),
+        None => told_under(alloc, day, &graphs, &[], &case.asked),
     }
 }
 
@@ -427,12 +438,22 @@ fn told_under(
 ) -> Result<String, Fail>
     requires { AreGraphs day.now graphs.now }
 {
-    let mut bounds = bounds_under(alloc, day, graphs, changes)?;
-    told_by(alloc, day, &mut bounds, asked)
+    let bounds = bounds_under(alloc, day, graphs, changes)?;
+    told_by(alloc, day, bounds, asked)
 }
 
 /// What a relaxation of a day answers.
-fn told_by<R: Relaxation>(
+fn told_by<R: Relaxation + Drop>(
+    alloc: Global,
+    day: &Instance,
+    mut bounds: R,
+    asked: &Asked,
+) -> Result<String, Fail> {
+    told_of(alloc, day, &mut bounds, asked)
+}
+
+/// What a relaxation of a day answers, which stays.
+fn told_of<R: Relaxation>(
     alloc: Global,
     day: &Instance,
     bounds: &mut R,

@@ -10,18 +10,29 @@ use timetable::Picks;
 
 /// Writes what is shown of a node.
 pub(crate) fn write_look(text: &mut String, look: &Look<'_>) -> Result<(), AllocError> {
+    write_sizes(text, look)?;
+    write_values(text, look)?;
+    write_evaluated(text, look)?;
+    write!(text, "; free from {}", look.free_from)
+}
+
+/// Writes the round of a look, and how many compositions each trip has left.
+fn write_sizes(text: &mut String, look: &Look<'_>) -> Result<(), AllocError> {
     write!(text, "round {}; left", look.round)?;
     for size in look.sizes {
         write!(text, " {size}")?;
     }
-    write_values(text, look)?;
+    Ok(())
+}
+
+/// Writes what the last evaluation of a node was made with and gave.
+fn write_evaluated(text: &mut String, look: &Look<'_>) -> Result<(), AllocError> {
     write!(text, "; at")?;
     write_entries(text, look.multipliers)?;
     write!(text, "; picks")?;
     write_picks(text, look.picks)?;
     write!(text, "; slacks")?;
-    write_slacks(text, look.slacks)?;
-    write!(text, "; free from {}", look.free_from)
+    write_slacks(text, look.slacks)
 }
 
 /// Writes the values that a look has.

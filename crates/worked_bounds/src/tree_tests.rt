@@ -3,7 +3,7 @@
 use branch_tree::{Cut, Entry, Mark, Multipliers, Node, Region, Side, Slacks, Tree};
 use compositions::Catalogue;
 use rail_base::{CompNo, NodeNo, TripNo, TypeNo};
-use sample_days::{TWO_TYPES, day_of};
+use sample_days::{TWO_TYPES, Texts, day_of};
 use std::alloc::{AllocError, Global};
 use std::test::Fail;
 use timetable::Instance;
@@ -40,28 +40,64 @@ fn restore(region: &mut Region, mark: Mark) {
     }
 }
 
+/// Writes the compositions of the first trip on the left of a cut, and puts back what the region had.
+fn write_left(
+    text: &mut String,
+    region: &mut Region,
+    catalogue: &Catalogue,
+    cut: &Cut,
+) -> Result<(), Fail> {
+    let mark = cut_region(region, catalogue, cut, Side::Left)?;
+    write_comps(text, region, TripNo(0))?;
+    restore(region, mark);
+    Ok(())
+}
+
+/// Writes the compositions of both trips on the right of a cut.
+fn write_right(
+    text: &mut String,
+    region: &mut Region,
+    catalogue: &Catalogue,
+    cut: &Cut,
+) -> Result<(), Fail> {
+    let _mark = cut_region(region, catalogue, cut, Side::Right)?;
+    write_comps(text, region, TripNo(0))?;
+    Ok(write_comps(text, region, TripNo(1))?)
+}
+
+/// The compositions of the first trip on the left of a cut, and of both trips on its right.
+fn sides_in(
+    alloc: Global,
+    region: &mut Region,
+    catalogue: &Catalogue,
+    cut: &Cut,
+) -> Result<String, Fail> {
+    let mut text = String::new(alloc);
+    write_left(&mut text, region, catalogue, cut)?;
+    write_right(&mut text, region, catalogue, cut)?;
+    Ok(text)
+}
+
 /// The compositions of the first trip on the left of a cut of the day's root, and of both trips on its right.
 fn sides_of(alloc: Global, day: &Instance, cut: &Cut) -> Result<String, Fail> {
-    let mut text = String::new(alloc);
     let mut region = Region::root(alloc, day)?.copy(alloc)?;
-    let mark = cut_region(&mut region, day.catalogue(), cut, Side::Left)?;
-    write_comps(&mut text, &region, TripNo(0))?;
-    restore(&mut region, mark);
-    let _mark = cut_region(&mut region, day.catalogue(), cut, Side::Right)?;
-    write_comps(&mut text, &region, TripNo(0))?;
-    write_comps(&mut text, &region, TripNo(1))?;
-    Ok(text)
+    sides_in(alloc, &mut region, day.catalogue(), cut)
+}
+
+/// What both sides of a cut of the root of a day with these tables have.
+fn sides_told(alloc: Global, texts: &Texts<'_>, cut: &Cut) -> Result<String, Fail> {
+    let day = day_of(alloc, texts)?;
+    sides_of(alloc, &day, cut)
 }
 
 #[test]
 fn cuts_of_the_root(rt: HostRuntime) -> Result<(), Fail> {
-    let day = day_of(rt.alloc(), &TWO_TYPES)?;
     let cut = Cut::AtMost {
         trip: TripNo(0),
         unit_type: TypeNo(0),
         count: 0,
     };
-    let text = sides_of(rt.alloc(), &day, &cut)?;
+    let text = sides_told(rt.alloc(), &TWO_TYPES, &cut)?;
     assert!(rt; text.as_str() == " 1 4\n 0 2 3\n 0 1 2 3 4\n", "{text}");
     Ok(())
 }
@@ -104,19 +140,42 @@ fn write_fits(
     Ok(())
 }
 
+/// Puts values at two indices, and writes what is told of the multipliers then.
+fn write_put(text: &mut String, multipliers: &mut Multipliers) -> Result<(), AllocError> {
+    let puts = [(3, 30), (2, -30), (3, 1_000_000_000_001)];
+    write_puts(text, multipliers, &puts)?;
+    write_values(text, multipliers)?;
+    write_fits(text, multipliers, &[(4, 2), (4, 3), (3, 2)])
+}
+
+/// Takes one entry out of multipliers, and writes what they have then, and what a copy from before has.
+fn write_copied(
+    text: &mut String,
+    multipliers: &mut Multipliers,
+    copy: &Multipliers,
+) -> Result<(), AllocError> {
+    write_puts(text, multipliers, &[(2, 0)])?;
+    write_entries(text, multipliers)?;
+    text.push_str("and\n")?;
+    write_entries(text, copy)
+}
+
+/// Writes what is told of multipliers and of a copy of them, of which one entry is taken out then.
+fn write_multipliers(
+    text: &mut String,
+    alloc: Global,
+    multipliers: &mut Multipliers,
+) -> Result<(), Fail> {
+    write_put(text, multipliers)?;
+    let copy = multipliers.copy(alloc)?;
+    Ok(write_copied(text, multipliers, &copy)?)
+}
+
 /// What is told of multipliers and of a copy of them, of which one entry is taken out then.
 fn multipliers_told(alloc: Global) -> Result<String, Fail> {
     let mut text = String::new(alloc);
     let mut multipliers = Multipliers::new(alloc)?;
-    let puts = [(3, 30), (2, -30), (3, 1_000_000_000_001)];
-    write_puts(&mut text, &mut multipliers, &puts)?;
-    write_values(&mut text, &multipliers)?;
-    write_fits(&mut text, &multipliers, &[(4, 2), (4, 3), (3, 2)])?;
-    let copy = multipliers.copy(alloc)?;
-    write_puts(&mut text, &mut multipliers, &[(2, 0)])?;
-    write_entries(&mut text, &multipliers)?;
-    text.push_str("and\n")?;
-    write_entries(&mut text, &copy)?;
+    write_multipliers(&mut text, alloc, &mut multipliers)?;
     Ok(text)
 }
 

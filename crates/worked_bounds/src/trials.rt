@@ -1,12 +1,14 @@
 //! Searches of days, with the advisors that a test gives them.
 
 ghost use Rattle.std.specs.Prelude.{◌≤◌, ◌^◌, All};
+ghost use Rattle.rail_base.specs.declared.limits.TheConstants.{MOST_BRANCHINGS, MOST_ROUNDS};
+ghost use Rattle.branch_tree.specs.Regions.{IsOver};
 ghost use Rattle.transitions.specs.Edges.{AreGraphs};
 
 use crate::scripts::{Call, Scripted};
 use crate::telling::{write_asked, write_found};
 use advisors::Advisor;
-use branch_tree::Region;
+use branch_tree::{Region, Relaxation};
 use price_bound::DayBounds;
 use rail_base::NoMemory;
 use rail_base::limits::{MOST_BRANCHINGS, MOST_ROUNDS};
@@ -19,6 +21,7 @@ use timetable::Instance;
 use transitions::Graphs;
 
 /// A search of a day, and what comes of it.
+#[derive(Clone, Copy)]
 pub(crate) struct Search {
     /// What it shows.
     pub(crate) about: &'static str,
@@ -36,9 +39,15 @@ pub(crate) struct Search {
 /// Asserts what comes of each of these searches.
 pub(crate) fn expect_all(rt: &impl Abort, alloc: Global, searches: &[Search]) -> Result<(), Fail> {
     for search in searches {
-        let text = told(alloc, search)?;
-        assert!(rt; text.as_str() == search.told, "{}: {text}", search.about);
+        expect(rt, alloc, search)?;
     }
+    Ok(())
+}
+
+/// Asserts what comes of a search.
+pub(crate) fn expect(rt: &impl Abort, alloc: Global, search: &Search) -> Result<(), Fail> {
+    let text = told(alloc, search)?;
+    assert!(rt; text.as_str() == search.told, "{}: {text}", search.about);
     Ok(())
 }
 
@@ -87,9 +96,34 @@ fn course_of(
     requires asked { All (λ advisor. asked advisor ≤ 2 ^ 63) advisors.old.items }
 {
     let day = day_of(alloc, &search.texts)?;
-    let graphs = Graphs::build(alloc, &day)?;
-    let (grant, rounds) = (search.grant, search.rounds);
-    let found = found_on(alloc, &day, &graphs, grant, rounds, advisors)?;
+    course_on(alloc, &day, search, advisors)
+}
+
+/// What comes of a search with these advisors on its day.
+fn course_on(
+    alloc: Global,
+    day: &Instance,
+    search: &Search,
+    advisors: &mut Vec<Box<dyn Advisor>>,
+) -> Result<String, Fail>
+    requires asked { All (λ advisor. asked advisor ≤ 2 ^ 63) advisors.old.items }
+{
+    let graphs = Graphs::build(alloc, day)?;
+    course_along(alloc, day, &graphs, search, advisors)
+}
+
+/// What comes of a search with these advisors along the edges of its day.
+fn course_along(
+    alloc: Global,
+    day: &Instance,
+    graphs: &Graphs,
+    search: &Search,
+    advisors: &mut Vec<Box<dyn Advisor>>,
+) -> Result<String, Fail>
+    requires graphs { AreGraphs day.now graphs.now }
+    requires asked { All (λ advisor. asked advisor ≤ 2 ^ 63) advisors.old.items }
+{
+    let found = found_on(alloc, day, graphs, search.grant, search.rounds, advisors)?;
     Ok(text_of(alloc, &found, advisors.as_slice())?)
 }
 
@@ -121,7 +155,23 @@ fn found_on(
         return Err(NoMemory);
     }
     let root = Region::root(alloc, day)?;
-    let mut bounds = DayBounds::new(alloc, day, graphs)?;
-    let found = solve(alloc, &mut bounds, &root, grant, rounds, advisors)?;
-    Ok(found)
+    let bounds = DayBounds::new(alloc, day, graphs)?;
+    found_by(alloc, bounds, &root, grant, rounds, advisors)
+}
+
+/// What is found in a root by a relaxation that it is over.
+fn found_by<R: Relaxation + Drop>(
+    alloc: Global,
+    mut bounds: R,
+    root: &Region,
+    grant: u32,
+    rounds: u8,
+    advisors: &mut Vec<Box<dyn Advisor>>,
+) -> Result<Found, NoMemory>
+    requires over { IsOver (R.meanings (R.problem bounds)).trips (R.meanings (R.problem bounds)).catalogue root.now }
+    requires grant { grant ≤ MOST_BRANCHINGS }
+    requires rounds { rounds ≤ MOST_ROUNDS }
+    requires asked { All (λ advisor. asked advisor ≤ 2 ^ 63) advisors.old.items }
+{
+    solve(alloc, &mut bounds, root, grant, rounds, advisors)
 }
