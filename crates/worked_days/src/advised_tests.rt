@@ -5,12 +5,11 @@ ghost use Rattle.std.specs.Prelude.{◌≡◌, ◌≤◌, ◌^◌, All};
 ghost use Rattle.advisors.specs.Quits.{quit_after};
 ghost use Rattle.advisors.specs.Proposals.{DoesFit, IsOverSame};
 
-use crate::day::{folder_of, one_stays, words_of};
+use crate::day::{ample_sink, folder_of, one_stays, words_of};
 use advisors::{Advisor, Look, Proposal, Subgradient, Word};
 use branch_tree::{Cut, PutRefusal};
 use planner_app::railplan;
 use rail_base::{CompNo, NoMemory, TripNo};
-use rail_io::MemorySink;
 use std::alloc::{AllocError, Global};
 use std::process::Abort;
 use std::test::Fail;
@@ -165,11 +164,21 @@ fn planned(
     requires asked { All (λ advisor. asked advisor ≤ 2 ^ 63) advisors.old.items }
 {
     let mut folder = folder_of(rt, alloc, &one_stays(), Vec::new(alloc))?;
-    let mut out = MemorySink::new(alloc, 1000, 1000, Vec::new(alloc))?;
+    let mut out = ample_sink(alloc)?;
     let words = words_of(rt, alloc, words)?;
     let status = railplan(alloc, &words, &mut folder, &mut out, advisors);
+    Ok(told(alloc, status, out.written(), advisors)?)
+}
+
+/// A status, what is written, and of each advisor how often it was asked, and whether it has quit.
+fn told(
+    alloc: Global,
+    status: u8,
+    written: &[u8],
+    advisors: &[Box<dyn Advisor>],
+) -> Result<String, AllocError> {
     let mut text = format!(in alloc; "status {status}\n")?;
-    write_utf8(&mut text, out.written())?;
+    write_utf8(&mut text, written)?;
     write_asked(&mut text, advisors)?;
     Ok(text)
 }
@@ -185,11 +194,8 @@ fn write_utf8(text: &mut String, bytes: &[u8]) -> Result<(), AllocError> {
 /// Writes of each advisor how often it was asked, and whether it has quit.
 fn write_asked(text: &mut String, advisors: &[Box<dyn Advisor>]) -> Result<(), AllocError> {
     for advisor in advisors {
-        write!(text, "asked {}", advisor.asked())?;
-        if advisor.has_quit() {
-            write!(text, ", quit")?;
-        }
-        write!(text, "\n")?;
+        let quit = if advisor.has_quit() { ", quit" } else { "" };
+        write!(text, "asked {}{quit}\n", advisor.asked())?;
     }
     Ok(())
 }
@@ -278,13 +284,24 @@ const ROWS: &[Row] = &[
     },
 ];
 
+/// Asserts that a text is the one that is wanted.
+fn expect_text(rt: &impl Abort, text: &str, wanted: &str) {
+    assert!(rt; text == wanted, "{text}");
+}
+
+/// Asserts that a text is what is told of a row.
+fn expect_told(rt: &impl Abort, alloc: Global, row: &Row, text: &str) -> Result<(), AllocError> {
+    let wanted = format!(in alloc; "status {}\n{}{}\n", row.status, row.document, row.asked)?;
+    expect_text(rt, text, wanted.as_str());
+    Ok(())
+}
+
 /// Asserts what comes of a row.
 fn expect(rt: &impl Abort, alloc: Global, row: &Row) -> Result<(), Fail> {
     let mut advisors: Vec<Box<dyn Advisor>> = Vec::new(alloc);
     advisors.push(Box::new(alloc, Steady::new(row.advice, row.replies))?)?;
     let text = planned(rt, alloc, row.words, &mut advisors)?;
-    let wanted = format!(in alloc; "status {}\n{}{}\n", row.status, row.document, row.asked)?;
-    assert!(rt; text.as_str() == wanted.as_str(), "{text}");
+    expect_told(rt, alloc, row, text.as_str())?;
     Ok(())
 }
 
@@ -307,6 +324,6 @@ fn the_others_are_asked_after_one_has_quit(rt: HostRuntime) -> Result<(), Fail> 
     let wanted =
         "status 0\nrailplan answer 1\noptimal 190\nbranchings 0\nrun 0 0 1\nrun 1 1\ntree\n\
         cost 190 2 2:-45 3:45\nend\nasked 2, quit\nasked 2\n";
-    assert!(rt; text.as_str() == wanted, "{text}");
+    expect_text(&rt, text.as_str(), wanted);
     Ok(())
 }

@@ -1,9 +1,8 @@
 //! Checking an answer: worked documents that are valid, each thing that can be wrong with one, and files that are
 //! refused.
 
-use crate::day::{Day, base_day, both_stay, folder_with_bytes, one_stays, ring, run, words_of};
+use crate::day::{Day, base_day, both_stay, expect_answered, one_stays, ring};
 use rail_base::NoMemory;
-use rail_io::MemorySink;
 use std::alloc::Global;
 use std::process::Abort;
 use std::test::Fail;
@@ -17,13 +16,7 @@ fn expect_check(
     status: u8,
     line: &str,
 ) -> Result<(), NoMemory> {
-    let mut folder = folder_with_bytes(rt, alloc, day, "day/answer.txt", answer.as_bytes())?;
-    let mut out = MemorySink::new(alloc, 1000, 1000, Vec::new(alloc))?;
-    let words = words_of(rt, alloc, &["railplan", "check", "day"])?;
-    let found = run(alloc, &words, &mut folder, &mut out)?;
-    assert!(rt; out.written() == line.as_bytes());
-    assert!(rt; found == status);
-    Ok(())
+    expect_answered(rt, alloc, "check", day, answer, status, line)
 }
 
 /// Asserts the status and the line for an answer to the day on which one unit stays, by what follows the title line.
@@ -38,14 +31,18 @@ fn expect_there(
     expect_check(rt, alloc, &one_stays(), answer.as_str(), status, line)
 }
 
-/// Asserts that an answer to the day on which one unit stays is valid, and what it says.
-fn expect_valid(rt: &impl Abort, alloc: Global, rest: &str, line: &str) -> Result<(), NoMemory> {
-    expect_there(rt, alloc, rest, 0, line)
-}
-
-/// Asserts what is wrong with an answer to the day on which one unit stays.
-fn expect_invalid(rt: &impl Abort, alloc: Global, rest: &str, line: &str) -> Result<(), NoMemory> {
-    expect_there(rt, alloc, rest, 1, line)
+/// Asserts the status for answers to the day on which one unit stays, by what follows their title lines; each has its
+/// own line.
+fn expect_each(
+    rt: &impl Abort,
+    alloc: Global,
+    cases: &[(&str, &str)],
+    status: u8,
+) -> Result<(), NoMemory> {
+    for (rest, line) in cases {
+        expect_there(rt, alloc, rest, status, line)?;
+    }
+    Ok(())
 }
 
 #[test]
@@ -54,35 +51,42 @@ fn answers_that_are_valid(rt: HostRuntime) -> Result<(), Fail> {
     let answer =
         "railplan answer 1\noptimal 120\nbranchings 0\nrun 0 0 1\nrun 1 1 0\ntree\ncost 120 0\nend\n";
     expect_check(&rt, alloc, &base_day(), answer, 0, "valid optimal 120\n")?;
-    let one = "optimal 190\nbranchings 0\nrun 0 0 1\nrun 1 1\ntree\ncost 190 2 2:-45 3:45\nend\n";
-    expect_valid(&rt, alloc, one, "valid optimal 190\n")?;
-    let other = "optimal 190\nbranchings 0\nrun 0 0 1\nrun 1 1\ntree\ncost 190 1 3:70\nend\n";
-    expect_valid(&rt, alloc, other, "valid optimal 190\n")?;
-    let bounded = "bounded 120\nbranchings 0\ntree\ncost 120 0\nend\n";
-    expect_valid(&rt, alloc, bounded, "valid bounded 120\n")?;
-    let branched =
-        "optimal 190\nbranchings 2\nrun 0 0 1\nrun 1 1\ntree\nonly 0 1\nonly 1 1\nray 1 2:-1\ncost 190 0\n\
-            ray 1 2:-1\nend\n";
-    expect_valid(&rt, alloc, branched, "valid optimal 190\n")?;
+    let cases = [
+        (
+            "optimal 190\nbranchings 0\nrun 0 0 1\nrun 1 1\ntree\ncost 190 2 2:-45 3:45\nend\n",
+            "valid optimal 190\n",
+        ),
+        (
+            "optimal 190\nbranchings 0\nrun 0 0 1\nrun 1 1\ntree\ncost 190 1 3:70\nend\n",
+            "valid optimal 190\n",
+        ),
+        (
+            "bounded 120\nbranchings 0\ntree\ncost 120 0\nend\n",
+            "valid bounded 120\n",
+        ),
+        (
+            "optimal 190\nbranchings 2\nrun 0 0 1\nrun 1 1\ntree\nonly 0 1\nonly 1 1\nray 1 2:-1\ncost 190 0\n\
+                ray 1 2:-1\nend\n",
+            "valid optimal 190\n",
+        ),
+    ];
+    expect_each(&rt, alloc, &cases, 0)?;
     Ok(())
 }
 
 #[test]
 fn answers_that_say_that_no_plan_runs(rt: HostRuntime) -> Result<(), Fail> {
     let alloc = rt.alloc();
-    let ray = "railplan answer 1\ninfeasible\nbranchings 0\ntree\nray 1 2:-1\nend\n";
-    expect_check(&rt, alloc, &both_stay(), ray, 0, "valid infeasible\n")?;
-    let other = "railplan answer 1\ninfeasible\nbranchings 0\ntree\nray 1 3:1\nend\n";
-    expect_check(&rt, alloc, &both_stay(), other, 0, "valid infeasible\n")?;
+    let valid = [
+        "railplan answer 1\ninfeasible\nbranchings 0\ntree\nray 1 2:-1\nend\n",
+        "railplan answer 1\ninfeasible\nbranchings 0\ntree\nray 1 3:1\nend\n",
+    ];
+    for ray in valid {
+        expect_check(&rt, alloc, &both_stay(), ray, 0, "valid infeasible\n")?;
+    }
     let zero = "railplan answer 1\ninfeasible\nbranchings 0\ntree\nray 0\nend\n";
-    expect_check(
-        &rt,
-        alloc,
-        &both_stay(),
-        zero,
-        1,
-        "invalid: ray of node 0 is 0\n",
-    )?;
+    let line = "invalid: ray of node 0 is 0\n";
+    expect_check(&rt, alloc, &both_stay(), zero, 1, line)?;
     let nothing = "railplan answer 1\nbounded 120\nbranchings 0\ntree\nray 1 2:-1\nend\n";
     let line = "invalid: bound 120 said, nothing found\n";
     expect_check(&rt, alloc, &both_stay(), nothing, 1, line)?;
@@ -101,59 +105,69 @@ fn an_answer_to_a_day_of_joins_and_splits(rt: HostRuntime) -> Result<(), Fail> {
 
 #[test]
 fn plans_that_are_wrong(rt: HostRuntime) -> Result<(), Fail> {
-    let alloc = rt.alloc();
-    let few = "optimal 190\nbranchings 0\nrun 0 0 1\ntree\ncost 190 1 3:70\nend\n";
-    expect_invalid(&rt, alloc, few, "invalid: 1 runs for 2 trips\n")?;
-    let many = "optimal 190\nbranchings 0\nrun 0 0 1\nrun 1 1\nrun 2\ntree\ncost 190 1 3:70\nend\n";
-    expect_invalid(&rt, alloc, many, "invalid: 3 runs for 2 trips\n")?;
-    let unknown = "optimal 190\nbranchings 0\nrun 0 0 1\nrun 1 2\ntree\ncost 190 1 3:70\nend\n";
-    expect_invalid(
-        &rt,
-        alloc,
-        unknown,
-        "invalid: run 1 names an unknown unit\n",
-    )?;
-    let broken = "optimal 190\nbranchings 0\nrun 0 0 1\nrun 1 0\ntree\ncost 190 1 3:70\nend\n";
-    expect_invalid(&rt, alloc, broken, "invalid: link 0 is broken\n")?;
-    let cost = "optimal 191\nbranchings 0\nrun 0 0 1\nrun 1 1\ntree\ncost 190 1 3:70\nend\n";
-    expect_invalid(&rt, alloc, cost, "invalid: cost 191 said, 190 found\n")?;
+    let cases = [
+        (
+            "optimal 190\nbranchings 0\nrun 0 0 1\ntree\ncost 190 1 3:70\nend\n",
+            "invalid: 1 runs for 2 trips\n",
+        ),
+        (
+            "optimal 190\nbranchings 0\nrun 0 0 1\nrun 1 1\nrun 2\ntree\ncost 190 1 3:70\nend\n",
+            "invalid: 3 runs for 2 trips\n",
+        ),
+        (
+            "optimal 190\nbranchings 0\nrun 0 0 1\nrun 1 2\ntree\ncost 190 1 3:70\nend\n",
+            "invalid: run 1 names an unknown unit\n",
+        ),
+        (
+            "optimal 190\nbranchings 0\nrun 0 0 1\nrun 1 0\ntree\ncost 190 1 3:70\nend\n",
+            "invalid: link 0 is broken\n",
+        ),
+        (
+            "optimal 191\nbranchings 0\nrun 0 0 1\nrun 1 1\ntree\ncost 190 1 3:70\nend\n",
+            "invalid: cost 191 said, 190 found\n",
+        ),
+    ];
+    expect_each(&rt, rt.alloc(), &cases, 1)?;
     Ok(())
 }
 
 #[test]
 fn trees_that_are_wrong(rt: HostRuntime) -> Result<(), Fail> {
-    let alloc = rt.alloc();
-    let shape = "bounded 120\nbranchings 1\ntree\nonly 0 1\ncost 120 0\nend\n";
-    expect_invalid(&rt, alloc, shape, "invalid: tree breaks at node 2\n")?;
-    let after = "bounded 120\nbranchings 0\ntree\ncost 120 0\nempty\nend\n";
-    expect_invalid(&rt, alloc, after, "invalid: tree breaks at node 1\n")?;
-    let branchings = "bounded 120\nbranchings 1\ntree\ncost 120 0\nend\n";
-    expect_invalid(
-        &rt,
-        alloc,
-        branchings,
-        "invalid: 1 branchings said, 0 found\n",
-    )?;
-    let cut = "bounded 120\nbranchings 1\ntree\nonly 0 2\ncost 120 0\ncost 120 0\nend\n";
-    expect_invalid(&rt, alloc, cut, "invalid: node 0 cuts nothing\n")?;
-    let index = "bounded 120\nbranchings 0\ntree\ncost 120 1 4:1\nend\n";
-    expect_invalid(
-        &rt,
-        alloc,
-        index,
-        "invalid: node 0 has a wrong multiplier\n",
-    )?;
-    let negative = "bounded 120\nbranchings 0\ntree\ncost 120 1 0:-1\nend\n";
-    expect_invalid(
-        &rt,
-        alloc,
-        negative,
-        "invalid: node 0 has a wrong multiplier\n",
-    )?;
-    let bound = "optimal 190\nbranchings 0\nrun 0 0 1\nrun 1 1\ntree\ncost 191 2 2:-45 3:45\nend\n";
-    expect_invalid(&rt, alloc, bound, "invalid: node 0 says 191, found 190\n")?;
-    let empty = "infeasible\nbranchings 0\ntree\nempty\nend\n";
-    expect_invalid(&rt, alloc, empty, "invalid: node 0 is not empty\n")?;
+    let cases = [
+        (
+            "bounded 120\nbranchings 1\ntree\nonly 0 1\ncost 120 0\nend\n",
+            "invalid: tree breaks at node 2\n",
+        ),
+        (
+            "bounded 120\nbranchings 0\ntree\ncost 120 0\nempty\nend\n",
+            "invalid: tree breaks at node 1\n",
+        ),
+        (
+            "bounded 120\nbranchings 1\ntree\ncost 120 0\nend\n",
+            "invalid: 1 branchings said, 0 found\n",
+        ),
+        (
+            "bounded 120\nbranchings 1\ntree\nonly 0 2\ncost 120 0\ncost 120 0\nend\n",
+            "invalid: node 0 cuts nothing\n",
+        ),
+        (
+            "bounded 120\nbranchings 0\ntree\ncost 120 1 4:1\nend\n",
+            "invalid: node 0 has a wrong multiplier\n",
+        ),
+        (
+            "bounded 120\nbranchings 0\ntree\ncost 120 1 0:-1\nend\n",
+            "invalid: node 0 has a wrong multiplier\n",
+        ),
+        (
+            "optimal 190\nbranchings 0\nrun 0 0 1\nrun 1 1\ntree\ncost 191 2 2:-45 3:45\nend\n",
+            "invalid: node 0 says 191, found 190\n",
+        ),
+        (
+            "infeasible\nbranchings 0\ntree\nempty\nend\n",
+            "invalid: node 0 is not empty\n",
+        ),
+    ];
+    expect_each(&rt, rt.alloc(), &cases, 1)?;
     Ok(())
 }
 
@@ -176,75 +190,95 @@ fn cut_alike(
     Ok(text)
 }
 
+/// Asserts the status and the line for such an answer with 4000 branches, to the day on which one unit stays.
+fn expect_alike(
+    rt: &impl Abort,
+    alloc: Global,
+    branchings: u32,
+    leaves: u32,
+    status: u8,
+    line: &str,
+) -> Result<(), NoMemory> {
+    let rest = cut_alike(alloc, branchings, 4000, leaves)?;
+    expect_there(rt, alloc, rest.as_str(), status, line)
+}
+
 #[test]
 fn trees_of_the_most_nodes(rt: HostRuntime) -> Result<(), Fail> {
-    let alloc = rt.alloc();
-    let whole = cut_alike(alloc, 4000, 4000, 4001)?;
-    expect_invalid(&rt, alloc, whole.as_str(), "invalid: node 1 cuts nothing\n")?;
-    let short = cut_alike(alloc, 4000, 4000, 4000)?;
-    expect_invalid(
-        &rt,
-        alloc,
-        short.as_str(),
-        "invalid: tree breaks at node 8000\n",
-    )?;
-    let unsaid = cut_alike(alloc, 0, 4000, 4001)?;
-    let line = "invalid: 0 branchings said, 4000 found\n";
-    expect_invalid(&rt, alloc, unsaid.as_str(), line)?;
-    let long = cut_alike(alloc, 4000, 4000, 4002)?;
-    let line = "refused answer.txt: too many nodes\n";
-    expect_there(&rt, alloc, long.as_str(), 3, line)?;
+    let cases = [
+        (4000, 4001, 1, "invalid: node 1 cuts nothing\n"),
+        (4000, 4000, 1, "invalid: tree breaks at node 8000\n"),
+        (0, 4001, 1, "invalid: 0 branchings said, 4000 found\n"),
+        (4000, 4002, 3, "refused answer.txt: too many nodes\n"),
+    ];
+    for (branchings, leaves, status, line) in cases {
+        expect_alike(&rt, rt.alloc(), branchings, leaves, status, line)?;
+    }
     Ok(())
 }
 
 #[test]
 fn rays_that_are_wrong(rt: HostRuntime) -> Result<(), Fail> {
-    let alloc = rt.alloc();
-    let index = "infeasible\nbranchings 0\ntree\nray 1 4:1\nend\n";
-    let line = "invalid: node 0 has a wrong multiplier\n";
-    expect_invalid(&rt, alloc, index, line)?;
-    let negative = "infeasible\nbranchings 0\ntree\nray 1 0:-1\nend\n";
-    expect_invalid(&rt, alloc, negative, line)?;
-    let zero = "infeasible\nbranchings 0\ntree\nray 1 3:1\nend\n";
-    expect_invalid(&rt, alloc, zero, "invalid: ray of node 0 is 0\n")?;
+    let cases = [
+        (
+            "infeasible\nbranchings 0\ntree\nray 1 4:1\nend\n",
+            "invalid: node 0 has a wrong multiplier\n",
+        ),
+        (
+            "infeasible\nbranchings 0\ntree\nray 1 0:-1\nend\n",
+            "invalid: node 0 has a wrong multiplier\n",
+        ),
+        (
+            "infeasible\nbranchings 0\ntree\nray 1 3:1\nend\n",
+            "invalid: ray of node 0 is 0\n",
+        ),
+    ];
+    expect_each(&rt, rt.alloc(), &cases, 1)?;
     Ok(())
 }
 
 #[test]
 fn heads_that_are_wrong(rt: HostRuntime) -> Result<(), Fail> {
-    let alloc = rt.alloc();
-    let below = "optimal 190\nbranchings 0\nrun 0 0 1\nrun 1 1\ntree\ncost 120 0\nend\n";
-    expect_invalid(
-        &rt,
-        alloc,
-        below,
-        "invalid: node 0 has bound 120 below 190\n",
-    )?;
-    let left = "infeasible\nbranchings 0\ntree\ncost 120 0\nend\n";
-    expect_invalid(&rt, alloc, left, "invalid: node 0 is a cost leaf\n")?;
-    let least = "bounded 119\nbranchings 0\ntree\ncost 120 0\nend\n";
-    expect_invalid(&rt, alloc, least, "invalid: bound 119 said, 120 found\n")?;
-    let plan = "bounded 121 plan 190\nbranchings 0\nrun 0 0 1\nrun 1 1\ntree\ncost 120 0\nend\n";
-    expect_invalid(&rt, alloc, plan, "invalid: bound 121 said, 120 found\n")?;
+    let cases = [
+        (
+            "optimal 190\nbranchings 0\nrun 0 0 1\nrun 1 1\ntree\ncost 120 0\nend\n",
+            "invalid: node 0 has bound 120 below 190\n",
+        ),
+        (
+            "infeasible\nbranchings 0\ntree\ncost 120 0\nend\n",
+            "invalid: node 0 is a cost leaf\n",
+        ),
+        (
+            "bounded 119\nbranchings 0\ntree\ncost 120 0\nend\n",
+            "invalid: bound 119 said, 120 found\n",
+        ),
+        (
+            "bounded 121 plan 190\nbranchings 0\nrun 0 0 1\nrun 1 1\ntree\ncost 120 0\nend\n",
+            "invalid: bound 121 said, 120 found\n",
+        ),
+    ];
+    expect_each(&rt, rt.alloc(), &cases, 1)?;
     Ok(())
 }
 
 #[test]
 fn files_that_are_refused(rt: HostRuntime) -> Result<(), Fail> {
     let alloc = rt.alloc();
-    let rest = "optimal 190\nbranchings 0\nrun 0 0 1\nrun 1 1\ntree\ncost 190 2 2:-45 3:45\n";
-    expect_there(&rt, alloc, rest, 3, "refused answer.txt: no end line\n")?;
-    let twice =
-        "optimal 190\nbranchings 0\nrun 0 0 1\nrun 1 1\ntree\ncost 190 2 2:-45 3:45\nend\nend\n";
-    expect_there(
-        &rt,
-        alloc,
-        twice,
-        3,
-        "refused answer.txt: line 9 after the end\n",
-    )?;
-    let zero = "optimal 0190\nbranchings 0\nrun 0 0 1\nrun 1 1\ntree\ncost 190 2 2:-45 3:45\nend\n";
-    expect_there(&rt, alloc, zero, 3, "refused answer.txt: line 2\n")?;
+    let cases = [
+        (
+            "optimal 190\nbranchings 0\nrun 0 0 1\nrun 1 1\ntree\ncost 190 2 2:-45 3:45\n",
+            "refused answer.txt: no end line\n",
+        ),
+        (
+            "optimal 190\nbranchings 0\nrun 0 0 1\nrun 1 1\ntree\ncost 190 2 2:-45 3:45\nend\nend\n",
+            "refused answer.txt: line 9 after the end\n",
+        ),
+        (
+            "optimal 0190\nbranchings 0\nrun 0 0 1\nrun 1 1\ntree\ncost 190 2 2:-45 3:45\nend\n",
+            "refused answer.txt: line 2\n",
+        ),
+    ];
+    expect_each(&rt, alloc, &cases, 3)?;
     let no_trips = Day {
         trips: None,
         ..one_stays()

@@ -181,14 +181,20 @@ fn add_day(
     files: &mut Vec<MemoryFile>,
     day: &Day,
 ) -> Result<(), NoMemory> {
-    add(rt, alloc, files, "day/types.csv", day.types)?;
-    add(rt, alloc, files, "day/stations.csv", day.stations)?;
-    add(rt, alloc, files, "day/stock.csv", day.stock)?;
-    add(rt, alloc, files, "day/trips.csv", day.trips)?;
-    add(rt, alloc, files, "day/links.csv", day.links)?;
-    add(rt, alloc, files, "day/weights.csv", day.weights)?;
-    add(rt, alloc, files, "day/plan.csv", day.plan)?;
-    add(rt, alloc, files, "day/answer.txt", day.answer)
+    let rows = [
+        ("day/types.csv", day.types),
+        ("day/stations.csv", day.stations),
+        ("day/stock.csv", day.stock),
+        ("day/trips.csv", day.trips),
+        ("day/links.csv", day.links),
+        ("day/weights.csv", day.weights),
+        ("day/plan.csv", day.plan),
+        ("day/answer.txt", day.answer),
+    ];
+    for (path, text) in &rows {
+        add(rt, alloc, files, path, *text)?;
+    }
+    Ok(())
 }
 
 /// The files of a day that are there.
@@ -276,14 +282,21 @@ pub(crate) fn run_surely(
     run(alloc, words, folder, out)
 }
 
-/// What `simulate day` comes to over a folder and a sink.
-pub(crate) fn simulated_with(
+/// A sink with ample room, whose writes never fail.
+pub(crate) fn ample_sink(alloc: Global) -> Result<MemorySink, NoMemory> {
+    MemorySink::new(alloc, 1000, 1000, Vec::new(alloc))
+}
+
+/// The status of a command line over a folder and a sink.
+pub(crate) fn status_of(
     rt: &impl Abort,
     alloc: Global,
+    words: &[&str],
     folder: &mut MemoryFolder,
-    out: MemorySink,
-) -> Result<Ending, NoMemory> {
-    ending_of(rt, alloc, &["railplan", "simulate", "day"], folder, out)
+    out: &mut MemorySink,
+) -> Result<u8, NoMemory> {
+    let words = words_of(rt, alloc, words)?;
+    run(alloc, &words, folder, out)
 }
 
 /// What words come to over a folder and a sink.
@@ -294,20 +307,76 @@ pub(crate) fn ending_of(
     folder: &mut MemoryFolder,
     mut out: MemorySink,
 ) -> Result<Ending, NoMemory> {
-    let words = words_of(rt, alloc, words)?;
-    let status = run(alloc, &words, folder, &mut out)?;
+    let status = status_of(rt, alloc, words, folder, &mut out)?;
     let written = out.written().to_vec(alloc)?;
     Ok(Ending { status, written })
 }
 
-/// What `simulate day` comes to over a day in memory, with ample room.
-pub(crate) fn simulated(rt: &impl Abort, alloc: Global, day: &Day) -> Result<Ending, NoMemory> {
-    let mut folder = folder_of(rt, alloc, day, Vec::new(alloc))?;
-    let out = MemorySink::new(alloc, 1000, 1000, Vec::new(alloc))?;
-    simulated_with(rt, alloc, &mut folder, out)
+/// Asserts the status of words over a folder and a sink, and all that is in the sink then.
+pub(crate) fn expect_run(
+    rt: &impl Abort,
+    alloc: Global,
+    words: &[&str],
+    folder: &mut MemoryFolder,
+    out: &mut MemorySink,
+    status: u8,
+    document: &[u8],
+) -> Result<(), NoMemory> {
+    let found = status_of(rt, alloc, words, folder, out)?;
+    assert!(rt; out.written() == document);
+    assert!(rt; found == status);
+    Ok(())
 }
 
-/// Asserts the status of a day, and the document that it writes.
+/// Asserts the status of words over a folder, and the document that is written where there is ample room.
+pub(crate) fn expect_ample(
+    rt: &impl Abort,
+    alloc: Global,
+    words: &[&str],
+    folder: &mut MemoryFolder,
+    status: u8,
+    document: &str,
+) -> Result<(), NoMemory> {
+    let mut out = ample_sink(alloc)?;
+    expect_run(
+        rt,
+        alloc,
+        words,
+        folder,
+        &mut out,
+        status,
+        document.as_bytes(),
+    )
+}
+
+/// Asserts the status and the document of a command on a day whose folder has this text as its answer.
+pub(crate) fn expect_answered(
+    rt: &impl Abort,
+    alloc: Global,
+    command: &str,
+    day: &Day,
+    answer: &str,
+    status: u8,
+    document: &str,
+) -> Result<(), NoMemory> {
+    let mut folder = folder_with_bytes(rt, alloc, day, "day/answer.txt", answer.as_bytes())?;
+    let words = ["railplan", command, "day"];
+    expect_ample(rt, alloc, &words, &mut folder, status, document)
+}
+
+/// Asserts the status and the document of `simulate day` over a folder.
+pub(crate) fn expect_simulated(
+    rt: &impl Abort,
+    alloc: Global,
+    folder: &mut MemoryFolder,
+    status: u8,
+    document: &str,
+) -> Result<(), NoMemory> {
+    let words = ["railplan", "simulate", "day"];
+    expect_ample(rt, alloc, &words, folder, status, document)
+}
+
+/// Asserts the status of a day that is simulated, and the document that it writes.
 pub(crate) fn expect_document(
     rt: &impl Abort,
     alloc: Global,
@@ -315,8 +384,6 @@ pub(crate) fn expect_document(
     status: u8,
     document: &str,
 ) -> Result<(), NoMemory> {
-    let ending = simulated(rt, alloc, day)?;
-    assert!(rt; ending.written.as_slice() == document.as_bytes());
-    assert!(rt; ending.status == status);
-    Ok(())
+    let mut folder = folder_of(rt, alloc, day, Vec::new(alloc))?;
+    expect_simulated(rt, alloc, &mut folder, status, document)
 }

@@ -2,13 +2,13 @@
 //! where it never comes to that call. Over a folder and a sink that never fail the run has its answer too.
 
 use crate::day::{
-    Day, Ending, base_day, ending_of, folder_of, one_stays, ring, run_surely, sure_folder_of,
-    two_trips, words_of,
+    Day, base_day, expect_run, folder_of, one_stays, ring, run_surely, sure_folder_of, two_trips,
+    words_of,
 };
 use crate::report_tests::{COSTS, DUTIES, FIRST_BOUND, ONE_RETURNS, WRONG_BOUND, YARDS};
 use crate::simulate_tests::USAGE;
 use rail_base::NoMemory;
-use rail_io::{MemorySink, SureSink};
+use rail_io::{MemorySink, SureFolder, SureSink};
 use std::alloc::Global;
 use std::process::Abort;
 use std::test::Fail;
@@ -193,38 +193,81 @@ fn file_of<'a>(case: &Case<'a>, read: u64) -> &'a str {
     }
 }
 
-/// What a case comes to where these reads and these writes fail, and a write takes one byte.
-fn ending_where(
+/// Asserts how a case ends where these reads fail, over a sink.
+fn expect_ending(
     rt: &impl Abort,
     alloc: Global,
     case: &Case,
     reads: Vec<u64>,
-    writes: Vec<u64>,
-) -> Result<Ending, NoMemory> {
+    out: &mut MemorySink,
+    status: u8,
+    document: &[u8],
+) -> Result<(), NoMemory> {
     let mut folder = folder_of(rt, alloc, &case.day, reads)?;
-    let out = MemorySink::new(alloc, 1000, 1, writes)?;
-    ending_of(rt, alloc, case.words, &mut folder, out)
+    expect_run(rt, alloc, case.words, &mut folder, out, status, document)
 }
 
-/// Asserts the status and the document of a run.
-fn expect_ending(rt: &impl Abort, ending: &Ending, status: u8, document: &[u8]) {
-    assert!(rt; ending.status == status);
-    assert!(rt; ending.written.as_slice() == document);
+/// Asserts how a case ends where these reads fail, and a write takes one byte.
+fn expect_reads(
+    rt: &impl Abort,
+    alloc: Global,
+    case: &Case,
+    reads: Vec<u64>,
+    status: u8,
+    document: &[u8],
+) -> Result<(), NoMemory> {
+    let mut out = MemorySink::new(alloc, 1000, 1, Vec::new(alloc))?;
+    expect_ending(rt, alloc, case, reads, &mut out, status, document)
+}
+
+/// Asserts how a case ends where the write of this number fails, and each other one takes one byte.
+fn expect_write(
+    rt: &impl Abort,
+    alloc: Global,
+    case: &Case,
+    write: usize,
+    status: u8,
+    document: &[u8],
+) -> Result<(), NoMemory> {
+    let failing = vec![in alloc; write as u64]?;
+    let mut out = MemorySink::new(alloc, 1000, 1, failing)?;
+    expect_ending(rt, alloc, case, Vec::new(alloc), &mut out, status, document)
+}
+
+/// Asserts that a run names the file of the read of this number, which fails.
+fn expect_read_named(
+    rt: &impl Abort,
+    alloc: Global,
+    case: &Case,
+    read: u64,
+) -> Result<(), NoMemory> {
+    let file = file_of(case, read);
+    let unread = format!(in alloc; "cannot read {file}\n")?;
+    let failing = vec![in alloc; read]?;
+    expect_reads(rt, alloc, case, failing, 5, unread.as_bytes())
 }
 
 /// Asserts that a run names the file of the read that fails, and that nothing but the reads of the case counts.
 fn expect_reads_named(rt: &impl Abort, alloc: Global, case: &Case) -> Result<(), NoMemory> {
     for read in 0..15 {
-        let ending = ending_where(rt, alloc, case, vec![in alloc; read]?, Vec::new(alloc))?;
         if read < case.reads {
-            let file = file_of(case, read);
-            let unread = format!(in alloc; "cannot read {file}\n")?;
-            expect_ending(rt, &ending, 5, unread.as_bytes());
+            expect_read_named(rt, alloc, case, read)?;
         } else {
-            expect_ending(rt, &ending, case.status, case.document.as_bytes());
+            let failing = vec![in alloc; read]?;
+            let document = case.document.as_bytes();
+            expect_reads(rt, alloc, case, failing, case.status, document)?;
         }
     }
     Ok(())
+}
+
+/// Asserts that a run writes all but the last byte of its document where there is no room for that.
+fn expect_no_room(rt: &impl Abort, alloc: Global, case: &Case) -> Result<(), NoMemory> {
+    let Some((_, front)) = case.document.as_bytes().split_last() else {
+        panic!(rt; "a document is not empty");
+    };
+    let mut narrow = MemorySink::new(alloc, front.len(), 1000, Vec::new(alloc))?;
+    expect_ending(rt, alloc, case, Vec::new(alloc), &mut narrow, 6, front)
 }
 
 /// Asserts that a run writes what comes before the write that fails, and its whole document where none does; and all
@@ -232,20 +275,37 @@ fn expect_reads_named(rt: &impl Abort, alloc: Global, case: &Case) -> Result<(),
 fn expect_writes_cut(rt: &impl Abort, alloc: Global, case: &Case) -> Result<(), NoMemory> {
     let text = case.document.as_bytes();
     for write in 0..text.len() {
-        let failing = vec![in alloc; write as u64]?;
-        let ending = ending_where(rt, alloc, case, Vec::new(alloc), failing)?;
-        expect_ending(rt, &ending, 6, &text[..write]);
+        expect_write(rt, alloc, case, write, 6, &text[..write])?;
     }
-    let past = vec![in alloc; text.len() as u64]?;
-    let ending = ending_where(rt, alloc, case, Vec::new(alloc), past)?;
-    expect_ending(rt, &ending, case.status, text);
-    let Some((_, front)) = text.split_last() else {
-        panic!(rt; "a document is not empty");
-    };
-    let narrow = MemorySink::new(alloc, front.len(), 1000, Vec::new(alloc))?;
-    let mut folder = folder_of(rt, alloc, &case.day, Vec::new(alloc))?;
-    let ending = ending_of(rt, alloc, case.words, &mut folder, narrow)?;
-    expect_ending(rt, &ending, 6, front);
+    expect_write(rt, alloc, case, text.len(), case.status, text)?;
+    expect_no_room(rt, alloc, case)
+}
+
+/// The status of a case over a folder and a sink that never fail.
+fn sure_status(
+    rt: &impl Abort,
+    alloc: Global,
+    case: &Case,
+    folder: &mut SureFolder,
+    out: &mut SureSink,
+) -> Result<u8, NoMemory> {
+    let words = words_of(rt, alloc, case.words)?;
+    run_surely(alloc, &words, folder, out)
+}
+
+/// Asserts the status of a case over a folder and a sink that never fail, and what the sink tells, where it has room
+/// for so many bytes.
+fn expect_told(
+    rt: &impl Abort,
+    alloc: Global,
+    case: &Case,
+    folder: &mut SureFolder,
+    room: usize,
+    told: Option<&[u8]>,
+) -> Result<(), NoMemory> {
+    let mut out = SureSink::new(alloc, room)?;
+    let status = sure_status(rt, alloc, case, folder, &mut out)?;
+    assert!(rt; status == case.status && out.written() == told);
     Ok(())
 }
 
@@ -254,14 +314,9 @@ fn expect_writes_cut(rt: &impl Abort, alloc: Global, case: &Case) -> Result<(), 
 fn expect_sure(rt: &impl Abort, alloc: Global, case: &Case) -> Result<(), NoMemory> {
     let text = case.document.as_bytes();
     let mut folder = sure_folder_of(rt, alloc, &case.day)?;
-    let words = words_of(rt, alloc, case.words)?;
-    let mut out = SureSink::new(alloc, text.len())?;
-    assert!(rt; run_surely(alloc, &words, &mut folder, &mut out)? == case.status);
-    assert!(rt; out.written() == Some(text));
-    let mut narrow = SureSink::new(alloc, text.len().saturating_sub(1))?;
-    assert!(rt; run_surely(alloc, &words, &mut folder, &mut narrow)? == case.status);
-    assert!(rt; narrow.written() == None);
-    Ok(())
+    expect_told(rt, alloc, case, &mut folder, text.len(), Some(text))?;
+    let room = text.len().saturating_sub(1);
+    expect_told(rt, alloc, case, &mut folder, room, None)
 }
 
 #[test]
@@ -376,9 +431,8 @@ fn refused_plan<'a>(types: &'a str, document: &'a str) -> Case<'a> {
 
 /// Asserts how a run ends in which no call fails.
 fn expect_case(rt: &impl Abort, alloc: Global, case: &Case) -> Result<(), NoMemory> {
-    let ending = ending_where(rt, alloc, case, Vec::new(alloc), Vec::new(alloc))?;
-    expect_ending(rt, &ending, case.status, case.document.as_bytes());
-    Ok(())
+    let document = case.document.as_bytes();
+    expect_reads(rt, alloc, case, Vec::new(alloc), case.status, document)
 }
 
 #[test]

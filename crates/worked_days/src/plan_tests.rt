@@ -2,13 +2,28 @@
 
 use crate::day::{
     Day, base_day, both_stay, cheap_shunting, folder_of, northport, one_stays, ready_at_once, ring,
-    run, two_trips, two_types, words_of,
+    status_of, two_trips, two_types,
 };
 use rail_base::NoMemory;
 use rail_io::MemorySink;
 use std::alloc::Global;
 use std::process::Abort;
 use std::test::Fail;
+
+/// Asserts the status of a day by these words, over a sink that is to take all that is written.
+fn expect_status(
+    rt: &impl Abort,
+    alloc: Global,
+    day: &Day,
+    words: &[&str],
+    out: &mut MemorySink,
+    status: u8,
+) -> Result<(), NoMemory> {
+    let mut folder = folder_of(rt, alloc, day, Vec::new(alloc))?;
+    let found = status_of(rt, alloc, words, &mut folder, out)?;
+    assert!(rt; found == status);
+    Ok(())
+}
 
 /// What is written of a day by these words, whose status is this.
 fn answer_to(
@@ -18,11 +33,8 @@ fn answer_to(
     words: &[&str],
     status: u8,
 ) -> Result<Vec<u8>, NoMemory> {
-    let mut folder = folder_of(rt, alloc, day, Vec::new(alloc))?;
     let mut out = MemorySink::new(alloc, 100_000, 1000, Vec::new(alloc))?;
-    let words = words_of(rt, alloc, words)?;
-    let found = run(alloc, &words, &mut folder, &mut out)?;
-    assert!(rt; found == status);
+    expect_status(rt, alloc, day, words, &mut out, status)?;
     Ok(out.written().to_vec(alloc)?)
 }
 
@@ -83,7 +95,18 @@ fn plans_that_are_optimal(rt: HostRuntime) -> Result<(), Fail> {
     let alloc = rt.alloc();
     let usual = ["railplan", "plan", "day"];
     let both_return = "optimal 120\nbranchings 0\nrun 0 0 1\nrun 1 1 0\ntree\ncost 120 0\nend\n";
-    expect_answer(&rt, alloc, &base_day(), &usual, 0, both_return)?;
+    let one_unit = "optimal 60\nbranchings 0\nrun 0 0\nrun 1 0\ntree\ncost 60 0\nend\n";
+    let waiting =
+        "optimal 13360\nbranchings 0\nrun 0 0 1\nrun 1 0\nrun 2 0\nrun 3 0 1\ntree\ncost 13360 0\nend\n";
+    let cases = [
+        (base_day(), both_return),
+        (two_trips(), one_unit),
+        (ready_at_once(), one_unit),
+        (northport(), waiting),
+    ];
+    for (day, rest) in &cases {
+        expect_answer(&rt, alloc, day, &usual, 0, rest)?;
+    }
     let one_returns =
         "optimal 190\nbranchings 0\nrun 0 0 1\nrun 1 1\ntree\ncost 190 2 2:-45 3:45\nend\n";
     expect_answer(
@@ -94,12 +117,6 @@ fn plans_that_are_optimal(rt: HostRuntime) -> Result<(), Fail> {
         0,
         one_returns,
     )?;
-    let one_unit = "optimal 60\nbranchings 0\nrun 0 0\nrun 1 0\ntree\ncost 60 0\nend\n";
-    expect_answer(&rt, alloc, &two_trips(), &usual, 0, one_unit)?;
-    expect_answer(&rt, alloc, &ready_at_once(), &usual, 0, one_unit)?;
-    let waiting =
-        "optimal 13360\nbranchings 0\nrun 0 0 1\nrun 1 0\nrun 2 0\nrun 3 0 1\ntree\ncost 13360 0\nend\n";
-    expect_answer(&rt, alloc, &northport(), &usual, 0, waiting)?;
     expect_cost(&rt, alloc, &ring(), 1270)?;
     expect_cost(&rt, alloc, &two_types(), 170)?;
     Ok(())
@@ -206,11 +223,9 @@ fn the_dearest_day_is_planned(rt: HostRuntime) -> Result<(), Fail> {
 #[test]
 fn a_front_of_an_answer_is_written(rt: HostRuntime) -> Result<(), Fail> {
     let alloc = rt.alloc();
-    let mut folder = folder_of(&rt, alloc, &base_day(), Vec::new(alloc))?;
     let mut out = MemorySink::new(alloc, 1000, 16, vec![in alloc; 2]?)?;
-    let words = words_of(&rt, alloc, &["railplan", "plan", "day"])?;
-    let status = run(alloc, &words, &mut folder, &mut out)?;
-    assert!(rt; status == 6);
+    let usual = ["railplan", "plan", "day"];
+    expect_status(&rt, alloc, &base_day(), &usual, &mut out, 6)?;
     assert!(rt; out.written() == b"railplan answer 1\noptimal 120\nbr".as_slice());
     Ok(())
 }

@@ -1,8 +1,7 @@
 //! What is refused, and at which place: each text, the order in which a day is looked at, and fields that are accepted.
 
-use crate::day::{Day, base_day, expect_document, folder_with_bytes, simulated_with, two_trips};
+use crate::day::{Day, base_day, expect_document, expect_simulated, folder_with_bytes, two_trips};
 use rail_base::NoMemory;
-use rail_io::MemorySink;
 use std::alloc::Global;
 use std::process::Abort;
 use std::test::Fail;
@@ -62,6 +61,19 @@ fn expect_refused(
     expect_document(rt, alloc, day, 3, &document)
 }
 
+/// Asserts what is written of the day of two trips, which is refused, where one of its files has these bytes.
+fn expect_refusal(
+    rt: &impl Abort,
+    alloc: Global,
+    file: &str,
+    bytes: &[u8],
+    document: &str,
+) -> Result<(), NoMemory> {
+    let path = format!(in alloc; "day/{file}")?;
+    let mut folder = folder_with_bytes(rt, alloc, &two_trips(), &path, bytes)?;
+    expect_simulated(rt, alloc, &mut folder, 3, document)
+}
+
 /// Asserts that the day of two trips is refused with a text where one of its files has these bytes.
 fn expect_bytes_refused(
     rt: &impl Abort,
@@ -70,14 +82,22 @@ fn expect_bytes_refused(
     bytes: &[u8],
     text: &str,
 ) -> Result<(), NoMemory> {
-    let path = format!(in alloc; "day/{file}")?;
-    let mut folder = folder_with_bytes(rt, alloc, &two_trips(), &path, bytes)?;
-    let out = MemorySink::new(alloc, 1000, 1000, Vec::new(alloc))?;
-    let ending = simulated_with(rt, alloc, &mut folder, out)?;
     let document = format!(in alloc; "refused {file}: {text}\n")?;
-    assert!(rt; ending.written.as_slice() == document.as_bytes());
-    assert!(rt; ending.status == 3);
-    Ok(())
+    expect_refusal(rt, alloc, file, bytes, &document)
+}
+
+/// Asserts that the day of two trips is refused where one of its files has these lines under its header.
+fn expect_lines_refused(
+    rt: &impl Abort,
+    alloc: Global,
+    file: File,
+    lines: [&str; 3],
+    text: &str,
+) -> Result<(), NoMemory> {
+    let header = file.header;
+    let [front, rows, back] = lines;
+    let table = format!(in alloc; "{header}\n{front}{rows}{back}\n")?;
+    expect_bytes_refused(rt, alloc, file.name, table.as_bytes(), text)
 }
 
 /// Asserts that the day of two trips is refused where one of its files has under its header the rows of a case, between
@@ -90,13 +110,11 @@ fn expect_rows_refused(
     back: &str,
     cases: &[&str],
 ) -> Result<(), NoMemory> {
-    let header = file.header;
     for case in cases {
         let Some((rows, text)) = case.split_once(" => ") else {
             panic!(rt; "a case has an arrow");
         };
-        let table = format!(in alloc; "{header}\n{front}{rows}{back}\n")?;
-        expect_bytes_refused(rt, alloc, file.name, table.as_bytes(), text)?;
+        expect_lines_refused(rt, alloc, file, [front, rows, back], text)?;
     }
     Ok(())
 }
@@ -110,14 +128,20 @@ fn expect_trips_run(
     arrival: &str,
     km: &str,
 ) -> Result<(), NoMemory> {
-    let first = format!(in alloc; "T1,X,{departure},Y,09:00,{km},150")?;
-    let second = format!(in alloc; "T2,Y,09:30,X,{arrival},{km},150")?;
-    let trips = format!(in alloc; "{TRIPS_HEADER}\n{first}\n{second}\n")?;
+    let mut trips = format!(in alloc; "{TRIPS_HEADER}\nT1,X,{departure},Y,09:00,{km},150\n")?;
+    write!(&mut trips, "T2,Y,09:30,X,{arrival},{km},150\n")?;
     let day = Day {
         trips: Some(trips.as_str()),
         ..two_trips()
     };
     expect_document(rt, alloc, &day, 0, "runs 60\n")
+}
+
+/// The two trips with another field for the name of station X.
+fn trips_of_station(alloc: Global, name: &str) -> Result<String, NoMemory> {
+    let mut trips = format!(in alloc; "{TRIPS_HEADER}\nT1,{name},08:00,Y,09:00,10,150\n")?;
+    write!(&mut trips, "T2,Y,09:30,{name},10:30,10,150\n")?;
+    Ok(trips)
 }
 
 /// Asserts that the day of two trips runs with another field for the name of station X.
@@ -126,10 +150,7 @@ fn expect_station_runs(rt: &impl Abort, alloc: Global, name: &str) -> Result<(),
     let stations = format!(in alloc; "{header}\n{name},200,30\nY,200,30\n")?;
     let header = STOCK.header;
     let stock = format!(in alloc; "{header}\n{name},A,1,1\n")?;
-    let first = format!(in alloc; "T1,{name},08:00,Y,09:00,10,150")?;
-    let second = format!(in alloc; "T2,Y,09:30,{name},10:30,10,150")?;
-    let header = TRIPS.header;
-    let trips = format!(in alloc; "{header}\n{first}\n{second}\n")?;
+    let trips = trips_of_station(alloc, name)?;
     let day = Day {
         stations: Some(stations.as_str()),
         stock: Some(stock.as_str()),
@@ -483,11 +504,44 @@ fn times_have_hours_0_to_47(rt: HostRuntime) -> Result<(), Fail> {
     Ok(())
 }
 
+/// Asserts that the tables of a day, of which only the types can be read, are read in order from the stations on.
+fn expect_tables_in_order(
+    rt: &impl Abort,
+    alloc: Global,
+    day: &mut Day<'static>,
+) -> Result<(), NoMemory> {
+    let two = two_trips();
+    expect_refused(rt, alloc, day, "stations.csv: wrong header")?;
+    day.stations = two.stations;
+    expect_refused(rt, alloc, day, "stock.csv: wrong header")?;
+    day.stock = two.stock;
+    expect_refused(rt, alloc, day, "trips.csv: wrong header")?;
+    day.trips = two.trips;
+    expect_refused(rt, alloc, day, "links.csv: wrong header")?;
+    day.links = two.links;
+    expect_refused(rt, alloc, day, "weights.csv: wrong header")?;
+    day.weights = two.weights;
+    Ok(())
+}
+
+/// Asserts that the types are read first, and the tables after them in order.
+fn expect_types_first(
+    rt: &impl Abort,
+    alloc: Global,
+    day: &mut Day<'static>,
+) -> Result<(), NoMemory> {
+    expect_refused(rt, alloc, day, "types.csv: wrong header")?;
+    day.types = None;
+    day.stations = Some("");
+    expect_document(rt, alloc, day, 5, "cannot read types.csv\n")?;
+    day.types = Some("type,carriages,seats,metres,family\nA,3,9,80,r\nA,3,9,80,r\n");
+    expect_tables_in_order(rt, alloc, day)
+}
+
 #[test]
 fn files_are_read_in_order(rt: HostRuntime) -> Result<(), Fail> {
     let alloc = rt.alloc();
     let wrong = Some("");
-    let two = two_trips();
     let mut day = Day {
         types: wrong,
         stations: None,
@@ -498,26 +552,31 @@ fn files_are_read_in_order(rt: HostRuntime) -> Result<(), Fail> {
         plan: None,
         answer: None,
     };
-    expect_refused(&rt, alloc, &day, "types.csv: wrong header")?;
-    day.types = None;
-    day.stations = wrong;
-    expect_document(&rt, alloc, &day, 5, "cannot read types.csv\n")?;
-    day.types = Some("type,carriages,seats,metres,family\nA,3,9,80,r\nA,3,9,80,r\n");
-    expect_refused(&rt, alloc, &day, "stations.csv: wrong header")?;
-    day.stations = two.stations;
-    expect_refused(&rt, alloc, &day, "stock.csv: wrong header")?;
-    day.stock = two.stock;
-    expect_refused(&rt, alloc, &day, "trips.csv: wrong header")?;
-    day.trips = two.trips;
-    expect_refused(&rt, alloc, &day, "links.csv: wrong header")?;
-    day.links = two.links;
-    expect_refused(&rt, alloc, &day, "weights.csv: wrong header")?;
-    day.weights = two.weights;
+    expect_types_first(&rt, alloc, &mut day)?;
     expect_refused(&rt, alloc, &day, "types.csv: row 2: repeated name")?;
-    day.types = two.types;
+    day.types = two_trips().types;
     expect_document(&rt, alloc, &day, 5, "cannot read plan.csv\n")?;
     day.plan = wrong;
     expect_refused(&rt, alloc, &day, "plan.csv: wrong header")?;
+    Ok(())
+}
+
+/// Asserts that the rules of types, stations and stock come in order.
+fn expect_stock_rules_in_order(
+    rt: &impl Abort,
+    alloc: Global,
+    day: &mut Day<'static>,
+) -> Result<(), NoMemory> {
+    let two = two_trips();
+    expect_refused(rt, alloc, day, "types.csv: row 2: repeated name")?;
+    day.types = Some("type,carriages,seats,metres,family\nA,3,9,10,r\nB,3,9,10,r\nC,3,9,10,r\n");
+    expect_refused(rt, alloc, day, "stations.csv: row 2: repeated name")?;
+    day.stations = two.stations;
+    let unknown = "stock.csv: row 2, column station: unknown name";
+    expect_refused(rt, alloc, day, unknown)?;
+    day.stock = Some("station,type,start,end\nX,A,2000,1\nY,A,1,1\n");
+    expect_refused(rt, alloc, day, "stock.csv: too many units")?;
+    day.stock = two.stock;
     Ok(())
 }
 
@@ -526,19 +585,7 @@ fn rules_of_the_day_come_in_order(rt: HostRuntime) -> Result<(), Fail> {
     let alloc = rt.alloc();
     let two = two_trips();
     let mut day = day_of_wrong_rows();
-    expect_refused(&rt, alloc, &day, "types.csv: row 2: repeated name")?;
-    day.types = Some("type,carriages,seats,metres,family\nA,3,9,10,r\nB,3,9,10,r\nC,3,9,10,r\n");
-    expect_refused(&rt, alloc, &day, "stations.csv: row 2: repeated name")?;
-    day.stations = two.stations;
-    expect_refused(
-        &rt,
-        alloc,
-        &day,
-        "stock.csv: row 2, column station: unknown name",
-    )?;
-    day.stock = Some("station,type,start,end\nX,A,2000,1\nY,A,1,1\n");
-    expect_refused(&rt, alloc, &day, "stock.csv: too many units")?;
-    day.stock = two.stock;
+    expect_stock_rules_in_order(&rt, alloc, &mut day)?;
     expect_refused(&rt, alloc, &day, "types.csv: too many compositions")?;
     day.types = two.types;
     expect_refused(&rt, alloc, &day, "trips.csv: row 1: same station")?;

@@ -7,7 +7,7 @@ use sample_picks::may_run;
 use std::alloc::Global;
 use std::process::Abort;
 use std::test::Fail;
-use timetable::Picks;
+use timetable::{Instance, Picks};
 
 /// Two units leave a station whose name has a comma, one of them goes on alone and back, and both come home together. A
 /// third unit, of another type, stays.
@@ -106,11 +106,28 @@ fn picks_of(alloc: Global, compositions: &[u32]) -> Result<Picks, Fail> {
     Ok(picks)
 }
 
+/// The table of the duties of the units in a plan of a day that is read.
+fn duties_on(alloc: Global, day: &Instance, plan: &[u8]) -> Result<Vec<u8>, Fail> {
+    let plan = plan_of(alloc, day, plan)?;
+    Ok(duties_table(alloc, day, &plan)?)
+}
+
 /// The table of the duties of the units in a plan of a day.
 fn duties_of(alloc: Global, texts: &Texts<'_>, plan: &[u8]) -> Result<Vec<u8>, Fail> {
     let day = day_of(alloc, texts)?;
-    let plan = plan_of(alloc, &day, plan)?;
-    Ok(duties_table(alloc, &day, &plan)?)
+    duties_on(alloc, &day, plan)
+}
+
+/// The table of the yards of a day that is read, with these compositions, which may run.
+fn yards_on(
+    rt: &impl Abort,
+    alloc: Global,
+    day: &Instance,
+    compositions: &[u32],
+) -> Result<Vec<u8>, Fail> {
+    let picks = picks_of(alloc, compositions)?;
+    assert!(rt; may_run(day, &picks));
+    Ok(yards_table(alloc, day, &picks)?)
 }
 
 /// The table of the yards of a day with these compositions, which may run.
@@ -121,9 +138,19 @@ fn yards_of(
     compositions: &[u32],
 ) -> Result<Vec<u8>, Fail> {
     let day = day_of(alloc, texts)?;
+    yards_on(rt, alloc, &day, compositions)
+}
+
+/// The table of what these compositions, which may run, cost on a day that is read.
+fn costs_on(
+    rt: &impl Abort,
+    alloc: Global,
+    day: &Instance,
+    compositions: &[u32],
+) -> Result<Vec<u8>, Fail> {
     let picks = picks_of(alloc, compositions)?;
-    assert!(rt; may_run(&day, &picks));
-    Ok(yards_table(alloc, &day, &picks)?)
+    assert!(rt; may_run(day, &picks));
+    Ok(costs_table(alloc, day, &picks)?)
 }
 
 /// The table of what these compositions, which may run, cost on a day.
@@ -134,16 +161,19 @@ fn costs_of(
     compositions: &[u32],
 ) -> Result<Vec<u8>, Fail> {
     let day = day_of(alloc, texts)?;
-    let picks = picks_of(alloc, compositions)?;
-    assert!(rt; may_run(&day, &picks));
-    Ok(costs_table(alloc, &day, &picks)?)
+    costs_on(rt, alloc, &day, compositions)
+}
+
+/// Asserts that a table is the one that is wanted.
+fn expect_table(rt: &impl Abort, table: &[u8], wanted: &[u8]) {
+    assert!(rt; table == wanted, "{table:?}");
 }
 
 #[test]
 fn duties_of_plans(rt: HostRuntime) -> Result<(), Fail> {
     for (texts, plan, wanted) in DUTIES {
         let text = duties_of(rt.alloc(), texts, *plan)?;
-        assert!(rt; text.as_slice() == *wanted, "{text:?}");
+        expect_table(&rt, text.as_slice(), wanted);
     }
     Ok(())
 }
@@ -152,7 +182,7 @@ fn duties_of_plans(rt: HostRuntime) -> Result<(), Fail> {
 fn yards_of_picks(rt: HostRuntime) -> Result<(), Fail> {
     for (texts, compositions, wanted) in YARDS {
         let text = yards_of(&rt, rt.alloc(), texts, *compositions)?;
-        assert!(rt; text.as_slice() == *wanted, "{text:?}");
+        expect_table(&rt, text.as_slice(), wanted);
     }
     Ok(())
 }
@@ -161,7 +191,7 @@ fn yards_of_picks(rt: HostRuntime) -> Result<(), Fail> {
 fn costs_of_picks(rt: HostRuntime) -> Result<(), Fail> {
     for (texts, compositions, wanted) in COSTS {
         let text = costs_of(&rt, rt.alloc(), texts, *compositions)?;
-        assert!(rt; text.as_slice() == *wanted, "{text:?}");
+        expect_table(&rt, text.as_slice(), wanted);
     }
     Ok(())
 }

@@ -1,6 +1,6 @@
 //! Reports on the plan of an answer, and trial days.
 
-use crate::day::{folder_of, folder_with_bytes, one_stays, run, two_trips, words_of};
+use crate::day::{Ending, ending_of, expect_answered, folder_of, one_stays, two_trips};
 use rail_base::NoMemory;
 use rail_io::MemorySink;
 use std::alloc::Global;
@@ -35,14 +35,7 @@ fn expect_report(
     status: u8,
     document: &str,
 ) -> Result<(), NoMemory> {
-    let day = one_stays();
-    let mut folder = folder_with_bytes(rt, alloc, &day, "day/answer.txt", answer.as_bytes())?;
-    let mut out = MemorySink::new(alloc, 1000, 1000, Vec::new(alloc))?;
-    let words = words_of(rt, alloc, &["railplan", command, "day"])?;
-    let found = run(alloc, &words, &mut folder, &mut out)?;
-    assert!(rt; out.written() == document.as_bytes());
-    assert!(rt; found == status);
-    Ok(())
+    expect_answered(rt, alloc, command, &one_stays(), answer, status, document)
 }
 
 #[test]
@@ -74,29 +67,42 @@ fn valid_answers_are_reported(rt: HostRuntime) -> Result<(), Fail> {
 }
 
 /// What is written of a trial day by these words, and the status.
-fn trial(rt: &impl Abort, alloc: Global, words: &[&str]) -> Result<(u8, Vec<u8>), NoMemory> {
+fn trial(rt: &impl Abort, alloc: Global, words: &[&str]) -> Result<Ending, NoMemory> {
     let mut folder = folder_of(rt, alloc, &two_trips(), Vec::new(alloc))?;
-    let mut out = MemorySink::new(alloc, 10_000_000, 10_000, Vec::new(alloc))?;
-    let words = words_of(rt, alloc, words)?;
-    let status = run(alloc, &words, &mut folder, &mut out)?;
-    Ok((status, out.written().to_vec(alloc)?))
+    let out = MemorySink::new(alloc, 10_000_000, 10_000, Vec::new(alloc))?;
+    ending_of(rt, alloc, words, &mut folder, out)
+}
+
+/// Asserts what comes of a trial day of two trips.
+fn expect_short_trial(rt: &impl Abort, alloc: Global) -> Result<(), NoMemory> {
+    let words = ["railplan", "trial", "07", "2", "--nodes", "224"];
+    let ending = trial(rt, alloc, &words)?;
+    assert!(rt; ending.status == 0);
+    assert!(rt; ending.written.as_slice() == b"trial 7 2\noptimal 640\n".as_slice());
+    Ok(())
+}
+
+/// Asserts that one ending is that of a plan under this title, and that the other is the same.
+fn expect_same(rt: &impl Abort, first: &Ending, second: &Ending, title: &[u8]) {
+    assert!(rt; first.status == 0 || first.status == 4);
+    assert!(rt; first.written.as_slice().starts_with(title));
+    assert!(rt;
+        second.status == first.status && second.written.as_slice() == first.written.as_slice()
+    );
+}
+
+/// Asserts that a trial day of forty trips comes to the same when it is planned again.
+fn expect_long_trial(rt: &impl Abort, alloc: Global) -> Result<(), NoMemory> {
+    let words = ["railplan", "trial", "7", "40", "--nodes=60"];
+    let first = trial(rt, alloc, &words)?;
+    let second = trial(rt, alloc, &words)?;
+    expect_same(rt, &first, &second, b"trial 7 40\n".as_slice());
+    Ok(())
 }
 
 #[test]
 fn trial_days_are_planned(rt: HostRuntime) -> Result<(), Fail> {
-    let alloc = rt.alloc();
-    let (status, written) = trial(
-        &rt,
-        alloc,
-        &["railplan", "trial", "07", "2", "--nodes", "224"],
-    )?;
-    assert!(rt; status == 0);
-    assert!(rt; written.as_slice() == b"trial 7 2\noptimal 640\n".as_slice());
-    let long = ["railplan", "trial", "7", "40", "--nodes=60"];
-    let (first_status, first) = trial(&rt, alloc, &long)?;
-    assert!(rt; first_status == 0 || first_status == 4);
-    assert!(rt; first.as_slice().starts_with(b"trial 7 40\n".as_slice()));
-    let (second_status, second) = trial(&rt, alloc, &long)?;
-    assert!(rt; second_status == first_status && second.as_slice() == first.as_slice());
+    expect_short_trial(&rt, rt.alloc())?;
+    expect_long_trial(&rt, rt.alloc())?;
     Ok(())
 }

@@ -1,6 +1,8 @@
 //! Running a plan: worked days with their lines, refused files, and reads and writes that fail.
 
-use crate::day::{Day, expect_document, folder_of, run, simulated_with, two_trips, words_of};
+use crate::day::{
+    Day, expect_ample, expect_document, expect_run, expect_simulated, folder_of, two_trips,
+};
 use rail_base::NoMemory;
 use rail_io::MemorySink;
 use std::alloc::Global;
@@ -142,6 +144,38 @@ fn the_first_wrong_file_is_refused(rt: HostRuntime) -> Result<(), Fail> {
     Ok(())
 }
 
+/// Asserts that a day is not run whose read of this number fails, and what is written then.
+fn expect_unread(
+    rt: &impl Abort,
+    alloc: Global,
+    day: &Day,
+    read: u64,
+    document: &str,
+) -> Result<(), NoMemory> {
+    let failing = vec![in alloc; read]?;
+    let mut folder = folder_of(rt, alloc, day, failing)?;
+    expect_simulated(rt, alloc, &mut folder, 5, document)
+}
+
+/// Asserts that a day with these line feeds as its types is refused for their length, and where its first read fails
+/// for that; and with one less for its header.
+fn expect_too_long(rt: &impl Abort, alloc: Global, text: &str) -> Result<(), NoMemory> {
+    let day = Day {
+        types: Some(text),
+        ..two_trips()
+    };
+    expect_document(rt, alloc, &day, 3, "refused types.csv: too long\n")?;
+    expect_unread(rt, alloc, &day, 0, "cannot read types.csv\n")?;
+    let Some(shorter) = text.get(1..) else {
+        panic!(rt; "the text is not empty");
+    };
+    let day = Day {
+        types: Some(shorter),
+        ..two_trips()
+    };
+    expect_document(rt, alloc, &day, 3, "refused types.csv: wrong header\n")
+}
+
 #[test]
 fn a_table_may_have_4194304_bytes(rt: HostRuntime) -> Result<(), Fail> {
     let alloc = rt.alloc();
@@ -149,24 +183,7 @@ fn a_table_may_have_4194304_bytes(rt: HostRuntime) -> Result<(), Fail> {
     let Ok(text) = std::str::from_utf8(&blank) else {
         panic!(&rt; "line feeds are a text");
     };
-    let day = Day {
-        types: Some(text),
-        ..two_trips()
-    };
-    expect_document(&rt, alloc, &day, 3, "refused types.csv: too long\n")?;
-    let mut folder = folder_of(&rt, alloc, &day, vec![in alloc; 0]?)?;
-    let out = MemorySink::new(alloc, 1000, 1000, Vec::new(alloc))?;
-    let unread = simulated_with(&rt, alloc, &mut folder, out)?;
-    assert!(rt; unread.written.as_slice() == b"cannot read types.csv\n".as_slice());
-    assert!(rt; unread.status == 5);
-    let Some(shorter) = text.get(1..) else {
-        panic!(&rt; "the text is not empty");
-    };
-    let day = Day {
-        types: Some(shorter),
-        ..two_trips()
-    };
-    expect_document(&rt, alloc, &day, 3, "refused types.csv: wrong header\n")?;
+    expect_too_long(&rt, alloc, text)?;
     Ok(())
 }
 
@@ -178,12 +195,20 @@ fn a_file_that_cannot_be_read_is_named(rt: HostRuntime) -> Result<(), Fail> {
         ..two_trips()
     };
     expect_document(&rt, alloc, &day, 5, "cannot read trips.csv\n")?;
-    let mut folder = folder_of(&rt, alloc, &two_trips(), vec![in alloc; 2]?)?;
-    let out = MemorySink::new(alloc, 1000, 1000, Vec::new(alloc))?;
-    let ending = simulated_with(&rt, alloc, &mut folder, out)?;
-    assert!(rt; ending.status == 5);
-    assert!(rt; ending.written.as_slice() == b"cannot read stations.csv\n".as_slice());
+    expect_unread(&rt, alloc, &two_trips(), 2, "cannot read stations.csv\n")?;
     Ok(())
+}
+
+/// Asserts that the day of two trips cannot be written whole into a sink, and what it takes of it.
+fn expect_cut(
+    rt: &impl Abort,
+    alloc: Global,
+    out: &mut MemorySink,
+    front: &[u8],
+) -> Result<(), NoMemory> {
+    let mut folder = folder_of(rt, alloc, &two_trips(), Vec::new(alloc))?;
+    let words = ["railplan", "simulate", "day"];
+    expect_run(rt, alloc, &words, &mut folder, out, 6, front)
 }
 
 #[test]
@@ -191,16 +216,11 @@ fn a_sink_that_fails_keeps_a_front(rt: HostRuntime) -> Result<(), Fail> {
     let alloc = rt.alloc();
     let document = b"runs 60\n";
     for call in 0..8u64 {
-        let mut folder = folder_of(&rt, alloc, &two_trips(), Vec::new(alloc))?;
-        let out = MemorySink::new(alloc, 1000, 1, vec![in alloc; call]?)?;
-        let ending = simulated_with(&rt, alloc, &mut folder, out)?;
-        assert!(rt; ending.status == 6);
-        assert!(rt; ending.written.as_slice() == &document[..call as usize]);
+        let mut out = MemorySink::new(alloc, 1000, 1, vec![in alloc; call]?)?;
+        expect_cut(&rt, alloc, &mut out, &document[..call as usize])?;
     }
-    let mut folder = folder_of(&rt, alloc, &two_trips(), Vec::new(alloc))?;
-    let out = MemorySink::new(alloc, 0, 100, Vec::new(alloc))?;
-    let ending = simulated_with(&rt, alloc, &mut folder, out)?;
-    assert!(rt; ending.status == 6 && ending.written.is_empty());
+    let mut out = MemorySink::new(alloc, 0, 100, Vec::new(alloc))?;
+    expect_cut(&rt, alloc, &mut out, &[])?;
     Ok(())
 }
 
@@ -213,31 +233,33 @@ pub(crate) const USAGE: &str = "usage: railplan plan DIR [--nodes N] [--rounds K
        railplan trial SEED TRIPS [--nodes N] [--rounds K]
 ";
 
+/// Words that are not of the plain form.
+const OTHER_WORDS: &[&[&str]] = &[
+    &[],
+    &["railplan"],
+    &["railplan", "simulate"],
+    &["railplan", "simulate", ""],
+    &["railplan", "simulate", "-day"],
+    &["railplan", "simulate", "day", "day"],
+    &["railplan", "plan"],
+    &["railplan", "help"],
+    &["railplan", "plan", "day", "day"],
+    &["railplan", "plan", "day", "--nodes"],
+    &["railplan", "plan", "day", "--nodes="],
+    &["railplan", "plan", "day", "--nodes", "4001"],
+    &["railplan", "--help"],
+];
+
 /// Asserts that words are not of the plain form.
-fn expect_usage(rt: &impl Abort, alloc: Global, texts: &[&str]) -> Result<(), NoMemory> {
-    let words = words_of(rt, alloc, texts)?;
+fn expect_usage(rt: &impl Abort, alloc: Global, words: &[&str]) -> Result<(), NoMemory> {
     let mut folder = folder_of(rt, alloc, &two_trips(), Vec::new(alloc))?;
-    let mut out = MemorySink::new(alloc, 1000, 1000, Vec::new(alloc))?;
-    assert!(rt; run(alloc, &words, &mut folder, &mut out)? == 2);
-    assert!(rt; out.written() == USAGE.as_bytes());
-    Ok(())
+    expect_ample(rt, alloc, words, &mut folder, 2, USAGE)
 }
 
 #[test]
 fn other_words_are_refused(rt: HostRuntime) -> Result<(), Fail> {
-    let alloc = rt.alloc();
-    expect_usage(&rt, alloc, &[])?;
-    expect_usage(&rt, alloc, &["railplan"])?;
-    expect_usage(&rt, alloc, &["railplan", "simulate"])?;
-    expect_usage(&rt, alloc, &["railplan", "simulate", ""])?;
-    expect_usage(&rt, alloc, &["railplan", "simulate", "-day"])?;
-    expect_usage(&rt, alloc, &["railplan", "simulate", "day", "day"])?;
-    expect_usage(&rt, alloc, &["railplan", "plan"])?;
-    expect_usage(&rt, alloc, &["railplan", "help"])?;
-    expect_usage(&rt, alloc, &["railplan", "plan", "day", "day"])?;
-    expect_usage(&rt, alloc, &["railplan", "plan", "day", "--nodes"])?;
-    expect_usage(&rt, alloc, &["railplan", "plan", "day", "--nodes="])?;
-    expect_usage(&rt, alloc, &["railplan", "plan", "day", "--nodes", "4001"])?;
-    expect_usage(&rt, alloc, &["railplan", "--help"])?;
+    for words in OTHER_WORDS {
+        expect_usage(&rt, rt.alloc(), words)?;
+    }
     Ok(())
 }

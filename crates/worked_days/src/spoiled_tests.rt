@@ -2,8 +2,8 @@
 //! where what they say is still true, and else they are refused or found wrong.
 
 use crate::day::{
-    Day, Ending, base_day, both_stay, cheap_shunting, ending_of, folder_of, folder_with_bytes,
-    northport, one_stays, ring, two_trips, two_types,
+    Day, Ending, ample_sink, base_day, both_stay, cheap_shunting, ending_of, expect_answered,
+    folder_of, folder_with_bytes, northport, one_stays, ring, two_trips, two_types,
 };
 use rail_base::NoMemory;
 use rail_io::MemorySink;
@@ -32,7 +32,7 @@ fn printed(rt: &impl Abort, alloc: Global, day: &Day, words: &[&str]) -> Result<
 /// What a check of these bytes as the answer to a day comes to.
 fn checked(rt: &impl Abort, alloc: Global, day: &Day, answer: &[u8]) -> Result<Ending, NoMemory> {
     let mut folder = folder_with_bytes(rt, alloc, day, "day/answer.txt", answer)?;
-    let out = MemorySink::new(alloc, 1000, 1000, Vec::new(alloc))?;
+    let out = ample_sink(alloc)?;
     ending_of(rt, alloc, &["railplan", "check", "day"], &mut folder, out)
 }
 
@@ -44,17 +44,24 @@ fn text_of<'a>(rt: &impl Abort, bytes: &'a [u8]) -> &'a str {
     text
 }
 
+/// What is told of an answer that is valid: its second line.
+fn told(rt: &impl Abort, alloc: Global, answer: &str) -> Result<String, NoMemory> {
+    let Some(head) = answer.lines().nth(1) else {
+        panic!(rt; "an answer has a second line");
+    };
+    Ok(format!(in alloc; "valid {head}\n")?)
+}
+
+/// Asserts that an answer to a day is valid when it is read, and that its second line is told.
+fn expect_told(rt: &impl Abort, alloc: Global, day: &Day, answer: &str) -> Result<(), NoMemory> {
+    let told = told(rt, alloc, answer)?;
+    expect_answered(rt, alloc, "check", day, answer, 0, told.as_str())
+}
+
 /// Asserts that what is written of a day is valid when it is read again, and that its second line is told.
 fn expect_valid(rt: &impl Abort, alloc: Global, day: &Day, words: &[&str]) -> Result<(), NoMemory> {
     let answer = printed(rt, alloc, day, words)?;
-    let ending = checked(rt, alloc, day, answer.as_slice())?;
-    assert!(rt; ending.status == 0);
-    let Some(head) = text_of(rt, answer.as_slice()).lines().nth(1) else {
-        panic!(rt; "an answer has a second line");
-    };
-    let told = format!(in alloc; "valid {head}\n")?;
-    assert!(rt; ending.written.as_slice() == told.as_bytes());
-    Ok(())
+    expect_told(rt, alloc, day, text_of(rt, answer.as_slice()))
 }
 
 /// Whether no plan that runs costs less than this number.
@@ -106,6 +113,17 @@ fn is_valid_and_true(costs: &[i64], line: &str) -> bool {
     }
 }
 
+/// Whether the status and the line of a check say that an answer is refused, or is invalid, or says what is true of
+/// plans that have these costs.
+fn says_nothing_false(costs: &[i64], status: u8, line: &str) -> bool {
+    match status {
+        0 => is_valid_and_true(costs, line),
+        1 => line.starts_with("invalid: "),
+        3 => line.starts_with("refused answer.txt: "),
+        _ => false,
+    }
+}
+
 /// Asserts that bytes are refused as an answer to a day, or are invalid, or say what is true.
 fn expect_nothing_false(
     rt: &impl Abort,
@@ -115,13 +133,7 @@ fn expect_nothing_false(
 ) -> Result<(), NoMemory> {
     let ending = checked(rt, alloc, &known.day, answer)?;
     let line = text_of(rt, ending.written.as_slice());
-    let status = ending.status;
-    match status {
-        0 => assert!(rt; is_valid_and_true(known.costs, line)),
-        1 => assert!(rt; line.starts_with("invalid: ")),
-        3 => assert!(rt; line.starts_with("refused answer.txt: ")),
-        _ => panic!(rt; "a check has no other status"),
-    }
+    assert!(rt; says_nothing_false(known.costs, ending.status, line));
     Ok(())
 }
 
@@ -204,6 +216,32 @@ fn expect_exchanged_lines(
     expect_nothing_false(rt, alloc, known, answer.as_bytes())
 }
 
+/// The lines of a text.
+fn lines_of<'a>(alloc: Global, text: &'a str) -> Result<Vec<&'a str>, NoMemory> {
+    let mut lines = Vec::new(alloc);
+    for line in text.lines() {
+        lines.push(line)?;
+    }
+    Ok(lines)
+}
+
+/// Asserts that an answer says nothing false where the line at a place is left out or stands twice, and where it and
+/// one before it stand at one another's places.
+fn expect_spoiled_line(
+    rt: &impl Abort,
+    alloc: Global,
+    known: &Known,
+    lines: &[&str],
+    one: usize,
+) -> Result<(), NoMemory> {
+    expect_repeated_line(rt, alloc, known, lines, one, 0)?;
+    expect_repeated_line(rt, alloc, known, lines, one, 2)?;
+    for other in 0..one {
+        expect_exchanged_lines(rt, alloc, known, lines, one, other)?;
+    }
+    Ok(())
+}
+
 /// Asserts that an answer says nothing false where any one line is left out or stands twice, and where any two lines
 /// stand at one another's places.
 fn expect_spoiled_lines(
@@ -212,18 +250,17 @@ fn expect_spoiled_lines(
     known: &Known,
     answer: &str,
 ) -> Result<(), NoMemory> {
-    let mut lines = Vec::new(alloc);
-    for line in answer.lines() {
-        lines.push(line)?;
-    }
+    let lines = lines_of(alloc, answer)?;
     for one in 0..lines.len() {
-        expect_repeated_line(rt, alloc, known, lines.as_slice(), one, 0)?;
-        expect_repeated_line(rt, alloc, known, lines.as_slice(), one, 2)?;
-        for other in 0..one {
-            expect_exchanged_lines(rt, alloc, known, lines.as_slice(), one, other)?;
-        }
+        expect_spoiled_line(rt, alloc, known, lines.as_slice(), one)?;
     }
     Ok(())
+}
+
+/// Whether an answer begins with this line under its title.
+fn has_head(alloc: Global, answer: &[u8], head: &str) -> Result<bool, NoMemory> {
+    let front = format!(in alloc; "railplan answer 1\n{head}\n")?;
+    Ok(answer.starts_with(front.as_bytes()))
 }
 
 /// Asserts that what is written of a day begins with this line under its title, and says nothing false however it is
@@ -236,8 +273,7 @@ fn expect_spoiled(
     head: &str,
 ) -> Result<(), NoMemory> {
     let answer = printed(rt, alloc, &known.day, words)?;
-    let front = format!(in alloc; "railplan answer 1\n{head}\n")?;
-    assert!(rt; answer.as_slice().starts_with(front.as_bytes()));
+    assert!(rt; has_head(alloc, answer.as_slice(), head)?);
     expect_spoiled_bytes(rt, alloc, known, answer.as_slice())?;
     expect_spoiled_lines(rt, alloc, known, text_of(rt, answer.as_slice()))
 }
