@@ -42,7 +42,7 @@ pub record HasOneMore {Row : Type 0} (width limit : ℕ) (columns : Columns Row)
   pub read : row_of width columns (length rows + 1) fields ≡ Ok row
   pub items : more ≡ rows ++ row ∷ []
 
--- a record was read to one more row, and all rows are still the same
+-- records were read, the rows are within the limit, and what is read all together is the same
 pub record GoesOn {Row : Type 0} (width limit : ℕ) (columns : Columns Row)
     (rows more : List Row) (before after : Records) : Type 0 where
   pub reads : ReadsOn after

@@ -1,4 +1,4 @@
-//! The columns of each table.
+//! The words of the header of each table.
 
 ghost use Rattle.std.specs.Prelude.{◌≡◌, map};
 ghost use Rattle.rail_csv.specs.Columns.{field};
