@@ -1,13 +1,17 @@
 -- The records of a text, one read after the other.
 use Rattle.std.proofs.Common.{◌≡◌, ℕ, zero, suc, ◌+◌, ◌<◌, ◌≤◌, Bool, true, false, cond, List, [], ◌∷◌, ◌++◌, length}
-use Rattle.std.proofs.Common.{Option, Some, None, Ok, Bor, unwrap_or, refl, sym, ap, subst, ◌∙◌, arith, inl, inr, ◌⊎◌}
+use Rattle.std.proofs.Common.{Option, Some, None, Result, Ok, Err, Bor, unwrap_or, refl, sym, ap, subst, ◌∙◌, arith, inl, inr, ◌⊎◌}
+use Rattle.std.specs.Prelude.{IfErr}
 use Rattle.std.proofs.Common.{add-one}
 use Rattle.std.proofs.lemmas.List.{length_push}
 use Rattle.csv.specs.Machine.{Read, next_record, step, is_end, fields_after, field_after, ends_at_end}
 use Rattle.csv.specs.Reading.{records_from, records_next, default_config, strip_bom, source_of, is_bom, Reached, Ready}
 use Rattle.csv.specs.Reading.{RowStep, reader_trim, reader_config, reader_state, reader_headers, names_headers}
-use Rattle.csv.specs.Reading.{owned_rows_reader, owned_rows_left}
+use Rattle.csv.specs.Reading.{owned_rows_reader, owned_rows_left, is_flexible, error_kind, ExplainsRead, FlexibleStep, NotLengths}
 use Rattle.csv.specs.Records.{Row, fields_of}
+use Rattle.csv.specs.declared.error.Error.{Error}
+use Rattle.csv.specs.declared.error.ErrorKind.{ErrorKind}
+use Rattle.csv.specs.declared.error.ErrorKind.TheVariants as kind
 use Rattle.csv.specs.declared.parser.State.{State}
 use Rattle.csv.specs.declared.parser.State.TheVariants as st
 use Rattle.csv.specs.declared.parser.Action.{Action}
@@ -120,9 +124,9 @@ source_is o text e = ap (λ (x : Option (List ℕ)). unwrap_or x []) e
 same_left : (f g : List (List ℕ)) (s t : State) (x y : List ℕ) → f ≡ g → s ≡ t → x ≡ y → f ∷ rest_of s x ≡ g ∷ rest_of t y
 same_left f g s t x y a b c = rw (a, b, c) refl
 
-pub took : (a b : Records) (x : Row) → ReadsOn a → RowStep unread a.rdr b.rdr b.left (Some (Ok x)) → Took a b (fields_of x)
+pub took : (a b : Records) (x : Row) → ReadsOn a → RowStep unread a.rdr b.rdr b.left (Some (Ok x)) → FlexibleStep a.rdr b.rdr (Some (Ok x)) → Took a b (fields_of x)
 unfolding Reached
-took a b x reads turn =
+took a b x reads turn flexible =
     let more = rows-more unread a.rdr b.rdr (fields_of x) default_config a.rdr.state (text_left a) (text_left a) [] reads.config reads.source (refl, refl) turn.0 in
     let p = more.2.0 in
     let sizes = takes a.rdr.state [] [] (text_left a) p more.2.1 in
@@ -131,6 +135,7 @@ took a b x reads turn =
     let left_then = same_left p.0 (fields_of x) p.1 b.rdr.state p.2 (text_left b) (sym more.2.2) more.2.3.0 (more.2.3.1 ∙ sym text_is) in
     record {
       next = record {
+        flexible = flexible ∙ reads.flexible;
         trim = turn.0.3 ∙ reads.trim;
         ready = inl turn.1;
         turns = turn.2;
@@ -141,6 +146,21 @@ took a b x reads turn =
       first = left_now ∙ left_then;
       few = omega (arith, reads.small, sizes.1, ap (length {A = List ℕ}) more.2.2);
     }
+
+-- a reader of records of any length tells of no length
+explained : (a b : Reader (Bor (List ℕ))) (why : ErrorKind) → is_flexible a ≡ true → ExplainsRead unread a b false why → NotLengths why
+explained a b (kind.Io e) flexible told = tt
+explained a b (kind.Utf8 pos err) flexible told = tt
+explained a b (kind.UnequalLengths pos expected len) flexible told =
+    let clash : true ≡ false = sym flexible ∙ told.0 in
+    absurd cc
+explained a b kind.OutOfMemory flexible told = tt
+explained a b (kind.Serialize text) flexible told = tt
+explained a b (kind.Deserialize pos err) flexible told = tt
+
+pub no_lengths : (a b : Records) (turn : Result Row Error) → ReadsOn a → RowStep unread a.rdr b.rdr b.left (Some turn) → IfErr turn (λ e. NotLengths (error_kind e))
+no_lengths a b (Ok x) reads step = tt
+no_lengths a b (Err e) reads step = explained a.rdr b.rdr e.kind reads.flexible step
 
 -- a turn that gave none ended the text
 pub ended : (a b : Records) (left : ℕ) → ReadsOn a → RowStep unread a.rdr b.rdr left None → records_left a ≡ []
@@ -163,14 +183,15 @@ pub record Begins (it : Records) (bytes : List ℕ) : Type 0 where
   pub reads : ReadsOn it
   pub all : records_left it ≡ records_of bytes
 
-pub begins : (it : Records) (reader : Reader (Bor (List ℕ))) (bytes : List ℕ) → owned_rows_reader it ≡ reader → reader_trim reader ≡ trim.None → names_headers reader ≡ false → reader_headers reader ≡ None
+pub begins : (it : Records) (reader : Reader (Bor (List ℕ))) (bytes : List ℕ) → owned_rows_reader it ≡ reader → is_flexible reader ≡ true → reader_trim reader ≡ trim.None → names_headers reader ≡ false → reader_headers reader ≡ None
     → reader_config reader ≡ default_config → reader_state reader ≡ st.StartRecord → source_of unread reader ≡ Some (strip_bom bytes) → 0 < owned_rows_left it → length bytes ≤ 4194304 → Begins it bytes
-begins it reader bytes is trims names headers config state source turns small =
+begins it reader bytes is flexible trims names headers config state source turns small =
     let text_is : text_left it ≡ strip_bom bytes = ap (λ (r : Reader (Bor (List ℕ))). unwrap_or (source_of unread r) []) is ∙ source_is (source_of unread reader) (strip_bom bytes) source in
     let state_is : reader_state (owned_rows_reader it) ≡ st.StartRecord = ap reader_state is ∙ state in
     let ready : Ready reader = inr (inr (names, headers)) in
     record {
       reads = record {
+        flexible = ap is_flexible is ∙ flexible;
         trim = ap reader_trim is ∙ trims;
         ready = subst (λ (r : Reader (Bor (List ℕ))). Ready r) (sym is) ready;
         turns = turns;

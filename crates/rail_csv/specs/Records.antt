@@ -1,7 +1,8 @@
 -- The records that csv still has to read.
-use Rattle.std.specs.Prelude.{◌≡◌, ◌<◌, ◌≤◌, ◌+◌, ◌^◌, ℕ, List, [], ◌∷◌, length, Option, Some, unwrap_or}
+use Rattle.std.specs.Prelude.{◌≡◌, ◌<◌, ◌≤◌, ◌+◌, ◌^◌, ℕ, List, [], ◌∷◌, length, true, Option, Some, unwrap_or}
 use Rattle.std.specs.Borrow.{Bor}
 use Rattle.csv.specs.Reading.{records_from, default_config, source_of, Ready, reader_trim, reader_config, reader_state}
+use Rattle.csv.specs.Reading.{is_flexible}
 use Rattle.csv.specs.Reading.{owned_rows_reader, owned_rows_left}
 use Rattle.csv.specs.declared.parser.State.{State}
 use Rattle.csv.specs.declared.reader.Trim.TheVariants as trim
@@ -28,8 +29,9 @@ text_left records = unwrap_or (source_of unread (owned_rows_reader records)) []
 abbrev pub records_left : Records → List (List (List ℕ))
 records_left records = rest_of (reader_state (owned_rows_reader records)) (text_left records)
 
--- the records are read as they stand, from a text that is known and as short as a table
+-- the records are read as they stand, of any number of fields each, from a text that is known and as short as a table
 pub record ReadsOn (records : Records) : Type 0 where
+  pub flexible : is_flexible (owned_rows_reader records) ≡ true
   pub trim : reader_trim (owned_rows_reader records) ≡ trim.None
   pub ready : Ready (owned_rows_reader records)
   pub turns : 0 < owned_rows_left records

@@ -1,6 +1,7 @@
 //! How every table is read: its header, and then its rows in order, up to the limit or the first that is wrong.
 
 ghost use Rattle.std.specs.Prelude.{◌≡◌, ◌≤◌, ◌<◌, ◌+◌, ◌^◌, [], length, map, Ok, IfOk, IfErr, MatchOption, MatchBool};
+ghost use Rattle.csv.specs.Reading.{NotLengths, error_kind};
 ghost use Rattle.csv.specs.Records.{fields_of};
 ghost use Rattle.rail_base.specs.Answers.{Fails, Gives, GivesRows};
 ghost use Rattle.rail_csv.specs.Columns.{field, field_or};
@@ -108,8 +109,10 @@ fn records_in(alloc: Global, bytes: &[u8]) -> ByteRecordsIntoIter<&[u8]>
         .into_byte_records()
 }
 
-/// The record of a turn. With bytes in memory and records of any length, csv fails for want of memory alone.
+/// The record of a turn, which did not fail for its number of fields. Bytes in memory leave csv only want of memory to
+/// fail for, so each error is told as that.
 fn taken(turn: Result<ByteRecord, Error>) -> Result<ByteRecord, TableRefusal>
+    requires { IfErr turn (λ e. NotLengths (error_kind e)) }
     ensures ok { IfOk result (λ found. turn ≡ Ok found) }
     ensures err { IfErr result (λ e. e ≡ NoMemory) }
 {
@@ -134,6 +137,7 @@ fn next_record(records: &mut ByteRecordsIntoIter<&[u8]>) -> Result<Option<ByteRe
 }
 
 /// Reads the row of a record and puts it behind the rows that were read before it, of which there are at most `limit`.
+/// A row past `limit` is one too many.
 fn push_row<T: TableRow>(
     alloc: Global,
     width: usize,
@@ -158,7 +162,7 @@ fn push_row<T: TableRow>(
     Ok(())
 }
 
-/// Reads one more row: whether there was a record for it.
+/// Reads on: whether there was a record. Where there was none, all rows are read.
 fn read_next<T: TableRow>(
     alloc: Global,
     width: usize,
@@ -182,8 +186,7 @@ fn read_next<T: TableRow>(
     Ok(true)
 }
 
-/// Reads the rows under a header of so many columns, at most `limit`. No more records are read than it takes to know
-/// the answer.
+/// Reads the rows under a header of so many columns, at most `limit`.
 fn read_rows<T: TableRow>(
     alloc: Global,
     width: usize,
@@ -220,7 +223,7 @@ fn read_header(
     Ok(first.len())
 }
 
-/// Reads the rows under the header of a version, at most `limit`.
+/// Reads the header of a version and the rows under it, at most `limit`.
 fn read_under<T: TableRow>(
     alloc: Global,
     words: &[&str],

@@ -1,4 +1,4 @@
-use Rattle.rail_csv.proofs.Records.{took, ended}
+use Rattle.rail_csv.proofs.Records.{took, ended, no_lengths}
 use Rattle.rail_csv.proofs.reading.next_record.Goals as goal
 
 pub returns-in_default-clause-ok : goal.returns-in_default-clause-ok
@@ -11,4 +11,11 @@ pub returns-clause-ok : goal.returns-clause-ok
 returns-clause-ok c =
     let r = c.requires in
     let step = rw (c.in-Some.is, c.in_ok-found.ensures.ok) at ((c.next.ensures.steps r.turns r.trim).0 r.ready) in
-    took c.args.records.now c.next.new.self c.in_ok-found.found r step
+    let flexible = rw (c.in-Some.is, c.in_ok-found.ensures.ok) at (c.next.ensures.steps r.turns r.trim).3 in
+    took c.args.records.now c.next.new.self c.in_ok-found.found r step flexible
+
+pub taken-requires : goal.taken-requires
+taken-requires c =
+    let r = c.requires in
+    let step = rw c.in-Some.is at ((c.next.ensures.steps r.turns r.trim).0 r.ready) in
+    no_lengths c.args.records.now c.next.new.self c.in-Some.turn r step
