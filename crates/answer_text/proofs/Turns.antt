@@ -4,7 +4,8 @@ use Rattle.std.proofs.Common.{length, Option, Some, None, Result, Ok, Err, refl,
 use Rattle.std.specs.Str.{bytes_eq}
 use Rattle.std.proofs.lemmas.Bool.Decides.{nat_tests}
 use Rattle.std.proofs.lemmas.List.{length-append}
-use Rattle.rail_base.specs.Answers.{Gives, Unless}
+use Rattle.rail_base.proofs.Answers.{Unless-from}
+use Rattle.rail_base.specs.Answers.{Gives}
 use Rattle.branch_tree.specs.declared.tree.Node.{Node}
 use Rattle.answer_text.specs.declared.answer.Answer.{Answer}
 use Rattle.answer_text.specs.declared.answer.Head.{Head}
@@ -20,13 +21,9 @@ use Rattle.answer_text.specs.Texts.{body_lines, end_line, node_lines, run_lines,
 use Rattle.answer_text.proofs.Cutting.{not_blank, some_pieces}
 use Rattle.answer_text.proofs.Steps.{step_cut, step_on, step_wrong, step_over}
 
-unless : (free : Bool) (P : Type 0) → P → Unless free P
-unless true P p = tt
-unless false P p = p
-
 -- a refusal that the reading gives
 pub fails : (refusal : AnswerRefusal) (reads : Result Answer AnswerRefusal) → reads ≡ Err refusal → Gives is_memory (Err refusal) reads
-fails refusal reads e = unless (is_memory refusal) (reads ≡ Err refusal) e
+fails refusal reads e = Unless-from (is_memory refusal) e
 
 -- an answer or a refusal that the reading gives
 pub gives : (said reads : Result Answer AnswerRefusal) → reads ≡ said → Gives is_memory said reads

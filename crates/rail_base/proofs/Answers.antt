@@ -7,6 +7,11 @@ pub Unless-then : (b : Bool) (P Q : Type 0) → (P → Q) → Unless b P → Unl
 Unless-then true P Q goes u = tt
 Unless-then false P Q goes u = goes u
 
+-- a fact holds also where it may be set free
+pub Unless-from : {P : Type 0} (b : Bool) → P → Unless b P
+Unless-from true fact = tt
+Unless-from false fact = fact
+
 -- a definition that fails wherever another does
 pub Fails-as : {X Y E : Type 0} (is_memory : E → Bool) (e : E) (read : Result X E) (total : Result Y E) → ((f : E) → read ≡ Err f → total ≡ Err f) →
     Fails is_memory e read → Fails is_memory e total
