@@ -1,7 +1,7 @@
 -- The parts of a turn of types, by the number of those that stay.
 use Rattle.std.proofs.Common.{◌≡◌, ℕ, ◌-◌, List, [], length, map, Bool, true, false, Option, Some, None, refl, sym, ap}
 use Rattle.std.proofs.Common.{◌∙◌}
-use Rattle.std.specs.Prelude.{option_and_then, unwrap_or, ◌&&◌}
+use Rattle.std.specs.Prelude.{option_and_then, option_map, unwrap_or, ◌&&◌}
 use Rattle.std.proofs.lemmas.Bool.{cond-false}
 use Rattle.std.proofs.lemmas.List.{map-id}
 use Rattle.rail_csv.specs.declared.rows.End.{End}
@@ -31,6 +31,15 @@ module _ (uncouple couple : End) (exchange : Bool) (arriving departing : List �
       let stay = kept-is uncouple couple arriving departing n kept in
       turn_parts-is itself uncouple couple exchange arriving departing n (by_types ∙ kept)
       ∙ parts_at-is uncouple couple exchange arriving departing n (sym stay.2) few
+
+  -- how many stay in the train, where the rule holds
+  abbrev pub number_of : Option Parts → Option ℕ
+  number_of o = option_map (λ parts. length parts.kept) o
+
+  pub some_number : (n : ℕ) → kept_length uncouple couple arriving departing ≡ Some n → may_shunt exchange (length arriving - n) (length departing - n) ≡ true
+      → number_of (turn_parts itself uncouple couple exchange arriving departing) ≡ Some n
+  some_number n kept few =
+      ap number_of (some_stay n kept few) ∙ ap (λ (k : ℕ). Some k) (kept-is uncouple couple arriving departing n kept).1
 
   -- more are shunted than may be
   pub too_many : (n : ℕ) → kept_length uncouple couple arriving departing ≡ Some n → may_shunt exchange (length arriving - n) (length departing - n) ≡ false

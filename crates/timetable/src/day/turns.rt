@@ -109,6 +109,9 @@ pub fn staying_units(
     arriving: &[TypeNo],
     departing: &[TypeNo],
 ) -> Option<usize>
+    // As many stay as the turn keeps.
+    ensures number { result
+        ≡ option_map (λ parts. length parts.kept) (turn_parts itself uncouple couple exchange arriving.now departing.now) }
     // What stays, goes and comes then are the parts of the turn, of types.
     ensures parts { option_map (parts_beside uncouple couple arriving.now departing.now) result
         ≡ turn_parts itself uncouple couple exchange arriving.now departing.now }

@@ -1,8 +1,17 @@
 -- The parts of the turn are what goes and comes beside those that stay.
-use Rattle.std.proofs.Common.{Some, None, sym, rules}
+use Rattle.std.proofs.Common.{Some, None, ap, sym, rules}
 use Rattle.timetable.specs.Turns.{parts_beside}
-use Rattle.timetable.proofs.YardTypes.{some_stay, too_many, none_stay, given-is, taken-is}
+use Rattle.timetable.proofs.YardTypes.{some_stay, some_number, number_of, too_many, none_stay, given-is, taken-is}
 use Rattle.timetable.proofs.day.turns.staying_units.Goals as goal
+
+pub returns-in_default-clause-number : goal.returns-in_default-clause-number
+returns-in_default-clause-number c = sym (ap (number_of c.args.uncouple c.args.couple c.args.exchange c.args.arriving.now c.args.departing.now) (none_stay c.args.uncouple c.args.couple c.args.exchange c.args.arriving.now c.args.departing.now (search rules)))
+
+pub returns-then-not-may_shunt-clause-number : goal.returns-then-not-may_shunt-clause-number
+returns-then-not-may_shunt-clause-number c = sym (ap (number_of c.args.uncouple c.args.couple c.args.exchange c.args.arriving.now c.args.departing.now) (too_many c.args.uncouple c.args.couple c.args.exchange c.args.arriving.now c.args.departing.now c.in-Some.stay (search rules) (search rules)))
+
+pub returns-clause-number : goal.returns-clause-number
+returns-clause-number c = sym (some_number c.args.uncouple c.args.couple c.args.exchange c.args.arriving.now c.args.departing.now c.in-Some.stay (search rules) (search rules))
 
 pub returns-in_default-clause-parts : goal.returns-in_default-clause-parts
 returns-in_default-clause-parts c = sym (none_stay c.args.uncouple c.args.couple c.args.exchange c.args.arriving.now c.args.departing.now (search rules))
