@@ -2,7 +2,7 @@
 -- they stay.
 use Rattle.std.proofs.Common.{◌≡◌, ◌≢◌, ℕ, zero, suc, ◌+◌, ◌*◌, ◌^◌, ◌-◌, ◌<◌, ◌≤◌, List, [], ◌∷◌, length, set, get_or}
 use Rattle.std.proofs.Common.{replicate, map, Bool, ◌&&◌, refl, sym, ap, ◌∙◌, subst, arith, ℤ, pos, negsuc}
-use Rattle.std.proofs.Common.{◌+ℤ◌, inl, inr, length-set, unsigned_abs}
+use Rattle.std.proofs.Common.{◌+ℤ◌, ◌-ℤ◌, inl, inr, length-set, unsigned_abs}
 use Rattle.std.specs.Prelude.{◌==◌, if◌then◌else◌, min}
 use Rattle.std.specs.Int.{saturate_to_bits}
 use Rattle.std.proofs.lemmas.Bool.{cases_eq, eq-eqb, ne_eqb}
@@ -21,6 +21,16 @@ use Rattle.price_bound.specs.PriceTables.{HasSize, amount_at, cleared_table}
 pub small_sum : (a b : ℕ) (x y : ℤ) → IsSmall a x → IsSmall b y → IsSmall (a + b) (x +ℤ y)
 small_sum a b x y p q = record { above = omega (arith, ints, p.above, q.above); below = omega (arith, ints, p.below, q.below) }
 
+-- so it is at any bound that is no less than both together
+pub small_total : (a b most : ℕ) (x y z : ℤ) → a + b ≤ most → z ≡ x +ℤ y → IsSmall a x → IsSmall b y → IsSmall most z
+small_total a b most x y z le e p q =
+    record { above = omega (arith, ints, le, e, p.above, q.above); below = omega (arith, ints, le, e, p.below, q.below) }
+
+-- so is a difference, at any bound that is no less than both together
+pub small_difference : (a b most : ℕ) (x y z : ℤ) → a + b ≤ most → z ≡ x -ℤ y → IsSmall a x → IsSmall b y → IsSmall most z
+small_difference a b most x y z le e p q =
+    record { above = omega (arith, ints, le, e, p.above, q.below); below = omega (arith, ints, le, e, p.below, q.above) }
+
 pub small_zero : (a : ℕ) → IsSmall a (pos 0)
 small_zero a = record { above = omega (arith, ints); below = omega (arith, ints) }
 
@@ -38,6 +48,9 @@ read_is b x le small = to_z-of_z w64 x (fits_signed_from_abs w64 x (below x (sma
     below : (z : ℤ) → IsSmall 4000000000000000000 z → unsigned_abs z < 2 ^ 63
     below (pos n) few = (let le = few.below in omega (arith, ints))
     below (negsuc n) few = (let le = few.above in omega (arith, ints))
+
+pub read_small : (b most : ℕ) (x : ℤ) → b ≤ 4000000000000000000 → b ≤ most → IsSmall b x → IsSmall most (to_z w64 (of_z w64 x))
+read_small b most x le few small = subst (IsSmall most) (sym (read_is b x le small)) (small_more b most x few small)
 
 pub plus_is : (x y : ℤ) → IsSmall 4000000000000000000 (x +ℤ y) → plus x y ≡ x +ℤ y
 plus_is x y small = of_sum (x +ℤ y) small
@@ -145,6 +158,12 @@ zeros_size rows columns = record {
   height = length-replicate rows (replicate columns (pos 0));
   widths = λ r below. ap length (get_or-replicate rows r (replicate columns (pos 0)) [] below) ∙ length-replicate columns (pos 0);
 }
+
+pub zeros_sized : (rows columns r c : ℕ) (table : List (List ℤ)) → table ≡ replicate r (replicate c (pos 0)) → r ≡ rows → c ≡ columns
+    → HasSize rows columns table
+zeros_sized rows columns r c table is e f =
+    subst (HasSize rows columns) (sym (is ∙ ap (λ (n : ℕ). replicate n (replicate c (pos 0))) e
+    ∙ ap (λ (n : ℕ). replicate rows (replicate n (pos 0))) f)) (zeros_size rows columns)
 
 -- ---- sums stay small
 

@@ -77,6 +77,9 @@ module _ (pricing : Pricing) (is : ArePriced pricing) (t : ℕ) (known : t < len
 
   -- the prices of units of a type that a trip takes, and that it gives
   module _ (row : List ℤ) (at : row ≡ get_or pricing.tables.now.takes t []) where
+    pub takes_row_long : length row ≡ length day.types
+    takes_row_long = ap length at ∙ is.prices.sized.takes.widths t known
+
     pub takes_row_small : AreSmallAmounts row
     takes_row_small = subst AreSmallAmounts (sym at) (takes_small day entries pricing.tables.now is.prices t known is.multipliers_are)
 
@@ -85,6 +88,9 @@ module _ (pricing : Pricing) (is : ArePriced pricing) (t : ℕ) (known : t < len
         ap (λ (amounts : List ℤ). sum_in amounts ms) at ∙ taking_is day entries pricing.tables.now is.prices t known ms below
 
   module _ (row : List ℤ) (at : row ≡ get_or pricing.tables.now.gives t []) where
+    pub gives_row_long : length row ≡ length day.types
+    gives_row_long = ap length at ∙ is.prices.sized.gives.widths t known
+
     pub gives_row_small : AreSmallAmounts row
     gives_row_small = subst AreSmallAmounts (sym at) (gives_small day entries pricing.tables.now is.prices t known is.multipliers_are)
 

@@ -5,7 +5,7 @@ use Rattle.std.specs.Prelude.{nat_lt}
 use Rattle.std.specs.List.{All}
 use Rattle.std.proofs.lemmas.Bool.{and_parts, ltb-true}
 use Rattle.std.proofs.lemmas.Int.{ints}
-use Rattle.std.proofs.lemmas.List.{take-append-drop}
+use Rattle.std.proofs.lemmas.List.{drop_all, take-append-drop}
 use Rattle.std.proofs.lemmas.List.Elements.{All-nil, All-cons, All-head, All-tail, All-take, All-drop}
 use Rattle.compositions.specs.declared.types.UnitType.{UnitType}
 use Rattle.compositions.specs.Composition.{are_types}
@@ -40,6 +40,12 @@ pub came_few : (end : End) (units : ℕ) (ms : List ℕ) (most : ℕ) → length
 came_few at.None units ms most few = omega arith
 came_few at.Rear units ms most few = omega (arith, few, length-drop (length ms - units) ms)
 came_few at.Front units ms most few = omega (arith, few, length-take units ms)
+
+-- where none were coupled, none came
+pub none_came : (end : End) (units : ℕ) (ms : List ℕ) → units ≡ 0 → came end units ms ≡ []
+none_came at.None units ms none = refl
+none_came at.Rear units ms none = drop_all (length ms - units) ms (omega (arith, none))
+none_came at.Front units ms none = ap (λ (n : ℕ). take n ms) none
 
 -- what departs is what stayed and what came
 pub parted : (f : ℕ → ℤ) (end : End) (units : ℕ) (ms : List ℕ)

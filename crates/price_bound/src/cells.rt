@@ -2,7 +2,7 @@
 //! path that has it.
 
 ghost use Rattle.std.specs.Prelude.{ℕ, ◌≡◌, ◌<◌, ◌+◌, map, length, get_or, set, replicate, pos, IfOk, IfSome, Some};
-ghost use Rattle.std.specs.Prelude.{None, if◌then◌else◌, option_map};
+ghost use Rattle.std.specs.Prelude.{None, if◌then◌else◌, option_map, ◌+ℤ◌};
 ghost use Rattle.price_bound.specs.CellRows.{lower_at};
 ghost use Rattle.price_bound.specs.Paths.{entered, least_from, lower_cell, offer_by, with_worth};
 ghost use Rattle.price_bound.specs.CellSizes.{AreSmallCells, IsSmall, most_edge_price, most_value, most_worth};
@@ -151,12 +151,9 @@ pub(crate) fn offer_by(to: CompNo, price: Option<Amount>, ahead: Option<Cell>) -
     ensures small { (bound : ℕ) → IfSome ahead (λ cell. IsSmall bound cell.value)
         → IfSome result (λ cell. IsSmall (bound + most_edge_price) cell.value) }
 {
-    let price = wide(price?);
+    let price = price?;
     let ahead = ahead?;
-    Some(Cell {
-        value: price.0 + ahead.value,
-        next: to,
-    })
+    Some(with_amount(ahead, price, to))
 }
 
 /// A cell with the worth of its composition.
@@ -167,12 +164,21 @@ fn with_worth(worth: Option<Amount>, cell: Option<Cell>) -> Option<Cell>
     ensures small { (bound : ℕ) → IfSome cell (λ cell. IsSmall bound cell.value)
         → IfSome result (λ cell. IsSmall (bound + most_worth) cell.value) }
 {
-    let worth = wide(worth?);
+    let worth = worth?;
     let cell = cell?;
-    Some(Cell {
-        value: worth.0 + cell.value,
-        next: cell.next,
-    })
+    Some(with_amount(cell, worth, cell.next))
+}
+
+/// A cell that leads to a composition, with the value of another cell and an amount together.
+fn with_amount(cell: Cell, by: Amount, next: CompNo) -> Cell
+    requires cell { IsSmall most_value cell.value }
+    requires by { IsSmall most_edge_price by.0 }
+    ensures { result ≡ record { value = by.0 +ℤ cell.value; next = next } }
+{
+    Cell {
+        value: wide(by).0 + cell.value,
+        next,
+    }
 }
 
 /// What a cell offers to a path's begin: its value, at its own composition.

@@ -71,10 +71,10 @@ impl<'a> DayBounds<'a> {
         requires changes { AreChanges instance.now changes.now }
         ensures { IfOk result (λ bounds. bounds ≡ changed_day instance.now changes.now) }
     {
-        let ledger = Ledger::new(alloc, instance)?;
-        let room = Workspace::new(alloc, instance, changes)?;
         prove!(instance.links() as usize <= MOST_LINKS);
         prove!(instance.units() <= MOST_UNITS);
+        let ledger = Ledger::new(alloc, instance)?;
+        let room = Workspace::new(alloc, instance, changes)?;
         Ok(DayBounds {
             instance,
             graphs,

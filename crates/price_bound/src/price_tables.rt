@@ -47,13 +47,13 @@ impl PriceTables {
         let trips = instance.trips() as usize;
         let types = instance.types().len() as usize;
         let comps = instance.catalogue().len() as usize;
+        let taken_at = taken_places(alloc, instance)?;
+        let given_at = given_places(alloc, instance)?;
+        let yards = YardTable::new(alloc, instance)?;
         let takes = AmountTable::new(alloc, trips, types)?;
         let gives = AmountTable::new(alloc, trips, types)?;
         let seconds = AmountTable::new(alloc, trips, comps)?;
         let parts = AmountTable::new(alloc, instance.links() as usize, comps)?;
-        let yards = YardTable::new(alloc, instance)?;
-        let taken_at = taken_places(alloc, instance)?;
-        let given_at = given_places(alloc, instance)?;
         Ok(PriceTables {
             takes,
             gives,

@@ -18,7 +18,7 @@ ghost use Rattle.price_bound.specs.Slacks.{slack_at};
 use crate::parts::{part_at, second_at};
 use branch_tree::{Entry, Slacks};
 use inventory::Ledger;
-use rail_base::limits::{MOST_HANDOVERS, MOST_SLACKS, MOST_TRIPS};
+use rail_base::limits::{MOST_HANDOVERS, MOST_SLACKS};
 use rail_base::{StationNo, TypeNo};
 use std::marker::Model;
 use timetable::{Instance, Picks};
@@ -40,11 +40,10 @@ pub(crate) fn put_slacks(
     ensures day { ledger.new.day ≡ ledger.old.day }
     ensures slacks { AreSlacks (meanings_of instance.now) picks.now into.new }
 {
-    into.clear();
-    ledger.load(picks);
-    prove!(instance.trips() as usize <= MOST_TRIPS);
     prove!(instance.free_from() <= instance.indices());
     prove!(instance.handovers() as usize <= MOST_HANDOVERS);
+    into.clear();
+    ledger.load(picks);
     let counted = CountedPicks {
         instance,
         graphs,

@@ -104,7 +104,6 @@ impl<'a> TripWorths<'a> {
     }
 
     /// What the trip adds by a composition, with which it has this cost under the weight.
-    #[tactic(auto, unfolding(crate::specs::Regrouped::trip_value))]
     fn trip_value(&self, comp: CompNo, cost: Amount) -> Amount
         requires is { IsForTrip self.now }
         requires comp { comp < length (compositions_of self.now.pricing.now.instance.now) }

@@ -1,17 +1,10 @@
 -- The tables are zeros, of the sizes of the day.
-use Rattle.std.proofs.Common.{◌≡◌, ℕ, ℤ, List, length, replicate, pos, ap, subst, sym, ◌∙◌}
+use Rattle.std.proofs.Common.{◌≡◌, length, ap, subst, sym, ◌∙◌}
 use Rattle.timetable.specs.Day.{Day}
 use Rattle.inventory.specs.Counted.{HasPlaces}
 use Rattle.inventory.proofs.Holds.{zero_places}
-use Rattle.price_bound.specs.PriceTables.{HasSize}
-use Rattle.price_bound.proofs.Adding.{zeros_size}
+use Rattle.price_bound.proofs.Adding.{zeros_sized}
 use Rattle.price_bound.proofs.price_tables.PriceTables.new.Goals as goal
-
-zeros_sized : (rows columns r c : ℕ) (table : List (List ℤ)) → table ≡ replicate r (replicate c (pos 0)) → r ≡ rows → c ≡ columns
-    → HasSize rows columns table
-zeros_sized rows columns r c table is e f =
-    subst (HasSize rows columns) (sym (is ∙ ap (λ (n : ℕ). replicate n (replicate c (pos 0))) e
-    ∙ ap (λ (n : ℕ). replicate rows (replicate n (pos 0))) f)) (zeros_size rows columns)
 
 pub returns : goal.returns
 returns c =

@@ -1,14 +1,47 @@
 -- What departs is what stayed and what came; and the parts of what a turn adds are small.
-use Rattle.std.proofs.Common.{◌≡◌, ℕ, List, Some, ℤ, pos, ap, sym, ◌∙◌}
+use Rattle.std.proofs.Common.{◌≡◌, ◌*◌, ℕ, List, Some, ℤ, pos, ap, arith, sym, ◌∙◌}
 use Rattle.branch_tree.specs.declared.multipliers.Entry.{Entry}
 use Rattle.branch_tree.specs.Meanings.{weighted}
 use Rattle.timetable.specs.Compositions.{composition_at}
 use Rattle.timetable.specs.Day.{Day, from_of, leaves, to_of, ready_at}
+use Rattle.price_bound.specs.CellSizes.{most_amount, most_cost, most_units_price}
 use Rattle.price_bound.specs.EdgeValues.{came, coupled, shunt_cost, stayed, turn_value}
 use Rattle.price_bound.specs.YardPrices.{giving, taking, yard_price}
+use Rattle.price_bound.proofs.Adding.{small_difference, small_more}
 use Rattle.price_bound.proofs.AtHand.{turn_priced}
 use Rattle.price_bound.proofs.Summing.{parted, turn_is, turn_small}
 use Rattle.price_bound.proofs.turn_prices.TurnPrices.price.Goals as goal
+
+pub credit-before-requires-clause-comp : goal.credit-before-requires-clause-comp
+credit-before-requires-clause-comp c = c.requires.edge.from
+
+pub credit-after-requires-clause-comp : goal.credit-after-requires-clause-comp
+credit-after-requires-clause-comp c = c.requires.edge.to
+
+pub minus-given-requires-clause-amount : goal.minus-given-requires-clause-amount
+minus-given-requires-clause-amount c = small_more most_units_price most_amount c.credit-before.result.0 (omega arith) c.credit-before.ensures.small
+
+pub minus-given-requires-clause-other : goal.minus-given-requires-clause-other
+minus-given-requires-clause-other c = small_more most_units_price most_amount c.credit-after.result.0 (omega arith) c.credit-after.ensures.small
+
+pub minus-kept-requires-clause-amount : goal.minus-kept-requires-clause-amount
+minus-kept-requires-clause-amount c = small_more most_cost most_amount c.shunt_cost-cost.result.0 (omega arith) c.shunt_cost-cost.ensures.small
+
+pub minus-kept-requires-clause-other : goal.minus-kept-requires-clause-other
+minus-kept-requires-clause-other c =
+    small_difference most_units_price most_units_price most_amount c.credit-before.result.0 c.credit-after.result.0 c.minus-given.result.0
+    (omega arith) c.minus-given.ensures c.credit-before.ensures.small c.credit-after.ensures.small
+
+pub plus-requires-clause-amount : goal.plus-requires-clause-amount
+plus-requires-clause-amount c =
+    small_difference most_cost (2 * most_units_price) most_amount c.shunt_cost-cost.result.0 c.minus-given.result.0 c.minus-kept.result.0
+    (omega arith) c.minus-kept.ensures c.shunt_cost-cost.ensures.small
+    (small_difference most_units_price most_units_price (2 * most_units_price) c.credit-before.result.0 c.credit-after.result.0
+    c.minus-given.result.0 (omega arith) c.minus-given.ensures c.credit-before.ensures.small c.credit-after.ensures.small)
+
+pub plus-requires-clause-more : goal.plus-requires-clause-more
+plus-requires-clause-more c =
+    small_more (2 * most_units_price) most_amount c.newly-newly.result.0 (omega arith) c.newly-newly.ensures.small
 
 pub returns-clause-value : goal.returns-clause-value
 returns-clause-value c =
