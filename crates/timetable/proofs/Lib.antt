@@ -1,4 +1,5 @@
 pub mod Accepting
+pub mod EachRow
 pub mod Passing
 pub mod Tests
 pub mod Names

@@ -1,6 +1,7 @@
 //! The tests on the rows of the tables, one table after another.
 
-ghost use Rattle.std.specs.Prelude.{◌≡◌, ◌+◌, ◌<◌, ◌≤◌, ◌++◌, ◌∷◌, [], length, nat_lt, min, false, IfSome, IfOk};
+ghost use Rattle.std.specs.Prelude.{◌≡◌, ◌+◌, ◌<◌, ◌≤◌, ◌++◌, ◌∷◌, [], length, nat_lt, min, false, Ok, IfSome, IfOk};
+ghost use Rattle.std.specs.Result.{result_and};
 ghost use Rattle.std.specs.Str.{bytes_eq};
 ghost use Rattle.timetable.specs.Build.{accept_type, accept_station, has_stock, accept_stock, starts_of, platform_at};
 ghost use Rattle.timetable.specs.Build.{has_fitting, accept_run, accept_trip, types_in, stations_in, stock_in};
@@ -9,6 +10,7 @@ ghost use Rattle.rail_base.specs.Answers.{Gives, GivesRows};
 ghost use Rattle.compositions.specs.Catalogue.{catalogue_of};
 ghost use Rattle.timetable.specs.Compositions.{greatest_in};
 ghost use Rattle.timetable.specs.NamedEntries.{has_name, find_name};
+ghost use Rattle.timetable.specs.Rowwise.{accept_each};
 
 use crate::building::named::Named;
 use crate::building::refusal::InstanceRefusal;
@@ -58,6 +60,22 @@ fn accept_type(types: &Named<UnitType>, row: TypeRow) -> Result<UnitType, Instan
     })
 }
 
+/// Adds the unit types of the rows to those of the rows before them.
+fn add_types(
+    alloc: Global,
+    types: &mut Named<UnitType>,
+    rows: Vec<TypeRow>,
+) -> Result<(), InstanceRefusal>
+    requires { length types.old + length rows.items ≤ MOST_TYPES }
+    ensures { Gives is_memory (result_and result (Ok types.new)) (accept_each accept_type types.old rows.items) }
+{
+    for row in rows {
+        let accepted = accept_type(types, row)?;
+        types.push(alloc, accepted)?;
+    }
+    Ok(())
+}
+
 /// The unit types of the rows.
 #[tactic(auto, unfolding(crate::specs::Build::types_in))]
 pub fn types_of(alloc: Global, rows: Rows<TypeRow>) -> Result<Named<UnitType>, InstanceRefusal>
@@ -65,11 +83,8 @@ pub fn types_of(alloc: Global, rows: Rows<TypeRow>) -> Result<Named<UnitType>, I
     ensures { Gives is_memory result (types_in rows) }
 {
     let mut types = Named::new(alloc);
-    for row in rows.into_items() {
-        let accepted = accept_type(&types, row)?;
-        types.push(alloc, accepted)?;
-    }
-    Ok(types)
+    let added = add_types(alloc, &mut types, rows.into_items());
+    added.and(Ok(types))
 }
 
 /// The station of a row, after those of the rows before it.
@@ -92,6 +107,23 @@ fn accept_station(stations: &Named<Station>, row: StationRow) -> Result<Station,
     })
 }
 
+/// Adds the stations of the rows to those of the rows before them.
+fn add_stations(
+    alloc: Global,
+    stations: &mut Named<Station>,
+    rows: Vec<StationRow>,
+) -> Result<(), InstanceRefusal>
+    requires { length stations.old + length rows.items ≤ MOST_STATIONS }
+    ensures { Gives is_memory (result_and result (Ok stations.new))
+        (accept_each accept_station stations.old rows.items) }
+{
+    for row in rows {
+        let accepted = accept_station(stations, row)?;
+        stations.push(alloc, accepted)?;
+    }
+    Ok(())
+}
+
 /// The stations of the rows.
 #[tactic(auto, unfolding(crate::specs::Build::stations_in))]
 pub fn stations_of(alloc: Global, rows: Rows<StationRow>) -> Result<Named<Station>, InstanceRefusal>
@@ -99,11 +131,8 @@ pub fn stations_of(alloc: Global, rows: Rows<StationRow>) -> Result<Named<Statio
     ensures { Gives is_memory result (stations_in rows) }
 {
     let mut stations = Named::new(alloc);
-    for row in rows.into_items() {
-        let accepted = accept_station(&stations, row)?;
-        stations.push(alloc, accepted)?;
-    }
-    Ok(stations)
+    let added = add_stations(alloc, &mut stations, rows.into_items());
+    added.and(Ok(stations))
 }
 
 /// The number of the station with the name.
@@ -177,8 +206,28 @@ fn accept_stock(
     })
 }
 
-/// The stock of the rows.
+/// The stock of rows that are only looked at, so that an early end drops none of them.
 #[tactic(auto, unfolding(crate::specs::Build::stock_in))]
+fn stock_in(
+    alloc: Global,
+    stations: &Named<Station>,
+    types: &Named<UnitType>,
+    rows: &[StockRow],
+) -> Result<Vec<Stock>, InstanceRefusal>
+    requires stations { length stations.now ≤ MOST_STATIONS }
+    requires types { length types.now ≤ MOST_TYPES }
+    requires rows { length rows.now ≤ MOST_STOCK_ROWS }
+    ensures { GivesRows is_memory result (stock_in stations.now types.now rows.now) }
+{
+    let mut stock = Vec::new(alloc);
+    for row in rows {
+        let accepted = accept_stock(stations, types, &stock, row)?;
+        stock.push(accepted)?;
+    }
+    Ok(stock)
+}
+
+/// The stock of the rows.
 pub fn stock_of(
     alloc: Global,
     stations: &Named<Station>,
@@ -190,12 +239,7 @@ pub fn stock_of(
     requires rows { length rows ≤ MOST_STOCK_ROWS }
     ensures { GivesRows is_memory result (stock_in stations.now types.now rows) }
 {
-    let mut stock = Vec::new(alloc);
-    for row in rows.into_items() {
-        let accepted = accept_stock(stations, types, &stock, &row)?;
-        stock.push(accepted)?;
-    }
-    Ok(stock)
+    stock_in(alloc, stations, types, rows.items())
 }
 
 /// Whether more units stand at the stations at the start than a day may have.
@@ -330,6 +374,26 @@ fn accept_trip(
     accept_run(stations.entries(), types, number, trip)
 }
 
+/// Adds the trips of the rows to those of the rows before them.
+fn add_trips(
+    alloc: Global,
+    stations: &Named<Station>,
+    types: &[UnitType],
+    trips: &mut Named<Trip>,
+    rows: Vec<TripRow>,
+) -> Result<(), InstanceRefusal>
+    requires stations { length stations.now ≤ MOST_STATIONS }
+    requires rows { length trips.old + length rows.items ≤ MOST_TRIPS }
+    ensures { Gives is_memory (result_and result (Ok trips.new))
+        (accept_each (accept_trip stations.now types.now) trips.old rows.items) }
+{
+    for row in rows {
+        let accepted = accept_trip(stations, types, trips, row)?;
+        trips.push(alloc, accepted)?;
+    }
+    Ok(())
+}
+
 /// The trips of the rows.
 #[tactic(auto, unfolding(crate::specs::Build::trips_in))]
 pub fn trips_of(
@@ -343,9 +407,6 @@ pub fn trips_of(
     ensures { Gives is_memory result (trips_in stations.now types.now rows) }
 {
     let mut trips = Named::new(alloc);
-    for row in rows.into_items() {
-        let accepted = accept_trip(stations, types, &trips, row)?;
-        trips.push(alloc, accepted)?;
-    }
-    Ok(trips)
+    let added = add_trips(alloc, stations, types, &mut trips, rows.into_items());
+    added.and(Ok(trips))
 }
