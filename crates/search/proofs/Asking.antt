@@ -1,9 +1,10 @@
 -- How often advisors are asked, in one round and in several.
 use Rattle.std.proofs.Common.{◌≡◌, ℕ, zero, suc, ◌+◌, ◌<◌, ◌≤◌, ◌^◌, List, [], ◌∷◌, length, get_or, set, replicate}
 use Rattle.std.proofs.Common.{Bool, true, false, refl, sym, ap, subst, arith, add-one, ◌∙◌, ◌⊎◌, inl, inr}
-use Rattle.std.proofs.lemmas.List.{get_or_default}
+use Rattle.std.proofs.lemmas.List.{get_or_default, get_or-set_other}
 use Rattle.std.proofs.lemmas.List.Elements.{All-cons, All-nil, All-head, All-tail}
 use Rattle.search.specs.Questions.{IsAsked, AreAsked, AreAskedUpTo, CanAsk, IsAskedAt, MayBeAsked, in_rounds, once}
+use Rattle.search.specs.Desks.{AreNotedBut}
 
 -- ---- one advisor
 
@@ -277,3 +278,8 @@ module _ {A : Type 0} (asked : A → ℕ) (has_quit : A → Bool) where
     | inl none ↦ are_asked_within asked has_quit 0 made (in_rounds rounds 1) rounds first last (omega (arith, in_rounds_none rounds 1 none)) most is
     | inr some ↦ are_asked_within asked has_quit 1 made (in_rounds rounds 1) rounds first last (in_rounds_most rounds 1) most (least (omega (arith, some, all)))
   ]
+
+-- what is noted at a place changes nothing behind it
+pub noted_but : (before after : List Bool) (place : ℕ) (enough : Bool) → after ≡ before → AreNotedBut place before (set after place enough)
+noted_but before after place enough same = λ later below.
+    get_or-set_other after place later enough false (λ e. omega (arith, e, below)) ∙ ap (λ (flags : List Bool). get_or flags later false) same

@@ -1,13 +1,22 @@
 -- What evaluations of a region show, and what an offer leaves.
 use Rattle.std.proofs.Common.{◌≡◌, List, [], ◌∷◌, ℕ, Bool, true, false, if◌then◌else◌, Option, Some, None, ◌⊎◌, inl}
-use Rattle.std.proofs.Common.{inr, refl, sym, subst, arith, ℤ, pos, ◌<ℤ◌, int_lt}
+use Rattle.std.proofs.Common.{inr, refl, sym, ◌∙◌, subst, arith, ℤ, pos, negsuc, ◌<ℤ◌, int_lt, w8, w64, to_z, of_z, ap}
+use Rattle.std.proofs.Common.{Result, Ok, Err, OnOk, is_ok, is_none}
+use Rattle.std.proofs.Common.{◌+◌, ◌<◌, length, get_or, set, slice_get}
+use Rattle.std.specs.Result.{result_err}
+use Rattle.std.proofs.lemmas.List.{get_or-set_same, get_or-set_other}
+use Rattle.std.proofs.lemmas.Option.{get_or_from_slice_get}
+use Rattle.std.proofs.lemmas.Bool.{false≢true, cases_eq}
 use Rattle.std.proofs.lemmas.Int.{ints}
 use Rattle.rail_base.specs.declared.numbers.Money.{Money}
 use Rattle.branch_tree.specs.declared.multipliers.Entry.{Entry}
-use Rattle.branch_tree.specs.declared.relaxation.BoundAnswer.TheVariants.{Value}
+use Rattle.branch_tree.specs.declared.relaxation.BoundAnswer.{BoundAnswer}
+use Rattle.branch_tree.specs.declared.relaxation.BoundAnswer.TheVariants.{Empty, Value}
 use Rattle.branch_tree.specs.declared.relaxation.Settled.TheVariants.{Costs, Broken}
+use Rattle.branch_tree.specs.declared.relaxation.Weight.{Weight}
 use Rattle.branch_tree.specs.declared.relaxation.Weight.TheVariants.{Cost, NoCost}
-use Rattle.branch_tree.specs.Bounds.{IsBound, IsChainValue, IsSettled}
+use Rattle.branch_tree.specs.Entries.{refusal_of, put_in}
+use Rattle.branch_tree.specs.Bounds.{IsBound, IsChainValue, IsEmpty, IsSettled}
 use Rattle.branch_tree.specs.Claims.{Priced, IsPlanIn, is_below}
 use Rattle.branch_tree.specs.Meanings.{Meanings, IsRelaxation, DoFitFor}
 use Rattle.branch_tree.proofs.Duality.{bounds_are_chain_values}
@@ -93,18 +102,62 @@ named_is problem picks index sign settled = ap2 settled.2 settled.3
     ap2 : (problem.broken picks).index ≡ index → (problem.broken picks).value ≡ sign → problem.broken picks ≡ record { index = index; value = sign }
     ap2 e f = λ i. record { index = e i; value = f i }
 
-pub named_fits : (problem : Meanings) → IsRelaxation problem → (picks : List ℕ) (index : ℕ) (sign : ℤ) → problem.Follow picks →
+named_fits : (problem : Meanings) → IsRelaxation problem → (picks : List ℕ) (index : ℕ) (sign : ℤ) → problem.Follow picks →
     IsSettled problem picks (Broken index sign) → DoFitFor problem (record { index = index; value = sign } ∷ [])
 named_fits problem relaxation picks index sign follow settled =
     subst (λ entry. DoFitFor problem (entry ∷ [])) (named_is problem picks index sign settled)
     (broken_picks_have_rays problem relaxation picks follow settled.0).fits
 
-pub left_open_by : (problem : Meanings) (region : List (List Bool)) (best : Option Priced) (picks : List ℕ) (index : ℕ) (sign : ℤ) →
+-- a sign that is passed on stays the same
+passed : (problem : Meanings) (picks : List ℕ) (index : ℕ) (sign : ℤ) → IsSettled problem picks (Broken index sign) → to_z w8 (of_z w8 sign) ≡ sign
+passed problem picks index sign settled = elim settled.1.unit as (λ _. to_z w8 (of_z w8 sign) ≡ sign) [
+  | inl e ↦ subst (λ (v : ℤ). to_z w8 (of_z w8 v) ≡ v) (sym e ∙ settled.3) refl
+  | inr e ↦ subst (λ (v : ℤ). to_z w8 (of_z w8 v) ≡ v) (sym e ∙ settled.3) refl
+]
+
+pub passed_unit : (problem : Meanings) (picks : List ℕ) (index : ℕ) (sign : ℤ) → IsSettled problem picks (Broken index sign) →
+    (to_z w8 (of_z w8 sign) ≡ pos 1) ⊎ (to_z w8 (of_z w8 sign) ≡ negsuc 0)
+passed_unit problem picks index sign settled = elim settled.1.unit as (λ _. (to_z w8 (of_z w8 sign) ≡ pos 1) ⊎ (to_z w8 (of_z w8 sign) ≡ negsuc 0)) [
+  | inl e ↦ inl (passed problem picks index sign settled ∙ (sym settled.3 ∙ e))
+  | inr e ↦ inr (passed problem picks index sign settled ∙ (sym settled.3 ∙ e))
+]
+
+-- what is named by a sign that was passed on
+named_by : (problem : Meanings) (picks : List ℕ) (index : ℕ) (sign : ℤ) (named : List Entry) → IsSettled problem picks (Broken index sign) →
+    named ≡ record { index = index; value = to_z w8 (of_z w8 sign) } ∷ [] → named ≡ record { index = index; value = sign } ∷ []
+named_by problem picks index sign named settled e =
+    subst (λ (v : ℤ). named ≡ record { index = index; value = v } ∷ []) (passed problem picks index sign settled) e
+
+pub passed_fits : (problem : Meanings) → IsRelaxation problem → (picks : List ℕ) (index : ℕ) (sign : ℤ) (named : List Entry) → problem.Follow picks →
+    IsSettled problem picks (Broken index sign) → named ≡ record { index = index; value = to_z w8 (of_z w8 sign) } ∷ [] → DoFitFor problem named
+passed_fits problem relaxation picks index sign named follow settled e =
+    subst (λ entries. DoFitFor problem entries) (sym (named_by problem picks index sign named settled e))
+    (named_fits problem relaxation picks index sign follow settled)
+
+left_open_by : (problem : Meanings) (region : List (List Bool)) (best : Option Priced) (picks : List ℕ) (index : ℕ) (sign : ℤ) →
     IsSettled problem picks (Broken index sign) → HasNoRay problem region (record { index = index; value = sign } ∷ []) → IsSettledAs problem region best picks None
 left_open_by problem region best picks index sign settled none = inr (record {
   no_solution = settled.0;
   no_ray = subst (λ entry. HasNoRay problem region (entry ∷ [])) (sym (named_is problem picks index sign settled)) none;
 })
+
+pub left_open_by_passed : (problem : Meanings) (region : List (List Bool)) (best : Option Priced) (picks : List ℕ) (index : ℕ) (sign : ℤ) (named : List Entry) →
+    IsSettled problem picks (Broken index sign) → named ≡ record { index = index; value = to_z w8 (of_z w8 sign) } ∷ [] →
+    HasNoRay problem region named → IsSettledAs problem region best picks None
+left_open_by_passed problem region best picks index sign named settled e none = left_open_by problem region best picks index sign settled
+    (subst (λ entries. HasNoRay problem region entries) (named_by problem picks index sign named settled e) none)
+
+-- where nothing is named
+pub settled_unnamed : (problem : Meanings) (region : List (List Bool)) (best : Option Priced) (picks : List ℕ) (found : Option (List Entry)) →
+    ((named : List Entry) → found ≡ Some named → ⊥) → IsSettledAs problem region best picks found → IsSettledAs problem region best picks None
+settled_unnamed problem region best picks None not is = is
+settled_unnamed problem region best picks (Some named) not is = absurd (not named refl)
+
+-- where there is no value nothing is near
+pub empty_unvalued : (problem : Meanings) (region : List (List Bool)) (multipliers : List Entry) (weight : Weight) (answer : BoundAnswer) (old new : List ℕ) →
+    ((value : Money) → answer ≡ Value value → ⊥) → IsBound problem region multipliers weight answer old new → IsEmpty problem region
+empty_unvalued problem region multipliers weight Empty old new not is = is.0
+empty_unvalued problem region multipliers weight (Value value) old new not is = absurd (not value refl)
 
 -- the choice for a region, as an evaluation
 pub evaluated : (problem : Meanings) → IsRelaxation problem → (region : List (List Bool)) (multipliers : List Entry) (value : Money) (old new : List ℕ) →
@@ -116,3 +169,48 @@ evaluated problem relaxation region multipliers value old new fits is = record {
   follow = relaxation.near_follow new region is.0.near;
   value = is.1;
 }
+
+-- one multiplier of size 1 is put among none
+alone : (index : ℕ) (sign : ℤ) → (sign ≡ pos 1) ⊎ (sign ≡ negsuc 0) → refusal_of [] index (to_z w64 (of_z w64 (to_z w8 (of_z w8 sign)))) ≡ None
+alone index sign either = elim either as (λ _. refusal_of [] index (to_z w64 (of_z w64 (to_z w8 (of_z w8 sign)))) ≡ None) [
+  | inl e ↦ subst (λ (v : ℤ). refusal_of [] index (to_z w64 (of_z w64 (to_z w8 (of_z w8 v)))) ≡ None) (sym e) refl
+  | inr e ↦ subst (λ (v : ℤ). refusal_of [] index (to_z w64 (of_z w64 (to_z w8 (of_z w8 v)))) ≡ None) (sym e) refl
+]
+
+pub alone_accepted : (old : List Entry) (index : ℕ) (sign value : ℤ) → old ≡ [] → value ≡ to_z w8 (of_z w8 sign) → (sign ≡ pos 1) ⊎ (sign ≡ negsuc 0) →
+    refusal_of old index (to_z w64 (of_z w64 value)) ≡ None
+alone_accepted old index sign value none same either =
+    subst (λ (entries : List Entry). refusal_of entries index (to_z w64 (of_z w64 value)) ≡ None) (sym none)
+    (subst (λ (v : ℤ). refusal_of [] index (to_z w64 (of_z w64 v)) ≡ None) (sym same) (alone index sign either))
+
+-- then it is the only one
+put_alone : (index : ℕ) (sign : ℤ) → (sign ≡ pos 1) ⊎ (sign ≡ negsuc 0) →
+    put_in [] index (to_z w64 (of_z w64 (to_z w8 (of_z w8 sign)))) ≡ record { index = index; value = sign } ∷ []
+put_alone index sign either = elim either as (λ _. put_in [] index (to_z w64 (of_z w64 (to_z w8 (of_z w8 sign)))) ≡ record { index = index; value = sign } ∷ []) [
+  | inl e ↦ subst (λ (v : ℤ). put_in [] index (to_z w64 (of_z w64 (to_z w8 (of_z w8 v)))) ≡ record { index = index; value = v } ∷ []) (sym e) refl
+  | inr e ↦ subst (λ (v : ℤ). put_in [] index (to_z w64 (of_z w64 (to_z w8 (of_z w8 v)))) ≡ record { index = index; value = v } ∷ []) (sym e) refl
+]
+
+pub alone_put : (old new : List Entry) (index : ℕ) (sign value : ℤ) → old ≡ [] → value ≡ to_z w8 (of_z w8 sign) → (sign ≡ pos 1) ⊎ (sign ≡ negsuc 0) →
+    new ≡ put_in old index (to_z w64 (of_z w64 value)) → new ≡ record { index = index; value = sign } ∷ []
+alone_put old new index sign value none same either put =
+    put ∙ (ap (λ (entries : List Entry). put_in entries index (to_z w64 (of_z w64 value))) none ∙
+    (ap (λ (v : ℤ). put_in [] index (to_z w64 (of_z w64 v))) same ∙ put_alone index sign either))
+
+-- a result without an error is Ok, and then what OnOk says holds
+pub right_by : {X E : Type 0} (result : Result X E) → result_err result ≡ None → is_ok result ≡ true
+right_by (Ok x) none = refl
+right_by (Err e) none = ap is_none none
+
+pub held_where_right : {X E P : Type 0} (result : Result X E) → is_ok result ≡ true → OnOk result P → P
+held_where_right (Ok x) right is = is
+held_where_right (Err e) right is = absurd (false≢true right)
+
+-- picks that are copied one by one
+pub copied_more : (copy picks : List ℕ) (trip pick : ℕ) → trip < length copy → slice_get picks trip ≡ Some pick →
+    ((k : ℕ) → k < trip → get_or copy k 0 ≡ get_or picks k 0) → (k : ℕ) → k < trip + 1 → get_or (set copy trip pick) k 0 ≡ get_or picks k 0
+copied_more copy picks trip pick within read copied k below = elim (cases_eq k trip) as (λ _. get_or (set copy trip pick) k 0 ≡ get_or picks k 0) [
+  | inl same ↦ subst (λ (j : ℕ). get_or (set copy trip pick) j 0 ≡ get_or picks j 0) (sym same)
+      (get_or-set_same copy trip pick 0 within ∙ sym (get_or_from_slice_get picks trip pick 0 read))
+  | inr other ↦ get_or-set_other copy trip k pick 0 other ∙ copied k (grind arith)
+]

@@ -1,15 +1,27 @@
 -- A node in work stays one as its evaluations go on.
-use Rattle.std.proofs.Common.{◌≡◌, Bool, true, false, if◌then◌else◌, Option, refl, arith, ◌≤ℤ◌, ◌<ℤ◌, int_lt}
+use Rattle.std.proofs.Common.{◌≡◌, ℕ, List, sym, subst, Bool, true, false, if◌then◌else◌, Option, refl, arith, ◌≤ℤ◌, ◌<ℤ◌, int_lt}
 use Rattle.std.proofs.lemmas.Int.{ints}
 use Rattle.branch_tree.specs.declared.cuts.Cut.{Cut}
 use Rattle.branch_tree.specs.Claims.{Priced}
-use Rattle.branch_tree.specs.Meanings.{Meanings}
+use Rattle.branch_tree.specs.declared.multipliers.Entry.{Entry}
+use Rattle.branch_tree.specs.Entries.{DoFit}
+use Rattle.branch_tree.specs.Meanings.{Meanings, DoFitFor}
+use Rattle.advisors.specs.Proposed.{Proposed}
+use Rattle.advisors.specs.Proposals.{DoesFit}
 use Rattle.search.specs.declared.evaluation.Evaluation.{Evaluation}
 use Rattle.search.specs.declared.work.Work.{Work}
 use Rattle.search.specs.Evaluations.{IsEvaluated}
 use Rattle.search.specs.Offers.{IsOffered}
 use Rattle.search.specs.NodesInWork.{IsWorkedOn, learned}
 use Rattle.search.proofs.Below.{lower}
+
+-- the multipliers of a proposal for a problem's indices fit the problem
+pub fits_for : (problem : Meanings) (proposal : Proposed) (multipliers : List Entry) → proposal.indices ≡ problem.indices → proposal.free_from ≡ problem.free_from →
+    DoesFit proposal → multipliers ≡ proposal.multipliers → DoFitFor problem multipliers
+fits_for problem proposal multipliers indices free_from does same =
+    subst (λ (entries : List Entry). DoFitFor problem entries) (sym same)
+    (subst (λ (bound : ℕ). DoFit bound problem.free_from proposal.multipliers) indices
+    (subst (λ (from : ℕ). DoFit proposal.indices from proposal.multipliers) free_from does.fit))
 
 pub worked_with_cut : (problem : Meanings) (best : Option Priced) (work : Work) (cut : Option Cut) → IsWorkedOn problem best work → IsWorkedOn problem best (record work { cut = cut })
 worked_with_cut problem best work cut is = record {

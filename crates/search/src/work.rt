@@ -115,7 +115,6 @@ impl Work {
 
     /// Tries a proposal: its cut is remembered, and its multipliers, where it has an entry, are considered. The error
     /// is want of memory.
-    #[tactic(auto, using(crate::proofs::Working::worked_with_cut))]
     pub(crate) fn take_up<R: Relaxation>(
         &mut self,
         alloc: Global,

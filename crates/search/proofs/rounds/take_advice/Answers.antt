@@ -1,5 +1,11 @@
-use Rattle.std.proofs.Common.{◌≡◌, ◌+◌, ◌<◌, ◌^◌, false, length, sym, subst, arith}
-use Rattle.search.proofs.Asking.{asked_here, asked_one}
+use Rattle.std.proofs.Common.{◌≡◌, ◌+◌, ◌<◌, ◌^◌, false, length, ap, ◌∙◌, OnOk, sym, subst, arith}
+use Rattle.std.proofs.lemmas.List.{length-set}
+use Rattle.std.proofs.lemmas.Result.{IfOk-from_err, on_ok_weaker}
+use Rattle.search.specs.Conclusions.{plan_in}
+use Rattle.search.specs.NodesInWork.{IsWorkedOn}
+use Rattle.search.specs.Offers.{IsOffered}
+use Rattle.search.proofs.Evaluating.{not_offered}
+use Rattle.search.proofs.Asking.{asked_here, asked_one, noted_but}
 use Rattle.search.proofs.rounds.take_advice.Goals as goal
 
 pub ask-requires-clause-stays : goal.ask-requires-clause-stays
@@ -30,3 +36,78 @@ pub returns-clause-asked : goal.returns-clause-asked
 returns-clause-asked g c =
     asked_here _ _ c.args.advisors.now.items c.args.place c.index_mut.result.now c.ask.new.advisor c.requires.ask.within c.index_mut.ensures.value
     (asked_one 1 _ _ _ _ (omega arith) c.ask.ensures.asked (subst (λ b. (goal.Advisor-dyn g (b.vtable, b.value)).has_quit b.value ≡ false) (sym c.index_mut.ensures.value) (c.requires.ask.stays c.index_mut.result.now)))
+
+pub returns-in_err-word-clause-region : goal.returns-in_err-word-clause-region
+returns-in_err-word-clause-region g c = IfOk-from_err c.from_residual.result _ c.from_residual.ensures.0
+
+pub returns-in_err-word-clause-offered : goal.returns-in_err-word-clause-offered
+returns-in_err-word-clause-offered g c = IfOk-from_err c.from_residual.result _ c.from_residual.ensures.0
+
+pub returns-in_err-word-clause-worked : goal.returns-in_err-word-clause-worked
+returns-in_err-word-clause-worked g c = IfOk-from_err c.from_residual.result _ c.from_residual.ensures.0
+
+pub returns-in_err-word-clause-desk : goal.returns-in_err-word-clause-desk
+returns-in_err-word-clause-desk g c = IfOk-from_err c.from_residual.result _ c.from_residual.ensures.0
+
+pub returns-in_err-word-clause-enough : goal.returns-in_err-word-clause-enough
+returns-in_err-word-clause-enough g c = IfOk-from_err c.from_residual.result _ c.from_residual.ensures.0
+
+pub take_up-requires-clause-indices : goal.take_up-requires-clause-indices
+take_up-requires-clause-indices g c =
+    c.ask.ensures.over.indices ∙ (c.requires.desk.indices ∙ ap (λ problem. (g.R.Relaxation.meanings problem).indices) (sym c.ask.ensures.same))
+
+pub take_up-requires-clause-free_from : goal.take_up-requires-clause-free_from
+take_up-requires-clause-free_from g c =
+    c.ask.ensures.over.free_from ∙ (c.requires.desk.free_from ∙ ap (λ problem. (g.R.Relaxation.meanings problem).free_from) (sym c.ask.ensures.same))
+
+pub take_up-requires-clause-worked : goal.take_up-requires-clause-worked
+take_up-requires-clause-worked g c =
+    subst (λ problem. IsWorkedOn (g.R.Relaxation.meanings problem) (plan_in c.args.best.now) c.args.work.now) (sym c.ask.ensures.same) c.requires.worked
+
+pub returns-then-eq-clause-desk : goal.returns-then-eq-clause-desk
+returns-then-eq-clause-desk g c =
+    let flags : c.ask.new.desk.has_enough.items ≡ c.args.desk.now.has_enough.items = λ i. (c.ask.ensures.has_enough i).items in
+    record {
+      indices = c.ask.ensures.over.indices ∙ c.requires.desk.indices;
+      free_from = c.ask.ensures.over.free_from ∙ c.requires.desk.free_from;
+      each = length-set c.ask.new.desk.has_enough.items c.args.place c.eq.result ∙ (ap length flags ∙ c.requires.desk.each);
+    }
+
+pub returns-then-eq-clause-enough : goal.returns-then-eq-clause-enough
+returns-then-eq-clause-enough g c =
+    let flags : c.ask.new.desk.has_enough.items ≡ c.args.desk.now.has_enough.items = λ i. (c.ask.ensures.has_enough i).items in
+    noted_but c.args.desk.now.has_enough.items c.ask.new.desk.has_enough.items c.args.place c.eq.result flags
+
+pub returns-clause-desk : goal.returns-clause-desk
+returns-clause-desk g c =
+    let flags : c.ask.new.desk.has_enough.items ≡ c.args.desk.now.has_enough.items = λ i. (c.ask.ensures.has_enough i).items in
+    on_ok_weaker c.take_up.result (λ _. record {
+      indices = c.ask.ensures.over.indices ∙ c.requires.desk.indices;
+      free_from = c.ask.ensures.over.free_from ∙ c.requires.desk.free_from;
+      each = length-set c.ask.new.desk.has_enough.items c.args.place c.eq.result ∙ (ap length flags ∙ c.requires.desk.each);
+    }) c.take_up.ensures.region
+
+pub returns-clause-enough : goal.returns-clause-enough
+returns-clause-enough g c =
+    let flags : c.ask.new.desk.has_enough.items ≡ c.args.desk.now.has_enough.items = λ i. (c.ask.ensures.has_enough i).items in
+    on_ok_weaker c.take_up.result (λ _. noted_but c.args.desk.now.has_enough.items c.ask.new.desk.has_enough.items c.args.place c.eq.result flags)
+    c.take_up.ensures.region
+
+pub returns-then-eq-clause-offered : goal.returns-then-eq-clause-offered
+returns-then-eq-clause-offered g c = not_offered _ _ _
+
+pub returns-then-eq-clause-worked : goal.returns-then-eq-clause-worked
+returns-then-eq-clause-worked g c = c.requires.worked
+
+pub returns-clause-region : goal.returns-clause-region
+returns-clause-region g c = c.take_up.ensures.region
+
+pub returns-clause-offered : goal.returns-clause-offered
+returns-clause-offered g c =
+    subst (λ problem. OnOk c.take_up.result (IsOffered (g.R.Relaxation.meanings problem) c.args.work.now.region (plan_in c.args.best.now) (plan_in c.take_up.new.best)))
+    c.ask.ensures.same c.take_up.ensures.offered
+
+pub returns-clause-worked : goal.returns-clause-worked
+returns-clause-worked g c =
+    subst (λ problem. OnOk c.take_up.result (IsWorkedOn (g.R.Relaxation.meanings problem) (plan_in c.take_up.new.best) c.take_up.new.self))
+    c.ask.ensures.same c.take_up.ensures.worked
