@@ -26,7 +26,7 @@ use day_files::day_in;
 use rail_base::limits::MOST_WORDS;
 use rail_base::{CompNo, NoMemory, TripNo, Words};
 use rail_io::DiskFolder;
-use sample_picks::may_run;
+use sample_days::may_run;
 use std::alloc::Global;
 use std::env::{self, Args};
 use timetable::{Instance, NamedPlan, Picks};

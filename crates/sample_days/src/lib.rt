@@ -1,10 +1,13 @@
 //! Days and plans of which tests are made, from the texts of their tables, and the texts of days that several crates of
-//! tests take.
+//! tests take; and whether picks may be asked of.
 #![tactic(auto)]
+
+mod picks;
 
 ghost use Rattle.std.specs.Prelude.{◌≡◌, ◌≤◌, length, IfOk};
 ghost use Rattle.timetable.specs.Running.{IsPlan};
 
+pub use picks::may_run;
 use rail_base::limits::MOST_TABLE_BYTES;
 use std::alloc::Global;
 use std::test::Fail;

@@ -16,7 +16,7 @@ use crate::plain_slacks::{are_slacks, plain_slacks};
 use branch_tree::{BoundAnswer, Multipliers, Region, Relaxation, Settled, Weight};
 use price_bound::Change;
 use rail_base::TripNo;
-use sample_picks::may_run;
+use sample_days::may_run;
 use std::alloc::Global;
 use std::test::Fail;
 use timetable::{Instance, Picks};

@@ -11,7 +11,7 @@ use crate::drawn_picks::{drawn_picks, pick_of};
 use day_simulator::simulate;
 use inventory::{Ledger, StockFault};
 use rail_base::{CompNo, LinkNo, TripNo};
-use sample_picks::may_run;
+use sample_days::may_run;
 use std::alloc::Global;
 use std::test::Fail;
 use timetable::{Instance, LinkKind, NamedPlan, Picks};

@@ -8,7 +8,7 @@ use crate::plain_slacks::plain_slacks;
 use branch_tree::{Multipliers, Region, Weight};
 use price_bound::Change;
 use rail_base::{CompNo, TripNo};
-use sample_picks::may_run;
+use sample_days::may_run;
 use std::alloc::Global;
 use std::test::Fail;
 use timetable::{Instance, Picks};

@@ -2,8 +2,7 @@
 
 use planner_app::{costs_table, duties_table, yards_table};
 use rail_base::{CompNo, TripNo};
-use sample_days::{ONE_LEFT, Texts, day_of, plan_of};
-use sample_picks::may_run;
+use sample_days::{ONE_LEFT, Texts, day_of, may_run, plan_of};
 use std::alloc::Global;
 use std::process::Abort;
 use std::test::Fail;

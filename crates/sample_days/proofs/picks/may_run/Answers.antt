@@ -1,6 +1,6 @@
 use Rattle.std.proofs.Common.{◌∙◌, arith, sym}
-use Rattle.sample_picks.proofs.Admitted.{one_more, are_picks, are_admissible}
-use Rattle.sample_picks.proofs.may_run.Goals as goal
+use Rattle.sample_days.proofs.Admitted.{one_more, are_picks, are_admissible}
+use Rattle.sample_days.proofs.picks.may_run.Goals as goal
 
 pub loop-number-init : goal.loop-number-init
 loop-number-init c = λ t comp below at. absurd (omega (arith, below))

@@ -1,5 +1,4 @@
 //! Whether picks that are made anyhow may be asked of: what calls on picks require of them.
-#![tactic(auto)]
 
 ghost use Rattle.std.specs.Prelude.{◌<◌, length, IsTrue};
 ghost use Rattle.timetable.specs.Picks.{ArePicks};

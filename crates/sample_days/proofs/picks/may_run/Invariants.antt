@@ -1,5 +1,5 @@
-use Rattle.sample_picks.proofs.Admitted.{MayRunBelow}
-use Rattle.sample_picks.proofs.may_run.Given as goal
+use Rattle.sample_days.proofs.Admitted.{MayRunBelow}
+use Rattle.sample_days.proofs.picks.may_run.Given as goal
 
 abbrev pub invariant-loop-number : goal.invariant-loop-number
 invariant-loop-number l = MayRunBelow l.day l.picks l.number
