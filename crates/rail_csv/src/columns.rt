@@ -3,15 +3,18 @@
 
 ghost use Rattle.std.specs.Prelude.{◌≡◌, ◌≤◌, length, Some, None, if◌then◌else◌, IfOk, option_map, nat_le};
 ghost use Rattle.std.specs.List.{list_all};
+ghost use Rattle.csv.specs.Records.{fields_of};
 ghost use Rattle.rail_csv.specs.Fields.{are_digits, number_of, is_number, is_time, time_of, is_unit, numbers_of};
 ghost use Rattle.rail_csv.specs.Fields.{pieces_of};
 ghost use Rattle.rail_csv.specs.Columns.{number_column, time_column, name_column, optional_name_column, kind_column};
-ghost use Rattle.rail_csv.specs.Columns.{answer_column, end_column, units_column};
+ghost use Rattle.rail_csv.specs.Columns.{answer_column, end_column, units_column, field, field_or};
 ghost use Rattle.rail_csv.specs.Tables.{is_memory};
 ghost use Rattle.rail_base.specs.Answers.{Gives};
 
+use crate::reading::{field, field_or};
 use crate::refusal::TableRefusal;
 use crate::rows::{End, KindWord, UnitList};
+use csv::StringRecord;
 use rail_base::limits::{MOST_COMPOSITION, MOST_UNITS};
 use rail_base::name::is_name;
 use rail_base::{Minute, Name, NoMemory, UnitNo};
@@ -49,10 +52,32 @@ fn number_of(text: &[u8]) -> Option<u32>
 }
 
 /// A number from `low` to `high`.
-#[tactic(auto, unfolding(crate::specs::Columns::number_column))]
-pub fn number(text: &str, low: u32, high: u32, row: u32, column: u32) -> Result<u32, TableRefusal>
-    ensures { Gives is_memory result (number_column low high row column text.now) }
+pub fn number(
+    fields: &StringRecord,
+    low: u32,
+    high: u32,
+    row: u32,
+    column: u32,
+) -> Result<u32, TableRefusal>
+    ensures { Gives is_memory result (number_column low high row column (field (fields_of fields.now) column)) }
 {
+    number_or("", fields, low, high, row, column)
+}
+
+/// A number from `low` to `high`; what is said for a missing one where the row's version has no such column.
+#[tactic(auto, unfolding(crate::specs::Columns::number_column))]
+pub fn number_or(
+    missing: &str,
+    fields: &StringRecord,
+    low: u32,
+    high: u32,
+    row: u32,
+    column: u32,
+) -> Result<u32, TableRefusal>
+    ensures { Gives is_memory result
+        (number_column low high row column (field_or missing.now (fields_of fields.now) column)) }
+{
+    let text = field_or(missing, fields, column as usize);
     let Some(value) = number_of(text.as_bytes()) else {
         return Err(TableRefusal::BadNumber { row, column });
     };
@@ -91,9 +116,10 @@ fn minutes_of(text: &[u8]) -> Option<u16>
 
 /// A time: one or two digits of the hour 0 to 47, a colon, and two digits of the minute 0 to 59.
 #[tactic(auto, unfolding(crate::specs::Columns::time_column))]
-pub fn time(text: &str, row: u32, column: u32) -> Result<Minute, TableRefusal>
-    ensures { Gives is_memory result (time_column row column text.now) }
+pub fn time(fields: &StringRecord, row: u32, column: u32) -> Result<Minute, TableRefusal>
+    ensures { Gives is_memory result (time_column row column (field (fields_of fields.now) column)) }
 {
+    let text = field(fields, column as usize);
     let Some(minutes) = minutes_of(text.as_bytes()) else {
         return Err(TableRefusal::BadTime { row, column });
     };
@@ -102,9 +128,15 @@ pub fn time(text: &str, row: u32, column: u32) -> Result<Minute, TableRefusal>
 
 /// A name.
 #[tactic(auto, unfolding(crate::specs::Columns::name_column))]
-pub fn name(alloc: Global, text: &str, row: u32, column: u32) -> Result<Name, TableRefusal>
-    ensures { Gives is_memory result (name_column row column text.now) }
+pub fn name(
+    alloc: Global,
+    fields: &StringRecord,
+    row: u32,
+    column: u32,
+) -> Result<Name, TableRefusal>
+    ensures { Gives is_memory result (name_column row column (field (fields_of fields.now) column)) }
 {
+    let text = field(fields, column as usize);
     if !is_name(text.as_bytes()) {
         return Err(TableRefusal::BadName { row, column });
     }
@@ -115,24 +147,25 @@ pub fn name(alloc: Global, text: &str, row: u32, column: u32) -> Result<Name, Ta
 #[tactic(auto, unfolding(crate::specs::Columns::optional_name_column))]
 pub fn optional_name(
     alloc: Global,
-    text: &str,
+    fields: &StringRecord,
     row: u32,
     column: u32,
 ) -> Result<Option<Name>, TableRefusal>
-    ensures { Gives is_memory result (optional_name_column row column text.now) }
+    ensures { Gives is_memory result (optional_name_column row column (field (fields_of fields.now) column)) }
 {
-    if text.is_empty() {
+    if field(fields, column as usize).is_empty() {
         return Ok(None);
     }
-    let name = name(alloc, text, row, column)?;
+    let name = name(alloc, fields, row, column)?;
     Ok(Some(name))
 }
 
 /// One of the words `turn`, `join` and `split`.
 #[tactic(auto, unfolding(crate::specs::Columns::kind_column))]
-pub fn kind(text: &str, row: u32, column: u32) -> Result<KindWord, TableRefusal>
-    ensures { Gives is_memory result (kind_column row column text.now) }
+pub fn kind(fields: &StringRecord, row: u32, column: u32) -> Result<KindWord, TableRefusal>
+    ensures { Gives is_memory result (kind_column row column (field (fields_of fields.now) column)) }
 {
+    let text = field(fields, column as usize);
     if text == "turn" {
         return Ok(KindWord::Turn);
     }
@@ -146,10 +179,23 @@ pub fn kind(text: &str, row: u32, column: u32) -> Result<KindWord, TableRefusal>
 }
 
 /// One of the words `yes` and `no`.
-#[tactic(auto, unfolding(crate::specs::Columns::answer_column))]
-pub fn answer(text: &str, row: u32, column: u32) -> Result<bool, TableRefusal>
-    ensures { Gives is_memory result (answer_column row column text.now) }
+pub fn answer(fields: &StringRecord, row: u32, column: u32) -> Result<bool, TableRefusal>
+    ensures { Gives is_memory result (answer_column row column (field (fields_of fields.now) column)) }
 {
+    answer_or("", fields, row, column)
+}
+
+/// One of the words `yes` and `no`; what is said for a missing one where the row's version has no such column.
+#[tactic(auto, unfolding(crate::specs::Columns::answer_column))]
+pub fn answer_or(
+    missing: &str,
+    fields: &StringRecord,
+    row: u32,
+    column: u32,
+) -> Result<bool, TableRefusal>
+    ensures { Gives is_memory result (answer_column row column (field_or missing.now (fields_of fields.now) column)) }
+{
+    let text = field_or(missing, fields, column as usize);
     if text == "yes" {
         return Ok(true);
     }
@@ -161,9 +207,10 @@ pub fn answer(text: &str, row: u32, column: u32) -> Result<bool, TableRefusal>
 
 /// One of the words `none`, `front` and `rear`.
 #[tactic(auto, unfolding(crate::specs::Columns::end_column))]
-pub fn end(text: &str, row: u32, column: u32) -> Result<End, TableRefusal>
-    ensures { Gives is_memory result (end_column row column text.now) }
+pub fn end(fields: &StringRecord, row: u32, column: u32) -> Result<End, TableRefusal>
+    ensures { Gives is_memory result (end_column row column (field (fields_of fields.now) column)) }
 {
+    let text = field(fields, column as usize);
     if text == "none" {
         return Ok(End::None);
     }
@@ -202,9 +249,15 @@ fn are_units(units: &[UnitNo]) -> bool
 
 /// Units by number, front to rear: nothing, or 1 to 6 numbers 0 to 1,999 with one space between two.
 #[tactic(auto, unfolding(crate::specs::Columns::units_column))]
-pub fn units(alloc: Global, text: &str, row: u32, column: u32) -> Result<UnitList, TableRefusal>
-    ensures { Gives is_memory result (units_column row column text.now) }
+pub fn units(
+    alloc: Global,
+    fields: &StringRecord,
+    row: u32,
+    column: u32,
+) -> Result<UnitList, TableRefusal>
+    ensures { Gives is_memory result (units_column row column (field (fields_of fields.now) column)) }
 {
+    let text = field(fields, column as usize);
     if text.is_empty() {
         return Ok(UnitList::of(Vec::new(alloc)));
     }

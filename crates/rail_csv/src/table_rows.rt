@@ -3,7 +3,7 @@
 ghost use Rattle.std.specs.Prelude.{◌≡◌};
 
 use crate::columns;
-use crate::reading::{TableRow, field, field_or};
+use crate::reading::TableRow;
 use crate::refusal::TableRefusal;
 use crate::rows::{LinkRow, PlanRow, StationRow, StockRow, TripRow, TypeRow, WeightsRow};
 use csv::StringRecord;
@@ -20,12 +20,12 @@ impl TableRow for TypeRow {
 
     #[tactic(auto, unfolding(crate::specs::Tables::type_columns))]
     fn read(alloc: Global, row: u32, fields: &StringRecord) -> Result<TypeRow, TableRefusal> {
-        let name = columns::name(alloc, field(fields, 0), row, 0)?;
-        let carriages = columns::number(field(fields, 1), 1, MOST_CARRIAGES, row, 1)?;
-        let seats = columns::number(field(fields, 2), 1, MOST_SEATS, row, 2)?;
-        let metres = columns::number(field(fields, 3), 1, MOST_METRES, row, 3)?;
-        let family = columns::name(alloc, field(fields, 4), row, 4)?;
-        let first = columns::number(field_or("0", fields, 5), 0, MOST_FIRST_SEATS, row, 5)?;
+        let name = columns::name(alloc, fields, row, 0)?;
+        let carriages = columns::number(fields, 1, MOST_CARRIAGES, row, 1)?;
+        let seats = columns::number(fields, 1, MOST_SEATS, row, 2)?;
+        let metres = columns::number(fields, 1, MOST_METRES, row, 3)?;
+        let family = columns::name(alloc, fields, row, 4)?;
+        let first = columns::number_or("0", fields, 0, MOST_FIRST_SEATS, row, 5)?;
         Ok(TypeRow {
             name,
             carriages,
@@ -44,9 +44,9 @@ impl TableRow for StationRow {
 
     #[tactic(auto, unfolding(crate::specs::Tables::station_columns))]
     fn read(alloc: Global, row: u32, fields: &StringRecord) -> Result<StationRow, TableRefusal> {
-        let name = columns::name(alloc, field(fields, 0), row, 0)?;
-        let platform = columns::number(field(fields, 1), 1, MOST_PLATFORM, row, 1)?;
-        let reallocation = columns::number(field(fields, 2), 0, MOST_REALLOCATION, row, 2)?;
+        let name = columns::name(alloc, fields, row, 0)?;
+        let platform = columns::number(fields, 1, MOST_PLATFORM, row, 1)?;
+        let reallocation = columns::number(fields, 0, MOST_REALLOCATION, row, 2)?;
         Ok(StationRow {
             name,
             platform,
@@ -62,10 +62,10 @@ impl TableRow for StockRow {
 
     #[tactic(auto, unfolding(crate::specs::Tables::stock_columns))]
     fn read(alloc: Global, row: u32, fields: &StringRecord) -> Result<StockRow, TableRefusal> {
-        let station = columns::name(alloc, field(fields, 0), row, 0)?;
-        let unit_type = columns::name(alloc, field(fields, 1), row, 1)?;
-        let start = columns::number(field(fields, 2), 0, MOST_STOCK, row, 2)?;
-        let end = columns::number(field(fields, 3), 0, MOST_STOCK, row, 3)?;
+        let station = columns::name(alloc, fields, row, 0)?;
+        let unit_type = columns::name(alloc, fields, row, 1)?;
+        let start = columns::number(fields, 0, MOST_STOCK, row, 2)?;
+        let end = columns::number(fields, 0, MOST_STOCK, row, 3)?;
         Ok(StockRow {
             station,
             unit_type,
@@ -82,14 +82,14 @@ impl TableRow for TripRow {
 
     #[tactic(auto, unfolding(crate::specs::Tables::trip_columns))]
     fn read(alloc: Global, row: u32, fields: &StringRecord) -> Result<TripRow, TableRefusal> {
-        let name = columns::name(alloc, field(fields, 0), row, 0)?;
-        let from = columns::name(alloc, field(fields, 1), row, 1)?;
-        let departure = columns::time(field(fields, 2), row, 2)?;
-        let to = columns::name(alloc, field(fields, 3), row, 3)?;
-        let arrival = columns::time(field(fields, 4), row, 4)?;
-        let km = columns::number(field(fields, 5), 1, MOST_KM, row, 5)?;
-        let demand = columns::number(field(fields, 6), 0, MOST_DEMAND, row, 6)?;
-        let first = columns::number(field_or("0", fields, 7), 0, MOST_FIRST_DEMAND, row, 7)?;
+        let name = columns::name(alloc, fields, row, 0)?;
+        let from = columns::name(alloc, fields, row, 1)?;
+        let departure = columns::time(fields, row, 2)?;
+        let to = columns::name(alloc, fields, row, 3)?;
+        let arrival = columns::time(fields, row, 4)?;
+        let km = columns::number(fields, 1, MOST_KM, row, 5)?;
+        let demand = columns::number(fields, 0, MOST_DEMAND, row, 6)?;
+        let first = columns::number_or("0", fields, 0, MOST_FIRST_DEMAND, row, 7)?;
         Ok(TripRow {
             name,
             from,
@@ -110,15 +110,15 @@ impl TableRow for LinkRow {
 
     #[tactic(auto, unfolding(crate::specs::Tables::link_columns))]
     fn read(alloc: Global, row: u32, fields: &StringRecord) -> Result<LinkRow, TableRefusal> {
-        let kind = columns::kind(field(fields, 0), row, 0)?;
-        let arriving = columns::name(alloc, field(fields, 1), row, 1)?;
-        let arriving2 = columns::optional_name(alloc, field(fields, 2), row, 2)?;
-        let departing = columns::name(alloc, field(fields, 3), row, 3)?;
-        let departing2 = columns::optional_name(alloc, field(fields, 4), row, 4)?;
-        let reverse = columns::answer(field(fields, 5), row, 5)?;
-        let uncouple = columns::end(field(fields, 6), row, 6)?;
-        let couple = columns::end(field(fields, 7), row, 7)?;
-        let exchange = columns::answer(field_or("no", fields, 8), row, 8)?;
+        let kind = columns::kind(fields, row, 0)?;
+        let arriving = columns::name(alloc, fields, row, 1)?;
+        let arriving2 = columns::optional_name(alloc, fields, row, 2)?;
+        let departing = columns::name(alloc, fields, row, 3)?;
+        let departing2 = columns::optional_name(alloc, fields, row, 4)?;
+        let reverse = columns::answer(fields, row, 5)?;
+        let uncouple = columns::end(fields, row, 6)?;
+        let couple = columns::end(fields, row, 7)?;
+        let exchange = columns::answer_or("no", fields, row, 8)?;
         Ok(LinkRow {
             kind,
             arriving,
@@ -140,9 +140,9 @@ impl TableRow for WeightsRow {
 
     #[tactic(auto, unfolding(crate::specs::Tables::weight_columns))]
     fn read(_alloc: Global, row: u32, fields: &StringRecord) -> Result<WeightsRow, TableRefusal> {
-        let carriage = columns::number(field(fields, 0), 0, MOST_WEIGHT, row, 0)?;
-        let shortage = columns::number(field(fields, 1), 0, MOST_WEIGHT, row, 1)?;
-        let shunting = columns::number(field(fields, 2), 0, MOST_WEIGHT, row, 2)?;
+        let carriage = columns::number(fields, 0, MOST_WEIGHT, row, 0)?;
+        let shortage = columns::number(fields, 0, MOST_WEIGHT, row, 1)?;
+        let shunting = columns::number(fields, 0, MOST_WEIGHT, row, 2)?;
         Ok(WeightsRow {
             carriage,
             shortage,
@@ -158,8 +158,8 @@ impl TableRow for PlanRow {
 
     #[tactic(auto, unfolding(crate::specs::Tables::plan_columns))]
     fn read(alloc: Global, row: u32, fields: &StringRecord) -> Result<PlanRow, TableRefusal> {
-        let trip = columns::name(alloc, field(fields, 0), row, 0)?;
-        let units = columns::units(alloc, field(fields, 1), row, 1)?;
+        let trip = columns::name(alloc, fields, row, 0)?;
+        let units = columns::units(alloc, fields, row, 1)?;
         Ok(PlanRow { trip, units })
     }
 }
