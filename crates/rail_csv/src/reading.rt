@@ -217,10 +217,11 @@ fn read_header(
     let Some(first) = next_record(records)? else {
         return Err(TableRefusal::WrongHeader);
     };
-    if !is_header(words, fewest, &first) {
-        return Err(TableRefusal::WrongHeader);
+    if is_header(words, fewest, &first) {
+        Ok(first.len())
+    } else {
+        Err(TableRefusal::WrongHeader)
     }
-    Ok(first.len())
 }
 
 /// Reads the header of a version and the rows under it, at most `limit`.
