@@ -1,7 +1,7 @@
 -- Rows read one after the other, as a loop does.
 use Rattle.std.proofs.Common.{◌≡◌, ℕ, ◌+◌, ◌<◌, Bool, true, false, cond, ltb, List, [], ◌∷◌, ◌++◌, length, Result, Ok, Err}
 use Rattle.std.proofs.Common.{refl, sym, ap, ◌∙◌, append_assoc, arith}
-use Rattle.std.proofs.lemmas.Bool.{le-ltb}
+use Rattle.std.proofs.lemmas.Bool.{le-ltb, lt-ltb}
 use Rattle.std.proofs.lemmas.List.{append-nil, length_push}
 use Rattle.rail_csv.specs.declared.refusal.TableRefusal.{TableRefusal}
 use Rattle.rail_csv.specs.declared.refusal.TableRefusal.TheVariants.{WrongHeader, TooManyRows}
@@ -14,6 +14,23 @@ use Rattle.rail_csv.specs.ReadRows.{GoesOn, HasOneMore, HasRead, all_rows, with_
 regroup : {Row : Type 0} (front : List Row) (row : Row) (read : Result (List Row) TableRefusal) → with_front front (read >>= λ rest. Ok (row ∷ rest)) ≡ with_front (front ++ row ∷ []) read
 regroup front row (Ok rest) = ap (λ (rows : List _). Ok rows) (sym (append_assoc front (row ∷ []) rest))
 regroup front row (Err e) = refl
+
+-- before the first row there is none
+pub no_front : {Row : Type 0} (read : Result (List Row) TableRefusal) → with_front [] read ≡ read
+no_front (Ok rest) = refl
+no_front (Err e) = refl
+
+-- a row past the limit is one too many
+pub past_limit : {Row : Type 0} (width limit : ℕ) (columns : Columns Row) (n : ℕ) (fields : List (List ℕ)) → n ≡ limit → row_within width limit columns (n + 1) fields ≡ Err TooManyRows
+past_limit width limit columns n fields full =
+    let past : ltb limit (n + 1) ≡ true = lt-ltb _ _ (omega (arith, full)) in
+    rw past refl
+
+-- up to the limit a row is what its fields are read as
+pub within_limit : {Row : Type 0} (width limit : ℕ) (columns : Columns Row) (n : ℕ) (fields : List (List ℕ)) → n < limit → row_within width limit columns (n + 1) fields ≡ row_of width columns (n + 1) fields
+within_limit width limit columns n fields room =
+    let below : ltb limit (n + 1) ≡ false = le-ltb _ _ (omega arith) in
+    rw below refl
 
 -- ---- one turn of the loop
 
