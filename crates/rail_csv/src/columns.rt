@@ -166,16 +166,12 @@ pub fn kind(fields: &StringRecord, row: u32, column: u32) -> Result<KindWord, Ta
     ensures { Gives is_memory result (kind_column row column (field (fields_of fields.now) column)) }
 {
     let text = field(fields, column as usize);
-    if text == "turn" {
-        return Ok(KindWord::Turn);
+    match text {
+        "turn" => Ok(KindWord::Turn),
+        "join" => Ok(KindWord::Join),
+        "split" => Ok(KindWord::Split),
+        _ => Err(TableRefusal::BadWord { row, column }),
     }
-    if text == "join" {
-        return Ok(KindWord::Join);
-    }
-    if text == "split" {
-        return Ok(KindWord::Split);
-    }
-    Err(TableRefusal::BadWord { row, column })
 }
 
 /// One of the words `yes` and `no`.
@@ -196,13 +192,11 @@ pub fn answer_or(
     ensures { Gives is_memory result (answer_column row column (field_or missing.now (fields_of fields.now) column)) }
 {
     let text = field_or(missing, fields, column as usize);
-    if text == "yes" {
-        return Ok(true);
+    match text {
+        "yes" => Ok(true),
+        "no" => Ok(false),
+        _ => Err(TableRefusal::BadWord { row, column }),
     }
-    if text == "no" {
-        return Ok(false);
-    }
-    Err(TableRefusal::BadWord { row, column })
 }
 
 /// One of the words `none`, `front` and `rear`.
@@ -211,16 +205,12 @@ pub fn end(fields: &StringRecord, row: u32, column: u32) -> Result<End, TableRef
     ensures { Gives is_memory result (end_column row column (field (fields_of fields.now) column)) }
 {
     let text = field(fields, column as usize);
-    if text == "none" {
-        return Ok(End::None);
+    match text {
+        "none" => Ok(End::None),
+        "front" => Ok(End::Front),
+        "rear" => Ok(End::Rear),
+        _ => Err(TableRefusal::BadWord { row, column }),
     }
-    if text == "front" {
-        return Ok(End::Front);
-    }
-    if text == "rear" {
-        return Ok(End::Rear);
-    }
-    Err(TableRefusal::BadWord { row, column })
 }
 
 /// The units that the pieces of a text between spaces name, where each piece is a number. The text is not empty.
