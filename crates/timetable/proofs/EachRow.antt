@@ -2,7 +2,7 @@
 use Rattle.std.proofs.Common.{◌≡◌, ℕ, ◌+◌, ◌<◌, List, [], ◌∷◌, ◌++◌, length, drop, replicate, get_or, ap, sym, ◌∙◌, append_assoc}
 use Rattle.std.proofs.Common.{Result, Ok, Err, Bool}
 use Rattle.std.proofs.lemmas.List.{drop_more}
-use Rattle.rail_base.proofs.Answers.{Unless-then}
+use Rattle.rail_base.proofs.Answers.{Unless-then, Unless-from}
 use Rattle.rail_base.specs.Answers.{◌>>=◌, Fails}
 use Rattle.timetable.specs.Day.{units_in}
 use Rattle.timetable.specs.Rowwise.{accept_each}
@@ -31,11 +31,16 @@ one_more accept before after rows i row b whole inside is gives added so_far =
     first_more accept before after row (drop (i + 1) rows) (drop i rows) b whole (row_first rows i row inside is) gives added so_far
 
 -- what refuses the first row refuses all
-pub first_refused : {A B E : Type 0} (accept : List B → A → Result B E) (before : List B) (row : A) (later rows : List A) (e : E) (whole : Result (List B) E)
+first_refused : {A B E : Type 0} (accept : List B → A → Result B E) (before : List B) (row : A) (later rows : List A) (e : E) (whole : Result (List B) E)
     → rows ≡ row ∷ later → accept before row ≡ Err e → accept_each accept before rows ≡ whole → whole ≡ Err e
 first_refused {A} {B} {E} accept before row later rows e whole is refuses so_far =
     let rest : B → Result (List B) E = λ x. accept_each accept (before ++ x ∷ []) later in
     sym so_far ∙ ap (λ (those : List A). accept_each accept before those) is ∙ ap (λ (r : Result B E). r >>= rest) refuses
+
+-- the same of an answer that want of memory sets free
+pub first_fails : {A B E : Type 0} (accept : List B → A → Result B E) (is_memory : E → Bool) (before : List B) (row : A) (later rows : List A) (e : E) (whole : Result (List B) E)
+    → rows ≡ row ∷ later → accept before row ≡ Err e → accept_each accept before rows ≡ whole → Fails is_memory e whole
+first_fails accept is_memory before row later rows e whole is refuses so_far = Unless-from (is_memory e) (first_refused accept before row later rows e whole is refuses so_far)
 
 -- what refuses a row refuses all
 pub one_refused : {A B E : Type 0} (accept : List B → A → Result B E) (before : List B) (rows : List A) (i : ℕ) (row : A) (e : E) (whole : Result (List B) E)

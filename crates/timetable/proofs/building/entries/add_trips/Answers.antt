@@ -4,8 +4,7 @@ use Rattle.std.specs.Vec.Iter.{into_iter_items}
 use Rattle.std.proofs.lemmas.List.{length_push}
 use Rattle.std.proofs.lemmas.Result.{err_from_is_err_and}
 use Rattle.timetable.specs.Build.{accept_trip, is_memory}
-use Rattle.rail_base.proofs.Answers.{Unless-from}
-use Rattle.timetable.proofs.EachRow.{first_more, first_refused}
+use Rattle.timetable.proofs.EachRow.{first_more, first_fails}
 use Rattle.timetable.proofs.building.entries.add_trips.Goals as goal
 
 pub loop-row-preserved : goal.loop-row-preserved
@@ -22,6 +21,5 @@ pub returns-in_err-accepted : goal.returns-in_err-accepted
 returns-in_err-accepted c =
     let p = err_from_is_err_and c.from_residual.result c.from_residual.ensures.1 in
     let first : into_iter_items c.loop-row.row-iterator ≡ c.in-Some.row ∷ into_iter_items c.next.new.self = search rules in
-    rw (p.1, p.2) (Unless-from (is_memory c.in_err-accepted.field-0.0)
-    (first_refused (accept_trip c.args.stations.now c.args.types.now) c.loop-row.trips c.in-Some.row (into_iter_items c.next.new.self) (into_iter_items c.loop-row.row-iterator) c.in_err-accepted.field-0.0 _
-    first (sym c.in_err-accepted.ensures.value) c.loop-row.invariant.0))
+    rw (p.1, p.2) (first_fails (accept_trip c.args.stations.now c.args.types.now) is_memory c.loop-row.trips c.in-Some.row (into_iter_items c.next.new.self) (into_iter_items c.loop-row.row-iterator) c.in_err-accepted.field-0.0 _
+    first (sym c.in_err-accepted.ensures.value) c.loop-row.invariant.0)
