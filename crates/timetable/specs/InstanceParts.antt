@@ -2,7 +2,10 @@
 -- and hand-overs, and the departure minutes by station.
 use Rattle.std.specs.Prelude.{◌≡◌, length}
 use Rattle.compositions.specs.Catalogue.{catalogue_of}
+use Rattle.timetable.specs.declared.building.accepted.AcceptedRows.{AcceptedRows}
 use Rattle.timetable.specs.declared.day.instance.Instance.TheInside.{Inside}
+use Rattle.timetable.specs.declared.day.instance.Parts.{Parts}
+use Rattle.timetable.specs.AcceptedRows.{day_with}
 use Rattle.timetable.specs.Day.{Day, units_of}
 use Rattle.timetable.specs.Accepted.{IsDay, AreLinks, IsStocked, HaveCompositions}
 use Rattle.timetable.specs.Chains.{chains_of}
@@ -39,3 +42,12 @@ pub record Holds (a : Inside) : Type 0 where
   pub chains : a.chains.items ≡ chains_of (day_in a)
   pub handovers : a.handovers.items ≡ handovers_of (day_in a)
   pub minutes : a.minutes.items ≡ listed (minutes_of (day_in a)) (length a.stations.items)
+
+-- the parts are those of the day that the rows make
+pub record AreParts (parts : Parts) (rows : AcceptedRows) : Type 0 where
+  pub units : parts.units.items ≡ units_of (day_with rows)
+  pub incoming : parts.linking.incoming.items ≡ link_table departing_in rows.links.items (length rows.trips.items)
+  pub outgoing : parts.linking.outgoing.items ≡ link_table arriving_in rows.links.items (length rows.trips.items)
+  pub chains : parts.linking.chains.items ≡ chains_of (day_with rows)
+  pub handovers : parts.linking.handovers.items ≡ handovers_of (day_with rows)
+  pub minutes : parts.minutes.items ≡ listed (minutes_of (day_with rows)) (length rows.stations.items)

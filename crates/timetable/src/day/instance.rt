@@ -10,10 +10,11 @@ ghost use Rattle.timetable.specs.Admissible.{is_admissible};
 ghost use Rattle.timetable.specs.Compositions.{compositions_of, composition_at};
 ghost use Rattle.rail_base.specs.Answers.{Unless, Gives};
 ghost use Rattle.timetable.specs.Build.{day_of, is_memory};
-ghost use Rattle.timetable.specs.Chains.{chains_of, IsChain, AreChains};
+ghost use Rattle.timetable.specs.Chains.{chains_of, next_in, IsChain, AreChains};
 ghost use Rattle.timetable.specs.Day.{units_of, units_in, unit_count, wanted_in, wanted_of, ready_at};
 ghost use Rattle.timetable.specs.Handovers.{handovers_of, IsHandover, AreHandovers};
 ghost use Rattle.timetable.specs.Links.{incoming, outgoing};
+ghost use Rattle.timetable.specs.InstanceParts.{AreParts};
 ghost use Rattle.timetable.specs.Lists.{sum_below};
 ghost use Rattle.timetable.specs.Meaning.{IsDayOf};
 ghost use Rattle.timetable.specs.Minutes.{minutes_of, AreMinutes};
@@ -23,11 +24,11 @@ ghost use Rattle.timetable.specs.Tests.{NoneFailed, IsFirstFailed};
 ghost use Rattle.timetable.specs.Turns.{kept_of, IsKept};
 ghost use Rattle.timetable.specs.Within.{AreTypes, IsStation, IsUnitAt, IsTripAt, IsLinkAt, AreWeights};
 
-use crate::building::accepted::accept;
+use crate::building::accepted::{AcceptedRows, accept};
 use crate::building::entries::longest_between;
 use crate::building::refusal::InstanceRefusal;
 use crate::building::tables::Tables;
-use crate::day::chains::{Chain, linking_of};
+use crate::day::chains::{Chain, Linking, linking_of};
 use crate::day::minutes::{Minutes, minutes_of};
 use crate::day::records::{Handover, Link, Station, Stock, Trip, Unit, Weights};
 use compositions::{Catalogue, UnitTypes};
@@ -98,11 +99,7 @@ impl Instance {
         ensures limits { IfOk result (λ instance. IsDay instance) }
     {
         let rows = accept(alloc, tables)?;
-        let units = units_of(alloc, &rows.stock)?;
-        let trip_count = rows.trips.len() as u32;
-        let linking = linking_of(alloc, &rows.links, trip_count)?;
-        let station_count = rows.stations.len() as u32;
-        let minutes = minutes_of(alloc, &rows.trips, station_count)?;
+        let parts = parts_of(alloc, &rows)?;
         Ok(Instance {
             types: rows.types,
             stations: rows.stations,
@@ -110,13 +107,13 @@ impl Instance {
             trips: rows.trips,
             links: rows.links,
             weights: rows.weights,
-            units,
+            units: parts.units,
             catalogue: rows.catalogue,
-            incoming: linking.incoming,
-            outgoing: linking.outgoing,
-            chains: linking.chains,
-            handovers: linking.handovers,
-            minutes,
+            incoming: parts.linking.incoming,
+            outgoing: parts.linking.outgoing,
+            chains: parts.linking.chains,
+            handovers: parts.linking.handovers,
+            minutes: parts.minutes,
         })
     }
 
@@ -395,6 +392,34 @@ fn units_of(alloc: Global, stock: &[Stock]) -> Result<Vec<Unit>, NoMemory>
         push_units(&mut units, *row)?;
     }
     Ok(units)
+}
+
+/// What an instance holds beside the entries of its tables: its units, what its links give, and its departure minutes.
+#[derive(Drop)]
+struct Parts {
+    units: Vec<Unit>,
+    linking: Linking,
+    minutes: Vec<Minutes>,
+}
+
+/// The parts of the instance of these rows.
+fn parts_of(alloc: Global, rows: &AcceptedRows) -> Result<Parts, NoMemory>
+    requires stations { length rows.now.stations.items ≤ MOST_STATIONS }
+    requires trips { length rows.now.trips.items ≤ MOST_TRIPS }
+    requires links { length rows.now.links.items ≤ MOST_LINKS }
+    requires known { (t b : ℕ) → next_in rows.now.links.items t ≡ Some b → b < length rows.now.trips.items }
+    ensures { IfOk result (λ parts. AreParts parts rows.now) }
+{
+    let units = units_of(alloc, &rows.stock)?;
+    let trip_count = rows.trips.len() as u32;
+    let linking = linking_of(alloc, &rows.links, trip_count)?;
+    let station_count = rows.stations.len() as u32;
+    let minutes = minutes_of(alloc, &rows.trips, station_count)?;
+    Ok(Parts {
+        units,
+        linking,
+        minutes,
+    })
 }
 
 /// The start of the stock row of a station and a type, and 0 where there is none.
