@@ -37,6 +37,7 @@ pub mod ListedUnits
 pub mod TurnOn
 pub mod Minutes
 pub mod Listing
+pub mod InParts
 pub mod Indices
 pub mod Sorting
 pub mod Numbered

@@ -1,8 +1,15 @@
 -- The entries that the rows of the tables make, as a day.
-use Rattle.std.specs.Prelude.{◌≡◌, Result, Ok, Err}
+use Rattle.std.specs.Prelude.{◌≡◌, List, Result, Ok, Err}
+use Rattle.compositions.specs.declared.types.UnitType.{UnitType}
 use Rattle.rail_base.specs.Answers.{Fails}
 use Rattle.timetable.specs.declared.building.accepted.AcceptedRows.{AcceptedRows}
+use Rattle.timetable.specs.declared.building.accepted.Runs.{Runs}
+use Rattle.timetable.specs.declared.building.accepted.Yards.{Yards}
 use Rattle.timetable.specs.declared.building.refusal.InstanceRefusal.{InstanceRefusal}
+use Rattle.timetable.specs.declared.day.records.Link.{Link}
+use Rattle.timetable.specs.declared.day.records.Station.{Station}
+use Rattle.timetable.specs.declared.day.records.Stock.{Stock}
+use Rattle.timetable.specs.declared.day.records.Trip.{Trip}
 use Rattle.timetable.specs.Build.{is_memory}
 use Rattle.timetable.specs.Day.{Day}
 
@@ -21,3 +28,18 @@ day_with rows =
 abbrev pub GivesDay : Result AcceptedRows InstanceRefusal → Result Day InstanceRefusal → Type 0
 GivesDay (Ok rows) said = said ≡ Ok (day_with rows)
 GivesDay (Err refusal) said = Fails is_memory refusal said
+
+-- the types, the stations and the stock of yards
+abbrev pub lists_in : Yards → List UnitType × List Station × List Stock
+lists_in yards = (yards.types, yards.stations, yards.stock.items)
+
+-- the yards that were said, or their refusal; want of memory may come anyhow
+abbrev pub GivesYards : Result Yards InstanceRefusal
+    → Result (List UnitType × List Station × List Stock) InstanceRefusal → Type 0
+GivesYards (Ok yards) said = said ≡ Ok (lists_in yards)
+GivesYards (Err refusal) said = Fails is_memory refusal said
+
+-- the trips and links that were said, or their refusal; want of memory may come anyhow
+abbrev pub GivesRuns : Result Runs InstanceRefusal → Result (List Trip × List Link) InstanceRefusal → Type 0
+GivesRuns (Ok runs) said = said ≡ Ok (runs.trips.items, runs.links.items)
+GivesRuns (Err refusal) said = Fails is_memory refusal said

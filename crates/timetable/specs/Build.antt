@@ -14,6 +14,7 @@ use Rattle.rail_csv.specs.declared.rows.TripRow.{TripRow}
 use Rattle.rail_csv.specs.declared.rows.LinkRow.{LinkRow}
 use Rattle.rail_csv.specs.declared.rows.WeightsRow.{WeightsRow}
 use Rattle.rail_csv.specs.declared.rows.Table.TheVariants as tables
+use Rattle.timetable.specs.declared.day.records.Link.{Link}
 use Rattle.timetable.specs.declared.day.records.Station.{Station}
 use Rattle.timetable.specs.declared.day.records.Stock.{Stock}
 use Rattle.timetable.specs.declared.day.records.Trip.{Trip}
@@ -147,6 +148,24 @@ trips_in stations types rows = accept_each (accept_trip stations types) [] rows
 
 abbrev pub weights_in : WeightsRow → Weights
 weights_in row = record { carriage = row.carriage; shortage = row.shortage; shunting = row.shunting }
+
+-- The types, stations and stock that rows make, and then the number of units.
+unfoldable pub yards_in : List TypeRow → List StationRow → List StockRow
+    → Result (List UnitType × List Station × List Stock) InstanceRefusal
+yards_in type_rows station_rows stock_rows = do
+  types ← types_in type_rows
+  stations ← stations_in station_rows
+  stock ← stock_in stations types stock_rows
+  if nat_lt MOST_UNITS (starts_of stock) then Err TooManyUnits else Ok (types, stations, stock)
+
+-- The trips and links over these types and stations: the number of compositions, trips, and then links.
+unfoldable pub runs_in : List UnitType → List Station → List TripRow → List LinkRow
+    → Result (List Trip × List Link) InstanceRefusal
+runs_in types stations trip_rows link_rows = do
+  catalogue ← catalogue_in types stations
+  trips ← trips_in stations types trip_rows
+  links ← links_in trips link_rows
+  Ok (trips, links)
 
 -- The day over these types, stations and stock: the number of compositions, trips, and then links.
 abbrev pub day_over : List UnitType → List Station → List Stock → List TripRow → List LinkRow → WeightsRow

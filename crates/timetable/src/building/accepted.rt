@@ -1,24 +1,25 @@
 //! The six tables together: the first test that fails, or their rows as entries of a day.
 
-ghost use Rattle.std.specs.Prelude.{◌≡◌, ◌≤◌, length, IfOk};
+ghost use Rattle.std.specs.Prelude.{◌≡◌, ◌≤◌, [], length, Ok, IfOk};
+ghost use Rattle.std.specs.Result.{result_and};
 ghost use Rattle.rail_csv.specs.Rows.{AreTypeRows, AreStationRows, AreStockRows, AreTripRows, AreLinkRows};
 ghost use Rattle.rail_csv.specs.Rows.{IsWeightsRow};
 ghost use Rattle.compositions.specs.Catalogue.{catalogue_of};
-ghost use Rattle.timetable.specs.AcceptedRows.{GivesDay};
-ghost use Rattle.timetable.specs.Build.{day_of, day_over, weights_in};
+ghost use Rattle.timetable.specs.AcceptedRows.{GivesDay, GivesRuns, GivesYards, lists_in};
+ghost use Rattle.timetable.specs.Build.{day_of, yards_in, runs_in, weights_in};
 ghost use Rattle.timetable.specs.Compositions.{greatest_in};
 
 use crate::building::entries::{
-    are_too_many, catalogue_of, stations_of, stock_of, trips_of, types_of,
+    add_stations, add_stock, add_types, are_too_many, catalogue_of, trips_of,
 };
 use crate::building::link_rows::links_of;
 use crate::building::named::Named;
 use crate::building::refusal::InstanceRefusal;
 use crate::building::tables::{Rows, Tables};
 use crate::day::records::{Link, Station, Stock, Trip, Weights};
-use compositions::{Catalogue, UnitTypes};
+use compositions::{Catalogue, UnitType, UnitTypes};
 use rail_base::limits::MOST_STATIONS;
-use rail_csv::{LinkRow, TripRow, WeightsRow};
+use rail_csv::{LinkRow, StationRow, StockRow, TripRow, TypeRow, WeightsRow};
 use std::alloc::Global;
 
 /// The entries of a day that the rows of its tables make, and the catalogue of its compositions.
@@ -35,7 +36,6 @@ pub(crate) struct AcceptedRows {
 
 /// The entries that these tables make, or the first test that fails: types, stations, stock, the number of units, the
 /// catalogue, trips, and then links. `NoMemory` may come at any of them.
-#[tactic(auto, unfolding(crate::specs::Build::day_of))]
 pub(crate) fn accept(alloc: Global, tables: Tables) -> Result<AcceptedRows, InstanceRefusal>
     requires types { AreTypeRows tables.types }
     requires stations { AreStationRows tables.stations }
@@ -47,54 +47,125 @@ pub(crate) fn accept(alloc: Global, tables: Tables) -> Result<AcceptedRows, Inst
     ensures catalogue { IfOk result (λ rows.
         rows.catalogue ≡ catalogue_of rows.types (greatest_in rows.stations.items)) }
 {
-    let types = types_of(alloc, tables.types)?;
-    let stations = stations_of(alloc, tables.stations)?;
-    let stock = stock_of(alloc, &stations, &types, tables.stock)?;
-    if are_too_many(&stock) {
-        return Err(InstanceRefusal::TooManyUnits);
-    }
-    let yards = Yards {
-        types: UnitTypes::new(types.into_entries()),
+    let Tables {
+        types,
         stations,
         stock,
-    };
-    accept_runs(alloc, yards, tables.trips, tables.links, tables.weights)
+        trips,
+        links,
+        weights,
+    } = tables;
+    let Yards {
+        types,
+        stations,
+        stock,
+    } = yards_of(alloc, types, stations, stock)?;
+    let types = UnitTypes::new(types.into_entries());
+    let Runs {
+        catalogue,
+        trips,
+        links,
+    } = runs_of(alloc, &types, &stations, trips, links.items())?;
+    Ok(AcceptedRows {
+        types,
+        stations: stations.into_entries(),
+        stock,
+        catalogue,
+        trips,
+        links,
+        weights: weights_of(weights),
+    })
 }
 
 /// The unit types, the stations and what stands in their yards: the entries of a day before its trips.
 #[derive(Drop)]
 struct Yards {
-    types: UnitTypes,
+    types: Named<UnitType>,
     stations: Named<Station>,
     stock: Vec<Stock>,
 }
 
-/// The entries of a day over these yards, or the first test that fails: the catalogue, trips, and then links.
-fn accept_runs(
+impl Yards {
+    /// Adds the entries of these rows to yards that have none. Where a test fails, those before it stay.
+    fn add(
+        &mut self,
+        alloc: Global,
+        types: Vec<TypeRow>,
+        stations: Vec<StationRow>,
+        stock: &[StockRow],
+    ) -> Result<(), InstanceRefusal>
+        requires empty { lists_in self.old ≡ ([], [], []) }
+        requires types { AreTypeRows types.items }
+        requires stations { AreStationRows stations.items }
+        requires stock { AreStockRows stock.now }
+        ensures { GivesYards (result_and result (Ok self.new)) (yards_in types.items stations.items stock.now) }
+    {
+        add_types(alloc, &mut self.types, types)?;
+        add_stations(alloc, &mut self.stations, stations)?;
+        add_stock(&self.stations, &self.types, &mut self.stock, stock)?;
+        if are_too_many(&self.stock) {
+            return Err(InstanceRefusal::TooManyUnits);
+        }
+        Ok(())
+    }
+}
+
+/// The yards that these rows make, or the first test that fails: types, stations, stock, and then the number of units.
+fn yards_of(
     alloc: Global,
-    yards: Yards,
-    trips: Rows<TripRow>,
-    links: Rows<LinkRow>,
-    weights: WeightsRow,
-) -> Result<AcceptedRows, InstanceRefusal>
-    requires stations { length yards.stations ≤ MOST_STATIONS }
-    requires trips { AreTripRows trips }
-    requires links { AreLinkRows links }
-    ensures exact { GivesDay result (day_over yards.types yards.stations yards.stock.items trips links weights) }
-    ensures catalogue { IfOk result (λ rows.
-        rows.catalogue ≡ catalogue_of rows.types (greatest_in rows.stations.items)) }
+    types: Rows<TypeRow>,
+    stations: Rows<StationRow>,
+    stock: Rows<StockRow>,
+) -> Result<Yards, InstanceRefusal>
+    requires types { AreTypeRows types }
+    requires stations { AreStationRows stations }
+    requires stock { AreStockRows stock }
+    ensures { GivesYards result (yards_in types stations stock) }
 {
-    let catalogue = catalogue_of(alloc, &yards.types, yards.stations.entries())?;
-    let trips = trips_of(alloc, &yards.stations, yards.types.items(), trips)?;
-    let links = links_of(alloc, &trips, links.items())?;
-    Ok(AcceptedRows {
-        types: yards.types,
-        stations: yards.stations.into_entries(),
-        stock: yards.stock,
+    let mut yards = Yards {
+        types: Named::new(alloc),
+        stations: Named::new(alloc),
+        stock: Vec::new(alloc),
+    };
+    let added = yards.add(
+        alloc,
+        types.into_items(),
+        stations.into_items(),
+        stock.items(),
+    );
+    added.and(Ok(yards))
+}
+
+/// The trips of a day and their links, and the catalogue of the compositions that may run on them.
+#[derive(Drop)]
+struct Runs {
+    catalogue: Catalogue,
+    trips: Vec<Trip>,
+    links: Vec<Link>,
+}
+
+/// The trips and links over these types and stations, or the first test that fails: the catalogue, trips, and then
+/// links.
+fn runs_of(
+    alloc: Global,
+    types: &UnitTypes,
+    stations: &Named<Station>,
+    trips: Rows<TripRow>,
+    links: &[LinkRow],
+) -> Result<Runs, InstanceRefusal>
+    requires stations { length stations.now ≤ MOST_STATIONS }
+    requires trips { AreTripRows trips }
+    requires links { AreLinkRows links.now }
+    ensures exact { GivesRuns result (runs_in types.now stations.now trips links.now) }
+    ensures catalogue { IfOk result (λ runs. runs.catalogue ≡ catalogue_of types.now (greatest_in stations.now)) }
+{
+    let catalogue = catalogue_of(alloc, types, stations.entries())?;
+    let trips = trips_of(alloc, stations, types.items(), trips)?;
+    let links = links_of(alloc, &trips, links)?;
+    Ok(Runs {
         catalogue,
         trips: trips.into_entries(),
         links,
-        weights: weights_of(weights),
     })
 }
 

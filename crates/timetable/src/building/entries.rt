@@ -4,9 +4,9 @@ ghost use Rattle.std.specs.Prelude.{◌≡◌, ◌+◌, ◌<◌, ◌≤◌, ◌+
 ghost use Rattle.std.specs.Result.{result_and};
 ghost use Rattle.std.specs.Str.{bytes_eq};
 ghost use Rattle.timetable.specs.Build.{accept_type, accept_station, has_stock, accept_stock, starts_of, platform_at};
-ghost use Rattle.timetable.specs.Build.{has_fitting, accept_run, accept_trip, types_in, stations_in, stock_in};
-ghost use Rattle.timetable.specs.Build.{trips_in, catalogue_in, is_memory};
-ghost use Rattle.rail_base.specs.Answers.{Gives, GivesRows};
+ghost use Rattle.timetable.specs.Build.{has_fitting, accept_run, accept_trip, trips_in, catalogue_in};
+ghost use Rattle.timetable.specs.Build.{is_memory};
+ghost use Rattle.rail_base.specs.Answers.{Gives};
 ghost use Rattle.compositions.specs.Catalogue.{catalogue_of};
 ghost use Rattle.timetable.specs.Compositions.{greatest_in};
 ghost use Rattle.timetable.specs.NamedEntries.{has_name, find_name};
@@ -61,7 +61,7 @@ fn accept_type(types: &Named<UnitType>, row: TypeRow) -> Result<UnitType, Instan
 }
 
 /// Adds the unit types of the rows to those of the rows before them.
-fn add_types(
+pub fn add_types(
     alloc: Global,
     types: &mut Named<UnitType>,
     rows: Vec<TypeRow>,
@@ -74,17 +74,6 @@ fn add_types(
         types.push(alloc, accepted)?;
     }
     Ok(())
-}
-
-/// The unit types of the rows.
-#[tactic(auto, unfolding(crate::specs::Build::types_in))]
-pub fn types_of(alloc: Global, rows: Rows<TypeRow>) -> Result<Named<UnitType>, InstanceRefusal>
-    requires { length rows ≤ MOST_TYPES }
-    ensures { Gives is_memory result (types_in rows) }
-{
-    let mut types = Named::new(alloc);
-    let added = add_types(alloc, &mut types, rows.into_items());
-    added.and(Ok(types))
 }
 
 /// The station of a row, after those of the rows before it.
@@ -108,7 +97,7 @@ fn accept_station(stations: &Named<Station>, row: StationRow) -> Result<Station,
 }
 
 /// Adds the stations of the rows to those of the rows before them.
-fn add_stations(
+pub fn add_stations(
     alloc: Global,
     stations: &mut Named<Station>,
     rows: Vec<StationRow>,
@@ -122,17 +111,6 @@ fn add_stations(
         stations.push(alloc, accepted)?;
     }
     Ok(())
-}
-
-/// The stations of the rows.
-#[tactic(auto, unfolding(crate::specs::Build::stations_in))]
-pub fn stations_of(alloc: Global, rows: Rows<StationRow>) -> Result<Named<Station>, InstanceRefusal>
-    requires { length rows ≤ MOST_STATIONS }
-    ensures { Gives is_memory result (stations_in rows) }
-{
-    let mut stations = Named::new(alloc);
-    let added = add_stations(alloc, &mut stations, rows.into_items());
-    added.and(Ok(stations))
 }
 
 /// The number of the station with the name.
@@ -206,40 +184,24 @@ fn accept_stock(
     })
 }
 
-/// The stock of rows that are only looked at, so that an early end drops none of them.
-#[tactic(auto, unfolding(crate::specs::Build::stock_in))]
-fn stock_in(
-    alloc: Global,
+/// Adds the stock of the rows to that of the rows before them.
+pub fn add_stock(
     stations: &Named<Station>,
     types: &Named<UnitType>,
+    stock: &mut Vec<Stock>,
     rows: &[StockRow],
-) -> Result<Vec<Stock>, InstanceRefusal>
+) -> Result<(), InstanceRefusal>
     requires stations { length stations.now ≤ MOST_STATIONS }
     requires types { length types.now ≤ MOST_TYPES }
-    requires rows { length rows.now ≤ MOST_STOCK_ROWS }
-    ensures { GivesRows is_memory result (stock_in stations.now types.now rows.now) }
+    requires rows { length stock.old.items + length rows.now ≤ MOST_STOCK_ROWS }
+    ensures { Gives is_memory (result_and result (Ok stock.new.items))
+        (accept_each (accept_stock stations.now types.now) stock.old.items rows.now) }
 {
-    let mut stock = Vec::new(alloc);
     for row in rows {
-        let accepted = accept_stock(stations, types, &stock, row)?;
+        let accepted = accept_stock(stations, types, stock, row)?;
         stock.push(accepted)?;
     }
-    Ok(stock)
-}
-
-/// The stock of the rows.
-pub fn stock_of(
-    alloc: Global,
-    stations: &Named<Station>,
-    types: &Named<UnitType>,
-    rows: Rows<StockRow>,
-) -> Result<Vec<Stock>, InstanceRefusal>
-    requires stations { length stations.now ≤ MOST_STATIONS }
-    requires types { length types.now ≤ MOST_TYPES }
-    requires rows { length rows ≤ MOST_STOCK_ROWS }
-    ensures { GivesRows is_memory result (stock_in stations.now types.now rows) }
-{
-    stock_in(alloc, stations, types, rows.items())
+    Ok(())
 }
 
 /// Whether more units stand at the stations at the start than a day may have.

@@ -1,30 +1,56 @@
 -- The entries are those of the day, and what is asked of them keeps within the limits.
-use Rattle.std.proofs.Common.{◌∙◌, length, ap, arith}
+use Rattle.std.proofs.Common.{◌≡◌, ◌∙◌, List, Ok, length, ap, subst, sym, arith}
 use Rattle.std.specs.List.{list_all}
+use Rattle.std.proofs.lemmas.Result.{err_from_is_err_and}
 use Rattle.compositions.specs.UnitTypes.{is_within_limits}
-use Rattle.timetable.specs.Within.{AreTypes, AreStations}
+use Rattle.compositions.specs.declared.types.UnitType.{UnitType}
+use Rattle.rail_base.specs.Answers.{Fails}
+use Rattle.rail_csv.specs.declared.rows.LinkRow.{LinkRow}
+use Rattle.timetable.specs.Build.{yards_in, runs_in, is_memory}
+use Rattle.timetable.specs.Within.{AreTypes}
+use Rattle.timetable.specs.declared.building.accepted.Yards.{Yards}
+use Rattle.timetable.specs.declared.building.tables.Tables.{Tables}
+use Rattle.timetable.specs.declared.day.records.Station.{Station}
 use Rattle.timetable.proofs.Entries.{are_types, types_within_limits, are_stations}
+use Rattle.timetable.proofs.InParts.{yard_types, yard_stations, yards_fail, runs_fail, runs_make}
 use Rattle.timetable.proofs.building.accepted.accept.Goals as goal
 
-pub new-requires-clause-few : goal.new-requires-clause-few
-new-requires-clause-few c =
-    let types : AreTypes c.in_ok-types.types = are_types c.args.tables.types c.in_ok-types.types c.requires.types c.in_ok-types.ensures in
+pub returns-in_err-types-clause-exact : goal.returns-in_err-types-clause-exact
+returns-in_err-types-clause-exact c =
+    let p = err_from_is_err_and c.from_residual.result c.from_residual.ensures.1 in
+    rw (p.1, p.2) (yards_fail c.args.tables _ c.in_err-types.ensures)
+
+pub new-types-requires-clause-few : goal.new-types-requires-clause-few
+new-types-requires-clause-few c =
+    let types : AreTypes c.in_ok-types.field-0.types = are_types c.args.tables.types _ c.requires.types (yard_types _ _ _ _ _ _ c.in_ok-types.ensures) in
     omega (arith, types.few, ap length c.into_entries.ensures)
 
-pub new-requires-clause-limits : goal.new-requires-clause-limits
-new-requires-clause-limits c = ap (list_all is_within_limits) c.into_entries.ensures ∙ types_within_limits c.args.tables.types c.in_ok-types.types c.requires.types c.in_ok-types.ensures
+pub new-types-requires-clause-limits : goal.new-types-requires-clause-limits
+new-types-requires-clause-limits c =
+    ap (list_all is_within_limits) c.into_entries.ensures ∙ types_within_limits c.args.tables.types _ c.requires.types (yard_types _ _ _ _ _ _ c.in_ok-types.ensures)
 
-pub stock_of-requires-clause-types : goal.stock_of-requires-clause-types
-stock_of-requires-clause-types c =
-    let types : AreTypes c.in_ok-types.types = are_types c.args.tables.types c.in_ok-types.types c.requires.types c.in_ok-types.ensures in
-    omega (arith, types.few)
+pub runs_of-requires-clause-stations : goal.runs_of-requires-clause-stations
+runs_of-requires-clause-stations c = (are_stations c.args.tables.stations _ c.requires.stations (yard_stations _ _ _ _ _ _ c.in_ok-types.ensures)).few
 
-pub stock_of-requires-clause-stations : goal.stock_of-requires-clause-stations
-stock_of-requires-clause-stations c =
-    let stations : AreStations c.in_ok-stations.stations = are_stations c.args.tables.stations c.in_ok-stations.stations c.requires.stations c.in_ok-stations.ensures in
-    omega (arith, stations.few)
+pub returns-in_err-catalogue-clause-exact : goal.returns-in_err-catalogue-clause-exact
+returns-in_err-catalogue-clause-exact c =
+    let p = err_from_is_err_and c.from_residual-in_err-catalogue.result c.from_residual-in_err-catalogue.ensures.1 in
+    let types : c.new-types.result ≡ c.in_ok-types.field-0.types = c.new-types.ensures ∙ c.into_entries.ensures in
+    rw (p.1, p.2) (runs_fail c.args.tables _ _ _ c.in_ok-types.ensures c.in_err-catalogue.field-0.0
+    (subst (λ (types : List UnitType). Fails is_memory c.in_err-catalogue.field-0.0 (runs_in types c.in_ok-types.field-0.stations c.args.tables.trips c.args.tables.links)) types
+    (subst (λ (links : List LinkRow). Fails is_memory c.in_err-catalogue.field-0.0 (runs_in c.new-types.result c.in_ok-types.field-0.stations c.args.tables.trips links)) c.items.ensures c.in_err-catalogue.ensures.exact)))
 
-pub accept_runs-requires-clause-stations : goal.accept_runs-requires-clause-stations
-accept_runs-requires-clause-stations c =
-    let stations : AreStations c.in_ok-stations.stations = are_stations c.args.tables.stations c.in_ok-stations.stations c.requires.stations c.in_ok-stations.ensures in
-    omega (arith, stations.few)
+pub returns-clause-exact : goal.returns-clause-exact
+returns-clause-exact c =
+    let tables : Tables = c.args.tables in
+    let yards : Yards = c.in_ok-types.field-0 in
+    let types : c.new-types.result ≡ yards.types = c.new-types.ensures ∙ c.into_entries.ensures in
+    let stations : c.into_entries-2.result.items ≡ yards.stations = c.into_entries-2.ensures in
+    let made : yards_in tables.types tables.stations tables.stock ≡ Ok (c.new-types.result, c.into_entries-2.result.items, yards.stock.items) =
+    c.in_ok-types.ensures
+    ∙ ap (λ (types : List UnitType). Ok (types, yards.stations, yards.stock.items)) (sym types)
+    ∙ ap (λ (stations : List Station). Ok (c.new-types.result, stations, yards.stock.items)) (sym stations) in
+    rw (c.weights_of.ensures) (runs_make tables _ _ _ made _ _
+    (ap (λ (stations : List Station). runs_in c.new-types.result stations tables.trips tables.links) stations
+    ∙ ap (λ (links : List LinkRow). runs_in c.new-types.result yards.stations tables.trips links) (sym c.items.ensures)
+    ∙ c.in_ok-catalogue.ensures.exact))
