@@ -111,6 +111,14 @@ accept_run stations types row trip =
     else if has_fitting types (min (platform_at stations trip.from) (platform_at stations trip.to)) then Ok trip
     else Err (NoComposition row)
 
+-- the stations of a row's trip, where its name is new
+unfoldable pub ends_in : List Station → List Trip → TripRow → Result (ℕ × ℕ) InstanceRefusal
+ends_in stations before row =
+    if has_name (λ t. t.name) before row.name then Err (RepeatedName tables.Trips (row_after before)) else do
+      from ← found_or (find_name (λ s. s.name) stations row.from) (UnknownName tables.Trips (row_after before) 1)
+      to ← found_or (find_name (λ s. s.name) stations row.to) (UnknownName tables.Trips (row_after before) 3)
+      Ok (from, to)
+
 -- the trip of a row between two stations
 abbrev pub trip_between : TripRow → ℕ → ℕ → Trip
 trip_between row from to =

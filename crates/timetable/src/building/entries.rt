@@ -4,7 +4,7 @@ ghost use Rattle.std.specs.Prelude.{◌≡◌, ◌+◌, ◌<◌, ◌≤◌, ◌+
 ghost use Rattle.std.specs.Result.{result_and};
 ghost use Rattle.std.specs.Str.{bytes_eq};
 ghost use Rattle.timetable.specs.Build.{accept_type, accept_station, has_stock, accept_stock, starts_of, platform_at};
-ghost use Rattle.timetable.specs.Build.{has_fitting, accept_run, accept_trip, trips_in, catalogue_in};
+ghost use Rattle.timetable.specs.Build.{has_fitting, accept_run, ends_in, accept_trip, trips_in, catalogue_in};
 ghost use Rattle.timetable.specs.Build.{is_memory};
 ghost use Rattle.rail_base.specs.Answers.{Gives};
 ghost use Rattle.compositions.specs.Catalogue.{catalogue_of};
@@ -264,18 +264,17 @@ pub fn longest_between(stations: &[Station], from: StationNo, to: StationNo) -> 
     from.min(to)
 }
 
-/// The trip, once its times and stations passed the tests of its row.
+/// Tests a trip's stations and times, and whether a composition fits its platforms.
 #[tactic(auto, unfolding(crate::specs::Build::accept_run))]
-fn accept_run(
+fn check_run(
     stations: &[Station],
     types: &[UnitType],
     row: u32,
-    trip: Trip,
-) -> Result<Trip, InstanceRefusal>
-    requires from { trip.from < length stations.now }
-    requires to { trip.to < length stations.now }
-    ensures value { result ≡ accept_run stations.now types.now row trip }
-    ensures same { IfOk result (λ t. t ≡ trip) }
+    trip: &Trip,
+) -> Result<(), InstanceRefusal>
+    requires from { trip.now.from < length stations.now }
+    requires to { trip.now.to < length stations.now }
+    ensures { result_and result (Ok trip.now) ≡ accept_run stations.now types.now row trip.now }
 {
     if trip.from == trip.to {
         return Err(InstanceRefusal::SameStation(row));
@@ -286,21 +285,22 @@ fn accept_run(
     if !has_fitting(types, longest_between(stations, trip.from, trip.to)) {
         return Err(InstanceRefusal::NoComposition(row));
     }
-    Ok(trip)
+    Ok(())
 }
 
-/// The trip of a row, after those of the rows before it.
-#[tactic(auto, unfolding(crate::specs::Build::accept_trip))]
-fn accept_trip(
+/// The stations that a row's trip leaves from and goes to, where its name is not that of a row before it.
+#[tactic(auto, unfolding(crate::specs::Build::ends_in))]
+fn ends_of(
     stations: &Named<Station>,
-    types: &[UnitType],
     before: &Named<Trip>,
-    row: TripRow,
-) -> Result<Trip, InstanceRefusal>
+    row: &TripRow,
+) -> Result<(StationNo, StationNo), InstanceRefusal>
     requires stations { length stations.now ≤ MOST_STATIONS }
     requires before { length before.now ≤ MOST_TRIPS }
-    ensures value { result ≡ accept_trip stations.now types.now before.now row }
-    ensures new { IfOk result (λ t. has_name (λ t. t.name) before.now t.name ≡ false) }
+    ensures value { result ≡ ends_in stations.now before.now row.now }
+    ensures new { IfOk result (λ _. has_name (λ t. t.name) before.now row.now.name ≡ false) }
+    ensures from { IfOk result (λ ends. ends.0 < length stations.now) }
+    ensures to { IfOk result (λ ends. ends.1 < length stations.now) }
 {
     let number = row_after(before.len());
     if before.has(&row.name) {
@@ -323,6 +323,23 @@ fn accept_trip(
             column: 3,
         });
     };
+    Ok((from, to))
+}
+
+/// The trip of a row, after those of the rows before it.
+#[tactic(auto, unfolding(crate::specs::Build::accept_trip, crate::specs::Build::ends_in))]
+fn accept_trip(
+    stations: &Named<Station>,
+    types: &[UnitType],
+    before: &Named<Trip>,
+    row: TripRow,
+) -> Result<Trip, InstanceRefusal>
+    requires stations { length stations.now ≤ MOST_STATIONS }
+    requires before { length before.now ≤ MOST_TRIPS }
+    ensures value { result ≡ accept_trip stations.now types.now before.now row }
+    ensures new { IfOk result (λ t. has_name (λ t. t.name) before.now t.name ≡ false) }
+{
+    let (from, to) = ends_of(stations, before, &row)?;
     let trip = Trip {
         name: row.name,
         from,
@@ -333,7 +350,8 @@ fn accept_trip(
         demand: row.demand,
         first: row.first,
     };
-    accept_run(stations.entries(), types, number, trip)
+    let checked = check_run(stations.entries(), types, row_after(before.len()), &trip);
+    checked.and(Ok(trip))
 }
 
 /// Adds the trips of the rows to those of the rows before them.
