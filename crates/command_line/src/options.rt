@@ -2,7 +2,7 @@
 
 ghost use Rattle.std.specs.Prelude.{◌≡◌, IfOk};
 ghost use Rattle.clap.specs.Words.{app_of, with_rule};
-ghost use Rattle.command_line.specs.Apps.{app, day_app, first_id, folder_app, nodes_rule, rounds_rule, words_alone};
+ghost use Rattle.command_line.specs.Apps.{app, first_id, nodes_rule, rounds_rule, words_alone};
 
 use crate::form::Form;
 use clap::{Arg, Command};
@@ -12,15 +12,16 @@ use std::alloc::{AllocError, Global};
 pub(crate) fn command<'a>(alloc: Global, form: Form) -> Result<Command<'a>, AllocError>
     ensures { IfOk result (λ command. app_of command ≡ app form) }
 {
+    let first = words_alone(alloc).arg(Arg::new(alloc, first_id(form)))?;
     match form {
-        Form::Folder => folder(alloc),
-        Form::FolderSearch => with_options(alloc, folder(alloc)?),
-        Form::DaySearch => with_options(alloc, day(alloc)?),
+        Form::Folder => Ok(first),
+        Form::FolderSearch => with_options(alloc, first),
+        Form::DaySearch => with_options(alloc, first.arg(Arg::new(alloc, "trips"))?),
     }
 }
 
 /// The name of the first positional word.
-pub(crate) fn first_id(form: Form) -> &'static str
+pub(crate) fn first_id<'a>(form: Form) -> &'a str
     ensures { result.now ≡ first_id form }
 {
     match form {
@@ -28,22 +29,6 @@ pub(crate) fn first_id(form: Form) -> &'static str
         Form::FolderSearch => "dir",
         Form::DaySearch => "seed",
     }
-}
-
-/// `DIR`.
-fn folder<'a>(alloc: Global) -> Result<Command<'a>, AllocError>
-    ensures { IfOk result (λ command. app_of command ≡ folder_app) }
-{
-    let dir = Arg::new(alloc, "dir");
-    words_alone(alloc).arg(dir)
-}
-
-/// `SEED TRIPS`.
-fn day<'a>(alloc: Global) -> Result<Command<'a>, AllocError>
-    ensures { IfOk result (λ command. app_of command ≡ day_app) }
-{
-    let seeded = words_alone(alloc).arg(Arg::new(alloc, "seed"))?;
-    seeded.arg(Arg::new(alloc, "trips"))
 }
 
 /// A command with nothing of its own: no name before the words, and no word that asks for help.
@@ -59,6 +44,7 @@ fn words_alone<'a>(alloc: Global) -> Command<'a>
 fn with_options<'a>(alloc: Global, command: Command<'a>) -> Result<Command<'a>, AllocError>
     ensures { IfOk result (λ r. app_of r ≡ with_rule (with_rule (app_of command.entry) nodes_rule) rounds_rule) }
 {
-    let with_nodes = command.arg(Arg::new(alloc, "nodes").long("nodes"))?;
-    with_nodes.arg(Arg::new(alloc, "rounds").long("rounds"))
+    command
+        .arg(Arg::new(alloc, "nodes").long("nodes"))?
+        .arg(Arg::new(alloc, "rounds").long("rounds"))
 }
