@@ -82,13 +82,11 @@ fn command(alloc: Global, words: &Words) -> Result<Command, WordsRefusal>
 fn form_of(word: &str) -> Form
     ensures { result ≡ form_of word.now }
 {
-    if word == "plan" {
-        return Form::FolderSearch;
+    match word {
+        "plan" => Form::FolderSearch,
+        "trial" => Form::DaySearch,
+        _ => Form::Folder,
     }
-    if word == "trial" {
-        return Form::DaySearch;
-    }
-    Form::Folder
 }
 
 /// The command of a command word and the texts after it.
@@ -112,22 +110,14 @@ fn in_folder(alloc: Global, word: &str, dir: &str) -> Result<Command, WordsRefus
     ensures { Gives is_memory result (ok_or (in_folder word.now dir.now) NotUnderstood) }
 {
     let dir = text(alloc, dir)?;
-    if word == "simulate" {
-        return Ok(Command::Simulate { dir });
+    match word {
+        "simulate" => Ok(Command::Simulate { dir }),
+        "check" => Ok(Command::Check { dir }),
+        "duties" => Ok(Command::Duties { dir }),
+        "yards" => Ok(Command::Yards { dir }),
+        "costs" => Ok(Command::Costs { dir }),
+        _ => Err(WordsRefusal::NotUnderstood),
     }
-    if word == "check" {
-        return Ok(Command::Check { dir });
-    }
-    if word == "duties" {
-        return Ok(Command::Duties { dir });
-    }
-    if word == "yards" {
-        return Ok(Command::Yards { dir });
-    }
-    if word == "costs" {
-        return Ok(Command::Costs { dir });
-    }
-    Err(WordsRefusal::NotUnderstood)
 }
 
 /// The command `plan DIR`.
