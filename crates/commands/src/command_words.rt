@@ -1,13 +1,14 @@
 //! The command that the words of a command line make.
 
-ghost use Rattle.std.specs.Prelude.{◌≡◌, IfOk};
+ghost use Rattle.std.specs.Prelude.{◌≡◌, IfOk, map};
 ghost use Rattle.std.specs.Option.{ok_or};
 ghost use Rattle.rail_base.specs.Answers.{Gives};
+ghost use Rattle.command_line.specs.Parts.{parts_of};
 ghost use Rattle.command_line.specs.Texts.{texts_in};
 ghost use Rattle.commands.specs.declared.command_words.WordsRefusal.TheVariants.{NotUnderstood};
 ghost use Rattle.commands.specs.PlainForm.{Reads};
-ghost use Rattle.commands.specs.Commands.{command_of, day_of, form_of, in_folder, is_memory, named, nodes_of};
-ghost use Rattle.commands.specs.Commands.{plan_of, rounds_of, trial_of, trips_of};
+ghost use Rattle.commands.specs.Commands.{command_of, day_of, form_of, in_folder, is_memory, named};
+ghost use Rattle.commands.specs.Commands.{named_plain, nodes_of, plan_of, rounds_of, trial_of, trips_of};
 
 use crate::command::{Command, MOST_SEED, Text, USUAL_NODES, USUAL_ROUNDS};
 use crate::numbers::{number, option_number};
@@ -61,20 +62,31 @@ pub fn read_words(alloc: Global, words: &Words) -> Result<Command, WordsRefusal>
     command(alloc, words)
 }
 
-/// The command of the words: `clap` takes apart those that are of the plain form.
+/// The command of the words.
 fn command(alloc: Global, words: &Words) -> Result<Command, WordsRefusal>
     ensures { Gives is_memory result (ok_or (command_of words.now) NotUnderstood) }
 {
     if words.len() < 2 {
         return Err(WordsRefusal::NotUnderstood);
     }
-    let word = words.at(1);
-    let form = form_of(word);
     let rest = words_after(alloc, words, 2)?;
-    if !is_plain(form, rest.as_slice()) {
+    plain_command(alloc, words.at(1), rest.as_slice())
+}
+
+/// The command of a command word and the words after it, of which `clap` takes apart those that are of the plain form.
+fn plain_command<'a>(
+    alloc: Global,
+    word: &str,
+    rest: &'a [&'a str],
+) -> Result<Command, WordsRefusal>
+    ensures { Gives is_memory result
+        (ok_or (named_plain word.now (parts_of (map (λ word. word.now) rest.now))) NotUnderstood) }
+{
+    let form = form_of(word);
+    if !is_plain(form, rest) {
         return Err(WordsRefusal::NotUnderstood);
     }
-    let taken = take_apart(alloc, form, rest.as_slice())?;
+    let taken = take_apart(alloc, form, rest)?;
     named(alloc, word, taken)
 }
 
