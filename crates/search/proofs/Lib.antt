@@ -1,3 +1,5 @@
+-- results that are returned as they are
+pub mod Returning
 -- orders of integers, and whether a bound leaves room for a better solution
 pub mod Below
 -- offers and evaluations

@@ -11,5 +11,6 @@ pub mod Desks
 -- the nodes of a search, and those of them that may be branched
 pub mod Nodes
 pub mod Frontiers
+pub mod Putting
 -- the end of a search
 pub mod Ends

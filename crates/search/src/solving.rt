@@ -10,11 +10,11 @@ ghost use Rattle.branch_tree.specs.Trees.{branchings_of};
 ghost use Rattle.search.specs.Questions.{AreAsked, MayBeAsked, in_rounds};
 ghost use Rattle.search.specs.Ends.{HasEnded, HaveKeptUp, found_by, least_of, lesser, made_or_open};
 ghost use Rattle.search.specs.Frontiers.{IsEntered, IsOpenAt};
-ghost use Rattle.search.specs.Nodes.{IsDivisionAt, IsLeafOf, IsSearched, branched, tree_node, tree_nodes};
+ghost use Rattle.search.specs.Putting.{IsPut};
+ghost use Rattle.search.specs.Nodes.{IsDivisionAt, IsLeafOf, IsSearched, tree_node, tree_nodes};
 ghost use Rattle.search.specs.Offers.{IsOffered};
 ghost use Rattle.search.specs.Conclusions.{IsSolved, nodes_found, plan_found, plan_in};
 ghost use Rattle.search.specs.NodesInWork.{IsWorkedOn};
-ghost use Rattle.search.specs.declared.nodes.SearchNode.{SearchNode};
 
 use crate::evaluation::{Outcome, evaluate, is_below};
 use crate::found::{Best, Found};
@@ -23,7 +23,7 @@ use crate::nodes::{Division, SearchNode};
 use crate::rounds::make_rounds;
 use crate::work::Work;
 use advisors::Advisor;
-use branch_tree::{Cut, Multipliers, Node, Region, Relaxation, Tree};
+use branch_tree::{Multipliers, Node, Region, Relaxation, Tree};
 use rail_base::{Money, NoMemory};
 use std::alloc::Global;
 
@@ -138,27 +138,15 @@ impl Search {
         ensures counted { IfOk result (λ search. AreAsked advisors.old.items advisors.new.items asked has_quit
             (in_rounds rounds (made_or_open (plan_in search.best) (tree_nodes search.nodes.items))) rounds) }
     {
-        let mut best = None;
         let inherited = Multipliers::new(alloc)?;
-        let node = make_node(
-            alloc,
-            problem,
-            root.copy(alloc)?,
-            0,
-            &inherited,
-            &mut best,
-            rounds,
-            advisors,
-        )?;
-        let mut frontier = Frontier::new(alloc);
-        frontier.enter(&node)?;
-        let mut nodes = Vec::new(alloc);
-        nodes.push(node)?;
-        Ok(Search {
-            nodes,
-            frontier,
-            best,
-        })
+        let root = root.copy(alloc)?;
+        let mut search = Search {
+            nodes: Vec::new(alloc),
+            frontier: Frontier::new(alloc),
+            best: None,
+        };
+        search.put_node(alloc, problem, 0, root, &inherited, rounds, advisors)?;
+        Ok(search)
     }
 
     /// Branches the open node at a place.
@@ -191,36 +179,70 @@ impl Search {
             (2 * rounds))) }
     {
         let division = self.divide_at(alloc, problem, place)?;
-        let number = self.nodes.len() as u32;
-        let left = make_node(
-            alloc,
-            problem,
-            division.left,
-            number,
-            &division.multipliers,
-            &mut self.best,
-            rounds,
-            advisors,
-        )?;
-        let right = make_node(
-            alloc,
-            problem,
-            division.right,
-            number + 1,
-            &division.multipliers,
-            &mut self.best,
-            rounds,
-            advisors,
-        )?;
-        put_children(
-            &mut self.nodes,
-            &mut self.frontier,
-            place,
-            division.cut,
+        let Division {
+            cut,
             left,
             right,
+            multipliers,
+        } = division;
+        self.nodes[place] = SearchNode::Fixed(Node::Branch(cut));
+        self.put_node(
+            alloc,
+            problem,
+            place + 1,
+            left,
+            &multipliers,
+            rounds,
+            advisors,
         )?;
-        Ok(())
+        self.put_node(
+            alloc,
+            problem,
+            place + 2,
+            right,
+            &multipliers,
+            rounds,
+            advisors,
+        )
+    }
+
+    /// Makes the node of a region, puts it at a place, and enters it in the frontier. The error is want of memory.
+    fn put_node<R: Relaxation>(
+        &mut self,
+        alloc: Global,
+        problem: &mut R,
+        place: usize,
+        region: Region,
+        inherited: &Multipliers,
+        rounds: u8,
+        advisors: &mut Vec<Box<dyn Advisor>>,
+    ) -> Result<(), NoMemory>
+        requires few { length self.old.nodes.items ≤ MOST_NODES }
+        requires place { place ≤ length self.old.nodes.items }
+        requires region { length region ≡ (R.meanings (R.problem problem.old)).trips }
+        requires fits { DoFitFor (R.meanings (R.problem problem.old)) inherited.now }
+        requires room { MayBeAsked advisors.old.items asked rounds }
+        ensures same { R.problem problem.new ≡ R.problem problem.old }
+        ensures offered { OnOk result (IsOffered (R.meanings (R.problem problem.old)) region (plan_in self.old.best)
+            (plan_in self.new.best)) }
+        ensures accepted { OnOk result (R.IsAccepted (R.problem problem.old)) }
+        ensures put { OnOk result (IsPut (R.meanings (R.problem problem.old)) region place self.old self.new
+            (AreAsked advisors.old.items advisors.new.items asked has_quit (in_rounds rounds 1) rounds)) }
+        ensures asked { AreAsked advisors.old.items advisors.new.items asked has_quit 0 rounds }
+    {
+        let number = self.nodes.len() as u32;
+        let node = make_node(
+            alloc,
+            problem,
+            region,
+            number,
+            inherited,
+            &mut self.best,
+            rounds,
+            advisors,
+        )?;
+        self.nodes.insert(place, node)?;
+        self.frontier.enter(&self.nodes[place])
     }
 
     /// Divides the open node at a place.
@@ -253,30 +275,6 @@ impl Search {
         let (tree, least) = into_tree(alloc, self.nodes)?;
         Ok(found_of(least, self.best, tree))
     }
-}
-
-/// Makes the node at a place a branch, puts its children behind it, and enters them in the frontier.
-fn put_children(
-    nodes: &mut Vec<SearchNode>,
-    frontier: &mut Frontier,
-    place: usize,
-    cut: Cut,
-    left: SearchNode,
-    right: SearchNode,
-) -> Result<(), NoMemory>
-    requires { place < length nodes.old.items }
-    ensures nodes { OnOk result (nodes.new.items ≡ branched nodes.old.items place cut left right) }
-    ensures left { OnOk result ((best : Option Priced) → IsEntered best frontier.new left) }
-    ensures right { OnOk result ((best : Option Priced) → IsEntered best frontier.new right) }
-    ensures others { OnOk result ((best : Option Priced) (node : SearchNode) →
-        IsEntered best frontier.old node → IsEntered best frontier.new node) }
-{
-    frontier.enter(&left)?;
-    frontier.enter(&right)?;
-    nodes[place] = SearchNode::Fixed(Node::Branch(cut));
-    nodes.insert(place + 1, left)?;
-    nodes.insert(place + 2, right)?;
-    Ok(())
 }
 
 /// The tree of the nodes, and the least of its bounds, where it has one. The error is want of memory.

@@ -1,4 +1,4 @@
-use Rattle.std.proofs.Common.{◌≡◌, None, [], ◌∷◌, ◌++◌, All, sym, ap, subst, ◌∙◌}
+use Rattle.std.proofs.Common.{◌≡◌, None, [], ◌∷◌, All, length, insert, sym, ap, subst, ◌∙◌}
 use Rattle.std.proofs.lemmas.List.Elements.{All-cons, All-nil}
 use Rattle.branch_tree.specs.Trees.{branchings_of}
 use Rattle.search.specs.Questions.{AreAsked, in_rounds}
@@ -15,36 +15,44 @@ use Rattle.search.proofs.solving.Search.begin.Goals as goal
 pub returns-in_err-inherited-clause-asked : goal.returns-in_err-inherited-clause-asked
 returns-in_err-inherited-clause-asked g c = are_unasked _ _ c.args.rounds c.args.advisors.now.items
 
-pub returns-in_err-copy-clause-asked : goal.returns-in_err-copy-clause-asked
-returns-in_err-copy-clause-asked g c = are_unasked _ _ c.args.rounds c.args.advisors.now.items
+pub returns-in_err-root-clause-asked : goal.returns-in_err-root-clause-asked
+returns-in_err-root-clause-asked g c = are_unasked _ _ c.args.rounds c.args.advisors.now.items
+
+pub put_node-requires-clause-region : goal.put_node-requires-clause-region
+put_node-requires-clause-region g c = ap length c.in_ok-root.ensures ∙ c.requires.over.each
 
 pub returns-clause-searched : goal.returns-clause-searched
 returns-clause-searched g c =
     let problem = g.R.Relaxation.meanings (g.R.Relaxation.problem c.args.problem.now) in
-    let best = plan_in c.make_node.new.best in
-    let items : c.push.new.self.items ≡ c.in_ok-node.node ∷ [] = c.in_ok-push.ensures.items ∙ ap (λ before. before ++ c.in_ok-node.node ∷ []) c.new-nodes.ensures.items in
+    let best = plan_in c.put_node.new.self.best in
+    let put = c.in_ok-put_node.ensures.put in
+    let items : c.put_node.new.self.nodes.items ≡ put.node ∷ [] = put.nodes ∙ ap (λ before. insert before 0 put.node) c.new-2.ensures.items in
     subst (λ nodes. IsSearched problem c.args.root.now best nodes) (sym items)
-    (one_node problem c.args.root.now best c.in_ok-node.node c.requires.over
-    (subst (λ sets. IsLeafOf problem best sets c.in_ok-node.node) c.in_ok-copy.ensures c.in_ok-node.ensures.node)
-    (subst (λ sets. IsOffered problem sets None best) c.in_ok-copy.ensures c.in_ok-node.ensures.offered))
+    (one_node problem c.args.root.now best put.node c.requires.over
+    (subst (λ sets. IsLeafOf problem best sets put.node) c.in_ok-root.ensures put.leaf)
+    (subst (λ sets. IsOffered problem sets None best) c.in_ok-root.ensures c.in_ok-put_node.ensures.offered))
 
 pub returns-clause-entered : goal.returns-clause-entered
 returns-clause-entered g c =
-    let best = plan_in c.make_node.new.best in
-    let items : c.push.new.self.items ≡ c.in_ok-node.node ∷ [] = c.in_ok-push.ensures.items ∙ ap (λ before. before ++ c.in_ok-node.node ∷ []) c.new-nodes.ensures.items in
-    subst (λ nodes. All (IsEntered best c.enter.new.self) nodes) (sym items)
-    (All-cons (IsEntered best c.enter.new.self) c.in_ok-node.node [] (c.in_ok-enter.ensures.node best) (All-nil (IsEntered best c.enter.new.self)))
+    let best = plan_in c.put_node.new.self.best in
+    let put = c.in_ok-put_node.ensures.put in
+    let after = c.put_node.new.self.frontier in
+    let items : c.put_node.new.self.nodes.items ≡ put.node ∷ [] = put.nodes ∙ ap (λ before. insert before 0 put.node) c.new-2.ensures.items in
+    subst (λ nodes. All (IsEntered best after) nodes) (sym items)
+    (All-cons (IsEntered best after) put.node [] (put.entered best) (All-nil (IsEntered best after)))
 
 pub returns-clause-none : goal.returns-clause-none
 returns-clause-none g c =
-    let items : c.push.new.self.items ≡ c.in_ok-node.node ∷ [] = c.in_ok-push.ensures.items ∙ ap (λ before. before ++ c.in_ok-node.node ∷ []) c.new-nodes.ensures.items in
-    ap (λ nodes. branchings_of (tree_nodes nodes)) items ∙ one_if_leaf (tree_node c.in_ok-node.node) c.in_ok-node.ensures.node.leaf
+    let put = c.in_ok-put_node.ensures.put in
+    let items : c.put_node.new.self.nodes.items ≡ put.node ∷ [] = put.nodes ∙ ap (λ before. insert before 0 put.node) c.new-2.ensures.items in
+    ap (λ nodes. branchings_of (tree_nodes nodes)) items ∙ one_if_leaf (tree_node put.node) put.leaf.leaf
 
 pub returns-clause-counted : goal.returns-clause-counted
 returns-clause-counted g c =
-    let best = plan_in c.make_node.new.best in
-    let items : c.push.new.self.items ≡ c.in_ok-node.node ∷ [] = c.in_ok-push.ensures.items ∙ ap (λ before. before ++ c.in_ok-node.node ∷ []) c.new-nodes.ensures.items in
-    subst (λ nodes. AreAsked c.args.advisors.now.items c.make_node.new.advisors.items (λ b. (goal.Advisor-dyn g (b.vtable, b.value)).asked b.value) (λ b. (goal.Advisor-dyn g (b.vtable, b.value)).has_quit b.value)
+    let best = plan_in c.put_node.new.self.best in
+    let put = c.in_ok-put_node.ensures.put in
+    let items : c.put_node.new.self.nodes.items ≡ put.node ∷ [] = put.nodes ∙ ap (λ before. insert before 0 put.node) c.new-2.ensures.items in
+    subst (λ nodes. AreAsked c.args.advisors.now.items c.put_node.new.advisors.items (λ b. (goal.Advisor-dyn g (b.vtable, b.value)).asked b.value) (λ b. (goal.Advisor-dyn g (b.vtable, b.value)).has_quit b.value)
     (in_rounds c.args.rounds (made_or_open best (tree_nodes nodes))) c.args.rounds) (sym items)
-    (asked_for_leaf _ _ c.args.rounds best (tree_node c.in_ok-node.node) c.args.advisors.now.items c.make_node.new.advisors.items
-    c.in_ok-node.ensures.node.leaf c.make_node.ensures.asked c.in_ok-node.ensures.least)
+    (asked_for_leaf _ _ c.args.rounds best (tree_node put.node) c.args.advisors.now.items c.put_node.new.advisors.items
+    put.leaf.leaf c.put_node.ensures.asked put.done)

@@ -1,96 +1,129 @@
-use Rattle.std.proofs.Common.{ℕ, ◌+◌, ◌*◌, ◌≤◌, All, if◌then◌else◌, subst, sym, ap, ◌∙◌, arith}
+use Rattle.std.proofs.Common.{◌≡◌, ℕ, ◌+◌, ◌*◌, ◌≤◌, All, length, set, if◌then◌else◌, subst, sym, ap, ◌∙◌, arith}
+use Rattle.std.proofs.lemmas.List.{length-set}
+use Rattle.std.proofs.lemmas.List.Edits.{length-insert}
 use Rattle.branch_tree.specs.Claims.{is_open}
 use Rattle.branch_tree.specs.Trees.{branchings_of}
+use Rattle.branch_tree.specs.declared.tree.Node.TheVariants.{Branch}
+use Rattle.search.specs.declared.nodes.SearchNode.TheVariants.{Fixed}
 use Rattle.search.specs.Ends.{made_or_open}
 use Rattle.search.specs.Frontiers.{IsEntered}
-use Rattle.search.specs.Nodes.{IsLeafOf, IsSearched, tree_node, tree_nodes}
+use Rattle.search.specs.Nodes.{IsLeafOf, IsSearched, branched, tree_node, tree_nodes}
 use Rattle.search.specs.Offers.{IsOffered}
 use Rattle.search.specs.Conclusions.{plan_in}
 use Rattle.search.proofs.Asking.{are_asked_again, are_asked_within, are_unasked, may_be_asked_yet}
 use Rattle.search.proofs.Counting.{asked_for_both, asked_if_open}
 use Rattle.search.proofs.Entering.{entered_on}
-use Rattle.search.proofs.Growing.{after_branch, branchings_after, kept_up}
+use Rattle.search.proofs.Growing.{after_branch, branchings_after, kept_up, put_after}
+use Rattle.search.proofs.Returning.{on_ok_both}
 use Rattle.search.proofs.solving.Search.branch.Goals as goal
 
 pub returns-in_err-division-clause-asked : goal.returns-in_err-division-clause-asked
 returns-in_err-division-clause-asked g c = are_unasked _ _ (2 * c.args.rounds) c.args.advisors.now.items
 
-pub make_node-requires-clause-room : goal.make_node-requires-clause-room
-make_node-requires-clause-room g c = λ place none below. omega (arith, c.requires.room place none below)
+pub put_node-requires-clause-few : goal.put_node-requires-clause-few
+put_node-requires-clause-few g c =
+    omega (arith, length-set c.args.self.now.nodes.items c.args.place (Fixed (Branch c.in_ok-division.division.cut)), c.requires.few)
 
-pub make_node-requires-2-clause-room : goal.make_node-requires-2-clause-room
-make_node-requires-2-clause-room g c =
-    may_be_asked_yet _ _ 0 c.args.rounds c.args.rounds c.args.advisors.now.items c.make_node.new.advisors.items
-    (λ place none below. omega (arith, c.requires.room place none below)) c.make_node.ensures.asked
+pub put_node-requires-2-clause-few : goal.put_node-requires-2-clause-few
+put_node-requires-2-clause-few g c =
+    let before = set c.args.self.now.nodes.items c.args.place (Fixed (Branch c.in_ok-division.division.cut)) in
+    let one = c.in_ok-put_node.ensures.put in
+    let same : length before ≡ length c.args.self.now.nodes.items = length-set c.args.self.now.nodes.items c.args.place (Fixed (Branch c.in_ok-division.division.cut)) in
+    omega (arith, ap length one.nodes, length-insert before (c.args.place + 1) one.node (omega (arith, same, c.requires.open.within)), same, c.requires.few)
 
-pub returns-in_err-left-clause-asked : goal.returns-in_err-left-clause-asked
-returns-in_err-left-clause-asked g c =
-    are_asked_within _ _ 0 c.args.rounds 0 (2 * c.args.rounds) c.args.advisors.now.items c.make_node.new.advisors.items (omega arith) (omega arith) c.make_node.ensures.asked
+pub put_node-requires-clause-place : goal.put_node-requires-clause-place
+put_node-requires-clause-place g c =
+    omega (arith, length-set c.args.self.now.nodes.items c.args.place (Fixed (Branch c.in_ok-division.division.cut)), c.requires.open.within)
 
-pub returns-in_err-right-clause-asked : goal.returns-in_err-right-clause-asked
-returns-in_err-right-clause-asked g c =
-    are_asked_within _ _ (0 + 0) (c.args.rounds + c.args.rounds) 0 (2 * c.args.rounds) c.args.advisors.now.items c.make_node-2.new.advisors.items (omega arith) (omega arith)
-    (are_asked_again _ _ 0 c.args.rounds 0 c.args.rounds c.args.advisors.now.items c.make_node.new.advisors.items c.make_node-2.new.advisors.items c.make_node.ensures.asked c.make_node-2.ensures.asked)
+pub put_node-requires-2-clause-place : goal.put_node-requires-2-clause-place
+put_node-requires-2-clause-place g c =
+    let before = set c.args.self.now.nodes.items c.args.place (Fixed (Branch c.in_ok-division.division.cut)) in
+    let one = c.in_ok-put_node.ensures.put in
+    let few : c.args.place + 1 ≤ length before = omega (arith, length-set c.args.self.now.nodes.items c.args.place (Fixed (Branch c.in_ok-division.division.cut)), c.requires.open.within) in
+    omega (arith, ap length one.nodes, length-insert before (c.args.place + 1) one.node few, few)
 
-pub returns-in_err-put_children-clause-asked : goal.returns-in_err-put_children-clause-asked
-returns-in_err-put_children-clause-asked g c =
-    are_asked_within _ _ (0 + 0) (c.args.rounds + c.args.rounds) 0 (2 * c.args.rounds) c.args.advisors.now.items c.make_node-2.new.advisors.items (omega arith) (omega arith)
-    (are_asked_again _ _ 0 c.args.rounds 0 c.args.rounds c.args.advisors.now.items c.make_node.new.advisors.items c.make_node-2.new.advisors.items c.make_node.ensures.asked c.make_node-2.ensures.asked)
+pub put_node-requires-clause-room : goal.put_node-requires-clause-room
+put_node-requires-clause-room g c = λ place none below. omega (arith, c.requires.room place none below)
+
+pub put_node-requires-2-clause-room : goal.put_node-requires-2-clause-room
+put_node-requires-2-clause-room g c =
+    may_be_asked_yet _ _ 0 c.args.rounds c.args.rounds c.args.advisors.now.items c.put_node.new.advisors.items
+    (λ place none below. omega (arith, c.requires.room place none below)) c.put_node.ensures.asked
+
+pub returns-in_err-put_node-clause-asked : goal.returns-in_err-put_node-clause-asked
+returns-in_err-put_node-clause-asked g c =
+    are_asked_within _ _ 0 c.args.rounds 0 (2 * c.args.rounds) c.args.advisors.now.items c.put_node.new.advisors.items (omega arith) (omega arith) c.put_node.ensures.asked
 
 pub returns-clause-asked : goal.returns-clause-asked
 returns-clause-asked g c =
-    are_asked_within _ _ (0 + 0) (c.args.rounds + c.args.rounds) 0 (2 * c.args.rounds) c.args.advisors.now.items c.make_node-2.new.advisors.items (omega arith) (omega arith)
-    (are_asked_again _ _ 0 c.args.rounds 0 c.args.rounds c.args.advisors.now.items c.make_node.new.advisors.items c.make_node-2.new.advisors.items c.make_node.ensures.asked c.make_node-2.ensures.asked)
+    are_asked_within _ _ (0 + 0) (c.args.rounds + c.args.rounds) 0 (2 * c.args.rounds) c.args.advisors.now.items c.put_node-2.new.advisors.items (omega arith) (omega arith)
+    (are_asked_again _ _ 0 c.args.rounds 0 c.args.rounds c.args.advisors.now.items c.put_node.new.advisors.items c.put_node-2.new.advisors.items c.put_node.ensures.asked c.put_node-2.ensures.asked)
 
 pub returns-clause-searched : goal.returns-clause-searched
-returns-clause-searched g c = λ root searched.
+returns-clause-searched g c =
     let problem = g.R.Relaxation.meanings (g.R.Relaxation.problem c.args.problem.now) in
-    let middle = plan_in c.make_node.new.best in
-    let new = plan_in c.make_node-2.new.best in
-    subst (λ items. IsSearched problem root new items) (sym c.in_ok-put_children.ensures.nodes)
-    (after_branch problem root (plan_in c.args.self.now.best) middle new c.args.self.now.nodes.items c.args.place c.in_ok-division.division c.in_ok-left.left c.in_ok-right.right
-    c.in_ok-division.ensures c.in_ok-left.ensures.node c.in_ok-left.ensures.offered
-    (subst (λ p. IsLeafOf (g.R.Relaxation.meanings p) new c.in_ok-division.division.right c.in_ok-right.right) c.make_node.ensures.same c.in_ok-right.ensures.node)
-    (subst (λ p. IsOffered (g.R.Relaxation.meanings p) c.in_ok-division.division.right middle new) c.make_node.ensures.same c.in_ok-right.ensures.offered)
-    searched)
+    let middle = plan_in c.put_node.new.self.best in
+    let new = plan_in c.put_node-2.new.self.best in
+    let one = c.in_ok-put_node.ensures.put in
+    on_ok_both c.put_node-2.result c.put_node-2.ensures.put c.put_node-2.ensures.offered (λ other second root searched.
+    let items : c.put_node-2.new.self.nodes.items ≡ branched c.args.self.now.nodes.items c.args.place c.in_ok-division.division.cut one.node other.node =
+    put_after c.args.self.now.nodes.items c.args.place c.in_ok-division.division.cut one.node other.node c.put_node.new.self.nodes.items c.put_node-2.new.self.nodes.items c.requires.open.within one.nodes other.nodes in
+    subst (λ items. IsSearched problem root new items) (sym items)
+    (after_branch problem root (plan_in c.args.self.now.best) middle new c.args.self.now.nodes.items c.args.place c.in_ok-division.division one.node other.node
+    c.in_ok-division.ensures one.leaf c.in_ok-put_node.ensures.offered
+    (subst (λ p. IsLeafOf (g.R.Relaxation.meanings p) new c.in_ok-division.division.right other.node) c.put_node.ensures.same other.leaf)
+    (subst (λ p. IsOffered (g.R.Relaxation.meanings p) c.in_ok-division.division.right middle new) c.put_node.ensures.same second)
+    searched))
 
 pub returns-clause-one : goal.returns-clause-one
 returns-clause-one g c =
     let problem = g.R.Relaxation.meanings (g.R.Relaxation.problem c.args.problem.now) in
-    let middle = plan_in c.make_node.new.best in
-    let new = plan_in c.make_node-2.new.best in
-    ap (λ items. branchings_of (tree_nodes items)) c.in_ok-put_children.ensures.nodes ∙
-    branchings_after problem (plan_in c.args.self.now.best) middle new c.args.self.now.nodes.items c.args.place c.in_ok-division.division c.in_ok-left.left c.in_ok-right.right
-    c.in_ok-division.ensures c.in_ok-left.ensures.node
-    (subst (λ p. IsLeafOf (g.R.Relaxation.meanings p) new c.in_ok-division.division.right c.in_ok-right.right) c.make_node.ensures.same c.in_ok-right.ensures.node)
+    let middle = plan_in c.put_node.new.self.best in
+    let new = plan_in c.put_node-2.new.self.best in
+    let one = c.in_ok-put_node.ensures.put in
+    on_ok_both c.put_node-2.result c.put_node-2.ensures.put c.put_node-2.ensures.offered (λ other second.
+    let items : c.put_node-2.new.self.nodes.items ≡ branched c.args.self.now.nodes.items c.args.place c.in_ok-division.division.cut one.node other.node =
+    put_after c.args.self.now.nodes.items c.args.place c.in_ok-division.division.cut one.node other.node c.put_node.new.self.nodes.items c.put_node-2.new.self.nodes.items c.requires.open.within one.nodes other.nodes in
+    ap (λ items. branchings_of (tree_nodes items)) items ∙
+    branchings_after problem (plan_in c.args.self.now.best) middle new c.args.self.now.nodes.items c.args.place c.in_ok-division.division one.node other.node
+    c.in_ok-division.ensures one.leaf
+    (subst (λ p. IsLeafOf (g.R.Relaxation.meanings p) new c.in_ok-division.division.right other.node) c.put_node.ensures.same other.leaf))
 
 pub returns-clause-counted : goal.returns-clause-counted
 returns-clause-counted g c =
     let problem = g.R.Relaxation.meanings (g.R.Relaxation.problem c.args.problem.now) in
     let old = plan_in c.args.self.now.best in
-    let middle = plan_in c.make_node.new.best in
-    let new = plan_in c.make_node-2.new.best in
-    let left : ℕ = if is_open middle (tree_node c.in_ok-left.left) then 1 else 0 in
-    let right : ℕ = if is_open new (tree_node c.in_ok-right.right) then 1 else 0 in (
+    let middle = plan_in c.put_node.new.self.best in
+    let new = plan_in c.put_node-2.new.self.best in
+    let one = c.in_ok-put_node.ensures.put in
+    on_ok_both c.put_node-2.result c.put_node-2.ensures.put c.put_node-2.ensures.offered (λ other second.
+    let items : c.put_node-2.new.self.nodes.items ≡ branched c.args.self.now.nodes.items c.args.place c.in_ok-division.division.cut one.node other.node =
+    put_after c.args.self.now.nodes.items c.args.place c.in_ok-division.division.cut one.node other.node c.put_node.new.self.nodes.items c.put_node-2.new.self.nodes.items c.requires.open.within one.nodes other.nodes in
+    let left : ℕ = if is_open middle (tree_node one.node) then 1 else 0 in
+    let right : ℕ = if is_open new (tree_node other.node) then 1 else 0 in (
       left + right,
-      subst (λ items. made_or_open new (tree_nodes items) ≤ made_or_open old (tree_nodes c.args.self.now.nodes.items) + (left + right)) (sym c.in_ok-put_children.ensures.nodes)
-          (kept_up problem old middle new c.args.self.now.nodes.items c.args.place c.in_ok-division.division c.in_ok-left.left c.in_ok-right.right
-          c.in_ok-division.ensures c.in_ok-left.ensures.node c.in_ok-left.ensures.offered
-          (subst (λ p. IsLeafOf (g.R.Relaxation.meanings p) new c.in_ok-division.division.right c.in_ok-right.right) c.make_node.ensures.same c.in_ok-right.ensures.node)
-          (subst (λ p. IsOffered (g.R.Relaxation.meanings p) c.in_ok-division.division.right middle new) c.make_node.ensures.same c.in_ok-right.ensures.offered)),
-      asked_for_both _ _ c.args.rounds left right c.args.advisors.now.items c.make_node.new.advisors.items c.make_node-2.new.advisors.items
-          (asked_if_open _ _ c.args.rounds (is_open middle (tree_node c.in_ok-left.left)) c.args.advisors.now.items c.make_node.new.advisors.items c.make_node.ensures.asked c.in_ok-left.ensures.least)
-          (asked_if_open _ _ c.args.rounds (is_open new (tree_node c.in_ok-right.right)) c.make_node.new.advisors.items c.make_node-2.new.advisors.items c.make_node-2.ensures.asked c.in_ok-right.ensures.least),
-    )
+      subst (λ items. made_or_open new (tree_nodes items) ≤ made_or_open old (tree_nodes c.args.self.now.nodes.items) + (left + right)) (sym items)
+          (kept_up problem old middle new c.args.self.now.nodes.items c.args.place c.in_ok-division.division one.node other.node
+          c.in_ok-division.ensures one.leaf c.in_ok-put_node.ensures.offered
+          (subst (λ p. IsLeafOf (g.R.Relaxation.meanings p) new c.in_ok-division.division.right other.node) c.put_node.ensures.same other.leaf)
+          (subst (λ p. IsOffered (g.R.Relaxation.meanings p) c.in_ok-division.division.right middle new) c.put_node.ensures.same second)),
+      asked_for_both _ _ c.args.rounds left right c.args.advisors.now.items c.put_node.new.advisors.items c.put_node-2.new.advisors.items
+          (asked_if_open _ _ c.args.rounds (is_open middle (tree_node one.node)) c.args.advisors.now.items c.put_node.new.advisors.items c.put_node.ensures.asked one.done)
+          (asked_if_open _ _ c.args.rounds (is_open new (tree_node other.node)) c.put_node.new.advisors.items c.put_node-2.new.advisors.items c.put_node-2.ensures.asked other.done),
+    ))
 
 pub returns-clause-entered : goal.returns-clause-entered
 returns-clause-entered g c =
     let problem = g.R.Relaxation.meanings (g.R.Relaxation.problem c.args.problem.now) in
-    let middle = plan_in c.make_node.new.best in
-    let new = plan_in c.make_node-2.new.best in
-    let after = c.put_children.new.frontier in
-    subst (λ items. All (IsEntered new after) items) (sym c.in_ok-put_children.ensures.nodes)
-    (entered_on problem (plan_in c.args.self.now.best) middle new c.args.self.now.frontier after c.args.self.now.nodes.items c.args.place c.in_ok-division.division c.in_ok-left.left c.in_ok-right.right
-    c.in_ok-division.ensures c.in_ok-left.ensures.offered
-    (subst (λ p. IsOffered (g.R.Relaxation.meanings p) c.in_ok-division.division.right middle new) c.make_node.ensures.same c.in_ok-right.ensures.offered)
-    (c.in_ok-put_children.ensures.left new) (c.in_ok-put_children.ensures.right new) (c.in_ok-put_children.ensures.others new) c.requires.entered)
+    let middle = plan_in c.put_node.new.self.best in
+    let new = plan_in c.put_node-2.new.self.best in
+    let one = c.in_ok-put_node.ensures.put in
+    on_ok_both c.put_node-2.result c.put_node-2.ensures.put c.put_node-2.ensures.offered (λ other second.
+    let items : c.put_node-2.new.self.nodes.items ≡ branched c.args.self.now.nodes.items c.args.place c.in_ok-division.division.cut one.node other.node =
+    put_after c.args.self.now.nodes.items c.args.place c.in_ok-division.division.cut one.node other.node c.put_node.new.self.nodes.items c.put_node-2.new.self.nodes.items c.requires.open.within one.nodes other.nodes in
+    let after = c.put_node-2.new.self.frontier in
+    subst (λ items. All (IsEntered new after) items) (sym items)
+    (entered_on problem (plan_in c.args.self.now.best) middle new c.args.self.now.frontier after c.args.self.now.nodes.items c.args.place c.in_ok-division.division one.node other.node
+    c.in_ok-division.ensures c.in_ok-put_node.ensures.offered
+    (subst (λ p. IsOffered (g.R.Relaxation.meanings p) c.in_ok-division.division.right middle new) c.put_node.ensures.same second)
+    (other.others new one.node (one.entered new)) (other.entered new) (λ node entered. other.others new node (one.others new node entered)) c.requires.entered))

@@ -1,0 +1,27 @@
+use Rattle.std.proofs.Common.{◌≡◌, length, get_or, subst, ap, ◌∙◌, arith}
+use Rattle.std.proofs.lemmas.List.Edits.{get_or-insert_at, length-insert}
+use Rattle.search.specs.Frontiers.{IsEntered}
+use Rattle.search.proofs.Returning.{on_ok_both, on_ok_known}
+use Rattle.search.proofs.solving.Search.put_node.Goals as goal
+
+pub index-requires : goal.index-requires
+index-requires g c = omega (arith, ap length c.in_ok-insert.ensures.items, length-insert c.args.self.now.nodes.items c.args.place c.in_ok-node.node c.requires.place, c.requires.place)
+
+pub returns-clause-put : goal.returns-clause-put
+returns-clause-put g c =
+    let here : c.index.result.now ≡ c.in_ok-node.node =
+    c.index.ensures ∙ (ap (λ nodes. get_or nodes c.args.place c.index.result.now) c.in_ok-insert.ensures.items ∙ get_or-insert_at c.args.self.now.nodes.items c.args.place c.in_ok-node.node c.index.result.now c.requires.place) in
+    on_ok_both c.enter.result c.enter.ensures.node c.enter.ensures.others (λ entered others. record {
+      node = c.in_ok-node.node;
+      leaf = c.in_ok-node.ensures.node;
+      nodes = c.in_ok-insert.ensures.items;
+      entered = λ best. subst (λ node. IsEntered best c.enter.new.self node) here (entered best);
+      others = others;
+      done = c.in_ok-node.ensures.least;
+    })
+
+pub returns-clause-offered : goal.returns-clause-offered
+returns-clause-offered g c = on_ok_known c.enter.result c.in_ok-node.ensures.offered
+
+pub returns-clause-accepted : goal.returns-clause-accepted
+returns-clause-accepted g c = on_ok_known c.enter.result c.in_ok-node.ensures.accepted
