@@ -14,7 +14,7 @@ ghost use Rattle.search.specs.Putting.{IsPut};
 ghost use Rattle.search.specs.Nodes.{IsDivisionAt, IsLeafOf, IsSearched, tree_node, tree_nodes};
 ghost use Rattle.search.specs.Offers.{IsOffered};
 ghost use Rattle.search.specs.Conclusions.{IsSolved, nodes_found, plan_found, plan_in};
-ghost use Rattle.search.specs.NodesInWork.{IsWorkedOn};
+ghost use Rattle.search.specs.NodesInWork.{IsWorkedOn, is_left_open};
 
 use crate::evaluation::{Outcome, evaluate, is_below};
 use crate::found::{Best, Found};
@@ -352,40 +352,37 @@ fn make_node<R: Relaxation>(
     match outcome {
         Outcome::Ended(ending) => Ok(SearchNode::Fixed(ending.into_leaf())),
         Outcome::Open(evaluation) => {
-            let work = Work::new(alloc, region, evaluation)?;
-            let node = work_on(
-                alloc, problem, work, number, inherited, best, rounds, advisors,
-            )?;
-            Ok(node)
+            let mut work = Work::new(alloc, region, evaluation)?;
+            let worked = work_on(alloc, problem, &mut work, inherited, best, rounds, advisors);
+            worked.and(Ok(work.into_node(number, best)))
         }
     }
 }
 
 /// Works on a node after its first evaluation: evaluates it under the multipliers that it inherits, and asks the
-/// advisors about it.
+/// advisors about it. The error is want of memory.
 fn work_on<R: Relaxation>(
     alloc: Global,
     problem: &mut R,
-    mut work: Work,
-    number: u32,
+    work: &mut Work,
     inherited: &Multipliers,
     best: &mut Option<Best>,
     rounds: u8,
     advisors: &mut Vec<Box<dyn Advisor>>,
-) -> Result<SearchNode, NoMemory>
-    requires region { length work.region ≡ (R.meanings (R.problem problem.old)).trips }
-    requires worked { IsWorkedOn (R.meanings (R.problem problem.old)) (plan_in best.old) work }
+) -> Result<(), NoMemory>
+    requires region { length work.old.region ≡ (R.meanings (R.problem problem.old)).trips }
+    requires worked { IsWorkedOn (R.meanings (R.problem problem.old)) (plan_in best.old) work.old }
     requires fits { DoFitFor (R.meanings (R.problem problem.old)) inherited.now }
     requires room { MayBeAsked advisors.old.items asked rounds }
     ensures same { R.problem problem.new ≡ R.problem problem.old }
-    ensures offered { OnOk result (IsOffered (R.meanings (R.problem problem.old)) work.region (plan_in best.old)
+    ensures region { OnOk result (work.new.region ≡ work.old.region) }
+    ensures offered { OnOk result (IsOffered (R.meanings (R.problem problem.old)) work.old.region (plan_in best.old)
         (plan_in best.new)) }
-    ensures node { IfOk result (IsLeafOf (R.meanings (R.problem problem.old)) (plan_in best.new) work.region) }
+    ensures worked { OnOk result (IsWorkedOn (R.meanings (R.problem problem.old)) (plan_in best.new) work.new) }
     ensures asked { AreAsked advisors.old.items advisors.new.items asked has_quit 0 rounds }
-    ensures least { IfOk result (λ node. is_open (plan_in best.new) (tree_node node) ≡ true →
+    ensures least { OnOk result (is_left_open (plan_in best.new) work.new ≡ true →
         AreAsked advisors.old.items advisors.new.items asked has_quit (in_rounds rounds 1) rounds) }
 {
     work.inherit(alloc, problem, inherited, best)?;
-    make_rounds(alloc, problem, &mut work, best, rounds, advisors)?;
-    Ok(work.into_node(number, best))
+    make_rounds(alloc, problem, work, best, rounds, advisors)
 }

@@ -1,14 +1,18 @@
-use Rattle.std.proofs.Common.{◌≡◌, true, subst, sym, ◌∙◌}
+use Rattle.std.proofs.Common.{◌≡◌, true, OnOk, IfOk, subst, sym, ap, ◌∙◌}
+use Rattle.std.proofs.lemmas.Result.{on_ok_weaker}
 use Rattle.branch_tree.specs.Claims.{is_open}
 use Rattle.search.specs.declared.nodes.SearchNode.TheVariants.{Fixed}
+use Rattle.search.specs.declared.work.Work.{Work}
 use Rattle.search.specs.Evaluations.{IsOutcome}
-use Rattle.search.specs.Nodes.{IsLeafOf}
+use Rattle.search.specs.Nodes.{IsLeafOf, tree_node}
+use Rattle.search.specs.Questions.{AreAsked, in_rounds}
 use Rattle.search.specs.Offers.{IsOffered}
 use Rattle.search.specs.Conclusions.{plan_in}
 use Rattle.search.specs.NodesInWork.{IsWorkedOn}
 use Rattle.search.proofs.Asking.{are_unasked}
 use Rattle.search.proofs.Evaluating.{offered_again}
-use Rattle.search.proofs.Placing.{begun, ended_leaf, ended_not_open}
+use Rattle.search.proofs.Placing.{begun, ended_leaf, ended_not_open, leaf_made_from, left_open_made}
+use Rattle.search.proofs.Returning.{if_ok_and, on_ok_and, on_ok_both, on_ok_known}
 use Rattle.search.proofs.solving.make_node.Goals as goal
 
 pub returns-in_err-none-clause-asked : goal.returns-in_err-none-clause-asked
@@ -35,8 +39,8 @@ returns-in-Ended-clause-least g c = λ opens.
     let best = plan_in c.evaluate.new.best in
     absurd (ended_not_open best c.in-Ended.ending (subst (λ leaf. is_open best leaf ≡ true) c.into_leaf.ensures opens))
 
-pub work_on-requires-clause-worked : goal.work_on-requires-clause-worked
-work_on-requires-clause-worked g c =
+pub work_on-worked-requires-clause-worked : goal.work_on-worked-requires-clause-worked
+work_on-worked-requires-clause-worked g c =
     let problem = g.R.Relaxation.meanings (g.R.Relaxation.problem c.args.problem.now) in
     let best = plan_in c.evaluate.new.best in
     let outcome = subst (λ outcome. IsOutcome problem c.args.region c.in_ok-none.none best outcome) c.in-Open.is c.in_ok-outcome.ensures.outcome in
@@ -44,18 +48,37 @@ work_on-requires-clause-worked g c =
     (subst (λ work. IsWorkedOn problem best work) (sym c.in_ok-work-in-Open.ensures)
     (begun problem c.args.region best c.in-Open.evaluation (outcome.0, outcome.1 ∙ c.in_ok-none.ensures, outcome.2)))
 
-pub returns-in_ok-node-in-Open-clause-offered : goal.returns-in_ok-node-in-Open-clause-offered
-returns-in_ok-node-in-Open-clause-offered g c =
+pub returns-in_ok-work-in-Open-clause-offered : goal.returns-in_ok-work-in-Open-clause-offered
+returns-in_ok-work-in-Open-clause-offered g c =
     let problem = g.R.Relaxation.meanings (g.R.Relaxation.problem c.args.problem.now) in
     let best = plan_in c.evaluate.new.best in
-    let after = plan_in c.work_on.new.best in
-    offered_again problem c.args.region (plan_in c.args.best.now) best after c.in_ok-outcome.ensures.offered
+    let after = plan_in c.work_on-worked.new.best in
+    subst (λ result. OnOk result (IsOffered problem c.args.region (plan_in c.args.best.now) after)) (sym c.and.ensures)
+    (on_ok_and _ c.work_on-worked.result c.into_node.result (on_ok_weaker c.work_on-worked.result
+    (λ offered. offered_again problem c.args.region (plan_in c.args.best.now) best after c.in_ok-outcome.ensures.offered
     (subst (λ work. IsOffered problem work.region best after) c.in_ok-work-in-Open.ensures
-    (subst (λ p. IsOffered (g.R.Relaxation.meanings p) c.in_ok-work-in-Open.work.region best after) c.evaluate.ensures.same c.in_ok-node-in-Open.ensures.offered))
+    (subst (λ p. IsOffered (g.R.Relaxation.meanings p) c.in_ok-work-in-Open.work.region best after) c.evaluate.ensures.same offered)))
+    c.work_on-worked.ensures.offered))
 
-pub returns-in_ok-node-in-Open-clause-node : goal.returns-in_ok-node-in-Open-clause-node
-returns-in_ok-node-in-Open-clause-node g c =
+pub returns-in_ok-work-in-Open-clause-accepted : goal.returns-in_ok-work-in-Open-clause-accepted
+returns-in_ok-work-in-Open-clause-accepted g c = on_ok_known c.and.result c.in_ok-outcome.ensures.accepted
+
+pub returns-in_ok-work-in-Open-clause-node : goal.returns-in_ok-work-in-Open-clause-node
+returns-in_ok-work-in-Open-clause-node g c =
     let problem = g.R.Relaxation.meanings (g.R.Relaxation.problem c.args.problem.now) in
-    let after = plan_in c.work_on.new.best in
-    subst (λ work. IsLeafOf problem after work.region c.in_ok-node-in-Open.node) c.in_ok-work-in-Open.ensures
-    (subst (λ p. IsLeafOf (g.R.Relaxation.meanings p) after c.in_ok-work-in-Open.work.region c.in_ok-node-in-Open.node) c.evaluate.ensures.same c.in_ok-node-in-Open.ensures.node)
+    let best = plan_in c.work_on-worked.new.best in
+    subst (λ result. IfOk result (IsLeafOf problem best c.args.region)) (sym c.and.ensures)
+    (if_ok_and (IsLeafOf problem best c.args.region) c.work_on-worked.result c.into_node.result
+    (on_ok_both c.work_on-worked.result c.work_on-worked.ensures.region c.work_on-worked.ensures.worked
+    (λ region worked. leaf_made_from problem best c.args.number c.work_on-worked.new.work c.args.region c.into_node.result c.into_node.ensures
+    (region ∙ ap (λ (work : Work). work.region) c.in_ok-work-in-Open.ensures)
+    (subst (λ p. IsWorkedOn (g.R.Relaxation.meanings p) best c.work_on-worked.new.work) c.evaluate.ensures.same worked))))
+
+pub returns-in_ok-work-in-Open-clause-least : goal.returns-in_ok-work-in-Open-clause-least
+returns-in_ok-work-in-Open-clause-least g c =
+    let best = plan_in c.work_on-worked.new.best in
+    subst (λ result. IfOk result (λ node. is_open best (tree_node node) ≡ true →
+    AreAsked c.args.advisors.now.items c.work_on-worked.new.advisors.items (λ b. (goal.Advisor-dyn g (b.vtable, b.value)).asked b.value) (λ b. (goal.Advisor-dyn g (b.vtable, b.value)).has_quit b.value)
+    (in_rounds c.args.rounds 1) c.args.rounds)) (sym c.and.ensures)
+    (if_ok_and _ c.work_on-worked.result c.into_node.result (on_ok_weaker c.work_on-worked.result
+    (λ least opens. least (left_open_made best c.args.number c.work_on-worked.new.work c.into_node.result c.into_node.ensures opens)) c.work_on-worked.ensures.least))
