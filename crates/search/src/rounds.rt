@@ -57,7 +57,7 @@ pub(crate) fn make_rounds<R: Relaxation>(
     let mut desk = Desk::new(alloc, problem, &work.region, advisors.len())?;
     for round in 0..rounds {
         if !work.is_open(best) {
-            return Ok(());
+            break;
         }
         make_round(alloc, problem, work, best, round, &mut desk, advisors)?;
     }

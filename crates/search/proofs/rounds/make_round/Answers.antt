@@ -1,4 +1,5 @@
-use Rattle.std.proofs.Common.{◌≡◌, ℕ, suc, ◌≤◌, true, false, length, refl, sym, ap, subst, ◌∙◌, arith}
+use Rattle.std.proofs.Common.{◌≡◌, ℕ, suc, ◌≤◌, length, refl, sym, ap, subst, ◌∙◌, arith}
+use Rattle.std.proofs.lemmas.Bool.{false≢true, true≢false}
 use Rattle.search.specs.Questions.{once}
 use Rattle.search.specs.Desks.{IsLaidOut}
 use Rattle.search.specs.Offers.{IsOffered}
@@ -25,7 +26,7 @@ returns-then-not-is_open-clause-asked g c =
     asked_so_far _ _ (once c.args.desk.now.has_enough.items) c.loop-place.place c.args.advisors.now.items c.loop-place.advisors.items c.loop-place.invariant.asked
 
 pub returns-then-not-is_open-clause-least : goal.returns-then-not-is_open-clause-least
-returns-then-not-is_open-clause-least g c = λ left. let no : true ≡ false = cc in cc
+returns-then-not-is_open-clause-least g c = λ left. absurd (false≢true (sym c.if-not-is_open.true ∙ (c.is_open.ensures ∙ left)))
 
 pub returns-clause-asked : goal.returns-clause-asked
 returns-clause-asked g c =
@@ -85,7 +86,7 @@ loop-place-preserved-then-did_quit g c =
       enough = λ place from. c.loop-place.invariant.enough place (omega (arith, from));
       asked = up_to_next _ _ (once c.args.desk.now.has_enough.items) c.loop-place.place c.args.advisors.now.items c.loop-place.advisors.items
           (pass_over _ _ (once c.args.desk.now.has_enough.items) c.loop-place.place c.args.advisors.now.items c.loop-place.advisors.items c.index-in-loop-place.result.now (omega (arith, c.loop-place-test.true, c.len-place-end.ensures)) c.index-in-loop-place.ensures
-          c.loop-place.invariant.asked (λ stays. absurd (let no : true ≡ false = sym c.if-did_quit.true ∙ c.did_quit.ensures ∙ stays in cc)));
+          c.loop-place.invariant.asked (λ stays. absurd (true≢false (sym c.if-did_quit.true ∙ (c.did_quit.ensures ∙ stays)))));
     }
 
 pub loop-place-preserved : goal.loop-place-preserved

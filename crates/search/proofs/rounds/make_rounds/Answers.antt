@@ -1,12 +1,14 @@
-use Rattle.std.proofs.Common.{◌≡◌, ℕ, ◌+◌, ◌≤◌, true, false, length, refl, sym, subst, ◌∙◌, arith}
-use Rattle.search.specs.Questions.{once}
+use Rattle.std.proofs.Common.{◌≡◌, ℕ, ◌+◌, ◌≤◌, length, refl, sym, subst, ◌∙◌, arith}
+use Rattle.std.proofs.lemmas.Bool.{false≢true}
+use Rattle.search.specs.Questions.{AreAsked, in_rounds, once}
 use Rattle.search.specs.Desks.{IsLaidOut}
 use Rattle.search.specs.Offers.{IsOffered}
 use Rattle.search.specs.Conclusions.{plan_in}
-use Rattle.search.specs.NodesInWork.{IsWorkedOn, is_left_open}
+use Rattle.search.specs.NodesInWork.{IsWorkedOn}
 use Rattle.search.proofs.Asking.{are_asked_again, are_asked_within, are_unasked, asked_in_all, asked_once, length-asked}
 use Rattle.search.proofs.Asking.{may_be_asked_yet}
 use Rattle.search.proofs.Evaluating.{not_offered, offered_again}
+use Rattle.search.proofs.rounds.make_rounds.Goals.{else-loop-round-test, then-loop-round-test+then-not-is_open-2}
 use Rattle.search.proofs.rounds.make_rounds.Goals as goal
 
 pub returns-in_err-desk-clause-asked : goal.returns-in_err-desk-clause-asked
@@ -29,14 +31,7 @@ pub returns-then-not-is_open-clause-asked : goal.returns-then-not-is_open-clause
 returns-then-not-is_open-clause-asked g c = are_unasked _ _ c.args.rounds c.args.advisors.now.items
 
 pub returns-then-not-is_open-clause-least : goal.returns-then-not-is_open-clause-least
-returns-then-not-is_open-clause-least g c = λ left. let no : true ≡ false = cc in cc
-
-pub returns-then-not-is_open-2-clause-asked : goal.returns-then-not-is_open-2-clause-asked
-returns-then-not-is_open-2-clause-asked g c =
-    are_asked_within _ _ 0 c.loop-round.round 0 c.args.rounds c.args.advisors.now.items c.loop-round.advisors.items (omega arith) (omega (arith, c.loop-round-test.true)) c.loop-round.invariant.asked
-
-pub returns-then-not-is_open-2-clause-least : goal.returns-then-not-is_open-2-clause-least
-returns-then-not-is_open-2-clause-least g c = λ left. let no : true ≡ false = cc in cc
+returns-then-not-is_open-clause-least g c = λ left. absurd (false≢true (sym c.if-not-is_open.true ∙ (c.is_open.ensures ∙ left)))
 
 pub make_round-requires-clause-room : goal.make_round-requires-clause-room
 make_round-requires-clause-room g c =
@@ -67,7 +62,7 @@ loop-round-preserved g c =
       asked = are_asked_again _ _ 0 c.loop-round.round 0 1 c.args.advisors.now.items c.loop-round.advisors.items c.make_round.new.advisors.items c.loop-round.invariant.asked c.make_round.ensures.asked;
       first = λ none. absurd (omega (arith, none));
       least = λ some left. asked_once _ _ c.loop-round.round (once c.loop-round.desk.has_enough.items) c.args.advisors.now.items c.loop-round.advisors.items c.make_round.new.advisors.items c.loop-round.invariant.first c.loop-round.invariant.asked
-          (λ more. c.loop-round.invariant.least more (let stays : is_left_open (plan_in c.loop-round.best) c.loop-round.work ≡ true = cc in stays)) (c.in_ok-make_round.ensures.least left) c.make_round.ensures.asked;
+          (λ more. c.loop-round.invariant.least more (sym c.is_open-in-loop-round.ensures ∙ c.if-not-is_open-2.false)) (c.in_ok-make_round.ensures.least left) c.make_round.ensures.asked;
     }
 
 pub returns-clause-asked : goal.returns-clause-asked
@@ -76,5 +71,10 @@ returns-clause-asked g c =
 
 pub returns-clause-least : goal.returns-clause-least
 returns-clause-least g c = λ left.
-    asked_in_all _ _ c.args.rounds c.loop-round.round c.args.advisors.now.items c.loop-round.advisors.items (omega (arith, c.loop-round-test.false)) (omega (arith, c.loop-round.auto.round-end)) c.loop-round.invariant.asked
-    (λ some. c.loop-round.invariant.least some left)
+    elim c.loop-round-test.branch as (λ _. AreAsked c.args.advisors.now.items c.loop-round.advisors.items (λ b. (goal.Advisor-dyn g (b.vtable, b.value)).asked b.value)
+    (λ b. (goal.Advisor-dyn g (b.vtable, b.value)).has_quit b.value) (in_rounds c.args.rounds 1) c.args.rounds) [
+      | else-loop-round-test w ↦
+          asked_in_all _ _ c.args.rounds c.loop-round.round c.args.advisors.now.items c.loop-round.advisors.items (omega (arith, w.loop-round-test.false)) (omega (arith, c.loop-round.auto.round-end)) c.loop-round.invariant.asked
+          (λ some. c.loop-round.invariant.least some left)
+      | then-loop-round-test+then-not-is_open-2 w ↦ absurd (false≢true (sym w.if-not-is_open-2.true ∙ (w.is_open-in-loop-round.ensures ∙ left)))
+    ]
