@@ -167,10 +167,12 @@ impl Work {
         let Work {
             region,
             kept,
+            last,
             cut,
             end,
             ..
         } = self;
+        drop(last);
         if let Some(ending) = end {
             return SearchNode::Fixed(ending.into_leaf());
         }
