@@ -64,8 +64,8 @@ pub fn simulate(
     // What these two calls ensure of trips and links is what the law of running asks of the day.
     prove!(instance.trips() as usize <= MOST_TRIPS);
     prove!(instance.links() as usize <= MOST_LINKS);
-    let mut day = Day::new(alloc, instance, plan)?;
     let order = fixed_order(alloc, instance)?;
+    let mut day = Day::new(alloc, instance, plan)?;
     if let Err(fault) = step_all(&mut day, order.as_slice()) {
         return Err(SimulateRefusal::Stops(fault));
     }
