@@ -5,7 +5,10 @@ use Rattle.std.proofs.lemmas.List.{drop_more}
 use Rattle.rail_base.proofs.Answers.{Unless-then, Unless-from}
 use Rattle.rail_base.specs.Answers.{◌>>=◌, Fails}
 use Rattle.timetable.specs.Day.{units_in}
+use Rattle.timetable.specs.Handovers.{handover_at, handovers_from, second_of}
 use Rattle.timetable.specs.Rowwise.{accept_each}
+use Rattle.timetable.specs.declared.day.records.Handover.{Handover}
+use Rattle.timetable.specs.declared.day.records.Link.{Link}
 use Rattle.timetable.specs.declared.day.records.Stock.{Stock}
 use Rattle.timetable.specs.declared.day.records.Unit.{Unit}
 
@@ -63,4 +66,14 @@ units_more units after stock i row whole inside is added so_far =
     ap (λ (us : List Unit). us ++ units_in (drop (i + 1) stock)) added
     ∙ append_assoc units new (units_in (drop (i + 1) stock))
     ∙ sym (ap (λ (later : List Stock). units ++ units_in later) (row_first stock i row inside is))
+    ∙ so_far
+
+-- the hand-over of a link is added, if it has one, and all hand-overs are the same
+pub handovers_more : (handovers after : List Handover) (links : List Link) (i : ℕ) (link : Link) (whole : List Handover)
+    → i < length links → link ≡ get_or links i link → after ≡ handovers ++ handover_at i (second_of link.kind)
+    → handovers ++ handovers_from i (drop i links) ≡ whole → after ++ handovers_from (i + 1) (drop (i + 1) links) ≡ whole
+handovers_more handovers after links i link whole inside is added so_far =
+    ap (λ (hs : List Handover). hs ++ handovers_from (i + 1) (drop (i + 1) links)) added
+    ∙ append_assoc handovers (handover_at i (second_of link.kind)) (handovers_from (i + 1) (drop (i + 1) links))
+    ∙ sym (ap (λ (later : List Link). handovers ++ handovers_from i later) (row_first links i link inside is))
     ∙ so_far
