@@ -142,8 +142,8 @@ fn write_fits(
 
 /// Puts values at two indices, and writes what is told of the multipliers then.
 fn write_put(text: &mut String, multipliers: &mut Multipliers) -> Result<(), AllocError> {
-    let puts = [(3, 30), (2, -30), (3, 1_000_000_000_001)];
-    write_puts(text, multipliers, &puts)?;
+    let puts = &[(3, 30), (2, -30), (3, 1_000_000_000_001)];
+    write_puts(text, multipliers, puts)?;
     write_values(text, multipliers)?;
     write_fits(text, multipliers, &[(4, 2), (4, 3), (3, 2)])
 }

@@ -164,7 +164,7 @@ fn planned(
     requires asked { All (λ advisor. asked advisor ≤ 2 ^ 63) advisors.old.items }
 {
     let mut folder = folder_of(rt, alloc, &one_stays(), Vec::new(alloc))?;
-    let mut out = ample_sink(alloc)?;
+    let mut out = ample_sink(alloc, 1000)?;
     let words = words_of(rt, alloc, words)?;
     let status = railplan(alloc, &words, &mut folder, &mut out, advisors);
     Ok(told(alloc, status, out.written(), advisors)?)

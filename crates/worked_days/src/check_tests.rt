@@ -51,7 +51,7 @@ fn answers_that_are_valid(rt: HostRuntime) -> Result<(), Fail> {
     let answer =
         "railplan answer 1\noptimal 120\nbranchings 0\nrun 0 0 1\nrun 1 1 0\ntree\ncost 120 0\nend\n";
     expect_check(&rt, alloc, &base_day(), answer, 0, "valid optimal 120\n")?;
-    let cases = [
+    let cases = &[
         (
             "optimal 190\nbranchings 0\nrun 0 0 1\nrun 1 1\ntree\ncost 190 2 2:-45 3:45\nend\n",
             "valid optimal 190\n",
@@ -70,14 +70,14 @@ fn answers_that_are_valid(rt: HostRuntime) -> Result<(), Fail> {
             "valid optimal 190\n",
         ),
     ];
-    expect_each(&rt, alloc, &cases, 0)?;
+    expect_each(&rt, alloc, cases, 0)?;
     Ok(())
 }
 
 #[test]
 fn answers_that_say_that_no_plan_runs(rt: HostRuntime) -> Result<(), Fail> {
     let alloc = rt.alloc();
-    let valid = [
+    let valid = &[
         "railplan answer 1\ninfeasible\nbranchings 0\ntree\nray 1 2:-1\nend\n",
         "railplan answer 1\ninfeasible\nbranchings 0\ntree\nray 1 3:1\nend\n",
     ];
@@ -105,7 +105,7 @@ fn an_answer_to_a_day_of_joins_and_splits(rt: HostRuntime) -> Result<(), Fail> {
 
 #[test]
 fn plans_that_are_wrong(rt: HostRuntime) -> Result<(), Fail> {
-    let cases = [
+    let cases = &[
         (
             "optimal 190\nbranchings 0\nrun 0 0 1\ntree\ncost 190 1 3:70\nend\n",
             "invalid: 1 runs for 2 trips\n",
@@ -127,13 +127,13 @@ fn plans_that_are_wrong(rt: HostRuntime) -> Result<(), Fail> {
             "invalid: cost 191 said, 190 found\n",
         ),
     ];
-    expect_each(&rt, rt.alloc(), &cases, 1)?;
+    expect_each(&rt, rt.alloc(), cases, 1)?;
     Ok(())
 }
 
 #[test]
 fn trees_that_are_wrong(rt: HostRuntime) -> Result<(), Fail> {
-    let cases = [
+    let cases = &[
         (
             "bounded 120\nbranchings 1\ntree\nonly 0 1\ncost 120 0\nend\n",
             "invalid: tree breaks at node 2\n",
@@ -167,7 +167,7 @@ fn trees_that_are_wrong(rt: HostRuntime) -> Result<(), Fail> {
             "invalid: node 0 is not empty\n",
         ),
     ];
-    expect_each(&rt, rt.alloc(), &cases, 1)?;
+    expect_each(&rt, rt.alloc(), cases, 1)?;
     Ok(())
 }
 
@@ -176,17 +176,14 @@ fn trees_that_are_wrong(rt: HostRuntime) -> Result<(), Fail> {
 fn cut_alike(
     alloc: Global,
     branchings: u32,
-    branches: u32,
-    leaves: u32,
+    branches: usize,
+    leaves: usize,
 ) -> Result<String, NoMemory> {
-    let mut text = format!(in alloc; "infeasible\nbranchings {branchings}\ntree\n")?;
-    for _ in 0..branches {
-        text.push_str("only 0 0\n")?;
-    }
-    for _ in 0..leaves {
-        text.push_str("empty\n")?;
-    }
-    text.push_str("end\n")?;
+    let branches = "only 0 0\n".repeat(alloc, branches)?;
+    let leaves = "empty\n".repeat(alloc, leaves)?;
+    let text = format!(in alloc;
+        "infeasible\nbranchings {branchings}\ntree\n{branches}{leaves}end\n"
+    )?;
     Ok(text)
 }
 
@@ -195,7 +192,7 @@ fn expect_alike(
     rt: &impl Abort,
     alloc: Global,
     branchings: u32,
-    leaves: u32,
+    leaves: usize,
     status: u8,
     line: &str,
 ) -> Result<(), NoMemory> {
@@ -205,13 +202,13 @@ fn expect_alike(
 
 #[test]
 fn trees_of_the_most_nodes(rt: HostRuntime) -> Result<(), Fail> {
-    let cases = [
+    let cases = &[
         (4000, 4001, 1, "invalid: node 1 cuts nothing\n"),
         (4000, 4000, 1, "invalid: tree breaks at node 8000\n"),
         (0, 4001, 1, "invalid: 0 branchings said, 4000 found\n"),
         (4000, 4002, 3, "refused answer.txt: too many nodes\n"),
     ];
-    for (branchings, leaves, status, line) in cases {
+    for &(branchings, leaves, status, line) in cases {
         expect_alike(&rt, rt.alloc(), branchings, leaves, status, line)?;
     }
     Ok(())
@@ -219,7 +216,7 @@ fn trees_of_the_most_nodes(rt: HostRuntime) -> Result<(), Fail> {
 
 #[test]
 fn rays_that_are_wrong(rt: HostRuntime) -> Result<(), Fail> {
-    let cases = [
+    let cases = &[
         (
             "infeasible\nbranchings 0\ntree\nray 1 4:1\nend\n",
             "invalid: node 0 has a wrong multiplier\n",
@@ -233,13 +230,13 @@ fn rays_that_are_wrong(rt: HostRuntime) -> Result<(), Fail> {
             "invalid: ray of node 0 is 0\n",
         ),
     ];
-    expect_each(&rt, rt.alloc(), &cases, 1)?;
+    expect_each(&rt, rt.alloc(), cases, 1)?;
     Ok(())
 }
 
 #[test]
 fn heads_that_are_wrong(rt: HostRuntime) -> Result<(), Fail> {
-    let cases = [
+    let cases = &[
         (
             "optimal 190\nbranchings 0\nrun 0 0 1\nrun 1 1\ntree\ncost 120 0\nend\n",
             "invalid: node 0 has bound 120 below 190\n",
@@ -257,14 +254,14 @@ fn heads_that_are_wrong(rt: HostRuntime) -> Result<(), Fail> {
             "invalid: bound 121 said, 120 found\n",
         ),
     ];
-    expect_each(&rt, rt.alloc(), &cases, 1)?;
+    expect_each(&rt, rt.alloc(), cases, 1)?;
     Ok(())
 }
 
 #[test]
 fn files_that_are_refused(rt: HostRuntime) -> Result<(), Fail> {
     let alloc = rt.alloc();
-    let cases = [
+    let cases = &[
         (
             "optimal 190\nbranchings 0\nrun 0 0 1\nrun 1 1\ntree\ncost 190 2 2:-45 3:45\n",
             "refused answer.txt: no end line\n",
@@ -278,16 +275,13 @@ fn files_that_are_refused(rt: HostRuntime) -> Result<(), Fail> {
             "refused answer.txt: line 2\n",
         ),
     ];
-    expect_each(&rt, alloc, &cases, 3)?;
+    expect_each(&rt, alloc, cases, 3)?;
     let no_trips = Day {
         trips: None,
         ..one_stays()
     };
     expect_check(&rt, alloc, &no_trips, "", 5, "cannot read trips.csv\n")?;
-    let wrong_types = Day {
-        types: Some("type\n"),
-        ..one_stays()
-    };
+    let wrong_types = one_stays().with_types("type\n");
     expect_check(
         &rt,
         alloc,

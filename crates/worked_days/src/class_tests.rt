@@ -11,11 +11,7 @@ const TRIPS: &str =
 
 /// The day of a turn with two classes, which takes 90 and 10 passengers in first class.
 fn two_classes() -> Day<'static> {
-    Day {
-        types: Some(TYPES),
-        trips: Some(TRIPS),
-        ..base_day()
-    }
+    base_day().with_types(TYPES).with_trips(TRIPS)
 }
 
 #[test]
@@ -44,16 +40,16 @@ fn each_class_has_its_own_shortage(rt: HostRuntime) -> Result<(), Fail> {
     for (day, line) in &cases {
         expect_document(&rt, alloc, day, 0, line)?;
     }
-    let usual = ["railplan", "plan", "day"];
+    let usual = &["railplan", "plan", "day"];
     let both_return = "optimal 220\nbranchings 0\nrun 0 0 1\nrun 1 1 0\ntree\ncost 220 0\nend\n";
-    expect_answer(&rt, alloc, &two_classes(), &usual, 0, both_return)?;
+    expect_answer(&rt, alloc, &two_classes(), usual, 0, both_return)?;
     Ok(())
 }
 
 #[test]
 fn each_table_has_the_version_of_its_header(rt: HostRuntime) -> Result<(), Fail> {
     let alloc = rt.alloc();
-    let types = [
+    let types = &[
         (
             "type,carriages,seats,metres,family,first\nA,3,200,80,regional,2001\n",
             "refused types.csv: row 1, column first: out of range\n",
@@ -71,19 +67,13 @@ fn each_table_has_the_version_of_its_header(rt: HostRuntime) -> Result<(), Fail>
             "refused types.csv: wrong header\n",
         ),
     ];
-    for (text, line) in types {
-        let day = Day {
-            types: Some(text),
-            ..two_classes()
-        };
+    for &(text, line) in types {
+        let day = two_classes().with_types(text);
         expect_document(&rt, alloc, &day, 3, line)?;
     }
-    let day = Day {
-        trips: Some(
-            "trip,from,departure,to,arrival,km,demand,first\nT1,X,08:00,Y,09:00,10,300,x\n",
-        ),
-        ..two_classes()
-    };
+    let day = two_classes().with_trips(
+        "trip,from,departure,to,arrival,km,demand,first\nT1,X,08:00,Y,09:00,10,300,x\n",
+    );
     let line = "refused trips.csv: row 1, column first: not a number\n";
     expect_document(&rt, alloc, &day, 3, line)?;
     Ok(())

@@ -24,11 +24,46 @@ pub(crate) struct Day<'a> {
     pub(crate) answer: Option<&'a str>,
 }
 
-/// A status and what was written.
-#[derive(Drop)]
-pub(crate) struct Ending {
-    pub(crate) status: u8,
-    pub(crate) written: Vec<u8>,
+impl<'a> Day<'a> {
+    /// The day with another table of types.
+    pub(crate) fn with_types(self, types: &'a str) -> Day<'a> {
+        Day {
+            types: Some(types),
+            ..self
+        }
+    }
+
+    /// The day with another table of stations.
+    pub(crate) fn with_stations(self, stations: &'a str) -> Day<'a> {
+        Day {
+            stations: Some(stations),
+            ..self
+        }
+    }
+
+    /// The day with another table of stock.
+    pub(crate) fn with_stock(self, stock: &'a str) -> Day<'a> {
+        Day {
+            stock: Some(stock),
+            ..self
+        }
+    }
+
+    /// The day with another table of trips.
+    pub(crate) fn with_trips(self, trips: &'a str) -> Day<'a> {
+        Day {
+            trips: Some(trips),
+            ..self
+        }
+    }
+
+    /// The day with another plan.
+    pub(crate) fn with_plan(self, plan: &'a str) -> Day<'a> {
+        Day {
+            plan: Some(plan),
+            ..self
+        }
+    }
 }
 
 /// The day of two trips: X to Y 08:00 to 09:00 and back 09:30 to 10:30, with one unit.
@@ -159,19 +194,16 @@ pub(crate) fn northport() -> Day<'static> {
     }
 }
 
-/// Adds a file where it is there.
+/// Adds a file.
 fn add(
     rt: &impl Abort,
     alloc: Global,
     files: &mut Vec<MemoryFile>,
     path: &str,
-    text: Option<&str>,
+    bytes: &[u8],
 ) -> Result<(), NoMemory> {
     assert!(rt; is_name(path.as_bytes()));
-    if let Some(text) = text {
-        files.push(MemoryFile::new(alloc, path, text.as_bytes())?)?;
-    }
-    Ok(())
+    Ok(files.push(MemoryFile::new(alloc, path, bytes)?)?)
 }
 
 /// Adds the files of a day that are there.
@@ -192,7 +224,9 @@ fn add_day(
         ("day/answer.txt", day.answer),
     ];
     for (path, text) in &rows {
-        add(rt, alloc, files, path, *text)?;
+        if let Some(text) = text {
+            add(rt, alloc, files, path, text.as_bytes())?;
+        }
     }
     Ok(())
 }
@@ -234,9 +268,8 @@ pub(crate) fn folder_with_bytes(
     path: &str,
     bytes: &[u8],
 ) -> Result<MemoryFolder, NoMemory> {
-    assert!(rt; is_name(path.as_bytes()));
     let mut files = Vec::new(alloc);
-    files.push(MemoryFile::new(alloc, path, bytes)?)?;
+    add(rt, alloc, &mut files, path, bytes)?;
     add_day(rt, alloc, &mut files, day)?;
     MemoryFolder::new(alloc, files, Vec::new(alloc))
 }
@@ -282,9 +315,9 @@ pub(crate) fn run_surely(
     run(alloc, words, folder, out)
 }
 
-/// A sink with ample room, whose writes never fail.
-pub(crate) fn ample_sink(alloc: Global) -> Result<MemorySink, NoMemory> {
-    MemorySink::new(alloc, 1000, 1000, Vec::new(alloc))
+/// A sink with room for so many bytes, whose writes never fail.
+pub(crate) fn ample_sink(alloc: Global, room: usize) -> Result<MemorySink, NoMemory> {
+    MemorySink::new(alloc, room, 1000, Vec::new(alloc))
 }
 
 /// The status of a command line over a folder and a sink.
@@ -297,19 +330,6 @@ pub(crate) fn status_of(
 ) -> Result<u8, NoMemory> {
     let words = words_of(rt, alloc, words)?;
     run(alloc, &words, folder, out)
-}
-
-/// What words come to over a folder and a sink.
-pub(crate) fn ending_of(
-    rt: &impl Abort,
-    alloc: Global,
-    words: &[&str],
-    folder: &mut MemoryFolder,
-    mut out: MemorySink,
-) -> Result<Ending, NoMemory> {
-    let status = status_of(rt, alloc, words, folder, &mut out)?;
-    let written = out.written().to_vec(alloc)?;
-    Ok(Ending { status, written })
 }
 
 /// Asserts the status of words over a folder and a sink, and all that is in the sink then.
@@ -337,7 +357,7 @@ pub(crate) fn expect_ample(
     status: u8,
     document: &str,
 ) -> Result<(), NoMemory> {
-    let mut out = ample_sink(alloc)?;
+    let mut out = ample_sink(alloc, 1000)?;
     expect_run(
         rt,
         alloc,
@@ -372,8 +392,8 @@ pub(crate) fn expect_simulated(
     status: u8,
     document: &str,
 ) -> Result<(), NoMemory> {
-    let words = ["railplan", "simulate", "day"];
-    expect_ample(rt, alloc, &words, folder, status, document)
+    let words = &["railplan", "simulate", "day"];
+    expect_ample(rt, alloc, words, folder, status, document)
 }
 
 /// Asserts the status of a day that is simulated, and the document that it writes.

@@ -90,6 +90,32 @@ fn refused_as_a_day() -> Case<'static> {
     }
 }
 
+/// A run of a plan that is not there.
+fn without_plan_file() -> Case<'static> {
+    Case {
+        day: Day {
+            plan: None,
+            ..ring()
+        },
+        status: 5,
+        document: "cannot read plan.csv\n",
+        ..simulated()
+    }
+}
+
+/// A plan of a day whose trips are not there.
+fn without_trips_file() -> Case<'static> {
+    Case {
+        day: Day {
+            trips: None,
+            ..base_day()
+        },
+        status: 5,
+        document: "cannot read trips.csv\n",
+        ..planned()
+    }
+}
+
 /// A check of the answer to the day on which one unit stays. It reads seven files.
 fn checked() -> Case<'static> {
     Case {
@@ -342,16 +368,12 @@ fn each_read_of_the_other_commands_fails_in_turn(rt: HostRuntime) -> Result<(), 
 
 #[test]
 fn each_write_of_a_simulation_fails_in_turn(rt: HostRuntime) -> Result<(), Fail> {
-    let unread = Case {
-        day: Day {
-            plan: None,
-            ..ring()
-        },
-        status: 5,
-        document: "cannot read plan.csv\n",
-        ..simulated()
-    };
-    for case in [simulated(), stopped(), refused_at_once(), unread] {
+    for case in [
+        simulated(),
+        stopped(),
+        refused_at_once(),
+        without_plan_file(),
+    ] {
         expect_writes_cut(&rt, rt.alloc(), &case)?;
     }
     Ok(())
@@ -408,11 +430,8 @@ fn table_of_one_name(alloc: Global, bytes: usize) -> Result<String, NoMemory> {
     let letters = bytes
         .saturating_sub(header.len())
         .saturating_sub(others.len());
-    let mut table = String::from_str(alloc, header)?;
-    for _ in 0..letters {
-        table.push('a')?;
-    }
-    table.push_str(others)?;
+    let name = "a".repeat(alloc, letters)?;
+    let table = format!(in alloc; "{header}{name}{others}")?;
     Ok(table)
 }
 
@@ -449,15 +468,6 @@ fn a_name_may_not_fill_a_table(rt: HostRuntime) -> Result<(), Fail> {
 
 #[test]
 fn a_plan_names_the_file_that_is_not_there(rt: HostRuntime) -> Result<(), Fail> {
-    let unread = Case {
-        day: Day {
-            trips: None,
-            ..base_day()
-        },
-        status: 5,
-        document: "cannot read trips.csv\n",
-        ..planned()
-    };
-    expect_case(&rt, rt.alloc(), &unread)?;
+    expect_case(&rt, rt.alloc(), &without_trips_file())?;
     Ok(())
 }

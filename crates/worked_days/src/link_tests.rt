@@ -7,10 +7,7 @@ use std::test::Fail;
 
 /// The base day with another plan.
 fn with_plan(plan: &str) -> Day {
-    Day {
-        plan: Some(plan),
-        ..base_day()
-    }
+    base_day().with_plan(plan)
 }
 
 #[test]
@@ -28,10 +25,7 @@ fn a_train_turns_on_its_link(rt: HostRuntime) -> Result<(), Fail> {
 fn a_turn_uncouples_at_its_end(rt: HostRuntime) -> Result<(), Fail> {
     let alloc = rt.alloc();
     expect_document(&rt, alloc, &two_types(), 0, "runs 170\n")?;
-    let other_end = Day {
-        plan: Some("trip,units\nT1,0 1\nT2,0\n"),
-        ..two_types()
-    };
+    let other_end = two_types().with_plan("trip,units\nT1,0 1\nT2,0\n");
     expect_document(&rt, alloc, &other_end, 1, "stops: link 0 is broken\n")?;
     Ok(())
 }
@@ -61,10 +55,7 @@ fn arrivals_come_before_departures(rt: HostRuntime) -> Result<(), Fail> {
 fn trains_are_split_and_joined(rt: HostRuntime) -> Result<(), Fail> {
     let alloc = rt.alloc();
     expect_document(&rt, alloc, &ring(), 0, "runs 1270\n")?;
-    let other_order = Day {
-        plan: Some("trip,units\nT1,0 1 2\nT2,0 1\nT3,2\nT4,0 1 2\n"),
-        ..ring()
-    };
+    let other_order = ring().with_plan("trip,units\nT1,0 1 2\nT2,0 1\nT3,2\nT4,0 1 2\n");
     expect_document(&rt, alloc, &other_order, 1, "stops: link 1 is broken\n")?;
     Ok(())
 }
@@ -87,22 +78,13 @@ fn wrong_links_are_refused(rt: HostRuntime) -> Result<(), Fail> {
 #[test]
 fn a_catalogue_has_at_most_1000_compositions(rt: HostRuntime) -> Result<(), Fail> {
     let alloc = rt.alloc();
-    let day = Day {
-        types: Some(
-            "type,carriages,seats,metres,family\nA,3,200,50,regional\nB,3,100,50,regional\nC,3,100,50,regional\n",
-        ),
-        ..two_trips()
-    };
-    let long = Day {
-        stations: Some("station,platform,reallocation\nX,300,30\nY,300,30\n"),
-        ..day
-    };
+    let day = two_trips().with_types(
+        "type,carriages,seats,metres,family\nA,3,200,50,regional\nB,3,100,50,regional\nC,3,100,50,regional\n",
+    );
+    let long = day.with_stations("station,platform,reallocation\nX,300,30\nY,300,30\n");
     let refused = "refused types.csv: too many compositions\n";
     expect_document(&rt, alloc, &long, 3, refused)?;
-    let shorter = Day {
-        stations: Some("station,platform,reallocation\nX,299,30\nY,299,30\n"),
-        ..day
-    };
+    let shorter = day.with_stations("station,platform,reallocation\nX,299,30\nY,299,30\n");
     expect_document(&rt, alloc, &shorter, 0, "runs 60\n")?;
     Ok(())
 }

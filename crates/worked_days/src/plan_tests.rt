@@ -1,8 +1,8 @@
 //! Planning a day: worked days and the answers to them, as the text that is written.
 
 use crate::day::{
-    Day, base_day, both_stay, cheap_shunting, folder_of, northport, one_stays, ready_at_once, ring,
-    status_of, two_trips, two_types,
+    Day, ample_sink, base_day, both_stay, cheap_shunting, folder_of, northport, one_stays,
+    ready_at_once, ring, status_of, two_trips, two_types,
 };
 use rail_base::NoMemory;
 use rail_io::MemorySink;
@@ -25,19 +25,6 @@ fn expect_status(
     Ok(())
 }
 
-/// What is written of a day by these words, whose status is this.
-fn answer_to(
-    rt: &impl Abort,
-    alloc: Global,
-    day: &Day,
-    words: &[&str],
-    status: u8,
-) -> Result<Vec<u8>, NoMemory> {
-    let mut out = MemorySink::new(alloc, 100_000, 1000, Vec::new(alloc))?;
-    expect_status(rt, alloc, day, words, &mut out, status)?;
-    Ok(out.written().to_vec(alloc)?)
-}
-
 /// Asserts the status and the whole answer of a day, by what follows the title line.
 pub(crate) fn expect_answer(
     rt: &impl Abort,
@@ -47,17 +34,32 @@ pub(crate) fn expect_answer(
     status: u8,
     rest: &str,
 ) -> Result<(), NoMemory> {
+    let mut out = ample_sink(alloc, 100_000)?;
+    expect_status(rt, alloc, day, words, &mut out, status)?;
     let answer = format!(in alloc; "railplan answer 1\n{rest}")?;
-    let written = answer_to(rt, alloc, day, words, status)?;
-    assert!(rt; written.as_slice() == answer.as_bytes());
+    assert!(rt; out.written() == answer.as_bytes());
     Ok(())
 }
 
-/// Asserts that a day is planned with status 0, and the front of its answer, by what follows the title line.
-fn expect_front(rt: &impl Abort, alloc: Global, day: &Day, front: &str) -> Result<(), NoMemory> {
+/// Asserts the status of a day that is planned, and the front of its answer, by what follows the title line.
+fn expect_front(
+    rt: &impl Abort,
+    alloc: Global,
+    day: &Day,
+    status: u8,
+    front: &str,
+) -> Result<(), NoMemory> {
+    let mut out = ample_sink(alloc, 100_000)?;
+    expect_status(
+        rt,
+        alloc,
+        day,
+        &["railplan", "plan", "day"],
+        &mut out,
+        status,
+    )?;
     let front = format!(in alloc; "railplan answer 1\n{front}")?;
-    let written = answer_to(rt, alloc, day, &["railplan", "plan", "day"], 0)?;
-    assert!(rt; written.as_slice().starts_with(front.as_bytes()));
+    assert!(rt; out.written().starts_with(front.as_bytes()));
     Ok(())
 }
 
@@ -69,18 +71,12 @@ pub(crate) fn expect_cost(
     cost: u64,
 ) -> Result<(), NoMemory> {
     let front = format!(in alloc; "optimal {cost}\n")?;
-    expect_front(rt, alloc, day, front.as_str())
+    expect_front(rt, alloc, day, 0, front.as_str())
 }
 
 /// Asserts that no plan runs on a day.
 pub(crate) fn expect_impossible(rt: &impl Abort, alloc: Global, day: &Day) -> Result<(), NoMemory> {
-    let written = answer_to(rt, alloc, day, &["railplan", "plan", "day"], 1)?;
-    assert!(rt;
-        written
-            .as_slice()
-            .starts_with(b"railplan answer 1\ninfeasible\n".as_slice())
-    );
-    Ok(())
+    expect_front(rt, alloc, day, 1, "infeasible\n")
 }
 
 /// The words that grant so many branchings and so many rounds.
@@ -93,7 +89,7 @@ fn granted<'a>(nodes: &'a str, rounds: &'a str) -> [&'a str; 7] {
 #[test]
 fn plans_that_are_optimal(rt: HostRuntime) -> Result<(), Fail> {
     let alloc = rt.alloc();
-    let usual = ["railplan", "plan", "day"];
+    let usual = &["railplan", "plan", "day"];
     let both_return = "optimal 120\nbranchings 0\nrun 0 0 1\nrun 1 1 0\ntree\ncost 120 0\nend\n";
     let one_unit = "optimal 60\nbranchings 0\nrun 0 0\nrun 1 0\ntree\ncost 60 0\nend\n";
     let waiting =
@@ -105,7 +101,7 @@ fn plans_that_are_optimal(rt: HostRuntime) -> Result<(), Fail> {
         (northport(), waiting),
     ];
     for (day, rest) in &cases {
-        expect_answer(&rt, alloc, day, &usual, 0, rest)?;
+        expect_answer(&rt, alloc, day, usual, 0, rest)?;
     }
     let one_returns =
         "optimal 190\nbranchings 0\nrun 0 0 1\nrun 1 1\ntree\ncost 190 2 2:-45 3:45\nend\n";
@@ -147,46 +143,36 @@ fn branchings_and_rounds_are_granted(rt: HostRuntime) -> Result<(), Fail> {
 #[test]
 fn days_that_no_plan_runs_on(rt: HostRuntime) -> Result<(), Fail> {
     let alloc = rt.alloc();
-    let usual = ["railplan", "plan", "day"];
+    let usual = &["railplan", "plan", "day"];
     let too_many = "infeasible\nbranchings 0\ntree\nray 1 2:-1\nend\n";
-    expect_answer(&rt, alloc, &both_stay(), &usual, 1, too_many)?;
-    let late = Day {
-        trips: Some(
-            "trip,from,departure,to,arrival,km,demand\nT1,X,08:00,Y,09:00,10,150\nT2,Y,09:29,X,10:30,10,150\n",
-        ),
-        ..two_trips()
-    };
+    expect_answer(&rt, alloc, &both_stay(), usual, 1, too_many)?;
+    let late = two_trips().with_trips(
+        "trip,from,departure,to,arrival,km,demand\nT1,X,08:00,Y,09:00,10,150\nT2,Y,09:29,X,10:30,10,150\n",
+    );
     let not_ready = "infeasible\nbranchings 0\ntree\nray 1 1:1\nend\n";
-    expect_answer(&rt, alloc, &late, &usual, 1, not_ready)?;
-    let same_way = Day {
-        stock: Some("station,type,start,end\nX,A,1,0\nY,A,0,1\n"),
-        trips: Some(
+    expect_answer(&rt, alloc, &late, usual, 1, not_ready)?;
+    let same_way = two_trips()
+        .with_stock("station,type,start,end\nX,A,1,0\nY,A,0,1\n")
+        .with_trips(
             "trip,from,departure,to,arrival,km,demand\nT1,X,08:00,Y,09:00,10,150\nT2,X,08:00,Y,09:00,10,150\n",
-        ),
-        ..two_trips()
-    };
+        );
     let one_for_two = "infeasible\nbranchings 0\ntree\nray 1 0:1\nend\n";
-    expect_answer(&rt, alloc, &same_way, &usual, 1, one_for_two)?;
+    expect_answer(&rt, alloc, &same_way, usual, 1, one_for_two)?;
     Ok(())
 }
 
 #[test]
 fn a_day_without_trips_is_planned(rt: HostRuntime) -> Result<(), Fail> {
     let alloc = rt.alloc();
-    let usual = ["railplan", "plan", "day"];
-    let empty = Day {
-        stock: Some("station,type,start,end\nX,A,2,2\n"),
-        trips: Some("trip,from,departure,to,arrival,km,demand\n"),
-        ..two_trips()
-    };
+    let usual = &["railplan", "plan", "day"];
+    let empty = two_trips()
+        .with_stock("station,type,start,end\nX,A,2,2\n")
+        .with_trips("trip,from,departure,to,arrival,km,demand\n");
     let nothing_to_do = "optimal 0\nbranchings 0\ntree\ncost 0 0\nend\n";
-    expect_answer(&rt, alloc, &empty, &usual, 0, nothing_to_do)?;
-    let one_too_many = Day {
-        stock: Some("station,type,start,end\nX,A,2,1\n"),
-        ..empty
-    };
+    expect_answer(&rt, alloc, &empty, usual, 0, nothing_to_do)?;
+    let one_too_many = empty.with_stock("station,type,start,end\nX,A,2,1\n");
     let none = "infeasible\nbranchings 0\ntree\nray 1 0:-1\nend\n";
-    expect_answer(&rt, alloc, &one_too_many, &usual, 1, none)?;
+    expect_answer(&rt, alloc, &one_too_many, usual, 1, none)?;
     Ok(())
 }
 
@@ -216,7 +202,7 @@ fn the_dearest_day_is_planned(rt: HostRuntime) -> Result<(), Fail> {
     let alloc = rt.alloc();
     let trips = longest_trips(alloc)?;
     let front = "optimal 40076000000000\nbranchings 0\n";
-    expect_front(&rt, alloc, &dearest_day(trips.as_str()), front)?;
+    expect_front(&rt, alloc, &dearest_day(trips.as_str()), 0, front)?;
     Ok(())
 }
 
@@ -224,8 +210,8 @@ fn the_dearest_day_is_planned(rt: HostRuntime) -> Result<(), Fail> {
 fn a_front_of_an_answer_is_written(rt: HostRuntime) -> Result<(), Fail> {
     let alloc = rt.alloc();
     let mut out = MemorySink::new(alloc, 1000, 16, vec![in alloc; 2]?)?;
-    let usual = ["railplan", "plan", "day"];
-    expect_status(&rt, alloc, &base_day(), &usual, &mut out, 6)?;
+    let usual = &["railplan", "plan", "day"];
+    expect_status(&rt, alloc, &base_day(), usual, &mut out, 6)?;
     assert!(rt; out.written() == b"railplan answer 1\noptimal 120\nbr".as_slice());
     Ok(())
 }

@@ -130,10 +130,7 @@ fn expect_trips_run(
 ) -> Result<(), NoMemory> {
     let mut trips = format!(in alloc; "{TRIPS_HEADER}\nT1,X,{departure},Y,09:00,{km},150\n")?;
     write!(&mut trips, "T2,Y,09:30,X,{arrival},{km},150\n")?;
-    let day = Day {
-        trips: Some(trips.as_str()),
-        ..two_trips()
-    };
+    let day = two_trips().with_trips(trips.as_str());
     expect_document(rt, alloc, &day, 0, "runs 60\n")
 }
 
@@ -151,12 +148,10 @@ fn expect_station_runs(rt: &impl Abort, alloc: Global, name: &str) -> Result<(),
     let header = STOCK.header;
     let stock = format!(in alloc; "{header}\n{name},A,1,1\n")?;
     let trips = trips_of_station(alloc, name)?;
-    let day = Day {
-        stations: Some(stations.as_str()),
-        stock: Some(stock.as_str()),
-        trips: Some(trips.as_str()),
-        ..two_trips()
-    };
+    let day = two_trips()
+        .with_stations(stations.as_str())
+        .with_stock(stock.as_str())
+        .with_trips(trips.as_str());
     expect_document(rt, alloc, &day, 0, "runs 60\n")
 }
 
@@ -177,7 +172,7 @@ fn day_of_wrong_rows() -> Day<'static> {
 
 #[test]
 fn a_header_has_its_words_in_order(rt: HostRuntime) -> Result<(), Fail> {
-    for table in [
+    for table in &[
         "",
         "\n\r\n",
         "X,200,30\nY,200,30\n",
@@ -202,7 +197,7 @@ fn a_header_has_its_words_in_order(rt: HostRuntime) -> Result<(), Fail> {
 
 #[test]
 fn wrong_types_are_refused(rt: HostRuntime) -> Result<(), Fail> {
-    let cases = [
+    let cases = &[
         ",3,200,80,r => row 1, column type: not a name",
         "A,three,200,80,r => row 1, column carriages: not a number",
         "A,0,200,80,r => row 1, column carriages: out of range",
@@ -221,22 +216,22 @@ fn wrong_types_are_refused(rt: HostRuntime) -> Result<(), Fail> {
         "A,3,200,80,r\n,0,200,80 => row 2 has 4 fields",
         "A,3,9,80,r\nA,3,8,60,s => row 2: repeated name",
     ];
-    expect_rows_refused(&rt, rt.alloc(), TYPES, "", "", &cases)?;
+    expect_rows_refused(&rt, rt.alloc(), TYPES, "", "", cases)?;
     let five = "A,3,9,80,r\nB,3,9,80,r\nC,3,9,80,r\nD,3,9,80,r\nE,3,9,80,r\n";
-    let sixth = [
+    let sixth = &[
         "F,3,9,80,r\nG,3,9,80,r => too many rows",
         "F,3,9,80,r\n\n,0,x => too many rows",
         "A,3,9,80,r\nA,3,9,80,r => too many rows",
         "F,x,9,80,r\nG,3,9,80,r => row 6, column carriages: not a number",
         "A,3,9,80,r => row 6: repeated name",
     ];
-    expect_rows_refused(&rt, rt.alloc(), TYPES, five, "", &sixth)?;
+    expect_rows_refused(&rt, rt.alloc(), TYPES, five, "", sixth)?;
     Ok(())
 }
 
 #[test]
 fn wrong_stations_and_stock_are_refused(rt: HostRuntime) -> Result<(), Fail> {
-    let stations = [
+    let stations = &[
         ",200,30 => row 1, column station: not a name",
         "X,0,30 => row 1, column platform: out of range",
         "X,1001,30 => row 1, column platform: out of range",
@@ -245,8 +240,8 @@ fn wrong_stations_and_stock_are_refused(rt: HostRuntime) -> Result<(), Fail> {
         "X,200 => row 1 has 2 fields",
         "X,200,30\nX,9,0\nY,200,30 => row 2: repeated name",
     ];
-    expect_rows_refused(&rt, rt.alloc(), STATIONS, "", "", &stations)?;
-    let stock = [
+    expect_rows_refused(&rt, rt.alloc(), STATIONS, "", "", stations)?;
+    let stock = &[
         "X,,1,1 => row 1, column type: not a name",
         "X,A,2001,1 => row 1, column start: out of range",
         "X,A,1,2001 => row 1, column end: out of range",
@@ -260,13 +255,13 @@ fn wrong_stations_and_stock_are_refused(rt: HostRuntime) -> Result<(), Fail> {
         "X,A,2000,1\nY,A,1,0 => too many units",
         "X,A,2000,1\nY,A,1,0\nX,A,0,0 => row 3: repeated station and type",
     ];
-    expect_rows_refused(&rt, rt.alloc(), STOCK, "", "", &stock)?;
+    expect_rows_refused(&rt, rt.alloc(), STOCK, "", "", stock)?;
     Ok(())
 }
 
 #[test]
 fn wrong_trips_are_refused(rt: HostRuntime) -> Result<(), Fail> {
-    let fields = [
+    let fields = &[
         ",X,8:00,Y,9:00,0,150 => row 1, column trip: not a name",
         "T1,,8:00,,9:00,10,150 => row 1, column from: not a name",
         "T1,X,8:00,,9:00,10,150 => row 1, column to: not a name",
@@ -276,8 +271,8 @@ fn wrong_trips_are_refused(rt: HostRuntime) -> Result<(), Fail> {
         "T1,Z,8:00,Z,8:00,10,150 => row 1, column from: unknown name",
         "T1,X,8:00,Z,8:00,10,150 => row 1, column to: unknown name",
     ];
-    expect_rows_refused(&rt, rt.alloc(), TRIPS, "", "", &fields)?;
-    let second = [
+    expect_rows_refused(&rt, rt.alloc(), TRIPS, "", "", fields)?;
+    let second = &[
         "T2,X,9:00,Y,9:00 => row 2 has 5 fields",
         "T1,Z,9:00,Z,9:00,9,9 => row 2: repeated name",
         "T2,X,9:00,X,9:00,9,9 => row 2: same station",
@@ -292,14 +287,14 @@ fn wrong_trips_are_refused(rt: HostRuntime) -> Result<(), Fail> {
         TRIPS,
         "T1,X,8:00,Y,9:00,10,150\n",
         "",
-        &second,
+        second,
     )?;
     Ok(())
 }
 
 #[test]
 fn fields_of_links_are_words_and_names(rt: HostRuntime) -> Result<(), Fail> {
-    let cases = [
+    let cases = &[
         "turn,,,T2,,yes,rear,none => row 1, column arriving: not a name",
         "turn,T1, ,T2,,yes,rear,none => row 1, column arriving2: not a name",
         "turn,T1,,,,yes,rear,none => row 1, column departing: not a name",
@@ -325,13 +320,13 @@ fn fields_of_links_are_words_and_names(rt: HostRuntime) -> Result<(), Fail> {
         "split,T1,,T2,T2,no,none,rear => row 1: fields do not fit the kind",
         "turn,T8,T8,T9,T9,no,none,none => row 1: fields do not fit the kind",
     ];
-    expect_rows_refused(&rt, rt.alloc(), LINKS, "", "", &cases)?;
+    expect_rows_refused(&rt, rt.alloc(), LINKS, "", "", cases)?;
     Ok(())
 }
 
 #[test]
 fn links_fit_their_trips(rt: HostRuntime) -> Result<(), Fail> {
-    let first = [
+    let first = &[
         "turn,T9,,T8,,no,none,none => row 1, column arriving: unknown name",
         "join,T1,T9,T8,,no,none,none => row 1, column arriving2: unknown name",
         "join,T1,T1,T9,,no,none,none => row 1, column departing: unknown name",
@@ -345,8 +340,8 @@ fn links_fit_their_trips(rt: HostRuntime) -> Result<(), Fail> {
         "turn,T2,,T1,,no,none,none => row 1: departure before arrival",
         "turn,T2,,T1,,no,none,none\nturn,T1,,T9,,no,none,none => row 1: departure before arrival",
     ];
-    expect_rows_refused(&rt, rt.alloc(), LINKS, "", "", &first)?;
-    let second = [
+    expect_rows_refused(&rt, rt.alloc(), LINKS, "", "", first)?;
+    let second = &[
         "turn,T1,,T1,,no,none,none => row 2: trip used twice",
         "turn,T2,,T2,,no,none,none => row 2: trip used twice",
         "turn,T2,,T1,,no,none,none => row 2: departure before arrival",
@@ -357,14 +352,14 @@ fn links_fit_their_trips(rt: HostRuntime) -> Result<(), Fail> {
         LINKS,
         "turn,T1,,T2,,no,none,none\n",
         "",
-        &second,
+        second,
     )?;
     Ok(())
 }
 
 #[test]
 fn wrong_weights_are_refused(rt: HostRuntime) -> Result<(), Fail> {
-    let cases = [
+    let cases = &[
         "10001,1,100 => row 1, column carriage: out of range",
         "1,,100 => row 1, column shortage: not a number",
         "1,1,10001 => row 1, column shunting: out of range",
@@ -373,13 +368,13 @@ fn wrong_weights_are_refused(rt: HostRuntime) -> Result<(), Fail> {
         "1,1,100\n1,1,100 => too many rows",
         "1,1,100\n1 => too many rows",
     ];
-    expect_rows_refused(&rt, rt.alloc(), WEIGHTS, "", "", &cases)?;
+    expect_rows_refused(&rt, rt.alloc(), WEIGHTS, "", "", cases)?;
     Ok(())
 }
 
 #[test]
 fn a_plan_has_the_row_of_each_trip(rt: HostRuntime) -> Result<(), Fail> {
-    let rows = [
+    let rows = &[
         "T1\nT2,0 => row 1 has 1 fields",
         ",x\nT2,0 => row 1, column trip: not a name",
         "T2,0\nT1,0 => row 1: wrong trip",
@@ -391,8 +386,8 @@ fn a_plan_has_the_row_of_each_trip(rt: HostRuntime) -> Result<(), Fail> {
         "T1,1999 => row 1: unknown unit",
         " => trip missing after row 0",
     ];
-    expect_rows_refused(&rt, rt.alloc(), PLAN, "", "", &rows)?;
-    let units = [
+    expect_rows_refused(&rt, rt.alloc(), PLAN, "", "", rows)?;
+    let units = &[
         "first => row 1, column units: not a number",
         "0  0 => row 1, column units: not a number",
         " 0 => row 1, column units: not a number",
@@ -402,27 +397,22 @@ fn a_plan_has_the_row_of_each_trip(rt: HostRuntime) -> Result<(), Fail> {
         "0 2000 => row 1, column units: out of range",
         "0 1 2 3 4 5 6 => row 1, column units: out of range",
     ];
-    expect_rows_refused(&rt, rt.alloc(), PLAN, "T1,", "\nT1,0", &units)?;
+    expect_rows_refused(&rt, rt.alloc(), PLAN, "T1,", "\nT1,0", units)?;
     Ok(())
 }
 
 #[test]
 fn fields_are_utf8(rt: HostRuntime) -> Result<(), Fail> {
-    for (bytes, text) in [
-        (
-            b"trip,units\nT1,0\nT2,\xFF".as_slice(),
-            "row 2 is not UTF-8",
-        ),
-        (b"trip,units\n,x\xFF".as_slice(), "row 1 is not UTF-8"),
-        (b"trip,units\n\xC3,\xA9".as_slice(), "row 1 is not UTF-8"),
-        (b"trip,units\nT1,\xFF\nT2".as_slice(), "row 1 is not UTF-8"),
-        (b"trip,units\nT1,0\n\xFF".as_slice(), "row 2 has 1 fields"),
-        (
-            b"trip,units\n,0\nT2,\xFF".as_slice(),
-            "row 1, column trip: not a name",
-        ),
-        (b"trip,units\xFF\nT1,\xFF".as_slice(), "wrong header"),
-    ] {
+    let cases: &[(&[u8], &str)] = &[
+        (b"trip,units\nT1,0\nT2,\xFF", "row 2 is not UTF-8"),
+        (b"trip,units\n,x\xFF", "row 1 is not UTF-8"),
+        (b"trip,units\n\xC3,\xA9", "row 1 is not UTF-8"),
+        (b"trip,units\nT1,\xFF\nT2", "row 1 is not UTF-8"),
+        (b"trip,units\nT1,0\n\xFF", "row 2 has 1 fields"),
+        (b"trip,units\n,0\nT2,\xFF", "row 1, column trip: not a name"),
+        (b"trip,units\xFF\nT1,\xFF", "wrong header"),
+    ];
+    for &(bytes, text) in cases {
         expect_bytes_refused(&rt, rt.alloc(), PLAN.name, bytes, text)?;
     }
     Ok(())
@@ -432,19 +422,19 @@ fn fields_are_utf8(rt: HostRuntime) -> Result<(), Fail> {
 fn names_have_1_to_64_bytes(rt: HostRuntime) -> Result<(), Fail> {
     let alloc = rt.alloc();
     let bytes62 = "ééééééééééééééééééééééééééééééé";
-    for name in ["\"X, \"\"Main\"\"\"", "\"Y \"\"\"", "X  0", "\u{a0}"] {
+    for name in &["\"X, \"\"Main\"\"\"", "\"Y \"\"\"", "X  0", "\u{a0}"] {
         expect_station_runs(&rt, alloc, name)?;
     }
-    for end in ["é", "ee"] {
+    for end in &["é", "ee"] {
         let name = format!(in alloc; "{bytes62}{end}")?;
         expect_station_runs(&rt, alloc, &name)?;
     }
-    let long = [
+    let long = &[
         "ée => row 1, column station: not a name",
         "eee => row 1, column station: not a name",
     ];
-    expect_rows_refused(&rt, alloc, STATIONS, bytes62, ",200,30", &long)?;
-    let wrong = [
+    expect_rows_refused(&rt, alloc, STATIONS, bytes62, ",200,30", long)?;
+    let wrong = &[
         " => row 1, column station: not a name",
         "\"\" => row 1, column station: not a name",
         "X  => row 1, column station: not a name",
@@ -453,17 +443,17 @@ fn names_have_1_to_64_bytes(rt: HostRuntime) -> Result<(), Fail> {
         "\"X\n0\" => row 1, column station: not a name",
         "X\u{7f} => row 1, column station: not a name",
     ];
-    expect_rows_refused(&rt, alloc, STATIONS, "", ",200,30", &wrong)?;
+    expect_rows_refused(&rt, alloc, STATIONS, "", ",200,30", wrong)?;
     Ok(())
 }
 
 #[test]
 fn numbers_have_1_to_9_digits(rt: HostRuntime) -> Result<(), Fail> {
     let alloc = rt.alloc();
-    for km in ["0010", "000000010", "\"10\""] {
+    for km in &["0010", "000000010", "\"10\""] {
         expect_trips_run(&rt, alloc, "08:00", "10:30", km)?;
     }
-    let cases = [
+    let cases = &[
         "0000000010 => row 1, column km: not a number",
         "1000000000 => row 1, column km: not a number",
         " => row 1, column km: not a number",
@@ -477,17 +467,17 @@ fn numbers_have_1_to_9_digits(rt: HostRuntime) -> Result<(), Fail> {
         "000000000 => row 1, column km: out of range",
         "999999999 => row 1, column km: out of range",
     ];
-    expect_rows_refused(&rt, alloc, TRIPS, "T1,X,08:00,Y,09:00,", ",x", &cases)?;
+    expect_rows_refused(&rt, alloc, TRIPS, "T1,X,08:00,Y,09:00,", ",x", cases)?;
     Ok(())
 }
 
 #[test]
 fn times_have_hours_0_to_47(rt: HostRuntime) -> Result<(), Fail> {
     let alloc = rt.alloc();
-    for (departure, arrival) in [("7:05", "47:59"), ("0:00", "24:00"), ("00:00", "\"10:30\"")] {
+    for &(departure, arrival) in &[("7:05", "47:59"), ("0:00", "24:00"), ("00:00", "\"10:30\"")] {
         expect_trips_run(&rt, alloc, departure, arrival, "10")?;
     }
-    for time in [
+    for time in &[
         "48:00", "10:60", "100:30", "", "7:5", "007:05", "7:005", ":05", "7:", "0705", "-7:05",
         " 7:05", "7:05 ", "7:05:00", "7.05",
     ] {
@@ -614,17 +604,11 @@ fn other_forms_of_a_day_run(rt: HostRuntime) -> Result<(), Fail> {
     };
     let stops = "stops: unit 1999 is not ready for trip 1\n";
     expect_document(&rt, alloc, &most, 1, stops)?;
-    let most = Day {
-        plan: Some("\u{feff}trip,units\r\nT1,000\r\n\"T2\",\"0\"\r\n"),
-        ..most
-    };
+    let most = most.with_plan("\u{feff}trip,units\r\nT1,000\r\n\"T2\",\"0\"\r\n");
     expect_document(&rt, alloc, &most, 0, "runs 60\n")?;
-    let at_once = Day {
-        trips: Some(
-            "trip,from,departure,to,arrival,km,demand\nT1,X,08:00,Y,09:00,10,300\nT2,Y,09:00,X,10:00,10,150\n",
-        ),
-        ..base_day()
-    };
+    let at_once = base_day().with_trips(
+        "trip,from,departure,to,arrival,km,demand\nT1,X,08:00,Y,09:00,10,300\nT2,Y,09:00,X,10:00,10,150\n",
+    );
     expect_document(&rt, alloc, &at_once, 0, "runs 120\n")?;
     Ok(())
 }

@@ -1,6 +1,8 @@
 //! Reports on the plan of an answer, and trial days.
 
-use crate::day::{Ending, ending_of, expect_answered, folder_of, one_stays, two_trips};
+use crate::day::{
+    ample_sink, expect_ample, expect_answered, folder_of, one_stays, status_of, two_trips,
+};
 use rail_base::NoMemory;
 use rail_io::MemorySink;
 use std::alloc::Global;
@@ -41,8 +43,8 @@ fn expect_report(
 #[test]
 fn valid_answers_are_reported(rt: HostRuntime) -> Result<(), Fail> {
     let alloc = rt.alloc();
-    let reports = [("duties", DUTIES), ("yards", YARDS), ("costs", COSTS)];
-    for (command, table) in &reports {
+    let reports = &[("duties", DUTIES), ("yards", YARDS), ("costs", COSTS)];
+    for (command, table) in reports {
         expect_report(&rt, alloc, command, ONE_RETURNS, 0, table)?;
         expect_report(&rt, alloc, command, FIRST_BOUND, 1, "no plan\n")?;
     }
@@ -66,37 +68,30 @@ fn valid_answers_are_reported(rt: HostRuntime) -> Result<(), Fail> {
     Ok(())
 }
 
-/// What is written of a trial day by these words, and the status.
-fn trial(rt: &impl Abort, alloc: Global, words: &[&str]) -> Result<Ending, NoMemory> {
-    let mut folder = folder_of(rt, alloc, &two_trips(), Vec::new(alloc))?;
-    let out = MemorySink::new(alloc, 10_000_000, 10_000, Vec::new(alloc))?;
-    ending_of(rt, alloc, words, &mut folder, out)
-}
-
 /// Asserts what comes of a trial day of two trips.
 fn expect_short_trial(rt: &impl Abort, alloc: Global) -> Result<(), NoMemory> {
-    let words = ["railplan", "trial", "07", "2", "--nodes", "224"];
-    let ending = trial(rt, alloc, &words)?;
-    assert!(rt; ending.status == 0);
-    assert!(rt; ending.written.as_slice() == b"trial 7 2\noptimal 640\n".as_slice());
-    Ok(())
+    let mut folder = folder_of(rt, alloc, &two_trips(), Vec::new(alloc))?;
+    let words = &["railplan", "trial", "07", "2", "--nodes", "224"];
+    let document = "trial 7 2\noptimal 640\n";
+    expect_ample(rt, alloc, words, &mut folder, 0, document)
 }
 
-/// Asserts that one ending is that of a plan under this title, and that the other is the same.
-fn expect_same(rt: &impl Abort, first: &Ending, second: &Ending, title: &[u8]) {
-    assert!(rt; first.status == 0 || first.status == 4);
-    assert!(rt; first.written.as_slice().starts_with(title));
-    assert!(rt;
-        second.status == first.status && second.written.as_slice() == first.written.as_slice()
-    );
+/// The status of a trial day of forty trips, whose document goes to a sink.
+fn long_trial(rt: &impl Abort, alloc: Global, out: &mut MemorySink) -> Result<u8, NoMemory> {
+    let mut folder = folder_of(rt, alloc, &two_trips(), Vec::new(alloc))?;
+    let words = &["railplan", "trial", "7", "40", "--nodes=60"];
+    status_of(rt, alloc, words, &mut folder, out)
 }
 
-/// Asserts that a trial day of forty trips comes to the same when it is planned again.
+/// Asserts that a trial day of forty trips comes to a plan, and to the same when it is planned again.
 fn expect_long_trial(rt: &impl Abort, alloc: Global) -> Result<(), NoMemory> {
-    let words = ["railplan", "trial", "7", "40", "--nodes=60"];
-    let first = trial(rt, alloc, &words)?;
-    let second = trial(rt, alloc, &words)?;
-    expect_same(rt, &first, &second, b"trial 7 40\n".as_slice());
+    let mut first = ample_sink(alloc, 10_000_000)?;
+    let mut second = ample_sink(alloc, 10_000_000)?;
+    let status = long_trial(rt, alloc, &mut first)?;
+    assert!(rt; status == 0 || status == 4);
+    assert!(rt; first.written().starts_with(b"trial 7 40\n"));
+    assert!(rt; long_trial(rt, alloc, &mut second)? == status);
+    assert!(rt; second.written() == first.written());
     Ok(())
 }
 

@@ -11,18 +11,12 @@ use std::test::Fail;
 
 /// The day of two trips with other trips.
 fn with_trips(trips: &str) -> Day {
-    Day {
-        trips: Some(trips),
-        ..two_trips()
-    }
+    two_trips().with_trips(trips)
 }
 
 /// The day of two trips with another plan.
 fn with_plan(plan: &str) -> Day {
-    Day {
-        plan: Some(plan),
-        ..two_trips()
-    }
+    two_trips().with_plan(plan)
 }
 
 #[test]
@@ -42,25 +36,13 @@ fn a_trip_has_units_and_each_once(rt: HostRuntime) -> Result<(), Fail> {
     let alloc = rt.alloc();
     let empty = with_plan("trip,units\nT1,0\nT2,\n");
     expect_document(&rt, alloc, &empty, 1, "stops: trip 1 has no units\n")?;
-    let two_units = Day {
-        stock: Some("station,type,start,end\nX,A,2,2\n"),
-        ..two_trips()
-    };
-    let twice = Day {
-        plan: Some("trip,units\nT1,1 1\nT2,1\n"),
-        ..two_units
-    };
+    let two_units = two_trips().with_stock("station,type,start,end\nX,A,2,2\n");
+    let twice = two_units.with_plan("trip,units\nT1,1 1\nT2,1\n");
     let stops = "stops: unit 1 is not ready for trip 0\n";
     expect_document(&rt, alloc, &twice, 1, stops)?;
-    let both = Day {
-        plan: Some("trip,units\nT1,1 0\nT2,0 1\n"),
-        ..two_units
-    };
+    let both = two_units.with_plan("trip,units\nT1,1 0\nT2,0 1\n");
     expect_document(&rt, alloc, &both, 0, "runs 120\n")?;
-    let long = Day {
-        stations: Some("station,platform,reallocation\nX,159,30\nY,200,30\n"),
-        ..both
-    };
+    let long = both.with_stations("station,platform,reallocation\nX,159,30\nY,200,30\n");
     let stops = "stops: trip 0 has no admissible composition\n";
     expect_document(&rt, alloc, &long, 1, stops)?;
     Ok(())
@@ -69,10 +51,7 @@ fn a_trip_has_units_and_each_once(rt: HostRuntime) -> Result<(), Fail> {
 #[test]
 fn stations_end_at_their_balance(rt: HostRuntime) -> Result<(), Fail> {
     let alloc = rt.alloc();
-    let day = Day {
-        stock: Some("station,type,start,end\nX,A,1,0\nY,A,0,1\n"),
-        ..two_trips()
-    };
+    let day = two_trips().with_stock("station,type,start,end\nX,A,1,0\nY,A,0,1\n");
     let stops = "stops: station 0 has 1 units of type 0, 0 wanted\n";
     expect_document(&rt, alloc, &day, 1, stops)?;
     Ok(())
@@ -103,10 +82,9 @@ fn a_day_may_have_no_trips(rt: HostRuntime) -> Result<(), Fail> {
 #[test]
 fn files_are_read_as_csv(rt: HostRuntime) -> Result<(), Fail> {
     let alloc = rt.alloc();
-    let day = Day {
-        stations: Some("\u{feff}station,platform,reallocation\r\n\"X\",200,30\r\n\r\nY,200,30"),
-        ..two_trips()
-    };
+    let day = two_trips().with_stations(
+        "\u{feff}station,platform,reallocation\r\n\"X\",200,30\r\n\r\nY,200,30",
+    );
     expect_document(&rt, alloc, &day, 0, "runs 60\n")?;
     Ok(())
 }
@@ -114,20 +92,14 @@ fn files_are_read_as_csv(rt: HostRuntime) -> Result<(), Fail> {
 #[test]
 fn the_first_wrong_file_is_refused(rt: HostRuntime) -> Result<(), Fail> {
     let alloc = rt.alloc();
-    let day = Day {
-        types: Some(""),
-        ..two_trips()
-    };
+    let day = two_trips().with_types("");
     expect_document(&rt, alloc, &day, 3, "refused types.csv: wrong header\n")?;
     let day = with_trips(
         "trip,from,departure,to,arrival,km,demand\nT1,X,08:00,Y,09:00,0,300\nT2,Y,8h,X,10:10,10,150\n",
     );
     let refused = "refused trips.csv: row 1, column km: out of range\n";
     expect_document(&rt, alloc, &day, 3, refused)?;
-    let short = Day {
-        stations: Some("station,platform,reallocation\nX,79,30\nY,79,30\n"),
-        ..two_trips()
-    };
+    let short = two_trips().with_stations("station,platform,reallocation\nX,79,30\nY,79,30\n");
     let refused = "refused trips.csv: row 1: no composition fits\n";
     expect_document(&rt, alloc, &short, 3, refused)?;
     let unknown = with_plan("trip,units\nT1,0\nT2,1\n");
@@ -160,19 +132,13 @@ fn expect_unread(
 /// Asserts that a day with these line feeds as its types is refused for their length, and where its first read fails
 /// for that; and with one less for its header.
 fn expect_too_long(rt: &impl Abort, alloc: Global, text: &str) -> Result<(), NoMemory> {
-    let day = Day {
-        types: Some(text),
-        ..two_trips()
-    };
+    let day = two_trips().with_types(text);
     expect_document(rt, alloc, &day, 3, "refused types.csv: too long\n")?;
     expect_unread(rt, alloc, &day, 0, "cannot read types.csv\n")?;
     let Some(shorter) = text.get(1..) else {
         panic!(rt; "the text is not empty");
     };
-    let day = Day {
-        types: Some(shorter),
-        ..two_trips()
-    };
+    let day = two_trips().with_types(shorter);
     expect_document(rt, alloc, &day, 3, "refused types.csv: wrong header\n")
 }
 
@@ -207,8 +173,8 @@ fn expect_cut(
     front: &[u8],
 ) -> Result<(), NoMemory> {
     let mut folder = folder_of(rt, alloc, &two_trips(), Vec::new(alloc))?;
-    let words = ["railplan", "simulate", "day"];
-    expect_run(rt, alloc, &words, &mut folder, out, 6, front)
+    let words = &["railplan", "simulate", "day"];
+    expect_run(rt, alloc, words, &mut folder, out, 6, front)
 }
 
 #[test]

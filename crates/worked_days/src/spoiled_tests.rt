@@ -2,11 +2,10 @@
 //! where what they say is still true, and else they are refused or found wrong.
 
 use crate::day::{
-    Day, Ending, ample_sink, base_day, both_stay, cheap_shunting, ending_of, expect_answered,
-    folder_of, folder_with_bytes, northport, one_stays, ring, two_trips, two_types,
+    Day, ample_sink, base_day, both_stay, cheap_shunting, expect_answered, folder_of,
+    folder_with_bytes, northport, one_stays, ring, status_of, two_trips, two_types,
 };
 use rail_base::NoMemory;
-use rail_io::MemorySink;
 use std::alloc::Global;
 use std::process::Abort;
 use std::test::Fail;
@@ -24,16 +23,9 @@ struct Known<'a> {
 /// What is written of a day that is planned by these words.
 fn printed(rt: &impl Abort, alloc: Global, day: &Day, words: &[&str]) -> Result<Vec<u8>, NoMemory> {
     let mut folder = folder_of(rt, alloc, day, Vec::new(alloc))?;
-    let out = MemorySink::new(alloc, 10_000, 10_000, Vec::new(alloc))?;
-    let ending = ending_of(rt, alloc, words, &mut folder, out)?;
-    Ok(ending.written)
-}
-
-/// What a check of these bytes as the answer to a day comes to.
-fn checked(rt: &impl Abort, alloc: Global, day: &Day, answer: &[u8]) -> Result<Ending, NoMemory> {
-    let mut folder = folder_with_bytes(rt, alloc, day, "day/answer.txt", answer)?;
-    let out = ample_sink(alloc)?;
-    ending_of(rt, alloc, &["railplan", "check", "day"], &mut folder, out)
+    let mut out = ample_sink(alloc, 10_000)?;
+    status_of(rt, alloc, words, &mut folder, &mut out)?;
+    Ok(out.written().to_vec(alloc)?)
 }
 
 /// The bytes as a text.
@@ -131,9 +123,11 @@ fn expect_nothing_false(
     known: &Known,
     answer: &[u8],
 ) -> Result<(), NoMemory> {
-    let ending = checked(rt, alloc, &known.day, answer)?;
-    let line = text_of(rt, ending.written.as_slice());
-    assert!(rt; says_nothing_false(known.costs, ending.status, line));
+    let mut folder = folder_with_bytes(rt, alloc, &known.day, "day/answer.txt", answer)?;
+    let mut out = ample_sink(alloc, 1000)?;
+    let words = &["railplan", "check", "day"];
+    let status = status_of(rt, alloc, words, &mut folder, &mut out)?;
+    assert!(rt; says_nothing_false(known.costs, status, text_of(rt, out.written())));
     Ok(())
 }
 
@@ -293,9 +287,9 @@ fn printed_answers_are_valid(rt: HostRuntime) -> Result<(), Fail> {
     for day in &days {
         expect_valid(&rt, alloc, day, &["railplan", "plan", "day"])?;
     }
-    let few = ["railplan", "plan", "day", "--nodes", "1", "--rounds", "0"];
+    let few = &["railplan", "plan", "day", "--nodes", "1", "--rounds", "0"];
     for day in [one_stays(), both_stay(), cheap_shunting(), northport()] {
-        expect_valid(&rt, alloc, &day, &few)?;
+        expect_valid(&rt, alloc, &day, few)?;
     }
     Ok(())
 }
@@ -306,8 +300,8 @@ fn a_spoiled_optimal_answer_says_nothing_false(rt: HostRuntime) -> Result<(), Fa
         day: one_stays(),
         costs: &[190],
     };
-    let usual = ["railplan", "plan", "day"];
-    expect_spoiled(&rt, rt.alloc(), &known, &usual, "optimal 190")?;
+    let usual = &["railplan", "plan", "day"];
+    expect_spoiled(&rt, rt.alloc(), &known, usual, "optimal 190")?;
     Ok(())
 }
 
@@ -317,8 +311,8 @@ fn a_spoiled_bounded_answer_says_nothing_false(rt: HostRuntime) -> Result<(), Fa
         day: cheap_shunting(),
         costs: &[120, 1060],
     };
-    let few = ["railplan", "plan", "day", "--nodes", "1", "--rounds", "0"];
-    expect_spoiled(&rt, rt.alloc(), &known, &few, "bounded 100 plan 1060")?;
+    let few = &["railplan", "plan", "day", "--nodes", "1", "--rounds", "0"];
+    expect_spoiled(&rt, rt.alloc(), &known, few, "bounded 100 plan 1060")?;
     Ok(())
 }
 
@@ -328,7 +322,7 @@ fn a_spoiled_infeasible_answer_says_nothing_false(rt: HostRuntime) -> Result<(),
         day: both_stay(),
         costs: &[],
     };
-    let usual = ["railplan", "plan", "day"];
-    expect_spoiled(&rt, rt.alloc(), &known, &usual, "infeasible")?;
+    let usual = &["railplan", "plan", "day"];
+    expect_spoiled(&rt, rt.alloc(), &known, usual, "infeasible")?;
     Ok(())
 }
