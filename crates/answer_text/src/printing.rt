@@ -89,18 +89,17 @@ fn write_node(text: &mut String, node: &Node) -> Result<(), NoMemory>
     ensures { OnOk result (Adds (string_bytes text.old) (string_bytes text.new) (node_line node.now ∷ [])) }
 {
     match node {
-        Node::Branch(cut) => write_cut(text, cut)?,
+        Node::Branch(cut) => write_cut(text, cut),
         Node::CostLeaf { bound, multipliers } => {
             write!(text, "cost {}", bound.0)?;
-            write_entries(text, multipliers.entries())?;
+            write_entries(text, multipliers.entries())
         }
         Node::RayLeaf { multipliers } => {
             text.push_str("ray")?;
-            write_entries(text, multipliers.entries())?;
+            write_entries(text, multipliers.entries())
         }
-        Node::EmptyLeaf => text.push_str("empty\n")?,
+        Node::EmptyLeaf => Ok(text.push_str("empty\n")?),
     }
-    Ok(())
 }
 
 /// Adds the node that branches by a cut.
