@@ -18,6 +18,7 @@ use crate::pieces::first_piece;
 use crate::refusal::AnswerRefusal;
 use branch_tree::Tree;
 use rail_base::limits::{MOST_NODES, MOST_TRIPS};
+use rail_csv::UnitList;
 use std::alloc::Global;
 
 /// The answer that a text is. A text of `print` is read as the answer that was printed. A refusal names the first wrong
@@ -86,7 +87,7 @@ fn read_from_runs(
         let number = 4 + count as u32;
         let (line, after) = cut_line(number, rest)?;
         if is_line(line, b"tree") {
-            return read_from_nodes(alloc, head, branchings, Runs::of(runs), after);
+            return read_from_nodes(alloc, head, branchings, runs, after);
         }
         if count == most {
             return Err(AnswerRefusal::BadLine(number));
@@ -104,13 +105,14 @@ fn read_from_nodes(
     alloc: Global,
     head: Head,
     branchings: u32,
-    runs: Runs,
+    runs: Vec<UnitList>,
     bytes: &[u8],
 ) -> Result<Answer, AnswerRefusal>
-    requires { length runs ≤ MOST_TRIPS }
-    ensures { Gives is_memory result (reading (at_nodes head branchings runs []) (pieces line_feed bytes.now)) }
+    requires { length runs.items ≤ MOST_TRIPS }
+    ensures { Gives is_memory result (reading (at_nodes head branchings runs.items []) (pieces line_feed bytes.now)) }
 {
-    let first = 5 + runs.items().len() as u32;
+    let trips = runs.len();
+    let first = 5 + trips as u32;
     let mut tree = Tree::new(alloc)?;
     let mut rest = bytes;
     loop {
@@ -120,7 +122,7 @@ fn read_from_nodes(
             let answer = Answer {
                 head,
                 branchings,
-                runs,
+                runs: Runs::of(runs),
                 tree,
             };
             return whole(answer, number, after);

@@ -7,8 +7,8 @@ use Rattle.answer_text.proofs.reading.read_from_nodes.Given as goal
 abbrev pub invariant-loop-tree : goal.invariant-loop-tree
 invariant-loop-tree l = record {
   few : length l.tree ≤ 8001;
-  kept : l.runs ≡ l.fn.runs;
-  same : reading (at_nodes l.head l.branchings l.fn.runs l.tree) (pieces 10 l.rest) ≡ reading (at_nodes l.head l.branchings l.fn.runs []) (pieces 10 l.fn.bytes);
+  kept : l.runs.items ≡ l.fn.runs.items;
+  same : reading (at_nodes l.head l.branchings l.fn.runs.items l.tree) (pieces 10 l.rest) ≡ reading (at_nodes l.head l.branchings l.fn.runs.items []) (pieces 10 l.fn.bytes);
 }
 
 abbrev pub decreases-loop-tree : goal.decreases-loop-tree

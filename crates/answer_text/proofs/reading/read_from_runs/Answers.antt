@@ -3,7 +3,7 @@ use Rattle.std.proofs.lemmas.List.{length_push}
 use Rattle.std.proofs.lemmas.Result.{err_from_is_err_and}
 use Rattle.answer_text.specs.Pieces.{pieces, words_of}
 use Rattle.answer_text.specs.ReadLines.{run_in}
-use Rattle.answer_text.specs.ReadPlaces.{at_nodes, at_runs, reading}
+use Rattle.answer_text.specs.ReadPlaces.{at_runs, reading}
 use Rattle.answer_text.proofs.Turns.{fails, moved, run_cut, run_end, run_on, run_over, run_wrong}
 use Rattle.answer_text.proofs.reading.read_from_runs.Goals as goal
 
@@ -14,14 +14,13 @@ returns-in_err-line c =
     ∙ run_cut c.args.head c.args.branchings c.loop-runs.runs.items (pieces 10 c.loop-runs.rest.now) (4 + c.len-count.result) c.in_err-line.field-0.0 (omega (arith, c.len-count.ensures)) c.in_err-line.ensures))
 
 pub read_from_nodes-requires : goal.read_from_nodes-requires
-read_from_nodes-requires c = omega (arith, ap length c.of.ensures, c.loop-runs.invariant.few, c.most_runs-most.ensures.few)
+read_from_nodes-requires c = omega (arith, c.loop-runs.invariant.few, c.most_runs-most.ensures.few)
 
 pub returns-then-is_line : goal.returns-then-is_line
 returns-then-is_line c =
     moved c.read_from_nodes.result _ _ (sym c.loop-runs.invariant.same
     ∙ run_end c.args.head c.args.branchings c.loop-runs.runs.items (pieces 10 c.loop-runs.rest.now) (pieces 10 c.in_ok-line.after.now) c.in_ok-line.line.now (4 + c.len-count.result) (omega (arith, c.len-count.ensures))
-    c.in_ok-line.ensures (sym c.is_line.ensures ∙ c.if-is_line.true)
-    ∙ ap (λ (runs : List (List ℕ)). reading (at_nodes c.args.head c.args.branchings runs []) (pieces 10 c.in_ok-line.after.now)) (sym c.of.ensures)) c.read_from_nodes.ensures
+    c.in_ok-line.ensures (sym c.is_line.ensures ∙ c.if-is_line.true)) c.read_from_nodes.ensures
 
 pub returns-then-count-most : goal.returns-then-count-most
 returns-then-count-most c =
