@@ -33,15 +33,13 @@ pub fn print(alloc: Global, answer: &Answer) -> Result<Vec<u8>, NoMemory>
 pub fn write_head(text: &mut String, head: &Head) -> Result<(), NoMemory>
     ensures { OnOk result (Adds (string_bytes text.old) (string_bytes text.new) (head_line head.now ∷ [])) }
 {
-    match *head {
-        Head::Optimal { cost } => write!(text, "optimal {}\n", cost.0)?,
-        Head::Infeasible => text.push_str("infeasible\n")?,
-        Head::Bounded { bound } => write!(text, "bounded {}\n", bound.0)?,
-        Head::BoundedPlan { bound, cost } => {
-            write!(text, "bounded {} plan {}\n", bound.0, cost.0)?;
-        }
-    }
-    Ok(())
+    let written = match *head {
+        Head::Optimal { cost } => write!(text, "optimal {}\n", cost.0),
+        Head::Infeasible => text.push_str("infeasible\n"),
+        Head::Bounded { bound } => write!(text, "bounded {}\n", bound.0),
+        Head::BoundedPlan { bound, cost } => write!(text, "bounded {} plan {}\n", bound.0, cost.0),
+    };
+    Ok(written?)
 }
 
 /// Adds the number of branchings.
@@ -106,19 +104,15 @@ fn write_node(text: &mut String, node: &Node) -> Result<(), NoMemory>
 fn write_cut(text: &mut String, cut: &Cut) -> Result<(), NoMemory>
     ensures { OnOk result (Adds (string_bytes text.old) (string_bytes text.new) (node_line (Branch cut.now) ∷ [])) }
 {
-    match cut {
-        Cut::Only { trip, comp } => {
-            write!(text, "only {} {}\n", trip.0, comp.0)?;
-        }
+    let written = match cut {
+        Cut::Only { trip, comp } => write!(text, "only {} {}\n", trip.0, comp.0),
         Cut::AtMost {
             trip,
             unit_type,
             count,
-        } => {
-            write!(text, "most {} {} {count}\n", trip.0, unit_type.0)?;
-        }
-    }
-    Ok(())
+        } => write!(text, "most {} {} {count}\n", trip.0, unit_type.0),
+    };
+    Ok(written?)
 }
 
 /// Adds the number of entries and the entries, as the end of a line.
