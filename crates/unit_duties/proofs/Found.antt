@@ -1,5 +1,5 @@
 -- Where the yards serve, a unit is ready for each place of the next trip.
-use Rattle.std.proofs.Common.{◌≡◌, ◌∙◌, ℕ, ◌≤◌, List, [], ◌∷◌, leb, Option, Some, None, refl, sym, ap, arith}
+use Rattle.std.proofs.Common.{◌≡◌, ◌∙◌, ℕ, ◌≤◌, List, [], ◌∷◌, leb, get_or, Option, Some, None, refl, sym, ap, arith}
 use Rattle.std.specs.Prelude.{◌==◌}
 use Rattle.std.proofs.lemmas.Bool.{false≢true, and_parts, eqb-true, leb-true}
 use Rattle.timetable.specs.Day.{Day, type_of, types_of}
@@ -12,7 +12,7 @@ use Rattle.unit_duties.specs.Yards.{IsFree, AllFound}
 
 module _ (day : Day) (stands : ℕ → Option InYard) (s minute : ℕ) where
   heads : (x y : ℕ) (xs ys : List ℕ) → x ∷ xs ≡ y ∷ ys → x ≡ y
-  heads x y xs ys e = cc
+  heads x y xs ys e = ap (λ (l : List ℕ). get_or l 0 x) e
 
   is_free : (chosen types us : List ℕ) (m u : ℕ) → AreFetched day stands s minute chosen (m ∷ types) (u ∷ us) → IsFree day stands s minute chosen m u
   is_free chosen types us m u all = at (stands u) refl
