@@ -28,3 +28,16 @@ returns-clause-runs c =
     (fault_of day c.args.picks.now c.in_ok-ledger.ledger c.load.new.self c.first_fault.result None c.in_ok-ledger.ensures c.load.ensures c.first_fault.ensures c.in_default-first_fault.is) in
     subst (RunsWith day (picked day c.args.picks.now)) (sym c.in_ok-named_plan.ensures)
     (served_plans_run day (picked day c.args.picks.now) c.trips.ensures.sound c.links.ensures.sound c.units.ensures.once served)
+
+pub returns-clause-plan : goal.returns-clause-plan
+returns-clause-plan c = c.in_ok-named_plan.ensures
+
+pub returns-in-Some-clause-refusal : goal.returns-in-Some-clause-refusal
+returns-in-Some-clause-refusal c = c.in-Some.ensures.some
+
+pub returns-in-Some-first_fault-clause-refusal : goal.returns-in-Some-first_fault-clause-refusal
+returns-in-Some-first_fault-clause-refusal c =
+    let fault = c.in-Some-first_fault.fault in (
+      c.in_default.ensures.none,
+      fault_of c.args.instance.now c.args.picks.now c.in_ok-ledger.ledger c.load.new.self c.first_fault.result (Some fault) c.in_ok-ledger.ensures c.load.ensures c.first_fault.ensures c.in-Some-first_fault.is,
+    )
