@@ -1,5 +1,8 @@
-use Rattle.std.proofs.Common.{◌≡◌, ◌∙◌, ◌≤◌, ◌∷◌, [], ℕ, List, length, reverse, take, set, replicate, sym, subst, ap}
+use Rattle.std.proofs.Common.{◌≡◌, ◌∙◌, ◌<◌, ◌≤◌, ◌∷◌, [], ℕ, List, length, reverse, take, set, get_or, replicate}
+use Rattle.std.proofs.Common.{sym, subst, ap}
 use Rattle.std.proofs.lemmas.List.{take_all}
+use Rattle.std.proofs.lemmas.List.Elements.{All-get_or}
+use Rattle.std.specs.List.{All}
 use Rattle.rail_base.specs.declared.limits.TheConstants.{MOST_COMPOSITION}
 use Rattle.timetable.specs.Day.{to_of, ready_at}
 use Rattle.timetable.specs.Picks.{picked}
@@ -10,12 +13,32 @@ use Rattle.unit_duties.proofs.NextTrip.{NamedSoFar, named_none, named_more, name
 use Rattle.unit_duties.proofs.NextTrip.{is_made, few_next, given_known, standing_next}
 use Rattle.unit_duties.proofs.naming.named_plan.Goals as goal
 
+-- the trip at a place of such an order is one of the day
+is_known : (trips i t : ℕ) (order items : List ℕ) → items ≡ order → All (λ s. s < trips) order → i < length items → t ≡ get_or items i t → t < trips
+is_known trips i t order items is known lt at =
+    subst (λ (s : ℕ). s < trips) (sym at) (All-get_or (λ (s : ℕ). s < trips) items i t lt (subst (All (λ (s : ℕ). s < trips)) (sym is) known))
+
 pub loop-trip-init : goal.loop-trip-init
 loop-trip-init c =
     let day = c.args.instance.now in
     let types = picked c.args.instance.now c.args.picks.now in
     let none = named_none day types c.in_ok-yards.yards c.in_ok-yards.ensures.home in
     subst (λ l. NamedSoFar day types [] l c.in_ok-yards.yards) (ap (λ n. replicate n []) (sym c.trips.ensures.value) ∙ sym c.in_ok-lists.ensures) none
+
+pub fetch-fetched-requires-clause-trip : goal.fetch-fetched-requires-clause-trip
+fetch-fetched-requires-clause-trip c =
+    is_known (length c.args.instance.now.trips) c.loop-trip.trip-index c.trip-item.result c.in_ok-order.order.items c.deref-trip-items.result.now c.deref-trip-items.ensures.value c.in_ok-order.ensures.known c.loop-trip-test.true c.trip-item.is
+
+pub put_together-requires-clause-trip : goal.put_together-requires-clause-trip
+put_together-requires-clause-trip c =
+    is_known (length c.args.instance.now.trips) c.loop-trip.trip-index c.trip-item.result c.in_ok-order.order.items c.deref-trip-items.result.now c.deref-trip-items.ensures.value c.in_ok-order.ensures.known c.loop-trip-test.true c.trip-item.is
+
+pub put_together-requires-clause-lists : goal.put_together-requires-clause-lists
+put_together-requires-clause-lists c = ap length c.deref.ensures.value ∙ c.loop-trip.invariant.long
+
+pub give-requires-clause-trip : goal.give-requires-clause-trip
+give-requires-clause-trip c =
+    is_known (length c.args.instance.now.trips) c.loop-trip.trip-index c.trip-item.result c.in_ok-order.order.items c.deref-trip-items.result.now c.deref-trip-items.ensures.value c.in_ok-order.ensures.known c.loop-trip-test.true c.trip-item.is
 
 pub give-requires-clause-few : goal.give-requires-clause-few
 give-requires-clause-few c =
