@@ -1,7 +1,18 @@
-use Rattle.std.proofs.Common.{◌≡◌, ℕ, ◌+◌, ◌≤◌, length, subst, rules, arith}
+use Rattle.std.proofs.Common.{◌≡◌, ℕ, ◌+◌, ◌≤◌, length, take, refl, sym, ap, ◌∙◌, subst, rules, arith}
 use Rattle.rail_io.specs.Folders.{IsReadFrom, file_at}
 use Rattle.rail_io.proofs.Reading.{IsReading-more}
 use Rattle.rail_io.proofs.whole.read_into.Goals as goal
+
+pub loop-count-init : goal.loop-count-init
+loop-count-init g c =
+    let none : length c.args.bytes.now.items ≡ 0 = ap length c.requires.empty in
+    record {
+      front = λ files tells. c.requires.empty ∙ sym (ap (λ (n : ℕ). take n (file_at files c.args.path.now)) none);
+      within = omega (arith, none);
+      only_reads = record { same = refl; steady = refl; lasting = omega arith; growing = omega arith };
+      at_most = omega arith;
+      exact = λ low. omega (arith, none);
+    }
 
 pub loop-count-preserved : goal.loop-count-preserved
 loop-count-preserved g c =
