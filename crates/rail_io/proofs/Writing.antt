@@ -1,8 +1,8 @@
 -- What holds of a sink while it is given a document piece by piece.
-use Rattle.std.proofs.Common.{ℕ, ◌+◌, ◌≤◌, List, ◌++◌, length, take, drop, Option, Some, None, sym, ap, ◌∙◌, subst, ◌-◌}
+use Rattle.std.proofs.Common.{ℕ, ◌+◌, ◌≤◌, List, [], ◌++◌, length, take, drop, Option, Some, None, sym, ap, ◌∙◌, subst, ◌-◌}
 use Rattle.std.proofs.Common.{arith}
 use Rattle.std.proofs.Math.Seq.{take-add}
-use Rattle.std.proofs.lemmas.List.{append_assoc, length-drop, take_rest}
+use Rattle.std.proofs.lemmas.List.{append-nil, append_assoc, length-drop, take_rest}
 use Rattle.rail_io.specs.Sinks.{Appends}
 
 -- after some writes: this front of the bytes was appended, and the count of faults has not fallen
@@ -10,6 +10,11 @@ pub record IsWriting (bytes : List ℕ) (done : ℕ) (written_before written : O
   pub within : done ≤ length bytes
   pub appended : Appends (take done bytes) written_before written
   pub lasting : faults_before ≤ faults
+
+-- before the first write nothing was appended
+pub Appends-none : (written : Option (List ℕ)) → Appends [] written written
+Appends-none None = tt
+Appends-none (Some x) = sym (append-nil x)
 
 -- what two calls appended, one after the other
 pub Appends-then : (first second : List ℕ) (before between after : Option (List ℕ)) →

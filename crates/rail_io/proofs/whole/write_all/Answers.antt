@@ -1,5 +1,9 @@
-use Rattle.rail_io.proofs.Writing.{IsWriting-more}
+use Rattle.std.proofs.Common.{arith}
+use Rattle.rail_io.proofs.Writing.{Appends-none, IsWriting-more}
 use Rattle.rail_io.proofs.whole.write_all.Goals as goal
+
+pub loop-done-init : goal.loop-done-init
+loop-done-init g c = record { within = omega arith; appended = Appends-none _; lasting = omega arith }
 
 pub loop-done-preserved : goal.loop-done-preserved
 loop-done-preserved g c =
