@@ -1,4 +1,4 @@
-use Rattle.std.proofs.Common.{◌≡◌, ◌<◌, true, false, Some, length, sym, ap, ◌∙◌, arith}
+use Rattle.std.proofs.Common.{◌≡◌, ℕ, true, false, List, Some, sym, subst, ap, ◌∙◌}
 use Rattle.std.specs.Str.{bytes_eq}
 use Rattle.rail_io.proofs.Finding.{first_with-is_held, first_with-here, first_with-later}
 use Rattle.rail_io.proofs.memory.find_file.Goals as goal
@@ -8,12 +8,12 @@ loop-file-init c = first_with-is_held c.args.path.now c.args.files.now
 
 pub returns-then-eq : goal.returns-then-eq
 returns-then-eq c =
-    let within : c.loop-file.file-index < length c.args.files.now = omega arith in
-    let passes : bytes_eq c.args.path.now c.file-item.result.path ≡ true = cc in
-    sym c.loop-file.invariant ∙ first_with-here _ _ _ _ within c.file-item.is passes ∙ ap Some (sym c.items.ensures)
+    let passes : bytes_eq c.args.path.now c.file-item.result.path ≡ true =
+    subst (λ (path : List ℕ). bytes_eq c.args.path.now path ≡ true) c.as_str.ensures.value (sym c.eq.ensures ∙ c.if-eq.true) in
+    sym c.loop-file.invariant ∙ first_with-here _ _ _ _ c.loop-file-test.true c.file-item.is passes ∙ ap Some (sym c.items.ensures)
 
 pub loop-file-preserved : goal.loop-file-preserved
 loop-file-preserved c =
-    let within : c.loop-file.file-index < length c.args.files.now = omega arith in
-    let fails : bytes_eq c.args.path.now c.file-item.result.path ≡ false = cc in
-    sym (first_with-later _ _ _ _ within c.file-item.is fails) ∙ c.loop-file.invariant
+    let fails : bytes_eq c.args.path.now c.file-item.result.path ≡ false =
+    subst (λ (path : List ℕ). bytes_eq c.args.path.now path ≡ false) c.as_str.ensures.value (sym c.eq.ensures ∙ c.if-eq.false) in
+    sym (first_with-later _ _ _ _ c.loop-file-test.true c.file-item.is fails) ∙ c.loop-file.invariant
