@@ -211,10 +211,7 @@ fn offer_edges(pricing: &Pricing<'_>, link: LinkNo, row: &mut CellRow, ahead: &C
             };
             offer_turned(&TurnPrices::new(pricing, link, turn), row, ahead);
         }
-        LinkKind::Join { second, .. } => {
-            offer_handed_over(&PartPrices::new(pricing, link, second), row, ahead);
-        }
-        LinkKind::Split { second, .. } => {
+        LinkKind::Join { second, .. } | LinkKind::Split { second, .. } => {
             offer_handed_over(&PartPrices::new(pricing, link, second), row, ahead);
         }
     }
