@@ -1,4 +1,4 @@
--- The day in two parts: the yards, and then what runs over them.
+-- The day in two parts: the yards, and then the trips and links over them.
 use Rattle.std.proofs.Common.{◌≡◌, ℕ, Bool, true, false, List, [], refl, sym, ap, ◌∙◌, Result, Ok, Err, cond}
 use Rattle.std.specs.Prelude.{nat_lt}
 use Rattle.rail_base.proofs.Answers.{Fails-then}
@@ -18,7 +18,7 @@ use Rattle.timetable.specs.declared.day.records.Station.{Station}
 use Rattle.timetable.specs.declared.day.records.Stock.{Stock}
 use Rattle.timetable.specs.declared.day.records.Trip.{Trip}
 use Rattle.timetable.specs.Build.{accept_type, accept_station, accept_stock, starts_of, types_in, stations_in, stock_in}
-use Rattle.timetable.specs.Build.{catalogue_in, trips_in, weights_in, yards_in, runs_in, day_over, day_of, is_memory}
+use Rattle.timetable.specs.Build.{catalogue_in, trips_in, weights_in, yards_in, trips_and_links_in, day_over, day_of, is_memory}
 use Rattle.timetable.specs.Day.{Day}
 use Rattle.timetable.specs.LinkRows.{links_in}
 use Rattle.timetable.specs.Rowwise.{accept_each}
@@ -107,44 +107,44 @@ yards_first tables =
 pub yards_fail : (tables : Tables) (d : InstanceRefusal) → Fails is_memory d (yards_in tables.types tables.stations tables.stock) → Fails is_memory d (day_of tables)
 yards_fail tables d fails = rw (yards_first tables) (Fails-then is_memory d (yards_in tables.types tables.stations tables.stock) (over_yards tables) fails)
 
--- what runs over these types, stations and stock
+-- the trips and links over these types, stations and stock
 module _ (tables : Tables) (types : List UnitType) (stations : List Station) (stock : List Stock) (made : yards_in tables.types tables.stations tables.stock ≡ Ok (types, stations, stock)) where
-  abbrev with_runs : List Trip × List Link → Result Day InstanceRefusal
-  with_runs runs = Ok (record { types = types; stations = stations; stock = stock; trips = runs.0; links = runs.1; weights = weights_in tables.weights })
+  abbrev with_trips_and_links : List Trip × List Link → Result Day InstanceRefusal
+  with_trips_and_links both = Ok (record { types = types; stations = stations; stock = stock; trips = both.0; links = both.1; weights = weights_in tables.weights })
 
-  runs_last : day_of tables ≡ (runs_in types stations tables.trips tables.links >>= with_runs)
-  unfolding runs_in
-  runs_last =
+  trips_and_links_last : day_of tables ≡ (trips_and_links_in types stations tables.trips tables.links >>= with_trips_and_links)
+  unfolding trips_and_links_in
+  trips_and_links_last =
       yards_first tables
       ∙ ap (λ (r : Result (List UnitType × List Station × List Stock) InstanceRefusal). r >>= over_yards tables) made
-      ∙ two_steps (catalogue_in types stations) _ _ with_runs (λ catalogue.
-      two_steps (trips_in stations types tables.trips) _ _ with_runs (λ trips.
-      two_steps (links_in trips tables.links) _ _ with_runs (λ links. refl)))
+      ∙ two_steps (catalogue_in types stations) _ _ with_trips_and_links (λ catalogue.
+      two_steps (trips_in stations types tables.trips) _ _ with_trips_and_links (λ trips.
+      two_steps (links_in trips tables.links) _ _ with_trips_and_links (λ links. refl)))
 
-  pub runs_fail : (d : InstanceRefusal) → Fails is_memory d (runs_in types stations tables.trips tables.links) → Fails is_memory d (day_of tables)
-  runs_fail d fails = rw (runs_last) (Fails-then is_memory d (runs_in types stations tables.trips tables.links) with_runs fails)
+  pub trips_and_links_fail : (d : InstanceRefusal) → Fails is_memory d (trips_and_links_in types stations tables.trips tables.links) → Fails is_memory d (day_of tables)
+  trips_and_links_fail d fails = rw (trips_and_links_last) (Fails-then is_memory d (trips_and_links_in types stations tables.trips tables.links) with_trips_and_links fails)
 
-  pub runs_make : (trips : List Trip) (links : List Link) → runs_in types stations tables.trips tables.links ≡ Ok (trips, links)
+  pub trips_and_links_make : (trips : List Trip) (links : List Link) → trips_and_links_in types stations tables.trips tables.links ≡ Ok (trips, links)
       → day_of tables ≡ Ok (record { types = types; stations = stations; stock = stock; trips = trips; links = links; weights = weights_in tables.weights })
-  runs_make trips links e = runs_last ∙ ap (λ (r : Result (List Trip × List Link) InstanceRefusal). r >>= with_runs) e
+  trips_and_links_make trips links e = trips_and_links_last ∙ ap (λ (r : Result (List Trip × List Link) InstanceRefusal). r >>= with_trips_and_links) e
 
--- ---- what runs
+-- ---- trips and links
 
 module _ (types : List UnitType) (stations : List Station) (trip_rows : List TripRow) (link_rows : List LinkRow) where
-  pub catalogue_refuses : (d : InstanceRefusal) → Fails is_memory d (catalogue_in types stations) → Fails is_memory d (runs_in types stations trip_rows link_rows)
-  unfolding runs_in
+  pub catalogue_refuses : (d : InstanceRefusal) → Fails is_memory d (catalogue_in types stations) → Fails is_memory d (trips_and_links_in types stations trip_rows link_rows)
+  unfolding trips_and_links_in
   catalogue_refuses d fails = Fails-then is_memory d (catalogue_in types stations) _ fails
 
-  pub trips_refuse : (d : InstanceRefusal) (catalogue : List (List ℕ)) → catalogue_in types stations ≡ Ok catalogue → Fails is_memory d (trips_in stations types trip_rows) → Fails is_memory d (runs_in types stations trip_rows link_rows)
-  unfolding runs_in
+  pub trips_refuse : (d : InstanceRefusal) (catalogue : List (List ℕ)) → catalogue_in types stations ≡ Ok catalogue → Fails is_memory d (trips_in stations types trip_rows) → Fails is_memory d (trips_and_links_in types stations trip_rows link_rows)
+  unfolding trips_and_links_in
   trips_refuse d catalogue e fails = rw (e) (Fails-then is_memory d (trips_in stations types trip_rows) _ fails)
 
   pub links_refuse : (d : InstanceRefusal) (catalogue : List (List ℕ)) (trips : List Trip) → catalogue_in types stations ≡ Ok catalogue → trips_in stations types trip_rows ≡ Ok trips → Fails is_memory d (links_in trips link_rows)
-      → Fails is_memory d (runs_in types stations trip_rows link_rows)
-  unfolding runs_in
+      → Fails is_memory d (trips_and_links_in types stations trip_rows link_rows)
+  unfolding trips_and_links_in
   links_refuse d catalogue trips e1 e2 fails = rw (e1, e2) (Fails-then is_memory d (links_in trips link_rows) _ fails)
 
-  pub runs_said : (catalogue : List (List ℕ)) (trips : List Trip) (links : List Link) → catalogue_in types stations ≡ Ok catalogue → trips_in stations types trip_rows ≡ Ok trips → links_in trips link_rows ≡ Ok links
-      → runs_in types stations trip_rows link_rows ≡ Ok (trips, links)
-  unfolding runs_in
-  runs_said catalogue trips links e1 e2 e3 = rw (e1, e2, e3) refl
+  pub trips_and_links_said : (catalogue : List (List ℕ)) (trips : List Trip) (links : List Link) → catalogue_in types stations ≡ Ok catalogue → trips_in stations types trip_rows ≡ Ok trips → links_in trips link_rows ≡ Ok links
+      → trips_and_links_in types stations trip_rows link_rows ≡ Ok (trips, links)
+  unfolding trips_and_links_in
+  trips_and_links_said catalogue trips links e1 e2 e3 = rw (e1, e2, e3) refl

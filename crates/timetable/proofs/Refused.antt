@@ -230,12 +230,3 @@ first_failed tables d e = first_of_failed _ (day_tests tables) d (subst (Outcome
 pub answer_is_so : (tables : Tables) (answer : Result Day InstanceRefusal) → Gives is_memory answer (day_of tables) → IfErr answer (λ d. Unless (is_memory d) (IsFirstFailed (day_tests tables) d))
 answer_is_so tables (Ok day) e = tt
 answer_is_so tables (Err d) e = Unless-then (is_memory d) (day_of tables ≡ Err d) (IsFirstFailed (day_tests tables) d) (first_failed tables d) e
-
--- once all other tables are accepted, the day fails as its links do
-pub links_fail : (tables : Tables) (types : List UnitType) (stations : List Station) (stock : List Stock) (catalogue : List (List ℕ)) (trips : List Trip) (d : InstanceRefusal)
-    → types_in tables.types ≡ Ok types → stations_in tables.stations ≡ Ok stations → stock_in stations types tables.stock ≡ Ok stock → nat_lt MOST_UNITS (starts_of stock) ≡ false
-    → catalogue_in types stations ≡ Ok catalogue → trips_in stations types tables.trips ≡ Ok trips → Fails is_memory d (links_in trips tables.links) → Fails is_memory d (day_of tables)
-unfolding day_of
-links_fail tables types stations stock catalogue trips d e1 e2 e3 e4 e5 e6 fails =
-    rw (e1, e2, e3, e4, e5, e6) (Fails-then is_memory d (links_in trips tables.links)
-    (λ links. Ok (record { types = types; stations = stations; stock = stock; trips = trips; links = links; weights = weights_in tables.weights })) fails)

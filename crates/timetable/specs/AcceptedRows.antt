@@ -1,9 +1,9 @@
--- The entries that the rows of the tables make, as a day.
+-- The entries that the rows of the tables make: as a day, and as its two parts, the yards and then the trips and links.
 use Rattle.std.specs.Prelude.{◌≡◌, List, Result, Ok, Err}
 use Rattle.compositions.specs.declared.types.UnitType.{UnitType}
 use Rattle.rail_base.specs.Answers.{Fails}
 use Rattle.timetable.specs.declared.building.accepted.AcceptedRows.{AcceptedRows}
-use Rattle.timetable.specs.declared.building.accepted.Runs.{Runs}
+use Rattle.timetable.specs.declared.building.accepted.TripsAndLinks.{TripsAndLinks}
 use Rattle.timetable.specs.declared.building.accepted.Yards.{Yards}
 use Rattle.timetable.specs.declared.building.refusal.InstanceRefusal.{InstanceRefusal}
 use Rattle.timetable.specs.declared.day.records.Link.{Link}
@@ -40,6 +40,7 @@ GivesYards (Ok yards) said = said ≡ Ok (lists_in yards)
 GivesYards (Err refusal) said = Fails is_memory refusal said
 
 -- the trips and links that were said, or their refusal; want of memory may come anyhow
-abbrev pub GivesRuns : Result Runs InstanceRefusal → Result (List Trip × List Link) InstanceRefusal → Type 0
-GivesRuns (Ok runs) said = said ≡ Ok (runs.trips.items, runs.links.items)
-GivesRuns (Err refusal) said = Fails is_memory refusal said
+abbrev pub GivesTripsAndLinks : Result TripsAndLinks InstanceRefusal → Result (List Trip × List Link) InstanceRefusal
+    → Type 0
+GivesTripsAndLinks (Ok both) said = said ≡ Ok (both.trips.items, both.links.items)
+GivesTripsAndLinks (Err refusal) said = Fails is_memory refusal said

@@ -111,7 +111,7 @@ accept_run stations types row trip =
     else if has_fitting types (min (platform_at stations trip.from) (platform_at stations trip.to)) then Ok trip
     else Err (NoComposition row)
 
--- the stations of a row's trip, where its name is new
+-- the stations of a row's trip, where its name is new: the first three tests of `accept_trip`, by themselves
 unfoldable pub ends_in : List Station → List Trip → TripRow → Result (ℕ × ℕ) InstanceRefusal
 ends_in stations before row =
     if has_name (λ t. t.name) before row.name then Err (RepeatedName tables.Trips (row_after before)) else do
@@ -157,7 +157,9 @@ trips_in stations types rows = accept_each (accept_trip stations types) [] rows
 abbrev pub weights_in : WeightsRow → Weights
 weights_in row = record { carriage = row.carriage; shortage = row.shortage; shunting = row.shunting }
 
--- The types, stations and stock that rows make, and then the number of units.
+-- ---- the day in two parts, for the inside of its building
+
+-- The first part of `day_of`: the types, stations and stock that rows make, and then the number of units.
 unfoldable pub yards_in : List TypeRow → List StationRow → List StockRow
     → Result (List UnitType × List Station × List Stock) InstanceRefusal
 yards_in type_rows station_rows stock_rows = do
@@ -166,14 +168,16 @@ yards_in type_rows station_rows stock_rows = do
   stock ← stock_in stations types stock_rows
   if nat_lt MOST_UNITS (starts_of stock) then Err TooManyUnits else Ok (types, stations, stock)
 
--- The trips and links over these types and stations: the number of compositions, trips, and then links.
-unfoldable pub runs_in : List UnitType → List Station → List TripRow → List LinkRow
+-- What `day_over` adds to the first part: the number of compositions, trips, and then links.
+unfoldable pub trips_and_links_in : List UnitType → List Station → List TripRow → List LinkRow
     → Result (List Trip × List Link) InstanceRefusal
-runs_in types stations trip_rows link_rows = do
+trips_and_links_in types stations trip_rows link_rows = do
   catalogue ← catalogue_in types stations
   trips ← trips_in stations types trip_rows
   links ← links_in trips link_rows
   Ok (trips, links)
+
+-- ---- the whole day
 
 -- The day over these types, stations and stock: the number of compositions, trips, and then links.
 abbrev pub day_over : List UnitType → List Station → List Stock → List TripRow → List LinkRow → WeightsRow

@@ -5,8 +5,8 @@ ghost use Rattle.std.specs.Result.{result_and};
 ghost use Rattle.rail_csv.specs.Rows.{AreTypeRows, AreStationRows, AreStockRows, AreTripRows, AreLinkRows};
 ghost use Rattle.rail_csv.specs.Rows.{IsWeightsRow};
 ghost use Rattle.compositions.specs.Catalogue.{catalogue_of};
-ghost use Rattle.timetable.specs.AcceptedRows.{GivesDay, GivesRuns, GivesYards, lists_in};
-ghost use Rattle.timetable.specs.Build.{day_of, yards_in, runs_in, weights_in};
+ghost use Rattle.timetable.specs.AcceptedRows.{GivesDay, GivesTripsAndLinks, GivesYards, lists_in};
+ghost use Rattle.timetable.specs.Build.{day_of, yards_in, trips_and_links_in, weights_in};
 ghost use Rattle.timetable.specs.Compositions.{greatest_in};
 
 use crate::building::entries::{
@@ -61,11 +61,11 @@ pub(crate) fn accept(alloc: Global, tables: Tables) -> Result<AcceptedRows, Inst
         stock,
     } = yards_of(alloc, types, stations, stock)?;
     let types = UnitTypes::new(types.into_entries());
-    let Runs {
+    let TripsAndLinks {
         catalogue,
         trips,
         links,
-    } = runs_of(alloc, &types, &stations, trips, links.items())?;
+    } = trips_and_links_of(alloc, &types, &stations, trips, links.items())?;
     Ok(AcceptedRows {
         types,
         stations: stations.into_entries(),
@@ -138,7 +138,7 @@ fn yards_of(
 
 /// The trips of a day and their links, and the catalogue of the compositions that may run on them.
 #[derive(Drop)]
-struct Runs {
+struct TripsAndLinks {
     catalogue: Catalogue,
     trips: Vec<Trip>,
     links: Vec<Link>,
@@ -146,23 +146,23 @@ struct Runs {
 
 /// The trips and links over these types and stations, or the first test that fails: the catalogue, trips, and then
 /// links.
-fn runs_of(
+fn trips_and_links_of(
     alloc: Global,
     types: &UnitTypes,
     stations: &Named<Station>,
     trips: Rows<TripRow>,
     links: &[LinkRow],
-) -> Result<Runs, InstanceRefusal>
+) -> Result<TripsAndLinks, InstanceRefusal>
     requires stations { length stations.now ≤ MOST_STATIONS }
     requires trips { AreTripRows trips }
     requires links { AreLinkRows links.now }
-    ensures exact { GivesRuns result (runs_in types.now stations.now trips links.now) }
-    ensures catalogue { IfOk result (λ runs. runs.catalogue ≡ catalogue_of types.now (greatest_in stations.now)) }
+    ensures exact { GivesTripsAndLinks result (trips_and_links_in types.now stations.now trips links.now) }
+    ensures catalogue { IfOk result (λ both. both.catalogue ≡ catalogue_of types.now (greatest_in stations.now)) }
 {
     let catalogue = catalogue_of(alloc, types, stations.entries())?;
     let trips = trips_of(alloc, stations, types.items(), trips)?;
     let links = links_of(alloc, &trips, links)?;
-    Ok(Runs {
+    Ok(TripsAndLinks {
         catalogue,
         trips: trips.into_entries(),
         links,

@@ -111,7 +111,8 @@ pub fn staying_units(
 ) -> Option<usize>
     // As many stay as the turn keeps.
     ensures number { result
-        ≡ option_map (λ parts. length parts.kept) (turn_parts itself uncouple couple exchange arriving.now departing.now) }
+        ≡ option_map (λ parts. length parts.kept)
+            (turn_parts itself uncouple couple exchange arriving.now departing.now) }
     // What stays, goes and comes then are the parts of the turn, of types.
     ensures parts { option_map (parts_beside uncouple couple arriving.now departing.now) result
         ≡ turn_parts itself uncouple couple exchange arriving.now departing.now }

@@ -6,13 +6,13 @@ use Rattle.compositions.specs.UnitTypes.{is_within_limits}
 use Rattle.compositions.specs.declared.types.UnitType.{UnitType}
 use Rattle.rail_base.specs.Answers.{Fails}
 use Rattle.rail_csv.specs.declared.rows.LinkRow.{LinkRow}
-use Rattle.timetable.specs.Build.{yards_in, runs_in, is_memory}
+use Rattle.timetable.specs.Build.{yards_in, trips_and_links_in, is_memory}
 use Rattle.timetable.specs.Within.{AreTypes}
 use Rattle.timetable.specs.declared.building.accepted.Yards.{Yards}
 use Rattle.timetable.specs.declared.building.tables.Tables.{Tables}
 use Rattle.timetable.specs.declared.day.records.Station.{Station}
 use Rattle.timetable.proofs.Entries.{are_types, types_within_limits, are_stations}
-use Rattle.timetable.proofs.InParts.{yard_types, yard_stations, yards_fail, runs_fail, runs_make}
+use Rattle.timetable.proofs.InParts.{yard_types, yard_stations, yards_fail, trips_and_links_fail, trips_and_links_make}
 use Rattle.timetable.proofs.building.accepted.accept.Goals as goal
 
 pub returns-in_err-types-clause-exact : goal.returns-in_err-types-clause-exact
@@ -29,16 +29,16 @@ pub new-types-requires-clause-limits : goal.new-types-requires-clause-limits
 new-types-requires-clause-limits c =
     ap (list_all is_within_limits) c.into_entries.ensures ∙ types_within_limits c.args.tables.types _ c.requires.types (yard_types _ _ _ _ _ _ c.in_ok-types.ensures)
 
-pub runs_of-requires-clause-stations : goal.runs_of-requires-clause-stations
-runs_of-requires-clause-stations c = (are_stations c.args.tables.stations _ c.requires.stations (yard_stations _ _ _ _ _ _ c.in_ok-types.ensures)).few
+pub trips_and_links_of-requires-clause-stations : goal.trips_and_links_of-requires-clause-stations
+trips_and_links_of-requires-clause-stations c = (are_stations c.args.tables.stations _ c.requires.stations (yard_stations _ _ _ _ _ _ c.in_ok-types.ensures)).few
 
 pub returns-in_err-catalogue-clause-exact : goal.returns-in_err-catalogue-clause-exact
 returns-in_err-catalogue-clause-exact c =
     let p = err_from_is_err_and c.from_residual-in_err-catalogue.result c.from_residual-in_err-catalogue.ensures.1 in
     let types : c.new-types.result ≡ c.in_ok-types.field-0.types = c.new-types.ensures ∙ c.into_entries.ensures in
-    rw (p.1, p.2) (runs_fail c.args.tables _ _ _ c.in_ok-types.ensures c.in_err-catalogue.field-0.0
-    (subst (λ (types : List UnitType). Fails is_memory c.in_err-catalogue.field-0.0 (runs_in types c.in_ok-types.field-0.stations c.args.tables.trips c.args.tables.links)) types
-    (subst (λ (links : List LinkRow). Fails is_memory c.in_err-catalogue.field-0.0 (runs_in c.new-types.result c.in_ok-types.field-0.stations c.args.tables.trips links)) c.items.ensures c.in_err-catalogue.ensures.exact)))
+    rw (p.1, p.2) (trips_and_links_fail c.args.tables _ _ _ c.in_ok-types.ensures c.in_err-catalogue.field-0.0
+    (subst (λ (types : List UnitType). Fails is_memory c.in_err-catalogue.field-0.0 (trips_and_links_in types c.in_ok-types.field-0.stations c.args.tables.trips c.args.tables.links)) types
+    (subst (λ (links : List LinkRow). Fails is_memory c.in_err-catalogue.field-0.0 (trips_and_links_in c.new-types.result c.in_ok-types.field-0.stations c.args.tables.trips links)) c.items.ensures c.in_err-catalogue.ensures.exact)))
 
 pub returns-clause-exact : goal.returns-clause-exact
 returns-clause-exact c =
@@ -50,7 +50,7 @@ returns-clause-exact c =
     c.in_ok-types.ensures
     ∙ ap (λ (types : List UnitType). Ok (types, yards.stations, yards.stock.items)) (sym types)
     ∙ ap (λ (stations : List Station). Ok (c.new-types.result, stations, yards.stock.items)) (sym stations) in
-    rw (c.weights_of.ensures) (runs_make tables _ _ _ made _ _
-    (ap (λ (stations : List Station). runs_in c.new-types.result stations tables.trips tables.links) stations
-    ∙ ap (λ (links : List LinkRow). runs_in c.new-types.result yards.stations tables.trips links) (sym c.items.ensures)
+    rw (c.weights_of.ensures) (trips_and_links_make tables _ _ _ made _ _
+    (ap (λ (stations : List Station). trips_and_links_in c.new-types.result stations tables.trips tables.links) stations
+    ∙ ap (λ (links : List LinkRow). trips_and_links_in c.new-types.result yards.stations tables.trips links) (sym c.items.ensures)
     ∙ c.in_ok-catalogue.ensures.exact))

@@ -1,4 +1,4 @@
--- There are no more trips than rows; and what refuses the catalogue, the trips or the links refuses what runs.
+-- There are no more trips than rows; and what refuses the catalogue, the trips or the links refuses them all.
 use Rattle.std.proofs.Common.{◌∙◌, List, length, ap, sym, subst, Ok}
 use Rattle.std.proofs.lemmas.Result.{err_from_is_err_and}
 use Rattle.compositions.specs.declared.types.UnitType.{UnitType}
@@ -8,8 +8,8 @@ use Rattle.timetable.specs.Within.{AreTrips}
 use Rattle.timetable.specs.declared.day.records.Station.{Station}
 use Rattle.timetable.specs.declared.day.records.Trip.{Trip}
 use Rattle.timetable.proofs.Entries.{are_trips}
-use Rattle.timetable.proofs.InParts.{catalogue_refuses, trips_refuse, links_refuse, runs_said}
-use Rattle.timetable.proofs.building.accepted.runs_of.Goals as goal
+use Rattle.timetable.proofs.InParts.{catalogue_refuses, trips_refuse, links_refuse, trips_and_links_said}
+use Rattle.timetable.proofs.building.accepted.trips_and_links_of.Goals as goal
 
 pub links_of-requires-clause-trips : goal.links_of-requires-clause-trips
 links_of-requires-clause-trips c =
@@ -39,7 +39,7 @@ returns-in_err-links-clause-exact c =
 
 pub returns-clause-exact : goal.returns-clause-exact
 returns-clause-exact c =
-    runs_said c.args.types.now c.args.stations.now c.args.trips c.args.links.now _ _ _
+    trips_and_links_said c.args.types.now c.args.stations.now c.args.trips c.args.links.now _ _ _
     (ap (catalogue_in c.args.types.now) (sym c.entries.ensures) ∙ c.in_ok-catalogue.ensures.exact)
     (ap (λ (types : List UnitType). trips_in c.args.stations.now types c.args.trips) (sym c.items.ensures) ∙ c.in_ok-trips.ensures)
     c.in_ok-links.ensures
