@@ -7,7 +7,7 @@ ghost use Rattle.unit_duties.specs.Broken.{AreAdmissible};
 use crate::exchange_days::{EARLY_EXCHANGE, EXCHANGE};
 use crate::ledger_tests::{fault_of, running_picks};
 use rail_base::{TripNo, UnitNo};
-use sample_days::{ONE_LEFT, Texts, day_of, plan_of};
+use sample_days::{ONE_LEFT, TURN, Texts, day_of, plan_of};
 use std::alloc::{AllocError, Global};
 use std::process::Abort;
 use std::test::Fail;
@@ -68,6 +68,14 @@ fn duties_with_places(rt: HostRuntime) -> Result<(), Fail> {
     Ok(())
 }
 
+/// A unit at each of two stations, and a trip from each to the other: when the second leaves, the unit that came is not
+/// ready yet.
+const ONE_UNREADY: Texts<'static> = Texts {
+    stock: b"station,type,start,end\nX,A,1,1\nY,A,1,1\n",
+    links: b"kind,arriving,arriving2,departing,departing2,reverse,uncouple,couple\n",
+    ..TURN
+};
+
 /// Days, what is picked for their two trips, and what naming units for that tells: the units of each trip, or a
 /// refusal.
 const NAMED: &[(Texts<'static>, u32, u32, &str)] = &[
@@ -80,6 +88,8 @@ const NAMED: &[(Texts<'static>, u32, u32, &str)] = &[
         "Stock(Balance { station: StationNo(0), unit_type: TypeNo(0), count: 2 })",
     ),
     (ONE_LEFT, 0, 1, "LinkBroken(LinkNo(0))"),
+    // Unit 0 is at Y from 09:00 and ready from 09:30; unit 1 has been ready there all day.
+    (ONE_UNREADY, 0, 0, "0: 0\n1: 1\n"),
     // The unit that is uncoupled at 09:00 is ready at 09:30.
     (EXCHANGE, 2, 3, "0: 0 1\n1: 1 0\n"),
     (
