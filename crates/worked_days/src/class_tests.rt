@@ -1,6 +1,6 @@
 //! Two travel classes: days whose tables are of the second version, and what is refused in them.
 
-use crate::day::{Day, base_day, expect_document};
+use crate::day::{Day, base_day, expect_answered, expect_document};
 use crate::plan_tests::expect_answer;
 use std::test::Fail;
 
@@ -43,6 +43,14 @@ fn each_class_has_its_own_shortage(rt: HostRuntime) -> Result<(), Fail> {
     let usual = &["railplan", "plan", "day"];
     let both_return = "optimal 220\nbranchings 0\nrun 0 0 1\nrun 1 1 0\ntree\ncost 220 0\nend\n";
     expect_answer(&rt, alloc, &two_classes(), usual, 0, both_return)?;
+    Ok(())
+}
+
+#[test]
+fn costs_tell_the_shortages_of_both_classes(rt: HostRuntime) -> Result<(), Fail> {
+    let answer = "railplan answer 1\noptimal 220\nbranchings 0\nrun 0 0 1\nrun 1 1 0\ntree\ncost 220 0\nend\n";
+    let costs = "part,amount\ncarriage,120\nshortage,100\nshunting,0\ntotal,220\n";
+    expect_answered(&rt, rt.alloc(), "costs", &two_classes(), answer, 0, costs)?;
     Ok(())
 }
 
