@@ -30,7 +30,8 @@ STOCK = "station,type,start,end"
 TRIPS = "trip,from,departure,to,arrival,km,demand"
 LINKS = "kind,arriving,arriving2,departing,departing2,reverse,uncouple,couple"
 
-PROGRAM = """//! Finds the bound of the day in this folder as often as `bound` is said; under multipliers, where `priced` is said.
+PROGRAM = """//! Finds the bound of the day in this folder as often as `bound` is said;
+//! under multipliers, where `priced` is said.
 #![tactic(auto)]
 
 ghost use Rattle.std.specs.Prelude.{◌≤◌, length, IfOk};

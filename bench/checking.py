@@ -1,5 +1,5 @@
 #!/usr/bin/env python3
-"""Measures `railplan check`: what a leaf takes beside one bound, and the memory of the largest document that is read.
+"""Measures `railplan check`: what a leaf takes beside one bound.
 
     checking.py BIN
 
@@ -18,10 +18,6 @@ DAYS = ((100, 100, True), (200, 100, True), (400, 100, True), (400, 4000, False)
 
 # The function that bounds a region.
 BOUND = "price_bound::day_bounds::DayBoundsRelaxation::bound"
-
-# Leaves and entries of the largest document.
-MOST_LEAVES = 4001
-MOST_ENTRIES = 1000
 
 
 def draws(seed):
@@ -49,20 +45,6 @@ def write_day(folder, trips):
         "links.csv": ["kind,arriving,arriving2,departing,departing2,reverse,uncouple,couple"] + links,
         "weights.csv": ["carriage,shortage,shunting", "1,1,60"],
     })
-
-
-def write_largest(folder):
-    """The longest document with a whole tree, which is read whole and is invalid at once, and how many bytes it has."""
-    entries = "".join(f" {999_000 + place}:-1000000000000" for place in range(MOST_ENTRIES))
-    leaf = f"cost -100000000000000000000 {MOST_ENTRIES}{entries}\n"
-    path = os.path.join(folder, "answer.txt")
-    with open(path, "w") as answer:
-        answer.write(f"railplan answer 1\nbounded 0\nbranchings {MOST_LEAVES - 1}\ntree\n")
-        answer.write("most 0 0 0\n" * (MOST_LEAVES - 1))
-        for _ in range(MOST_LEAVES):
-            answer.write(leaf)
-        answer.write("end\n")
-    return os.path.getsize(path)
 
 
 def run(words):
@@ -133,11 +115,6 @@ def main():
     for trips, nodes, counted in DAYS:
         with tempfile.TemporaryDirectory() as folder:
             print("| " + " | ".join(map(str, measure(program, folder, trips, nodes, counted))) + " |", flush=True)
-    with tempfile.TemporaryDirectory() as folder:
-        write_day(folder, 400)
-        size = write_largest(folder)
-        status, said, seconds, memory = run([program, "check", folder])
-        print(f"{size:,} bytes: status {status}, {said.decode().strip()}, {seconds:.2f} s, {memory:,} kB")
 
 
 if __name__ == "__main__":

@@ -9,13 +9,14 @@ import os
 import sys
 import tempfile
 
-from checking import run, write_day, write_largest
+from checking import run, write_day
 from simulate import clock, write_tables
 
 TRIPS = 400
 MOST_TABLE_BYTES = 4_194_304
 MOST_ANSWER_BYTES = 134_217_728
 MOST_BRANCHINGS = 4_000
+MOST_ENTRIES = 1_000
 MOST_SECONDS = 600
 TABLES = ("types", "stations", "stock", "trips", "links", "weights")
 
@@ -53,6 +54,20 @@ def write_wide_day(folder, rows, links):
         "links.csv": ["kind,arriving,arriving2,departing,departing2,reverse,uncouple,couple,exchange"] + links,
         "weights.csv": ["carriage,shortage,shunting", "1,1,60"],
     })
+
+
+def write_largest(folder):
+    """The longest document with a whole tree, which is read whole and is invalid at once, and how many bytes it has."""
+    entries = "".join(f" {999_000 + place}:-1000000000000" for place in range(MOST_ENTRIES))
+    leaf = f"cost -100000000000000000000 {MOST_ENTRIES}{entries}\n"
+    path = os.path.join(folder, "answer.txt")
+    with open(path, "w") as answer:
+        answer.write(f"railplan answer 1\nbounded 0\nbranchings {MOST_BRANCHINGS}\ntree\n")
+        answer.write("most 0 0 0\n" * (MOST_BRANCHINGS))
+        for _ in range(MOST_BRANCHINGS + 1):
+            answer.write(leaf)
+        answer.write("end\n")
+    return os.path.getsize(path)
 
 
 def write_plan(folder):

@@ -9,7 +9,6 @@ import os
 import subprocess
 import sys
 import tempfile
-import time
 
 from simulate import clock
 
@@ -43,17 +42,15 @@ def trial_day(folder, trips):
 
 
 def planned(program, folder, nodes, rounds):
-    """The seconds of a run, its most memory in MB, its branchings and its second line."""
+    """The seconds of processor time of a run, its most memory in MB, its branchings and its second line."""
     out = os.path.join(folder, "out.txt")
     words = [program, "plan", folder, "--nodes", str(nodes), "--rounds", str(rounds)]
-    began = time.monotonic()
     with open(out, "wb") as file:
         child = subprocess.Popen(words, stdout=file)
         _, _, usage = os.wait4(child.pid, 0)
-    seconds = time.monotonic() - began
     with open(out, encoding="utf-8") as file:
         lines = [file.readline().rstrip("\n") for _ in range(3)]
-    return usage.ru_utime + usage.ru_stime, usage.ru_maxrss / 1024, int(lines[2].split()[1]), lines[1], seconds
+    return usage.ru_utime + usage.ru_stime, usage.ru_maxrss / 1024, int(lines[2].split()[1]), lines[1]
 
 
 def main():
@@ -65,7 +62,7 @@ def main():
             trial_day(folder, trips)
             base = planned(program, folder, 0, 0)[0]
             for nodes, rounds in ((200, 0), (4000, 0), (200, 20)):
-                seconds, memory, made, line, _ = planned(program, folder, nodes, rounds)
+                seconds, memory, made, line = planned(program, folder, nodes, rounds)
                 each = 1000 * (seconds - base) / max(1, 2 * made)
                 row = f"| {trips} | {made} | {rounds} | {seconds:.2f} | {each:.2f} | {memory:.0f} | `{line}` |"
                 print(row, flush=True)
