@@ -3,7 +3,7 @@ use Rattle.std.proofs.Common.{◌≡◌, ℕ, zero, suc, ◌+◌, ◌<◌, ◌�
 use Rattle.std.proofs.Common.{List, [], ◌∷◌, ◌++◌, get_or, length, refl, ap, ◌∙◌, Some, sym, subst, arith, All}
 use Rattle.std.proofs.Common.{AllPairs, Contains, length-append}
 use Rattle.std.proofs.lemmas.Bool.{ltb-true, lt-ltb, le-ltb, eqb-true, eq-eqb, or_cases, or_left, or_right, and_parts}
-use Rattle.std.proofs.lemmas.Bool.{and_from, cases_order, false≢true}
+use Rattle.std.proofs.lemmas.Bool.{and_from, false≢true}
 use Rattle.std.proofs.lemmas.Bool.Decides.{nat_tests}
 use Rattle.std.proofs.lemmas.Cmp.{same_from_slice_cmp_tested}
 use Rattle.std.specs.Cmp.Lexicographic.{slice_partial_cmp}
@@ -42,25 +42,6 @@ lower_transitive (u ∷ us) (v ∷ vs) (w ∷ ws) h k =
       | inr l ↦ elim (lower_cases v w vs ws k) [
         | inl m ↦ lower_head u w us ws (omega arith)
         | inr m ↦ lower_tail u w us ws (l.0 ∙ m.0) (lower_transitive us vs ws l.1 m.1)
-      ]
-    ]
-
-lower_total : (us vs : List ℕ) → length us ≡ length vs → (us ≡ vs) ⊎ ((is_lower us vs ≡ true) ⊎ (is_lower vs us ≡ true))
-lower_total [] [] e = inl refl
-lower_total [] (v ∷ vs) e = absurd (omega arith)
-lower_total (u ∷ us) [] e = absurd (omega arith)
-lower_total (u ∷ us) (v ∷ vs) e =
-    elim (cases_order u v) [
-      | inl same ↦ elim (lower_total us vs (omega arith)) [
-        | inl t ↦ inl cc
-        | inr t ↦ elim t [
-          | inl l ↦ inr (inl (lower_tail u v us vs same l))
-          | inr l ↦ inr (inr (lower_tail v u vs us (sym same) l))
-        ]
-      ]
-      | inr differ ↦ elim differ [
-        | inl l ↦ inr (inl (lower_head u v us vs l))
-        | inr l ↦ inr (inr (lower_head v u vs us l))
       ]
     ]
 
@@ -126,22 +107,6 @@ before_transitive us vs ws h k =
       | inr l ↦ elim (before_cases vs ws k) [
         | inl m ↦ before_shorter us ws (omega arith)
         | inr m ↦ before_lower us ws (l.0 ∙ m.0) (lower_transitive us vs ws l.1 m.1)
-      ]
-    ]
-
-pub before_total : (us vs : List ℕ) → (us ≡ vs) ⊎ ((comes_before us vs ≡ true) ⊎ (comes_before vs us ≡ true))
-before_total us vs =
-    elim (cases_order (length us) (length vs)) [
-      | inl same ↦ elim (lower_total us vs same) [
-        | inl t ↦ inl t
-        | inr t ↦ elim t [
-          | inl l ↦ inr (inl (before_lower us vs same l))
-          | inr l ↦ inr (inr (before_lower vs us (sym same) l))
-        ]
-      ]
-      | inr differ ↦ elim differ [
-        | inl l ↦ inr (inl (before_shorter us vs l))
-        | inr l ↦ inr (inr (before_shorter vs us l))
       ]
     ]
 

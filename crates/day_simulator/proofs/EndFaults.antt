@@ -337,9 +337,6 @@ module _ (day : Day) (state : State) where
 -- ---- the end
 
 module _ (day : Day) (plan : List (List ℕ)) (state : State) where
-  same_err : (f g : StepFault) → ◌≡◌ {A = Result ℕ StepFault} (Err f) (Err g) → f ≡ g
-  same_err f g h = cc
-
   -- once all is as it should be, there is no fault
   none_at_end : AllWereMade day state → AllAsWanted day state → (f : StepFault) → IsEndFault day state f → ⊥
   none_at_end made balanced (NotNow e) is = is.unmade (made e is.known)

@@ -1,38 +1,16 @@
--- The links that lead into a trip and on from it: their trips are of the day, and so are the units that these give and
--- take.
-use Rattle.std.proofs.Common.{◌≡◌, ℕ, ◌<◌, ◌≤◌, List, length, Bool, Option, Some, None, refl, arith}
-use Rattle.std.specs.Prelude.{option_map, unwrap_or, IfSome}
+-- The units that the links into a trip and on from it give and take are units of the day.
+use Rattle.std.proofs.Common.{ℕ, ◌<◌, ◌≤◌, List, Bool, Option, Some, None, arith}
+use Rattle.std.specs.Prelude.{option_map, unwrap_or}
 use Rattle.std.proofs.lemmas.Bool.{le-leb, leb-true}
-use Rattle.std.proofs.lemmas.Option.{slice_get_within}
 use Rattle.timetable.specs.declared.day.records.Link.{Link}
 use Rattle.timetable.specs.declared.day.records.LinkKind.{LinkKind}
 use Rattle.timetable.specs.declared.day.records.LinkKind.TheVariants.{Turn, Join, Split}
 use Rattle.timetable.specs.Day.{Day, unit_count, type_of}
-use Rattle.timetable.specs.Lists.{count_of, has}
-use Rattle.timetable.specs.Links.{list_of, incoming, outgoing, link_into, link_out, arriving_in, departing_in, turned}
+use Rattle.timetable.specs.Lists.{count_of}
+use Rattle.timetable.specs.Links.{list_of, link_into, link_out, turned}
 use Rattle.timetable.specs.Links.{given_by, taken_by, given, taken, given_with, taken_with}
 use Rattle.timetable.specs.Running.{IsPlan, AreUnits}
-use Rattle.timetable.proofs.NamedTrips.{position_some}
 use Rattle.timetable.proofs.Shares.{turn_shares, count_of-turned}
-
--- the numbers that are found are of links
-pub incoming_within : (day : Day) (t l : ℕ) → incoming day t ≡ Some l → l < length day.links
-unfolding incoming
-incoming_within day t l e = let there = position_some (λ (link : Link). has t (departing_in link.kind)) day.links l e in slice_get_within day.links l there.0 there.1
-
-pub outgoing_within : (day : Day) (t l : ℕ) → outgoing day t ≡ Some l → l < length day.links
-unfolding outgoing
-outgoing_within day t l e = let there = position_some (λ (link : Link). has t (arriving_in link.kind)) day.links l e in slice_get_within day.links l there.0 there.1
-
-within : (n : ℕ) (o : Option ℕ) → ((l : ℕ) → o ≡ Some l → l < n) → IfSome o (λ l. l < n)
-within n None h = tt
-within n (Some l) h = h l refl
-
-pub incoming_known : (day : Day) (t : ℕ) → IfSome (incoming day t) (λ l. l < length day.links)
-incoming_known day t = within (length day.links) (incoming day t) (incoming_within day t)
-
-pub outgoing_known : (day : Day) (t : ℕ) → IfSome (outgoing day t) (λ l. l < length day.links)
-outgoing_known day t = within (length day.links) (outgoing day t) (outgoing_within day t)
 
 -- the units that a link gives or takes are in the list of a trip
 pub given_is_listed : (type_of : ℕ → ℕ) (kind : LinkKind) (r : Bool) (plan : List (List ℕ)) (u : ℕ) → 1 ≤ count_of u (given_by type_of kind r plan) → (t : ℕ) × (1 ≤ count_of u (list_of plan t))

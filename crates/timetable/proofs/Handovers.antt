@@ -1,5 +1,5 @@
 -- The hand-overs of a day: each is that of a join or a split, and each of these has one.
-use Rattle.std.proofs.Common.{◌≡◌, ℕ, zero, suc, ◌+◌, ◌<◌, ◌≤◌, List, [], ◌∷◌, ◌++◌, length, Option, Some, None, refl}
+use Rattle.std.proofs.Common.{◌≡◌, ℕ, zero, suc, ◌+◌, ◌<◌, ◌≤◌, List, [], ◌∷◌, ◌++◌, Option, Some, None, refl}
 use Rattle.std.proofs.Common.{sym, ap, subst, ◌∙◌, arith, slice_get}
 use Rattle.std.specs.List.{All, AllPairs, Contains}
 use Rattle.std.proofs.lemmas.List.Elements.{All-nil, All-cons, All-append, All-weaker, Contains-append_left}
@@ -9,15 +9,6 @@ use Rattle.std.proofs.lemmas.Option.{same_Some}
 use Rattle.timetable.specs.declared.day.records.Link.{Link}
 use Rattle.timetable.specs.Day.{Day}
 use Rattle.timetable.specs.Handovers.{second_of, IsHandover, AreHandovers, handover_at, handovers_from, handovers_of}
-
--- there are no more hand-overs than links
-pub few_handovers : (number : ℕ) (links : List Link) → length (handovers_from number links) ≤ length links
-few_handovers number [] = omega arith
-few_handovers number (link ∷ links) = on (second_of link.kind) (few_handovers (number + 1) links)
-  where
-    on : (o : Option ℕ) → length (handovers_from (number + 1) links) ≤ length links → length (handover_at number o ++ handovers_from (number + 1) links) ≤ suc (length links)
-    on None rest = omega arith
-    on (Some t) rest = omega arith
 
 -- links numbered from a number on, among all links
 record AreFrom (all : List Link) (number : ℕ) (links : List Link) : Type 0 where

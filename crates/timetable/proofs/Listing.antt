@@ -3,7 +3,7 @@ use Rattle.std.proofs.Common.{◌≡◌, inl, inr, ℕ, zero, suc, ◌+◌, ◌<
 use Rattle.std.proofs.Common.{subst, ◌∙◌, arith, length-append, Some, slice_get}
 use Rattle.std.proofs.lemmas.Bool.{cases_lt}
 use Rattle.std.proofs.lemmas.Option.{get_or_from_slice_get}
-use Rattle.timetable.specs.Lists.{listed, joined, sum_below}
+use Rattle.timetable.specs.Lists.{listed, joined}
 
 -- what is in the first of two lists, and in the second
 pub get_first : {X : Type 0} (xs ys : List X) (k : ℕ) → k < length xs → slice_get (xs ++ ys) k ≡ slice_get xs k
@@ -28,10 +28,6 @@ get_listed f (suc n) k below = elim (cases_lt k n) [
       let same : n ≡ k = omega arith in
       ap (λ (i : ℕ). slice_get (listed f n ++ f n ∷ []) i) here ∙ get_second (listed f n) (f n ∷ []) 0 ∙ ap (λ (i : ℕ). Some (f i)) same
 ]
-
-pub length-joined : {X : Type 0} (f : ℕ → List X) (n : ℕ) → length (joined f n) ≡ sum_below (λ k. length (f k)) n
-length-joined f zero = refl
-length-joined f (suc n) = length-append (joined f n) (f n) ∙ ap (λ (k : ℕ). k + length (f n)) (length-joined f n)
 
 -- an entry of one of the lists that are joined
 pub get_joined : {X : Type 0} (f : ℕ → List X) (n s k : ℕ) → s < n → k < length (f s) → slice_get (joined f n) (length (joined f s) + k) ≡ slice_get (f s) k

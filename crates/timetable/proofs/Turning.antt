@@ -101,9 +101,6 @@ greatest-less test (suc n) some fails =
 -- ---- the kept list
 
 module _ (uncouple couple : End) (arriving departing : List ℕ) where
-  fitting : ℕ → Bool
-  fitting = fits_at uncouple couple arriving departing
-
   -- a list that fits is found by its length
   found : (types : List ℕ) → Fits uncouple couple arriving departing types → fits_at uncouple couple arriving departing (length types) ≡ true
   found types fits =

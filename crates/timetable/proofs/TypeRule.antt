@@ -1,7 +1,7 @@
 -- The rule of a link on units is its rule on their types too, and the parts are those of the types.
-use Rattle.std.proofs.Common.{◌≡◌, ℕ, List, [], ◌∷◌, ◌++◌, length, map, reverse, Bool, true, false, cond, Option, Some}
+use Rattle.std.proofs.Common.{◌≡◌, ℕ, List, [], ◌∷◌, ◌++◌, length, map, reverse, Bool, true, false, Option, Some}
 use Rattle.std.proofs.Common.{None, refl, sym, ap, ◌∙◌, slice_get, unwrap_or}
-use Rattle.std.specs.Prelude.{option_map, option_and_then, is_some, nat_le, ◌&&◌, ◌==◌}
+use Rattle.std.specs.Prelude.{option_map, option_and_then, is_some, nat_le, ◌&&◌}
 use Rattle.std.proofs.lemmas.Bool.{and_parts, and_from, false≢true}
 use Rattle.std.proofs.lemmas.List.{length-map, map-append, reverse-append}
 use Rattle.std.proofs.lemmas.Option.{slice_get-map}
@@ -11,10 +11,9 @@ use Rattle.timetable.specs.declared.day.records.Link.{Link}
 use Rattle.timetable.specs.declared.day.records.LinkKind.{LinkKind}
 use Rattle.timetable.specs.declared.day.records.LinkKind.TheVariants.{Turn, Join, Split}
 use Rattle.timetable.specs.Links.{list_of, itself, turn_of, turned, join_holds, split_holds, kind_holds, link_holds}
-use Rattle.timetable.specs.Links.{kept_by, given_by, taken_by, link_out, link_into, outgoing, incoming, kept_with}
+use Rattle.timetable.specs.Links.{given_by, taken_by, link_out, link_into, outgoing, incoming}
 use Rattle.timetable.specs.Links.{given_with, taken_with}
 use Rattle.timetable.specs.Day.{Day}
-use Rattle.timetable.specs.Lists.{has}
 use Rattle.timetable.specs.Turns.{Parts, same, turn_parts}
 use Rattle.timetable.proofs.Turning.{map_parts, turn_parts-map}
 
@@ -96,23 +95,7 @@ module _ (f : ℕ → ℕ) where
       ∙ ap (λ (us : List ℕ). turn_of itself uncouple couple exchange us (map f (list_of plan b))) (turned-map r (list_of plan a))
       ∙ (turn_of-map uncouple couple exchange (turned r (list_of plan a)) (list_of plan b) holds).1
 
-  map-cond : (b : Bool) (xs : List ℕ) → cond b (map f xs) [] ≡ map f (cond b xs [])
-  map-cond true xs = refl
-  map-cond false xs = refl
-
-  -- what is kept, given and taken by a link whose rule holds
-  pub kept_by-map : (kind : LinkKind) (r : Bool) (plan : List (List ℕ)) → kind_holds f kind r plan ≡ true → (from to : ℕ) → kept_by itself kind r (map (map f) plan) from to ≡ map f (kept_by f kind r plan from to)
-  kept_by-map (Turn a b uncouple couple exchange) r plan holds from to =
-      ap (λ (parts : Parts). cond ((from == a) && (to == b)) parts.kept []) (turn-map r uncouple couple exchange plan a b holds)
-      ∙ map-cond ((from == a) && (to == b)) (turn_of f uncouple couple exchange (turned r (list_of plan a)) (list_of plan b)).kept
-  kept_by-map (Join a1 a2 b) r plan holds from to =
-      ap (λ (us : List ℕ). cond (has from (a1 ∷ a2 ∷ []) && (to == b)) (turned r us) []) (list_of-map plan from)
-      ∙ ap (λ (us : List ℕ). cond (has from (a1 ∷ a2 ∷ []) && (to == b)) us []) (turned-map r (list_of plan from))
-      ∙ map-cond (has from (a1 ∷ a2 ∷ []) && (to == b)) (turned r (list_of plan from))
-  kept_by-map (Split a b1 b2) r plan holds from to =
-      ap (λ (us : List ℕ). cond ((from == a) && has to (b1 ∷ b2 ∷ [])) us []) (list_of-map plan to)
-      ∙ map-cond ((from == a) && has to (b1 ∷ b2 ∷ [])) (list_of plan to)
-
+  -- what is given and taken by a link whose rule holds
   pub given_by-map : (kind : LinkKind) (r : Bool) (plan : List (List ℕ)) → kind_holds f kind r plan ≡ true → given_by itself kind r (map (map f) plan) ≡ map f (given_by f kind r plan)
   given_by-map (Turn a b uncouple couple exchange) r plan holds = ap (λ (parts : Parts). parts.given) (turn-map r uncouple couple exchange plan a b holds)
   given_by-map (Join a1 a2 b) r plan holds = refl
@@ -123,21 +106,12 @@ module _ (f : ℕ → ℕ) where
   taken_by-map (Join a1 a2 b) r plan holds = refl
   taken_by-map (Split a b1 b2) r plan holds = refl
 
-  -- what is kept, given and taken on a day, where each link's rule holds
+  -- what is given and taken on a day, where each link's rule holds
   module _ (day : Day) (plan : List (List ℕ)) (holds : (l : ℕ) (link : Link) → slice_get day.links l ≡ Some link → link_holds f link plan ≡ true) where
     kind_at : (o : Option ℕ) (link : Link) → option_and_then (slice_get day.links) o ≡ Some link → kind_holds f link.kind link.reverse plan ≡ true
     unfolding link_holds
     kind_at None link e = absurd cc
     kind_at (Some l) link e = holds l link e
-
-    pub kept-map : (a b : ℕ) → kept_with itself day (map (map f) plan) a b ≡ map f (kept_with f day plan a b)
-    unfolding kept_with
-    kept-map a b = of_link (link_out day a) refl
-      where
-        of_link : (o : Option Link) → link_out day a ≡ o
-            → unwrap_or (option_map (λ link. kept_by itself link.kind link.reverse (map (map f) plan) a b) o) [] ≡ map f (unwrap_or (option_map (λ link. kept_by f link.kind link.reverse plan a b) o) [])
-        of_link None e = refl
-        of_link (Some link) e = kept_by-map link.kind link.reverse plan (kind_at (outgoing day a) link e) a b
 
     pub given-map : (t : ℕ) → given_with itself day (map (map f) plan) t ≡ map f (given_with f day plan t)
     unfolding given_with

@@ -3,15 +3,12 @@ use Rattle.std.proofs.Common.{◌≡◌, ℕ, zero, suc, ◌+◌, ◌<◌, List,
 use Rattle.std.proofs.Common.{ap, subst, ◌∙◌, slice_get}
 use Rattle.std.specs.Prelude.{◌⊎◌}
 use Rattle.std.proofs.lemmas.List.{length_push}
-use Rattle.timetable.specs.declared.day.records.Link.{Link}
 use Rattle.timetable.specs.declared.day.records.LinkKind.{LinkKind}
 use Rattle.timetable.specs.declared.day.records.LinkKind.TheVariants.{Turn, Join, Split}
 use Rattle.timetable.specs.Compositions.{compositions_of}
 use Rattle.timetable.specs.Day.{Day}
 use Rattle.transitions.specs.declared.edge.Edge.{Edge}
-use Rattle.transitions.specs.Edges.{MayRun, IsKindEdge, AreEdges, AreGraphs}
-use Rattle.transitions.specs.Between.{AreEdgesBy}
-use Rattle.timetable.specs.Chains.{leads_from}
+use Rattle.transitions.specs.Edges.{IsKindEdge, AreEdges}
 
 -- the compositions of an edge are in the catalogue
 pub from_listed : (day : Day) (kind : LinkKind) (r : Bool) (x : Edge) → IsKindEdge day kind r x → x.from < length (compositions_of day)
@@ -23,26 +20,6 @@ pub to_listed : (day : Day) (kind : LinkKind) (r : Bool) (x : Edge) → IsKindEd
 to_listed day (Turn a b uncouple couple exchange) r x e = e.departing.listed
 to_listed day (Join a1 a2 b) r x e = e.departing.listed
 to_listed day (Split a b1 b2) r x e = e.first.listed
-
--- the first composition of an edge may run on the first arriving trip
-pub from_runs : (day : Day) (kind : LinkKind) (r : Bool) (x : Edge) → IsKindEdge day kind r x → MayRun day (leads_from kind) x.from
-from_runs day (Turn a b uncouple couple exchange) r x e = e.arriving
-from_runs day (Join a1 a2 b) r x e = e.first
-from_runs day (Split a b1 b2) r x e = e.arriving
-
--- the edges that the kind allows are those of the link
-pub all_edges : (day : Day) (l : ℕ) (link : Link) (edges : List Edge) → slice_get day.links l ≡ Some link → AreEdgesBy (IsKindEdge day link.kind link.reverse) edges → AreEdges day l edges
-all_edges day l link edges at so = record {
-  in_order = so.in_order;
-  exact = λ x. (
-    λ there. record { link = link; at = at; kind = (so.exact x).0 there },
-    λ edge.
-        let same_some : Some edge.link ≡ Some link = sym edge.at ∙ at in
-        let same : edge.link ≡ link = cc in
-        let kind : IsKindEdge day link.kind link.reverse x = subst (λ (k : Link). IsKindEdge day k.kind k.reverse x) same edge.kind in
-        (so.exact x).1 kind,
-  );
-}
 
 -- one more list at the end
 push_cases : {X : Type 0} (xs : List X) (x y : X) (k : ℕ) → slice_get (xs ++ x ∷ []) k ≡ Some y → (slice_get xs k ≡ Some y) ⊎ ((k ≡ length xs) × (x ≡ y))
@@ -64,9 +41,3 @@ one_more day l lists edges so are = record {
     | inr last ↦ subst (λ (n : ℕ). AreEdges day n es) (sym (last.0 ∙ so.long)) (subst (λ (xs : List Edge). AreEdges day l xs) last.1 are)
   ];
 }
-
-pub all_lists : (day : Day) (n : ℕ) (lists : List (List Edge)) → AreLists day n lists → n ≡ length day.links → AreGraphs day lists
-all_lists day n lists so end = record { count = so.long ∙ end; each = so.each }
-
-pub no_lists : (day : Day) → AreLists day 0 []
-no_lists day = record { long = refl; each = λ l edges at. absurd cc }

@@ -30,12 +30,6 @@ between_pair : (x : Edge) (pair : Pair) → IsBetween pair.from pair.to x → pa
 between_pair x pair between = ap (λ (n : ℕ). record { from = n; to = pair.to }) (sym between.origin) ∙ ap (λ (n : ℕ). record { from = x.from; to = n }) (sym between.goal)
 
 module _ (Allows : Edge → Type 0) (pairs : List Pair) where
-  pub none_yet : Looked Allows pairs 0 []
-  none_yet = record {
-    in_order = λ i j d before below. absurd (omega arith);
-    exact = λ x. (λ there. absurd (omega (arith, there.1)), λ h. absurd (omega (arith, h.1.1)));
-  }
-
   module _ (count : ℕ) (edges : List Edge) (looked : Looked Allows pairs count edges) (pair : Pair) (within : count < length pairs) (is : (d : Pair) → pair ≡ get_or pairs count d) where
     more : (x : Pair) → IsAmong pairs count x → IsAmong pairs (count + 1) x
     more x among = (among.0, omega (arith, among.1), among.2)

@@ -2,9 +2,9 @@
 use Rattle.std.proofs.Common.{◌≡◌, ℕ, ◌+◌, ◌<◌, ◌≤◌, Bool, List, [], ◌∷◌, ◌++◌, map, take, length, Option, Some, None}
 use Rattle.std.proofs.Common.{true, inl, inr, get_or, slice_get, unwrap_or, refl, sym, ap, subst, ◌∙◌, AllPairs}
 use Rattle.std.proofs.Common.{Contains, IsTrue}
-use Rattle.std.specs.Prelude.{◌↔◌, IfSome, IsNone, option_map}
+use Rattle.std.specs.Prelude.{◌↔◌, IfSome, IsNone}
 use Rattle.std.proofs.lemmas.Bool.{cases_order, and_parts, leb-true}
-use Rattle.std.proofs.lemmas.Option.{get_or_from_slice_get, slice_get_within, slice_get-get_or, slice_get-map}
+use Rattle.std.proofs.lemmas.Option.{get_or_from_slice_get, slice_get_within, slice_get-get_or}
 use Rattle.std.proofs.lemmas.Option.{unwrap_or-slice_get}
 use Rattle.std.proofs.lemmas.List.{length-map, map_push, take_more}
 use Rattle.compositions.specs.Catalogue.{comes_before}
@@ -55,14 +55,6 @@ number_found day list (Some comp) ms is some none n =
           ap (λ (m : ℕ). Some m)
           (same_place (compositions_of day) (catalogue_listed day.types (greatest_platform day)).listed.in_order comp n ms at (at_number day n there.0 ∙ ap (λ (xs : List ℕ). Some xs) there.1)),
     )
-
--- what is said of a composition's number
-pub runs_at : (day : Day) (t comp : ℕ) (runs : List Bool) (b : Bool) → comp < length (compositions_of day) → runs ≡ runs_on day t → b ≡ get_or runs comp b → IsTrue b ↔ MayRun day t comp
-runs_at day t comp runs b below is at =
-    let told : slice_get (runs_on day t) comp ≡ Some (is_admissible day t (composition_at day comp)) =
-    slice_get-map (is_admissible day t) (compositions_of day) comp ∙ ap (option_map (is_admissible day t)) (at_number day comp below) in
-    let same : b ≡ is_admissible day t (composition_at day comp) = at ∙ ap (λ (l : List Bool). get_or l comp b) is ∙ get_or_from_slice_get (runs_on day t) comp (is_admissible day t (composition_at day comp)) b told in
-    (λ told'. record { listed = below; admissible = sym same ∙ told' }, λ may. same ∙ may.admissible)
 
 pub runs_long : (day : Day) (t : ℕ) (runs : List Bool) → runs ≡ runs_on day t → length runs ≡ length (compositions_of day)
 runs_long day t runs is = ap length is ∙ length-map (compositions_of day) (is_admissible day t)

@@ -1,16 +1,12 @@
 -- Lists of pairs that grow.
 use Rattle.std.proofs.Common.{◌≡◌, List, [], ◌∷◌, ◌++◌, inl, inr, subst, Contains}
-use Rattle.std.specs.Prelude.{◌⊎◌, All}
+use Rattle.std.specs.Prelude.{◌⊎◌}
 use Rattle.std.proofs.lemmas.List.Elements.{All-push, Contains-push, Contains-append_left}
 use Rattle.timetable.specs.Day.{Day}
 use Rattle.transitions.specs.declared.pairs.Pair.{Pair}
 use Rattle.transitions.specs.Pairs.{IsKnown, Grown}
 
 module _ (day : Day) (before : List Pair) where
-  -- nothing is to be added
-  pub nothing : (P : Pair → Type 0) → All (IsKnown day) before → ((x : Pair) → P x → ⊥) → Grown day before before P
-  nothing P known none = record { known = known; keeps = λ x there. there; adds = λ x k p. absurd (none x p) }
-
   -- what was added is all that is to be added
   pub stays : (after : List Pair) (P Q : Pair → Type 0) → Grown day before after P → ((x : Pair) → IsKnown day x → Q x → P x) → Grown day before after Q
   stays after P Q so_far only = record { known = so_far.known; keeps = so_far.keeps; adds = λ x k q. so_far.adds x k (only x k q) }
