@@ -2,7 +2,7 @@
 
 use rail_base::NoMemory;
 use rail_csv::Table;
-use std::alloc::{AllocError, AllocFailed};
+use std::alloc::AllocFailed;
 use thiserror::Error;
 
 /// Why tables make no day: the first test that fails. Rows are counted from 1, columns from 0.
@@ -72,17 +72,6 @@ impl From<NoMemory> for InstanceRefusal {
     }
 }
 
-impl From<AllocError> for InstanceRefusal {
-    ghost use Rattle.std.specs.Prelude.{◌≡◌};
-    ghost use Rattle.timetable.specs.declared.building.refusal.InstanceRefusal.TheVariants as refusals;
-
-    ghost from_gives = { λ _ e. e ≡ refusals.NoMemory };
-
-    fn from(_error: AllocError) -> InstanceRefusal {
-        InstanceRefusal::NoMemory
-    }
-}
-
 impl<T: Drop> From<AllocFailed<T>> for InstanceRefusal {
     ghost use Rattle.std.specs.Prelude.{◌≡◌};
     ghost use Rattle.timetable.specs.declared.building.refusal.InstanceRefusal.TheVariants as refusals;
@@ -118,17 +107,6 @@ impl From<NoMemory> for PlanRefusal {
     ghost from_gives = { λ _ e. e ≡ refusals.NoMemory };
 
     fn from(_error: NoMemory) -> PlanRefusal {
-        PlanRefusal::NoMemory
-    }
-}
-
-impl From<AllocError> for PlanRefusal {
-    ghost use Rattle.std.specs.Prelude.{◌≡◌};
-    ghost use Rattle.timetable.specs.declared.building.refusal.PlanRefusal.TheVariants as refusals;
-
-    ghost from_gives = { λ _ e. e ≡ refusals.NoMemory };
-
-    fn from(_error: AllocError) -> PlanRefusal {
         PlanRefusal::NoMemory
     }
 }
