@@ -30,13 +30,13 @@ GivesDay (Ok rows) said = said ≡ Ok (day_with rows)
 GivesDay (Err refusal) said = Fails is_memory refusal said
 
 -- the types, the stations and the stock of yards
-abbrev pub lists_in : Yards → List UnitType × List Station × List Stock
-lists_in yards = (yards.types, yards.stations, yards.stock.items)
+abbrev pub lists_of_yards : Yards → List UnitType × List Station × List Stock
+lists_of_yards yards = (yards.types, yards.stations, yards.stock.items)
 
 -- the yards that were said, or their refusal; want of memory may come anyhow
 abbrev pub GivesYards : Result Yards InstanceRefusal
     → Result (List UnitType × List Station × List Stock) InstanceRefusal → Type 0
-GivesYards (Ok yards) said = said ≡ Ok (lists_in yards)
+GivesYards (Ok yards) said = said ≡ Ok (lists_of_yards yards)
 GivesYards (Err refusal) said = Fails is_memory refusal said
 
 -- the trips and links that were said, or their refusal; want of memory may come anyhow

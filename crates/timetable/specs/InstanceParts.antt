@@ -4,7 +4,7 @@ use Rattle.std.specs.Prelude.{◌≡◌, length}
 use Rattle.compositions.specs.Catalogue.{catalogue_of}
 use Rattle.timetable.specs.declared.building.accepted.AcceptedRows.{AcceptedRows}
 use Rattle.timetable.specs.declared.day.instance.Instance.TheInside.{Inside}
-use Rattle.timetable.specs.declared.day.instance.Parts.{Parts}
+use Rattle.timetable.specs.declared.day.instance.InstanceParts.{InstanceParts}
 use Rattle.timetable.specs.AcceptedRows.{day_with}
 use Rattle.timetable.specs.Day.{Day, units_of}
 use Rattle.timetable.specs.Accepted.{IsDay, AreLinks, IsStocked, HaveCompositions}
@@ -44,7 +44,7 @@ pub record Holds (a : Inside) : Type 0 where
   pub minutes : a.minutes.items ≡ listed (minutes_of (day_in a)) (length a.stations.items)
 
 -- the parts are those of the day that the rows make
-pub record AreParts (parts : Parts) (rows : AcceptedRows) : Type 0 where
+pub record AreInstanceParts (parts : InstanceParts) (rows : AcceptedRows) : Type 0 where
   pub units : parts.units.items ≡ units_of (day_with rows)
   pub incoming : parts.linking.incoming.items ≡ link_table departing_in rows.links.items (length rows.trips.items)
   pub outgoing : parts.linking.outgoing.items ≡ link_table arriving_in rows.links.items (length rows.trips.items)

@@ -5,7 +5,7 @@ ghost use Rattle.std.specs.Result.{result_and};
 ghost use Rattle.rail_csv.specs.Rows.{AreTypeRows, AreStationRows, AreStockRows, AreTripRows, AreLinkRows};
 ghost use Rattle.rail_csv.specs.Rows.{IsWeightsRow};
 ghost use Rattle.compositions.specs.Catalogue.{catalogue_of};
-ghost use Rattle.timetable.specs.AcceptedRows.{GivesDay, GivesTripsAndLinks, GivesYards, lists_in};
+ghost use Rattle.timetable.specs.AcceptedRows.{GivesDay, GivesTripsAndLinks, GivesYards, lists_of_yards};
 ghost use Rattle.timetable.specs.Build.{day_of, yards_in, trips_and_links_in, weights_in};
 ghost use Rattle.timetable.specs.Compositions.{greatest_in};
 
@@ -94,7 +94,7 @@ impl Yards {
         stations: Vec<StationRow>,
         stock: &[StockRow],
     ) -> Result<(), InstanceRefusal>
-        requires empty { lists_in self.old ≡ ([], [], []) }
+        requires empty { lists_of_yards self.old ≡ ([], [], []) }
         requires types { AreTypeRows types.items }
         requires stations { AreStationRows stations.items }
         requires stock { AreStockRows stock.now }

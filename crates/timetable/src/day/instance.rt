@@ -14,7 +14,7 @@ ghost use Rattle.timetable.specs.Chains.{chains_of, next_in, IsChain, AreChains}
 ghost use Rattle.timetable.specs.Day.{units_of, units_in, unit_count, wanted_in, wanted_of, ready_at};
 ghost use Rattle.timetable.specs.Handovers.{handovers_of, IsHandover, AreHandovers};
 ghost use Rattle.timetable.specs.Links.{incoming, outgoing};
-ghost use Rattle.timetable.specs.InstanceParts.{AreParts};
+ghost use Rattle.timetable.specs.InstanceParts.{AreInstanceParts};
 ghost use Rattle.timetable.specs.Lists.{sum_below};
 ghost use Rattle.timetable.specs.Meaning.{IsDayOf};
 ghost use Rattle.timetable.specs.Minutes.{minutes_of, AreMinutes};
@@ -396,26 +396,26 @@ fn units_of(alloc: Global, stock: &[Stock]) -> Result<Vec<Unit>, NoMemory>
 
 /// What an instance holds beside the entries of its tables: its units, what its links give, and its departure minutes.
 #[derive(Drop)]
-struct Parts {
+struct InstanceParts {
     units: Vec<Unit>,
     linking: Linking,
     minutes: Vec<Minutes>,
 }
 
 /// The parts of the instance of these rows.
-fn parts_of(alloc: Global, rows: &AcceptedRows) -> Result<Parts, NoMemory>
+fn parts_of(alloc: Global, rows: &AcceptedRows) -> Result<InstanceParts, NoMemory>
     requires stations { length rows.now.stations.items ≤ MOST_STATIONS }
     requires trips { length rows.now.trips.items ≤ MOST_TRIPS }
     requires links { length rows.now.links.items ≤ MOST_LINKS }
     requires known { (t b : ℕ) → next_in rows.now.links.items t ≡ Some b → b < length rows.now.trips.items }
-    ensures { IfOk result (λ parts. AreParts parts rows.now) }
+    ensures { IfOk result (λ parts. AreInstanceParts parts rows.now) }
 {
     let units = units_of(alloc, &rows.stock)?;
     let trip_count = rows.trips.len() as u32;
     let linking = linking_of(alloc, &rows.links, trip_count)?;
     let station_count = rows.stations.len() as u32;
     let minutes = minutes_of(alloc, &rows.trips, station_count)?;
-    Ok(Parts {
+    Ok(InstanceParts {
         units,
         linking,
         minutes,

@@ -4,7 +4,7 @@ use Rattle.timetable.specs.declared.building.accepted.AcceptedRows.{AcceptedRows
 use Rattle.timetable.specs.AcceptedRows.{day_with}
 use Rattle.timetable.specs.Build.{day_of}
 use Rattle.timetable.specs.Day.{Day}
-use Rattle.timetable.specs.InstanceParts.{AreParts}
+use Rattle.timetable.specs.InstanceParts.{AreInstanceParts}
 use Rattle.timetable.specs.LinkRows.{links_in}
 use Rattle.timetable.proofs.Days.{day_is_made, day_within_limits, few_links}
 use Rattle.timetable.proofs.Entries.{are_stations, are_trips}
@@ -46,7 +46,7 @@ invariant_of-result c =
     let day : Day = day_with rows in
     let made : day_of c.args.tables ≡ Ok day = c.in_ok-rows.ensures.exact in
     let linked : links_in day.trips c.args.tables.links ≡ Ok day.links = (day_is_made c.args.tables day made).links in
-    let parts : AreParts c.in_ok-parts.parts rows = c.in_ok-parts.ensures in
+    let parts : AreInstanceParts c.in_ok-parts.parts rows = c.in_ok-parts.ensures in
     record {
       units = parts.units;
       day = day_within_limits c.args.tables day c.requires.types c.requires.stations c.requires.trips c.requires.links c.requires.weights made;
