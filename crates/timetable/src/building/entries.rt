@@ -2,7 +2,6 @@
 
 ghost use Rattle.std.specs.Prelude.{◌≡◌, ◌+◌, ◌<◌, ◌≤◌, ◌++◌, ◌∷◌, [], length, nat_lt, min, false, Ok, IfSome, IfOk};
 ghost use Rattle.std.specs.Result.{result_and};
-ghost use Rattle.std.specs.Str.{bytes_eq};
 ghost use Rattle.timetable.specs.Build.{accept_type, accept_station, has_stock, accept_stock, starts_of, platform_at};
 ghost use Rattle.timetable.specs.Build.{has_fitting, accept_run, ends_in, accept_trip, trips_in, catalogue_in};
 ghost use Rattle.timetable.specs.Build.{is_memory};
@@ -21,13 +20,6 @@ use rail_base::limits::{MOST_STATIONS, MOST_STOCK_ROWS, MOST_TRIPS, MOST_TYPES, 
 use rail_base::{Name, StationNo, TypeNo};
 use rail_csv::{StationRow, StockRow, Table, TripRow, TypeRow};
 use std::alloc::Global;
-
-/// Whether two names are the same text.
-pub fn are_same(left: &Name, right: &Name) -> bool
-    ensures { result ≡ bytes_eq left.now right.now }
-{
-    left.as_str() == right.as_str()
-}
 
 /// The number of the row after so many, counted from 1. No table has more rows than trips may have.
 pub fn row_after(before: usize) -> u32

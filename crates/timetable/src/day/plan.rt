@@ -8,7 +8,7 @@ ghost use Rattle.timetable.specs.Plans.{is_memory};
 ghost use Rattle.timetable.specs.Tests.{NoneFailed, IsFirstFailed};
 ghost use Rattle.timetable.specs.Running.{IsPlan};
 
-use crate::building::entries::{are_same, row_after};
+use crate::building::entries::row_after;
 use crate::building::refusal::PlanRefusal;
 use crate::day::instance::Instance;
 use rail_base::limits::{MOST_COMPOSITION, MOST_TRIPS};
@@ -100,7 +100,7 @@ fn is_trip(instance: &Instance, trip: usize, name: &Name) -> bool
     if trip >= instance.trips() as usize {
         return false;
     }
-    are_same(&instance.trip(TripNo(trip as u32)).name, name)
+    instance.trip(TripNo(trip as u32)).name.is(name)
 }
 
 /// Whether each is a unit of the day.
