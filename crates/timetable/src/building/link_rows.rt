@@ -302,6 +302,8 @@ pub fn links_of(
 {
     let mut links = Linked::new(alloc, trips.len() as u32)?;
     for row in rows {
+        // Taken apart and made anew: for a whole link that is kept here, rattle's borrow checker makes a plan that it
+        // cannot build.
         let Link { kind, reverse } = accept_link(trips, &links, row)?;
         links.push(&Link { kind, reverse })?;
     }
