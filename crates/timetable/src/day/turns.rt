@@ -112,7 +112,7 @@ pub fn staying_units(
     // As many stay as the turn keeps.
     ensures number { result
         ≡ option_map (λ parts. length parts.kept)
-            (turn_parts itself uncouple couple exchange arriving.now departing.now) }
+        (turn_parts itself uncouple couple exchange arriving.now departing.now) }
     // What stays, goes and comes then are the parts of the turn, of types.
     ensures parts { option_map (parts_beside uncouple couple arriving.now departing.now) result
         ≡ turn_parts itself uncouple couple exchange arriving.now departing.now }
