@@ -10,7 +10,7 @@ use Rattle.day_simulator.specs.declared.events.DayEvent.{DayEvent}
 use Rattle.day_simulator.specs.declared.events.DayEvent.TheVariants.{Depart, Arrive}
 use Rattle.day_simulator.specs.declared.events.StepFault.TheVariants.{NotNow, LinkBroken}
 use Rattle.day_simulator.specs.State.{State, stage_of, is_waiting, is_under_way, has_arrived, moment_of}
-use Rattle.day_simulator.specs.Steps.{is_now, feeders, broken_out, train_fault, fault_of}
+use Rattle.day_simulator.specs.Steps.{is_now, trips_into, broken_out, train_fault, fault_of}
 
 -- an event that is not now has that fault
 pub not_now : (day : Day) (plan : List (List ℕ)) (state : State) (e : DayEvent) → is_now day state e ≡ false → Some (NotNow e) ≡ fault_of day plan state e
@@ -22,9 +22,9 @@ passed : (a b : ℕ) → b < a → leb a b ≡ false
 passed a b l = grind (arith, nat_tests)
 
 module _ (day : Day) (state : State) where
-  -- whether all the trips that a trip waits for have arrived
+  -- whether all the trips into a trip have arrived
   abbrev have_arrived : ℕ → Bool
-  have_arrived t = list_all (λ a. has_arrived (stage_of state.stages a)) (feeders day t)
+  have_arrived t = list_all (λ a. has_arrived (stage_of state.stages a)) (trips_into day t)
 
   -- an event whose moment has passed is not now
   pub too_late : (e : DayEvent) → moment_of day e < state.moment → false ≡ is_now day state e

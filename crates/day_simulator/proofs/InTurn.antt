@@ -23,8 +23,8 @@ use Rattle.day_simulator.specs.Laws.{IsInTurn, InTurn}
 use Rattle.day_simulator.specs.declared.whole_day.Ran.{Ran}
 use Rattle.day_simulator.specs.declared.whole_day.SimulateRefusal.TheVariants.{Stops}
 use Rattle.day_simulator.proofs.Lawful.{fixed_is_order}
-use Rattle.day_simulator.proofs.Linked.{feeds_in_time}
-use Rattle.day_simulator.proofs.Timely.{Timely, FeedsInTime, timely_now_depart, timely_now_arrive, timely_depart}
+use Rattle.day_simulator.proofs.Linked.{arrive_in_time}
+use Rattle.day_simulator.proofs.Timely.{Timely, ArriveInTime, timely_now_depart, timely_now_arrive, timely_depart}
 use Rattle.day_simulator.proofs.Timely.{timely_arrive, timely_start}
 
 -- ---- the fault of an event that may be made now
@@ -67,7 +67,7 @@ through : (fault : Option StepFault) (rest : Result State StepFault) (final : St
 through None rest final h = h
 through (Some fault) rest final h = absurd cc
 
-module _ (day : Day) (plan : List (List ℕ)) (is_day : IsDay day) (before : FeedsInTime day) where
+module _ (day : Day) (plan : List (List ℕ)) (is_day : IsDay day) (before : ArriveInTime day) where
   steps_in_turn : (state : State) (es : List DayEvent) (e : DayEvent) → Timely day state es → steps day plan state es ≡ Err (NotNow e) → ⊥
   steps_in_turn state [] e g h = cc
   steps_in_turn state (Depart t ∷ es) e g h =
@@ -130,8 +130,8 @@ never_out_of_turn : (day : Day) (plan : List (List ℕ)) → IsDay day → AreLi
 unfolding simulation finish_of
 never_out_of_turn day plan is_day links e h = by_steps (steps day plan (start_of day) (fixed_order day)) refl h
   where
-    before : FeedsInTime day
-    before = feeds_in_time day plan links
+    before : ArriveInTime day
+    before = arrive_in_time day plan links
 
     start : Timely day (start_of day) (fixed_order day)
     start = timely_start day (fixed_order day) (fixed_is_order day)

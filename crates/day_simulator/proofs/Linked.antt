@@ -1,5 +1,5 @@
--- A day with links, as the machine tests them: where each link's rule holds no test fails, and each trip that feeds
--- another arrives in time.
+-- A day with links, as the machine tests them: where each link's rule holds no test fails, and each trip into another
+-- arrives in time.
 use Rattle.std.proofs.Common.{◌≡◌, ℕ, ◌≤◌, List, [], true, false, Bool, Some, None, ap, ◌∙◌, subst, arith}
 use Rattle.std.proofs.Common.{⊎_elim}
 use Rattle.std.specs.Prelude.{if◌then◌else◌, ◌&&◌, not, slice_get, unwrap_or, option_map, option_and_then}
@@ -9,7 +9,7 @@ use Rattle.timetable.specs.Lists.{count_of}
 use Rattle.timetable.specs.Accepted.{AreLinks}
 use Rattle.timetable.specs.declared.day.records.Link.{Link}
 use Rattle.timetable.specs.Links.{link_holds, arriving_in, departing_in, incoming, outgoing}
-use Rattle.day_simulator.specs.Steps.{feeders, is_tested_at, broken, broken_into, broken_out}
+use Rattle.day_simulator.specs.Steps.{trips_into, is_tested_at, broken, broken_into, broken_out}
 use Rattle.timetable.proofs.NamedTrips.{IsNamed, named_or_not}
 use Rattle.timetable.proofs.Linked.{LinksHold, into_is, links_account}
 use Rattle.day_simulator.proofs.Unbroken.{IsUnbroken}
@@ -31,15 +31,15 @@ holds_from_none day plan departure l link at tested none =
     (cases_Bool (link_holds (type_of day) link plan))
 
 module _ (day : Day) (plan : List (List ℕ)) (links : AreLinks day) where
-  pub feeds_in_time : (a b : ℕ) → 1 ≤ count_of a (feeders day b) → arrives day a ≤ leaves day b
+  pub arrive_in_time : (a b : ℕ) → 1 ≤ count_of a (trips_into day b) → arrives day a ≤ leaves day b
   unfolding incoming
-  feeds_in_time a b c = ⊎_elim
+  arrive_in_time a b c = ⊎_elim
       (λ (h : (link : Link) × IsNamed departing_in day.links b link).
-      let same : feeders day b ≡ arriving_in (h.0).kind = ap (λ o. unwrap_or (option_map (λ (link : Link). arriving_in link.kind) o) []) (into_is day b h.0 h.1) in
+      let same : trips_into day b ≡ arriving_in (h.0).kind = ap (λ o. unwrap_or (option_map (λ (link : Link). arriving_in link.kind) o) []) (into_is day b h.0 h.1) in
       let c' : 1 ≤ count_of a (arriving_in (h.0).kind) = subst (λ l. 1 ≤ count_of a l) same c in
       links.in_time (h.1).number a b h.0 (h.1).at (le-leb 1 (count_of a (arriving_in (h.0).kind)) c') (le-leb 1 (count_of b (departing_in (h.0).kind)) (h.1).named))
       (λ none.
-      let same : feeders day b ≡ [] = ap (λ o. unwrap_or (option_map (λ (link : Link). arriving_in link.kind) (option_and_then (slice_get day.links) o)) []) none.0 in
+      let same : trips_into day b ≡ [] = ap (λ o. unwrap_or (option_map (λ (link : Link). arriving_in link.kind) (option_and_then (slice_get day.links) o)) []) none.0 in
       let c' : 1 ≤ 0 = subst (λ l. 1 ≤ count_of a l) same c in
       absurd (omega arith))
       (named_or_not departing_in day.links b)
@@ -59,4 +59,4 @@ module _ (day : Day) (plan : List (List ℕ)) (links : AreLinks day) where
       (named_or_not arriving_in day.links t)
 
   pub linked_hands : LinksHold day plan → IsUnbroken day plan
-  linked_hands h = record { before = feeds_in_time; into = none_into h; out = none_out h; accounts = links_account day plan links h }
+  linked_hands h = record { before = arrive_in_time; into = none_into h; out = none_out h; accounts = links_account day plan links h }

@@ -27,7 +27,7 @@ use Rattle.day_simulator.specs.declared.events.StepFault.TheVariants.{NotNow, No
 use Rattle.day_simulator.specs.declared.events.StepFault.TheVariants.{NotInYard}
 use Rattle.day_simulator.specs.State.{State, place_of, stage_of, moment_of, is_waiting, is_under_way, has_arrived, is_ready}
 use Rattle.day_simulator.specs.State.{put_all}
-use Rattle.day_simulator.specs.Steps.{is_now, feeders, is_tested_at, broken, broken_into, broken_out, first_missing}
+use Rattle.day_simulator.specs.Steps.{is_now, trips_into, is_tested_at, broken, broken_into, broken_out, first_missing}
 use Rattle.day_simulator.specs.Steps.{train_fault, fault_of}
 use Rattle.day_simulator.specs.StepTests.{MayLeave, MayArrive, IsJoin, IsTurnOrSplit, BreaksRule, rule_tests, StandsReady}
 use Rattle.day_simulator.specs.StepTests.{CannotBeTaken, unit_tests, step_tests, StepsAreTested}
@@ -80,17 +80,17 @@ each_arrived stages (b ∷ ts) all a c =
     (λ (ne : b ≢ a). let other = one_other b a ne in each_arrived stages ts parts.1 a (omega arith)) (cases_eq b a)
 
 module _ (day : Day) (state : State) (t : ℕ) where
-  -- the trips that arrive for the link into the trip are its feeders
-  fed : list_all (λ a. has_arrived (stage_of state.stages a)) (feeders day t) ≡ true
+  -- all the trips into this one have arrived exactly where each one has that arrives for the link into it
+  each_into : list_all (λ a. has_arrived (stage_of state.stages a)) (trips_into day t) ≡ true
       → (link : Link) (a : ℕ) → link_into day t ≡ Some link → IsTrue (has a (arriving_in link.kind)) → stage_of state.stages a ≡ stage.Arrived
-  fed all link a into there =
-      let these : feeders day t ≡ arriving_in link.kind = ap (λ (o : Option Link). unwrap_or (option_map (λ link. arriving_in link.kind) o) []) into in
+  each_into all link a into there =
+      let these : trips_into day t ≡ arriving_in link.kind = ap (λ (o : Option Link). unwrap_or (option_map (λ link. arriving_in link.kind) o) []) into in
       each_arrived state.stages (arriving_in link.kind) (subst (λ (ts : List ℕ). list_all (λ a. has_arrived (stage_of state.stages a)) ts ≡ true) these all) a
       (leb-true 1 (count_of a (arriving_in link.kind)) there)
 
-  all_fed : ((link : Link) (a : ℕ) → link_into day t ≡ Some link → IsTrue (has a (arriving_in link.kind)) → stage_of state.stages a ≡ stage.Arrived)
-      → list_all (λ a. has_arrived (stage_of state.stages a)) (feeders day t) ≡ true
-  all_fed each = by_link (link_into day t) refl
+  all_into : ((link : Link) (a : ℕ) → link_into day t ≡ Some link → IsTrue (has a (arriving_in link.kind)) → stage_of state.stages a ≡ stage.Arrived)
+      → list_all (λ a. has_arrived (stage_of state.stages a)) (trips_into day t) ≡ true
+  all_into each = by_link (link_into day t) refl
     where
       by_link : (o : Option Link) → link_into day t ≡ o → list_all (λ a. has_arrived (stage_of state.stages a)) (unwrap_or (option_map (λ link. arriving_in link.kind) o) []) ≡ true
       by_link None into = refl
@@ -99,18 +99,18 @@ module _ (day : Day) (state : State) (t : ℕ) where
   may_leave : is_now day state (Depart t) ≡ true → MayLeave day state t
   unfolding is_now moment_of
   may_leave now =
-      let all = and_parts (nat_le state.moment (moment_of day (Depart t)) && is_waiting (stage_of state.stages t)) (list_all (λ a. has_arrived (stage_of state.stages a)) (feeders day t)) now in
+      let all = and_parts (nat_le state.moment (moment_of day (Depart t)) && is_waiting (stage_of state.stages t)) (list_all (λ a. has_arrived (stage_of state.stages a)) (trips_into day t)) now in
       let parts = and_parts (nat_le state.moment (moment_of day (Depart t))) (is_waiting (stage_of state.stages t)) all.0 in
       record {
         in_time = departs_in_time state.moment (leaves day t) (leb-true state.moment (moment_of day (Depart t)) parts.0);
         waits = waiting (stage_of state.stages t) parts.1;
-        fed = fed all.1;
+        arrived = each_into all.1;
       }
 
   leaves_now : MayLeave day state t → is_now day state (Depart t) ≡ true
   unfolding is_now moment_of
   leaves_now may =
-      and_from _ _ (and_from _ _ (le-leb state.moment (moment_of day (Depart t)) (until_departure state.moment (leaves day t) may.in_time)) (ap is_waiting may.waits)) (all_fed may.fed)
+      and_from _ _ (and_from _ _ (le-leb state.moment (moment_of day (Depart t)) (until_departure state.moment (leaves day t) may.in_time)) (ap is_waiting may.waits)) (all_into may.arrived)
 
   may_arrive : is_now day state (Arrive t) ≡ true → MayArrive day state t
   unfolding is_now moment_of

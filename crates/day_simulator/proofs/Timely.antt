@@ -14,7 +14,7 @@ use Rattle.day_simulator.specs.declared.events.DayEvent.TheVariants.{Depart, Arr
 use Rattle.day_simulator.specs.declared.events.Stage.{Stage}
 use Rattle.day_simulator.specs.declared.events.Stage.TheVariants as stage
 use Rattle.day_simulator.specs.State.{State, start_of, stage_of, is_waiting, is_under_way, has_arrived, moment_of}
-use Rattle.day_simulator.specs.Steps.{feeders, is_now, after}
+use Rattle.day_simulator.specs.Steps.{trips_into, is_now, after}
 use Rattle.day_simulator.specs.Orders.{IsOrder, departures, arrivals, AllFrom}
 use Rattle.timetable.proofs.Ones.{one_same, one_other}
 use Rattle.day_simulator.proofs.Lawful.{Lawful, left_depart, left_arrive, lawful_tail, lawful_order, arrived_before}
@@ -36,18 +36,18 @@ all_arrived stages (a ∷ ts) h =
     let o = one_same a a refl in
     and_from (has_arrived (stage_of stages a)) (list_all (λ a. has_arrived (stage_of stages a)) ts) (ap has_arrived (h a (omega arith))) (all_arrived stages ts (λ x c. h x (omega arith)))
 
--- each trip that feeds another arrives no later than the other leaves
-abbrev pub FeedsInTime : Day → Type 0
-FeedsInTime day = (a b : ℕ) → 1 ≤ count_of a (feeders day b) → arrives day a ≤ leaves day b
+-- each trip into another arrives no later than the other leaves
+abbrev pub ArriveInTime : Day → Type 0
+ArriveInTime day = (a b : ℕ) → 1 ≤ count_of a (trips_into day b) → arrives day a ≤ leaves day b
 
 module _ (day : Day) (is_day : IsDay day) where
-  pub timely_now_depart : FeedsInTime day → (state : State) (t : ℕ) (es : List DayEvent) → Timely day state (Depart t ∷ es) → is_now day state (Depart t) ≡ true
+  pub timely_now_depart : ArriveInTime day → (state : State) (t : ℕ) (es : List DayEvent) → Timely day state (Depart t ∷ es) → is_now day state (Depart t) ≡ true
   unfolding is_now
   timely_now_depart before state t es g =
       let o = one_same t t refl in
       and_from _ _
       (and_from _ _ (le-leb state.moment (moment_of day (Depart t)) g.moment.0) (ap is_waiting (g.waiting t (omega arith))))
-      (all_arrived state.stages (feeders day t) (λ a c. g.arrived a (arrived_before day a t es (before a t c) g.lawful)))
+      (all_arrived state.stages (trips_into day t) (λ a c. g.arrived a (arrived_before day a t es (before a t c) g.lawful)))
 
   pub timely_now_arrive : (state : State) (t : ℕ) (es : List DayEvent) → Timely day state (Arrive t ∷ es) → is_now day state (Arrive t) ≡ true
   unfolding is_now

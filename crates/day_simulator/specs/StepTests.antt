@@ -35,7 +35,7 @@ DepartedInLastMinute state = state.moment % 2 ≡ 1
 pub record MayLeave (day : Day) (state : State) (t : ℕ) : Type 0 where
   pub in_time : last_minute state ≤ leaves day t
   pub waits : stage_of state.stages t ≡ stage.Waiting
-  pub fed : (link : Link) (a : ℕ) → link_into day t ≡ Some link → IsTrue (has a (arriving_in link.kind))
+  pub arrived : (link : Link) (a : ℕ) → link_into day t ≡ Some link → IsTrue (has a (arriving_in link.kind))
       → stage_of state.stages a ≡ stage.Arrived
 
 -- The trip may arrive now: no event of a later minute was made, and no departure in the same minute; and the trip is

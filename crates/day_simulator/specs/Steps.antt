@@ -21,13 +21,13 @@ use Rattle.day_simulator.specs.State.{State, place_of, stage_of, is_waiting, is_
 use Rattle.day_simulator.specs.State.{moment_of, put_all}
 
 -- the trips that arrive for the link into a trip
-abbrev pub feeders : Day → ℕ → List ℕ
-feeders day t = unwrap_or (option_map (λ link. arriving_in link.kind) (link_into day t)) []
+abbrev pub trips_into : Day → ℕ → List ℕ
+trips_into day t = unwrap_or (option_map (λ link. arriving_in link.kind) (link_into day t)) []
 
 -- an event may be made now: its moment has not passed, and its trip, with the trips that it waits for, has come so far
 unfoldable pub is_now : Day → State → DayEvent → Bool
 is_now day state (Depart t) = nat_le state.moment (moment_of day (Depart t)) && is_waiting (stage_of state.stages t)
-    && list_all (λ a. has_arrived (stage_of state.stages a)) (feeders day t)
+    && list_all (λ a. has_arrived (stage_of state.stages a)) (trips_into day t)
 is_now day state (Arrive t) = nat_le state.moment (moment_of day (Arrive t)) && is_under_way (stage_of state.stages t)
 
 -- a join is tested where its trip leaves, a turn and a split where their trip arrives

@@ -15,9 +15,9 @@ ghost use Rattle.day_simulator.specs.declared.events.Stage.TheVariants as stage;
 
 use crate::balance::{first_differing, first_not_made};
 use crate::events::{DayEvent, Place, Stage, StepFault};
-use crate::links::{broken_into, broken_out, have_feeders_arrived};
+use crate::links::{broken_into, broken_out, have_trips_into_arrived};
 use crate::sequence::{fixed_order, moment_of};
-use crate::trips::{goal, is_admissible};
+use crate::trips::{is_admissible, to_of};
 use crate::yards::{first_missing, put_all};
 use cost_model::plan_cost;
 use rail_base::{Money, NoMemory, TripNo, UnitNo};
@@ -134,7 +134,7 @@ impl<'a> Day<'a> {
         match &event {
             DayEvent::Depart(trip) => {
                 is_waiting(self.stages[trip.place()])
-                    && have_feeders_arrived(self.instance, self.stages.as_slice(), *trip)
+                    && have_trips_into_arrived(self.instance, self.stages.as_slice(), *trip)
             }
             DayEvent::Arrive(trip) => is_under_way(self.stages[trip.place()]),
         }
@@ -177,7 +177,7 @@ impl<'a> Day<'a> {
             return Err(StepFault::LinkBroken(link));
         }
         let moment = moment_of(self.instance, DayEvent::Arrive(trip));
-        let station = goal(self.instance, trip);
+        let station = to_of(self.instance, trip);
         let ready = self.instance.ready_at(trip).minutes();
         let given = self.plan.given(self.instance, trip);
         put_all(

@@ -5,7 +5,7 @@ ghost use Rattle.std.specs.List.{list_all};
 ghost use Rattle.timetable.specs.Links.{arriving_in};
 ghost use Rattle.timetable.specs.Running.{IsPlan};
 ghost use Rattle.day_simulator.specs.State.{stage_of, has_arrived};
-ghost use Rattle.day_simulator.specs.Steps.{is_tested_at, broken, broken_into, broken_out, feeders};
+ghost use Rattle.day_simulator.specs.Steps.{is_tested_at, broken, broken_into, broken_out, trips_into};
 
 use crate::balance::stage_of;
 use crate::events::Stage;
@@ -85,9 +85,9 @@ fn have_arrived(stages: &[Stage], kind: LinkKind) -> bool
 }
 
 /// Whether all the trips have arrived that a trip waits for: those that arrive for the link into it.
-pub(crate) fn have_feeders_arrived(instance: &Instance, stages: &[Stage], trip: TripNo) -> bool
+pub(crate) fn have_trips_into_arrived(instance: &Instance, stages: &[Stage], trip: TripNo) -> bool
     requires { trip < length instance.now.trips }
-    ensures { result ≡ list_all (λ a. has_arrived (stage_of stages.now a)) (feeders instance.now trip) }
+    ensures { result ≡ list_all (λ a. has_arrived (stage_of stages.now a)) (trips_into instance.now trip) }
 {
     match instance.link_into(trip) {
         Some(link) => have_arrived(stages, link.kind),

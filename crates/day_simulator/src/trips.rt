@@ -36,7 +36,7 @@ pub(crate) fn arrival(instance: &Instance, trip: TripNo) -> u32
 
 /// The station that a trip leaves from.
 #[tactic(auto, unfolding(timetable::specs::Day::from_of))]
-pub(crate) fn origin(instance: &Instance, trip: TripNo) -> StationNo
+pub(crate) fn from_of(instance: &Instance, trip: TripNo) -> StationNo
     requires { trip < length instance.now.trips }
     ensures station { result ≡ from_of instance.now trip }
     ensures known { result < length instance.now.stations }
@@ -46,7 +46,7 @@ pub(crate) fn origin(instance: &Instance, trip: TripNo) -> StationNo
 
 /// The station that a trip goes to.
 #[tactic(auto, unfolding(timetable::specs::Day::to_of))]
-pub(crate) fn goal(instance: &Instance, trip: TripNo) -> StationNo
+pub(crate) fn to_of(instance: &Instance, trip: TripNo) -> StationNo
     requires { trip < length instance.now.trips }
     ensures station { result ≡ to_of instance.now trip }
     ensures known { result < length instance.now.stations }
@@ -60,8 +60,8 @@ fn longest(instance: &Instance, trip: TripNo) -> u32
     requires { trip < length instance.now.trips }
     ensures { result ≡ longest_of instance.now trip }
 {
-    let from = instance.station(origin(instance, trip)).platform;
-    let to = instance.station(goal(instance, trip)).platform;
+    let from = instance.station(from_of(instance, trip)).platform;
+    let to = instance.station(to_of(instance, trip)).platform;
     from.min(to)
 }
 

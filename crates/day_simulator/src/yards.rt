@@ -8,7 +8,7 @@ ghost use Rattle.day_simulator.specs.State.{is_ready, put_all};
 ghost use Rattle.day_simulator.specs.Steps.{first_missing};
 
 use crate::events::Place;
-use crate::trips::{departure, origin};
+use crate::trips::{departure, from_of};
 use rail_base::{StationNo, TripNo, UnitNo};
 use timetable::Instance;
 
@@ -34,7 +34,7 @@ pub(crate) fn first_missing(
     requires known { AreUnits instance.now units.now }
     ensures { result ≡ first_missing instance.now trip places.now units.now }
 {
-    let station = origin(instance, trip);
+    let station = from_of(instance, trip);
     let minute = departure(instance, trip);
     for i in 0..units.len() {
         let unit = units[i];

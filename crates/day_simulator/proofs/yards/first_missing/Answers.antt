@@ -25,7 +25,7 @@ returns-then-not-is_ready c =
     let here = place_read ps u c.place.result c.index-places-place.result c.place.ensures.number (omega (arith, known)) c.index-places-place.is in
     missing_unready c.args.instance.now c.args.trip ps us c.loop-i.i u c.loop-i-test.true c.index-units-i.is _ c.loop-i.invariant
     (omega (arith, known)) (sym (list_any-has (take c.loop-i.i us) u) ∙ sym c.contains.ensures.value ∙ c.if-contains.false)
-    (same_test _ _ _ _ _ _ c.origin-station.ensures.station c.departure-minute.ensures.minute here ∙ sym c.is_ready.ensures ∙ c.if-not-is_ready.true)
+    (same_test _ _ _ _ _ _ c.from_of-station.ensures.station c.departure-minute.ensures.minute here ∙ sym c.is_ready.ensures ∙ c.if-not-is_ready.true)
 
 pub loop-i-preserved : goal.loop-i-preserved
 loop-i-preserved c =
@@ -36,4 +36,4 @@ loop-i-preserved c =
     let here = place_read ps u c.place.result c.index-places-place.result c.place.ensures.number (omega (arith, known)) c.index-places-place.is in
     missing_later c.args.instance.now c.args.trip ps us c.loop-i.i u c.loop-i-test.true c.index-units-i.is _ c.loop-i.invariant
     (omega (arith, known)) (sym (list_any-has (take c.loop-i.i us) u) ∙ sym c.contains.ensures.value ∙ c.if-contains.false)
-    (same_test _ _ _ _ _ _ c.origin-station.ensures.station c.departure-minute.ensures.minute here ∙ sym c.is_ready.ensures ∙ c.if-not-is_ready.false)
+    (same_test _ _ _ _ _ _ c.from_of-station.ensures.station c.departure-minute.ensures.minute here ∙ sym c.is_ready.ensures ∙ c.if-not-is_ready.false)

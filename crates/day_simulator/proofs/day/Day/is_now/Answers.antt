@@ -5,7 +5,7 @@ use Rattle.day_simulator.specs.declared.events.DayEvent.TheVariants.{Depart, Arr
 use Rattle.day_simulator.specs.Machine.{Machine}
 use Rattle.day_simulator.specs.Fields.{machine_in}
 use Rattle.day_simulator.specs.State.{stage_of, is_waiting, is_under_way, has_arrived, moment_of}
-use Rattle.day_simulator.specs.Steps.{feeders, is_now}
+use Rattle.day_simulator.specs.Steps.{trips_into, is_now}
 use Rattle.day_simulator.proofs.Faults.{too_late, departure_of_waiting, departure_of_left, arrival_in_time}
 use Rattle.day_simulator.proofs.Missing.{stage_read}
 use Rattle.day_simulator.proofs.day.Day.is_now.Goals as goal
@@ -24,8 +24,8 @@ returns-then-is_waiting c =
     let in_time : p.state.moment ≤ moment_of p.day (Depart t) = rw c.in-Depart.is at not_passed in
     let read = stage_read p.state.stages t c.place.result c.index.result.now c.place.ensures.number (omega (arith, c.place.ensures.number, c.self.invariant.stages, within)) c.index.ensures in
     let waits = ap is_waiting read ∙ sym c.is_waiting.ensures ∙ c.if-is_waiting.true in
-    let arrived = c.have_feeders_arrived.ensures ∙ ap (λ (ss : List Stage). list_all (λ a. has_arrived (stage_of ss a)) (feeders p.day t)) c.as_slice.ensures.value in
-    subst (λ (q : Machine). c.have_feeders_arrived.result ≡ is_now q.day q.state c.args.event) c.self.view_is
+    let arrived = c.have_trips_into_arrived.ensures ∙ ap (λ (ss : List Stage). list_all (λ a. has_arrived (stage_of ss a)) (trips_into p.day t)) c.as_slice.ensures.value in
+    subst (λ (q : Machine). c.have_trips_into_arrived.result ≡ is_now q.day q.state c.args.event) c.self.view_is
     (arrived ∙ sym (departure_of_waiting p.day p.state t in_time waits) ∙ ap (is_now p.day p.state) (sym c.in-Depart.is))
 
 pub returns-else-is_waiting : goal.returns-else-is_waiting
