@@ -49,7 +49,8 @@ impl<'a> Model for Day<'a> {
 }
 
 impl<'a> Day<'a> {
-    /// The day at its start: all units stand at home, ready from the first minute on. The plan is one of this day.
+    /// The day at its start: all units stand at home, ready from the first minute on. The plan is one of this day. The
+    /// error is want of memory.
     pub fn new(
         alloc: Global,
         instance: &'a Instance,
@@ -84,7 +85,14 @@ impl<'a> Day<'a> {
         self.places[unit.place()]
     }
 
-    /// Makes one step. After a fault, which is the first that holds, the day is as before.
+    /// Makes one step of a trip of the day. After a fault, the first of these that holds, the day is as before.
+    /// - `NotNow`: an event of a later moment was made, where in each minute arrivals come before departures; the trip
+    ///   that departs has left already, or one that arrives for the link into it has not arrived; the trip that arrives
+    ///   is not under way.
+    /// - `NoUnits`, `NotAdmissible`: of a trip that departs.
+    /// - `LinkBroken`: of a join, where its trip departs; of a turn or a split, where its trip arrives.
+    /// - `NotInYard`: of a trip that departs, with the first unit that it takes from the yard of its station and that
+    ///   is not there or not ready, or that it has already taken.
     pub fn step(&mut self, event: DayEvent) -> Result<(), StepFault>
         requires { trip_of event < length self.old.day.trips }
         ensures { MakesStep self.old event result self.new }

@@ -16,7 +16,12 @@ pub enum DayEvent {
 #[derive(Clone, Copy)]
 pub enum Place {
     /// In the yard of a station, ready from a minute on.
-    Yard { station: StationNo, ready: u32 },
+    Yard {
+        /// The station.
+        station: StationNo,
+        /// The first minute at which it is ready: in minutes since the first midnight.
+        ready: u32,
+    },
     /// In a trip that is under way.
     Aboard(TripNo),
     /// In the train of this trip, which has arrived and goes on as another.
@@ -52,15 +57,21 @@ pub enum StepFault {
     /// The unit is not in the yard and ready when the trip takes it.
     #[error("a unit is not ready for its trip")]
     NotInYard {
+        /// The unit.
         unit: UnitNo,
+        /// The trip that is to take it.
         trip: TripNo,
     },
     /// A station has another number of units of a type at the end than is wanted.
     #[error("a station has another number of units of a type than is wanted")]
     Balance {
+        /// The station.
         station: StationNo,
+        /// The type of the units.
         unit_type: TypeNo,
+        /// How many of them stand in its yard.
         count: u32,
+        /// How many are wanted there.
         wanted: u32,
     },
 }
