@@ -14,18 +14,25 @@ use rail_base::{CompNo, StationNo, TypeNo};
 pub enum Place {
     /// A departure minute of a station, by its place among them, and a type.
     Lambda {
+        /// The station.
         station: StationNo,
+        /// The type.
         unit_type: TypeNo,
+        /// How many departure minutes of the station are earlier.
         place: u32,
     },
     /// A station and a type.
     Mu {
+        /// The station.
         station: StationNo,
+        /// The type.
         unit_type: TypeNo,
     },
     /// A hand-over and a composition of the catalogue.
     Sigma {
+        /// How many hand-overs of the day, in the order of their links, come before it.
         handover: u32,
+        /// The number of the composition.
         comp: CompNo,
     },
 }

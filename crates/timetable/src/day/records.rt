@@ -63,23 +63,33 @@ pub enum LinkKind {
     /// One train goes on as one train. Units may be uncoupled at the uncoupling end and coupled at the coupling end,
     /// which may be one and the same.
     Turn {
+        /// The trip that the train arrives with.
         arriving: TripNo,
+        /// The trip that it leaves with.
         departing: TripNo,
+        /// The uncoupling end, of the arriving train after a reversal.
         uncouple: End,
+        /// The coupling end, of the train that leaves.
         couple: End,
         /// Whether the turn may do both, with one or two units each; else it may do one of the two.
         exchange: bool,
     },
     /// Two trains go on as one, the first in front.
     Join {
+        /// The trip that the front of the train arrives with.
         first: TripNo,
+        /// The trip that the rest of it arrives with.
         second: TripNo,
+        /// The trip that it leaves with.
         departing: TripNo,
     },
     /// One train goes on as two, of which the first is its front.
     Split {
+        /// The trip that the train arrives with.
         arriving: TripNo,
+        /// The trip that its front leaves with.
         first: TripNo,
+        /// The trip that the rest of it leaves with.
         second: TripNo,
     },
 }
