@@ -15,7 +15,7 @@ use rail_base::limits::{MOST_LINKS, MOST_TRIPS};
 use rail_base::{LinkNo, Money, TripNo};
 use timetable::{Instance, NamedPlan, Picks};
 
-/// No day costs more: the bound of each trip, and of each link.
+/// No day costs more, in the unit of the weights: the bound of each trip, and of each link.
 pub const MOST_DAY_COST: u64 = MOST_TRIP_COST * MOST_TRIPS as u64
     + MOST_LINK_COST * MOST_LINKS as u64;
 

@@ -8,7 +8,7 @@ use rail_base::limits::{MOST_COMPOSITION, MOST_WEIGHT};
 use rail_base::{LinkNo, TypeNo};
 use timetable::{Instance, LinkKind, turned};
 
-/// The most that a link costs: the most weight.
+/// The most that a link costs, in the unit of the weights: the most weight.
 pub const MOST_LINK_COST: u64 = MOST_WEIGHT as u64;
 
 /// What a link costs that leads from a train of units of these types, at most six, to one of those: the weight of

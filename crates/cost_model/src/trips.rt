@@ -15,16 +15,17 @@ use timetable::Instance;
 
 /// The most carriages that a trip has: those of the most units.
 const MOST_TRIP_CARRIAGES: u32 = MOST_CARRIAGES * MOST_COMPOSITION as u32;
-/// The most that the carriages of a trip cost: the most weight, for the most carriages, for the most kilometres.
+/// The most that the carriages of a trip cost, in the unit of the weights: the most weight, for the most carriages, for
+/// the most kilometres.
 pub const MOST_CARRIAGE_COST: u64 = MOST_WEIGHT as u64
     * MOST_TRIP_CARRIAGES as u64
     * MOST_KM as u64;
 /// The most seats that are missing on a trip: the most demand of both classes.
 const MOST_MISSING_SEATS: u32 = MOST_FIRST_DEMAND + MOST_DEMAND;
-/// The most that the missing seats of a trip cost: the most weight, for the most missing seats, for the most
-/// kilometres.
+/// The most that the missing seats of a trip cost, in the unit of the weights: the most weight, for the most missing
+/// seats, for the most kilometres.
 pub const MOST_SHORTAGE_COST: u64 = MOST_WEIGHT as u64 * MOST_MISSING_SEATS as u64 * MOST_KM as u64;
-/// No trip costs more.
+/// No trip costs more, in the unit of the weights.
 pub const MOST_TRIP_COST: u64 = MOST_CARRIAGE_COST + MOST_SHORTAGE_COST;
 
 /// What a trip costs with units of these types: the weight of a carriage for each of its carriages and kilometres, and
