@@ -1,10 +1,10 @@
 -- The end of the day: no event is missing, and each count of a yard is how many units end there.
-use Rattle.std.proofs.Common.{◌≡◌, ℕ, zero, suc, ◌<◌, ◌≤◌, List, [], ◌∷◌, length, true, false, eqb, Option, Some, None}
+use Rattle.std.proofs.Common.{◌≡◌, ℕ, ◌<◌, ◌≤◌, List, [], ◌∷◌, length, true, false, eqb, Option, Some, None}
 use Rattle.std.proofs.Common.{Ok, refl, sym, ap, ◌∙◌, subst, arith, ◌≢◌, ⊎_elim}
 use Rattle.std.specs.Prelude.{if◌then◌else◌, ◌==◌, ◌&&◌, not}
 use Rattle.std.proofs.lemmas.Bool.{cases_eq, cases_lt, cond-true, cond-false, cases_Bool, eqb-true, eq-eqb}
 use Rattle.timetable.specs.Day.{Day, type_of, unit_count, wanted_of}
-use Rattle.timetable.specs.Lists.{count_of, below, sum_below}
+use Rattle.timetable.specs.Lists.{count_of, below}
 use Rattle.timetable.specs.Duties.{last_place}
 use Rattle.timetable.specs.Running.{ending}
 use Rattle.day_simulator.specs.declared.events.DayEvent.{DayEvent}
@@ -17,6 +17,7 @@ use Rattle.day_simulator.specs.State.{State, place_of, stage_of, is_waiting, has
 use Rattle.day_simulator.specs.Finish.{first_not_made, yard_count, first_differing_type, or_else, first_differing}
 use Rattle.day_simulator.specs.Finish.{ended}
 use Rattle.timetable.proofs.Ones.{one_same, one_other, count_below_in, count_below_out}
+use Rattle.timetable.proofs.Sums.{sum_same}
 
 -- where every trip has arrived, each event was made
 pub all_made : (state : State) (es : List DayEvent) → ((t : ℕ) → stage_of state.stages t ≡ stage.Arrived) → first_not_made state es ≡ None
@@ -77,15 +78,11 @@ balance_from_none day state e s m c d =
 pub none_from_balance : (day : Day) (state : State) → ((s m : ℕ) → s < length day.stations → m < length day.types → yard_count day state s m ≡ wanted_of day s m) → first_differing day state (below (length day.stations)) ≡ None
 none_from_balance day state h = stations_none day state (below (length day.stations)) (λ s m c d. h s m (is_below (length day.stations) s c) (is_below (length day.types) m d))
 
-same_sums : (f g : ℕ → ℕ) (n : ℕ) → ((k : ℕ) → k < n → f k ≡ g k) → sum_below f n ≡ sum_below g n
-same_sums f g zero h = refl
-same_sums f g (suc n) h = let rest = same_sums f g n (λ k lt. h k (omega arith)) in let last = h n (omega arith) in omega arith
-
 -- where each unit is in the yard at the end of its duty, a yard's count is how many units end there
 pub same_count : (day : Day) (plan : List (List ℕ)) (state : State) → ((u : ℕ) → u < unit_count day → (r : ℕ) × (place_of state.places u ≡ Yard (last_place day plan u) r)) → (s m : ℕ) → yard_count day state s m ≡ ending day plan s m
 unfolding yard_count ending
 same_count day plan state h s m =
-    same_sums (λ u. if is_in_yard s (place_of state.places u) && (type_of day u == m) then 1 else 0) (λ u. if (last_place day plan u == s) && (type_of day u == m) then 1 else 0) (unit_count day)
+    sum_same (λ u. if is_in_yard s (place_of state.places u) && (type_of day u == m) then 1 else 0) (λ u. if (last_place day plan u == s) && (type_of day u == m) then 1 else 0) (unit_count day)
     (λ u lt. ap (λ p. if is_in_yard s p && (type_of day u == m) then 1 else 0) (h u lt).1)
 
 pub ended_ok : (event : Option DayEvent) (fault : Option StepFault) (n cost : ℕ) → ended event fault n ≡ Ok cost → (event ≡ None) × (fault ≡ None) × (cost ≡ n)
