@@ -239,11 +239,6 @@ changed_in (entry ∷ entries) zero value d some inside =
 changed_in (entry ∷ entries) (suc place) value d some inside = ap (λ rest. entry ∷ rest) (changed_in entries place value d some (omega (arith, inside)))
 
 -- the cases of a refusal
-pub refused_large : (entries : List Entry) (index : ℕ) (value : ℤ) → MOST_MULTIPLIER < unsigned_abs value → refusal_of entries index value ≡ Some TooLarge
-refused_large entries index value large =
-    ap (λ b. if b then Some TooLarge else if (unsigned_abs value == 0) || is_entered entries index || ltb (length entries) MOST_ENTRIES then None else Some Full)
-    (lt-ltb MOST_MULTIPLIER (unsigned_abs value) large)
-
 refused_small : (entries : List Entry) (index : ℕ) (value : ℤ) → unsigned_abs value ≤ MOST_MULTIPLIER →
     refusal_of entries index value ≡ (if (unsigned_abs value == 0) || is_entered entries index || ltb (length entries) MOST_ENTRIES then None else Some Full)
 refused_small entries index value small =

@@ -69,10 +69,7 @@ none_of words zeros = sym (is_members_of words (set_of (λ comp. false)) (length
     (λ comp low. is_member-tested (λ comp. false) MOST_COMPOSITIONS comp low
     ∙ sym (ap (λ w. eqb (bit_at w (comp % 64)) 1) (zeros (comp / 64)) ∙ ap (λ b. eqb b 1) (bit_at-zero (comp % 64)))))
 
--- words that are all 0 have no other bits, and neither have those in which the bit of a composition is changed
-pub none_other : (words : List ℕ) → ((place : ℕ) → get_or words place 0 ≡ 0) → HasNoOther words
-none_other words zeros comp past = ap (λ w. eqb (bit_at w (comp % 64)) 1) (zeros (comp / 64)) ∙ ap (λ b. eqb b 1) (bit_at-zero (comp % 64))
-
+-- words with no other bits have none after the bit of a composition is changed
 pub one_bit-other : (words : List ℕ) (comp new : ℕ) → HasNoOther words → comp < MOST_COMPOSITIONS → comp / 64 < length words →
     ((i : ℕ) → i < 64 → i ≢ comp % 64 → bit_at new i ≡ bit_at (get_or words (comp / 64) 0) i) → HasNoOther (set words (comp / 64) new)
 one_bit-other words comp new none below within others other past = at (eqb_tells (other / 64) (comp / 64))

@@ -22,9 +22,6 @@ pub record AreOnWay (test : ℕ → Money → Test) (P : ℤ → Type 0) (all : 
   pub first : (reason : Reason) → FirstFails (leaf_tests test number rest) reason → FirstFails (leaf_tests test 0 all) reason
   pub each : All P (bounds_of rest) → All P (bounds_of all)
 
-pub leaves_begin : (test : ℕ → Money → Test) (P : ℤ → Type 0) (all : List Node) → AreOnWay test P all 0 all
-leaves_begin test P all = record { first = λ reason fails. fails; each = λ each. each }
-
 -- a node that is no cost leaf
 pub leaves_skip : (test : ℕ → Money → Test) (P : ℤ → Type 0) (all : List Node) (number : ℕ) (node : Node) (rest : List Node) →
     bound_of node ≡ None → AreOnWay test P all number (node ∷ rest) → AreOnWay test P all (suc number) rest

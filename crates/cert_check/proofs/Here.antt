@@ -1,17 +1,16 @@
 -- Where a check is in a tree: the nodes to come, the region of the next, and the sides that led to it.
-use Rattle.std.proofs.Common.{◌≡◌, ℕ, ◌+◌, ◌<◌, ◌≤◌, List, Bool, [], ◌∷◌, ◌++◌, length, All, drop, slice_get, Some}
-use Rattle.std.proofs.Common.{refl, sym, ◌∙◌, ap, subst}
-use Rattle.std.proofs.lemmas.List.{drop_all}
+use Rattle.std.proofs.Common.{◌≡◌, ℕ, ◌+◌, ◌<◌, List, Bool, [], ◌∷◌, ◌++◌, length, All, drop, slice_get, Some, refl}
+use Rattle.std.proofs.Common.{sym, ◌∙◌, ap, subst}
 use Rattle.branch_tree.specs.declared.tree.Node.{Node}
 use Rattle.branch_tree.specs.Claims.{IsProvedAt}
 use Rattle.branch_tree.specs.Meanings.{Meanings}
-use Rattle.branch_tree.specs.Trees.{Covers, IsWhole, cut_of, nodes_in, regions_below}
+use Rattle.branch_tree.specs.Trees.{IsWhole, cut_of, nodes_in, regions_below}
 use Rattle.cert_check.specs.declared.path.Taken.{Taken}
 use Rattle.cert_check.specs.declared.verdict.Reason.{Reason}
 use Rattle.cert_check.specs.Paths.{root_from, left_in, AreTaken, IsAtFirst, IsLed}
 use Rattle.cert_check.specs.Reasons.{node_tests, tests_from}
 use Rattle.cert_check.specs.Tests.{FirstFails}
-use Rattle.cert_check.proofs.OnTheWay.{IsOnWay, HasNext, has_next, way_begins, way_ends, goes_on_at, stops_at}
+use Rattle.cert_check.proofs.OnTheWay.{IsOnWay, HasNext, has_next, way_begins, goes_on_at, stops_at}
 use Rattle.cert_check.proofs.Retracing.{length-root_from, taken_inside}
 
 pub record IsHere (problem : Meanings) (root : List (List Bool)) (all : List Node) (number : ℕ) (taken : List Taken) (region : List (List Bool)) : Type 0 where
@@ -67,17 +66,3 @@ goes_on problem root all number taken region node new next inside at here proved
   way = goes_on_at problem root all number region (left_in problem.catalogue taken region) node inside at proved (way_here problem root all number taken region node inside at here);
   led = record { first = on.first; back = on.back ∙ here.led.back; marks = on.marks };
 }
-
--- after the last node
-pub record IsThrough (problem : Meanings) (root : List (List Bool)) (all : List Node) (taken : List Taken) (region : List (List Bool)) : Type 0 where
-  pub none : taken ≡ []
-  pub back : region ≡ root
-  pub covers : Covers problem.catalogue (IsProvedAt problem) root all
-
-pub ends : (problem : Meanings) (root : List (List Bool)) (all : List Node) (number : ℕ) (taken : List Taken) (region : List (List Bool)) → length all ≤ number → IsHere problem root all number taken region →
-    IsThrough problem root all taken region
-ends problem root all number taken region past here =
-    let end : (here.regions ≡ []) × Covers problem.catalogue (IsProvedAt problem) root all = way_ends problem root all number here.regions
-    (subst (IsOnWay problem root all number here.regions) (drop_all number all past) here.way) in
-    let none : taken ≡ [] = subst (λ regions. IsAtFirst problem.catalogue regions taken region) end.0 here.led.first in
-    record { none = none; back = ap (λ some. root_from some region) (sym none) ∙ here.led.back; covers = end.1 }

@@ -71,8 +71,3 @@ pub has_next : (problem : Meanings) (root : List (List Bool)) (all : List Node) 
     number < length all → slice_get all number ≡ Some node → IsOnWay problem root all number regions (drop number all) → HasNext regions
 has_next problem root all number [] node inside at way = absurd (subst (IsOnWay problem root all number []) (drop_at_node all number node inside at) way).whole
 has_next problem root all number (region ∷ regions) node inside at way = record { region = region; rest = regions; is = refl }
-
-pub way_ends : (problem : Meanings) (root : List (List Bool)) (all : List Node) (number : ℕ) (regions : List (List (List Bool))) → IsOnWay problem root all number regions [] →
-    (regions ≡ []) × Covers problem.catalogue (IsProvedAt problem) root all
-way_ends problem root all number [] way = (refl, way.covers tt)
-way_ends problem root all number (region ∷ regions) way = absurd way.whole

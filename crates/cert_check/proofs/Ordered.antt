@@ -25,9 +25,6 @@ picks_of problem root claim = plan_tests problem root (plan_of (said_by claim.he
 heads_of : Claim → List Test
 heads_of claim = head_tests (said_by claim.head) claim.tree.now
 
-pub fails_shape : (problem : Meanings) (root : List (List Bool)) (claim : Claim) (reason : Reason) → IsMisshapen claim.tree.now reason → FirstFails (claim_tests problem root claim) reason
-fails_shape problem root claim reason wrong = inl wrong
-
 pub fails_branchings : (problem : Meanings) (root : List (List Bool)) (claim : Claim) (reason : Reason) → IsWhole claim.tree.now → HasOtherBranchings claim.branchings claim.tree.now reason →
     FirstFails (claim_tests problem root claim) reason
 fails_branchings problem root claim reason whole wrong = inr (not_misshapen claim.tree.now whole, inl wrong)

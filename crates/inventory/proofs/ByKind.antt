@@ -84,9 +84,6 @@ same_alone x y c = elim (in_list x y [] c) [ inl e ↦ e | inr nowhere ↦ absur
 same_of_two : (x y z : ℕ) → 1 ≤ count_of x (y ∷ z ∷ []) → (y ≡ x) ⊎ (z ≡ x)
 same_of_two x y z c = elim (in_list x y (z ∷ []) c) [ inl e ↦ inl e | inr later ↦ inr (same_alone x z later) ]
 
-none_under : (b : Bool) (us : List ℕ) (P : Bool → Type 0) → b ≡ false → cond b us [] ≡ []
-none_under b us P e = cond-false b us [] e
-
 joined : (first second departing : List ℕ) → join_holds first second departing ≡ true → departing ≡ first ++ second
 unfolding join_holds
 joined first second departing h = sym (same_lists (first ++ second) departing h)

@@ -35,11 +35,6 @@ trips_here day (b ∷ before) turns x c = elim (in_list x b before c) [
 pub all_hold : (day : Day) (types : List (List ℕ)) → AreServed day types → AllHold itself day types
 all_hold day types served = record { holds = served.links }
 
-if_less : (b c : Bool) (n : ℕ) → (b ≡ true → c ≡ true) → cond {A = ℕ} b n 0 ≤ cond {A = ℕ} c n 0
-if_less true true n h = omega arith
-if_less true false n h = absurd (false≢true (h refl))
-if_less false c n h = omega arith
-
 if_if : (b c d : Bool) (n : ℕ) → (b ≡ true → c ≡ true → d ≡ true) → cond {A = ℕ} b (cond {A = ℕ} c n 0) 0 ≤ cond {A = ℕ} d n 0
 if_if true true true n h = omega arith
 if_if true true false n h = absurd (false≢true (h refl refl))

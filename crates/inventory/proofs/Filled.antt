@@ -17,9 +17,6 @@ use Rattle.inventory.proofs.Tables.{plus_is, at_place}
 
 -- ---- numbers added up
 
-sum_eq : (a b : ℕ → ℕ) (n : ℕ) → ((k : ℕ) → a k ≡ b k) → sum_below a n ≡ sum_below b n
-sum_eq a b n h = sum_same a b n (λ k lt. h k)
-
 -- a sum is what came before it and all numbers up to it
 pub sums_at : (a b : ℕ → ℕ) (p q : ℕ) (counts : List ℤ) (k : ℕ) → k < length counts → ((j : ℕ) → j ≤ k → get_or counts j (pos 0) ≡ pos (a j) -ℤ pos (b j))
     → p + sum_below a (suc k) ≤ 100000000000 → q + sum_below b (suc k) ≤ 100000000000

@@ -22,9 +22,6 @@ is_strict day a b h = grind (arith, nat_tests)
 pub is_total : (day : Day) (a b : ℕ) → is_before day a b ≡ false → a ≢ b → is_before day b a ≡ true
 is_total day a b h ne = grind (arith, nat_tests)
 
-pub is_transitive : (day : Day) (a b c : ℕ) → is_before day a b ≡ true → is_before day b c ≡ true → is_before day a c ≡ true
-is_transitive day a b c h k = grind (arith, nat_tests)
-
 pub before_leaves : (day : Day) (a b : ℕ) → is_before day a b ≡ true → leaves day a ≤ leaves day b
 before_leaves day a b h = grind (arith, nat_tests)
 

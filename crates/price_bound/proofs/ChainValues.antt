@@ -11,7 +11,6 @@ use Rattle.timetable.specs.Accepted.{AreLinks}
 use Rattle.timetable.specs.Admissible.{is_admissible}
 use Rattle.timetable.specs.Chains.{Leads, leads_from, leads_to}
 use Rattle.timetable.specs.Compositions.{compositions_of, composition_at}
-use Rattle.timetable.specs.Day.{Day}
 use Rattle.timetable.specs.Handovers.{second_of}
 use Rattle.timetable.specs.Links.{arriving_in, departing_in, list_of, outgoing}
 use Rattle.timetable.specs.Lists.{count_of}
@@ -47,9 +46,6 @@ pub record IsNearAt (priced : Priced) (picks : List ℕ) (l : ℕ) (link : Link)
   pub part : IsTrue (part_is_in priced.region (second_of link.kind) step.edge.part)
 
 module _ (priced : Priced) (picks : List ℕ) (links : AreLinks priced.day) (graphs : AreGraphs priced.day priced.graphs) (long : length picks ≡ length priced.day.trips) where
-  abbrev day : Day
-  day = priced.day
-
   abbrev lists : List (List ℕ)
   lists = picked priced.day picks
 

@@ -71,12 +71,6 @@ module _ (day : Day) where
       let within = slice_get_within (mus_of day) n (Mu s m) here in
       absurd (omega arith)
 
-  no_sigma : (k h c : ℕ) → slice_get (mus_of day) k ≡ Some (Sigma h c) → (n : ℕ) → slice_get (sigmas_of day) n ≡ Some (Sigma h c) → ⊥
-  no_sigma k h c at n here =
-      let one = (have_multipliers day).once (length (lambdas_of day) + k) (length (lambdas_of day) + (length (mus_of day) + n)) (Sigma h c) (mu_index k (Sigma h c) at) (sigma_index n (Sigma h c) here) in
-      let within = slice_get_within (mus_of day) k (Sigma h c) at in
-      absurd (omega arith)
-
   pub each_sigma : (P : Place → Type 0) → ((h c : ℕ) → IsPlace day (Sigma h c) → P (Sigma h c)) → (k : ℕ) (y : Place) → slice_get (sigmas_of day) k ≡ Some y → P y
   each_sigma P each k (Lambda s m j) at = absurd (no_lambda (length (lambdas_of day) + (length (mus_of day) + k)) s m j (sigma_index k (Lambda s m j) at) (omega arith))
   each_sigma P each k (Mu s m) at = absurd (no_mu k s m (sigma_index k (Mu s m) at))

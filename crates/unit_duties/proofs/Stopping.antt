@@ -1,10 +1,10 @@
 -- Stops that are added to duties.
 use Rattle.std.proofs.Common.{◌≡◌, ◌≢◌, ℕ, zero, suc, ◌+◌, ◌<◌, ◌≤◌, List, [], ◌∷◌, ◌++◌, length, get_or, set, map}
-use Rattle.std.proofs.Common.{filter, replicate, Bool, true, false, cond, not, refl, sym, ap, ◌∙◌, subst, arith}
-use Rattle.std.proofs.Common.{append-nil, ◌-◌, ⊎_elim, eq-eqb, ne_eqb}
+use Rattle.std.proofs.Common.{filter, Bool, true, false, cond, not, refl, sym, ap, ◌∙◌, subst, arith, append-nil, ◌-◌}
+use Rattle.std.proofs.Common.{⊎_elim, eq-eqb, ne_eqb}
 use Rattle.std.specs.Prelude.{◌==◌}
 use Rattle.std.proofs.lemmas.Bool.{cases_eq, cases_lt, cases_Bool, false≢true}
-use Rattle.std.proofs.lemmas.List.{length-set, length-replicate, get_or-set_same, get_or-set_other, get_or_append_left}
+use Rattle.std.proofs.lemmas.List.{length-set, get_or-set_same, get_or-set_other, get_or_append_left}
 use Rattle.std.proofs.lemmas.List.{get_or-append_right, ext_get_or, length-map, map-append}
 use Rattle.std.proofs.lemmas.Option.{unwrap_or-slice_get}
 use Rattle.timetable.specs.Day.{Day, unit_count}
@@ -98,9 +98,6 @@ pub record AddedSoFar (t : ℕ) (us : List ℕ) (before now : List (List Stop)) 
   pub long : length now ≡ length before
   pub each : (u : ℕ) → u < length before → stops_at now u ≡ stops_at before u ++ stop_of t u us
 
-pub added_none : (t : ℕ) (lists : List (List Stop)) → AddedSoFar t [] lists lists
-added_none t lists = record { long = refl; each = λ u lt. sym (append-nil (stops_at lists u)) }
-
 -- one more unit, which is there already
 pub added_there : (t v : ℕ) (us : List ℕ) (before now : List (List Stop)) → has v us ≡ true → AddedSoFar t us before now → AddedSoFar t (us ++ v ∷ []) before now
 added_there t v us before now h so_far = record {
@@ -149,36 +146,6 @@ added_new t v n us before now h lt e so_far =
 pub record StopsSoFar (plan : List (List ℕ)) (units : ℕ) (trips : List ℕ) (lists : List (List Stop)) : Type 0 where
   pub long : length lists ≡ units
   pub each : (u : ℕ) → u < units → stops_at lists u ≡ map (stop_on plan u) (filter (λ t. has u (list_of plan t)) trips)
-
-stops_at-replicate : (n u : ℕ) → stops_at (replicate n []) u ≡ []
-stops_at-replicate zero u = refl
-stops_at-replicate (suc n) zero = refl
-stops_at-replicate (suc n) (suc u) = stops_at-replicate n u
-
-pub stops_none : (plan : List (List ℕ)) (n : ℕ) → StopsSoFar plan n [] (replicate n [])
-stops_none plan n = record { long = length-replicate n []; each = λ u lt. stops_at-replicate n u }
-
-stops-push : (plan : List (List ℕ)) (u t : ℕ) (ts : List ℕ)
-    → map (stop_on plan u) (filter (λ s. has u (list_of plan s)) (ts ++ t ∷ [])) ≡ map (stop_on plan u) (filter (λ s. has u (list_of plan s)) ts) ++ stop_of t u (list_of plan t)
-stops-push plan u t [] = one (has u (list_of plan t))
-  where
-    one : (b : Bool) → map (stop_on plan u) (cond b (t ∷ []) []) ≡ cond b (stop_on plan u t ∷ []) []
-    one true = refl
-    one false = refl
-stops-push plan u t (s ∷ ts) = more (has u (list_of plan s)) (filter (λ s. has u (list_of plan s)) (ts ++ t ∷ [])) (filter (λ s. has u (list_of plan s)) ts) (stop_of t u (list_of plan t)) (stops-push plan u t ts)
-  where
-    more : (b : Bool) (xs ys : List ℕ) (stops : List Stop) → map (stop_on plan u) xs ≡ map (stop_on plan u) ys ++ stops
-        → map (stop_on plan u) (cond b (s ∷ xs) xs) ≡ map (stop_on plan u) (cond b (s ∷ ys) ys) ++ stops
-    more true xs ys stops e = ap (λ (l : List Stop). stop_on plan u s ∷ l) e
-    more false xs ys stops e = e
-
--- one more trip was added
-pub stops_more : (plan : List (List ℕ)) (units t : ℕ) (ts : List ℕ) (before now : List (List Stop)) → StopsSoFar plan units ts before
-    → length now ≡ length before → ((u : ℕ) → u < length before → stops_at now u ≡ stops_at before u ++ stop_of t u (list_of plan t)) → StopsSoFar plan units (ts ++ t ∷ []) now
-stops_more plan units t ts before now so_far long added = let was = so_far.long in record {
-  long = long ∙ so_far.long;
-  each = λ u lt. added u (omega arith) ∙ ap (λ (l : List Stop). l ++ stop_of t u (list_of plan t)) (so_far.each u lt) ∙ sym (stops-push plan u t ts);
-}
 
 length-map_below : {X : Type 0} (f : ℕ → List X) (n : ℕ) → length (map f (below n)) ≡ n
 length-map_below f n = length-map (below n) f ∙ length-below n

@@ -19,9 +19,6 @@ use Rattle.unit_duties.specs.contracts.yards.WaitingOrd.TheImpl.Laws.{total-law}
 abbrev pub order : Waiting → Waiting → Ordering
 order = cmp-value.it
 
-by_parts : (a b : Waiting) → order a b ≡ ordering_then (nat_cmp a.station b.station) (ordering_then (nat_cmp a.unit_type b.unit_type) (ordering_then (nat_cmp a.ready b.ready) (nat_cmp a.unit b.unit)))
-by_parts a b = refl
-
 less : (x y : ℕ) → x < y → nat_cmp x y ≡ Less
 less x y h = grind (arith, nat_tests)
 
