@@ -60,7 +60,7 @@ solutions_are_priced_low problem relaxation picks multipliers solution fits =
       without_cost = under_cost (pos 0) (slack_sum problem multipliers picks) low;
     }
 
-between : (a b c : ℤ) → a ≤ℤ b → b ≤ℤ c → a ≤ℤ c
+pub between : (a b c : ℤ) → a ≤ℤ b → b ≤ℤ c → a ≤ℤ c
 between a b c p q = omega (arith, ints, p, q)
 
 not_between : (a b : ℤ) → pos 0 <ℤ a → a ≤ℤ b → b ≤ℤ pos 0 → ⊥

@@ -18,7 +18,7 @@ both true false all = absurd cc
 both false b all = absurd cc
 
 -- the set of one composition has no other
-only_member : (pick comp : ℕ) → is_member (set_of (λ n. n == pick)) comp ≡ true → comp ≡ pick
+pub only_member : (pick comp : ℕ) → is_member (set_of (λ n. n == pick)) comp ≡ true → comp ≡ pick
 only_member pick comp there =
     ⊎_elim (λ below. eqb-true comp pick (sym (is_member-tested (λ n. n == pick) MOST_COMPOSITIONS comp below) ∙ there))
     (λ past. absurd (gone (is_member-past (set_of (λ n. n == pick)) comp (omega (arith, past, length-tested (λ n. n == pick) MOST_COMPOSITIONS)))))
@@ -27,7 +27,8 @@ only_member pick comp there =
     gone : is_member (set_of (λ n. n == pick)) comp ≡ false → ⊥
     gone none = cc
 
-alone_same : (others picks : List ℕ) → are_in others (alone picks) ≡ true → others ≡ picks
+-- no other picks lie in the region of picks alone
+pub alone_same : (others picks : List ℕ) → are_in others (alone picks) ≡ true → others ≡ picks
 alone_same [] [] inside = refl
 alone_same [] (pick ∷ picks) inside = absurd cc
 alone_same (other ∷ others) [] inside = absurd cc

@@ -11,6 +11,7 @@ use Rattle.branch_tree.specs.declared.tree.Node.{Node}
 use Rattle.branch_tree.specs.declared.tree.Node.TheVariants.{Branch, CostLeaf, RayLeaf, EmptyLeaf}
 use Rattle.branch_tree.specs.Claims.{IsLeast}
 use Rattle.branch_tree.specs.Trees.{bounds_of}
+use Rattle.branch_tree.proofs.Duality.{between}
 use Rattle.cert_check.specs.declared.verdict.Reason.{Reason}
 use Rattle.cert_check.specs.Leaves.{bound_of, lower_of, least_of}
 use Rattle.cert_check.specs.Reasons.{leaf_tests, IsLeastOf}
@@ -87,9 +88,6 @@ bounds_of-append (Branch cut ∷ nodes) node = bounds_of-append nodes node
 bounds_of-append (CostLeaf bound multipliers ∷ nodes) node = ap (λ bounds. bound.0 ∷ bounds) (bounds_of-append nodes node)
 bounds_of-append (RayLeaf multipliers ∷ nodes) node = bounds_of-append nodes node
 bounds_of-append (EmptyLeaf ∷ nodes) node = bounds_of-append nodes node
-
-between : (a b c : ℤ) → a ≤ℤ b → b ≤ℤ c → a ≤ℤ c
-between a b c p q = omega (arith, ints, p, q)
 
 level : (a : ℤ) → a ≤ℤ a
 level a = omega (arith, ints)

@@ -1,18 +1,18 @@
 -- The trips of a plan that runs, up to a minute, are named as it is asked of them.
-use Rattle.std.proofs.Common.{◌≡◌, ℕ, ◌≤◌, List, [], ◌∷◌, length, map, false, refl, sym, ◌∙◌, subst, arith, inl, inr}
+use Rattle.std.proofs.Common.{◌≡◌, ℕ, ◌≤◌, List, [], ◌∷◌, map, false, refl, sym, ◌∙◌, subst, arith, inl, inr}
 use Rattle.std.specs.Prelude.{filter, nat_lt, IsTrue}
 use Rattle.std.proofs.lemmas.Bool.{cases_Bool, cond-true, cond-false, ltb-false, le-ltb}
 use Rattle.timetable.specs.Accepted.{AreLinks}
 use Rattle.timetable.specs.Day.{Day, leaves, home_of, type_of, types_of}
 use Rattle.timetable.specs.Duties.{duty}
 use Rattle.timetable.specs.Links.{list_of}
-use Rattle.timetable.specs.Lists.{count_of, has, below}
+use Rattle.timetable.specs.Lists.{count_of, has}
 use Rattle.timetable.specs.Running.{MayFollow, EachFollows, BeginsAt, Runs}
 use Rattle.timetable.proofs.ListedUnits.{list_of-types}
 use Rattle.inventory.specs.NamedBefore.{MayFollowByPlaces, IsNamedBefore}
 use Rattle.inventory.specs.NamingLaws.{RunningPlansAreNamed}
 use Rattle.inventory.proofs.Sums.{one_same}
-use Rattle.inventory.proofs.Order.{InLine, in_order_in_line, leaves_least}
+use Rattle.inventory.proofs.Order.{InLine, duty_in_line, leaves_least}
 use Rattle.inventory.proofs.Linked.{AllHold, come_is, kept_is, given_is, taken_is}
 
 -- ---- the trips of a list in order that leave before a minute
@@ -81,17 +81,13 @@ module _ (day : Day) (plan : List (List ℕ)) (links : AreLinks day) (runs : Run
     ready = by_yard.ready;
   })
 
-  duty_in_line : (u : ℕ) → InLine day (duty day plan u)
-  unfolding duty
-  duty_in_line u = in_order_in_line day (filter (λ t. has u (list_of plan t)) (below (length day.trips)))
-
   pub named_before : (minute : ℕ) → IsNamedBefore day (map (types_of day) plan) minute plan
   named_before minute = record {
     lists = λ t lt is_early. record { distinct = (runs.lists t lt).distinct; known = λ u is. runs.is_plan.units t u is; types_are = types_are t };
     links = λ t lt is_early. come_is day (map (types_of day) plan) links (type_of day) plan types_are all_links t;
-    homes = λ u lt. early_begins day minute (home_of day u) (duty day plan u) (duty_in_line u) (runs.homes u lt);
+    homes = λ u lt. early_begins day minute (home_of day u) (duty day plan u) (duty_in_line day plan u) (runs.homes u lt);
     follows = λ u lt. each_so (MayFollow day plan u) (MayFollowByPlaces day (map (types_of day) plan) plan u) (filter (λ t. nat_lt (leaves day t) minute) (duty day plan u)) (by_places u)
-        (early_follows day minute (MayFollow day plan u) (duty day plan u) (duty_in_line u) (runs.follows u lt));
+        (early_follows day minute (MayFollow day plan u) (duty day plan u) (duty_in_line day plan u) (runs.follows u lt));
   }
 
 pub running_plans_are_named : RunningPlansAreNamed

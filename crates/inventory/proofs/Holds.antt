@@ -57,12 +57,13 @@ summed_places day T places = record {
       ∙ length-sums_from _ (counts_of T s m) ∙ places.minutes s m lt lt';
 }
 
-map_entry : {X Y : Type 0} (f : List X → List Y) (xs : List (List X)) (i : ℕ) → f [] ≡ [] → get_or (map f xs) i [] ≡ f (get_or xs i [])
+-- an entry of a list of lists of which each is changed
+pub map_entry : {X Y : Type 0} (f : List X → List Y) (xs : List (List X)) (i : ℕ) → f [] ≡ [] → get_or (map f xs) i [] ≡ f (get_or xs i [])
 map_entry f [] i e = sym e
 map_entry f (x ∷ xs) zero e = refl
 map_entry f (x ∷ xs) (suc i) e = map_entry f xs i e
 
-zero_entry : (xs : List ℤ) (k : ℕ) → get_or (map (λ (_ : ℤ). pos 0) xs) k (pos 0) ≡ pos 0
+pub zero_entry : (xs : List ℤ) (k : ℕ) → get_or (map (λ (_ : ℤ). pos 0) xs) k (pos 0) ≡ pos 0
 zero_entry [] k = refl
 zero_entry (x ∷ xs) zero = refl
 zero_entry (x ∷ xs) (suc k) = zero_entry xs k
@@ -116,7 +117,8 @@ start_few (row ∷ rows) s m =
       | inr isnt ↦ let e : start_in (row ∷ rows) s m ≡ start_in rows s m = cond-false {A = ℕ} ((row.station == s) && (row.unit_type == m)) row.start (start_in rows s m) isnt in omega arith
     ]
 
-few_start : (day : Day) → IsDay day → (s m : ℕ) → start_of day s m ≤ 2000
+-- a yard has few units at the start
+pub few_start : (day : Day) → IsDay day → (s m : ℕ) → start_of day s m ≤ 2000
 unfolding start_of units_of
 few_start day is_day s m = let few = start_few day.stock s m in let units = is_day.units in omega arith
 

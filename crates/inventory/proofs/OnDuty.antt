@@ -15,8 +15,8 @@ use Rattle.timetable.specs.Running.{Runs, MayFollow, GoesByYard, EachFollows, Be
 use Rattle.timetable.proofs.ListedUnits.{list_of-types}
 use Rattle.inventory.specs.Places.{going_on, given_places, kept_places, taken_places, coming}
 use Rattle.inventory.proofs.Sums.{one, one_same, one_other, sum_same}
-use Rattle.inventory.proofs.Order.{InLine, in_list, in_order_in_line, count_of-in_order, count_below_in}
-use Rattle.inventory.proofs.Order.{count_below_out, leaves_before, not_itself}
+use Rattle.inventory.proofs.Order.{InLine, in_list, duty_in_line, count_of-in_order, count_below_in, count_below_out}
+use Rattle.inventory.proofs.Order.{leaves_before, not_itself}
 use Rattle.inventory.proofs.Linked.{Goes, LeadsInto, AllHold, goes, going_feeds, feeds, coming_from, coming_has}
 use Rattle.inventory.proofs.Linked.{places_share, come_is, taken_is, given_is, kept_is}
 use Rattle.inventory.proofs.Standing.{not_given, going_less}
@@ -178,10 +178,6 @@ module _ (day : Day) (plan : List (List ℕ)) (is_day : IsDay day) (links : AreL
         | inr isnt ↦ let b = filter_out (λ t. has u (list_of plan t)) t (below (length day.trips)) isnt in absurd (omega arith)
       ]
 
-  duty_in_line : (u : ℕ) → InLine day (duty day plan u)
-  unfolding duty
-  duty_in_line u = in_order_in_line day (filter (λ t. has u (list_of plan t)) (below (length day.trips)))
-
   -- ---- one step of a duty
 
   -- taken until a minute, given and ready at a minute
@@ -244,7 +240,7 @@ module _ (day : Day) (plan : List (List ℕ)) (is_day : IsDay day) (links : AreL
   -- a unit comes to no trip that it first runs on in a train
   first_takes : (u b : ℕ) (ts : List ℕ) → duty day plan u ≡ b ∷ ts → count_of u (taken day plan b) ≡ 1
   first_takes u b ts is =
-      let line : InLine day (b ∷ ts) = subst (InLine day) is (duty_in_line u) in
+      let line : InLine day (b ∷ ts) = subst (InLine day) is (duty_in_line day plan u) in
       let there = one_same b b refl in
       let on = ap (count_of b) is in
       let runs_on = duty_has u b (omega arith) in
@@ -275,7 +271,7 @@ module _ (day : Day) (plan : List (List ℕ)) (is_day : IsDay day) (links : AreL
   last_gives u a ts is =
       let last = last_of a ts in
       let g : Goes day types (last_of a ts) = goes day types links (last_of a ts) in
-      let line : InLine day (a ∷ ts) = subst (InLine day) is (duty_in_line u) in
+      let line : InLine day (a ∷ ts) = subst (InLine day) is (duty_in_line day plan u) in
       let there = last_there a ts in
       let on = ap (count_of (last_of a ts)) is in
       let runs_on = duty_has u (last_of a ts) (omega arith) in
@@ -299,7 +295,7 @@ module _ (day : Day) (plan : List (List ℕ)) (is_day : IsDay day) (links : AreL
           let share = places_share day types c u (list_of plan c) in
           let later = on_duty u c leads.to (omega arith) in
           let on_it = ap (count_of c) is in
-          let line : InLine day (a ∷ ts) = subst (InLine day) is (duty_in_line u) in
+          let line : InLine day (a ∷ ts) = subst (InLine day) is (duty_in_line day plan u) in
           let in_time = leads.in_time in
           let time = is_day.time (last_of a ts) leads.from in
           false≢true (sym (last_is_latest day a ts line c (omega arith)) ∙ leaves_before day (last_of a ts) c (omega arith))

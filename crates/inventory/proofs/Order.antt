@@ -8,8 +8,9 @@ use Rattle.std.proofs.lemmas.Bool.Decides.{nat_tests}
 use Rattle.std.proofs.lemmas.List.{reverse-append, append-nil}
 use Rattle.std.proofs.lemmas.List.Elements.{filter-append}
 use Rattle.timetable.specs.Day.{Day, leaves}
-use Rattle.timetable.specs.Lists.{count_of, below}
-use Rattle.timetable.specs.Duties.{is_before, insert_trip, in_order}
+use Rattle.timetable.specs.Links.{list_of}
+use Rattle.timetable.specs.Lists.{count_of, has, below}
+use Rattle.timetable.specs.Duties.{duty, is_before, insert_trip, in_order}
 use Rattle.inventory.specs.NamedUnits.{latest_first}
 use Rattle.timetable.proofs.Shares.{count_of-append, count_of-turned}
 use Rattle.inventory.proofs.Sums.{one_same, one_other}
@@ -87,6 +88,11 @@ insert_in_line day t (s ∷ ss) h = elim (cases_Bool (is_before day t s)) [
 pub in_order_in_line : (day : Day) (ts : List ℕ) → InLine day (in_order day ts)
 in_order_in_line day [] = tt
 in_order_in_line day (t ∷ ts) = insert_in_line day t (in_order day ts) (in_order_in_line day ts)
+
+-- the trips of a duty are in order
+pub duty_in_line : (day : Day) (plan : List (List ℕ)) (u : ℕ) → InLine day (duty day plan u)
+unfolding duty
+duty_in_line day plan u = in_order_in_line day (filter (λ t. has u (list_of plan t)) (below (length day.trips)))
 
 -- ---- trips that pass a test
 

@@ -1,8 +1,8 @@
 -- Amounts in a table that is added to: in the rows and the column that it is added to they are more by it, and else
 -- they stay.
-use Rattle.std.proofs.Common.{◌≡◌, ◌≢◌, ℕ, zero, suc, ◌+◌, ◌*◌, ◌^◌, ◌-◌, ◌<◌, ◌≤◌, List, [], ◌∷◌, length, set, get_or}
-use Rattle.std.proofs.Common.{replicate, map, Bool, ◌&&◌, refl, sym, ap, ◌∙◌, subst, arith, ℤ, pos, negsuc}
-use Rattle.std.proofs.Common.{◌+ℤ◌, ◌-ℤ◌, inl, inr, length-set, unsigned_abs}
+use Rattle.std.proofs.Common.{◌≡◌, ◌≢◌, ℕ, suc, ◌+◌, ◌*◌, ◌^◌, ◌-◌, ◌<◌, ◌≤◌, List, [], ◌∷◌, length, set, get_or}
+use Rattle.std.proofs.Common.{replicate, map, Bool, ◌&&◌, refl, sym, ap, ◌∙◌, subst, arith, ℤ, pos, negsuc, ◌+ℤ◌, ◌-ℤ◌}
+use Rattle.std.proofs.Common.{inl, inr, length-set, unsigned_abs}
 use Rattle.std.specs.Prelude.{◌==◌, if◌then◌else◌, min}
 use Rattle.std.specs.Int.{saturate_to_bits}
 use Rattle.std.proofs.lemmas.Bool.{cases_eq, eq-eqb, ne_eqb}
@@ -12,9 +12,11 @@ use Rattle.std.proofs.lemmas.List.{get_or-replicate, get_or-set_same, get_or-set
 use Rattle.branch_tree.specs.IntSums.{int_sum}
 use Rattle.inventory.specs.CountTable.{changed_at, changed_in, plus}
 use Rattle.inventory.specs.Counted.{HasPlaces, counts_of, number_at}
+use Rattle.inventory.proofs.Holds.{map_entry, zero_entry}
 use Rattle.timetable.specs.Day.{Day}
 use Rattle.price_bound.specs.CellSizes.{IsSmall}
 use Rattle.price_bound.specs.PriceTables.{HasSize, amount_at, cleared_table}
+use Rattle.price_bound.proofs.IntLaws.{none_more}
 
 -- ---- sizes of numbers
 
@@ -96,9 +98,6 @@ module _ (rows columns : ℕ) (table : List (List ℤ)) (size : HasSize rows col
     other_row : r0 ≢ r → amount_at (changed_in r0 c0 x table) r c ≡ amount_at table r c
     other_row differ = ap (λ (ms : List ℤ). get_or ms c (pos 0)) (row_other r differ)
 
-    none_more : (a b : ℤ) → b ≡ pos 0 → a ≡ a +ℤ b
-    none_more a b e = omega (arith, ints, e)
-
     module _ (small : IsSmall 2000000000000000000 (amount_at table r c)) (small_x : IsSmall 2000000000000000000 x) where
       in_row : r0 ≡ r → amount_at (changed_in r0 c0 x table) r c ≡ amount_at table r c +ℤ (if c == c0 then x else pos 0)
       in_row same_row = elim (cases_eq c c0) [
@@ -119,22 +118,11 @@ module _ (rows columns : ℕ) (table : List (List ℤ)) (size : HasSize rows col
 
 -- ---- a cleared table
 
-row_zero : (xs : List ℤ) (c : ℕ) → get_or (map (λ _. pos 0) xs) c (pos 0) ≡ pos 0
-row_zero [] c = refl
-row_zero (x ∷ xs) zero = refl
-row_zero (x ∷ xs) (suc c) = row_zero xs c
-
--- a list of lists of which each is changed
-pub map_entry : {X Y : Type 0} (f : List X → List Y) (xs : List (List X)) (i : ℕ) → f [] ≡ [] → get_or (map f xs) i [] ≡ f (get_or xs i [])
-map_entry f [] i e = sym e
-map_entry f (x ∷ xs) zero e = refl
-map_entry f (x ∷ xs) (suc i) e = map_entry f xs i e
-
 cleared_row : (table : List (List ℤ)) (r : ℕ) → get_or (cleared_table table) r [] ≡ map (λ _. pos 0) (get_or table r [])
 cleared_row table r = map_entry (map (λ (_ : ℤ). pos 0)) table r refl
 
 pub cleared_amount : (table : List (List ℤ)) (r c : ℕ) → amount_at (cleared_table table) r c ≡ pos 0
-cleared_amount table r c = ap (λ (xs : List ℤ). get_or xs c (pos 0)) (cleared_row table r) ∙ row_zero (get_or table r []) c
+cleared_amount table r c = ap (λ (xs : List ℤ). get_or xs c (pos 0)) (cleared_row table r) ∙ zero_entry (get_or table r []) c
 
 pub cleared_size : (rows columns : ℕ) (table : List (List ℤ)) → HasSize rows columns table → HasSize rows columns (cleared_table table)
 cleared_size rows columns table size = record {

@@ -9,7 +9,7 @@ use Rattle.compositions.specs.Catalogue.{is_lower}
 use Rattle.price_bound.specs.declared.cells.Cell.{Cell}
 use Rattle.price_bound.specs.Paths.{Stage, IsPath, IsNoLaterPath, IsFirstPath, IsOver, begin_of, entered, least_from}
 use Rattle.price_bound.specs.Paths.{lower_cell, row_by, rows_of, walked}
-use Rattle.price_bound.proofs.Offers.{kept, lower_cases, replaced}
+use Rattle.price_bound.proofs.Offers.{cell_is, kept, lower_cases, replaced}
 use Rattle.price_bound.proofs.Rows.{IsCellFor, IsFirstFrom, length-row, lower_head, rows_first, walk_begins}
 
 -- ---- the first cell of least value
@@ -19,9 +19,6 @@ record IsLeastUntil (row : List (Option Cell)) (until : ℕ) (best : Option Cell
   pub none : best ≡ None → (comp : ℕ) → comp < until → get_or row comp None ≡ None
   pub there : (it : Cell) → best ≡ Some it → (cell : Cell) × (get_or row it.next None ≡ Some cell) × (cell.value ≡ it.value) × (it.next < until)
   pub least : (it : Cell) → best ≡ Some it → (comp : ℕ) (cell : Cell) → comp < until → get_or row comp None ≡ Some cell → (it.value <ℤ cell.value) ⊎ ((it.value ≡ cell.value) × (it.next ≤ comp))
-
-cell_is : (a b : Cell) → Some a ≡ Some b → a ≡ b
-cell_is a b e = cc
 
 module _ (row : List (Option Cell)) (until : ℕ) where
   before_or_at : (comp : ℕ) → comp < suc until → (comp < until) ⊎ (comp ≡ until)

@@ -24,6 +24,7 @@ use Rattle.price_bound.specs.Paths.{Stage, last_row, lower_cell, next_of, offer_
 use Rattle.price_bound.specs.Paths.{walked, with_worth, with_worths}
 use Rattle.price_bound.specs.Pricing.{IsListed}
 use Rattle.price_bound.proofs.Adding.{small_more, small_zero}
+use Rattle.price_bound.proofs.Offers.{cell_is}
 use Rattle.price_bound.proofs.Rows.{length-row}
 
 -- ---- room
@@ -45,15 +46,12 @@ pub const_row : {X Y : Type 0} (y : Y) (xs : List X) → map (λ _. y) xs ≡ re
 const_row y [] = refl
 const_row y (x ∷ xs) = ap (λ (ys : List _). y ∷ ys) (const_row y xs)
 
-cell_of : (a b : Cell) → Some a ≡ Some b → a ≡ b
-cell_of a b e = cc
-
 pub end_small : (bound n : ℕ) → AreSmallCells bound (replicate n (Some (record { value = pos 0; next = 0 })))
 end_small bound n comp cell at = elim (cases_lt comp n) [
   | inl below ↦
       let same : Some (record { value = pos 0; next = 0 }) ≡ Some cell =
       sym (get_or-replicate n comp (Some (record { value = pos 0; next = 0 })) None below) ∙ at in
-      subst (IsSmall bound) (ap (λ (c : Cell). c.value) (cell_of (record { value = pos 0; next = 0 }) cell same)) (small_zero bound)
+      subst (IsSmall bound) (ap (λ (c : Cell). c.value) (cell_is (record { value = pos 0; next = 0 }) cell same)) (small_zero bound)
   | inr past ↦
       let none : None ≡ Some cell = sym (get_or_past (replicate n (Some (record { value = pos 0; next = 0 }))) comp None
       (omega (arith, past, length-replicate {A = Option Cell} n (Some (record { value = pos 0; next = 0 }))))) ∙ at in
@@ -80,7 +78,7 @@ cell_small bound row comp small = by (get_or row comp None) refl
 
 pub some_small : (bound : ℕ) (o : Option Cell) (cell : Cell) → IfSome o (λ it. IsSmall bound it.value) → o ≡ Some cell → IsSmall bound cell.value
 some_small bound None cell small at = absurd (cc)
-some_small bound (Some it) cell small at = subst (λ (c : Cell). IsSmall bound c.value) (cell_of it cell at) small
+some_small bound (Some it) cell small at = subst (λ (c : Cell). IsSmall bound c.value) (cell_is it cell at) small
 
 pub lower_small : (bound : ℕ) (a b : Option Cell) → IfSome a (λ it. IsSmall bound it.value) → IfSome b (λ it. IsSmall bound it.value)
     → IfSome (lower_cell a b) (λ it. IsSmall bound it.value)

@@ -22,7 +22,7 @@ use Rattle.branch_tree.specs.Claims.{IsRay}
 use Rattle.branch_tree.specs.Meanings.{IsBroken, priced}
 use Rattle.branch_tree.specs.Regions.{alone, are_in}
 use Rattle.branch_tree.proofs.Lying.{picks_lie_by_trip}
-use Rattle.branch_tree.proofs.Settling.{broken_picks_have_rays}
+use Rattle.branch_tree.proofs.Settling.{alone_same, broken_picks_have_rays}
 use Rattle.price_bound.specs.BrokenLaws.{BrokenPicksAreClosed, handovers_begin}
 use Rattle.price_bound.specs.DayMeanings.{IsAccepted, meanings_of}
 use Rattle.price_bound.specs.FollowingPicks.{Follow, part_of, pick_of}
@@ -30,7 +30,7 @@ use Rattle.price_bound.specs.Near.{AreNear, LieIn}
 use Rattle.price_bound.specs.Parts.{IsPartAt, NoneMissed, second_pick}
 use Rattle.price_bound.specs.Slacks.{broken_at, broken_index, first_from, is_none, is_positive, or_else, sign_of}
 use Rattle.price_bound.specs.Slacks.{slack_at, slack_of}
-use Rattle.price_bound.proofs.Alone.{alone_at, alone_has, alone_same}
+use Rattle.price_bound.proofs.Alone.{alone_at, alone_has}
 use Rattle.price_bound.proofs.FirstBroken.{each_sigma, had}
 use Rattle.price_bound.proofs.PartsFound.{part_there}
 use Rattle.price_bound.proofs.Ruling.{edge_part, has_part, step}

@@ -1,45 +1,19 @@
--- A yard has few units at the start, and a trip gives no more than a composition has, so that no count of the yards is
--- far above zero.
-use Rattle.std.proofs.Common.{◌≡◌, ◌≤◌, ◌+◌, ◌-◌, ℕ, List, [], ◌∷◌, length, map, Bool, true, false, Option, Some, None}
-use Rattle.std.proofs.Common.{unwrap_or, arith, inl, inr}
-use Rattle.std.specs.Prelude.{option_map, option_and_then, ◌==◌, ◌&&◌, if◌then◌else◌, nat_le, replicate}
-use Rattle.std.proofs.lemmas.Bool.{cases_Bool, cond-true, cond-false}
-use Rattle.std.proofs.lemmas.List.{length-append, length-replicate}
+-- A trip gives no more units than a composition has, so that no count of given units is far above zero.
+use Rattle.std.proofs.Common.{◌≤◌, ◌-◌, ℕ, List, [], length, map, Bool, true, false, Option, Some, None, unwrap_or}
+use Rattle.std.proofs.Common.{arith}
+use Rattle.std.specs.Prelude.{option_map, option_and_then, ◌==◌, ◌&&◌, if◌then◌else◌, nat_le}
 use Rattle.rail_csv.specs.declared.rows.End.{End}
 use Rattle.timetable.specs.declared.day.records.Link.{Link}
 use Rattle.timetable.specs.declared.day.records.LinkKind.{LinkKind}
 use Rattle.timetable.specs.declared.day.records.LinkKind.TheVariants.{Turn, Join, Split}
-use Rattle.timetable.specs.declared.day.records.Stock.{Stock}
-use Rattle.timetable.specs.declared.day.records.Unit as unit
 use Rattle.timetable.specs.Accepted.{IsDay}
-use Rattle.timetable.specs.Day.{Day, to_of, units_in, units_of, ready_at}
+use Rattle.timetable.specs.Day.{Day, to_of, ready_at}
 use Rattle.timetable.specs.Links.{list_of, itself, link_out, given_by, given_with, turned}
 use Rattle.timetable.specs.Picks.{ArePicks, picked}
-use Rattle.timetable.specs.Starts.{start_in, start_of}
 use Rattle.timetable.specs.Turns.{Parts, beyond, kept_length, may_shunt, parts_at, same, staying, turn_parts}
 use Rattle.transitions.proofs.Kept.{length-turned}
 use Rattle.inventory.specs.Counts.{all_given, gives_of, ready_until}
 use Rattle.price_bound.proofs.FewTaken.{chosen, count_le, few_beyond, few_listed, few_summed}
-
--- ---- units at the start
-
-units_at_start : (rows : List Stock) (s m : ℕ) → start_in rows s m ≤ length (units_in rows)
-units_at_start [] s m = omega arith
-units_at_start (row ∷ rows) s m =
-    let rest = units_at_start rows s m in
-    let units : List unit.Unit = replicate row.start (record { unit_type = row.unit_type; home = row.station }) in
-    let whole : length (units_in (row ∷ rows)) ≡ length units + length (units_in rows) = length-append units (units_in rows) in
-    let first : length units ≡ row.start = length-replicate row.start (record { unit_type = row.unit_type; home = row.station }) in
-    elim (cases_Bool ((row.station == s) && (row.unit_type == m))) [
-      | inl is ↦ let e : start_in (row ∷ rows) s m ≡ row.start = cond-true {A = ℕ} ((row.station == s) && (row.unit_type == m)) row.start (start_in rows s m) is in omega arith
-      | inr isnt ↦ let e : start_in (row ∷ rows) s m ≡ start_in rows s m = cond-false {A = ℕ} ((row.station == s) && (row.unit_type == m)) row.start (start_in rows s m) isnt in omega arith
-    ]
-
-pub few_at_start : (day : Day) → IsDay day → (s m : ℕ) → start_of day s m ≤ 2000
-unfolding start_of units_of
-few_at_start day is_day s m = let few = units_at_start day.stock s m in let units = is_day.units in omega arith
-
--- ---- units given
 
 -- what a turn gives is of the arriving list
 module _ (uncouple couple : End) (exchange : Bool) (arriving departing : List ℕ) where

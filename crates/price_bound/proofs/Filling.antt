@@ -13,7 +13,7 @@ use Rattle.timetable.specs.declared.day.indices.Place.{Place}
 use Rattle.timetable.specs.declared.day.indices.Place.TheVariants.{Lambda, Mu, Sigma}
 use Rattle.timetable.specs.declared.day.records.Handover.{Handover}
 use Rattle.timetable.specs.Compositions.{compositions_of}
-use Rattle.timetable.specs.Day.{Day, leaves, from_of, to_of, ready_at}
+use Rattle.timetable.specs.Day.{Day, leaves, ready_at}
 use Rattle.timetable.specs.Handovers.{handovers_of}
 use Rattle.timetable.specs.Indices.{places_of}
 use Rattle.timetable.specs.Lists.{listed}
@@ -22,6 +22,7 @@ use Rattle.timetable.proofs.Listing.{get_listed, length-listed}
 use Rattle.inventory.specs.Counted.{HasPlaces, counts_of, number_at}
 use Rattle.inventory.specs.CountTable.{changed, earlier}
 use Rattle.inventory.proofs.Filled.{place_within}
+use Rattle.inventory.proofs.Holds.{map_entry}
 use Rattle.inventory.proofs.Tables.{changed_places}
 use Rattle.branch_tree.specs.declared.multipliers.Entry.{Entry}
 use Rattle.branch_tree.specs.Entries.{AreMultipliers}
@@ -36,8 +37,8 @@ use Rattle.price_bound.specs.CellSizes.{IsSmall, most_price}
 use Rattle.price_bound.specs.YardPrices.{by_place, of_type, price_by, yard_price}
 use Rattle.price_bound.specs.YardTables.{ArePlaces, CanLook, amounts_at, given_at, later_sums, taken_at}
 use Rattle.price_bound.proofs.Adding.{changed_amount, changed_size, cleared_amount, cleared_number, cleared_places}
-use Rattle.price_bound.proofs.Adding.{cleared_size, map_entry, small_by_size, small_more, small_zero, sum_small}
-use Rattle.price_bound.proofs.IntLaws.{sum_append}
+use Rattle.price_bound.proofs.Adding.{cleared_size, small_by_size, small_more, small_zero, sum_small}
+use Rattle.price_bound.proofs.IntLaws.{none_more, sum_append}
 use Rattle.price_bound.proofs.YardPuts.{all_from, all_next, all_put, from_at, none_from, prices_from, put_at, put_by}
 use Rattle.price_bound.proofs.YardPuts.{put_more}
 use Rattle.price_bound.proofs.YardSums.{length-sums, sums_are}
@@ -71,9 +72,6 @@ module _ (day : Day) where
         → number_at new.yards s m k ≡ number_at old.yards s m k +ℤ give (put_at day s m k)
     pub seconds : (t c : ℕ) → t < trips → c < comps → amount_at new.seconds t c ≡ amount_at old.seconds t c +ℤ give (to_second t c)
     pub parts : (l c : ℕ) → l < length day.links → c < comps → amount_at new.parts l c ≡ amount_at old.parts l c +ℤ give (to_part l c)
-
-  none_more : (a b : ℤ) → b ≡ pos 0 → a ≡ a +ℤ b
-  none_more a b e = omega (arith, ints, e)
 
   plain : (a : ℤ) → a ≡ a +ℤ pos 0
   plain a = omega (arith, ints)

@@ -65,6 +65,10 @@ times_neg v x = opposite (v *ℤ neg_ℤ x) (v *ℤ x) (sym (times_add v x (neg_
 
 -- ---- sums over a list
 
+-- a number with none added
+pub none_more : (a b : ℤ) → b ≡ pos 0 → a ≡ a +ℤ b
+none_more a b e = omega (arith, ints, e)
+
 pub sum_add : {X : Type 0} (f g : X → ℤ) (xs : List X) → int_sum (λ x. f x +ℤ g x) xs ≡ int_sum f xs +ℤ int_sum g xs
 sum_add f g [] = refl
 sum_add f g (x ∷ xs) = four (f x) (g x) (int_sum f xs) (int_sum g xs) (int_sum (λ y. f y +ℤ g y) xs) (sum_add f g xs)

@@ -12,6 +12,10 @@ use Rattle.transitions.specs.Edges.{AreInOrder, IsBefore}
 use Rattle.price_bound.specs.declared.cells.Cell.{Cell}
 use Rattle.price_bound.specs.Paths.{Stage, lower_cell, offer, offer_by, offered}
 
+-- one cell that is there is one cell
+pub cell_is : (a b : Cell) → Some a ≡ Some b → a ≡ b
+cell_is a b e = cc
+
 -- a cell is no later than another: its value is lower, or they are level and its next composition is no higher
 abbrev pub IsNoLater : Cell → Cell → Type 0
 IsNoLater cell other = (cell.value <ℤ other.value) ⊎ ((cell.value ≡ other.value) × (cell.next ≤ other.next))
@@ -92,9 +96,6 @@ module _ (stage : Stage) (ahead : List (Option Cell)) where
       };
     }
 
-    same_cell : (a b : Cell) → Some a ≡ Some b → a ≡ b
-    same_cell a b e = cc
-
     no_later : (cell other : Cell) → cell ≡ other → IsNoLater cell other
     no_later cell other e = inr (ap (λ (x : Cell). x.value) e, (let next : cell.next ≡ other.next = ap (λ (x : Cell). x.next) e in omega (arith, next)))
 
@@ -102,14 +103,14 @@ module _ (stage : Stage) (ahead : List (Option Cell)) where
     first_offer : (comp : ℕ) (new : Cell) → edge.from ≡ comp → offer stage ahead edge ≡ Some new → IsOffered Seen comp None → IsOffered More comp (Some new)
     first_offer comp new here offers is = record {
       none = λ e. absurd cc;
-      some = λ it e. let same : new ≡ it = same_cell new it e in record {
+      some = λ it e. let same : new ≡ it = cell_is new it e in record {
         edge = edge;
         seen = inr refl;
         from = here;
         offers = offers ∙ e;
         least = λ other offered more from other_offers. elim more [
           | inl seen ↦ absurd (let none : None ≡ Some offered = sym (is.none refl other seen from) ∙ other_offers in cc)
-          | inr last ↦ no_later it offered (sym same ∙ same_cell new offered (sym offers ∙ sym (ap (offer stage ahead) last) ∙ other_offers))
+          | inr last ↦ no_later it offered (sym same ∙ cell_is new offered (sym offers ∙ sym (ap (offer stage ahead) last) ∙ other_offers))
         ];
       };
     }
@@ -122,7 +123,7 @@ module _ (stage : Stage) (ahead : List (Option Cell)) where
     better_offer : (comp : ℕ) (old new : Cell) → edge.from ≡ comp → offer stage ahead edge ≡ Some new → new.value <ℤ old.value → IsOffered Seen comp (Some old) → IsOffered More comp (Some new)
     better_offer comp old new here offers less is = record {
       none = λ e. absurd cc;
-      some = λ it e. let same : new ≡ it = same_cell new it e in record {
+      some = λ it e. let same : new ≡ it = cell_is new it e in record {
         edge = edge;
         seen = inr refl;
         from = here;
@@ -135,7 +136,7 @@ module _ (stage : Stage) (ahead : List (Option Cell)) where
                 | inl more ↦ less_less it.value old.value offered.value lower (inl more)
                 | inr level ↦ less_less it.value old.value offered.value lower (inr level.0)
               ])
-          | inr last ↦ no_later it offered (sym same ∙ same_cell new offered (sym offers ∙ sym (ap (offer stage ahead) last) ∙ other_offers))
+          | inr last ↦ no_later it offered (sym same ∙ cell_is new offered (sym offers ∙ sym (ap (offer stage ahead) last) ∙ other_offers))
         ];
       };
     }
@@ -149,7 +150,7 @@ module _ (stage : Stage) (ahead : List (Option Cell)) where
         on : (price : Option ℤ) (there : Option Cell) → offer_by x.to price there ≡ Some cell → cell.next ≡ x.to
         on None there e = absurd cc
         on (Some price) None e = absurd cc
-        on (Some price) (Some it) e = ap (λ (c : Cell). c.next) (sym (same_cell (record { value = price +ℤ it.value; next = x.to }) cell e))
+        on (Some price) (Some it) e = ap (λ (c : Cell). c.next) (sym (cell_is (record { value = price +ℤ it.value; next = x.to }) cell e))
 
     -- an offer that is no better
     worse_offer : (comp : ℕ) (old new : Cell) → edge.from ≡ comp → offer stage ahead edge ≡ Some new → old.value ≤ℤ new.value → IsOffered Seen comp (Some old) → IsOffered More comp (Some old)
@@ -163,8 +164,8 @@ module _ (stage : Stage) (ahead : List (Option Cell)) where
         least = λ other offered more from other_offers. elim more [
           | inl seen ↦ before.least other offered seen from other_offers
           | inr last ↦
-              let same : new ≡ offered = same_cell new offered (sym offers ∙ sym (ap (offer stage ahead) last) ∙ other_offers) in
-              let it_is : old ≡ it = same_cell old it e in
+              let same : new ≡ offered = cell_is new offered (sym offers ∙ sym (ap (offer stage ahead) last) ∙ other_offers) in
+              let it_is : old ≡ it = cell_is old it e in
               let it_most : it.value ≤ℤ offered.value = subst (λ (x : Cell). x.value ≤ℤ offered.value) it_is (subst (λ (x : Cell). old.value ≤ℤ x.value) same most) in
               elim (level_or_less it.value offered.value it_most) [
                 | inl less ↦ inl less

@@ -14,7 +14,7 @@ use Rattle.transitions.specs.declared.edge.Edge.{Edge}
 use Rattle.price_bound.specs.declared.cells.Cell.{Cell}
 use Rattle.price_bound.specs.Paths.{Stage, IsStepAt, IsPath, IsNoLaterPath, IsOver, last_row, next_of, offer, offer_by}
 use Rattle.price_bound.specs.Paths.{offered, row_before, row_by, rows_of, walked, with_worth, with_worths}
-use Rattle.price_bound.proofs.Offers.{IsLeastOffer, IsOffered, row_offered}
+use Rattle.price_bound.proofs.Offers.{IsLeastOffer, IsOffered, cell_is, row_offered}
 
 -- ---- lists in order
 
@@ -125,9 +125,6 @@ pub record IsFirstFrom (stages : List Stage) (comp : ℕ) (path : List ℕ) (val
 pub record IsCellFor (stages : List Stage) (rows : List (List (Option Cell))) (comp : ℕ) (cell : Option Cell) : Type 0 where
   pub none : cell ≡ None → (others : List ℕ) (other : ℤ) → IsPath stages (comp ∷ others) other → ⊥
   pub some : (it : Cell) → cell ≡ Some it → IsFirstFrom stages comp (walked rows comp) it.value
-
-cell_is : (a b : Cell) → Some a ≡ Some b → a ≡ b
-cell_is a b e = cc
 
 value_is : (a b : ℤ) → Some a ≡ Some b → a ≡ b
 value_is a b e = cc

@@ -18,6 +18,7 @@ use Rattle.timetable.specs.Minutes.{minutes_of}
 use Rattle.timetable.specs.Picks.{ArePicks, picked}
 use Rattle.timetable.specs.Starts.{start_of}
 use Rattle.inventory.specs.Counts.{all_given, all_taken, ready_until, taken_until}
+use Rattle.inventory.proofs.Holds.{few_start}
 use Rattle.branch_tree.specs.declared.multipliers.Entry.{Entry}
 use Rattle.branch_tree.specs.declared.relaxation.Weight.{Weight}
 use Rattle.branch_tree.specs.declared.relaxation.Weight.TheVariants.{Cost, NoCost}
@@ -34,7 +35,7 @@ use Rattle.price_bound.specs.Sizes.{ChangedSlacksAreSmall, ChangedValuesAreSmall
 use Rattle.price_bound.specs.Slacks.{handover_slack, is_part, one_if, slack_at, slack_of}
 use Rattle.price_bound.proofs.ChangedCosts.{added_by_trips}
 use Rattle.price_bound.proofs.FewCosts.{day_costs, summed}
-use Rattle.price_bound.proofs.FewGiven.{few_all_given, few_at_start, few_ready}
+use Rattle.price_bound.proofs.FewGiven.{few_all_given, few_ready}
 use Rattle.price_bound.proofs.FewTaken.{few_all_taken, few_taken}
 use Rattle.price_bound.proofs.Pricing.{size_of_product, size_of_sum, size_within}
 use Rattle.price_bound.proofs.Whole.{are_picks}
@@ -64,12 +65,12 @@ module _ (day : Day) (picks : List ℕ) (accepted : IsAccepted day) (follow : Fo
   small_at : (place : Place) → unsigned_abs (slack_at day picks place) ≤ MOST_SLACK
   small_at (Lambda s m k) =
       let minute : ℕ = get_or (minutes_of day s) k 0 in
-      let start = few_at_start day accepted.sound s m in
+      let start = few_start day accepted.sound s m in
       let given = few_ready day picks accepted.sound picks_are s m minute in
       let taken = few_taken day picks accepted.sound picks_are s m minute in
       small_count (start_of day s m + ready_until day (picked day picks) s m minute) (taken_until day (picked day picks) s m minute) (omega arith) (omega arith)
   small_at (Mu s m) =
-      let start = few_at_start day accepted.sound s m in
+      let start = few_start day accepted.sound s m in
       let given = few_all_given day picks accepted.sound picks_are s m in
       let taken = few_all_taken day picks accepted.sound picks_are s m in
       let wanted = accepted.stocked.few s m in

@@ -22,10 +22,7 @@ use Rattle.branch_tree.specs.IntSums.{int_sum}
 use Rattle.price_bound.specs.CellSizes.{IsSmall}
 use Rattle.price_bound.specs.YardPrices.{by_place, of_type, price_by}
 use Rattle.price_bound.proofs.Adding.{plus_is, small_more, small_sum}
-use Rattle.price_bound.proofs.IntLaws.{sum_add, sum_same}
-
-none_more : (a b : ℤ) → b ≡ pos 0 → a ≡ a +ℤ b
-none_more a b e = omega (arith, ints, e)
+use Rattle.price_bound.proofs.IntLaws.{none_more, sum_add, sum_same}
 
 -- a value that is put at a station, type and place, at one of them
 abbrev pub put_by : ℕ → ℕ → ℕ → ℕ → ℕ → ℕ → ℤ → ℤ
