@@ -51,9 +51,6 @@ read_is b x le small = to_z-of_z w64 x (fits_signed_from_abs w64 x (below x (sma
     below (pos n) few = (let le = few.below in omega (arith, ints))
     below (negsuc n) few = (let le = few.above in omega (arith, ints))
 
-pub read_small : (b most : ℕ) (x : ℤ) → b ≤ 4000000000000000000 → b ≤ most → IsSmall b x → IsSmall most (to_z w64 (of_z w64 x))
-read_small b most x le few small = subst (IsSmall most) (sym (read_is b x le small)) (small_more b most x few small)
-
 pub plus_is : (x y : ℤ) → IsSmall 4000000000000000000 (x +ℤ y) → plus x y ≡ x +ℤ y
 plus_is x y small = of_sum (x +ℤ y) small
   where

@@ -128,10 +128,7 @@ impl<'a> TurnPrices<'a> {
             units,
             types_of(self.pricing.instance, edge.to),
         );
-        minus(
-            Amount(sum_in(self.takes, came)),
-            Amount(sum_in(self.gives, came)),
-        )
+        minus(sum_in(self.takes, came), sum_in(self.gives, came))
     }
 }
 

@@ -136,7 +136,7 @@ impl<'a> TripWorths<'a> {
         if !self.begins {
             return Amount(0);
         }
-        Amount(sum_in(self.takes, types_of(self.pricing.instance, comp)))
+        sum_in(self.takes, types_of(self.pricing.instance, comp))
     }
 
     /// The price of a composition's units, where no link leads on from the trip.
@@ -206,43 +206,34 @@ pub(crate) fn sum_of(row: &AmountRow, types: &[TypeNo]) -> i64
     ensures value { result ≡ sum_in row.now types.now }
     ensures small { IsSmall most_units_price result }
 {
-    sum_in(row.items(), types)
+    sum_in(row.items(), types).0
 }
 
 /// The sum of what there is for each of these types.
-pub(crate) fn sum_in(amounts: &[i64], types: &[TypeNo]) -> i64
+pub(crate) fn sum_in(amounts: &[i64], types: &[TypeNo]) -> Amount
     requires few { length types.now ≤ MOST_COMPOSITION }
     requires known { All (λ m. m < length amounts.now) types.now }
     requires small { AreSmallAmounts amounts.now }
-    ensures value { result ≡ sum_in amounts.now types.now }
-    ensures small { IsSmall most_units_price result }
+    ensures value { result.0 ≡ sum_in amounts.now types.now }
+    ensures small { IsSmall most_units_price result.0 }
 {
-    let mut sum = 0;
+    let mut sum = Amount(0);
     for place in 0..types.len() {
         let amount = amount_of(amounts, types[place]);
-        sum = sum_with(sum, amount);
+        sum = plus(sum, amount);
     }
     sum
 }
 
 /// What there is for a type.
-fn amount_of(amounts: &[i64], unit_type: TypeNo) -> i64
+fn amount_of(amounts: &[i64], unit_type: TypeNo) -> Amount
     requires { unit_type < length amounts.now }
-    ensures { result ≡ get_or amounts.now unit_type (pos 0) }
+    ensures { result.0 ≡ get_or amounts.now unit_type (pos 0) }
 {
-    amounts[unit_type.place()]
+    Amount(amounts[unit_type.place()])
 }
 
-/// An amount and another.
-fn sum_with(amount: i64, more: i64) -> i64
-    requires amount { IsSmall most_amount amount }
-    requires more { IsSmall most_amount more }
-    ensures { result ≡ amount +ℤ more }
-{
-    amount + more
-}
-
-/// An amount and another.
+/// The sum of two amounts.
 pub(crate) fn plus(amount: Amount, more: Amount) -> Amount
     requires amount { IsSmall most_amount amount.0 }
     requires more { IsSmall most_amount more.0 }
@@ -260,7 +251,7 @@ pub(crate) fn minus(amount: Amount, other: Amount) -> Amount
     Amount(amount.0 - other.0)
 }
 
-/// An amount, which can then be added to values.
+/// The amount, as a value of 128 bits.
 pub(crate) fn wide(amount: Amount) -> Money
     ensures { result.0 ≡ amount.0 }
 {

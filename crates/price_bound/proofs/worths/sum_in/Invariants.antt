@@ -6,4 +6,4 @@ use Rattle.price_bound.proofs.worths.sum_in.Given as goal
 
 abbrev pub invariant-loop-place : goal.invariant-loop-place
 invariant-loop-place l =
-    (l.sum ≡ int_sum (λ m. get_or l.amounts m (pos 0)) (take l.place l.types)) × IsSmall (l.place * most_price) l.sum
+    (l.sum.0 ≡ int_sum (λ m. get_or l.amounts m (pos 0)) (take l.place l.types)) × IsSmall (l.place * most_price) l.sum.0

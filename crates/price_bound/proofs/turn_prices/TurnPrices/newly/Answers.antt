@@ -1,5 +1,5 @@
 -- The rows of the trips have the prices.
-use Rattle.std.proofs.Common.{◌≡◌, ◌<◌, ◌≤◌, ◌*◌, ℕ, ℤ, List, length, ap, arith, sym, subst, to_z, of_z, w64, ◌-ℤ◌, ◌∙◌}
+use Rattle.std.proofs.Common.{◌≡◌, ◌<◌, ◌≤◌, ◌*◌, ℕ, ℤ, List, length, ap, arith, sym, subst, ◌-ℤ◌, ◌∙◌}
 use Rattle.std.specs.List.{All}
 use Rattle.rail_base.specs.declared.limits.TheConstants.{MOST_COMPOSITION}
 use Rattle.rail_csv.specs.declared.rows.End.{End}
@@ -9,7 +9,7 @@ use Rattle.branch_tree.specs.declared.multipliers.Entry.{Entry}
 use Rattle.price_bound.specs.CellSizes.{most_amount, most_units_price}
 use Rattle.price_bound.specs.EdgeValues.{came, coupled}
 use Rattle.price_bound.specs.YardPrices.{giving, taking}
-use Rattle.price_bound.proofs.Adding.{read_is, read_small, small_difference}
+use Rattle.price_bound.proofs.Adding.{small_difference, small_more}
 use Rattle.price_bound.proofs.AtHand.{given_at, gives_row_long, gives_row_small, taken_at, takes_row_long, takes_row_small}
 use Rattle.price_bound.proofs.Summing.{came_below, came_few, none_came}
 use Rattle.price_bound.proofs.turn_prices.TurnPrices.newly.Goals as goal
@@ -55,17 +55,15 @@ sum_in-requires-2-clause-known c =
     (length c.args.self.now.pricing.now.instance.now.types) c.came-came.ensures c.types_of.ensures.known)
 
 pub minus-requires-clause-amount : goal.minus-requires-clause-amount
-minus-requires-clause-amount c = read_small most_units_price most_amount c.sum_in.result (omega arith) (omega arith) c.sum_in.ensures.small
+minus-requires-clause-amount c = small_more most_units_price most_amount c.sum_in.result.0 (omega arith) c.sum_in.ensures.small
 
 pub minus-requires-clause-other : goal.minus-requires-clause-other
-minus-requires-clause-other c = read_small most_units_price most_amount c.sum_in-2.result (omega arith) (omega arith) c.sum_in-2.ensures.small
+minus-requires-clause-other c = small_more most_units_price most_amount c.sum_in-2.result.0 (omega arith) c.sum_in-2.ensures.small
 
 pub returns-clause-small : goal.returns-clause-small
 returns-clause-small c =
-    small_difference most_units_price most_units_price (2 * most_units_price) (to_z w64 (of_z w64 c.sum_in.result))
-    (to_z w64 (of_z w64 c.sum_in-2.result)) c.minus.result.0 (omega arith) c.minus.ensures
-    (read_small most_units_price most_units_price c.sum_in.result (omega arith) (omega arith) c.sum_in.ensures.small)
-    (read_small most_units_price most_units_price c.sum_in-2.result (omega arith) (omega arith) c.sum_in-2.ensures.small)
+    small_difference most_units_price most_units_price (2 * most_units_price) c.sum_in.result.0 c.sum_in-2.result.0 c.minus.result.0
+    (omega arith) c.minus.ensures c.sum_in.ensures.small c.sum_in-2.ensures.small
 
 pub sum_in-requires-clause-small : goal.sum_in-requires-clause-small
 sum_in-requires-clause-small c =
@@ -91,13 +89,11 @@ returns-clause-value c =
     let came_is : c.came-came.result.now ≡ came c.args.self.now.turn.couple units after =
     c.came-came.ensures ∙ (ap (λ (n : ℕ). came c.args.self.now.turn.couple n c.types_of.result.now) c.coupled-units.ensures
     ∙ ap (came c.args.self.now.turn.couple units) c.types_of.ensures.value) in
-    let taken : to_z w64 (of_z w64 c.sum_in.result) ≡ take (came c.args.self.now.turn.couple units after) =
-    read_is most_units_price c.sum_in.result (omega arith) c.sum_in.ensures.small
-    ∙ (c.sum_in.ensures.value ∙ (taken_at c.args.self.now.pricing.now c.requires.is.priced c.args.self.now.turn.departing
-    c.requires.is.turn.departing c.args.self.now.takes.now c.requires.is.takes c.came-came.result.now known ∙ ap take came_is)) in
-    let given : to_z w64 (of_z w64 c.sum_in-2.result) ≡ give (came c.args.self.now.turn.couple units after) =
-    read_is most_units_price c.sum_in-2.result (omega arith) c.sum_in-2.ensures.small
-    ∙ (c.sum_in-2.ensures.value ∙ (given_at c.args.self.now.pricing.now c.requires.is.priced c.args.self.now.turn.arriving
-    c.requires.is.turn.arriving c.args.self.now.gives.now c.requires.is.gives c.came-came.result.now known ∙ ap give came_is)) in
-    c.minus.ensures ∙ (ap (λ (z : ℤ). z -ℤ to_z w64 (of_z w64 c.sum_in-2.result)) taken
+    let taken : c.sum_in.result.0 ≡ take (came c.args.self.now.turn.couple units after) =
+    c.sum_in.ensures.value ∙ (taken_at c.args.self.now.pricing.now c.requires.is.priced c.args.self.now.turn.departing
+    c.requires.is.turn.departing c.args.self.now.takes.now c.requires.is.takes c.came-came.result.now known ∙ ap take came_is) in
+    let given : c.sum_in-2.result.0 ≡ give (came c.args.self.now.turn.couple units after) =
+    c.sum_in-2.ensures.value ∙ (given_at c.args.self.now.pricing.now c.requires.is.priced c.args.self.now.turn.arriving
+    c.requires.is.turn.arriving c.args.self.now.gives.now c.requires.is.gives c.came-came.result.now known ∙ ap give came_is) in
+    c.minus.ensures ∙ (ap (λ (z : ℤ). z -ℤ c.sum_in-2.result.0) taken
     ∙ ap (λ (z : ℤ). take (came c.args.self.now.turn.couple units after) -ℤ z) given)

@@ -1,13 +1,11 @@
 -- The row of the trip has the prices.
-use Rattle.std.proofs.Common.{◌≡◌, ℕ, Bool, List, true, pos, ap, arith, sym, ◌∙◌}
+use Rattle.std.proofs.Common.{◌≡◌, ℕ, Bool, List, true, pos, ap, sym, ◌∙◌}
 use Rattle.std.specs.Prelude.{if◌then◌else◌, is_none}
 use Rattle.timetable.specs.Compositions.{composition_at}
 use Rattle.timetable.specs.Day.{Day}
 use Rattle.timetable.specs.Links.{incoming}
 use Rattle.branch_tree.specs.declared.multipliers.Entry.{Entry}
-use Rattle.price_bound.specs.CellSizes.{most_units_price}
 use Rattle.price_bound.specs.YardPrices.{taking}
-use Rattle.price_bound.proofs.Adding.{read_is}
 use Rattle.price_bound.proofs.AtHand.{taken_at, takes_row_small}
 use Rattle.price_bound.proofs.worths.TripWorths.taken_at_begin.Goals as goal
 
@@ -22,9 +20,8 @@ returns-clause-value c =
     let entries : List Entry = c.args.self.now.pricing.now.multipliers.now in
     let trip : ℕ = c.args.self.now.trip in
     let begins : is_none (incoming day trip) ≡ true = sym c.requires.is.begins ∙ c.if-not-self.false in
-    read_is most_units_price c.sum_in.result (omega arith) c.sum_in.ensures.small
-    ∙ (c.sum_in.ensures.value
+    c.sum_in.ensures.value
     ∙ (taken_at c.args.self.now.pricing.now c.requires.is.priced trip c.requires.is.known c.args.self.now.takes.now c.requires.is.takes
     c.types_of.result.now c.types_of.ensures.known
     ∙ (ap (taking day entries trip) c.types_of.ensures.value
-    ∙ sym (ap (λ (b : Bool). if b then taking day entries trip (composition_at day c.args.comp) else pos 0) begins))))
+    ∙ sym (ap (λ (b : Bool). if b then taking day entries trip (composition_at day c.args.comp) else pos 0) begins)))
