@@ -2,29 +2,17 @@
 //!
 //! Each law is the contract of a function that does nothing.
 
-ghost use Rattle.inventory.specs.NamingLaws.{NamedPlansRun};
-ghost use Rattle.inventory.specs.SolutionLaws.{FaultsDecide};
 ghost use Rattle.unit_duties.specs.DutyLaws.{DutiesAreInOrder};
 ghost use Rattle.unit_duties.specs.TakingLaws.{TripsTakeInTurn};
+
+pub use inventory::naming_laws::named_plans_run;
+pub use inventory::solution_laws::faults_decide;
 
 /// The duty of a unit is the trips of the day whose lists have the unit, each once, and of any two of them the first
 /// one leaves before the other, or at the same minute and has the smaller number. No other list of trips is so. The
 /// plan need not run.
 pub fn duties_are_in_order()
     ensures law { DutiesAreInOrder }
-{}
-
-/// Picks are those of a plan that runs exactly where each composition may run on its trip, the rule of each link holds
-/// of their types, and the yards have no first fault.
-pub fn faults_decide()
-    ensures law { FaultsDecide }
-{}
-
-/// Where compositions may run on their trips, the rule of each link holds of their types, no yard is ever short of a
-/// unit, every end count is the one that is wanted, and the trips that leave before a minute are named as the rules
-/// demand it, naming the others by the rule of `name_units` gives a plan that runs, and leaves those as they are.
-pub fn named_plans_run()
-    ensures law { NamedPlansRun }
 {}
 
 /// Where the rule of each link holds of the types, and a plan is named by the rule, trips take units from the yards as
