@@ -9,9 +9,9 @@ use rail_base::limits::MOST_COMPOSITIONS;
 use std::marker::Model;
 
 /// The bits of one word.
-const WORD_BITS: usize = 64;
+pub const WORD_BITS: usize = 64;
 /// The words of one set: 1,024 bits, of which the first 1,000 are used and the others are 0.
-const WORDS: usize = 16;
+pub const WORDS: usize = 16;
 
 /// A set of compositions of a catalogue. A contract sees the list that says for each number of a composition whether it
 /// is a member.
@@ -112,10 +112,11 @@ impl CompositionSet {
 
     /// The members as words of 64 bits: composition `p` is bit `p % 64` of word `p / 64`, and every other bit is 0.
     pub fn words(&self) -> &[u64]
-        ensures length { length result.now ≡ 16 }
+        ensures length { length result.now ≡ WORDS }
         ensures numbers { length self.now ≡ MOST_COMPOSITIONS }
         ensures bits { (comp : ℕ) →
-            is_member self.now comp ≡ (slice_index result.now (comp / 64) / 2 ^ (comp % 64) % 2 == 1) }
+            is_member self.now comp
+            ≡ (slice_index result.now (comp / WORD_BITS) / 2 ^ (comp % WORD_BITS) % 2 == 1) }
     {
         &self.words
     }
