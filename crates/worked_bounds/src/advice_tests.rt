@@ -23,11 +23,11 @@ const RAISED_BEFORE: &str =
     "round 1; left 2 2; first 120, kept 150, last 150; at 3:30; picks 1 1; slacks 2:-1 3:1; free from 2";
 
 /// The node where T1 has AA alone, which inherits that.
-const HEIR: &str =
+const CHILD: &str =
     "round 0; left 1 2; first 120, kept 150, last 150; at 3:30; picks 1 1; slacks 2:-1 3:1; free from 2";
 
 /// The same in the next round.
-const HEIR_AGAIN: &str =
+const CHILD_AGAIN: &str =
     "round 1; left 1 2; first 120, kept 150, last 150; at 3:30; picks 1 1; slacks 2:-1 3:1; free from 2";
 
 /// Proposes 30 at index 3, under which (AA, AA) has 150.
@@ -69,11 +69,11 @@ const LOOKS: &[Call] = &[
         ..SILENT
     },
     Call {
-        shown: HEIR,
+        shown: CHILD,
         ..SILENT
     },
     Call {
-        shown: HEIR_AGAIN,
+        shown: CHILD_AGAIN,
         ..CLOSES
     },
 ];
@@ -90,7 +90,7 @@ const FIRST: &[Call] = &[
         ..SILENT
     },
     Call {
-        shown: HEIR,
+        shown: CHILD,
         word: Word::Enough,
         ..SILENT
     },
@@ -105,7 +105,7 @@ const SECOND: &[Call] = &[
         ..SILENT
     },
     Call {
-        shown: HEIR,
+        shown: CHILD,
         ..CLOSES
     },
 ];
