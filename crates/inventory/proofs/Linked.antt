@@ -18,7 +18,7 @@ use Rattle.timetable.specs.Turns.{kept_count, staying}
 use Rattle.timetable.proofs.NamedTrips.{IsNamed, named_or_not, named_here, place_is}
 use Rattle.timetable.proofs.Shares.{count_of-append}
 use Rattle.inventory.specs.Places.{going_by, left_by, come_by, fetched_by, coupled_by, going_on, given_places}
-use Rattle.inventory.specs.Places.{kept_places, taken_places, put_together, feeding, coming}
+use Rattle.inventory.specs.Places.{kept_places, taken_places, put_together, trips_into, coming}
 use Rattle.inventory.proofs.Sums.{one_same}
 use Rattle.inventory.proofs.Order.{in_list}
 use Rattle.inventory.proofs.ByKind.{kind_given, kind_taken, kind_kept, kind_come, kind_back, kind_within}
@@ -141,9 +141,9 @@ module _ (day : Day) (types : List (List ℕ)) where
   unfolding put_together
   put_at b come fetched o e = ap (λ o. unwrap_or (option_map (λ link. coupled_by link.kind come fetched) o) fetched) e
 
-  feeding_at : (b : ℕ) (o : Option Link) → link_into day b ≡ o → feeding day b ≡ unwrap_or (option_map (λ link. arriving_in link.kind) o) []
-  unfolding feeding
-  feeding_at b o e = ap (λ o. unwrap_or (option_map (λ link. arriving_in link.kind) o) []) e
+  trips_into_at : (b : ℕ) (o : Option Link) → link_into day b ≡ o → trips_into day b ≡ unwrap_or (option_map (λ link. arriving_in link.kind) o) []
+  unfolding trips_into
+  trips_into_at b o e = ap (λ o. unwrap_or (option_map (λ link. arriving_in link.kind) o) []) e
 
   out_is : (t : ℕ) (link : Link) → IsNamed arriving_in day.links t link → link_out day t ≡ Some link
   unfolding outgoing
@@ -163,17 +163,17 @@ module _ (day : Day) (types : List (List ℕ)) where
 
   -- ---- what comes with trains
 
-  pub coming_from : (lists : ℕ → List ℕ) (u b : ℕ) → 1 ≤ count_of u (coming day types lists b) → (a : ℕ) × (1 ≤ count_of a (feeding day b)) × (1 ≤ count_of u (going_on day types a b (lists a)))
+  pub coming_from : (lists : ℕ → List ℕ) (u b : ℕ) → 1 ≤ count_of u (coming day types lists b) → (a : ℕ) × (1 ≤ count_of a (trips_into day b)) × (1 ≤ count_of u (going_on day types a b (lists a)))
   unfolding coming
-  coming_from lists u b c = in_flat u (λ a. going_on day types a b (lists a)) (feeding day b) c
+  coming_from lists u b c = in_flat u (λ a. going_on day types a b (lists a)) (trips_into day b) c
 
-  pub coming_has : (lists : ℕ → List ℕ) (u a b : ℕ) → 1 ≤ count_of a (feeding day b) → count_of u (going_on day types a b (lists a)) ≤ count_of u (coming day types lists b)
+  pub coming_has : (lists : ℕ → List ℕ) (u a b : ℕ) → 1 ≤ count_of a (trips_into day b) → count_of u (going_on day types a b (lists a)) ≤ count_of u (coming day types lists b)
   unfolding coming
-  coming_has lists u a b c = of_flat u a (λ a. going_on day types a b (lists a)) (feeding day b) c
+  coming_has lists u a b c = of_flat u a (λ a. going_on day types a b (lists a)) (trips_into day b) c
 
-  pub coming_same : (lists others : ℕ → List ℕ) (b : ℕ) → ((a : ℕ) → 1 ≤ count_of a (feeding day b) → lists a ≡ others a) → coming day types lists b ≡ coming day types others b
+  pub coming_same : (lists others : ℕ → List ℕ) (b : ℕ) → ((a : ℕ) → 1 ≤ count_of a (trips_into day b) → lists a ≡ others a) → coming day types lists b ≡ coming day types others b
   unfolding coming
-  coming_same lists others b h = flat_same (λ a. going_on day types a b (lists a)) (λ a. going_on day types a b (others a)) (feeding day b) (λ a c. ap (going_on day types a b) (h a c))
+  coming_same lists others b h = flat_same (λ a. going_on day types a b (lists a)) (λ a. going_on day types a b (others a)) (trips_into day b) (λ a c. ap (going_on day types a b) (h a c))
 
   going_on-map : (f : ℕ → ℕ) (a b : ℕ) (us : List ℕ) → map f (going_on day types a b us) ≡ going_on day types a b (map f us)
   going_on-map f a b us = ap (map f) (going_at a b us (link_out day a) refl) ∙ on (link_out day a) ∙ sym (going_at a b (map f us) (link_out day a) refl)
@@ -184,8 +184,8 @@ module _ (day : Day) (types : List (List ℕ)) where
 
   pub coming-map : (f : ℕ → ℕ) (lists : ℕ → List ℕ) (b : ℕ) → map f (coming day types lists b) ≡ coming day types (λ a. map f (lists a)) b
   unfolding coming
-  coming-map f lists b = flat-map f (λ a. going_on day types a b (lists a)) (feeding day b)
-      ∙ flat_same (λ a. map f (going_on day types a b (lists a))) (λ a. going_on day types a b (map f (lists a))) (feeding day b) (λ a c. going_on-map f a b (lists a))
+  coming-map f lists b = flat-map f (λ a. going_on day types a b (lists a)) (trips_into day b)
+      ∙ flat_same (λ a. map f (going_on day types a b (lists a))) (λ a. going_on day types a b (map f (lists a))) (trips_into day b) (λ a c. going_on-map f a b (lists a))
 
   pub taken_places-map : (f : ℕ → ℕ) (b : ℕ) (us : List ℕ) → map f (taken_places day types b us) ≡ taken_places day types b (map f us)
   taken_places-map f b us = ap (map f) (taken_at b us (link_into day b) refl) ∙ on (link_into day b) ∙ sym (taken_at b (map f us) (link_into day b) refl)
@@ -255,30 +255,30 @@ module _ (day : Day) (types : List (List ℕ)) where
         }
 
     -- what goes on to a trip goes on in a train that leads into it
-    pub going_feeds : (u a b : ℕ) (us : List ℕ) → 1 ≤ count_of u (going_on day types a b us) → 1 ≤ count_of a (feeding day b)
-    going_feeds u a b us c = elim (named_or_not arriving_in day.links a) [
+    pub going_leads_into : (u a b : ℕ) (us : List ℕ) → 1 ≤ count_of u (going_on day types a b us) → 1 ≤ count_of a (trips_into day b)
+    going_leads_into u a b us c = elim (named_or_not arriving_in day.links a) [
       | inl named ↦ by_link named.0 named.1
       | inr none ↦ let e = ap (count_of u) (going_at a b us None (out_none a none.0)) in absurd (omega arith)
     ]
       where
-        by_link : (link : Link) → IsNamed arriving_in day.links a link → 1 ≤ count_of a (feeding day b)
+        by_link : (link : Link) → IsNamed arriving_in day.links a link → 1 ≤ count_of a (trips_into day b)
         by_link link n =
             let e = ap (count_of u) (going_at a b us (Some link) (out_is a link n)) in
             let there = going_named u link.kind link.reverse types b us (omega arith) in
             let into : IsNamed departing_in day.links b link = record { number = n.number; found = place_is departing_in day.links b n.number link (links.departing_once b) n.at there; at = n.at; named = there } in
-            let f = ap (count_of a) (feeding_at b (Some link) (into_is b link into)) in
+            let f = ap (count_of a) (trips_into_at b (Some link) (into_is b link into)) in
             let arriving = n.named in
             omega arith
 
-    pub feeds : (a b : ℕ) → 1 ≤ count_of a (feeding day b) → LeadsInto day a b
-    feeds a b c = elim (named_or_not departing_in day.links b) [
+    pub leads_into : (a b : ℕ) → 1 ≤ count_of a (trips_into day b) → LeadsInto day a b
+    leads_into a b c = elim (named_or_not departing_in day.links b) [
       | inl named ↦ by_link named.0 named.1
-      | inr none ↦ let e = ap (count_of a) (feeding_at b None (into_none b none.0)) in absurd (omega arith)
+      | inr none ↦ let e = ap (count_of a) (trips_into_at b None (into_none b none.0)) in absurd (omega arith)
     ]
       where
         by_link : (link : Link) → IsNamed departing_in day.links b link → LeadsInto day a b
         by_link link n =
-            let e = ap (count_of a) (feeding_at b (Some link) (into_is b link n)) in
+            let e = ap (count_of a) (trips_into_at b (Some link) (into_is b link n)) in
             let arriving = le-leb 1 (count_of a (arriving_in link.kind)) (omega arith) in
             let departing = le-leb 1 (count_of b (departing_in link.kind)) n.named in
             record {
@@ -288,15 +288,15 @@ module _ (day : Day) (types : List (List ℕ)) where
             }
 
     -- no trip leads into another twice
-    pub feeding_once : (a b : ℕ) → count_of a (feeding day b) ≤ 1
-    feeding_once a b = elim (named_or_not departing_in day.links b) [
+    pub trips_into_once : (a b : ℕ) → count_of a (trips_into day b) ≤ 1
+    trips_into_once a b = elim (named_or_not departing_in day.links b) [
       | inl named ↦ by_link named.0 named.1
-      | inr none ↦ let e = ap (count_of a) (feeding_at b None (into_none b none.0)) in omega arith
+      | inr none ↦ let e = ap (count_of a) (trips_into_at b None (into_none b none.0)) in omega arith
     ]
       where
-        by_link : (link : Link) → IsNamed departing_in day.links b link → count_of a (feeding day b) ≤ 1
+        by_link : (link : Link) → IsNamed departing_in day.links b link → count_of a (trips_into day b) ≤ 1
         by_link link n =
-            let e = ap (count_of a) (feeding_at b (Some link) (into_is b link n)) in
+            let e = ap (count_of a) (trips_into_at b (Some link) (into_is b link n)) in
             let few = links.arriving_once a in
             let here = named_here arriving_in day.links a n.number link n.at in
             omega arith
@@ -305,19 +305,19 @@ module _ (day : Day) (types : List (List ℕ)) where
     pub coming_once : (lists : ℕ → List ℕ) (u b : ℕ) → ((a : ℕ) → count_of u (going_on day types a b (lists a)) ≤ 1)
         → ((a c : ℕ) → a ≢ c → 1 ≤ count_of u (going_on day types a b (lists a)) → 1 ≤ count_of u (going_on day types c b (lists c)) → ⊥) → count_of u (coming day types lists b) ≤ 1
     unfolding coming
-    coming_once lists u b once apart = flat_once u (λ a. going_on day types a b (lists a)) (feeding day b) once apart (λ a. feeding_once a b)
+    coming_once lists u b once apart = flat_once u (λ a. going_on day types a b (lists a)) (trips_into day b) once apart (λ a. trips_into_once a b)
 
     -- the trains that lead into a trip, by the link
     coming_at : (lists : ℕ → List ℕ) (b : ℕ) (link : Link) → IsNamed departing_in day.links b link → coming day types lists b ≡ flat_map (λ a. going_by link.kind link.reverse types b (lists a)) (arriving_in link.kind)
     unfolding coming
     coming_at lists b link n =
-        ap (flat_map (λ a. going_on day types a b (lists a))) (feeding_at b (Some link) (into_is b link n))
+        ap (flat_map (λ a. going_on day types a b (lists a))) (trips_into_at b (Some link) (into_is b link n))
         ∙ flat_same (λ a. going_on day types a b (lists a)) (λ a. going_by link.kind link.reverse types b (lists a)) (arriving_in link.kind)
         (λ a c. going_at a b (lists a) (Some link) (out_is a link (record { number = n.number; found = place_is arriving_in day.links a n.number link (links.arriving_once a) n.at c; at = n.at; named = c })))
 
     coming_none : (lists : ℕ → List ℕ) (b : ℕ) → link_into day b ≡ None → coming day types lists b ≡ []
     unfolding coming
-    coming_none lists b is = ap (flat_map (λ a. going_on day types a b (lists a))) (feeding_at b None is)
+    coming_none lists b is = ap (flat_map (λ a. going_on day types a b (lists a))) (trips_into_at b None is)
 
     -- ---- where the rule holds over lists that have the types
 

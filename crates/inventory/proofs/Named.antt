@@ -17,7 +17,7 @@ use Rattle.inventory.specs.Places.{coming, put_together}
 use Rattle.inventory.proofs.Sums.{one_same}
 use Rattle.inventory.proofs.Order.{IsTurn, AreInTurn, is_trip, latest_in_turn}
 use Rattle.inventory.proofs.Linked.{coming_same}
-use Rattle.inventory.proofs.Standing.{fed_before}
+use Rattle.inventory.proofs.Standing.{leads_before}
 use Rattle.inventory.proofs.Righting.{AreNamedBy}
 
 -- ---- lists by number
@@ -95,7 +95,7 @@ module _ (day : Day) (types : List (List ℕ)) (minute : ℕ) (plan : List (List
     list_same lists others b before turn same =
         let stands : standing day types lists before ≡ standing day types others before = fun_ext (standing_same lists others before same) in
         let come : coming day types lists b ≡ coming day types others b =
-        coming_same day types lists others b (λ a c. same a (fed_before day types lists links is_day a b before turn c)) in
+        coming_same day types lists others b (λ a c. same a (leads_before day types lists links is_day a b before turn c)) in
         ap (λ (c : List ℕ). if nat_lt (leaves day b) minute then list_of plan b else put_together day b c (fetched day (standing day types lists before) (from_of day b) (leaves day b) [] (taken_with itself day types b))) come
         ∙ ap (λ (s : ℕ → Option InYard). if nat_lt (leaves day b) minute then list_of plan b else put_together day b (coming day types others b) (fetched day s (from_of day b) (leaves day b) [] (taken_with itself day types b))) stands
 

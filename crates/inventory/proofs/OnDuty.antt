@@ -17,7 +17,7 @@ use Rattle.inventory.specs.Places.{going_on, given_places, kept_places, taken_pl
 use Rattle.inventory.proofs.Sums.{one, one_same, one_other, sum_same}
 use Rattle.inventory.proofs.Order.{InLine, in_list, duty_in_line, count_of-in_order, count_below_in, count_below_out}
 use Rattle.inventory.proofs.Order.{leaves_before, not_itself}
-use Rattle.inventory.proofs.Linked.{Goes, LeadsInto, AllHold, goes, going_feeds, feeds, coming_from, coming_has}
+use Rattle.inventory.proofs.Linked.{Goes, LeadsInto, AllHold, goes, going_leads_into, leads_into, coming_from, coming_has}
 use Rattle.inventory.proofs.Linked.{places_share, come_is, taken_is, given_is, kept_is}
 use Rattle.inventory.proofs.Standing.{not_given, going_less}
 use Rattle.inventory.proofs.Yards.{list_sum, list_sum_below, cond_zero}
@@ -126,7 +126,7 @@ module _ (day : Day) (plan : List (List ℕ)) (is_day : IsDay day) (links : AreL
   stays a b u c =
       let k = ap (count_of u) (kept_is day types links (type_of day) plan types_are holds a b) in
       let none = not_given day types (list_of plan) links is_day a b u (list_of plan a) (once a u) (omega arith) in
-      let into = going_feeds day types links u a b (list_of plan a) (omega arith) in
+      let into = going_leads_into day types links u a b (list_of plan a) (omega arith) in
       let came = coming_has day types (list_of plan) u a b into in
       let come = come_at b u in
       let share = places_share day types b u (list_of plan b) in
@@ -251,7 +251,7 @@ module _ (day : Day) (plan : List (List ℕ)) (is_day : IsDay day) (links : AreL
       elim (cases_lt 0 (count_of u (coming day types (list_of plan) b))) [
         | inl came ↦
             let from = coming_from day types (list_of plan) u b (omega arith) in
-            let leads : LeadsInto day from.0 b = feeds day types links from.0 b from.1 in
+            let leads : LeadsInto day from.0 b = leads_into day types links from.0 b from.1 in
             let less = going_less day types (list_of plan) links is_day from.0 b u (list_of plan from.0) in
             let goes_on = from.2 in
             let earlier = on_duty u from.0 leads.from (omega arith) in
@@ -288,8 +288,8 @@ module _ (day : Day) (plan : List (List ℕ)) (is_day : IsDay day) (links : AreL
     where
       goes_nowhere : (c : ℕ) → 1 ≤ count_of u (going_on day types (last_of a ts) c (list_of plan (last_of a ts))) → ⊥
       goes_nowhere c h =
-          let into = going_feeds day types links u (last_of a ts) c (list_of plan (last_of a ts)) h in
-          let leads : LeadsInto day (last_of a ts) c = feeds day types links (last_of a ts) c into in
+          let into = going_leads_into day types links u (last_of a ts) c (list_of plan (last_of a ts)) h in
+          let leads : LeadsInto day (last_of a ts) c = leads_into day types links (last_of a ts) c into in
           let came = coming_has day types (list_of plan) u (last_of a ts) c into in
           let come = come_at c u in
           let share = places_share day types c u (list_of plan c) in

@@ -17,10 +17,10 @@ use Rattle.inventory.specs.NamedUnits.{after_trip, standing, may_be_taken, fetch
 use Rattle.inventory.specs.Places.{going_on, given_places, kept_places, taken_places, coming}
 use Rattle.inventory.proofs.Order.{in_list, AreInTurn, before_leaves}
 use Rattle.inventory.proofs.Fetching.{AreFetched, are_fetched}
-use Rattle.inventory.proofs.Linked.{IsListFor, going_feeds, coming_from, coming_has, coming_same, coming-map}
+use Rattle.inventory.proofs.Linked.{IsListFor, going_leads_into, coming_from, coming_has, coming_same, coming-map}
 use Rattle.inventory.proofs.Linked.{coming_once, places_share, come_is, taken_is, put_is}
 use Rattle.inventory.proofs.Standing.{IsRight, AreRight, latest, latest_some, stands_after, after_none, after_some}
-use Rattle.inventory.proofs.Standing.{standing_is, right_of, go_on, going_less, not_in_yard, fed_before, le_has}
+use Rattle.inventory.proofs.Standing.{standing_is, right_of, go_on, going_less, not_in_yard, leads_before, le_has}
 use Rattle.inventory.proofs.Enough.{all_hold, enough}
 use Rattle.inventory.proofs.Following.{last_in, given_trips, AreLed, IsLed, led_here, led_before, last_given}
 
@@ -70,7 +70,7 @@ module _ (day : Day) (types : List (List ℕ)) (minute : ℕ) (plan : List (List
     come_types : types_of day (coming day types lists b) ≡ kept_places day types b (list_of types b)
     come_types =
         coming-map day types (type_of day) lists b
-        ∙ coming_same day types (λ a. types_of day (lists a)) (list_of types) b (λ a c. types_right before rights a (fed_before day types lists links is_day a b before turns.0 c))
+        ∙ coming_same day types (λ a. types_of day (lists a)) (list_of types) b (λ a c. types_right before rights a (leads_before day types lists links is_day a b before turns.0 c))
         ∙ sym (come_is day types links itself types (λ t. map-id (list_of types t)) (all_hold day types served) b)
 
     units : List ℕ
@@ -90,10 +90,10 @@ module _ (day : Day) (types : List (List ℕ)) (minute : ℕ) (plan : List (List
     -- a unit that comes with a train has that for its latest trip
     came_from : (u a : ℕ) → 1 ≤ count_of u (going_on day types a b (lists a)) → latest day types lists before u ≡ Some a
     came_from u a c =
-        go_on day types lists links is_day before turns.1 rights a b u (fed_before day types lists links is_day a b before turns.0 (going_feeds day types links u a b (lists a) c)) turns.0.fresh c
+        go_on day types lists links is_day before turns.1 rights a b u (leads_before day types lists links is_day a b before turns.0 (going_leads_into day types links u a b (lists a) c)) turns.0.fresh c
 
     ran_before : (u a : ℕ) → 1 ≤ count_of u (going_on day types a b (lists a)) → 1 ≤ count_of a before
-    ran_before u a c = fed_before day types lists links is_day a b before turns.0 (going_feeds day types links u a b (lists a) c)
+    ran_before u a c = leads_before day types lists links is_day a b before turns.0 (going_leads_into day types links u a b (lists a) c)
 
     come_once : (u : ℕ) → count_of u (coming day types lists b) ≤ 1
     come_once u = coming_once day types links lists u b
@@ -161,7 +161,7 @@ module _ (day : Day) (types : List (List ℕ)) (minute : ℕ) (plan : List (List
       kept_here : kept_places day types b (lists b) ≡ coming day types lists b
       kept_here =
           ap (kept_places day types b) here ∙ named.links b turns.0.here early
-          ∙ coming_same day types (list_of plan) lists b (λ a c. sym (list_before a (fed_before day types lists links is_day a b before turns.0 c)))
+          ∙ coming_same day types (list_of plan) lists b (λ a c. sym (list_before a (leads_before day types lists links is_day a b before turns.0 c)))
 
       -- what it takes was given in time by the trip before, or is at home
       taken_here : (u : ℕ) → 1 ≤ count_of u (taken_places day types b (lists b)) → may_be_taken (from_of day b) (leaves day b) (standing day types lists before u) ≡ true
@@ -181,7 +181,7 @@ module _ (day : Day) (types : List (List ℕ)) (minute : ℕ) (plan : List (List
               let ran = latest_some day types lists before u a is in
               let same = ap (λ (l : List ℕ). count_of u (going_on day types a b l)) (list_before a ran.0) in
               let goes_on = leb-true 1 (count_of u (going_on day types a b (list_of plan a))) stays in
-              let has = coming_has day types lists u a b (going_feeds day types links u a b (lists a) (omega arith)) in
+              let has = coming_has day types lists u a b (going_leads_into day types links u a b (lists a) (omega arith)) in
               let kept = ap (count_of u) kept_here in
               let shares = places_share day types b u (lists b) in
               let few = few_here u in

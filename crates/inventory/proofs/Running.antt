@@ -21,10 +21,10 @@ use Rattle.inventory.specs.Places.{going_on, given_places, kept_places, taken_pl
 use Rattle.inventory.proofs.Sums.{sum_same}
 use Rattle.inventory.proofs.Order.{in_list, AreInTurn, is_strict, not_itself, leaves_before, filter_in_order, is_there}
 use Rattle.inventory.proofs.Order.{is_trip, latest_in_turn}
-use Rattle.inventory.proofs.Linked.{Goes, AllHold, goes, feeds, going_feeds, coming_from, coming_has, places_share}
+use Rattle.inventory.proofs.Linked.{Goes, AllHold, goes, leads_into, going_leads_into, coming_from, coming_has, places_share}
 use Rattle.inventory.proofs.Linked.{kept_is, given_is, taken_is, rule_back}
 use Rattle.inventory.proofs.Standing.{AreRight, latest, latest_some, stands_after, after_none, after_some, standing_is}
-use Rattle.inventory.proofs.Standing.{right_of, go_on, fed_before, le_has}
+use Rattle.inventory.proofs.Standing.{right_of, go_on, leads_before, le_has}
 use Rattle.inventory.proofs.Yards.{tally, yard_count, and_true}
 use Rattle.inventory.proofs.Enough.{all_hold, all_stand}
 use Rattle.inventory.proofs.Following.{last_in, last_some, follows_more, begins_more, reverse_twice, passing_here}
@@ -112,7 +112,7 @@ module _ (day : Day) (types plan : List (List ℕ)) (links : AreLinks day) (is_d
           | inl some ↦ inr (omega arith)
           | inr none ↦
               let from = coming_from day types (list_of plan) u b (omega arith) in
-              inl (from.0, go_on day types (list_of plan) links is_day before turns.1 right.1 from.0 b u (fed_before day types (list_of plan) links is_day from.0 b before turns.0 from.1) turns.0.fresh from.2, from.2)
+              inl (from.0, go_on day types (list_of plan) links is_day before turns.1 right.1 from.0 b u (leads_before day types (list_of plan) links is_day from.0 b before turns.0 from.1) turns.0.fresh from.2, from.2)
         ]
 
     begins_here : latest day types (list_of plan) before u ≡ None → from_of day b ≡ home_of day u
@@ -224,11 +224,11 @@ module _ (day : Day) (types plan : List (List ℕ)) (links : AreLinks day) (is_d
       never : (b : ℕ) → count_of u (going_on day types a b (list_of plan a)) ≡ 0
       never b = elim (cases_lt 0 (count_of u (going_on day types a b (list_of plan a)))) [
         | inl some ↦
-            let fed = going_feeds day types links u a b (list_of plan a) (omega arith) in
-            let leads = feeds day types links a b fed in
+            let into = going_leads_into day types links u a b (list_of plan a) (omega arith) in
+            let leads = leads_into day types links a b into in
             let travels = is_day.time a leads.from in
             let in_time = leads.in_time in
-            let comes = coming_has day types (list_of plan) u a b fed in
+            let comes = coming_has day types (list_of plan) u a b into in
             let shares = places_share day types b u (list_of plan b) in
             let kept_here = ap (count_of u) (right_at (latest_first day) rights b (is_there day b leads.to)).2 in
             absurd (false≢true (sym (none_later u (latest_first day) (latest_in_turn day) a b is (is_there day b leads.to) (omega arith)) ∙ leaves_before day a b (omega arith)))

@@ -8,11 +8,11 @@ use Rattle.timetable.specs.Accepted.{IsDay, AreLinks}
 use Rattle.timetable.specs.Day.{Day, leaves, from_of, home_of, types_of, unit_count}
 use Rattle.timetable.specs.Links.{list_of}
 use Rattle.timetable.specs.Lists.{count_of, has}
-use Rattle.inventory.specs.Places.{going_on, given_places, kept_places, taken_places, feeding, coming}
+use Rattle.inventory.specs.Places.{going_on, given_places, kept_places, taken_places, trips_into, coming}
 use Rattle.inventory.specs.NamedUnits.{InYard, after_trip, standing, may_be_taken}
 use Rattle.inventory.proofs.Sums.{one_same}
 use Rattle.inventory.proofs.Order.{in_list, IsTurn, AreInTurn, leaves_before}
-use Rattle.inventory.proofs.Linked.{Goes, goes, feeds, coming_from, places_share}
+use Rattle.inventory.proofs.Linked.{Goes, goes, leads_into, coming_from, places_share}
 
 pub le_has : (u : ℕ) (us : List ℕ) → 1 ≤ count_of u us → has u us ≡ true
 le_has u us c = le-leb 1 (count_of u us) c
@@ -149,9 +149,9 @@ module _ (day : Day) (types : List (List ℕ)) (lists : ℕ → List ℕ) where
         ap (may_be_taken s minute) none
 
     -- a train that leads into a trip has left before it
-    pub fed_before : (a b : ℕ) (before : List ℕ) → IsTurn day b before → 1 ≤ count_of a (feeding day b) → 1 ≤ count_of a before
-    fed_before a b before turn c =
-        let leads = feeds day types links a b c in
+    pub leads_before : (a b : ℕ) (before : List ℕ) → IsTurn day b before → 1 ≤ count_of a (trips_into day b) → 1 ≤ count_of a before
+    leads_before a b before turn c =
+        let leads = leads_into day types links a b c in
         let from = leads.from in
         let travels = is_day.time a leads.from in
         let in_time = leads.in_time in
@@ -186,7 +186,7 @@ module _ (day : Day) (types : List (List ℕ)) (lists : ℕ → List ℕ) where
         nowhere rest earlier is here shares (inr kept) =
             let came = ap (count_of u) right.0.kept_are in
             let from = coming_from day types lists u t (omega arith) in
-            let ran = fed_before from.0 t before turns.0 from.1 in
+            let ran = leads_before from.0 t before turns.0 from.1 in
             let fresh = turns.0.fresh in
             let is' = rest from.0 t u ran fresh from.2 in
             let found : Some from.0 ≡ Some a = sym is' ∙ is in

@@ -19,7 +19,7 @@ use Rattle.inventory.proofs.Order.{IsTurn, AreInTurn}
 use Rattle.inventory.proofs.Linked.{Goes, AllHold, goes, coming_from, places_share, taken_is, given_is}
 use Rattle.inventory.proofs.Linked.{taken_places-map, given_places-map}
 use Rattle.inventory.proofs.Standing.{IsRight, AreRight, stands_after, standing_is, latest_here, latest_before}
-use Rattle.inventory.proofs.Standing.{right_of, go_on, not_in_yard, fed_before, none_has, le_has}
+use Rattle.inventory.proofs.Standing.{right_of, go_on, not_in_yard, leads_before, none_has, le_has}
 
 -- ---- sums over trips of a list
 
@@ -111,7 +111,7 @@ module _ (day : Day) (types : List (List ℕ)) (lists : ℕ → List ℕ) (links
           | inr none ↦
               let came = ap (count_of u) right.kept_are in
               let from = coming_from day types lists u c (omega arith) in
-              let ran = fed_before day types lists links is_day from.0 c before turn from.1 in
+              let ran = leads_before day types lists links is_day from.0 c before turn from.1 in
               let is = go_on day types lists links is_day before turns rights from.0 c u ran turn.fresh from.2 in
               ap tally (not_in_yard day types lists links is_day before from.0 c u s minute (right_of day types lists before rights from.0 u ran) is from.2)
               ∙ sym (cond_zero (from_of day c == s) (count_of u (taken_places day types c (lists c))) (omega arith))

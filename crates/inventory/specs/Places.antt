@@ -82,9 +82,9 @@ put_together day b come fetched =
     unwrap_or (option_map (λ link. coupled_by link.kind come fetched) (link_into day b)) fetched
 
 -- the trips that arrive for the link into trip b
-unfoldable pub feeding : Day → ℕ → List ℕ
-feeding day b = unwrap_or (option_map (λ link. arriving_in link.kind) (link_into day b)) []
+unfoldable pub trips_into : Day → ℕ → List ℕ
+trips_into day b = unwrap_or (option_map (λ link. arriving_in link.kind) (link_into day b)) []
 
 -- what comes with the trains that lead into trip b, where each trip has such a list
 unfoldable pub coming : Day → List (List ℕ) → (ℕ → List ℕ) → ℕ → List ℕ
-coming day types lists b = flat_map (λ a. going_on day types a b (lists a)) (feeding day b)
+coming day types lists b = flat_map (λ a. going_on day types a b (lists a)) (trips_into day b)

@@ -26,7 +26,7 @@ use Rattle.inventory.proofs.Order.{AreInTurn}
 use Rattle.inventory.proofs.Fetching.{AreFetched}
 use Rattle.inventory.proofs.Linked.{Goes, goes, IsListFor, coming_from, coming_same, coming-map, places_share, come_is}
 use Rattle.inventory.proofs.Linked.{taken_is, put_is}
-use Rattle.inventory.proofs.Standing.{IsRight, AreRight, le_has, none_has, right_of, go_on, not_in_yard, fed_before}
+use Rattle.inventory.proofs.Standing.{IsRight, AreRight, le_has, none_has, right_of, go_on, not_in_yard, leads_before}
 use Rattle.inventory.proofs.Enough.{all_hold}
 use Rattle.inventory.proofs.Righting.{types_right}
 use Rattle.inventory.proofs.Laws.{none_before}
@@ -82,14 +82,14 @@ module _ (day : Day) (types : List (List ℕ)) (links : AreLinks day) (is_day : 
 
   came_before : coming day types lists b ≡ coming day types earlier b
   came_before = coming_same day types lists earlier b (λ a c. named_elsewhere day types b a before
-      (λ e. let ran = fed_before day types earlier links is_day a b before turns.0 c in let fresh = turns.0.fresh in let same = ap (λ x. count_of x before) e in absurd (omega arith)))
+      (λ e. let ran = leads_before day types earlier links is_day a b before turns.0 c in let fresh = turns.0.fresh in let same = ap (λ x. count_of x before) e in absurd (omega arith)))
 
   come_types : types_of day (coming day types earlier b) ≡ kept_places day types b (list_of types b)
   come_types =
       let rights : AreRight day types earlier before = right_so_far day types links is_day stocked served before turns.1 in
       coming-map day types (type_of day) earlier b
       ∙ coming_same day types (λ a. types_of day (earlier a)) (list_of types) b
-      (λ a c. types_right day types 0 [] earlier links is_day stocked served (none_before day types) before rights a (fed_before day types earlier links is_day a b before turns.0 c))
+      (λ a c. types_right day types 0 [] earlier links is_day stocked served (none_before day types) before rights a (leads_before day types earlier links is_day a b before turns.0 c))
       ∙ sym (come_is day types links itself types (λ t. map-id (list_of types t)) (all_hold day types served) b)
 
   list_is : lists b ≡ put_together day b (coming day types earlier b) units
@@ -141,7 +141,7 @@ module _ (day : Day) (types : List (List ℕ)) (links : AreLinks day) (is_day : 
   not_come u place at = elim (cases_lt 0 (count_of u (coming day types earlier b))) [
     | inl some ↦
         let from = coming_from day types earlier u b (omega arith) in
-        let ran = fed_before day types earlier links is_day from.0 b before turns.0 from.1 in
+        let ran = leads_before day types earlier links is_day from.0 b before turns.0 from.1 in
         let rights : AreRight day types earlier before = right_so_far day types links is_day stocked served before turns.1 in
         let is = go_on day types earlier links is_day before turns.1 rights from.0 b u ran turns.0.fresh from.2 in
         let out = not_in_yard day types earlier links is_day before from.0 b u place.station place.ready (right_of day types earlier before rights from.0 u ran) is from.2 in
