@@ -8,9 +8,9 @@ use Rattle.std.proofs.lemmas.Int.{ints, by_lt_z}
 use Rattle.compositions.specs.Catalogue.{is_lower}
 use Rattle.price_bound.specs.declared.cells.Cell.{Cell}
 use Rattle.price_bound.specs.Paths.{Stage, IsPath, IsNoLaterPath, IsFirstPath, IsOver, begin_of, entered, least_from}
-use Rattle.price_bound.specs.Paths.{lower_cell, row_by, rows_of, walked}
+use Rattle.price_bound.specs.Paths.{lower_cell, row_by, rows_of, path_from}
 use Rattle.price_bound.proofs.Offers.{cell_is, kept, lower_cases, replaced}
-use Rattle.price_bound.proofs.Rows.{IsCellFor, IsFirstFrom, length-row, lower_head, rows_first, walk_begins}
+use Rattle.price_bound.proofs.Rows.{IsCellFor, IsFirstFrom, length-row, lower_head, rows_first, path_begins}
 
 -- ---- the first cell of least value
 
@@ -134,7 +134,7 @@ least_is row =
 -- what the begin of rows tells: no path at all, or the first path of least value
 pub record IsBeginFor (stages : List Stage) (rows : List (List (Option Cell))) (begin : Option Cell) : Type 0 where
   pub none : begin ≡ None → (path : List ℕ) (value : ℤ) → IsPath stages path value → ⊥
-  pub some : (it : Cell) → begin ≡ Some it → IsFirstPath stages (walked rows it.next) it.value
+  pub some : (it : Cell) → begin ≡ Some it → IsFirstPath stages (path_from rows it.next) it.value
 
 module _ (n : ℕ) (stage : Stage) (stages : List Stage) (over : All (IsOver n) (stage ∷ stages)) where
   abbrev rows : List (List (Option Cell))
@@ -177,10 +177,10 @@ module _ (n : ℕ) (stage : Stage) (stages : List Stage) (over : All (IsOver n) 
     below : it.next < n
     below = let long : length row ≡ n = length-row n stage (rows_of n stages) in omega (arith, found.3, long)
 
-    from : IsFirstFrom (stage ∷ stages) it.next (walked rows it.next) it.value
-    from = subst (IsFirstFrom (stage ∷ stages) it.next (walked rows it.next)) found.2 ((cells it.next below).some found.0 found.1)
+    from : IsFirstFrom (stage ∷ stages) it.next (path_from rows it.next) it.value
+    from = subst (IsFirstFrom (stage ∷ stages) it.next (path_from rows it.next)) found.2 ((cells it.next below).some found.0 found.1)
 
-    others : (path : List ℕ) (other : ℤ) → IsPath (stage ∷ stages) path other → IsNoLaterPath it.value (walked rows it.next) other path
+    others : (path : List ℕ) (other : ℤ) → IsPath (stage ∷ stages) path other → IsNoLaterPath it.value (path_from rows it.next) other path
     others [] other is = absurd (no_empty stages is)
       where
         no_empty : (stages : List Stage) → IsPath (stage ∷ stages) [] other → ⊥
@@ -202,13 +202,13 @@ module _ (n : ℕ) (stage : Stage) (stages : List Stage) (over : All (IsOver n) 
         level_most : (a b c : ℤ) → a ≡ b → b ≤ℤ c → (a <ℤ c) ⊎ (a ≡ c)
         level_most a b c p q = by_lt_z a c (λ less. inl less) (λ least. inr (omega (arith, ints, p, q, least)))
 
-        on : (cell : Option Cell) → get_or row comp None ≡ cell → IsNoLaterPath it.value (walked rows it.next) other (comp ∷ path)
+        on : (cell : Option Cell) → get_or row comp None ≡ cell → IsNoLaterPath it.value (path_from rows it.next) other (comp ∷ path)
         on None at = absurd ((cells comp within).none at path other is)
         on (Some cell) at =
-            let theirs : IsFirstFrom (stage ∷ stages) comp (walked rows comp) cell.value = (cells comp within).some cell at in
-            let high : cell.value ≤ℤ other = at_least cell.value other (walked rows comp) (comp ∷ path) (theirs.first path other is) in
+            let theirs : IsFirstFrom (stage ∷ stages) comp (path_from rows comp) cell.value = (cells comp within).some cell at in
+            let high : cell.value ≤ℤ other = at_least cell.value other (path_from rows comp) (comp ∷ path) (theirs.first path other is) in
             let long : length row ≡ n = length-row n stage (rows_of n stages) in
-            let begins = walk_begins row (rows_of n stages) it.next in
+            let begins = path_begins row (rows_of n stages) it.next in
             elim (least.least it begin comp cell (omega (arith, within, long)) at) [
               | inl less ↦ inr (inl (less_most it.value cell.value other less high))
               | inr level ↦ elim (cases_lt it.next comp) [
@@ -218,7 +218,7 @@ module _ (n : ℕ) (stage : Stage) (stages : List Stage) (over : All (IsOver n) 
                 ]
                 | inr late ↦
                     let same : comp ≡ it.next = omega (arith, level.1, late) in
-                    subst (λ (k : ℕ). IsNoLaterPath it.value (walked rows it.next) other (k ∷ path)) (sym same)
+                    subst (λ (k : ℕ). IsNoLaterPath it.value (path_from rows it.next) other (k ∷ path)) (sym same)
                     (from.first path other (subst (λ (k : ℕ). IsPath (stage ∷ stages) (k ∷ path) other) same is))
               ]
             ]

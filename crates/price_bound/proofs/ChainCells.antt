@@ -1,4 +1,4 @@
--- The rows of a chain while they are made, from its last trip to its first, and the walk along them.
+-- The rows of a chain while they are made, from its last trip to its first, and the path along them.
 use Rattle.std.proofs.Common.{◌≡◌, ◌≢◌, ℕ, zero, suc, ◌+◌, ◌++◌, ◌*◌, ◌<◌, ◌≤◌, List, [], ◌∷◌, length, get_or, set}
 use Rattle.std.proofs.Common.{replicate, map, take}
 use Rattle.std.proofs.Common.{drop, Option, Some, None, refl, sym, ap, ◌∙◌, subst, arith, pos, inl, inr, slice_get}
@@ -21,7 +21,7 @@ use Rattle.price_bound.specs.CellRows.{HaveRoom, edges_offered, lower_at, put_al
 use Rattle.price_bound.specs.CellSizes.{AreSmallCells, IsSmall, IsSmallStep}
 use Rattle.price_bound.specs.ChainStages.{Priced, edges_of, price_of, stage_of, stages_of}
 use Rattle.price_bound.specs.Paths.{Stage, last_row, lower_cell, next_of, offer_by, row_before, row_by, rows_of}
-use Rattle.price_bound.specs.Paths.{walked, with_worth, with_worths}
+use Rattle.price_bound.specs.Paths.{path_from, with_worth, with_worths}
 use Rattle.price_bound.specs.Pricing.{IsListed}
 use Rattle.price_bound.proofs.Adding.{small_more, small_zero}
 use Rattle.price_bound.proofs.Offers.{cell_is}
@@ -329,13 +329,13 @@ module _ (priced : Priced) (chain : List ℕ) (table : List (List (Option Cell))
       size : (a : ℕ) → a ≡ 1 → 50000000000000000 ≡ a * 50000000000000000
       size a e = omega (arith, e)
 
--- ---- the walk
+-- ---- the path
 
 pub one_step : (chain : List ℕ) (rows : List (List (Option Cell))) (place comp : ℕ) (picks : List ℕ)
     → place < length chain → length chain ≤ length rows
-    → put_along (drop place chain) (walked (drop place (take (length chain) rows)) comp) picks
+    → put_along (drop place chain) (path_from (drop place (take (length chain) rows)) comp) picks
     ≡ put_along (drop (suc place) chain)
-    (walked (drop (suc place) (take (length chain) rows)) (next_of (get_or (get_or rows place []) comp None)))
+    (path_from (drop (suc place) (take (length chain) rows)) (next_of (get_or (get_or rows place []) comp None)))
     (set picks (get_or chain place 0) comp)
 one_step chain rows place comp picks below enough =
     let trips : drop place chain ≡ get_or chain place 0 ∷ drop (suc place) chain = drop-cons chain place 0 below in
@@ -343,9 +343,9 @@ one_step chain rows place comp picks below enough =
     let left : drop place these ≡ get_or these place [] ∷ drop (suc place) these =
     drop-cons these place [] (omega (arith, below, length-take-le (length chain) rows enough)) in
     let row : get_or these place [] ≡ get_or rows place [] = get_or-take (length chain) rows place [] below in
-    ap (λ (ts : List ℕ). put_along ts (walked (drop place these) comp) picks) trips
-    ∙ ap (λ (rs : List (List (Option Cell))). put_along (get_or chain place 0 ∷ drop (suc place) chain) (walked rs comp) picks) left
-    ∙ ap (λ (r : List (Option Cell)). put_along (drop (suc place) chain) (walked (drop (suc place) these) (next_of (get_or r comp None)))
+    ap (λ (ts : List ℕ). put_along ts (path_from (drop place these) comp) picks) trips
+    ∙ ap (λ (rs : List (List (Option Cell))). put_along (get_or chain place 0 ∷ drop (suc place) chain) (path_from rs comp) picks) left
+    ∙ ap (λ (r : List (Option Cell)). put_along (drop (suc place) chain) (path_from (drop (suc place) these) (next_of (get_or r comp None)))
     (set picks (get_or chain place 0) comp)) row
 
 -- ---- edges

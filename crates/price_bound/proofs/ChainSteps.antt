@@ -1,4 +1,4 @@
--- One chain more: after its walk is put on its trips, the picks are first paths along it and along the chains before
+-- One chain more: after its path is put on its trips, the picks are first paths along it and along the chains before
 -- it.
 use Rattle.std.proofs.Common.{◌≡◌, ℕ, zero, suc, ◌+◌, ◌<◌, ◌≤◌, List, [], ◌∷◌, ◌++◌, length, take, Some, None, refl}
 use Rattle.std.proofs.Common.{sym, ap, ◌∙◌, subst, arith, ◌+ℤ◌, ℤ, slice_get, inl, inr}
@@ -13,8 +13,8 @@ use Rattle.price_bound.specs.declared.cells.Cell.{Cell}
 use Rattle.price_bound.specs.CellRows.{put_along}
 use Rattle.price_bound.specs.ChainStages.{Priced, AreFirstPaths, stages_of}
 use Rattle.price_bound.specs.FirstPaths.{LacksPath}
-use Rattle.price_bound.specs.Paths.{begin_of, rows_of, walked}
-use Rattle.price_bound.proofs.Walking.{kept_first, no_begin, one_more_first, walk_first}
+use Rattle.price_bound.specs.Paths.{begin_of, rows_of, path_from}
+use Rattle.price_bound.proofs.PutPaths.{kept_first, no_begin, one_more_first, path_first}
 
 -- a list up to a place and the entry there
 taken_more : (lists : List (List ℕ)) (i : ℕ) (list : List ℕ) → slice_get lists i ≡ Some list → take (suc i) lists ≡ take i lists ++ list ∷ []
@@ -58,13 +58,13 @@ module _ (priced : Priced) (graphs : AreGraphs priced.day priced.graphs) (chains
 
   pub next_first : (picks : List ℕ) (value : ℤ) (begin : Cell) → length picks ≡ length priced.day.trips → AreFirstPaths priced (take i (chains_of priced.day)) picks value
       → begin_of (rows_of (length (compositions_of priced.day)) (stages_of priced chain)) ≡ Some begin
-      → AreFirstPaths priced (take (suc i) (chains_of priced.day)) (put_along chain (walked (rows_of (length (compositions_of priced.day)) (stages_of priced chain)) begin.next) picks) (value +ℤ begin.value)
+      → AreFirstPaths priced (take (suc i) (chains_of priced.day)) (put_along chain (path_from (rows_of (length (compositions_of priced.day)) (stages_of priced chain)) begin.next) picks) (value +ℤ begin.value)
   next_first picks value begin long done found =
-      let path : List ℕ = walked (rows_of (length (compositions_of priced.day)) (stages_of priced chain)) begin.next in
+      let path : List ℕ = path_from (rows_of (length (compositions_of priced.day)) (stages_of priced chain)) begin.next in
       subst (λ (lists : List (List ℕ)). AreFirstPaths priced lists (put_along chain path picks) (value +ℤ begin.value)) (sym (taken_more (chains_of priced.day) i chain at))
       (one_more_first priced (take i (chains_of priced.day)) chain (put_along chain path picks) value begin.value
       (kept_first priced (take i (chains_of priced.day)) chain path picks value (λ u there. omega (arith, there, once u, times_split (chains_of priced.day) i u chain at)) done)
-      (walk_first priced graphs chain picks begin (λ u. omega (arith, once u, times_split (chains_of priced.day) i u chain at)) (λ u there. omega (arith, below u there, long)) (some_trip chain is_chain) found))
+      (path_first priced graphs chain picks begin (λ u. omega (arith, once u, times_split (chains_of priced.day) i u chain at)) (λ u there. omega (arith, below u there, long)) (some_trip chain is_chain) found))
 
   pub lacks : begin_of (rows_of (length (compositions_of priced.day)) (stages_of priced chain)) ≡ None → LacksPath priced
   lacks none = record { number = i; chain = chain; at = at; none = no_begin priced graphs chain (some_trip chain is_chain) none }

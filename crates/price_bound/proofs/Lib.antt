@@ -32,7 +32,7 @@ mod Adding
 mod YardSums
 mod YardPuts
 mod Filling
-mod Walking
+mod PutPaths
 mod DayPrices
 mod Summing
 mod Crediting

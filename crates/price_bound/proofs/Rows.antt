@@ -13,7 +13,7 @@ use Rattle.compositions.specs.Catalogue.{is_lower}
 use Rattle.transitions.specs.declared.edge.Edge.{Edge}
 use Rattle.price_bound.specs.declared.cells.Cell.{Cell}
 use Rattle.price_bound.specs.Paths.{Stage, IsStepAt, IsPath, IsNoLaterPath, IsOver, last_row, next_of, offer, offer_by}
-use Rattle.price_bound.specs.Paths.{offered, row_before, row_by, rows_of, walked, with_worth, with_worths}
+use Rattle.price_bound.specs.Paths.{offered, row_before, row_by, rows_of, path_from, with_worth, with_worths}
 use Rattle.price_bound.proofs.Offers.{IsLeastOffer, IsOffered, cell_is, row_offered}
 
 -- ---- lists in order
@@ -28,7 +28,7 @@ lower_tail m ms ns h = or_right _ _ (and_from _ _ (eq-eqb m m refl) h)
 
 -- two paths that go on from one composition: the one by the least offer is no later
 module _ (comp here_comp there_comp : ℕ) (here c d step rest value other : ℤ) (value_is : value ≡ here +ℤ c) (other_is : other ≡ here +ℤ (step +ℤ rest))
-    (mine theirs path : List ℕ) (same_walk : here_comp ≡ there_comp → theirs ≡ mine) (tail : List ℕ) (begins : mine ≡ here_comp ∷ tail) where
+    (mine theirs path : List ℕ) (same_path : here_comp ≡ there_comp → theirs ≡ mine) (tail : List ℕ) (begins : mine ≡ here_comp ∷ tail) where
   -- the list of the one comes first where it goes to a lower composition
   lower_next : here_comp < there_comp → is_lower (comp ∷ mine) (comp ∷ there_comp ∷ path) ≡ true
   lower_next less = lower_tail comp mine (there_comp ∷ path) (subst (λ (ms : List ℕ). is_lower ms (there_comp ∷ path) ≡ true) (sym begins) (lower_head here_comp there_comp tail path less))
@@ -72,14 +72,14 @@ module _ (comp here_comp there_comp : ℕ) (here c d step rest value other : ℤ
   level_step level most (inl same) =
       let high : value ≤ℤ other = most_by here c step d rest value other value_is other_is level same.1 in
       elim (split most) [
-        | inl one ↦ inl (ap (λ (ms : List ℕ). comp ∷ ms) (same.0 ∙ same_walk one), high)
+        | inl one ↦ inl (ap (λ (ms : List ℕ). comp ∷ ms) (same.0 ∙ same_path one), high)
         | inr less ↦ by_list high less
       ]
   level_step level most (inr (inl less)) = by_value (less_rest here c step d rest value other value_is other_is level less)
   level_step level most (inr (inr tie)) =
       let equal : value ≡ other = level_rest here c step d rest value other value_is other_is level tie.0 in
       elim (split most) [
-        | inl one ↦ inr (inr (equal, lower_tail comp mine (there_comp ∷ path) (subst (λ (ms : List ℕ). is_lower ms (there_comp ∷ path) ≡ true) (same_walk one) tie.1)))
+        | inl one ↦ inr (inr (equal, lower_tail comp mine (there_comp ∷ path) (subst (λ (ms : List ℕ). is_lower ms (there_comp ∷ path) ≡ true) (same_path one) tie.1)))
         | inr less ↦ inr (inr (equal, lower_next less))
       ]
 
@@ -112,8 +112,8 @@ length-row n stage [] = length-with_worths stage 0 (replicate n (Some (record { 
 length-row n stage (ahead ∷ rows) =
     length-with_worths stage 0 (fold (offered stage ahead) (replicate n None) stage.edges) ∙ length-fold stage ahead (replicate n None) stage.edges ∙ length-replicate n None
 
-pub walk_begins : (row : List (Option Cell)) (rows : List (List (Option Cell))) (comp : ℕ) → (tail : List ℕ) × (walked (row ∷ rows) comp ≡ comp ∷ tail)
-walk_begins row rows comp = (walked rows (next_of (get_or row comp None)), refl)
+pub path_begins : (row : List (Option Cell)) (rows : List (List (Option Cell))) (comp : ℕ) → (tail : List ℕ) × (path_from (row ∷ rows) comp ≡ comp ∷ tail)
+path_begins row rows comp = (path_from rows (next_of (get_or row comp None)), refl)
 
 -- ---- first paths from a composition on
 
@@ -124,7 +124,7 @@ pub record IsFirstFrom (stages : List Stage) (comp : ℕ) (path : List ℕ) (val
 -- what a cell of the first row says of the paths from its composition on
 pub record IsCellFor (stages : List Stage) (rows : List (List (Option Cell))) (comp : ℕ) (cell : Option Cell) : Type 0 where
   pub none : cell ≡ None → (others : List ℕ) (other : ℤ) → IsPath stages (comp ∷ others) other → ⊥
-  pub some : (it : Cell) → cell ≡ Some it → IsFirstFrom stages comp (walked rows comp) it.value
+  pub some : (it : Cell) → cell ≡ Some it → IsFirstFrom stages comp (path_from rows comp) it.value
 
 value_is : (a b : ℤ) → Some a ≡ Some b → a ≡ b
 value_is a b e = cc
@@ -226,30 +226,30 @@ module _ (n : ℕ) (stage after : Stage) (stages : List Stage) (over : IsOver n 
     made : IsMade least.edge offer_is
     made = made_of least.edge offer_is least.offers
 
-    there_first : IsFirstFrom (after ∷ stages) least.edge.to (walked (ahead ∷ rows) least.edge.to) made.there.value
+    there_first : IsFirstFrom (after ∷ stages) least.edge.to (path_from (ahead ∷ rows) least.edge.to) made.there.value
     there_first = (is_ahead least.edge.to (over.edges least.edge least.seen).1).some made.there made.ahead_at
 
-    -- the rest of the walk is that of the least offer's composition
+    -- the rest of the path is that of the least offer's composition
     goes_on : next_of (get_or row comp None) ≡ least.edge.to
     goes_on = ap next_of mine ∙ made.next
 
-    rest_walk : walked (ahead ∷ rows) (next_of (get_or row comp None)) ≡ walked (ahead ∷ rows) least.edge.to
-    rest_walk = ap (walked (ahead ∷ rows)) goes_on
+    rest_path : path_from (ahead ∷ rows) (next_of (get_or row comp None)) ≡ path_from (ahead ∷ rows) least.edge.to
+    rest_path = ap (path_from (ahead ∷ rows)) goes_on
 
-    is_path : (path : List ℕ) (tail : List ℕ) → path ≡ walked (ahead ∷ rows) least.edge.to → path ≡ least.edge.to ∷ tail → IsPath all (comp ∷ path) (worth +ℤ offer_is.value)
-    is_path path tail walk begin =
+    is_path : (path : List ℕ) (tail : List ℕ) → path ≡ path_from (ahead ∷ rows) least.edge.to → path ≡ least.edge.to ∷ tail → IsPath all (comp ∷ path) (worth +ℤ offer_is.value)
+    is_path path tail same begin =
         subst (λ (ms : List ℕ). IsPath all (comp ∷ ms) (worth +ℤ offer_is.value)) (sym begin) (
           worth,
           made.price,
           made.there.value,
           worth_is,
           record { edge = least.edge; there = least.seen; origin = least.from; goal = refl; priced = made.priced },
-          subst (λ (ms : List ℕ). IsPath (after ∷ stages) ms made.there.value) (sym walk ∙ begin) there_first.is,
+          subst (λ (ms : List ℕ). IsPath (after ∷ stages) ms made.there.value) (sym same ∙ begin) there_first.is,
           ap (λ (v : ℤ). worth +ℤ v) made.value,
         )
 
     first : (others : List ℕ) (other : ℤ) → IsPath all (comp ∷ others) other
-        → IsNoLaterPath (worth +ℤ offer_is.value) (comp ∷ walked (ahead ∷ rows) least.edge.to) other (comp ∷ others)
+        → IsNoLaterPath (worth +ℤ offer_is.value) (comp ∷ path_from (ahead ∷ rows) least.edge.to) other (comp ∷ others)
     first [] other is = absurd is
     first (next ∷ others) other (here, step, rest, here_is, is_step, is_rest, total) =
         on (get_or ahead next None) refl
@@ -257,27 +257,27 @@ module _ (n : ℕ) (stage after : Stage) (stages : List Stage) (over : IsOver n 
         same_worth : here ≡ worth
         same_worth = value_is here worth (sym here_is ∙ worth_is)
 
-        on : (cell : Option Cell) → get_or ahead next None ≡ cell → IsNoLaterPath (worth +ℤ offer_is.value) (comp ∷ walked (ahead ∷ rows) least.edge.to) other (comp ∷ next ∷ others)
+        on : (cell : Option Cell) → get_or ahead next None ≡ cell → IsNoLaterPath (worth +ℤ offer_is.value) (comp ∷ path_from (ahead ∷ rows) least.edge.to) other (comp ∷ next ∷ others)
         on None at = absurd ((is_ahead next (next_below comp next step is_step)).none at others rest is_rest)
         on (Some cell) at =
-            let begins = walk_begins ahead rows least.edge.to in
+            let begins = path_begins ahead rows least.edge.to in
             let to_next : offer_is.next ≡ least.edge.to = made.next in
             longer comp least.edge.to next worth offer_is.value cell.value step rest (worth +ℤ offer_is.value) other refl
             (total ∙ ap (λ (v : ℤ). v +ℤ (step +ℤ rest)) same_worth)
-            (walked (ahead ∷ rows) least.edge.to) (walked (ahead ∷ rows) next) others
-            (λ e. ap (walked (ahead ∷ rows)) (sym e)) begins.0 begins.1
+            (path_from (ahead ∷ rows) least.edge.to) (path_from (ahead ∷ rows) next) others
+            (λ e. ap (path_from (ahead ∷ rows)) (sym e)) begins.0 begins.1
             (elim (least.least is_step.edge (record { value = step +ℤ cell.value; next = next }) is_step.there is_step.origin (step_offers comp next step cell is_step at)) [
               | inl less ↦ inl less
               | inr level ↦ inr (level.0, subst (λ (k : ℕ). k ≤ next) to_next level.1)
             ])
             (((is_ahead next (next_below comp next step is_step)).some cell at).first others rest is_rest)
 
-    pub before_is : IsFirstFrom all comp (walked (row ∷ ahead ∷ rows) comp) (worth +ℤ offer_is.value)
+    pub before_is : IsFirstFrom all comp (path_from (row ∷ ahead ∷ rows) comp) (worth +ℤ offer_is.value)
     before_is =
-        let begins = walk_begins ahead rows least.edge.to in record {
-          is = is_path (walked (ahead ∷ rows) (next_of (get_or row comp None))) begins.0 rest_walk (rest_walk ∙ begins.1);
+        let begins = path_begins ahead rows least.edge.to in record {
+          is = is_path (path_from (ahead ∷ rows) (next_of (get_or row comp None))) begins.0 rest_path (rest_path ∙ begins.1);
           first = λ others other is.
-              subst (λ (ms : List ℕ). IsNoLaterPath (worth +ℤ offer_is.value) (comp ∷ ms) other (comp ∷ others)) (sym rest_walk) (first others other is);
+              subst (λ (ms : List ℕ). IsNoLaterPath (worth +ℤ offer_is.value) (comp ∷ ms) other (comp ∷ others)) (sym rest_path) (first others other is);
         }
 
   no_worth : (comp : ℕ) → stage.worth comp ≡ None → (others : List ℕ) (other : ℤ) → IsPath all (comp ∷ others) other → ⊥
@@ -298,7 +298,7 @@ module _ (n : ℕ) (stage after : Stage) (stages : List Stage) (over : IsOver n 
     none = λ e. absurd (let none : None ≡ Some (record { value = worth +ℤ cell.value; next = cell.next }) = sym e ∙ mine in cc);
     some = λ it e.
         let same : record { value = worth +ℤ cell.value; next = cell.next } ≡ it = cell_is (record { value = worth +ℤ cell.value; next = cell.next }) it (sym mine ∙ e) in
-        subst (λ (c : Cell). IsFirstFrom all comp (walked (row ∷ ahead ∷ rows) comp) c.value) same (before_is comp below worth worth_is cell found mine);
+        subst (λ (c : Cell). IsFirstFrom all comp (path_from (row ∷ ahead ∷ rows) comp) c.value) same (before_is comp below worth worth_is cell found mine);
   }
 
 -- ---- all stages

@@ -104,9 +104,10 @@ abbrev pub next_of : Option Cell → ℕ
 next_of None = 0
 next_of (Some cell) = cell.next
 
-abbrev pub walked : List (List (Option Cell)) → ℕ → List ℕ
-walked [] comp = []
-walked (row ∷ rows) comp = comp ∷ walked rows (next_of (get_or row comp None))
+-- the path from a composition of the first row on
+abbrev pub path_from : List (List (Option Cell)) → ℕ → List ℕ
+path_from [] comp = []
+path_from (row ∷ rows) comp = comp ∷ path_from rows (next_of (get_or row comp None))
 
 -- what a cell offers to a path's begin: its value, at its own composition
 abbrev pub entered : ℕ → Option Cell → Option Cell

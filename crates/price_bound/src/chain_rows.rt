@@ -9,7 +9,7 @@ ghost use Rattle.price_bound.specs.CellRows.{offered_on, put_along, row_on};
 ghost use Rattle.price_bound.specs.CellSizes.{AreSmallCells, AreSmallOffers, IsSmallStep, most_ahead, most_edge_price};
 ghost use Rattle.price_bound.specs.CellSizes.{most_offered, most_step, most_worth};
 ghost use Rattle.price_bound.specs.ChainStages.{stage_of};
-ghost use Rattle.price_bound.specs.Paths.{begin_of, next_of, walked, with_worths};
+ghost use Rattle.price_bound.specs.Paths.{begin_of, next_of, path_from, with_worths};
 ghost use Rattle.price_bound.specs.Pricing.{ArePriced, priced_by};
 
 use crate::cells::{Cell, CellRow, offer_by};
@@ -75,10 +75,10 @@ impl ChainRows {
     }
 
     /// Gives the trips of a chain the compositions of the path that begins with one.
-    pub(crate) fn walk(&self, chain: &[TripNo], begin: CompNo, choice: &mut Picks)
+    pub(crate) fn put_path(&self, chain: &[TripNo], begin: CompNo, choice: &mut Picks)
         requires few { length chain.now ≤ length self.now }
         requires known { All (λ trip. trip < length choice.old) chain.now }
-        ensures { choice.new ≡ put_along chain.now (walked (take (length chain.now) self.now) begin) choice.old }
+        ensures { choice.new ≡ put_along chain.now (path_from (take (length chain.now) self.now) begin) choice.old }
     {
         let mut comp = begin;
         for place in 0..chain.len() {

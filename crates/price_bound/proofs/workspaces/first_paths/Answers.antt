@@ -7,11 +7,11 @@ use Rattle.price_bound.specs.CellRows.{chain_rows, put_along}
 use Rattle.price_bound.specs.CellSizes.{IsSmall}
 use Rattle.price_bound.proofs.Adding.{small_more}
 use Rattle.price_bound.specs.ChainStages.{AreFirstPaths}
-use Rattle.price_bound.specs.Paths.{begin_of, walked}
+use Rattle.price_bound.specs.Paths.{begin_of, path_from}
 use Rattle.price_bound.specs.Pricing.{priced_by}
 use Rattle.price_bound.proofs.ChainSteps.{lacks, next_first, some_trip}
 use Rattle.price_bound.proofs.Finding.{begin_small, begin_taken, chain_few, value_small}
-use Rattle.price_bound.proofs.Walking.{length-put}
+use Rattle.price_bound.proofs.PutPaths.{length-put}
 use Rattle.price_bound.proofs.workspaces.first_paths.Goals as goal
 
 pub fill-requires-clause-few : goal.fill-requires-clause-few
@@ -29,8 +29,8 @@ returns-in_default-clause-found c =
     lacks (priced_by c.args.pricing.now) c.requires.priced.graphs_are c.chains-chain-end.ensures.whole c.loop-chain.chain chain
     c.chain-trips.ensures.value none
 
-pub walk-requires-clause-few : goal.walk-requires-clause-few
-walk-requires-clause-few c =
+pub put_path-requires-clause-few : goal.put_path-requires-clause-few
+put_path-requires-clause-few c =
     omega (
       arith,
       c.fill.ensures.room.height,
@@ -71,23 +71,23 @@ loop-chain-preserved c =
     let there : begin_of c.fill.new.self ≡ Some begin = sym c.begin.ensures ∙ c.in-Some.is in
     let found : begin_of (chain_rows (priced_by c.args.pricing.now) chain) ≡ Some begin =
     ap begin_of (sym c.fill.ensures.rows) ∙ (begin_taken (length chain) c.fill.new.self some ∙ there) in
-    let walk : c.walk.new.choice ≡ put_along chain (walked (chain_rows (priced_by c.args.pricing.now) chain) begin.next) picks =
-    c.walk.ensures ∙ ap (λ (rows : List (List (Option Cell))). put_along chain (walked rows begin.next) picks) c.fill.ensures.rows in
+    let put : c.put_path.new.choice ≡ put_along chain (path_from (chain_rows (priced_by c.args.pricing.now) chain) begin.next) picks =
+    c.put_path.ensures ∙ ap (λ (rows : List (List (Option Cell))). put_along chain (path_from rows begin.next) picks) c.fill.ensures.rows in
     let first : AreFirstPaths (priced_by c.args.pricing.now) (take (suc i) (chains_of c.args.pricing.now.instance.now))
-    (put_along chain (walked (chain_rows (priced_by c.args.pricing.now) chain) begin.next) picks) (c.loop-chain.value.0 +ℤ begin.value) =
+    (put_along chain (path_from (chain_rows (priced_by c.args.pricing.now) chain) begin.next) picks) (c.loop-chain.value.0 +ℤ begin.value) =
     next_first (priced_by c.args.pricing.now) c.requires.priced.graphs_are c.chains-chain-end.ensures.whole i chain
     c.chain-trips.ensures.value picks c.loop-chain.value.0 begin (c.loop-chain.invariant.long ∙ c.requires.choice)
     c.loop-chain.invariant.first found in
     record {
       room = c.fill.ensures.room;
-      long = ap length walk ∙ (length-put chain (walked (chain_rows (priced_by c.args.pricing.now) chain) begin.next) picks
+      long = ap length put ∙ (length-put chain (path_from (chain_rows (priced_by c.args.pricing.now) chain) begin.next) picks
           ∙ c.loop-chain.invariant.long);
       first = subst (λ (k : ℕ). AreFirstPaths (priced_by c.args.pricing.now) (take k (chains_of c.args.pricing.now.instance.now))
-          c.walk.new.choice c.with_begin-value.result.0) next
+          c.put_path.new.choice c.with_begin-value.result.0) next
           (subst (λ (v : ℤ). AreFirstPaths (priced_by c.args.pricing.now) (take (suc i) (chains_of c.args.pricing.now.instance.now))
-          c.walk.new.choice v) (sym c.with_begin-value.ensures)
+          c.put_path.new.choice v) (sym c.with_begin-value.ensures)
           (subst (λ (qs : List ℕ). AreFirstPaths (priced_by c.args.pricing.now) (take (suc i) (chains_of c.args.pricing.now.instance.now))
-          qs (c.loop-chain.value.0 +ℤ begin.value)) (sym walk) first));
+          qs (c.loop-chain.value.0 +ℤ begin.value)) (sym put) first));
       small = subst (IsSmall ((i + 1) * 20000000000000000000)) (sym c.with_begin-value.ensures)
           (value_small i (length chain) (length c.args.pricing.now.instance.now.trips) c.loop-chain.value.0 begin.value
           c.loop-chain.invariant.small few most

@@ -3,9 +3,9 @@ use Rattle.std.proofs.Common.{◌≡◌, ◌≤◌, ◌<◌, ℕ, suc, ◌+◌, 
 use Rattle.std.proofs.Common.{arith, length-set}
 use Rattle.std.proofs.lemmas.List.{get_or_read}
 use Rattle.price_bound.specs.CellRows.{put_along}
-use Rattle.price_bound.specs.Paths.{walked}
+use Rattle.price_bound.specs.Paths.{path_from}
 use Rattle.price_bound.proofs.ChainCells.{one_step}
-use Rattle.price_bound.proofs.chain_rows.ChainRows.walk.Goals as goal
+use Rattle.price_bound.proofs.chain_rows.ChainRows.put_path.Goals as goal
 
 pub loop-place-preserved : goal.loop-place-preserved
 loop-place-preserved c =
@@ -18,11 +18,11 @@ loop-place-preserved c =
     let picks : c.set.new.self ≡ set c.loop-place.choice (get_or chain p 0) c.loop-place.comp =
     c.set.ensures ∙ ap (λ (t : ℕ). set c.loop-place.choice t c.loop-place.comp) trip in
     let step = one_step chain rows p c.loop-place.comp c.loop-place.choice c.loop-place-test.true c.requires.few in (
-      subst (λ (k : ℕ). put_along (drop k chain) (walked (drop k (take (length chain) rows)) c.next-comp.result) c.set.new.self
-          ≡ put_along chain (walked (take (length chain) rows) c.args.begin) c.args.choice.now) next
-          (ap (λ (comp : ℕ). put_along (drop (suc p) chain) (walked (drop (suc p) (take (length chain) rows)) comp) c.set.new.self)
+      subst (λ (k : ℕ). put_along (drop k chain) (path_from (drop k (take (length chain) rows)) c.next-comp.result) c.set.new.self
+          ≡ put_along chain (path_from (take (length chain) rows) c.args.begin) c.args.choice.now) next
+          (ap (λ (comp : ℕ). put_along (drop (suc p) chain) (path_from (drop (suc p) (take (length chain) rows)) comp) c.set.new.self)
           c.next-comp.ensures
-          ∙ (ap (put_along (drop (suc p) chain) (walked (drop (suc p) (take (length chain) rows)) _)) picks
+          ∙ (ap (put_along (drop (suc p) chain) (path_from (drop (suc p) (take (length chain) rows)) _)) picks
           ∙ (sym step ∙ c.loop-place.invariant.0))),
       ap length picks ∙ length-set c.loop-place.choice (get_or chain p 0) c.loop-place.comp ∙ c.loop-place.invariant.1,
     )

@@ -23,7 +23,7 @@ use Rattle.price_bound.specs.CellRows.{put_along}
 use Rattle.price_bound.specs.ChainStages.{Priced, along, AreFirstPaths, edges_of, may_have, stage_of, stages_of}
 use Rattle.price_bound.specs.ChainStages.{worth_of}
 use Rattle.price_bound.specs.FollowingPicks.{pick_of}
-use Rattle.price_bound.specs.Paths.{IsFirstPath, IsOver, IsPath, begin_of, rows_of, walked}
+use Rattle.price_bound.specs.Paths.{IsFirstPath, IsOver, IsPath, begin_of, rows_of, path_from}
 use Rattle.price_bound.proofs.Begins.{first_path}
 use Rattle.price_bound.proofs.Solving.{AreListed, edge_listed}
 
@@ -128,24 +128,24 @@ module _ (priced : Priced) (graphs : AreGraphs priced.day priced.graphs) where
   stages_over [] = All-nil (IsOver comps)
   stages_over (t ∷ ts) = All-cons (IsOver comps) (stage_of priced t) (stages_of priced ts) (over_link t (outgoing priced.day t) (stage_of priced t).price) (stages_over ts)
 
-  length-walk : (rows : List (List (Option Cell))) (comp : ℕ) → length (walked rows comp) ≡ length rows
-  length-walk [] comp = refl
-  length-walk (row ∷ rows) comp = ap suc (length-walk rows _)
+  length-path : (rows : List (List (Option Cell))) (comp : ℕ) → length (path_from rows comp) ≡ length rows
+  length-path [] comp = refl
+  length-path (row ∷ rows) comp = ap suc (length-path rows _)
 
   length-rows : (chain : List ℕ) → length (rows_of comps (stages_of priced chain)) ≡ length chain
   length-rows [] = refl
   length-rows (t ∷ ts) = ap suc (length-rows ts)
 
-  -- the walk of a chain, put on its trips, is its first path of least value
-  pub walk_first : (chain picks : List ℕ) (begin : Cell) → ((u : ℕ) → count_of u chain ≤ 1) → ((u : ℕ) → 1 ≤ count_of u chain → u < length picks) → 1 ≤ length chain
+  -- the path along a chain's rows, put on its trips, is its first path of least value
+  pub path_first : (chain picks : List ℕ) (begin : Cell) → ((u : ℕ) → count_of u chain ≤ 1) → ((u : ℕ) → 1 ≤ count_of u chain → u < length picks) → 1 ≤ length chain
       → begin_of (rows_of comps (stages_of priced chain)) ≡ Some begin
-      → IsFirstPath (stages_of priced chain) (along (put_along chain (walked (rows_of comps (stages_of priced chain)) begin.next) picks) chain) begin.value
-  walk_first [] picks begin once below some found = absurd (omega (arith, some))
-  walk_first (t ∷ ts) picks begin once below some found =
+      → IsFirstPath (stages_of priced chain) (along (put_along chain (path_from (rows_of comps (stages_of priced chain)) begin.next) picks) chain) begin.value
+  path_first [] picks begin once below some found = absurd (omega (arith, some))
+  path_first (t ∷ ts) picks begin once below some found =
       let rows : List (List (Option Cell)) = rows_of comps (stages_of priced (t ∷ ts)) in
-      let path : List ℕ = walked rows begin.next in
+      let path : List ℕ = path_from rows begin.next in
       subst (λ (ms : List ℕ). IsFirstPath (stages_of priced (t ∷ ts)) ms begin.value)
-      (sym (put_path (t ∷ ts) path picks (length-walk rows begin.next ∙ length-rows (t ∷ ts)) once below))
+      (sym (put_path (t ∷ ts) path picks (length-path rows begin.next ∙ length-rows (t ∷ ts)) once below))
       ((first_path comps (stage_of priced t) (stages_of priced ts) (stages_over (t ∷ ts))).some begin found)
 
   pub no_begin : (chain : List ℕ) → 1 ≤ length chain → begin_of (rows_of comps (stages_of priced chain)) ≡ None
