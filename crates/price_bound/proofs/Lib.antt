@@ -37,7 +37,7 @@ mod DayPrices
 mod Summing
 mod Crediting
 mod Costing
-mod AtHand
+mod TripAndLinkPrices
 mod Bounding
 mod ChainSteps
 mod ChainCells

@@ -90,18 +90,18 @@ module _ (day : Day) (entries : List Entry) (tables : PriceTables) (prices : Are
         (yard_small day entries (to_of day t) (ready_at day t) m (are_few day entries multipliers))
 
 -- what a turn adds, by its parts: the prices of what departs are those of what stayed and those of what came
-pub turn_is : (cost takes stay_takes came_takes from_gives gives stay_gives came_gives paid before after newly given kept whole : ℤ)
+pub turn_is : (cost takes stay_takes came_takes from_gives gives stay_gives came_gives paid before after coupled credits cost_left whole : ℤ)
     → takes ≡ stay_takes +ℤ came_takes → gives ≡ stay_gives +ℤ came_gives → paid ≡ cost → before ≡ from_gives → after ≡ gives
-    → newly ≡ came_takes -ℤ came_gives → given ≡ before -ℤ after → kept ≡ paid -ℤ given → whole ≡ kept +ℤ newly
+    → coupled ≡ came_takes -ℤ came_gives → credits ≡ before -ℤ after → cost_left ≡ paid -ℤ credits → whole ≡ cost_left +ℤ coupled
     → whole ≡ cost +ℤ (takes -ℤ stay_takes) -ℤ (from_gives -ℤ stay_gives)
-turn_is cost takes stay_takes came_takes from_gives gives stay_gives came_gives paid before after newly given kept whole
+turn_is cost takes stay_takes came_takes from_gives gives stay_gives came_gives paid before after coupled credits cost_left whole
     e f g h i j k l m = omega (arith, ints, e, f, g, h, i, j, k, l, m)
 
 -- and it is small, as they are
-pub turn_small : (cost before after newly given kept whole : ℤ) → IsSmall 1000000000000 cost → IsSmall most_units_price before
-    → IsSmall most_units_price after → IsSmall (2 * most_units_price) newly → given ≡ before -ℤ after → kept ≡ cost -ℤ given
-    → whole ≡ kept +ℤ newly → IsSmall 30000000000000000 whole
-turn_small cost before after newly given kept whole p q r s e f g = record {
+pub turn_small : (cost before after coupled credits cost_left whole : ℤ) → IsSmall 1000000000000 cost → IsSmall most_units_price before
+    → IsSmall most_units_price after → IsSmall (2 * most_units_price) coupled → credits ≡ before -ℤ after → cost_left ≡ cost -ℤ credits
+    → whole ≡ cost_left +ℤ coupled → IsSmall 30000000000000000 whole
+turn_small cost before after coupled credits cost_left whole p q r s e f g = record {
   above = omega (arith, ints, p.above, q.below, r.above, s.above, e, f, g);
   below = omega (arith, ints, p.below, q.above, r.below, s.below, e, f, g);
 }

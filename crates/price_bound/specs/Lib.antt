@@ -35,6 +35,6 @@ pub mod Credits
 pub mod Costs
 pub mod CellRows
 pub mod Pricing
-pub mod AtHand
+pub mod TripAndLinkPrices
 pub mod Rooms
 pub mod ChangedDays

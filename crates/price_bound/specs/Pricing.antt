@@ -1,4 +1,4 @@
--- What is priced, with the prices at hand.
+-- What is priced, with the tables of its costs and prices.
 use Rattle.std.specs.Prelude.{ℕ, ◌≡◌, ◌<◌, length, IfSome}
 use Rattle.transitions.specs.declared.edge.Edge.{Edge}
 use Rattle.transitions.specs.Edges.{AreGraphs}

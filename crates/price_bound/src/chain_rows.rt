@@ -3,7 +3,7 @@
 
 ghost use Rattle.std.specs.Prelude.{ℕ, ◌≡◌, ◌<◌, ◌≤◌, ◌+◌, ◌*◌, [], length, get_or, set, take, All, IfOk, Some, None};
 ghost use Rattle.timetable.specs.Compositions.{compositions_of};
-ghost use Rattle.price_bound.specs.AtHand.{IsForParts, IsForTurn};
+ghost use Rattle.price_bound.specs.TripAndLinkPrices.{IsForParts, IsForTurn};
 ghost use Rattle.price_bound.specs.CellRows.{HaveRoom, HaveRoomFor, chain_rows, comps_of, edges_offered, last_row_on};
 ghost use Rattle.price_bound.specs.CellRows.{offered_on, put_along, row_on};
 ghost use Rattle.price_bound.specs.CellSizes.{AreSmallCells, AreSmallOffers, IsSmallStep, most_ahead, most_edge_price};

@@ -2,7 +2,7 @@
 
 ghost use Rattle.std.specs.Prelude.{ℕ, ◌≡◌, ◌<◌, length, pos, IfSome, Some, option_map, slice_get};
 ghost use Rattle.timetable.specs.Compositions.{compositions_of};
-ghost use Rattle.price_bound.specs.AtHand.{IsForParts, IsSecondOf};
+ghost use Rattle.price_bound.specs.TripAndLinkPrices.{IsForParts, IsSecondOf};
 ghost use Rattle.price_bound.specs.CellSizes.{IsSmall, most_edge_price};
 ghost use Rattle.price_bound.specs.ChainStages.{price_of};
 ghost use Rattle.price_bound.specs.EdgeValues.{part_multiplier};

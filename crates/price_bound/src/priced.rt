@@ -1,4 +1,4 @@
-//! What is priced, with the prices at hand.
+//! What is priced, with the tables of its costs and prices.
 
 use crate::amounts::AmountTable;
 use crate::changes::Change;
@@ -7,8 +7,8 @@ use branch_tree::{Multipliers, Region, Weight};
 use timetable::Instance;
 use transitions::Graphs;
 
-/// What is priced: a day and its edges under changes, a region of it, multipliers and their weight; with the prices
-/// under the multipliers at hand.
+/// What is priced: a day and its edges under changes, a region of it, multipliers and their weight; with the tables of
+/// the day's costs and of the prices under the multipliers.
 #[derive(Drop)]
 pub(crate) struct Pricing<'a> {
     pub instance: &'a Instance,

@@ -5,7 +5,7 @@ ghost use Rattle.std.specs.Prelude.{slice_get};
 ghost use Rattle.timetable.specs.declared.day.records.LinkKind.TheVariants.{Turn};
 ghost use Rattle.timetable.specs.Compositions.{compositions_of, composition_at};
 ghost use Rattle.branch_tree.specs.Meanings.{weighted};
-ghost use Rattle.price_bound.specs.AtHand.{IsForTurn, IsTurnOf, newly_value};
+ghost use Rattle.price_bound.specs.TripAndLinkPrices.{IsForTurn, IsTurnOf, coupled_price_of};
 ghost use Rattle.price_bound.specs.CellSizes.{IsSmall, most_units_price, most_cost, most_edge_price};
 ghost use Rattle.price_bound.specs.ChainStages.{price_of};
 ghost use Rattle.price_bound.specs.EdgeValues.{came, coupled, shunt_cost, turn_value};
@@ -77,10 +77,10 @@ impl<'a> TurnPrices<'a> {
         let cost = self.shunt_cost(edge.shunt);
         let before = self.credit(edge.from);
         let after = self.credit(edge.to);
-        let newly = self.newly(edge);
-        let given = minus(before, after);
-        let kept = minus(cost, given);
-        plus(kept, newly)
+        let coupled_price = self.coupled_price(edge);
+        let credit_difference = minus(before, after);
+        let cost_less_credits = minus(cost, credit_difference);
+        plus(cost_less_credits, coupled_price)
     }
 
     /// What a shunt costs, under the weight.
@@ -112,10 +112,10 @@ impl<'a> TurnPrices<'a> {
 
     /// The price of the units that come with an edge, where the departing trip takes them, less their price where the
     /// arriving trip gives them.
-    fn newly(&self, edge: &Edge) -> Amount
+    fn coupled_price(&self, edge: &Edge) -> Amount
         requires is { IsForTurn self.now }
         requires edge { IsListed (length (compositions_of self.now.pricing.now.instance.now)) edge.now }
-        ensures value { result.0 ≡ newly_value self.now.pricing.now.instance.now
+        ensures value { result.0 ≡ coupled_price_of self.now.pricing.now.instance.now
             self.now.pricing.now.multipliers.now self.now.turn edge.now }
         ensures small { IsSmall (2 * most_units_price) result.0 }
     {

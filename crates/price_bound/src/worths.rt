@@ -7,7 +7,7 @@ ghost use Rattle.timetable.specs.Compositions.{compositions_of, composition_at};
 ghost use Rattle.timetable.specs.Links.{incoming, outgoing};
 ghost use Rattle.branch_tree.specs.IntSums.{int_sum};
 ghost use Rattle.branch_tree.specs.Meanings.{weighted};
-ghost use Rattle.price_bound.specs.AtHand.{IsForTrip};
+ghost use Rattle.price_bound.specs.TripAndLinkPrices.{IsForTrip};
 ghost use Rattle.price_bound.specs.CellSizes.{IsSmall, most_price, most_units_price, most_amount, most_cost};
 ghost use Rattle.price_bound.specs.CellSizes.{most_value, most_worth};
 ghost use Rattle.price_bound.specs.ChainStages.{cost_on, worth_of};
@@ -115,12 +115,12 @@ impl<'a> TripWorths<'a> {
             self.now.pricing.now.weight self.now.trip comp }
         ensures small { IsSmall most_worth result.0 }
     {
-        let taken = self.taken_at_begin(comp);
-        let given = self.given_at_end(comp);
-        let second = self.second(comp);
-        let charged = plus(cost, taken);
-        let left = minus(charged, given);
-        minus(left, second)
+        let taken_price = self.taken_at_begin(comp);
+        let given_price = self.given_at_end(comp);
+        let second_price = self.second(comp);
+        let cost_and_taken = plus(cost, taken_price);
+        let less_given = minus(cost_and_taken, given_price);
+        minus(less_given, second_price)
     }
 
     /// The price of a composition's units, where no link leads into the trip.

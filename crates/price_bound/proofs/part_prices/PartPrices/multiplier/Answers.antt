@@ -1,7 +1,7 @@
 -- The row of the link has the multipliers.
 use Rattle.std.proofs.Common.{arith, sym, subst, ◌∙◌}
 use Rattle.price_bound.specs.CellSizes.{IsSmall}
-use Rattle.price_bound.proofs.AtHand.{part_at, part_at_small, parts_long}
+use Rattle.price_bound.proofs.TripAndLinkPrices.{part_at, part_at_small, parts_long}
 use Rattle.price_bound.proofs.part_prices.PartPrices.multiplier.Goals as goal
 
 pub amount_for-requires : goal.amount_for-requires

@@ -1,7 +1,7 @@
 -- The row of the arriving trip has the credits.
 use Rattle.std.proofs.Common.{arith, sym, subst, ◌∙◌}
 use Rattle.price_bound.specs.CellSizes.{IsSmall, most_units_price}
-use Rattle.price_bound.proofs.AtHand.{credit_at, credit_small, credits_long}
+use Rattle.price_bound.proofs.TripAndLinkPrices.{credit_at, credit_small, credits_long}
 use Rattle.price_bound.proofs.turn_prices.TurnPrices.credit.Goals as goal
 
 pub amount_for-requires : goal.amount_for-requires

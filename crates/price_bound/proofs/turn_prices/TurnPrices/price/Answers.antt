@@ -8,7 +8,7 @@ use Rattle.price_bound.specs.CellSizes.{most_amount, most_cost, most_units_price
 use Rattle.price_bound.specs.EdgeValues.{came, coupled, shunt_cost, stayed, turn_value}
 use Rattle.price_bound.specs.YardPrices.{giving, taking, yard_price}
 use Rattle.price_bound.proofs.Adding.{small_difference, small_more}
-use Rattle.price_bound.proofs.AtHand.{turn_priced}
+use Rattle.price_bound.proofs.TripAndLinkPrices.{turn_priced}
 use Rattle.price_bound.proofs.Summing.{parted, turn_is, turn_small}
 use Rattle.price_bound.proofs.turn_prices.TurnPrices.price.Goals as goal
 
@@ -18,30 +18,30 @@ credit-before-requires-clause-comp c = c.requires.edge.from
 pub credit-after-requires-clause-comp : goal.credit-after-requires-clause-comp
 credit-after-requires-clause-comp c = c.requires.edge.to
 
-pub minus-given-requires-clause-amount : goal.minus-given-requires-clause-amount
-minus-given-requires-clause-amount c = small_more most_units_price most_amount c.credit-before.result.0 (omega arith) c.credit-before.ensures.small
+pub minus-credit_difference-requires-clause-amount : goal.minus-credit_difference-requires-clause-amount
+minus-credit_difference-requires-clause-amount c = small_more most_units_price most_amount c.credit-before.result.0 (omega arith) c.credit-before.ensures.small
 
-pub minus-given-requires-clause-other : goal.minus-given-requires-clause-other
-minus-given-requires-clause-other c = small_more most_units_price most_amount c.credit-after.result.0 (omega arith) c.credit-after.ensures.small
+pub minus-credit_difference-requires-clause-other : goal.minus-credit_difference-requires-clause-other
+minus-credit_difference-requires-clause-other c = small_more most_units_price most_amount c.credit-after.result.0 (omega arith) c.credit-after.ensures.small
 
-pub minus-kept-requires-clause-amount : goal.minus-kept-requires-clause-amount
-minus-kept-requires-clause-amount c = small_more most_cost most_amount c.shunt_cost-cost.result.0 (omega arith) c.shunt_cost-cost.ensures.small
+pub minus-cost_less_credits-requires-clause-amount : goal.minus-cost_less_credits-requires-clause-amount
+minus-cost_less_credits-requires-clause-amount c = small_more most_cost most_amount c.shunt_cost-cost.result.0 (omega arith) c.shunt_cost-cost.ensures.small
 
-pub minus-kept-requires-clause-other : goal.minus-kept-requires-clause-other
-minus-kept-requires-clause-other c =
-    small_difference most_units_price most_units_price most_amount c.credit-before.result.0 c.credit-after.result.0 c.minus-given.result.0
-    (omega arith) c.minus-given.ensures c.credit-before.ensures.small c.credit-after.ensures.small
+pub minus-cost_less_credits-requires-clause-other : goal.minus-cost_less_credits-requires-clause-other
+minus-cost_less_credits-requires-clause-other c =
+    small_difference most_units_price most_units_price most_amount c.credit-before.result.0 c.credit-after.result.0 c.minus-credit_difference.result.0
+    (omega arith) c.minus-credit_difference.ensures c.credit-before.ensures.small c.credit-after.ensures.small
 
 pub plus-requires-clause-amount : goal.plus-requires-clause-amount
 plus-requires-clause-amount c =
-    small_difference most_cost (2 * most_units_price) most_amount c.shunt_cost-cost.result.0 c.minus-given.result.0 c.minus-kept.result.0
-    (omega arith) c.minus-kept.ensures c.shunt_cost-cost.ensures.small
+    small_difference most_cost (2 * most_units_price) most_amount c.shunt_cost-cost.result.0 c.minus-credit_difference.result.0 c.minus-cost_less_credits.result.0
+    (omega arith) c.minus-cost_less_credits.ensures c.shunt_cost-cost.ensures.small
     (small_difference most_units_price most_units_price (2 * most_units_price) c.credit-before.result.0 c.credit-after.result.0
-    c.minus-given.result.0 (omega arith) c.minus-given.ensures c.credit-before.ensures.small c.credit-after.ensures.small)
+    c.minus-credit_difference.result.0 (omega arith) c.minus-credit_difference.ensures c.credit-before.ensures.small c.credit-after.ensures.small)
 
 pub plus-requires-clause-more : goal.plus-requires-clause-more
 plus-requires-clause-more c =
-    small_more (2 * most_units_price) most_amount c.newly-newly.result.0 (omega arith) c.newly-newly.ensures.small
+    small_more (2 * most_units_price) most_amount c.coupled_price-coupled_price.result.0 (omega arith) c.coupled_price-coupled_price.ensures.small
 
 pub returns-clause-value : goal.returns-clause-value
 returns-clause-value c =
@@ -52,22 +52,22 @@ returns-clause-value c =
     let units : ℕ = coupled c.args.edge.now.shunt in
     let after : List ℕ = composition_at day c.args.edge.now.to in
     let stays : List ℕ = stayed c.args.self.now.turn.couple units after in
-    let newly : List ℕ = came c.args.self.now.turn.couple units after in
+    let coming : List ℕ = came c.args.self.now.turn.couple units after in
     let take : List ℕ → ℤ = taking day entries departing in
     let give : List ℕ → ℤ = giving day entries arriving in
     let value : c.plus.result.0
     ≡ turn_value day entries c.args.self.now.pricing.now.weight arriving departing c.args.self.now.turn.couple c.args.edge.now =
-    turn_is (weighted c.args.self.now.pricing.now.weight (pos (shunt_cost day c.args.edge.now.shunt))) (take after) (take stays) (take newly)
-    (give (composition_at day c.args.edge.now.from)) (give after) (give stays) (give newly) c.shunt_cost-cost.result.0
-    c.credit-before.result.0 c.credit-after.result.0 c.newly-newly.result.0 c.minus-given.result.0 c.minus-kept.result.0 c.plus.result.0
+    turn_is (weighted c.args.self.now.pricing.now.weight (pos (shunt_cost day c.args.edge.now.shunt))) (take after) (take stays) (take coming)
+    (give (composition_at day c.args.edge.now.from)) (give after) (give stays) (give coming) c.shunt_cost-cost.result.0
+    c.credit-before.result.0 c.credit-after.result.0 c.coupled_price-coupled_price.result.0 c.minus-credit_difference.result.0 c.minus-cost_less_credits.result.0 c.plus.result.0
     (parted (yard_price day entries (from_of day departing) (leaves day departing)) c.args.self.now.turn.couple units after)
     (parted (yard_price day entries (to_of day arriving) (ready_at day arriving)) c.args.self.now.turn.couple units after)
-    c.shunt_cost-cost.ensures.value c.credit-before.ensures.value c.credit-after.ensures.value c.newly-newly.ensures.value
-    c.minus-given.ensures c.minus-kept.ensures c.plus.ensures in
+    c.shunt_cost-cost.ensures.value c.credit-before.ensures.value c.credit-after.ensures.value c.coupled_price-coupled_price.ensures.value
+    c.minus-credit_difference.ensures c.minus-cost_less_credits.ensures c.plus.ensures in
     ap (λ (z : ℤ). Some z) value ∙ sym (turn_priced c.args.self.now c.requires.is c.args.edge.now)
 
 pub returns-clause-small : goal.returns-clause-small
 returns-clause-small c =
-    turn_small c.shunt_cost-cost.result.0 c.credit-before.result.0 c.credit-after.result.0 c.newly-newly.result.0
-    c.minus-given.result.0 c.minus-kept.result.0 c.plus.result.0 c.shunt_cost-cost.ensures.small c.credit-before.ensures.small
-    c.credit-after.ensures.small c.newly-newly.ensures.small c.minus-given.ensures c.minus-kept.ensures c.plus.ensures
+    turn_small c.shunt_cost-cost.result.0 c.credit-before.result.0 c.credit-after.result.0 c.coupled_price-coupled_price.result.0
+    c.minus-credit_difference.result.0 c.minus-cost_less_credits.result.0 c.plus.result.0 c.shunt_cost-cost.ensures.small c.credit-before.ensures.small
+    c.credit-after.ensures.small c.coupled_price-coupled_price.ensures.small c.minus-credit_difference.ensures c.minus-cost_less_credits.ensures c.plus.ensures

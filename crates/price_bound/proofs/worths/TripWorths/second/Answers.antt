@@ -1,7 +1,7 @@
 -- The row of the trip has the multipliers.
 use Rattle.std.proofs.Common.{arith, sym, subst, ◌∙◌}
 use Rattle.price_bound.specs.CellSizes.{IsSmall, most_price}
-use Rattle.price_bound.proofs.AtHand.{second_at, second_at_small, seconds_long}
+use Rattle.price_bound.proofs.TripAndLinkPrices.{second_at, second_at_small, seconds_long}
 use Rattle.price_bound.proofs.worths.TripWorths.second.Goals as goal
 
 pub amount_for-requires : goal.amount_for-requires

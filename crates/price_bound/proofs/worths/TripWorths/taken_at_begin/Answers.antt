@@ -6,7 +6,7 @@ use Rattle.timetable.specs.Day.{Day}
 use Rattle.timetable.specs.Links.{incoming}
 use Rattle.branch_tree.specs.declared.multipliers.Entry.{Entry}
 use Rattle.price_bound.specs.YardPrices.{taking}
-use Rattle.price_bound.proofs.AtHand.{taken_at, takes_row_small}
+use Rattle.price_bound.proofs.TripAndLinkPrices.{taken_at, takes_row_small}
 use Rattle.price_bound.proofs.worths.TripWorths.taken_at_begin.Goals as goal
 
 pub sum_in-requires-clause-small : goal.sum_in-requires-clause-small

@@ -6,51 +6,51 @@ use Rattle.price_bound.specs.Regrouped.{trip_value}
 use Rattle.price_bound.proofs.Adding.{small_difference, small_more, small_total}
 use Rattle.price_bound.proofs.worths.TripWorths.trip_value.Goals as goal
 
-trip_is : (cost take give second paid taken given seconds charged left whole : ℤ) → paid ≡ cost → taken ≡ take → given ≡ give
-    → seconds ≡ second → charged ≡ paid +ℤ taken → left ≡ charged -ℤ given → whole ≡ left -ℤ seconds
+trip_is : (cost take give second paid taken given seconds cost_and_taken less_given whole : ℤ) → paid ≡ cost → taken ≡ take → given ≡ give
+    → seconds ≡ second → cost_and_taken ≡ paid +ℤ taken → less_given ≡ cost_and_taken -ℤ given → whole ≡ less_given -ℤ seconds
     → whole ≡ cost +ℤ take -ℤ give -ℤ second
-trip_is cost take give second paid taken given seconds charged left whole e f g h i j k = omega (arith, ints, e, f, g, h, i, j, k)
+trip_is cost take give second paid taken given seconds cost_and_taken less_given whole e f g h i j k = omega (arith, ints, e, f, g, h, i, j, k)
 
-pub plus-charged-requires-clause-amount : goal.plus-charged-requires-clause-amount
-plus-charged-requires-clause-amount c = small_more most_cost most_amount c.args.cost.0 (omega arith) c.requires.few
+pub plus-cost_and_taken-requires-clause-amount : goal.plus-cost_and_taken-requires-clause-amount
+plus-cost_and_taken-requires-clause-amount c = small_more most_cost most_amount c.args.cost.0 (omega arith) c.requires.few
 
-pub plus-charged-requires-clause-more : goal.plus-charged-requires-clause-more
-plus-charged-requires-clause-more c =
-    small_more most_units_price most_amount c.taken_at_begin-taken.result.0 (omega arith) c.taken_at_begin-taken.ensures.small
+pub plus-cost_and_taken-requires-clause-more : goal.plus-cost_and_taken-requires-clause-more
+plus-cost_and_taken-requires-clause-more c =
+    small_more most_units_price most_amount c.taken_at_begin-taken_price.result.0 (omega arith) c.taken_at_begin-taken_price.ensures.small
 
-pub minus-left-requires-clause-amount : goal.minus-left-requires-clause-amount
-minus-left-requires-clause-amount c =
-    small_total most_cost most_units_price most_amount c.args.cost.0 c.taken_at_begin-taken.result.0 c.plus-charged.result.0 (omega arith)
-    c.plus-charged.ensures c.requires.few c.taken_at_begin-taken.ensures.small
+pub minus-less_given-requires-clause-amount : goal.minus-less_given-requires-clause-amount
+minus-less_given-requires-clause-amount c =
+    small_total most_cost most_units_price most_amount c.args.cost.0 c.taken_at_begin-taken_price.result.0 c.plus-cost_and_taken.result.0 (omega arith)
+    c.plus-cost_and_taken.ensures c.requires.few c.taken_at_begin-taken_price.ensures.small
 
-pub minus-left-requires-clause-other : goal.minus-left-requires-clause-other
-minus-left-requires-clause-other c =
-    small_more most_units_price most_amount c.given_at_end-given.result.0 (omega arith) c.given_at_end-given.ensures.small
+pub minus-less_given-requires-clause-other : goal.minus-less_given-requires-clause-other
+minus-less_given-requires-clause-other c =
+    small_more most_units_price most_amount c.given_at_end-given_price.result.0 (omega arith) c.given_at_end-given_price.ensures.small
 
 pub minus-requires-clause-amount : goal.minus-requires-clause-amount
 minus-requires-clause-amount c =
-    small_difference (most_cost + most_units_price) most_units_price most_amount c.plus-charged.result.0 c.given_at_end-given.result.0
-    c.minus-left.result.0 (omega arith) c.minus-left.ensures
-    (small_total most_cost most_units_price (most_cost + most_units_price) c.args.cost.0 c.taken_at_begin-taken.result.0
-    c.plus-charged.result.0 (omega arith) c.plus-charged.ensures c.requires.few c.taken_at_begin-taken.ensures.small)
-    c.given_at_end-given.ensures.small
+    small_difference (most_cost + most_units_price) most_units_price most_amount c.plus-cost_and_taken.result.0 c.given_at_end-given_price.result.0
+    c.minus-less_given.result.0 (omega arith) c.minus-less_given.ensures
+    (small_total most_cost most_units_price (most_cost + most_units_price) c.args.cost.0 c.taken_at_begin-taken_price.result.0
+    c.plus-cost_and_taken.result.0 (omega arith) c.plus-cost_and_taken.ensures c.requires.few c.taken_at_begin-taken_price.ensures.small)
+    c.given_at_end-given_price.ensures.small
 
 pub minus-requires-clause-other : goal.minus-requires-clause-other
-minus-requires-clause-other c = small_more most_price most_amount c.second-second.result.0 (omega arith) c.second-second.ensures.small
+minus-requires-clause-other c = small_more most_price most_amount c.second-second_price.result.0 (omega arith) c.second-second_price.ensures.small
 
 pub returns-clause-value : goal.returns-clause-value
 unfolding trip_value
 returns-clause-value c =
-    trip_is _ _ _ _ c.args.cost.0 c.taken_at_begin-taken.result.0 c.given_at_end-given.result.0 c.second-second.result.0
-    c.plus-charged.result.0 c.minus-left.result.0 c.minus.result.0 c.requires.cost c.taken_at_begin-taken.ensures.value
-    c.given_at_end-given.ensures.value c.second-second.ensures.value c.plus-charged.ensures c.minus-left.ensures c.minus.ensures
+    trip_is _ _ _ _ c.args.cost.0 c.taken_at_begin-taken_price.result.0 c.given_at_end-given_price.result.0 c.second-second_price.result.0
+    c.plus-cost_and_taken.result.0 c.minus-less_given.result.0 c.minus.result.0 c.requires.cost c.taken_at_begin-taken_price.ensures.value
+    c.given_at_end-given_price.ensures.value c.second-second_price.ensures.value c.plus-cost_and_taken.ensures c.minus-less_given.ensures c.minus.ensures
 
 pub returns-clause-small : goal.returns-clause-small
 returns-clause-small c =
-    small_difference (most_cost + most_units_price + most_units_price) most_price most_worth c.minus-left.result.0 c.second-second.result.0
+    small_difference (most_cost + most_units_price + most_units_price) most_price most_worth c.minus-less_given.result.0 c.second-second_price.result.0
     c.minus.result.0 (omega arith) c.minus.ensures
     (small_difference (most_cost + most_units_price) most_units_price (most_cost + most_units_price + most_units_price)
-    c.plus-charged.result.0 c.given_at_end-given.result.0 c.minus-left.result.0 (omega arith) c.minus-left.ensures
-    (small_total most_cost most_units_price (most_cost + most_units_price) c.args.cost.0 c.taken_at_begin-taken.result.0
-    c.plus-charged.result.0 (omega arith) c.plus-charged.ensures c.requires.few c.taken_at_begin-taken.ensures.small)
-    c.given_at_end-given.ensures.small) c.second-second.ensures.small
+    c.plus-cost_and_taken.result.0 c.given_at_end-given_price.result.0 c.minus-less_given.result.0 (omega arith) c.minus-less_given.ensures
+    (small_total most_cost most_units_price (most_cost + most_units_price) c.args.cost.0 c.taken_at_begin-taken_price.result.0
+    c.plus-cost_and_taken.result.0 (omega arith) c.plus-cost_and_taken.ensures c.requires.few c.taken_at_begin-taken_price.ensures.small)
+    c.given_at_end-given_price.ensures.small) c.second-second_price.ensures.small

@@ -10,9 +10,9 @@ use Rattle.price_bound.specs.CellSizes.{most_amount, most_units_price}
 use Rattle.price_bound.specs.EdgeValues.{came, coupled}
 use Rattle.price_bound.specs.YardPrices.{giving, taking}
 use Rattle.price_bound.proofs.Adding.{small_difference, small_more}
-use Rattle.price_bound.proofs.AtHand.{given_at, gives_row_long, gives_row_small, taken_at, takes_row_long, takes_row_small}
+use Rattle.price_bound.proofs.TripAndLinkPrices.{given_at, gives_row_long, gives_row_small, taken_at, takes_row_long, takes_row_small}
 use Rattle.price_bound.proofs.Summing.{came_below, came_few, none_came}
-use Rattle.price_bound.proofs.turn_prices.TurnPrices.newly.Goals as goal
+use Rattle.price_bound.proofs.turn_prices.TurnPrices.coupled_price.Goals as goal
 
 known_came : (end : End) (units : ℕ) (ms new : List ℕ) (n : ℕ) → new ≡ came end units ms → All (λ m. m < n) ms → All (λ m. m < n) new
 known_came end units ms new n is known = subst (All (λ (m : ℕ). m < n)) (sym is) (came_below n end units ms known)

@@ -20,7 +20,7 @@ use Rattle.price_bound.specs.EdgeValues.{came, coupled}
 use Rattle.price_bound.specs.Pricing.{ArePriced}
 use Rattle.price_bound.specs.YardPrices.{giving, taking}
 
--- what is at hand is that of the trip
+-- the amounts are those of the trip
 pub record IsForTrip (worths : TripWorths) : Type 0 where
   pub priced : ArePriced worths.pricing.now
   pub known : worths.trip < length worths.pricing.now.instance.now.trips
@@ -43,7 +43,7 @@ pub record IsTurnOf (day : Day) (l : ℕ) (turn : TurnTrips) : Type 0 where
   pub arriving : turn.arriving < length day.trips
   pub departing : turn.departing < length day.trips
 
--- what is at hand is that of the turn
+-- the amounts are those of the turn
 pub record IsForTurn (prices : TurnPrices) : Type 0 where
   pub priced : ArePriced prices.pricing.now
   pub known : prices.link < length prices.pricing.now.instance.now.links
@@ -57,8 +57,8 @@ pub record IsForTurn (prices : TurnPrices) : Type 0 where
 
 -- the price of the units that come with an edge of a turn, where they are taken, less their price where they would be
 -- given
-abbrev pub newly_value : Day → List Entry → TurnTrips → Edge → ℤ
-newly_value day entries turn edge =
+abbrev pub coupled_price_of : Day → List Entry → TurnTrips → Edge → ℤ
+coupled_price_of day entries turn edge =
     taking day entries turn.departing (came turn.couple (coupled edge.shunt) (composition_at day edge.to))
     -ℤ giving day entries turn.arriving (came turn.couple (coupled edge.shunt) (composition_at day edge.to))
 
@@ -69,7 +69,7 @@ pub record IsSecondOf (day : Day) (l t : ℕ) : Type 0 where
   pub is : second_of link.kind ≡ Some t
   pub known : t < length day.trips
 
--- what is at hand is that of the join or the split
+-- the amounts are those of the join or the split
 pub record IsForParts (prices : PartPrices) : Type 0 where
   pub priced : ArePriced prices.pricing.now
   pub known : prices.link < length prices.pricing.now.instance.now.links
