@@ -11,7 +11,7 @@ pub fn plans_are_served()
     ensures law { PlansAreServed }
 {}
 
-/// A yard that is not short of units of a type at the minutes at which trips leave its station, is short of them at no
+/// A yard that is not short of units of a type at the minutes at which trips leave its station is short of them at no
 /// minute.
 pub fn departures_are_enough()
     ensures law { DeparturesAreEnough }

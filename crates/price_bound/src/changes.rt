@@ -16,7 +16,7 @@ pub struct Change {
     pub trip: TripNo,
     /// The composition with which nothing is added.
     pub base: CompNo,
-    /// What is added with another one.
+    /// What is added with another one, in the unit of the weights; at most 1,000,000.
     pub cost: u32,
 }
 

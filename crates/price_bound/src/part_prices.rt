@@ -18,7 +18,9 @@ use transitions::Edge;
 /// What the edges of a join or a split are priced: what is the same for each of them is found once.
 #[derive(Drop)]
 pub(crate) struct PartPrices<'a> {
+    /// What is priced.
     pub pricing: &'a Pricing<'a>,
+    /// The join or the split.
     pub link: LinkNo,
     /// The compositions that the region has for the second trip.
     pub set: &'a CompositionSet,

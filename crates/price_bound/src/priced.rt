@@ -11,14 +11,21 @@ use transitions::Graphs;
 /// the day's costs and of the prices under the multipliers.
 #[derive(Drop)]
 pub(crate) struct Pricing<'a> {
+    /// The day.
     pub instance: &'a Instance,
+    /// The edges of each link of the day.
     pub graphs: &'a Graphs,
+    /// What compositions of trips cost more than their bases.
     pub changes: &'a [Change],
+    /// The multipliers under which prices are.
     pub multipliers: &'a Multipliers,
+    /// Whether costs count.
     pub weight: Weight,
+    /// The compositions that each trip may have.
     pub region: &'a Region,
     /// What each trip costs with each composition.
     pub costs: &'a AmountTable,
+    /// The prices under the multipliers, by trip, link and yard.
     pub tables: &'a PriceTables,
     /// The price of each composition's units, where a trip gives them.
     pub credits: &'a AmountTable,

@@ -23,16 +23,22 @@ use transitions::{Edge, Shunt};
 /// The trips of a turn, and the end at which it couples.
 #[derive(Clone, Copy)]
 pub(crate) struct TurnTrips {
+    /// The trip whose train arrives.
     pub arriving: TripNo,
+    /// The trip whose train departs.
     pub departing: TripNo,
+    /// The end of the departing train at which units are coupled.
     pub couple: End,
 }
 
 /// What the edges of a turn are priced: what is the same for each of them is found once.
 #[derive(Drop)]
 pub(crate) struct TurnPrices<'a> {
+    /// What is priced.
     pub pricing: &'a Pricing<'a>,
+    /// The link, which is a turn.
     pub link: LinkNo,
+    /// The trips of the turn.
     pub turn: TurnTrips,
     /// What shunting costs, under the weight.
     pub shunting: Amount,

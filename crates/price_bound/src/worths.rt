@@ -32,7 +32,9 @@ pub(crate) struct Amount(pub i64);
 /// What compositions are worth on a trip: what is the same for each of them is found once.
 #[derive(Drop)]
 pub(crate) struct TripWorths<'a> {
+    /// What is priced.
     pub pricing: &'a Pricing<'a>,
+    /// The trip.
     pub trip: TripNo,
     /// The compositions that the region has for the trip.
     pub set: &'a CompositionSet,
