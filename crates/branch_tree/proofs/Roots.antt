@@ -1,20 +1,18 @@
 -- The region of a day: it has a composition for each trip, and every solution lies in it.
-use Rattle.std.proofs.Common.{◌≡◌, ℕ, ◌<◌, ◌≤◌, List, [], map, length, get_or, slice_get, Some, Option, unwrap_or, Bool}
-use Rattle.std.proofs.Common.{true, sym, ◌∙◌, ap, arith}
+use Rattle.std.proofs.Common.{◌≡◌, ℕ, ◌<◌, List, [], length, get_or, Option, unwrap_or, Bool, sym, ◌∙◌, ap, arith}
 use Rattle.std.specs.Prelude.{option_map}
 use Rattle.std.proofs.lemmas.List.FromFn.{length-map-range_with_len, get_or-map-range_with_len}
 use Rattle.std.proofs.lemmas.Option.{slice_get-get_or, slice_get-map}
 use Rattle.rail_base.specs.declared.limits.TheConstants.{MOST_COMPOSITIONS}
-use Rattle.timetable.specs.Accepted.{HaveCompositions}
 use Rattle.timetable.specs.Admissible.{is_admissible}
 use Rattle.timetable.specs.Compositions.{compositions_of, composition_at}
-use Rattle.timetable.specs.Day.{Day, types_of}
+use Rattle.timetable.specs.Day.{Day}
 use Rattle.timetable.specs.Links.{list_of}
-use Rattle.timetable.specs.Picks.{IsSolution, picked}
+use Rattle.timetable.specs.Picks.{picked}
 use Rattle.timetable.proofs.AdmittedTypes.{CompositionOf, composition_of}
 use Rattle.timetable.proofs.ListedUnits.{list_of-types}
 use Rattle.branch_tree.specs.Laws.{RootsAreFilled, SolutionsLieInRoots}
-use Rattle.branch_tree.specs.Regions.{has, root_of}
+use Rattle.branch_tree.specs.Regions.{root_of}
 use Rattle.branch_tree.specs.Sets.{is_member, set_of}
 use Rattle.branch_tree.proofs.Lying.{each_in}
 use Rattle.branch_tree.proofs.Members.{is_member-tested}

@@ -17,8 +17,8 @@ use Rattle.inventory.specs.Places.{going_on, given_places, kept_places, taken_pl
 use Rattle.inventory.proofs.Sums.{one, one_same, one_other, sum_same}
 use Rattle.inventory.proofs.Order.{InLine, in_list, duty_in_line, count_of-in_order, count_below_in, count_below_out}
 use Rattle.inventory.proofs.Order.{leaves_before, not_itself}
-use Rattle.inventory.proofs.Linked.{Goes, LeadsInto, AllHold, goes, going_leads_into, leads_into, coming_from, coming_has}
-use Rattle.inventory.proofs.Linked.{places_share, come_is, taken_is, given_is, kept_is}
+use Rattle.inventory.proofs.Linked.{Goes, LeadsInto, AllHold, goes, going_leads_into, leads_into, coming_from}
+use Rattle.inventory.proofs.Linked.{coming_has, places_share, come_is, taken_is, given_is, kept_is}
 use Rattle.inventory.proofs.Standing.{not_given, going_less}
 use Rattle.inventory.proofs.Yards.{list_sum, list_sum_below, cond_zero}
 

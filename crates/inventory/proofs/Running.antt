@@ -21,8 +21,8 @@ use Rattle.inventory.specs.Places.{going_on, given_places, kept_places, taken_pl
 use Rattle.inventory.proofs.Sums.{sum_same}
 use Rattle.inventory.proofs.Order.{in_list, AreInTurn, is_strict, not_itself, leaves_before, filter_in_order, is_there}
 use Rattle.inventory.proofs.Order.{is_trip, latest_in_turn}
-use Rattle.inventory.proofs.Linked.{Goes, AllHold, goes, leads_into, going_leads_into, coming_from, coming_has, places_share}
-use Rattle.inventory.proofs.Linked.{kept_is, given_is, taken_is, rule_back}
+use Rattle.inventory.proofs.Linked.{Goes, AllHold, goes, leads_into, going_leads_into, coming_from, coming_has}
+use Rattle.inventory.proofs.Linked.{places_share, kept_is, given_is, taken_is, rule_back}
 use Rattle.inventory.proofs.Standing.{AreRight, latest, latest_some, stands_after, after_none, after_some, standing_is}
 use Rattle.inventory.proofs.Standing.{right_of, go_on, leads_before, le_has}
 use Rattle.inventory.proofs.Yards.{tally, yard_count, and_true}

@@ -1,7 +1,6 @@
 -- A day is priced as it is regrouped, with its changes.
 use Rattle.std.proofs.Common.{◌≡◌, ℕ, ◌+◌, ◌<◌, List, length, refl, sym, ap, ◌∙◌, arith, pos, ◌+ℤ◌, ◌*ℤ◌}
 use Rattle.timetable.specs.Accepted.{AreLinks}
-use Rattle.timetable.specs.Compositions.{composition_at}
 use Rattle.timetable.specs.Cost.{cost_of, link_cost, trip_cost}
 use Rattle.timetable.specs.Links.{list_of}
 use Rattle.timetable.specs.Lists.{sum_below}

@@ -8,7 +8,7 @@ use Rattle.timetable.specs.Compositions.{compositions_of, composition_at}
 use Rattle.timetable.specs.Cost.{cost_of, plan_cost}
 use Rattle.timetable.specs.Day.{Day, types_of}
 use Rattle.timetable.specs.Links.{list_of}
-use Rattle.timetable.specs.Picks.{ArePicks, IsSolution, picked}
+use Rattle.timetable.specs.Picks.{IsSolution, picked}
 use Rattle.timetable.specs.Running.{Runs}
 use Rattle.timetable.proofs.AdmittedTypes.{CompositionOf, composition_of}
 use Rattle.branch_tree.specs.declared.relaxation.Weight.TheVariants.{Cost}
@@ -19,7 +19,7 @@ use Rattle.branch_tree.proofs.Duality.{solutions_are_priced_low}
 use Rattle.branch_tree.proofs.Roots.{solutions_lie_in_roots}
 use Rattle.price_bound.specs.DayMeanings.{meanings_of}
 use Rattle.price_bound.specs.PlanBounds.{PlansCostAtLeast, NoPlanRuns, SolutionsBoundPlans, NoSolutionsNoPlans}
-use Rattle.price_bound.specs.PlanBounds.{IsPickedBy, PlansHavePicks, PlansArePricedLow}
+use Rattle.price_bound.specs.PlanBounds.{PlansHavePicks, PlansArePricedLow}
 use Rattle.price_bound.proofs.Solving.{list_read}
 use Rattle.price_bound.proofs.Whole.{relaxes}
 

@@ -1,6 +1,6 @@
 -- The problem is a relaxation of its solutions where there is a composition.
-use Rattle.std.proofs.Common.{◌≡◌, ℕ, zero, suc, ◌<◌, List, [], ◌∷◌, length, Bool, true, false, IsTrue, nat_lt, ltb}
-use Rattle.std.proofs.Common.{eqb, if◌then◌else◌, ℤ, pos, ◌*ℤ◌, ◌≤ℤ◌, ◌<ℤ◌, inl, refl, sym, ap, arith}
+use Rattle.std.proofs.Common.{◌≡◌, ℕ, zero, suc, ◌<◌, List, [], ◌∷◌, length, Bool, true, false, nat_lt, ltb, eqb}
+use Rattle.std.proofs.Common.{if◌then◌else◌, ℤ, pos, ◌*ℤ◌, ◌≤ℤ◌, ◌<ℤ◌, inl, refl, ap, arith}
 use Rattle.std.proofs.lemmas.Bool.{ltb-true, ne_eqb, false_from_ne_true}
 use Rattle.std.proofs.lemmas.Int.{ints}
 use Rattle.timetable.specs.Lists.{count_of}

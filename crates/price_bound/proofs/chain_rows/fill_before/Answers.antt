@@ -1,5 +1,5 @@
 -- The row has no cell, then those that are offered, and then their worth.
-use Rattle.std.proofs.Common.{◌≡◌, ◌≤◌, ℕ, ◌+◌, List, Option, None, length, replicate, sym, ap, ◌∙◌, subst, arith}
+use Rattle.std.proofs.Common.{ℕ, ◌+◌, Option, None, length, replicate, sym, ap, ◌∙◌, subst, arith}
 use Rattle.std.proofs.lemmas.List.{length-replicate}
 use Rattle.timetable.specs.Links.{outgoing}
 use Rattle.price_bound.specs.declared.cells.Cell.{Cell}

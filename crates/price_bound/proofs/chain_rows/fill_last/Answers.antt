@@ -1,7 +1,6 @@
 -- The row has a cell of value 0 for each composition, and then its worth.
-use Rattle.std.proofs.Common.{◌≡◌, ℕ, List, Option, Some, length, replicate, pos, sym, ap, ◌∙◌, subst}
+use Rattle.std.proofs.Common.{ℕ, Option, Some, length, replicate, pos, sym, ap, ◌∙◌, subst}
 use Rattle.price_bound.specs.declared.cells.Cell.{Cell}
-use Rattle.price_bound.specs.CellRows.{comps_of}
 use Rattle.price_bound.specs.CellSizes.{AreSmallCells}
 use Rattle.price_bound.specs.ChainStages.{stage_of}
 use Rattle.price_bound.specs.Paths.{with_worths}

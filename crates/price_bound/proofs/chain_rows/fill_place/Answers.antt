@@ -1,9 +1,8 @@
 -- The row at the place, before the row behind it.
-use Rattle.std.proofs.Common.{◌≡◌, ◌<◌, ◌≤◌, ◌+◌, ◌++◌, ℕ, [], List, Option, length, get_or, set, sym, ap, ◌∙◌, subst}
-use Rattle.std.proofs.Common.{arith}
+use Rattle.std.proofs.Common.{◌≡◌, ◌<◌, ◌+◌, ◌++◌, [], List, Option, length, get_or, set, sym, ap, ◌∙◌, subst, arith}
 use Rattle.std.proofs.lemmas.List.{get_or-set_same}
 use Rattle.price_bound.specs.declared.cells.Cell.{Cell}
-use Rattle.price_bound.specs.CellRows.{HaveRoom, HaveRoomFor, comps_of, row_on}
+use Rattle.price_bound.specs.CellRows.{HaveRoomFor, comps_of, row_on}
 use Rattle.price_bound.specs.CellSizes.{AreSmallCells}
 use Rattle.price_bound.specs.ChainStages.{stage_of}
 use Rattle.price_bound.specs.Pricing.{priced_by}

@@ -1,9 +1,8 @@
 -- The last row, and then one row more before the others.
-use Rattle.std.proofs.Common.{◌≡◌, ◌<◌, ◌≤◌, ◌+◌, ◌-◌, ◌*◌, ℕ, suc, [], List, Option, length, drop, get_or, set, sym}
-use Rattle.std.proofs.Common.{ap, ◌∙◌, subst, arith, refl, length-drop}
+use Rattle.std.proofs.Common.{◌≡◌, ◌<◌, ◌≤◌, ◌+◌, ◌-◌, ◌*◌, ℕ, suc, [], List, length, drop, get_or, set, sym, ap, ◌∙◌}
+use Rattle.std.proofs.Common.{subst, arith, length-drop}
 use Rattle.std.proofs.lemmas.List.{get_or-set_same, get_or_read}
-use Rattle.price_bound.specs.declared.cells.Cell.{Cell}
-use Rattle.price_bound.specs.CellRows.{HaveRoomFor, comps_of, last_row_on, row_on}
+use Rattle.price_bound.specs.CellRows.{comps_of, last_row_on, row_on}
 use Rattle.price_bound.specs.CellSizes.{AreSmallCells}
 use Rattle.price_bound.specs.ChainStages.{stage_of}
 use Rattle.price_bound.specs.Pricing.{priced_by}

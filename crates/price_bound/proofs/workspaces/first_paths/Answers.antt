@@ -1,6 +1,6 @@
 -- One chain more has its first path, or there is none.
-use Rattle.std.proofs.Common.{◌≡◌, ℕ, suc, ◌+◌, ◌*◌, ◌<◌, ◌≤◌, List, Option, Some, None, length, get_or, take, ℤ, pos}
-use Rattle.std.proofs.Common.{◌+ℤ◌, ap, sym, subst, arith, ◌∙◌}
+use Rattle.std.proofs.Common.{◌≡◌, ℕ, suc, ◌+◌, ◌*◌, ◌≤◌, List, Option, Some, None, length, take, ℤ, ◌+ℤ◌, ap, sym}
+use Rattle.std.proofs.Common.{subst, arith, ◌∙◌}
 use Rattle.timetable.specs.Chains.{chains_of}
 use Rattle.price_bound.specs.declared.cells.Cell.{Cell}
 use Rattle.price_bound.specs.CellRows.{chain_rows, put_along}

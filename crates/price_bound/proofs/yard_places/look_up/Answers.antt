@@ -1,9 +1,7 @@
 -- One trip more looks.
-use Rattle.std.proofs.Common.{◌≡◌, ◌<◌, ◌≤◌, ◌+◌, ◌++◌, ◌∷◌, ℕ, ℤ, List, [], length, get_or, set, map, take, drop, ap}
-use Rattle.std.proofs.Common.{sym}
-use Rattle.std.proofs.Common.{subst, arith, pos, ◌∙◌, length-set, append_assoc}
+use Rattle.std.proofs.Common.{◌≡◌, ◌<◌, ◌+◌, ◌++◌, ◌∷◌, ℕ, ℤ, List, [], length, get_or, set, map, take, drop, ap, sym}
+use Rattle.std.proofs.Common.{subst, arith, ◌∙◌, length-set, append_assoc}
 use Rattle.std.proofs.lemmas.List.{drop_more, get_or-set_other, take_more_set}
-use Rattle.std.proofs.lemmas.List.Elements.{All-get_or}
 use Rattle.price_bound.specs.declared.yard_places.YardPlace.{YardPlace}
 use Rattle.price_bound.specs.YardTables.{amounts_at, column_of}
 use Rattle.price_bound.proofs.yard_places.look_up.Goals as goal

@@ -1,5 +1,5 @@
 -- The rows are those that were made.
-use Rattle.std.proofs.Common.{◌≡◌, ◌++◌, ◌*◌, ℕ, [], List, Option, length, drop, get_or, sym, ap, subst, arith}
+use Rattle.std.proofs.Common.{◌≡◌, ◌*◌, [], List, Option, length, drop, get_or, sym, ap, subst, arith}
 use Rattle.std.proofs.lemmas.List.{take_at}
 use Rattle.price_bound.specs.declared.cells.Cell.{Cell}
 use Rattle.price_bound.specs.CellSizes.{AreSmallCells}

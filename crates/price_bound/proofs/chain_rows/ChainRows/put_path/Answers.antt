@@ -1,6 +1,6 @@
 -- One trip more has its composition.
-use Rattle.std.proofs.Common.{◌≡◌, ◌≤◌, ◌<◌, ℕ, suc, ◌+◌, List, length, drop, take, get_or, set, sym, ap, ◌∙◌, subst}
-use Rattle.std.proofs.Common.{arith, length-set}
+use Rattle.std.proofs.Common.{◌≡◌, ℕ, suc, ◌+◌, List, length, drop, take, get_or, set, sym, ap, ◌∙◌, subst, arith}
+use Rattle.std.proofs.Common.{length-set}
 use Rattle.std.proofs.lemmas.List.{get_or_read}
 use Rattle.price_bound.specs.CellRows.{put_along}
 use Rattle.price_bound.specs.Paths.{path_from}

@@ -1,7 +1,5 @@
 -- What is left of the path goes on the trips that are left.
 use Rattle.std.proofs.Common.{◌≡◌, length, drop, take}
-use Rattle.std.specs.List.{All}
-use Rattle.std.specs.Prelude.{◌<◌}
 use Rattle.price_bound.specs.CellRows.{put_along}
 use Rattle.price_bound.specs.Paths.{path_from}
 use Rattle.price_bound.proofs.chain_rows.ChainRows.put_path.Given as goal

@@ -10,7 +10,8 @@ use Rattle.price_bound.specs.CellSizes.{most_amount, most_units_price}
 use Rattle.price_bound.specs.EdgeValues.{came, coupled}
 use Rattle.price_bound.specs.YardPrices.{giving, taking}
 use Rattle.price_bound.proofs.Adding.{small_difference, small_more}
-use Rattle.price_bound.proofs.TripAndLinkPrices.{given_at, gives_row_long, gives_row_small, taken_at, takes_row_long, takes_row_small}
+use Rattle.price_bound.proofs.TripAndLinkPrices.{given_at, gives_row_long, gives_row_small, taken_at, takes_row_long}
+use Rattle.price_bound.proofs.TripAndLinkPrices.{takes_row_small}
 use Rattle.price_bound.proofs.Summing.{came_below, came_few, none_came}
 use Rattle.price_bound.proofs.turn_prices.TurnPrices.coupled_price.Goals as goal
 

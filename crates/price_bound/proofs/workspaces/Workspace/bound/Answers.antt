@@ -1,5 +1,5 @@
 -- What is found along the chains is the bound.
-use Rattle.std.proofs.Common.{arith, ◌≡◌, ℕ, List, Option, Some, None, length, ℤ, ◌+ℤ◌, ap, sym, subst, ◌∙◌}
+use Rattle.std.proofs.Common.{arith, Option, Some, length, ℤ, ◌+ℤ◌, ap, sym, subst, ◌∙◌}
 use Rattle.rail_base.specs.declared.numbers.Money.{Money}
 use Rattle.price_bound.specs.ChainStages.{Priced}
 use Rattle.price_bound.specs.ChangedDays.{changed_day, changed_meanings}
