@@ -117,7 +117,3 @@ reading place [] = Err MissingEnd
 reading place (left ∷ []) = ending_at place left
 reading place (line ∷ next ∷ rest) =
     going_on (after_line MOST_NODES place line) (fault_at place line) (λ later. reading later (next ∷ rest))
-
--- what becomes of a document
-abbrev pub answer_in : List ℕ → Result Answer AnswerRefusal
-answer_in bytes = reading at_title (pieces line_feed bytes)

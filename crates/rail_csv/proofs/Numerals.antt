@@ -68,6 +68,3 @@ room text i within few h = number_fits (take i text) 9 (omega (arith, length-tak
 
 pub digits_more : (text : List ℕ) (i : ℕ) → i < length text → are_digits (take i text) ≡ true → is_digit (get_or text i 0) ≡ true → are_digits (take (i + 1) text) ≡ true
 digits_more text i within before here = list_all_more is_digit text i 0 within ∙ ap (λ (b : Bool). b && is_digit (get_or text i 0)) before ∙ here
-
-pub digit_is : (byte : ℕ) (b : Bool) → b ≡ is_digit byte → b ≡ true → is_digit byte ≡ true
-digit_is byte b e t = cc

@@ -1,7 +1,7 @@
 //! Why a table is refused.
 
 use rail_base::NoMemory;
-use std::alloc::{AllocError, AllocFailed};
+use std::alloc::AllocFailed;
 use thiserror::Error;
 
 /// Why a table is refused: the first thing wrong in it. Rows are counted from 1, and row 1 is the record after the
@@ -80,17 +80,6 @@ impl From<NoMemory> for TableRefusal {
     ghost from_gives = { λ _ e. e ≡ refusals.NoMemory };
 
     fn from(_error: NoMemory) -> TableRefusal {
-        TableRefusal::NoMemory
-    }
-}
-
-impl From<AllocError> for TableRefusal {
-    ghost use Rattle.std.specs.Prelude.{◌≡◌};
-    ghost use Rattle.rail_csv.specs.declared.refusal.TableRefusal.TheVariants as refusals;
-
-    ghost from_gives = { λ _ e. e ≡ refusals.NoMemory };
-
-    fn from(_error: AllocError) -> TableRefusal {
         TableRefusal::NoMemory
     }
 }
