@@ -16,6 +16,7 @@ use Rattle.rail_base.specs.declared.limits.TheConstants.{MOST_SEATS, MOST_FIRST_
 use Rattle.rail_base.specs.declared.limits.TheConstants.{MOST_REALLOCATION, MOST_STOCK, MOST_MINUTES, MOST_KM}
 use Rattle.rail_base.specs.declared.limits.TheConstants.{MOST_DEMAND, MOST_FIRST_DEMAND, MOST_WEIGHT, MOST_COMPOSITION}
 use Rattle.rail_base.specs.declared.limits.TheConstants.{MOST_UNITS}
+use Rattle.rail_csv.specs.declared.limits.TheConstants.{LAST_HOUR, LAST_MINUTE_OF_AN_HOUR, MINUTES_OF_AN_HOUR}
 use Rattle.rail_csv.specs.declared.refusal.TableRefusal.{TableRefusal}
 use Rattle.rail_csv.specs.declared.rows.TypeRow.{TypeRow}
 use Rattle.rail_csv.specs.declared.rows.StationRow.{StationRow}
@@ -95,7 +96,7 @@ optional_name_meets row column [] name e = subst (λ (o : Option (List ℕ)). If
 optional_name_meets row column (byte ∷ text) name e =
     step e IsName (name_meets row column (byte ∷ text)) (λ found found_is e1. subst (λ (o : Option (List ℕ)). IfSome o (λ n. IsName n)) (same (Some found) name e1) found_is)
 
-below_day : (form : Bool) (hour minute : ℕ) → (form && leb hour 47 && leb minute 59) ≡ true → 60 * hour + minute < MOST_MINUTES
+below_day : (form : Bool) (hour minute : ℕ) → (form && leb hour LAST_HOUR && leb minute LAST_MINUTE_OF_AN_HOUR) ≡ true → MINUTES_OF_AN_HOUR * hour + minute < MOST_MINUTES
 below_day form hour minute h = grind (arith, nat_tests)
 
 time_meets : (row column : ℕ) (text : List ℕ) (minute : ℕ) → time_column row column text ≡ Ok minute → IsMinute minute

@@ -7,6 +7,7 @@ use Rattle.std.proofs.lemmas.List.{length_push, take_more, length-take}
 use Rattle.std.proofs.lemmas.List.Folds.{list_all_more}
 use Rattle.std.proofs.lemmas.Bool.Decides.{nat_tests}
 use Rattle.std.specs.List.{list_all}
+use Rattle.rail_csv.specs.declared.limits.TheConstants.{MOST_NUMBER_DIGITS, MOST_VALUE_BYTES}
 use Rattle.rail_csv.specs.Fields.{are_digits, is_digit, number_of}
 
 -- one more digit
@@ -54,15 +55,15 @@ is_value : (b : Bool) (n value : ℕ) → (if b then Some n else None) ≡ Some 
 is_value true n value h = cc
 is_value false n value h = absurd cc
 
--- the value of nine digits at most
+-- the value of a number
 pub value_fits : (text : List ℕ) (value : ℕ) → (if are_digits text then Some (number_of text) else None) ≡ Some value
-    → length text ≤ 9 → value < 1000000000
+    → length text ≤ MOST_NUMBER_DIGITS → value < 1000000000
 value_fits text value h few =
     let number : number_of text < 1000000000 = number_fits text 9 few (is_true (are_digits text) (number_of text) value h) in
     omega (arith, number, is_value (are_digits text) (number_of text) value h)
 
--- before the tenth digit there is room for one more
-pub room : (text : List ℕ) (i : ℕ) → i < length text → length text ≤ 10 → are_digits (take i text) ≡ true
+-- before the last digit there is room for one more
+pub room : (text : List ℕ) (i : ℕ) → i < length text → length text ≤ MOST_VALUE_BYTES → are_digits (take i text) ≡ true
     → number_of (take i text) < 1000000000
 room text i within few h = number_fits (take i text) 9 (omega (arith, length-take i text)) h
 

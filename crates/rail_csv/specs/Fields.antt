@@ -3,6 +3,8 @@ use Rattle.std.specs.Prelude.{ℕ, List, [], ◌∷◌, length, take, drop, map,
 use Rattle.std.specs.Prelude.{nat_lt, slice_index}
 use Rattle.std.specs.List.{list_all, slice_split}
 use Rattle.rail_base.specs.declared.limits.TheConstants.{MOST_UNITS}
+use Rattle.rail_csv.specs.declared.limits.TheConstants.{LAST_HOUR, LAST_MINUTE_OF_AN_HOUR, MINUTES_OF_AN_HOUR}
+use Rattle.rail_csv.specs.declared.limits.TheConstants.{MOST_NUMBER_DIGITS}
 
 -- an ASCII digit
 abbrev pub is_digit : ℕ → Bool
@@ -17,9 +19,9 @@ unfoldable pub number_of : List ℕ → ℕ
 number_of [] = 0
 number_of (digit ∷ digits) = (digit - 48) * 10 ^ length digits + number_of digits
 
--- a number has 1 to 9 digits
+-- a number has 1 to MOST_NUMBER_DIGITS digits
 abbrev pub is_number : List ℕ → Bool
-is_number text = nat_le 1 (length text) && nat_le (length text) 9 && are_digits text
+is_number text = nat_le 1 (length text) && nat_le (length text) MOST_NUMBER_DIGITS && are_digits text
 
 -- the hour of a time is what stands before its last three bytes, the minute its last two bytes, with a colon between
 abbrev pub hour_text : List ℕ → List ℕ
@@ -37,11 +39,12 @@ has_time_form text = nat_le 4 (length text) && nat_le (length text) 5
 
 -- one or two digits of the hour 0 to 47, a colon, and two digits of the minute 0 to 59
 abbrev pub is_time : List ℕ → Bool
-is_time text = has_time_form text && nat_le (number_of (hour_text text)) 47 && nat_le (number_of (minute_text text)) 59
+is_time text = has_time_form text && nat_le (number_of (hour_text text)) LAST_HOUR
+    && nat_le (number_of (minute_text text)) LAST_MINUTE_OF_AN_HOUR
 
 -- the minutes since the first midnight
 abbrev pub time_of : List ℕ → ℕ
-time_of text = 60 * number_of (hour_text text) + number_of (minute_text text)
+time_of text = MINUTES_OF_AN_HOUR * number_of (hour_text text) + number_of (minute_text text)
 
 abbrev pub space : ℕ
 space = 32

@@ -11,6 +11,9 @@ ghost use Rattle.rail_csv.specs.Columns.{answer_column, end_column, units_column
 ghost use Rattle.rail_csv.specs.Tables.{is_memory};
 ghost use Rattle.rail_base.specs.Answers.{Gives};
 
+use crate::limits::{
+    LAST_HOUR, LAST_MINUTE_OF_AN_HOUR, MINUTES_OF_AN_HOUR, MOST_NUMBER_DIGITS, MOST_VALUE_BYTES,
+};
 use crate::reading::{field, field_or};
 use crate::refusal::TableRefusal;
 use crate::rows::{End, KindWord, UnitList};
@@ -20,9 +23,9 @@ use rail_base::name::is_name;
 use rail_base::{Minute, Name, NoMemory, UnitNo};
 use std::alloc::Global;
 
-/// The number that a text of at most ten bytes spells, where it has digits alone; of an empty text it is 0.
+/// The number that a text of at most `MOST_VALUE_BYTES` bytes spells, where it has digits alone; 0 of an empty text.
 pub fn digits_value(text: &[u8]) -> Option<u64>
-    requires { length text.now ≤ 10 }
+    requires { length text.now ≤ MOST_VALUE_BYTES }
     ensures { result ≡ if are_digits text.now then Some (number_of text.now) else None }
 {
     let mut value = 0u64;
@@ -35,14 +38,14 @@ pub fn digits_value(text: &[u8]) -> Option<u64>
     Some(value)
 }
 
-/// The number that a text spells, where it is a number: 1 to 9 digits.
+/// The number that a text spells, where it is a number: 1 to `MOST_NUMBER_DIGITS` digits.
 fn number_of(text: &[u8]) -> Option<u32>
     ensures { result ≡ if is_number text.now then Some (number_of text.now) else None }
 {
     if text.is_empty() {
         return None;
     }
-    if text.len() > 9 {
+    if text.len() > MOST_NUMBER_DIGITS {
         return None;
     }
     let Some(value) = digits_value(text) else {
@@ -105,13 +108,13 @@ fn minutes_of(text: &[u8]) -> Option<u16>
         return None;
     }
     let minute = digits_value(&text[text.len() - 2..])?;
-    if hour > 47 {
+    if hour > LAST_HOUR {
         return None;
     }
-    if minute > 59 {
+    if minute > LAST_MINUTE_OF_AN_HOUR {
         return None;
     }
-    Some((60 * hour + minute) as u16)
+    Some((MINUTES_OF_AN_HOUR * hour + minute) as u16)
 }
 
 /// A time: one or two digits of the hour 0 to 47, a colon, and two digits of the minute 0 to 59.

@@ -4,6 +4,7 @@
 mod columns;
 pub mod header_words;
 pub mod law;
+pub mod limits;
 mod readers;
 mod reading;
 pub mod refusal;
