@@ -16,6 +16,9 @@ use Rattle.rail_base.specs.declared.limits.TheConstants.{MOST_SEATS, MOST_FIRST_
 use Rattle.rail_base.specs.declared.limits.TheConstants.{MOST_REALLOCATION, MOST_STOCK, MOST_MINUTES, MOST_KM}
 use Rattle.rail_base.specs.declared.limits.TheConstants.{MOST_DEMAND, MOST_FIRST_DEMAND, MOST_WEIGHT, MOST_COMPOSITION}
 use Rattle.rail_base.specs.declared.limits.TheConstants.{MOST_UNITS}
+use Rattle.rail_csv.specs.declared.limits.TheConstants.{FEWEST_TYPE_COLUMNS, FEWEST_STATION_COLUMNS}
+use Rattle.rail_csv.specs.declared.limits.TheConstants.{FEWEST_STOCK_COLUMNS, FEWEST_TRIP_COLUMNS, FEWEST_LINK_COLUMNS}
+use Rattle.rail_csv.specs.declared.limits.TheConstants.{FEWEST_WEIGHT_COLUMNS, FEWEST_PLAN_COLUMNS}
 use Rattle.rail_csv.specs.declared.limits.TheConstants.{LAST_HOUR, LAST_MINUTE_OF_AN_HOUR, MINUTES_OF_AN_HOUR}
 use Rattle.rail_csv.specs.declared.refusal.TableRefusal.{TableRefusal}
 use Rattle.rail_csv.specs.declared.rows.TypeRow.{TypeRow}
@@ -247,27 +250,27 @@ accepted IsRow limit (Err e) read meets given = tt
 
 pub types_are : (result : Result (Vec TypeRow) TableRefusal) (bytes : List ℕ) → GivesRows is_memory result (types_of bytes) → IfOk result (λ v. AreRows MOST_TYPES IsTypeRow v.items)
 unfolding types_of table_of
-types_are result bytes given = accepted IsTypeRow MOST_TYPES result (types_of bytes) (λ rows e. table_read IsTypeRow type_header 5 MOST_TYPES type_columns type_meets (records_of bytes) rows e) given
+types_are result bytes given = accepted IsTypeRow MOST_TYPES result (types_of bytes) (λ rows e. table_read IsTypeRow type_header FEWEST_TYPE_COLUMNS MOST_TYPES type_columns type_meets (records_of bytes) rows e) given
 
 pub stations_are : (result : Result (Vec StationRow) TableRefusal) (bytes : List ℕ) → GivesRows is_memory result (stations_of bytes) → IfOk result (λ v. AreRows MOST_STATIONS IsStationRow v.items)
 unfolding stations_of table_of
-stations_are result bytes given = accepted IsStationRow MOST_STATIONS result (stations_of bytes) (λ rows e. table_read IsStationRow station_header 3 MOST_STATIONS station_columns station_meets (records_of bytes) rows e) given
+stations_are result bytes given = accepted IsStationRow MOST_STATIONS result (stations_of bytes) (λ rows e. table_read IsStationRow station_header FEWEST_STATION_COLUMNS MOST_STATIONS station_columns station_meets (records_of bytes) rows e) given
 
 pub stock_are : (result : Result (Vec StockRow) TableRefusal) (bytes : List ℕ) → GivesRows is_memory result (stock_of bytes) → IfOk result (λ v. AreRows MOST_STOCK_ROWS IsStockRow v.items)
 unfolding stock_of table_of
-stock_are result bytes given = accepted IsStockRow MOST_STOCK_ROWS result (stock_of bytes) (λ rows e. table_read IsStockRow stock_header 4 MOST_STOCK_ROWS stock_columns stock_meets (records_of bytes) rows e) given
+stock_are result bytes given = accepted IsStockRow MOST_STOCK_ROWS result (stock_of bytes) (λ rows e. table_read IsStockRow stock_header FEWEST_STOCK_COLUMNS MOST_STOCK_ROWS stock_columns stock_meets (records_of bytes) rows e) given
 
 pub trips_are : (result : Result (Vec TripRow) TableRefusal) (bytes : List ℕ) → GivesRows is_memory result (trips_of bytes) → IfOk result (λ v. AreRows MOST_TRIPS IsTripRow v.items)
 unfolding trips_of table_of
-trips_are result bytes given = accepted IsTripRow MOST_TRIPS result (trips_of bytes) (λ rows e. table_read IsTripRow trip_header 7 MOST_TRIPS trip_columns trip_meets (records_of bytes) rows e) given
+trips_are result bytes given = accepted IsTripRow MOST_TRIPS result (trips_of bytes) (λ rows e. table_read IsTripRow trip_header FEWEST_TRIP_COLUMNS MOST_TRIPS trip_columns trip_meets (records_of bytes) rows e) given
 
 pub links_are : (result : Result (Vec LinkRow) TableRefusal) (bytes : List ℕ) → GivesRows is_memory result (links_of bytes) → IfOk result (λ v. AreRows MOST_LINKS IsLinkRow v.items)
 unfolding links_of table_of
-links_are result bytes given = accepted IsLinkRow MOST_LINKS result (links_of bytes) (λ rows e. table_read IsLinkRow link_header 8 MOST_LINKS link_columns link_meets (records_of bytes) rows e) given
+links_are result bytes given = accepted IsLinkRow MOST_LINKS result (links_of bytes) (λ rows e. table_read IsLinkRow link_header FEWEST_LINK_COLUMNS MOST_LINKS link_columns link_meets (records_of bytes) rows e) given
 
 pub plan_are : (result : Result (Vec PlanRow) TableRefusal) (bytes : List ℕ) → GivesRows is_memory result (plan_of bytes) → IfOk result (λ v. AreRows MOST_PLAN_ROWS IsPlanRow v.items)
 unfolding plan_of table_of
-plan_are result bytes given = accepted IsPlanRow MOST_PLAN_ROWS result (plan_of bytes) (λ rows e. table_read IsPlanRow plan_header 2 MOST_PLAN_ROWS plan_columns plan_meets (records_of bytes) rows e) given
+plan_are result bytes given = accepted IsPlanRow MOST_PLAN_ROWS result (plan_of bytes) (λ rows e. table_read IsPlanRow plan_header FEWEST_PLAN_COLUMNS MOST_PLAN_ROWS plan_columns plan_meets (records_of bytes) rows e) given
 
 the_row_meets : (rows : List WeightsRow) (row : WeightsRow) → AllByRecursion IsWeightsRow rows → the_row rows ≡ Ok row → IsWeightsRow row
 the_row_meets [] row each e = absurd cc
@@ -276,7 +279,7 @@ the_row_meets (first ∷ others) row each e = subst IsWeightsRow (same first row
 weights_read : (bytes : List ℕ) (row : WeightsRow) → weights_of bytes ≡ Ok row → IsWeightsRow row
 unfolding weights_of table_of
 weights_read bytes row e =
-    step e (λ rows. AllByRecursion IsWeightsRow rows) (λ rows read. table_rows IsWeightsRow weight_header 3 MOST_WEIGHT_ROWS weight_columns weight_meets (records_of bytes) rows read) (λ rows each e1. the_row_meets rows row each e1)
+    step e (λ rows. AllByRecursion IsWeightsRow rows) (λ rows read. table_rows IsWeightsRow weight_header FEWEST_WEIGHT_COLUMNS MOST_WEIGHT_ROWS weight_columns weight_meets (records_of bytes) rows read) (λ rows each e1. the_row_meets rows row each e1)
 
 pub weights_are : (result : Result WeightsRow TableRefusal) (bytes : List ℕ) → Gives is_memory result (weights_of bytes) → IfOk result (λ row. IsWeightsRow row)
 weights_are (Ok row) bytes given = weights_read bytes row given

@@ -11,6 +11,9 @@ use Rattle.rail_base.specs.declared.limits.TheConstants.{MOST_LINKS, MOST_WEIGHT
 use Rattle.rail_base.specs.declared.limits.TheConstants.{MOST_SEATS, MOST_FIRST_SEATS, MOST_METRES, MOST_PLATFORM}
 use Rattle.rail_base.specs.declared.limits.TheConstants.{MOST_REALLOCATION, MOST_STOCK, MOST_KM, MOST_DEMAND}
 use Rattle.rail_base.specs.declared.limits.TheConstants.{MOST_FIRST_DEMAND, MOST_WEIGHT, MOST_COMPOSITION}
+use Rattle.rail_csv.specs.declared.limits.TheConstants.{FEWEST_TYPE_COLUMNS, FEWEST_STATION_COLUMNS}
+use Rattle.rail_csv.specs.declared.limits.TheConstants.{FEWEST_STOCK_COLUMNS, FEWEST_TRIP_COLUMNS, FEWEST_LINK_COLUMNS}
+use Rattle.rail_csv.specs.declared.limits.TheConstants.{FEWEST_WEIGHT_COLUMNS, FEWEST_PLAN_COLUMNS}
 use Rattle.rail_csv.specs.declared.refusal.TableRefusal.{TableRefusal}
 use Rattle.rail_csv.specs.declared.refusal.TableRefusal.TheVariants.{NoRow}
 use Rattle.rail_csv.specs.declared.rows.WeightsRow.{WeightsRow}
@@ -186,24 +189,24 @@ under_has words fewest limit columns has (first ∷ others) =
 pub no_other : NoOtherTableWantsARow
 unfolding types_of stations_of stock_of trips_of links_of plan_of table_of
 no_other = record {
-  types = λ bytes. under_has type_header 5 MOST_TYPES type_columns type_has (records_of bytes);
-  stations = λ bytes. under_has station_header 3 MOST_STATIONS station_columns station_has (records_of bytes);
-  stock = λ bytes. under_has stock_header 4 MOST_STOCK_ROWS stock_columns stock_has (records_of bytes);
-  trips = λ bytes. under_has trip_header 7 MOST_TRIPS trip_columns trip_has (records_of bytes);
-  links = λ bytes. under_has link_header 8 MOST_LINKS link_columns link_has (records_of bytes);
-  plan = λ bytes. under_has plan_header 2 MOST_PLAN_ROWS plan_columns plan_has (records_of bytes);
+  types = λ bytes. under_has type_header FEWEST_TYPE_COLUMNS MOST_TYPES type_columns type_has (records_of bytes);
+  stations = λ bytes. under_has station_header FEWEST_STATION_COLUMNS MOST_STATIONS station_columns station_has (records_of bytes);
+  stock = λ bytes. under_has stock_header FEWEST_STOCK_COLUMNS MOST_STOCK_ROWS stock_columns stock_has (records_of bytes);
+  trips = λ bytes. under_has trip_header FEWEST_TRIP_COLUMNS MOST_TRIPS trip_columns trip_has (records_of bytes);
+  links = λ bytes. under_has link_header FEWEST_LINK_COLUMNS MOST_LINKS link_columns link_has (records_of bytes);
+  plan = λ bytes. under_has plan_header FEWEST_PLAN_COLUMNS MOST_PLAN_ROWS plan_columns plan_has (records_of bytes);
 }
 
 -- ---- the weights
 
 abbrev read_of : List ℕ → Result (List WeightsRow) TableRefusal
-read_of bytes = rows_under weight_header 3 MOST_WEIGHT_ROWS weight_columns (records_of bytes)
+read_of bytes = rows_under weight_header FEWEST_WEIGHT_COLUMNS MOST_WEIGHT_ROWS weight_columns (records_of bytes)
 
 table_read : (bytes : List ℕ) (rows : List WeightsRow) → read_of bytes ≡ Ok rows → IsWeightsTable (records_of bytes) rows
-table_read bytes rows e = is_table weight_header 3 MOST_WEIGHT_ROWS weight_columns (records_of bytes) rows e
+table_read bytes rows e = is_table weight_header FEWEST_WEIGHT_COLUMNS MOST_WEIGHT_ROWS weight_columns (records_of bytes) rows e
 
 read_table : (bytes : List ℕ) (rows : List WeightsRow) → IsWeightsTable (records_of bytes) rows → read_of bytes ≡ Ok rows
-read_table bytes rows is = table_is weight_header 3 MOST_WEIGHT_ROWS weight_columns (records_of bytes) rows is
+read_table bytes rows is = table_is weight_header FEWEST_WEIGHT_COLUMNS MOST_WEIGHT_ROWS weight_columns (records_of bytes) rows is
 
 one_row : (bytes : List ℕ) (row : WeightsRow) (rows : List WeightsRow) → IsWeightsTable (records_of bytes) rows → the_row rows ≡ Ok row → IsWeightsTable (records_of bytes) (row ∷ [])
 one_row bytes row [] is e = absurd cc
@@ -225,7 +228,7 @@ no_row bytes (first ∷ rows) read e = absurd cc
 pub none_if : (bytes : List ℕ) → weights_of bytes ≡ Err NoRow → IsWeightsTable (records_of bytes) []
 unfolding weights_of table_of
 none_if bytes e =
-    ends e (λ no. absurd (under_has weight_header 3 MOST_WEIGHT_ROWS weight_columns weight_has (records_of bytes) no)) (λ rows read e1. no_row bytes rows read e1)
+    ends e (λ no. absurd (under_has weight_header FEWEST_WEIGHT_COLUMNS MOST_WEIGHT_ROWS weight_columns weight_has (records_of bytes) no)) (λ rows read e1. no_row bytes rows read e1)
 
 pub if_none : (bytes : List ℕ) → IsWeightsTable (records_of bytes) [] → weights_of bytes ≡ Err NoRow
 unfolding weights_of table_of
@@ -235,11 +238,11 @@ wants_a_row : (rows : List WeightsRow) (why : TableRefusal) → the_row rows ≡
 wants_a_row [] why e = cc
 wants_a_row (first ∷ rows) why e = absurd cc
 
-pub wrong_if : (bytes : List ℕ) (why : TableRefusal) → weights_of bytes ≡ Err why → why ≢ NoRow → IsFirstWrong weight_header 3 MOST_WEIGHT_ROWS weight_columns (records_of bytes) why
+pub wrong_if : (bytes : List ℕ) (why : TableRefusal) → weights_of bytes ≡ Err why → why ≢ NoRow → IsFirstWrong weight_header FEWEST_WEIGHT_COLUMNS MOST_WEIGHT_ROWS weight_columns (records_of bytes) why
 unfolding weights_of table_of
 wrong_if bytes why e other =
-    ends e (λ no. is_first_wrong weight_header 3 MOST_WEIGHT_ROWS weight_columns (records_of bytes) why no) (λ rows read e1. absurd (other (wants_a_row rows why e1)))
+    ends e (λ no. is_first_wrong weight_header FEWEST_WEIGHT_COLUMNS MOST_WEIGHT_ROWS weight_columns (records_of bytes) why no) (λ rows read e1. absurd (other (wants_a_row rows why e1)))
 
-pub if_wrong : (bytes : List ℕ) (why : TableRefusal) → IsFirstWrong weight_header 3 MOST_WEIGHT_ROWS weight_columns (records_of bytes) why → weights_of bytes ≡ Err why
+pub if_wrong : (bytes : List ℕ) (why : TableRefusal) → IsFirstWrong weight_header FEWEST_WEIGHT_COLUMNS MOST_WEIGHT_ROWS weight_columns (records_of bytes) why → weights_of bytes ≡ Err why
 unfolding weights_of table_of
-if_wrong bytes why wrong = rw (first_wrong_is weight_header 3 MOST_WEIGHT_ROWS weight_columns (records_of bytes) why wrong) refl
+if_wrong bytes why wrong = rw (first_wrong_is weight_header FEWEST_WEIGHT_COLUMNS MOST_WEIGHT_ROWS weight_columns (records_of bytes) why wrong) refl

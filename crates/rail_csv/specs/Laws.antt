@@ -6,6 +6,7 @@ use Rattle.rail_csv.specs.declared.refusal.TableRefusal.{TableRefusal}
 use Rattle.rail_csv.specs.declared.refusal.TableRefusal.TheVariants.{WrongHeader, TooManyRows, NoRow}
 use Rattle.rail_csv.specs.declared.rows.WeightsRow.{WeightsRow}
 use Rattle.rail_base.specs.declared.limits.TheConstants.{MOST_WEIGHT_ROWS}
+use Rattle.rail_csv.specs.declared.limits.TheConstants.{FEWEST_WEIGHT_COLUMNS}
 use Rattle.rail_csv.specs.Tables.{Columns, row_of, records_of, types_of, stations_of, stock_of, trips_of, links_of}
 use Rattle.rail_csv.specs.Tables.{weight_header, weight_columns, weights_of, plan_of}
 
@@ -70,7 +71,7 @@ IsFirstWrong words fewest limit columns records e =
 
 -- the records are a weights table of these rows, of which there is one at most
 abbrev pub IsWeightsTable : List (List (List ℕ)) → List WeightsRow → Type 0
-IsWeightsTable records rows = IsTable weight_header 3 MOST_WEIGHT_ROWS weight_columns records rows
+IsWeightsTable records rows = IsTable weight_header FEWEST_WEIGHT_COLUMNS MOST_WEIGHT_ROWS weight_columns records rows
 
 -- whatever the bytes are, no table but the weights is refused because it has no row
 pub record NoOtherTableWantsARow : Type 0 where
@@ -90,5 +91,5 @@ pub record WeightsAreOneRow : Type 0 where
       ↔ IsWeightsTable (records_of bytes) (row ∷ [])
   pub none : (bytes : List ℕ) → (weights_of bytes ≡ Err NoRow) ↔ IsWeightsTable (records_of bytes) []
   pub wrong : (bytes : List ℕ) (e : TableRefusal) → e ≢ NoRow → (weights_of bytes ≡ Err e)
-      ↔ IsFirstWrong weight_header 3 MOST_WEIGHT_ROWS weight_columns (records_of bytes) e
+      ↔ IsFirstWrong weight_header FEWEST_WEIGHT_COLUMNS MOST_WEIGHT_ROWS weight_columns (records_of bytes) e
   pub others : NoOtherTableWantsARow

@@ -23,6 +23,9 @@ use Rattle.rail_base.specs.declared.limits.TheConstants.{MOST_LINKS, MOST_WEIGHT
 use Rattle.rail_base.specs.declared.limits.TheConstants.{MOST_SEATS, MOST_FIRST_SEATS, MOST_METRES, MOST_PLATFORM}
 use Rattle.rail_base.specs.declared.limits.TheConstants.{MOST_REALLOCATION, MOST_STOCK, MOST_KM, MOST_DEMAND}
 use Rattle.rail_base.specs.declared.limits.TheConstants.{MOST_FIRST_DEMAND, MOST_WEIGHT}
+use Rattle.rail_csv.specs.declared.limits.TheConstants.{FEWEST_TYPE_COLUMNS, FEWEST_STATION_COLUMNS}
+use Rattle.rail_csv.specs.declared.limits.TheConstants.{FEWEST_STOCK_COLUMNS, FEWEST_TRIP_COLUMNS, FEWEST_LINK_COLUMNS}
+use Rattle.rail_csv.specs.declared.limits.TheConstants.{FEWEST_WEIGHT_COLUMNS, FEWEST_PLAN_COLUMNS}
 use Rattle.rail_csv.specs.Columns.{field, field_or, number_column, time_column, name_column, optional_name_column}
 use Rattle.rail_csv.specs.Columns.{kind_column, answer_column, end_column, units_column}
 
@@ -90,7 +93,7 @@ type_columns row fields = do
   Ok (record { name = name; carriages = carriages; seats = seats; metres = metres; family = family; first = first })
 
 unfoldable pub types_of : List ℕ → Result (List TypeRow) TableRefusal
-types_of bytes = table_of type_header 5 MOST_TYPES type_columns bytes
+types_of bytes = table_of type_header FEWEST_TYPE_COLUMNS MOST_TYPES type_columns bytes
 
 abbrev pub station_header : List (List ℕ)
 station_header = codes "station" ∷ codes "platform" ∷ codes "reallocation" ∷ []
@@ -103,7 +106,7 @@ station_columns row fields = do
   Ok (record { name = name; platform = platform; reallocation = reallocation })
 
 unfoldable pub stations_of : List ℕ → Result (List StationRow) TableRefusal
-stations_of bytes = table_of station_header 3 MOST_STATIONS station_columns bytes
+stations_of bytes = table_of station_header FEWEST_STATION_COLUMNS MOST_STATIONS station_columns bytes
 
 abbrev pub stock_header : List (List ℕ)
 stock_header = codes "station" ∷ codes "type" ∷ codes "start" ∷ codes "end" ∷ []
@@ -117,7 +120,7 @@ stock_columns row fields = do
   Ok (record { station = station; unit_type = unit_type; start = start; end = end })
 
 unfoldable pub stock_of : List ℕ → Result (List StockRow) TableRefusal
-stock_of bytes = table_of stock_header 4 MOST_STOCK_ROWS stock_columns bytes
+stock_of bytes = table_of stock_header FEWEST_STOCK_COLUMNS MOST_STOCK_ROWS stock_columns bytes
 
 abbrev pub trip_header : List (List ℕ)
 trip_header =
@@ -146,7 +149,7 @@ trip_columns row fields = do
   })
 
 unfoldable pub trips_of : List ℕ → Result (List TripRow) TableRefusal
-trips_of bytes = table_of trip_header 7 MOST_TRIPS trip_columns bytes
+trips_of bytes = table_of trip_header FEWEST_TRIP_COLUMNS MOST_TRIPS trip_columns bytes
 
 abbrev pub link_header : List (List ℕ)
 link_header =
@@ -177,7 +180,7 @@ link_columns row fields = do
   })
 
 unfoldable pub links_of : List ℕ → Result (List LinkRow) TableRefusal
-links_of bytes = table_of link_header 8 MOST_LINKS link_columns bytes
+links_of bytes = table_of link_header FEWEST_LINK_COLUMNS MOST_LINKS link_columns bytes
 
 abbrev pub weight_header : List (List ℕ)
 weight_header = codes "carriage" ∷ codes "shortage" ∷ codes "shunting" ∷ []
@@ -196,7 +199,7 @@ the_row (row ∷ others) = Ok row
 
 unfoldable pub weights_of : List ℕ → Result WeightsRow TableRefusal
 weights_of bytes = do
-  rows ← table_of weight_header 3 MOST_WEIGHT_ROWS weight_columns bytes
+  rows ← table_of weight_header FEWEST_WEIGHT_COLUMNS MOST_WEIGHT_ROWS weight_columns bytes
   the_row rows
 
 abbrev pub plan_header : List (List ℕ)
@@ -209,7 +212,7 @@ plan_columns row fields = do
   Ok (record { trip = trip; units = units })
 
 unfoldable pub plan_of : List ℕ → Result (List PlanRow) TableRefusal
-plan_of bytes = table_of plan_header 2 MOST_PLAN_ROWS plan_columns bytes
+plan_of bytes = table_of plan_header FEWEST_PLAN_COLUMNS MOST_PLAN_ROWS plan_columns bytes
 
 -- ---- the columns of any table
 

@@ -8,6 +8,10 @@ ghost use Rattle.rail_csv.specs.Tables.{is_memory, links_of, plan_of, stations_o
 ghost use Rattle.rail_csv.specs.Tables.{weights_of};
 
 use crate::header_words::header;
+use crate::limits::{
+    FEWEST_LINK_COLUMNS, FEWEST_PLAN_COLUMNS, FEWEST_STATION_COLUMNS, FEWEST_STOCK_COLUMNS,
+    FEWEST_TRIP_COLUMNS, FEWEST_TYPE_COLUMNS, FEWEST_WEIGHT_COLUMNS,
+};
 use crate::reading::read_table;
 use crate::refusal::TableRefusal;
 use crate::rows::{LinkRow, PlanRow, StationRow, StockRow, Table, TripRow, TypeRow, WeightsRow};
@@ -26,7 +30,13 @@ pub fn types(alloc: Global, bytes: &[u8]) -> Result<Vec<TypeRow>, TableRefusal>
     ensures exact { GivesRows is_memory result (types_of bytes.now) }
     ensures rows { IfOk result (λ v. AreTypeRows v.items) }
 {
-    read_table(alloc, header(Table::Types), 5, MOST_TYPES as u32, bytes)
+    read_table(
+        alloc,
+        header(Table::Types),
+        FEWEST_TYPE_COLUMNS,
+        MOST_TYPES as u32,
+        bytes,
+    )
 }
 
 /// Reads the stations table, of at most `MOST_STATIONS` rows: its rows, or the first thing that is wrong. Its columns
@@ -40,7 +50,7 @@ pub fn stations(alloc: Global, bytes: &[u8]) -> Result<Vec<StationRow>, TableRef
     read_table(
         alloc,
         header(Table::Stations),
-        3,
+        FEWEST_STATION_COLUMNS,
         MOST_STATIONS as u32,
         bytes,
     )
@@ -57,7 +67,7 @@ pub fn stock(alloc: Global, bytes: &[u8]) -> Result<Vec<StockRow>, TableRefusal>
     read_table(
         alloc,
         header(Table::Stock),
-        4,
+        FEWEST_STOCK_COLUMNS,
         MOST_STOCK_ROWS as u32,
         bytes,
     )
@@ -72,7 +82,13 @@ pub fn trips(alloc: Global, bytes: &[u8]) -> Result<Vec<TripRow>, TableRefusal>
     ensures exact { GivesRows is_memory result (trips_of bytes.now) }
     ensures rows { IfOk result (λ v. AreTripRows v.items) }
 {
-    read_table(alloc, header(Table::Trips), 7, MOST_TRIPS as u32, bytes)
+    read_table(
+        alloc,
+        header(Table::Trips),
+        FEWEST_TRIP_COLUMNS,
+        MOST_TRIPS as u32,
+        bytes,
+    )
 }
 
 /// Reads the links table, of at most `MOST_LINKS` rows: its rows, or the first thing that is wrong. Its columns are
@@ -84,7 +100,13 @@ pub fn links(alloc: Global, bytes: &[u8]) -> Result<Vec<LinkRow>, TableRefusal>
     ensures exact { GivesRows is_memory result (links_of bytes.now) }
     ensures rows { IfOk result (λ v. AreLinkRows v.items) }
 {
-    read_table(alloc, header(Table::Links), 8, MOST_LINKS as u32, bytes)
+    read_table(
+        alloc,
+        header(Table::Links),
+        FEWEST_LINK_COLUMNS,
+        MOST_LINKS as u32,
+        bytes,
+    )
 }
 
 /// Reads the weights table: its one row, or the first thing that is wrong. Its columns are
@@ -106,7 +128,7 @@ fn the_weights(alloc: Global, bytes: &[u8]) -> Result<WeightsRow, TableRefusal>
     let rows: Vec<WeightsRow> = read_table(
         alloc,
         header(Table::Weights),
-        3,
+        FEWEST_WEIGHT_COLUMNS,
         MOST_WEIGHT_ROWS as u32,
         bytes,
     )?;
@@ -124,5 +146,11 @@ pub fn plan(alloc: Global, bytes: &[u8]) -> Result<Vec<PlanRow>, TableRefusal>
     ensures exact { GivesRows is_memory result (plan_of bytes.now) }
     ensures rows { IfOk result (λ v. ArePlanRows v.items) }
 {
-    read_table(alloc, header(Table::Plan), 2, MOST_PLAN_ROWS as u32, bytes)
+    read_table(
+        alloc,
+        header(Table::Plan),
+        FEWEST_PLAN_COLUMNS,
+        MOST_PLAN_ROWS as u32,
+        bytes,
+    )
 }
