@@ -3,7 +3,7 @@
 
 pub mod errors;
 pub mod inputs;
-pub mod law;
+pub mod laws;
 mod names;
 mod tables;
 mod texts;

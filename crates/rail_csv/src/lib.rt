@@ -3,7 +3,7 @@
 
 mod columns;
 pub mod header_words;
-pub mod law;
+pub mod laws;
 pub mod limits;
 mod readers;
 mod reading;

@@ -1,7 +1,7 @@
 use Rattle.day_files.proofs.Accepted.{day_accepted_if, day_if_accepted}
 use Rattle.day_files.proofs.FirstRefused.{day_refused_before_plan, day_refused_if}
 use Rattle.day_files.proofs.RefusedFirst.{day_if_refused}
-use Rattle.day_files.proofs.law.what_is_accepted_as_day.Goals as goal
+use Rattle.day_files.proofs.laws.what_is_accepted_as_day.Goals as goal
 
 pub returns : goal.returns
 returns c = record {

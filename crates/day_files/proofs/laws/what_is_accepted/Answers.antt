@@ -1,7 +1,7 @@
 use Rattle.day_files.proofs.Accepted.{accepted_if, if_accepted}
 use Rattle.day_files.proofs.FirstRefused.{refused_if}
 use Rattle.day_files.proofs.RefusedFirst.{if_refused}
-use Rattle.day_files.proofs.law.what_is_accepted.Goals as goal
+use Rattle.day_files.proofs.laws.what_is_accepted.Goals as goal
 
 pub returns : goal.returns
 returns c = record {

@@ -1,5 +1,5 @@
 use Rattle.rail_csv.proofs.RowFaults.{is_wrong_row, wrong_row_is, each_refuses}
-use Rattle.rail_csv.proofs.law.what_is_wrong_in_a_row.Goals as goal
+use Rattle.rail_csv.proofs.laws.what_is_wrong_in_a_row.Goals as goal
 
 pub returns : goal.returns
 returns g c = record {

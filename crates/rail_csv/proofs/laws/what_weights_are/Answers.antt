@@ -1,5 +1,5 @@
 use Rattle.rail_csv.proofs.OneRow.{row_if, if_row, none_if, if_none, wrong_if, if_wrong, no_other}
-use Rattle.rail_csv.proofs.law.what_weights_are.Goals as goal
+use Rattle.rail_csv.proofs.laws.what_weights_are.Goals as goal
 
 pub returns : goal.returns
 returns c = record {

@@ -1,5 +1,5 @@
 use Rattle.rail_csv.proofs.Whole.{is_table, table_is, is_first_wrong, first_wrong_is}
-use Rattle.rail_csv.proofs.law.what_is_read.Goals as goal
+use Rattle.rail_csv.proofs.laws.what_is_read.Goals as goal
 
 pub returns-clause-accepted : goal.returns-clause-accepted
 returns-clause-accepted g c = λ words fewest limit columns records rows. (is_table words fewest limit columns records rows, table_is words fewest limit columns records rows)
