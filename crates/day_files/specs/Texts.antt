@@ -1,5 +1,5 @@
 -- The texts of refusals, and the file that each of them speaks of.
-use Rattle.std.specs.Prelude.{ℕ, List, ◌++◌, codes}
+use Rattle.std.specs.Prelude.{ℕ, List, [], ◌++◌, codes}
 use Rattle.std.specs.Fmt.{decimal}
 use Rattle.rail_csv.specs.declared.rows.Table.{Table}
 use Rattle.rail_csv.specs.declared.rows.Table.TheVariants.{Types, Stock, Trips, Links, Plan}
@@ -22,7 +22,7 @@ abbrev pub at_column : Table → ℕ → ℕ → List ℕ → List ℕ
 at_column table row column text =
     codes "row " ++ (decimal row ++ (codes ", column " ++ (column_name table column ++ (codes ": " ++ text))))
 
--- what is wrong in a table
+-- what is wrong in a table; want of memory has no text
 abbrev pub table_text : Table → TableRefusal → List ℕ
 table_text table (wrong.NotUtf8 row) = codes "row " ++ (decimal row ++ codes " is not UTF-8")
 table_text table wrong.WrongHeader = codes "wrong header"
@@ -35,9 +35,9 @@ table_text table (wrong.BadName row column) = at_column table row column (codes 
 table_text table (wrong.BadWord row column) = at_column table row column (codes "not a word of this column")
 table_text table wrong.TooManyRows = codes "too many rows"
 table_text table wrong.NoRow = codes "no row"
-table_text table wrong.NoMemory = codes "out of memory"
+table_text table wrong.NoMemory = []
 
--- why tables make no day
+-- why tables make no day; want of memory has no text
 abbrev pub instance_text : InstanceRefusal → List ℕ
 instance_text (instance.RepeatedName table row) = at_row row (codes "repeated name")
 instance_text (instance.UnknownName table row column) = at_column table row column (codes "unknown name")
@@ -51,9 +51,9 @@ instance_text (instance.WrongLinkFields row) = at_row row (codes "fields do not 
 instance_text (instance.NoComposition row) = at_row row (codes "no composition fits")
 instance_text instance.TooManyUnits = codes "too many units"
 instance_text instance.TooManyCompositions = codes "too many compositions"
-instance_text instance.NoMemory = codes "out of memory"
+instance_text instance.NoMemory = []
 
--- the table that such a refusal speaks of
+-- the table that such a refusal speaks of; of want of memory it is never asked for
 abbrev pub instance_file : InstanceRefusal → Table
 instance_file (instance.RepeatedName table row) = table
 instance_file (instance.UnknownName table row column) = table
@@ -69,12 +69,12 @@ instance_file instance.TooManyUnits = Stock
 instance_file instance.TooManyCompositions = Types
 instance_file instance.NoMemory = Types
 
--- why rows make no plan of the day
+-- why rows make no plan of the day; want of memory has no text
 abbrev pub plan_text : PlanRefusal → List ℕ
 plan_text (plan.WrongTrip row) = at_row row (codes "wrong trip")
 plan_text (plan.UnknownUnit row) = at_row row (codes "unknown unit")
 plan_text (plan.MissingTrip row) = codes "trip missing after row " ++ decimal row
-plan_text plan.NoMemory = codes "out of memory"
+plan_text plan.NoMemory = []
 
 -- why a file is refused
 abbrev pub refusal_text : Refusal → List ℕ

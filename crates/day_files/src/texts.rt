@@ -8,7 +8,7 @@ use rail_csv::{Table, TableRefusal, column_name};
 use std::alloc::Global;
 use timetable::{InstanceRefusal, PlanRefusal};
 
-/// The table that a refusal of the day speaks of.
+/// The table that a refusal of the day speaks of. Want of memory speaks of none.
 pub(crate) fn instance_file(refusal: &InstanceRefusal) -> Table
     ensures { result ≡ instance_file refusal.now }
 {
@@ -25,11 +25,12 @@ pub(crate) fn instance_file(refusal: &InstanceRefusal) -> Table
         InstanceRefusal::NoComposition(_) => Table::Trips,
         InstanceRefusal::TooManyUnits => Table::Stock,
         InstanceRefusal::TooManyCompositions => Table::Types,
+        // Never asked for: want of memory names no table.
         InstanceRefusal::NoMemory => Table::Types,
     }
 }
 
-/// What is wrong in a table.
+/// What is wrong in a table. Want of memory has no text.
 pub(crate) fn table_text(
     alloc: Global,
     table: Table,
@@ -60,11 +61,11 @@ pub(crate) fn table_text(
         }
         TableRefusal::TooManyRows => words(alloc, "too many rows"),
         TableRefusal::NoRow => words(alloc, "no row"),
-        TableRefusal::NoMemory => words(alloc, "out of memory"),
+        TableRefusal::NoMemory => Ok(String::new(alloc)),
     }
 }
 
-/// Why tables make no day.
+/// Why tables make no day. Want of memory has no text.
 pub(crate) fn instance_text(alloc: Global, refusal: &InstanceRefusal) -> Result<String, NoMemory>
     ensures { IfOk result (λ text. string_bytes text ≡ instance_text refusal.now) }
 {
@@ -89,11 +90,11 @@ pub(crate) fn instance_text(alloc: Global, refusal: &InstanceRefusal) -> Result<
         InstanceRefusal::NoComposition(row) => at_row(alloc, row, "no composition fits"),
         InstanceRefusal::TooManyUnits => words(alloc, "too many units"),
         InstanceRefusal::TooManyCompositions => words(alloc, "too many compositions"),
-        InstanceRefusal::NoMemory => words(alloc, "out of memory"),
+        InstanceRefusal::NoMemory => Ok(String::new(alloc)),
     }
 }
 
-/// Why rows make no plan of the day.
+/// Why rows make no plan of the day. Want of memory has no text.
 pub(crate) fn plan_text(alloc: Global, refusal: &PlanRefusal) -> Result<String, NoMemory>
     ensures { IfOk result (λ text. string_bytes text ≡ plan_text refusal.now) }
 {
@@ -101,7 +102,7 @@ pub(crate) fn plan_text(alloc: Global, refusal: &PlanRefusal) -> Result<String, 
         PlanRefusal::WrongTrip(row) => at_row(alloc, row, "wrong trip"),
         PlanRefusal::UnknownUnit(row) => at_row(alloc, row, "unknown unit"),
         PlanRefusal::MissingTrip(row) => Ok(format!(in alloc; "trip missing after row {row}")?),
-        PlanRefusal::NoMemory => words(alloc, "out of memory"),
+        PlanRefusal::NoMemory => Ok(String::new(alloc)),
     }
 }
 

@@ -46,6 +46,3 @@ returns-in-TooManyUnits c = says c.args.refusal.now _ c.words.result c.in-TooMan
 
 pub returns-in-TooManyCompositions : goal.returns-in-TooManyCompositions
 returns-in-TooManyCompositions c = says c.args.refusal.now _ c.words-in-TooManyCompositions.result c.in-TooManyCompositions.is c.words-in-TooManyCompositions.ensures
-
-pub returns-in-NoMemory : goal.returns-in-NoMemory
-returns-in-NoMemory c = says c.args.refusal.now _ c.words-in-NoMemory.result c.in-NoMemory.is c.words-in-NoMemory.ensures

@@ -35,9 +35,6 @@ returns-in-TooManyRows c = says c.args.table c.args.refusal.now _ c.words-in-Too
 pub returns-in-NoRow : goal.returns-in-NoRow
 returns-in-NoRow c = says c.args.table c.args.refusal.now _ c.words-in-NoRow.result c.in-NoRow.is c.words-in-NoRow.ensures
 
-pub returns-in-NoMemory : goal.returns-in-NoMemory
-returns-in-NoMemory c = says c.args.table c.args.refusal.now _ c.words-in-NoMemory.result c.in-NoMemory.is c.words-in-NoMemory.ensures
-
 pub returns-in_ok-format-in-NotUtf8 : goal.returns-in_ok-format-in-NotUtf8
 returns-in_ok-format-in-NotUtf8 c =
     c.in_ok-format-in-NotUtf8.ensures.ok ∙ ap (table_text c.args.table) (sym c.in-NotUtf8.is)
