@@ -14,7 +14,7 @@ use Rattle.branch_tree.specs.Entries.{is_entered, put_in, refusal_of}
 use Rattle.answer_text.specs.Numbers.{◌>>=◌, at_end, number_in, nonzero_in}
 use Rattle.answer_text.specs.Pieces.{pieces}
 use Rattle.answer_text.specs.ReadLines.{AreBelow, entries_in, entry_in, entry_of, next_entry}
-use Rattle.answer_text.proofs.Signs.{bind_some, nonzero_sound}
+use Rattle.answer_text.proofs.Signs.{bind_some, nonzero_sound, some_is}
 use Rattle.answer_text.proofs.Numerals.{number_sound}
 
 -- ---- what is put past the last index
@@ -120,9 +120,6 @@ entry_sound (index ∷ value ∷ more) entry e =
     let same : made ≡ entry = some_is made entry second.2 in
     subst (λ (x : Entry). (index ∷ value ∷ more ≡ decimal x.index ∷ signed_decimal x.value ∷ []) × IsRead x) same
     ((λ i. number.0 i ∷ amount.0 i ∷ none_left more rest.0 i), record { index = number.1; size = amount.1; other = amount.2 })
-  where
-    some_is : (x y : Entry) → Some x ≡ Some y → x ≡ y
-    some_is x y e = cc
 
 pub next_entry_sound : (words : List (List ℕ)) (entry : Entry) (rest : List (List ℕ)) → next_entry words ≡ Some (entry, rest)
     → (word : List ℕ) × (words ≡ word ∷ rest) × (pieces 58 word ≡ decimal entry.index ∷ signed_decimal entry.value ∷ []) × IsRead entry

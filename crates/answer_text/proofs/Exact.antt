@@ -15,11 +15,11 @@ use Rattle.answer_text.specs.Pieces.{pieces}
 use Rattle.answer_text.specs.ReadPlaces.{Place, at_branchings, at_head, at_last, at_nodes, at_runs, at_title}
 use Rattle.answer_text.specs.ReadPlaces.{after_line, fault_at, line_number, lines_before, reading}
 use Rattle.answer_text.specs.Texts.{lines_of}
-use Rattle.answer_text.proofs.Cutting.{not_blank}
+use Rattle.answer_text.proofs.Cutting.{not_blank, some_pieces}
 use Rattle.answer_text.proofs.Placing.{leads}
-use Rattle.answer_text.proofs.Ruling.{Reached, begin, cut_on, lacks_in, more_room, reached_next, some_pieces, wide}
+use Rattle.answer_text.proofs.Ruling.{Reached, begin, cut_on, lacks_in, more_room, reached_next, wide}
 use Rattle.answer_text.proofs.Running.{answer_lacks, answer_steps, steps, steps-append}
-use Rattle.answer_text.proofs.Signs.{bind_some}
+use Rattle.answer_text.proofs.Signs.{bind_some, some_is}
 use Rattle.answer_text.proofs.Sound.{none_some}
 use Rattle.answer_text.proofs.Splitting.{all_lack, both, joined, joined-pieces, lacks, pieces-front, pieces-lines}
 use Rattle.answer_text.proofs.Steps.{IsOpen, fault_is, open_end, over_is}
@@ -31,9 +31,6 @@ use Rattle.answer_text.proofs.Turns.{after_last}
 record Passed (place later : Place) (lines : List (List ℕ)) : Type 0 where
   reached : Reached later
   before : lines_before later ≡ lines_before place ++ lines
-
-some_is : {A : Type 0} → (x y : A) → Some x ≡ Some y → x ≡ y
-some_is x y e = cc
 
 passed : (place later : Place) (lines : List (List ℕ)) → Reached place → steps 8001 place lines ≡ Some later → Passed place later lines
 passed place later [] r e = subst (λ (p : Place). Passed place p []) (some_is place later e) (record { reached = r; before = sym (append-nil (lines_before place)) })

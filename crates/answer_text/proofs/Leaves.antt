@@ -22,8 +22,8 @@ use Rattle.answer_text.specs.ReadLines.{cost_in, counted_in, empty_in, entries_i
 use Rattle.answer_text.specs.ReadLines.{only_in, ray_in}
 use Rattle.answer_text.specs.Texts.{entries_words, entry_word, node_words}
 use Rattle.answer_text.proofs.Adding.{IsRead, next_entry_sound}
-use Rattle.answer_text.proofs.Signs.{bind_some, branch}
-use Rattle.answer_text.proofs.Sound.{some_is, none_some, first_is, at_end_sound, next_number_sound, next_signed_sound}
+use Rattle.answer_text.proofs.Signs.{bind_some, branch, some_is}
+use Rattle.answer_text.proofs.Sound.{none_some, first_is, at_end_sound, next_number_sound, next_signed_sound}
 use Rattle.answer_text.proofs.Splitting.{joined, joined-pieces}
 
 -- ---- entries

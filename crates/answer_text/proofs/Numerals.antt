@@ -14,6 +14,7 @@ use Rattle.std.proofs.lemmas.Str.{digit_value_digit}
 use Rattle.std.proofs.lemmas.Str.Parse.{digit_from_value, digits_value_short}
 use Rattle.answer_text.specs.Numbers.{has_leading_zero, is_number, number_in}
 use Rattle.answer_text.proofs.Digits.{own}
+use Rattle.answer_text.proofs.Splitting.{both, not_true}
 
 -- ---- digits of a value, as `decimal` writes them
 
@@ -45,15 +46,6 @@ decimal_of_digits (c ∷ e ∷ cs) d some lead small =
     ∙ ap (λ (x : List ℕ). x ++ (e ∷ cs)) (decimal_digit (0 * 10 + digit_value c) (omega (arith, d.0)) ∙ ap (λ (x : ℕ). x ∷ []) is)
 
 -- ---- the tests of a number
-
-both : (a b : Bool) → (a && b) ≡ true → (a ≡ true) × (b ≡ true)
-both true true h = (refl, refl)
-both true false h = absurd cc
-both false b h = absurd cc
-
-not_true : (a : Bool) → not a ≡ true → a ≡ false
-not_true true h = absurd cc
-not_true false h = refl
 
 not_both : (a b : Bool) → (a && b) ≡ false → a ≡ true → b ≡ false
 not_both true b h e = h

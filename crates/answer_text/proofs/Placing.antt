@@ -19,8 +19,8 @@ use Rattle.answer_text.specs.ReadPlaces.{after_line, after_node_line, after_run_
 use Rattle.answer_text.specs.Texts.{body_lines, end_line, head_line, node_line, node_lines, opening_lines, run_lines}
 use Rattle.answer_text.specs.Texts.{title_line, tree_line, branchings_words, head_words, node_words, run_words}
 use Rattle.answer_text.proofs.Leaves.{node_sound}
-use Rattle.answer_text.proofs.Signs.{bind_some, branch}
-use Rattle.answer_text.proofs.Sound.{branchings_sound, equal_bytes, head_sound, none_some, run_sound, some_is}
+use Rattle.answer_text.proofs.Signs.{bind_some, branch, some_is}
+use Rattle.answer_text.proofs.Sound.{branchings_sound, equal_bytes, head_sound, none_some, run_sound}
 use Rattle.answer_text.proofs.Splitting.{spaced-words}
 use Rattle.answer_text.proofs.Written.{run_lines-more}
 

@@ -25,6 +25,7 @@ use Rattle.answer_text.specs.ReadPlaces.{after_line, after_node_line, ending_at,
 use Rattle.answer_text.specs.ReadPlaces.{lines_before, reading}
 use Rattle.answer_text.specs.Texts.{branchings_line, end_line, head_line, lines_of, node_line, opening_lines, run_lines}
 use Rattle.answer_text.specs.Texts.{text_of, title_line, tree_line}
+use Rattle.answer_text.proofs.Cutting.{some_pieces}
 use Rattle.answer_text.proofs.Placing.{IsPlace, leads, whole_within}
 use Rattle.answer_text.proofs.Running.{answer_lacks, answer_steps, steps, steps-append}
 use Rattle.answer_text.proofs.Signs.{bind_some}
@@ -325,15 +326,6 @@ pieces_lack mark (byte ∷ text) = split (eqb byte mark) refl (pieces mark text)
     split true h rest clean = clean
     split false h [] clean = rw h refl
     split false h (piece ∷ rest) clean = rw h clean
-
-pub some_pieces : (mark : ℕ) (text : List ℕ) → 1 ≤ length (pieces mark text)
-some_pieces mark [] = omega arith
-some_pieces mark (byte ∷ text) = some_front (eqb byte mark) (pieces mark text)
-  where
-    some_front : (b : Bool) (rest : List (List ℕ)) → 1 ≤ length (cond b ([] ∷ rest) (with_byte byte rest))
-    some_front true rest = omega arith
-    some_front false [] = omega arith
-    some_front false (piece ∷ rest) = omega arith
 
 -- what becomes of any bytes is right
 pub all_rules : (bytes : List ℕ) → Rules bytes (reading at_title (pieces 10 bytes))

@@ -25,7 +25,7 @@ pub branch : {A : Type 0} → (b : Bool) (x y z : A) → cond b x y ≡ z → ((
 branch true x y z e = inl (refl, e)
 branch false x y z e = inr (refl, e)
 
-some_is : {A : Type 0} → (x y : A) → Some x ≡ Some y → x ≡ y
+pub some_is : {A : Type 0} → (x y : A) → Some x ≡ Some y → x ≡ y
 some_is x y e = cc
 
 -- a size that is not 0, with a minus before it

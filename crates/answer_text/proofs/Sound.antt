@@ -19,10 +19,7 @@ use Rattle.answer_text.specs.ReadLines.{bounded_in, bounded_plan_in, branchings_
 use Rattle.answer_text.specs.ReadLines.{run_in, units_in}
 use Rattle.answer_text.specs.Texts.{branchings_words, head_words, run_words}
 use Rattle.answer_text.proofs.Numerals.{number_sound}
-use Rattle.answer_text.proofs.Signs.{bind_some, branch, signed_sound}
-
-pub some_is : {A : Type 0} → (x y : A) → Some x ≡ Some y → x ≡ y
-some_is x y e = cc
+use Rattle.answer_text.proofs.Signs.{bind_some, branch, signed_sound, some_is}
 
 pub none_some : {A : Type 0} → (x : A) → None ≡ Some x → ⊥
 none_some x e = absurd cc

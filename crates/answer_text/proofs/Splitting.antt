@@ -8,6 +8,7 @@ use Rattle.std.proofs.lemmas.Bool.Decides.{nat_tests}
 use Rattle.std.proofs.lemmas.List.{append-nil}
 use Rattle.answer_text.specs.Lines.{after_spaces, spaced, text_of_lines}
 use Rattle.answer_text.specs.Pieces.{pieces, with_byte}
+use Rattle.answer_text.proofs.Cutting.{some_pieces}
 
 -- no byte of a text is a mark
 abbrev pub lacks : ℕ → List ℕ → Bool
@@ -23,7 +24,7 @@ both true true h = (refl, refl)
 both true false h = absurd cc
 both false b h = absurd cc
 
-not_true : (a : Bool) → not a ≡ true → a ≡ false
+pub not_true : (a : Bool) → not a ≡ true → a ≡ false
 not_true true h = absurd cc
 not_true false h = refl
 
@@ -49,15 +50,6 @@ joined-front : (mark byte : ℕ) (rest : List (List ℕ)) → 1 ≤ length rest 
 joined-front mark byte [] some = absurd (omega (arith, some))
 joined-front mark byte (piece ∷ []) some = refl
 joined-front mark byte (piece ∷ next ∷ rest) some = refl
-
-some_pieces : (mark : ℕ) (text : List ℕ) → 1 ≤ length (pieces mark text)
-some_pieces mark [] = omega arith
-some_pieces mark (byte ∷ text) = some_front (eqb byte mark) byte (pieces mark text)
-  where
-    some_front : (b : Bool) (byte : ℕ) (rest : List (List ℕ)) → 1 ≤ length (cond b ([] ∷ rest) (with_byte byte rest))
-    some_front true byte rest = omega arith
-    some_front false byte [] = omega arith
-    some_front false byte (piece ∷ rest) = omega arith
 
 joined-blank : (mark : ℕ) (rest : List (List ℕ)) → 1 ≤ length rest → joined mark ([] ∷ rest) ≡ mark ∷ joined mark rest
 joined-blank mark [] some = absurd (omega (arith, some))

@@ -39,6 +39,7 @@ use Rattle.rail_csv.specs.Tables.{trips_of, link_header, link_columns, links_of,
 use Rattle.rail_csv.specs.Tables.{weights_of, plan_header, plan_columns, plan_of}
 use Rattle.rail_csv.specs.Rows.{IsName, IsWithin, IsMinute, AreRows, IsTypeRow, IsStationRow, IsStockRow, IsTripRow}
 use Rattle.rail_csv.specs.Rows.{IsLinkRow, IsWeightsRow, IsPlanRow}
+use Rattle.rail_csv.proofs.Headers.{both}
 
 -- ---- steps that went well
 
@@ -51,10 +52,6 @@ step {read = Err d} e P meets goes = absurd cc
 
 pub same : {A : Type 0} (x y : A) → the_ok x ≡ the_ok y → x ≡ y
 same x y e = cc
-
-both : (a b : Bool) → (a && b) ≡ true → (a ≡ true) × (b ≡ true)
-both true b h = (refl, h)
-both false b h = absurd cc
 
 kept : {A : Type 0} (b : Bool) (x y : A) (d : TableRefusal) → cond b (Ok x) (Err d) ≡ Ok y → (b ≡ true) × (x ≡ y)
 kept true x y d e = (refl, cc)

@@ -34,7 +34,7 @@ unfolding AllText
 all_text [] h = refl
 all_text (first ∷ fields) h = rw (is_utf8-from_IsUtf8 first h.0) (all_text fields h.1)
 
-both : (a b : Bool) → (a && b) ≡ true → (a ≡ true) × (b ≡ true)
+pub both : (a b : Bool) → (a && b) ≡ true → (a ≡ true) × (b ≡ true)
 both true b h = (refl, h)
 both false b h = absurd cc
 
