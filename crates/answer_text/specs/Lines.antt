@@ -1,14 +1,9 @@
 -- Lines and their words.
 use Rattle.std.specs.Prelude.{ℕ, ◌≡◌, List, [], ◌∷◌, ◌++◌}
-
-abbrev pub space : ℕ
-space = 32
+use Rattle.rail_base.specs.Names.{space}
 
 abbrev pub line_feed : ℕ
 line_feed = 10
-
-abbrev pub colon : ℕ
-colon = 58
 
 abbrev pub minus : ℕ
 minus = 45

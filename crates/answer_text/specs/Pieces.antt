@@ -1,6 +1,6 @@
 -- Bytes as pieces between marks: a document as lines, and a line as words.
 use Rattle.std.specs.Prelude.{ℕ, ◌≡◌, List, [], ◌∷◌, ◌==◌, if◌then◌else◌}
-use Rattle.answer_text.specs.Lines.{space}
+use Rattle.rail_base.specs.Names.{space}
 
 -- pieces with one more byte at the front of the first
 abbrev pub with_byte : ℕ → List (List ℕ) → List (List ℕ)

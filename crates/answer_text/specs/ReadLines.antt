@@ -3,6 +3,7 @@ use Rattle.std.specs.Prelude.{ℕ, zero, suc, ℤ, ◌-◌, ◌+◌, ◌==◌, �
 use Rattle.std.specs.Prelude.{if◌then◌else◌, Option, Some, None}
 use Rattle.std.specs.List.{AllByRecursion}
 use Rattle.std.specs.Str.{bytes_eq}
+use Rattle.rail_base.specs.Times.{colon}
 use Rattle.rail_base.specs.declared.limits.TheConstants.{MOST_BRANCHINGS, MOST_COMPOSITION, MOST_COMPOSITIONS}
 use Rattle.rail_base.specs.declared.limits.TheConstants.{MOST_ENTRIES, MOST_MULTIPLIER, MOST_TRIPS, MOST_TYPES}
 use Rattle.rail_base.specs.declared.limits.TheConstants.{MOST_UNITS}
@@ -13,7 +14,6 @@ use Rattle.branch_tree.specs.declared.tree.Node.TheVariants.{Branch, CostLeaf, R
 use Rattle.answer_text.specs.declared.answer.Head.{Head}
 use Rattle.answer_text.specs.declared.answer.Head.TheVariants.{Optimal, Infeasible, Bounded, BoundedPlan}
 use Rattle.answer_text.specs.declared.limits.TheConstants.{MOST_AMOUNT, MOST_INDEX}
-use Rattle.answer_text.specs.Lines.{colon}
 use Rattle.answer_text.specs.Pieces.{pieces}
 use Rattle.answer_text.specs.Numbers.{◌>>=◌, number_in, nonzero_in, next_number, next_signed, at_end}
 

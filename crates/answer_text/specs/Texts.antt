@@ -1,6 +1,7 @@
 -- The one text of an answer, line by line.
 use Rattle.std.specs.Prelude.{ℕ, suc, List, [], ◌∷◌, ◌++◌, length, map, codes}
 use Rattle.std.specs.Fmt.{decimal, signed_decimal}
+use Rattle.rail_base.specs.Times.{colon}
 use Rattle.branch_tree.specs.declared.cuts.Cut.{Cut}
 use Rattle.branch_tree.specs.declared.cuts.Cut.TheVariants.{Only, AtMost}
 use Rattle.branch_tree.specs.declared.multipliers.Entry.{Entry}
@@ -9,7 +10,7 @@ use Rattle.branch_tree.specs.declared.tree.Node.TheVariants.{Branch, CostLeaf, R
 use Rattle.answer_text.specs.declared.answer.Answer.{Answer}
 use Rattle.answer_text.specs.declared.answer.Head.{Head}
 use Rattle.answer_text.specs.declared.answer.Head.TheVariants.{Optimal, Infeasible, Bounded, BoundedPlan}
-use Rattle.answer_text.specs.Lines.{after_spaces, colon, line_feed, spaced, text_of_lines}
+use Rattle.answer_text.specs.Lines.{after_spaces, line_feed, spaced, text_of_lines}
 
 abbrev pub title_line : List ℕ
 title_line = codes "railplan answer 1"

@@ -1,10 +1,10 @@
 //! What the node lines say.
 
 ghost use Rattle.std.specs.Prelude.{◌≡◌, ◌≢◌, ◌<◌, ◌≤◌, [], ◌∷◌, ◌++◌, length, pos, unsigned_abs, IfOk, option_map};
-ghost use Rattle.answer_text.specs.Lines.{colon};
 ghost use Rattle.answer_text.specs.Pieces.{pieces, words_after, words_of};
 ghost use Rattle.answer_text.specs.ReadLines.{AreBelow, cost_in, counted_in, empty_in, entries_in, entry_in, most_in};
 ghost use Rattle.answer_text.specs.ReadLines.{next_entry, node_in, only_in, ray_in};
+ghost use Rattle.rail_base.specs.Times.{colon};
 ghost use Rattle.rail_base.specs.declared.limits.TheConstants.{MOST_MULTIPLIER};
 
 use crate::limits::MOST_INDEX;

@@ -2,6 +2,8 @@
 use Rattle.std.specs.Prelude.{ℕ, List, [], ◌∷◌, length, take, drop, map, Bool, ◌&&◌, ◌==◌, ◌+◌, ◌-◌, ◌*◌, ◌^◌, nat_le}
 use Rattle.std.specs.Prelude.{nat_lt, slice_index}
 use Rattle.std.specs.List.{list_all, slice_split}
+use Rattle.rail_base.specs.Names.{space}
+use Rattle.rail_base.specs.Times.{colon}
 use Rattle.rail_base.specs.declared.limits.TheConstants.{MOST_UNITS}
 use Rattle.rail_csv.specs.declared.limits.TheConstants.{LAST_HOUR, LAST_MINUTE_OF_AN_HOUR, MINUTES_OF_AN_HOUR}
 use Rattle.rail_csv.specs.declared.limits.TheConstants.{MOST_NUMBER_DIGITS}
@@ -30,9 +32,6 @@ hour_text text = take (length text - 3) text
 abbrev pub minute_text : List ℕ → List ℕ
 minute_text text = drop (length text - 2) text
 
-abbrev pub colon : ℕ
-colon = 58
-
 abbrev pub has_time_form : List ℕ → Bool
 has_time_form text = nat_le 4 (length text) && nat_le (length text) 5
     && are_digits (hour_text text) && (slice_index text (length text - 3) == colon) && are_digits (minute_text text)
@@ -45,9 +44,6 @@ is_time text = has_time_form text && nat_le (number_of (hour_text text)) LAST_HO
 -- the minutes since the first midnight
 abbrev pub time_of : List ℕ → ℕ
 time_of text = MINUTES_OF_AN_HOUR * number_of (hour_text text) + number_of (minute_text text)
-
-abbrev pub space : ℕ
-space = 32
 
 -- the pieces between single spaces; an empty text has none
 abbrev pub pieces_of : List ℕ → List (List ℕ)
