@@ -53,7 +53,8 @@ impl From<NoMemory> for ReadError {
 }
 
 impl Refusal {
-    /// The table whose file is refused: where the tables make no day, the one that the refusal speaks of.
+    /// The table whose file is refused: where the tables make no day, the one that the refusal speaks of, and where the
+    /// rows make no plan, that of the plan. Want of memory speaks of none, and is never asked for.
     pub fn table(&self) -> Table
         ensures { result ≡ refusal_file self.now }
     {

@@ -54,7 +54,7 @@ fn number_of(text: &[u8]) -> Option<u32>
     Some(value as u32)
 }
 
-/// A number from `low` to `high`.
+/// A number from `low` to `high`. A text that is no number is `BadNumber`, and another number `OutOfRange`.
 pub fn number(
     fields: &StringRecord,
     low: u32,
@@ -67,7 +67,8 @@ pub fn number(
     number_or("", fields, low, high, row, column)
 }
 
-/// A number from `low` to `high`; what is said for a missing one where the row's version has no such column.
+/// A number from `low` to `high`; what is said for a missing one where the row's version has no such column. It is
+/// refused as by `number`.
 #[tactic(auto, unfolding(crate::specs::Columns::number_column))]
 pub fn number_or(
     missing: &str,
@@ -117,7 +118,8 @@ fn minutes_of(text: &[u8]) -> Option<u16>
     Some((MINUTES_OF_AN_HOUR * hour + minute) as u16)
 }
 
-/// A time: one or two digits of the hour 0 to 47, a colon, and two digits of the minute 0 to 59.
+/// A time, as the minutes since the first midnight: one or two digits of the hour 0 to 47, a colon, and two digits of
+/// the minute 0 to 59. Another text is `BadTime`.
 #[tactic(auto, unfolding(crate::specs::Columns::time_column))]
 pub fn time(fields: &StringRecord, row: u32, column: u32) -> Result<Minute, TableRefusal>
     ensures { Gives is_memory result (time_column row column (field (fields_of fields.now) column)) }
@@ -129,7 +131,7 @@ pub fn time(fields: &StringRecord, row: u32, column: u32) -> Result<Minute, Tabl
     Ok(Minute(minutes))
 }
 
-/// A name.
+/// A name. Another text is `BadName`, and `NoMemory` is want of memory.
 #[tactic(auto, unfolding(crate::specs::Columns::name_column))]
 pub fn name(
     alloc: Global,
@@ -146,7 +148,7 @@ pub fn name(
     Ok(Name::copy(alloc, text)?)
 }
 
-/// A name, or nothing where the field is empty.
+/// A name, or nothing where the field is empty. It is refused as by `name`.
 #[tactic(auto, unfolding(crate::specs::Columns::optional_name_column))]
 pub fn optional_name(
     alloc: Global,
@@ -163,7 +165,7 @@ pub fn optional_name(
     Ok(Some(name))
 }
 
-/// One of the words `turn`, `join` and `split`.
+/// One of the words `turn`, `join` and `split`. Another text is `BadWord`.
 #[tactic(auto, unfolding(crate::specs::Columns::kind_column))]
 pub fn kind(fields: &StringRecord, row: u32, column: u32) -> Result<KindWord, TableRefusal>
     ensures { Gives is_memory result (kind_column row column (field (fields_of fields.now) column)) }
@@ -177,14 +179,15 @@ pub fn kind(fields: &StringRecord, row: u32, column: u32) -> Result<KindWord, Ta
     }
 }
 
-/// One of the words `yes` and `no`.
+/// One of the words `yes` and `no`. Another text is `BadWord`.
 pub fn answer(fields: &StringRecord, row: u32, column: u32) -> Result<bool, TableRefusal>
     ensures { Gives is_memory result (answer_column row column (field (fields_of fields.now) column)) }
 {
     answer_or("", fields, row, column)
 }
 
-/// One of the words `yes` and `no`; what is said for a missing one where the row's version has no such column.
+/// One of the words `yes` and `no`; what is said for a missing one where the row's version has no such column. Another
+/// text is `BadWord`.
 #[tactic(auto, unfolding(crate::specs::Columns::answer_column))]
 pub fn answer_or(
     missing: &str,
@@ -202,7 +205,7 @@ pub fn answer_or(
     }
 }
 
-/// One of the words `none`, `front` and `rear`.
+/// One of the words `none`, `front` and `rear`. Another text is `BadWord`.
 #[tactic(auto, unfolding(crate::specs::Columns::end_column))]
 pub fn end(fields: &StringRecord, row: u32, column: u32) -> Result<End, TableRefusal>
     ensures { Gives is_memory result (end_column row column (field (fields_of fields.now) column)) }
@@ -240,7 +243,8 @@ fn are_units(units: &[UnitNo]) -> bool
     units.iter().all(|unit| unit.0 < MOST_UNITS)
 }
 
-/// Units by number, front to rear: nothing, or 1 to 6 numbers 0 to 1,999 with one space between two.
+/// Units by number, front to rear: nothing, or 1 to 6 numbers 0 to 1,999 with one space between two. A piece that is no
+/// number is `BadNumber`; more numbers or a greater one are `OutOfRange`; `NoMemory` is want of memory.
 #[tactic(auto, unfolding(crate::specs::Columns::units_column))]
 pub fn units(
     alloc: Global,

@@ -1,4 +1,8 @@
 //! The seven readers: what each table is read as.
+//!
+//! The first thing that is wrong is `WrongHeader`; or else what is wrong in the first wrong row: `FieldCount`, then
+//! `NotUtf8`, then what the leftmost wrong column says; or else `TooManyRows`. Of the weights alone `NoRow` comes after
+//! all of these. `NoMemory` is want of memory, and may come in place of any answer.
 
 ghost use Rattle.std.specs.Prelude.{◌≤◌, length, IfOk};
 ghost use Rattle.rail_base.specs.Answers.{Gives, GivesRows};

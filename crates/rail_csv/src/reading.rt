@@ -243,7 +243,8 @@ fn read_under<T: TableRow>(
 
 /// Reads a table: the words of its columns, how many of them its first version has, and the most rows. Its header tells
 /// its version. A byte order mark at the front is dropped once, and empty lines are no records. There can't be more
-/// rows than bytes, so no limit needs to be over the one on bytes.
+/// rows than bytes, so no limit needs to be over the one on bytes. The refusal is the first thing that is wrong, or
+/// want of memory.
 #[tactic(auto, unfolding(crate::specs::Tables::table_of))]
 pub fn read_table<T: TableRow>(
     alloc: Global,

@@ -17,12 +17,15 @@ use std::marker::Model;
 /// A file in memory: its path, of at most 64 bytes, and its bytes.
 #[derive(Drop)]
 pub struct MemoryFile {
+    /// The path by which it is read.
     pub path: Name,
+    /// Its bytes, from the front on.
     pub bytes: Bytes,
 }
 
 impl MemoryFile {
-    /// The file with a path and bytes, which are copied. The only refusal is want of memory.
+    /// The file with a path, which is one that a name may be, and with bytes; both are copied. The only refusal is want
+    /// of memory.
     pub fn new(alloc: Global, path: &str, bytes: &[u8]) -> Result<MemoryFile, NoMemory>
         requires { IsTrue (is_name path.now) }
         ensures { IfOk result (λ file. file ≡ record { path = path.now; bytes = bytes.now }) }
@@ -223,7 +226,7 @@ impl MemorySink {
         })
     }
 
-    /// All bytes written so far.
+    /// All bytes written so far, in the order of the writes.
     pub fn written(&self) -> &[u8]
         ensures { result.now ≡ self.now.written }
     {
