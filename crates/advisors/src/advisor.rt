@@ -51,15 +51,19 @@ pub trait Advisor: Drop {
     /// Whether it has answered `Quit`, after which it is not asked again.
     ghost has_quit: { Self → Bool };
 
+    /// Which advisor it is: where nothing else is said, none is told from another. It never changes.
+    ghost identity: { Self → ℕ } = { λ _. 0 };
+
     /// Asks for a proposal, which it puts into `to`, and for a word. It has not quit, and it was asked fewer than
-    /// 2^64 - 1 times. The only refusal is want of memory, after which too the count of calls has risen by one, and
-    /// `to` has the indices that it had and multipliers that fit them. An implementation that leaves `to` as it is
-    /// learns from `Proposal::multipliers` that they fit.
+    /// 2^64 - 1 times. The only refusal is want of memory, after which too the count of calls has risen by one, it is
+    /// the advisor that it was, and `to` has the indices that it had and multipliers that fit them. An implementation
+    /// that leaves `to` as it is learns from `Proposal::multipliers` that they fit.
     fn advise(&mut self, look: &Look<'_>, to: &mut Proposal) -> Result<Word, NoMemory>
         requires stays { has_quit self.old ≡ false }
         requires room { asked self.old + 1 < 2 ^ 64 }
         ensures asked { asked self.new ≡ asked self.old + 1 }
         ensures quit { has_quit self.new ≡ quit_after result }
+        ensures same { identity self.new ≡ identity self.old }
         ensures over { IsOverSame to.old to.new }
         ensures fit { DoesFit to.new };
 

@@ -8,7 +8,7 @@ ghost use Rattle.branch_tree.specs.Claims.{open_leaves_of};
 ghost use Rattle.branch_tree.specs.Regions.{root_of};
 ghost use Rattle.branch_tree.specs.Trees.{KeepLimits, branchings_of};
 ghost use Rattle.price_bound.specs.DayMeanings.{meanings_of};
-ghost use Rattle.search.specs.Questions.{AreAsked, in_rounds};
+ghost use Rattle.search.specs.Questions.{AreAsked, AreTheSame, in_rounds};
 ghost use Rattle.search.specs.Conclusions.{IsSolved, nodes_found, plan_found};
 ghost use Rattle.search.specs.declared.found.Found.TheVariants.{Bounded};
 ghost use Rattle.answer_check.specs.Validity.{RunsByPicks};
@@ -40,8 +40,8 @@ use unit_duties::{DutyRefusal, name_units};
 /// says of all plans of named units is true of them, and its tree proves that, so that `check_answer` finds it valid.
 /// It is `bounded` only where all branchings that are granted were made and a leaf is open.
 ///
-/// There are as many advisors afterwards, whatever the answer is, and they are asked as `search::solve` tells. The
-/// error is want of memory alone, here or in an advisor.
+/// The advisors are the same afterwards, each at its place, whatever the answer is, and they are asked as
+/// `search::solve` tells. The error is want of memory alone, here or in an advisor.
 pub fn answer_for(
     alloc: Global,
     instance: &Instance,
@@ -55,6 +55,7 @@ pub fn answer_for(
     ensures headline { IfOk result (IsHeadline instance.now nodes) }
     ensures checks { IfOk result (λ answer. (verdict : AnswerVerdict) →
         IsAnswerVerdict instance.now answer verdict → verdict ≡ AnswerVerdict.Valid) }
+    ensures advisors { AreTheSame advisors.old.items advisors.new.items identity }
     ensures asked { AreAsked advisors.old.items advisors.new.items asked has_quit 0 (rounds * (2 * nodes + 1)) }
     ensures counted { IfOk result (λ answer. AreAsked advisors.old.items advisors.new.items asked has_quit
         (in_rounds rounds (answer.branchings + open_leaves answer)) (rounds * (2 * answer.branchings + 1))) }
@@ -79,6 +80,7 @@ fn find(
     requires rounds { rounds ≤ MOST_ROUNDS }
     requires asked { All (λ advisor. asked advisor ≤ 2 ^ 63) advisors.old.items }
     ensures solved { IfOk result (IsSolved (meanings_of instance.now) (root_of instance.now) nodes) }
+    ensures advisors { AreTheSame advisors.old.items advisors.new.items identity }
     ensures asked { AreAsked advisors.old.items advisors.new.items asked has_quit 0 (rounds * (2 * nodes + 1)) }
     ensures counted { IfOk result (λ found. AreAsked advisors.old.items advisors.new.items asked has_quit
         (in_rounds rounds (branchings_of (nodes_found found) + open_leaves_of (plan_found found) (nodes_found found)))

@@ -3,7 +3,7 @@
 ghost use Rattle.std.specs.Prelude.{ℕ, List, ◌≡◌, ◌≤◌, ◌+◌, ◌*◌, ◌^◌, Some, All};
 ghost use Rattle.rail_base.specs.declared.limits.TheConstants.{MOST_BRANCHINGS, MOST_ROUNDS};
 ghost use Rattle.rail_io.specs.Folders.{OnlyReads};
-ghost use Rattle.search.specs.Questions.{AreAsked};
+ghost use Rattle.search.specs.Questions.{AreAsked, AreTheSame};
 ghost use Rattle.trial_day.specs.Trial.{IsTrialSize};
 ghost use Rattle.planner_app.specs.Advice.{AreAskedFor};
 ghost use Rattle.planner_app.specs.Outcomes.{AskAbout, AskToCheck, AskToPlan, AskToSimulate, Grants, IsOutcome};
@@ -31,13 +31,18 @@ pub(crate) fn outcome_of<F: Folder>(
 ) -> Outcome
     requires asked { All (λ advisor. asked advisor ≤ 2 ^ 63) advisors.old.items }
     ensures outcome { IsOutcome F.holds F.may_fail F.faults F.taken words.now folder.old folder.new result }
-    ensures only_reads { OnlyReads F.holds F.may_fail F.faults F.taken folder.old folder.new }
+
+    // The advisors: that each stays at its place, and how often it was asked.
+    ensures advisors { AreTheSame advisors.old.items advisors.new.items identity }
     ensures asked { (nodes rounds : ℕ) → Grants words.now nodes rounds
         → AreAsked advisors.old.items advisors.new.items asked has_quit 0 (rounds * (2 * nodes + 1)) }
     ensures asked_for { (nodes rounds : ℕ) → Grants words.now nodes rounds
         → AreAskedFor rounds result advisors.old.items advisors.new.items asked has_quit }
     ensures unasked { ((nodes rounds : ℕ) → ¬ Grants words.now nodes rounds)
         → advisors.new.items ≡ advisors.old.items }
+
+    // The folder.
+    ensures only_reads { OnlyReads F.holds F.may_fail F.faults F.taken folder.old folder.new }
     ensures untouched { ((dir : List ℕ) → ¬ AskAbout words.now dir) → folder.new ≡ folder.old }
 {
     match read_words(alloc, words) {
@@ -77,6 +82,7 @@ fn planned<F: Folder>(
     ensures outcome { (words : List (List ℕ)) → AskToPlan words dir.now nodes rounds
         → IsOutcome F.holds F.may_fail F.faults F.taken words folder.old folder.new result }
     ensures only_reads { OnlyReads F.holds F.may_fail F.faults F.taken folder.old folder.new }
+    ensures advisors { AreTheSame advisors.old.items advisors.new.items identity }
     ensures asked { AreAsked advisors.old.items advisors.new.items asked has_quit 0 (rounds * (2 * nodes + 1)) }
     ensures asked_for { AreAskedFor rounds result advisors.old.items advisors.new.items asked has_quit }
 {
@@ -104,6 +110,7 @@ fn tried(
     requires rounds { rounds ≤ MOST_ROUNDS }
     requires asked { All (λ advisor. asked advisor ≤ 2 ^ 63) advisors.old.items }
     ensures outcome { IsTrialOutcome seed trips nodes result }
+    ensures advisors { AreTheSame advisors.old.items advisors.new.items identity }
     ensures asked { AreAsked advisors.old.items advisors.new.items asked has_quit 0 (rounds * (2 * nodes + 1)) }
     ensures asked_for { AreAskedFor rounds result advisors.old.items advisors.new.items asked has_quit }
 {

@@ -2,7 +2,7 @@
 
 ghost use Rattle.std.specs.Prelude.{ℕ, List, ◌≡◌, ◌≤◌, ◌+◌, ◌*◌, ◌^◌, ◌↔◌, Some, All};
 ghost use Rattle.rail_io.specs.Folders.{Files, OnlyReads, Rose};
-ghost use Rattle.search.specs.Questions.{AreAsked};
+ghost use Rattle.search.specs.Questions.{AreAsked, AreTheSame};
 ghost use Rattle.run_documents.specs.declared.outcome.Outcome.{Outcome};
 ghost use Rattle.planner_app.specs.declared.reports.Report.{Report};
 ghost use Rattle.planner_app.specs.Advice.{AreAskedFor};
@@ -104,11 +104,11 @@ fn write_outcome<K: Sink>(alloc: Global, outcome: &Outcome, out: &mut K) -> u8
 /// holds, and what is said of the document where the sink tells what was written. A count rises where it is greater
 /// afterwards, or stands at 2^64 - 1.
 ///
-/// Each advisor was asked at most 2^63 times before. Afterwards there are as many advisors, and place by place none was
-/// asked fewer times than before, whatever the status is. One that has quit stays so and is not asked. Where an answer
-/// with B branchings and L open leaves comes, each was asked K (2 B + 1) times at most, which is K times for the root
-/// and for both sides of each branching; and one that has not quit at the end was asked B + L times at least, unless K
-/// is 0. Other commands leave the list as it is. Words that ask for no command on a folder leave the folder as it is,
+/// Each advisor was asked at most 2^63 times before. Afterwards the advisors are the same, each at its place, and none
+/// was asked fewer times than before, whatever the status is. One that has quit stays so and is not asked. Where an
+/// answer with B branchings and L open leaves comes, each was asked K (2 B + 1) times at most, which is K times for the
+/// root and for both sides of each branching; and one that has not quit at the end was asked B + L times at least,
+/// unless K is 0. Other commands leave the list as it is. Words that ask for no command on a folder leave the folder as it is,
 /// those of `trial` among them.
 #[tactic(auto, using(crate::proofs::Statuses::unread_rose))]
 pub fn railplan<F: Folder, K: Sink>(
@@ -149,7 +149,8 @@ pub fn railplan<F: Folder, K: Sink>(
         × ((nodes rounds : ℕ) → Grants words.now nodes rounds
         → AreAskedFor rounds outcome advisors.old.items advisors.new.items asked has_quit) }
 
-    // How often the advisors were asked, whatever the status is.
+    // The advisors, whatever the status is: that each stays at its place, and how often it was asked.
+    ensures advisors { AreTheSame advisors.old.items advisors.new.items identity }
     ensures asked { (nodes rounds : ℕ) → Grants words.now nodes rounds
         → AreAsked advisors.old.items advisors.new.items asked has_quit 0 (rounds * (2 * nodes + 1)) }
     ensures unasked { ((nodes rounds : ℕ) → ¬ Grants words.now nodes rounds)

@@ -1,9 +1,10 @@
 -- How often advisors are asked, in one round and in several.
 use Rattle.std.proofs.Common.{◌≡◌, ℕ, zero, suc, ◌+◌, ◌<◌, ◌≤◌, ◌^◌, List, [], ◌∷◌, length, get_or, set, replicate}
-use Rattle.std.proofs.Common.{Bool, true, false, refl, sym, ap, subst, arith, add-one, ◌∙◌, ◌⊎◌, inl, inr}
+use Rattle.std.proofs.Common.{map, Bool, true, false, refl, sym, ap, subst, arith, add-one, ◌∙◌, ◌⊎◌, inl, inr}
 use Rattle.std.proofs.lemmas.List.{get_or_default, get_or-set_other}
 use Rattle.std.proofs.lemmas.List.Elements.{All-cons, All-nil, All-head, All-tail}
-use Rattle.search.specs.Questions.{IsAsked, AreAsked, AreAskedUpTo, CanAsk, IsAskedAt, MayBeAsked, in_rounds, once}
+use Rattle.search.specs.Questions.{IsAsked, AreAsked, AreAskedUpTo, AreTheSame, CanAsk, IsAskedAt, MayBeAsked, in_rounds}
+use Rattle.search.specs.Questions.{once}
 use Rattle.search.specs.Desks.{AreNotedBut}
 
 -- ---- one advisor
@@ -212,6 +213,13 @@ module _ {A : Type 0} (asked : A → ℕ) (has_quit : A → Bool) where
   asked_all least (suc places) [] (y ∷ ys) all is = absurd is
   asked_all least (suc places) (x ∷ xs) [] all is = absurd is
   asked_all least (suc places) (x ∷ xs) (y ∷ ys) all is = (is.0, asked_all least places xs ys (omega (arith, all)) is.1)
+
+-- an advisor that was asked is put back at its place
+pub same_but_asked : {A : Type 0} (identity : A → ℕ) (advisors : List A) (place : ℕ) (old new : A) → old ≡ get_or advisors place old → identity new ≡ identity old →
+    AreTheSame advisors (set advisors place new) identity
+same_but_asked identity [] place old new here same = refl
+same_but_asked identity (first ∷ advisors) zero old new here same = ap (λ (one : ℕ). one ∷ map identity advisors) (same ∙ ap identity here)
+same_but_asked identity (first ∷ advisors) (suc place) old new here same = ap (λ (others : List ℕ). identity first ∷ others) (same_but_asked identity advisors place old new here same)
 
 -- ---- whether advisors have enough
 

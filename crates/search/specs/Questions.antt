@@ -1,6 +1,6 @@
 -- How the advisors of a search are asked.
-use Rattle.std.specs.Prelude.{ℕ, zero, suc, ◌+◌, ◌<◌, ◌≤◌, ◌^◌, ◌≡◌, List, [], ◌∷◌, length, get_or, All, Bool, true}
-use Rattle.std.specs.Prelude.{false}
+use Rattle.std.specs.Prelude.{ℕ, zero, suc, ◌+◌, ◌<◌, ◌≤◌, ◌^◌, ◌≡◌, List, [], ◌∷◌, length, get_or, map, All, Bool}
+use Rattle.std.specs.Prelude.{true, false}
 use Rattle.std.specs.List.{AllZip}
 
 -- An advisor that has not quit was asked so many times at least, and each was asked so many times at most. One that has
@@ -16,6 +16,10 @@ pub record IsAsked (least most before after : ℕ) (had_quit has_quit : Bool) : 
 abbrev pub AreAsked : {A : Type 0} → List A → List A → (A → ℕ) → (A → Bool) → ℕ → ℕ → Type 0
 AreAsked before after asked has_quit least most =
     AllZip (λ old new. IsAsked least most (asked old) (asked new) (has_quit old) (has_quit new)) before after
+
+-- the same advisors as before, each at its place
+abbrev pub AreTheSame : {A : Type 0} → List A → List A → (A → ℕ) → Type 0
+AreTheSame before after identity = map identity after ≡ map identity before
 
 -- a number of times where there are rounds, and none where there are not
 abbrev pub in_rounds : ℕ → ℕ → ℕ

@@ -3,7 +3,7 @@
 ghost use Rattle.std.specs.Prelude.{◌≡◌, ◌+◌, ◌<◌, ◌^◌, false, true, length, All, IfOk, OnOk};
 ghost use Rattle.advisors.specs.Quits.{quit_after};
 ghost use Rattle.advisors.specs.Proposals.{IsOverSame};
-ghost use Rattle.search.specs.Questions.{AreAsked, CanAsk, IsAskedAt, MayBeAsked, in_rounds, once};
+ghost use Rattle.search.specs.Questions.{AreAsked, AreTheSame, CanAsk, IsAskedAt, MayBeAsked, in_rounds, once};
 ghost use Rattle.search.specs.Desks.{AreNotedBut, IsLaidOut};
 ghost use Rattle.search.specs.Offers.{IsOffered};
 ghost use Rattle.search.specs.Conclusions.{plan_in};
@@ -42,11 +42,16 @@ pub(crate) fn make_rounds<R: Relaxation>(
     requires region { length work.old.region ≡ (R.meanings (R.problem problem.old)).trips }
     requires worked { IsWorkedOn (R.meanings (R.problem problem.old)) (plan_in best.old) work.old }
     requires room { MayBeAsked advisors.old.items asked rounds }
+
+    // The problem, and the node.
     ensures same { R.problem problem.new ≡ R.problem problem.old }
     ensures region { OnOk result (work.new.region ≡ work.old.region) }
     ensures offered { OnOk result (IsOffered (R.meanings (R.problem problem.old)) work.old.region (plan_in best.old)
         (plan_in best.new)) }
     ensures worked { OnOk result (IsWorkedOn (R.meanings (R.problem problem.old)) (plan_in best.new) work.new) }
+
+    // The advisors: that each stays at its place, and how often it was asked.
+    ensures advisors { AreTheSame advisors.old.items advisors.new.items identity }
     ensures asked { AreAsked advisors.old.items advisors.new.items asked has_quit 0 rounds }
     ensures least { OnOk result (is_left_open (plan_in best.new) work.new ≡ true →
         AreAsked advisors.old.items advisors.new.items asked has_quit (in_rounds rounds 1) rounds) }
@@ -78,12 +83,17 @@ fn make_round<R: Relaxation>(
     requires worked { IsWorkedOn (R.meanings (R.problem problem.old)) (plan_in best.old) work.old }
     requires room { MayBeAsked advisors.old.items asked 1 }
     requires desk { IsLaidOut (R.meanings (R.problem problem.old)) (length advisors.old.items) desk.old }
+
+    // The problem, and the node.
     ensures same { R.problem problem.new ≡ R.problem problem.old }
     ensures region { OnOk result (work.new.region ≡ work.old.region) }
     ensures offered { OnOk result (IsOffered (R.meanings (R.problem problem.old)) work.old.region (plan_in best.old)
         (plan_in best.new)) }
     ensures worked { OnOk result (IsWorkedOn (R.meanings (R.problem problem.old)) (plan_in best.new) work.new) }
+
+    // The advisors: what is shown to them, that each stays at its place, and how often it was asked.
     ensures desk { OnOk result (IsLaidOut (R.meanings (R.problem problem.old)) (length advisors.old.items) desk.new) }
+    ensures advisors { AreTheSame advisors.old.items advisors.new.items identity }
     ensures asked { AreAsked advisors.old.items advisors.new.items asked has_quit 0 1 }
     ensures least { OnOk result (is_left_open (plan_in best.new) work.new ≡ true →
         AreAsked advisors.old.items advisors.new.items asked has_quit (once desk.old.has_enough.items) 1) }
@@ -118,13 +128,18 @@ fn take_advice<R: Relaxation>(
     requires worked { IsWorkedOn (R.meanings (R.problem problem.old)) (plan_in best.old) work.old }
     requires ask { CanAsk advisors.old.items asked has_quit place }
     requires desk { IsLaidOut (R.meanings (R.problem problem.old)) (length advisors.old.items) desk.old }
+
+    // The problem, and the node.
     ensures same { R.problem problem.new ≡ R.problem problem.old }
     ensures region { OnOk result (work.new.region ≡ work.old.region) }
     ensures offered { OnOk result (IsOffered (R.meanings (R.problem problem.old)) work.old.region (plan_in best.old)
         (plan_in best.new)) }
     ensures worked { OnOk result (IsWorkedOn (R.meanings (R.problem problem.old)) (plan_in best.new) work.new) }
+
+    // The advisors: what is shown to them, that each stays at its place, and which of them was asked.
     ensures desk { OnOk result (IsLaidOut (R.meanings (R.problem problem.old)) (length advisors.old.items) desk.new) }
     ensures enough { OnOk result (AreNotedBut place desk.old.has_enough.items desk.new.has_enough.items) }
+    ensures advisors { AreTheSame advisors.old.items advisors.new.items identity }
     ensures asked { IsAskedAt advisors.old.items advisors.new.items asked has_quit place }
 {
     let word = ask(problem, work, round, desk, &mut advisors[place])?;
@@ -156,6 +171,7 @@ fn ask<R: Relaxation>(
     ensures same { R.problem problem.new ≡ R.problem problem.old }
     ensures asked { asked advisor.new ≡ asked advisor.old + 1 }
     ensures quit { has_quit advisor.new ≡ quit_after result }
+    ensures advisor { identity advisor.new ≡ identity advisor.old }
     ensures over { IsOverSame desk.old.proposal desk.new.proposal }
     ensures has_enough { desk.new.has_enough ≡ desk.old.has_enough }
 {

@@ -7,7 +7,7 @@ ghost use Rattle.branch_tree.specs.Claims.{Priced, is_open, open_leaves_of};
 ghost use Rattle.branch_tree.specs.Meanings.{DoFitFor};
 ghost use Rattle.branch_tree.specs.Regions.{IsOver};
 ghost use Rattle.branch_tree.specs.Trees.{branchings_of};
-ghost use Rattle.search.specs.Questions.{AreAsked, MayBeAsked, in_rounds};
+ghost use Rattle.search.specs.Questions.{AreAsked, AreTheSame, MayBeAsked, in_rounds};
 ghost use Rattle.search.specs.Ends.{HasEnded, HaveKeptUp, found_by, least_of, lesser, made_or_open};
 ghost use Rattle.search.specs.Frontiers.{IsEntered, IsOpenAt};
 ghost use Rattle.search.specs.Putting.{IsPut};
@@ -49,7 +49,7 @@ struct Search {
 /// are granted are made and a leaf is open: its bound is below the cost of the best solution, or there is none yet.
 /// Else it is `Optimal` where a solution was found, and `Infeasible` where none was: then there is none in the root.
 ///
-/// There are as many advisors afterwards, whatever the answer is, and place by place none was asked fewer times than
+/// The advisors are the same afterwards, each at its place, whatever the answer is, and none was asked fewer times than
 /// before. One that has quit, before or meanwhile, stays so and is not asked again. Each was asked at most `rounds`
 /// times as often as nodes were made, or, after the error, as nodes may be made. Where there is no error and there are
 /// rounds, one that has not quit was asked at least as often as there are branchings and leaves that are open at the
@@ -71,6 +71,7 @@ pub fn solve<R: Relaxation>(
     requires asked { All (λ advisor. asked advisor ≤ 2 ^ 63) advisors.old.items }
     ensures same { R.problem problem.new ≡ R.problem problem.old }
     ensures solved { IfOk result (IsSolved (R.meanings (R.problem problem.old)) root.now grant) }
+    ensures advisors { AreTheSame advisors.old.items advisors.new.items identity }
     ensures asked { AreAsked advisors.old.items advisors.new.items asked has_quit 0 (rounds * (2 * grant + 1)) }
     ensures counted { IfOk result (λ found. AreAsked advisors.old.items advisors.new.items asked has_quit
         (in_rounds rounds (branchings_of (nodes_found found) + open_leaves_of (plan_found found) (nodes_found found)))
@@ -95,11 +96,16 @@ fn run<R: Relaxation>(
     requires grant { grant ≤ MOST_BRANCHINGS }
     requires rounds { rounds ≤ MOST_ROUNDS }
     requires asked { All (λ advisor. asked advisor ≤ 2 ^ 63) advisors.old.items }
+
+    // The problem, and the nodes.
     ensures same { R.problem problem.new ≡ R.problem problem.old }
     ensures searched { IfOk result (λ search. IsSearched (R.meanings (R.problem problem.old)) root.now
         (plan_in search.best) search.nodes.items) }
     ensures granted { IfOk result (λ search. branchings_of (tree_nodes search.nodes.items) ≤ grant) }
     ensures ended { IfOk result (λ search. HasEnded grant (plan_in search.best) (tree_nodes search.nodes.items)) }
+
+    // The advisors: that each stays at its place, and how often it was asked.
+    ensures advisors { AreTheSame advisors.old.items advisors.new.items identity }
     ensures asked { AreAsked advisors.old.items advisors.new.items asked has_quit 0 (rounds * (2 * grant + 1)) }
     ensures counted { IfOk result (λ search. AreAsked advisors.old.items advisors.new.items asked has_quit
         (in_rounds rounds (made_or_open (plan_in search.best) (tree_nodes search.nodes.items)))
@@ -127,6 +133,8 @@ impl Search {
         requires over { IsOver (R.meanings (R.problem problem.old)).trips
             (R.meanings (R.problem problem.old)).catalogue root.now }
         requires room { MayBeAsked advisors.old.items asked rounds }
+
+        // The problem, and the nodes.
         ensures same { R.problem problem.new ≡ R.problem problem.old }
         ensures accepted { OnOk result (R.IsAccepted (R.problem problem.old)) }
         ensures searched { IfOk result (λ search. IsSearched (R.meanings (R.problem problem.old)) root.now
@@ -134,6 +142,9 @@ impl Search {
         ensures entered { IfOk result (λ search.
             All (IsEntered (plan_in search.best) search.frontier) search.nodes.items) }
         ensures none { IfOk result (λ search. branchings_of (tree_nodes search.nodes.items) ≡ 0) }
+
+        // The advisors: that each stays at its place, and how often it was asked.
+        ensures advisors { AreTheSame advisors.old.items advisors.new.items identity }
         ensures asked { AreAsked advisors.old.items advisors.new.items asked has_quit 0 rounds }
         ensures counted { IfOk result (λ search. AreAsked advisors.old.items advisors.new.items asked has_quit
             (in_rounds rounds (made_or_open (plan_in search.best) (tree_nodes search.nodes.items))) rounds) }
@@ -165,6 +176,8 @@ impl Search {
         requires few { length self.old.nodes.items < MOST_NODES }
         requires open { IsOpenAt (plan_in self.old.best) self.old.nodes.items place }
         requires room { MayBeAsked advisors.old.items asked (2 * rounds) }
+
+        // The problem, and the nodes.
         ensures same { R.problem problem.new ≡ R.problem problem.old }
         ensures searched { OnOk result ((root : List (List Bool)) →
             IsSearched (R.meanings (R.problem problem.old)) root (plan_in self.old.best) self.old.nodes.items →
@@ -172,6 +185,9 @@ impl Search {
         ensures entered { OnOk result (All (IsEntered (plan_in self.new.best) self.new.frontier) self.new.nodes.items) }
         ensures one { OnOk result
             (branchings_of (tree_nodes self.new.nodes.items) ≡ branchings_of (tree_nodes self.old.nodes.items) + 1) }
+
+        // The advisors: that each stays at its place, and how often it was asked.
+        ensures advisors { AreTheSame advisors.old.items advisors.new.items identity }
         ensures asked { AreAsked advisors.old.items advisors.new.items asked has_quit 0 (2 * rounds) }
         ensures counted { OnOk result (HaveKeptUp (plan_in self.old.best) (tree_nodes self.old.nodes.items)
             (plan_in self.new.best) (tree_nodes self.new.nodes.items)
@@ -228,6 +244,7 @@ impl Search {
         ensures accepted { OnOk result (R.IsAccepted (R.problem problem.old)) }
         ensures put { OnOk result (IsPut (R.meanings (R.problem problem.old)) region place self.old self.new
             (AreAsked advisors.old.items advisors.new.items asked has_quit (in_rounds rounds 1) rounds)) }
+        ensures advisors { AreTheSame advisors.old.items advisors.new.items identity }
         ensures asked { AreAsked advisors.old.items advisors.new.items asked has_quit 0 rounds }
     {
         let number = self.nodes.len() as u32;
@@ -338,11 +355,16 @@ fn make_node<R: Relaxation>(
     requires region { length region ≡ (R.meanings (R.problem problem.old)).trips }
     requires fits { DoFitFor (R.meanings (R.problem problem.old)) inherited.now }
     requires room { MayBeAsked advisors.old.items asked rounds }
+
+    // The problem, and the node.
     ensures same { R.problem problem.new ≡ R.problem problem.old }
     ensures offered { OnOk result (IsOffered (R.meanings (R.problem problem.old)) region (plan_in best.old)
         (plan_in best.new)) }
     ensures accepted { OnOk result (R.IsAccepted (R.problem problem.old)) }
     ensures node { IfOk result (IsLeafOf (R.meanings (R.problem problem.old)) (plan_in best.new) region) }
+
+    // The advisors: that each stays at its place, and how often it was asked.
+    ensures advisors { AreTheSame advisors.old.items advisors.new.items identity }
     ensures asked { AreAsked advisors.old.items advisors.new.items asked has_quit 0 rounds }
     ensures least { IfOk result (λ node. is_open (plan_in best.new) (tree_node node) ≡ true →
         AreAsked advisors.old.items advisors.new.items asked has_quit (in_rounds rounds 1) rounds) }
@@ -374,11 +396,16 @@ fn work_on<R: Relaxation>(
     requires worked { IsWorkedOn (R.meanings (R.problem problem.old)) (plan_in best.old) work.old }
     requires fits { DoFitFor (R.meanings (R.problem problem.old)) inherited.now }
     requires room { MayBeAsked advisors.old.items asked rounds }
+
+    // The problem, and the node.
     ensures same { R.problem problem.new ≡ R.problem problem.old }
     ensures region { OnOk result (work.new.region ≡ work.old.region) }
     ensures offered { OnOk result (IsOffered (R.meanings (R.problem problem.old)) work.old.region (plan_in best.old)
         (plan_in best.new)) }
     ensures worked { OnOk result (IsWorkedOn (R.meanings (R.problem problem.old)) (plan_in best.new) work.new) }
+
+    // The advisors: that each stays at its place, and how often it was asked.
+    ensures advisors { AreTheSame advisors.old.items advisors.new.items identity }
     ensures asked { AreAsked advisors.old.items advisors.new.items asked has_quit 0 rounds }
     ensures least { OnOk result (is_left_open (plan_in best.new) work.new ≡ true →
         AreAsked advisors.old.items advisors.new.items asked has_quit (in_rounds rounds 1) rounds) }

@@ -18,6 +18,7 @@ loop-place-init g c = record {
   worked = c.requires.worked;
   desk = c.requires.desk;
   enough = λ place from. refl;
+  advisors = refl;
   asked = refl;
 }
 
@@ -70,6 +71,7 @@ loop-place-preserved-then-index g c =
       worked = c.loop-place.invariant.worked;
       desk = c.loop-place.invariant.desk;
       enough = λ place from. c.loop-place.invariant.enough place (omega (arith, from));
+      advisors = c.loop-place.invariant.advisors;
       asked = up_to_next _ _ (once c.args.desk.now.has_enough.items) c.loop-place.place c.args.advisors.now.items c.loop-place.advisors.items
           (pass_unclaimed _ _ (once c.args.desk.now.has_enough.items) c.loop-place.place c.args.advisors.now.items c.loop-place.advisors.items none (omega (arith, c.loop-place-test.true, c.len-place-end.ensures)) c.loop-place.invariant.asked);
     }
@@ -84,6 +86,7 @@ loop-place-preserved-then-did_quit g c =
       worked = c.loop-place.invariant.worked;
       desk = c.loop-place.invariant.desk;
       enough = λ place from. c.loop-place.invariant.enough place (omega (arith, from));
+      advisors = c.loop-place.invariant.advisors;
       asked = up_to_next _ _ (once c.args.desk.now.has_enough.items) c.loop-place.place c.args.advisors.now.items c.loop-place.advisors.items
           (pass_over _ _ (once c.args.desk.now.has_enough.items) c.loop-place.place c.args.advisors.now.items c.loop-place.advisors.items c.index-in-loop-place.result.now (omega (arith, c.loop-place-test.true, c.len-place-end.ensures)) c.index-in-loop-place.ensures
           c.loop-place.invariant.asked (λ stays. absurd (true≢false (sym c.if-did_quit.true ∙ (c.did_quit.ensures ∙ stays)))));
@@ -106,6 +109,7 @@ loop-place-preserved g c =
       desk = subst (λ (count : ℕ). IsLaidOut problem count c.take_advice.new.desk) same
           (subst (λ p. IsLaidOut (g.R.Relaxation.meanings p) (length c.loop-place.advisors.items) c.take_advice.new.desk) c.loop-place.invariant.same c.in_ok-take_advice.ensures.desk);
       enough = λ place from. c.in_ok-take_advice.ensures.enough place (omega (arith, from)) ∙ c.loop-place.invariant.enough place (omega (arith, from));
+      advisors = c.take_advice.ensures.advisors ∙ c.loop-place.invariant.advisors;
       asked = up_to_next _ _ (once c.args.desk.now.has_enough.items) c.loop-place.place c.args.advisors.now.items c.take_advice.new.advisors.items
           (then_asked _ _ (once c.args.desk.now.has_enough.items) c.loop-place.place c.args.advisors.now.items c.loop-place.advisors.items c.take_advice.new.advisors.items (once_most c.args.desk.now.has_enough.items) c.loop-place.invariant.asked c.take_advice.ensures.asked);
     }
@@ -115,3 +119,6 @@ returns-in_err-take_advice-clause-asked g c =
     asked_so_far _ _ (once c.args.desk.now.has_enough.items) (suc c.loop-place.place) c.args.advisors.now.items c.take_advice.new.advisors.items
     (then_asked _ _ (once c.args.desk.now.has_enough.items) c.loop-place.place c.args.advisors.now.items c.loop-place.advisors.items c.take_advice.new.advisors.items
     (once_most c.args.desk.now.has_enough.items) c.loop-place.invariant.asked c.take_advice.ensures.asked)
+
+pub returns-in_err-take_advice-clause-advisors : goal.returns-in_err-take_advice-clause-advisors
+returns-in_err-take_advice-clause-advisors g c = c.take_advice.ensures.advisors ∙ c.loop-place.invariant.advisors

@@ -22,6 +22,7 @@ loop-round-init g c = record {
   worked = c.requires.worked;
   desk = let count : c.len.result ≡ length c.args.advisors.now.items = omega (arith, c.len.ensures) in
       subst (λ (advisors : ℕ). IsLaidOut (g.R.Relaxation.meanings (g.R.Relaxation.problem c.args.problem.now)) advisors c.in_ok-desk.desk) count c.in_ok-desk.ensures.laid;
+  advisors = refl;
   asked = are_unasked _ _ 0 c.args.advisors.now.items;
   first = λ zero_round. c.in_ok-desk.ensures.once;
   least = λ some left. absurd (omega (arith, some));
@@ -43,6 +44,9 @@ returns-in_err-make_round-clause-asked g c =
     are_asked_within _ _ (0 + 0) (c.loop-round.round + 1) 0 c.args.rounds c.args.advisors.now.items c.make_round.new.advisors.items (omega arith) (omega (arith, c.loop-round-test.true))
     (are_asked_again _ _ 0 c.loop-round.round 0 1 c.args.advisors.now.items c.loop-round.advisors.items c.make_round.new.advisors.items c.loop-round.invariant.asked c.make_round.ensures.asked)
 
+pub returns-in_err-make_round-clause-advisors : goal.returns-in_err-make_round-clause-advisors
+returns-in_err-make_round-clause-advisors g c = c.make_round.ensures.advisors ∙ c.loop-round.invariant.advisors
+
 pub loop-round-preserved : goal.loop-round-preserved
 loop-round-preserved g c =
     let same : length c.make_round.new.advisors.items ≡ length c.loop-round.advisors.items = length-asked _ _ 0 1 c.loop-round.advisors.items c.make_round.new.advisors.items c.make_round.ensures.asked in
@@ -59,6 +63,7 @@ loop-round-preserved g c =
       worked = subst (λ p. IsWorkedOn (g.R.Relaxation.meanings p) after c.make_round.new.work) c.loop-round.invariant.same c.in_ok-make_round.ensures.worked;
       desk = subst (λ (count : ℕ). IsLaidOut problem count c.make_round.new.desk) (sym same)
           (subst (λ p. IsLaidOut (g.R.Relaxation.meanings p) (length c.loop-round.advisors.items) c.make_round.new.desk) c.loop-round.invariant.same c.in_ok-make_round.ensures.desk);
+      advisors = c.make_round.ensures.advisors ∙ c.loop-round.invariant.advisors;
       asked = are_asked_again _ _ 0 c.loop-round.round 0 1 c.args.advisors.now.items c.loop-round.advisors.items c.make_round.new.advisors.items c.loop-round.invariant.asked c.make_round.ensures.asked;
       first = λ none. absurd (omega (arith, none));
       least = λ some left. asked_once _ _ c.loop-round.round (once c.loop-round.desk.has_enough.items) c.args.advisors.now.items c.loop-round.advisors.items c.make_round.new.advisors.items c.loop-round.invariant.first c.loop-round.invariant.asked

@@ -1,5 +1,5 @@
 use Rattle.std.proofs.Common.{◌≡◌, ◌≤◌, true, length}
-use Rattle.search.specs.Questions.{AreAsked, once}
+use Rattle.search.specs.Questions.{AreAsked, AreTheSame, once}
 use Rattle.search.specs.Desks.{IsLaidOut}
 use Rattle.search.specs.Offers.{IsOffered}
 use Rattle.search.specs.Conclusions.{plan_in}
@@ -13,6 +13,7 @@ invariant-loop-round g l = record {
   offered : IsOffered (g.R.Relaxation.meanings (g.R.Relaxation.problem l.fn.problem)) l.fn.work.region (plan_in l.fn.best) (plan_in l.best);
   worked : IsWorkedOn (g.R.Relaxation.meanings (g.R.Relaxation.problem l.fn.problem)) (plan_in l.best) l.work;
   desk : IsLaidOut (g.R.Relaxation.meanings (g.R.Relaxation.problem l.fn.problem)) (length l.advisors.items) l.desk;
+  advisors : AreTheSame l.fn.advisors.items l.advisors.items (λ b. (goal.Advisor-dyn g (b.vtable, b.value)).identity b.value);
   asked : AreAsked l.fn.advisors.items l.advisors.items (λ b. (goal.Advisor-dyn g (b.vtable, b.value)).asked b.value)
       (λ b. (goal.Advisor-dyn g (b.vtable, b.value)).has_quit b.value) 0 l.round;
   first : l.round ≡ 0 → once l.desk.has_enough.items ≡ 1;

@@ -5,7 +5,7 @@ use Rattle.search.specs.Conclusions.{plan_in}
 use Rattle.search.specs.NodesInWork.{IsWorkedOn}
 use Rattle.search.specs.Offers.{IsOffered}
 use Rattle.search.proofs.Evaluating.{not_offered}
-use Rattle.search.proofs.Asking.{asked_here, asked_one, noted_but}
+use Rattle.search.proofs.Asking.{asked_here, asked_one, noted_but, same_but_asked}
 use Rattle.search.proofs.rounds.take_advice.Goals as goal
 
 pub ask-requires-clause-stays : goal.ask-requires-clause-stays
@@ -21,6 +21,18 @@ index_mut-requires-2 g c =
     let same : length c.ask.new.desk.has_enough.items ≡ length c.args.desk.now.has_enough.items = cc in
     let within : c.args.place < length c.args.advisors.now.items = c.requires.ask.within in
     omega (arith, c.requires.desk.each)
+
+pub returns-in_err-word-clause-advisors : goal.returns-in_err-word-clause-advisors
+returns-in_err-word-clause-advisors g c =
+    same_but_asked _ c.args.advisors.now.items c.args.place c.index_mut.result.now c.ask.new.advisor c.index_mut.ensures.value c.ask.ensures.advisor
+
+pub returns-then-eq-clause-advisors : goal.returns-then-eq-clause-advisors
+returns-then-eq-clause-advisors g c =
+    same_but_asked _ c.args.advisors.now.items c.args.place c.index_mut.result.now c.ask.new.advisor c.index_mut.ensures.value c.ask.ensures.advisor
+
+pub returns-clause-advisors : goal.returns-clause-advisors
+returns-clause-advisors g c =
+    same_but_asked _ c.args.advisors.now.items c.args.place c.index_mut.result.now c.ask.new.advisor c.index_mut.ensures.value c.ask.ensures.advisor
 
 pub returns-in_err-word-clause-asked : goal.returns-in_err-word-clause-asked
 returns-in_err-word-clause-asked g c =

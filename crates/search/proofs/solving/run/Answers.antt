@@ -27,6 +27,7 @@ loop-branching-init g c = record {
   searched = c.in_ok-search.ensures.searched;
   entered = c.in_ok-search.ensures.entered;
   made = c.in_ok-search.ensures.none;
+  advisors = c.begin.ensures.advisors;
   asked = are_asked_within _ _ (in_rounds c.args.rounds (made_or_open (plan_in c.in_ok-search.search.best) (tree_nodes c.in_ok-search.search.nodes.items))) c.args.rounds
       (in_rounds c.args.rounds (made_or_open (plan_in c.in_ok-search.search.best) (tree_nodes c.in_ok-search.search.nodes.items))) (c.args.rounds * (2 * 0 + 1)) c.args.advisors.now.items c.begin.new.advisors.items
       (omega arith) (omega arith) c.in_ok-search.ensures.counted;
@@ -86,6 +87,9 @@ returns-in_err-branch-clause-asked g c =
     asked_at_most _ _ c.args.rounds c.loop-branching._branching c.args.grant (in_rounds c.args.rounds (made_or_open (plan_in c.loop-branching.search.best) (tree_nodes c.loop-branching.search.nodes.items)))
     c.args.advisors.now.items c.loop-branching.advisors.items c.branch-search-in-loop-branching.new.advisors.items (omega (arith, c.loop-branching-test.true)) c.loop-branching.invariant.asked c.branch-search-in-loop-branching.ensures.asked
 
+pub returns-in_err-branch-clause-advisors : goal.returns-in_err-branch-clause-advisors
+returns-in_err-branch-clause-advisors g c = c.branch-search-in-loop-branching.ensures.advisors ∙ c.loop-branching.invariant.advisors
+
 pub loop-branching-preserved : goal.loop-branching-preserved
 loop-branching-preserved g c =
     let before = plan_in c.loop-branching.search.best in
@@ -99,6 +103,7 @@ loop-branching-preserved g c =
           (subst (λ p. IsSearched (g.R.Relaxation.meanings p) c.args.root.now before c.loop-branching.search.nodes.items) (sym c.loop-branching.invariant.same) c.loop-branching.invariant.searched));
       entered = c.in_ok-branch.ensures.entered;
       made = c.in_ok-branch.ensures.one ∙ ap (λ (made : ℕ). made + 1) c.loop-branching.invariant.made;
+      advisors = c.branch-search-in-loop-branching.ensures.advisors ∙ c.loop-branching.invariant.advisors;
       asked = asked_on _ _ c.args.rounds c.loop-branching._branching (made_or_open before (tree_nodes c.loop-branching.search.nodes.items)) (made_or_open after (tree_nodes c.branch-search-in-loop-branching.new.self.nodes.items)) kept.0
           c.args.advisors.now.items c.loop-branching.advisors.items c.branch-search-in-loop-branching.new.advisors.items c.loop-branching.invariant.asked kept.1 kept.2;
     }

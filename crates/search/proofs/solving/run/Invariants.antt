@@ -1,6 +1,6 @@
 use Rattle.std.proofs.Common.{◌≡◌, ◌+◌, ◌*◌, All}
 use Rattle.branch_tree.specs.Trees.{branchings_of}
-use Rattle.search.specs.Questions.{AreAsked, in_rounds}
+use Rattle.search.specs.Questions.{AreAsked, AreTheSame, in_rounds}
 use Rattle.search.specs.Ends.{made_or_open}
 use Rattle.search.specs.Frontiers.{IsEntered}
 use Rattle.search.specs.Nodes.{IsSearched, tree_nodes}
@@ -14,6 +14,7 @@ invariant-loop-branching g l = record {
   searched : IsSearched (g.R.Relaxation.meanings (g.R.Relaxation.problem l.fn.problem)) l.root (plan_in l.search.best) l.search.nodes.items;
   entered : All (IsEntered (plan_in l.search.best) l.search.frontier) l.search.nodes.items;
   made : branchings_of (tree_nodes l.search.nodes.items) ≡ l._branching;
+  advisors : AreTheSame l.fn.advisors.items l.advisors.items (λ b. (goal.Advisor-dyn g (b.vtable, b.value)).identity b.value);
   asked : AreAsked l.fn.advisors.items l.advisors.items (λ b. (goal.Advisor-dyn g (b.vtable, b.value)).asked b.value)
       (λ b. (goal.Advisor-dyn g (b.vtable, b.value)).has_quit b.value)
       (in_rounds l.rounds (made_or_open (plan_in l.search.best) (tree_nodes l.search.nodes.items))) (l.rounds * (2 * l._branching + 1));

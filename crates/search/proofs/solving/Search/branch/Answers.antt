@@ -59,6 +59,9 @@ returns-clause-asked g c =
     are_asked_within _ _ (0 + 0) (c.args.rounds + c.args.rounds) 0 (2 * c.args.rounds) c.args.advisors.now.items c.put_node-2.new.advisors.items (omega arith) (omega arith)
     (are_asked_again _ _ 0 c.args.rounds 0 c.args.rounds c.args.advisors.now.items c.put_node.new.advisors.items c.put_node-2.new.advisors.items c.put_node.ensures.asked c.put_node-2.ensures.asked)
 
+pub returns-clause-advisors : goal.returns-clause-advisors
+returns-clause-advisors g c = c.put_node-2.ensures.advisors ∙ c.put_node.ensures.advisors
+
 pub returns-clause-searched : goal.returns-clause-searched
 returns-clause-searched g c =
     let problem = g.R.Relaxation.meanings (g.R.Relaxation.problem c.args.problem.now) in
