@@ -1,9 +1,12 @@
--- What words ask for is one command, and its numbers are within their limits.
+-- What words ask for is one command, and its numbers are within their limits; where no day is read none is asked.
 use Rattle.std.proofs.Common.{◌≡◌, ℕ, ◌≤◌, List, [], ◌∷◌, Option, Some, inl, inr, sym, ap, ◌∙◌, arith, Bool, true}
-use Rattle.std.proofs.Common.{false}
+use Rattle.std.proofs.Common.{false, refl}
 use Rattle.std.proofs.lemmas.Bool.{both_ways}
 use Rattle.rail_base.specs.declared.limits.TheConstants.{MOST_BRANCHINGS, MOST_ROUNDS}
 use Rattle.trial_day.specs.Trial.{IsTrialSize}
+use Rattle.day_files.specs.declared.errors.ReadError.{ReadError}
+use Rattle.day_files.specs.declared.errors.ReadError.TheVariants.{CannotRead, Refused, NoMemory}
+use Rattle.run_documents.specs.declared.outcome.Outcome.TheVariants.{NoInputs}
 use Rattle.command_line.specs.declared.form.Choice.TheVariants.{Nodes, Rounds}
 use Rattle.command_line.specs.Items.{WordList, values_in}
 use Rattle.commands.specs.declared.command.Command.{Command}
@@ -11,6 +14,7 @@ use Rattle.commands.specs.declared.command.Command.TheVariants as command
 use Rattle.commands.specs.declared.command.TheConstants.{USUAL_NODES, USUAL_ROUNDS}
 use Rattle.commands.specs.PlainForm.{IsOption, IsPlainForm, IsSearch}
 use Rattle.commands.proofs.Meanings.{plain}
+use Rattle.planner_app.specs.Advice.{AreAskedFor}
 use Rattle.planner_app.specs.Outcomes.{AskAbout, AskToPlan, AskToTry, Grants, folder_of}
 
 -- words are the plain form of one command at most
@@ -89,3 +93,10 @@ grants_nothing words named n k none form (inr other) =
     let same : named ≡ command.Trial other.0 other.1 n k =
     one_command words named (command.Trial other.0 other.1 n k) form other.2 in
     both_ways (searches named) none (ap searches same)
+
+-- where no day is read, no advisor is asked
+pub none_asked_for : {A : Type 0} (asked : A → ℕ) (has_quit : A → Bool) (rounds : ℕ) (error : ReadError) (advisors : List A)
+    → AreAskedFor rounds (NoInputs error) advisors advisors asked has_quit
+none_asked_for asked has_quit rounds (CannotRead read) advisors = refl
+none_asked_for asked has_quit rounds (Refused why) advisors = refl
+none_asked_for asked has_quit rounds NoMemory advisors = tt

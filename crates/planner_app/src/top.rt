@@ -108,8 +108,8 @@ fn write_outcome<K: Sink>(alloc: Global, outcome: &Outcome, out: &mut K) -> u8
 /// was asked fewer times than before, whatever the status is. One that has quit stays so and is not asked. Where an
 /// answer with B branchings and L open leaves comes, each was asked K (2 B + 1) times at most, which is K times for the
 /// root and for both sides of each branching; and one that has not quit at the end was asked B + L times at least,
-/// unless K is 0. Other commands leave the list as it is. Words that ask for no command on a folder leave the folder as it is,
-/// those of `trial` among them.
+/// unless K is 0. Where no day is read, other than for want of memory, none was asked. Other commands leave the list as
+/// it is. Words that ask for no command on a folder leave the folder as it is, those of `trial` among them.
 #[tactic(auto, using(crate::proofs::Statuses::unread_rose))]
 pub fn railplan<F: Folder, K: Sink>(
     alloc: Global,
@@ -142,7 +142,7 @@ pub fn railplan<F: Folder, K: Sink>(
     ensures statuses { IsStatus result }
 
     // What was written is the document of an outcome of these words and this folder, whose status is the result; and
-    // where it is an answer, the advisors were asked as it tells.
+    // the advisors were asked as it tells.
     ensures document { (outcome : Outcome)
         × IsOutcome F.holds F.may_fail F.faults F.taken words.now folder.old folder.new outcome
         × Wrote outcome result (K.written out.old) (K.written out.new) (K.faults out.old) (K.faults out.new)

@@ -1,5 +1,6 @@
 use Rattle.std.proofs.Common.{◌+◌, ◌*◌}
 use Rattle.search.proofs.Asking.{are_unasked}
+use Rattle.planner_app.proofs.Asking.{none_asked_for}
 use Rattle.planner_app.proofs.Outcomes.{day_not_planned, planned}
 use Rattle.planner_app.proofs.run.planned.Goals as goal
 
@@ -11,6 +12,9 @@ returns-in-Err-clause-outcome g c words asked =
 pub returns-in-Err-clause-asked : goal.returns-in-Err-clause-asked
 returns-in-Err-clause-asked g c =
     are_unasked _ _ (c.args.rounds * (2 * c.args.nodes + 1)) c.args.advisors.now.items
+
+pub returns-in-Err-clause-asked_for : goal.returns-in-Err-clause-asked_for
+returns-in-Err-clause-asked_for g c = none_asked_for _ _ c.args.rounds c.in-Err.error c.args.advisors.now.items
 
 pub returns-in-Ok-answer_for-clause-outcome : goal.returns-in-Ok-answer_for-clause-outcome
 returns-in-Ok-answer_for-clause-outcome g c words asked =
