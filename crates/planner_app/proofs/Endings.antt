@@ -95,11 +95,6 @@ one_report words kind other dir another first second =
       cc,
     )
 
-pub report_plain : (kind : Report) (dir : List ℕ) → reads_plan (command_for kind dir) ≡ true → ⊥
-report_plain report.Duties dir reads = absurd cc
-report_plain report.Yards dir reads = absurd cc
-report_plain report.Costs dir reads = absurd cc
-
 -- the command of words that are about a folder is the one that they are asked for by
 is_named : (words : List (List ℕ)) (dir : List ℕ) (named : Command) → IsPlainForm words named → (about : AskAbout words dir)
     → about.named ≡ named

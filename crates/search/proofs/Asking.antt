@@ -1,6 +1,7 @@
 -- How often advisors are asked, in one round and in several.
 use Rattle.std.proofs.Common.{◌≡◌, ℕ, zero, suc, ◌+◌, ◌<◌, ◌≤◌, ◌^◌, List, [], ◌∷◌, length, get_or, set, replicate}
 use Rattle.std.proofs.Common.{map, Bool, true, false, refl, sym, ap, subst, arith, add-one, ◌∙◌, ◌⊎◌, inl, inr}
+use Rattle.std.proofs.lemmas.Bool.{both_ways}
 use Rattle.std.proofs.lemmas.List.{get_or_default, get_or-set_other}
 use Rattle.std.proofs.lemmas.List.Elements.{All-cons, All-nil, All-head, All-tail}
 use Rattle.search.specs.Questions.{IsAsked, AreAsked, AreAskedUpTo, AreTheSame, CanAsk, IsAskedAt, MayBeAsked, in_rounds}
@@ -8,9 +9,6 @@ use Rattle.search.specs.Questions.{once}
 use Rattle.search.specs.Desks.{AreNotedBut}
 
 -- ---- one advisor
-
-not_both : (b : Bool) → b ≡ true → b ≡ false → ⊥
-not_both b e f = let same : true ≡ false = cc in cc
 
 pub unasked : (least most times : ℕ) (has_quit : Bool) → (has_quit ≡ false → least ≡ 0) → IsAsked least most times times has_quit has_quit
 unasked least most times has_quit none = record {
@@ -26,12 +24,12 @@ asked_one least before after had_quit has_quit few more stays = record {
   not_fewer = omega (arith, more);
   at_most = omega (arith, more);
   at_least = λ still. omega (arith, more);
-  still_quit = λ had. absurd (not_both had_quit had stays);
-  not_asked = λ had. absurd (not_both had_quit had stays);
+  still_quit = λ had. absurd (both_ways had_quit stays had);
+  not_asked = λ had. absurd (both_ways had_quit stays had);
 }
 
 quits_later : (had has : Bool) → (had ≡ true → has ≡ true) → has ≡ false → had ≡ false
-quits_later true has stays still = absurd (not_both has (stays refl) still)
+quits_later true has stays still = absurd (both_ways has still (stays refl))
 quits_later false has stays still = refl
 
 pub asked_again : (least most more_least more_most first second third : ℕ) (a b c : Bool) → IsAsked least most first second a b → IsAsked more_least more_most second third b c →
@@ -105,19 +103,6 @@ module _ {A : Type 0} (asked : A → ℕ) (has_quit : A → Bool) where
   not_yet least (suc places) [] (y ∷ ys) none is = absurd is
   not_yet least (suc places) (x ∷ xs) [] none is = absurd is
   not_yet least (suc places) (x ∷ xs) (y ∷ ys) none is = not_yet least places xs ys none is.1
-
-  -- the advisor at the next place is asked
-  pub ask_next : (least places : ℕ) (before after : List A) (old new : A) → places < length after → old ≡ get_or after places old → AreAskedUpTo before after asked has_quit least places →
-      IsAsked least 1 (asked old) (asked new) (has_quit old) (has_quit new) → AreAskedUpTo before (set after places new) asked has_quit least (suc places)
-  ask_next least zero before [] old new within here is one = absurd (omega (arith, within))
-  ask_next least zero [] (y ∷ ys) old new within here is one = absurd (let none : length (y ∷ ys) ≡ length {A = A} [] = ap length is in omega (arith, none))
-  ask_next least zero (x ∷ xs) (y ∷ ys) old new within here is one =
-      let head : y ≡ x = cc in let tail : ys ≡ xs = cc in let same : old ≡ x = cc in
-      (subst (λ advisor. IsAsked least 1 (asked advisor) (asked new) (has_quit advisor) (has_quit new)) same one, tail)
-  ask_next least (suc places) before [] old new within here is one = absurd (omega (arith, within))
-  ask_next least (suc places) [] (y ∷ ys) old new within here is one = absurd is
-  ask_next least (suc places) (x ∷ xs) (y ∷ ys) old new within here is one =
-      (is.0, ask_next least places xs ys old new (omega (arith, within)) here is.1 one)
 
   -- the advisor at the next place is passed over
   pub pass_over : (least places : ℕ) (before after : List A) (old : A) → places < length after → old ≡ get_or after places old → AreAskedUpTo before after asked has_quit least places →

@@ -1,16 +1,12 @@
 -- How often advisors are asked in a whole search.
 use Rattle.std.proofs.Common.{◌≡◌, ℕ, ◌+◌, ◌*◌, ◌≤◌, ◌^◌, List, [], ◌∷◌, All, Bool, true, false, if◌then◌else◌, Option}
-use Rattle.std.proofs.Common.{Some, None, refl, sym, subst, arith, ℤ}
+use Rattle.std.proofs.Common.{None, refl, sym, subst, arith}
 use Rattle.std.proofs.Math.Nat.{mul-le-mul_left}
-use Rattle.rail_base.specs.declared.numbers.Money.{Money}
 use Rattle.branch_tree.specs.declared.tree.Node.{Node}
-use Rattle.branch_tree.specs.Claims.{Priced, is_below, is_open}
+use Rattle.branch_tree.specs.Claims.{Priced, is_open}
 use Rattle.branch_tree.specs.Trees.{cut_of}
-use Rattle.search.specs.declared.found.Best.{Best}
 use Rattle.search.specs.Questions.{AreAsked, MayBeAsked, in_rounds}
-use Rattle.search.specs.Ends.{bounded_by, closed_by, found_by, made_or_open}
-use Rattle.search.specs.Conclusions.{nodes_found, plan_found, plan_in, bounded_with}
-use Rattle.branch_tree.specs.Claims.{plan_of}
+use Rattle.search.specs.Ends.{made_or_open}
 use Rattle.search.proofs.Asking.{are_asked_again, are_asked_within, in_rounds_less, in_rounds_sum, in_rounds_zero}
 use Rattle.search.proofs.Growing.{leaf_made}
 
@@ -60,20 +56,3 @@ pub few_rounds : (rounds made : ℕ) → rounds ≤ 100 → made ≤ 4000 → ro
 few_rounds rounds made few many =
     let within : 2 * made + 1 ≤ 8001 = omega arith in
     omega (arith, mul-le-mul_left rounds within)
-
--- what is found has the tree and the best solution of the search
-closed_nodes : (best : Option Best) (nodes : List Node) → (nodes_found (closed_by best nodes) ≡ nodes) × (plan_found (closed_by best nodes) ≡ plan_in best)
-closed_nodes None nodes = (refl, refl)
-closed_nodes (Some best) nodes = (refl, refl)
-
-plan_with : (bound : ℤ) (plan : Option Priced) → plan_of (bounded_with bound plan) ≡ plan
-plan_with bound None = refl
-plan_with bound (Some plan) = refl
-
-bounded_nodes : (below : Bool) (bound : Money) (best : Option Best) (nodes : List Node) → (nodes_found (bounded_by below bound best nodes) ≡ nodes) × (plan_found (bounded_by below bound best nodes) ≡ plan_in best)
-bounded_nodes true bound best nodes = (refl, plan_with bound.0 (plan_in best))
-bounded_nodes false bound best nodes = closed_nodes best nodes
-
-pub found_nodes : (least : Option Money) (best : Option Best) (nodes : List Node) → (nodes_found (found_by least best nodes) ≡ nodes) × (plan_found (found_by least best nodes) ≡ plan_in best)
-found_nodes None best nodes = closed_nodes best nodes
-found_nodes (Some bound) best nodes = bounded_nodes (is_below bound.0 (plan_in best)) bound best nodes

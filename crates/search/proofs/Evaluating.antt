@@ -1,29 +1,28 @@
 -- What evaluations of a region show, and what an offer leaves.
-use Rattle.std.proofs.Common.{◌≡◌, List, [], ◌∷◌, ℕ, Bool, true, false, if◌then◌else◌, Option, Some, None, ◌⊎◌, inl}
-use Rattle.std.proofs.Common.{inr, refl, sym, ◌∙◌, subst, arith, ℤ, pos, negsuc, ◌<ℤ◌, int_lt, w8, w64, to_z, of_z, ap}
+use Rattle.std.proofs.Common.{◌≡◌, List, [], ◌∷◌, ℕ, Bool, true, false, Option, Some, None, ◌⊎◌, inl}
+use Rattle.std.proofs.Common.{inr, refl, sym, ◌∙◌, subst, arith, ℤ, pos, negsuc, int_lt, w8, w64, to_z, of_z, ap}
 use Rattle.std.proofs.Common.{Result, Ok, Err, OnOk, is_ok, is_none}
 use Rattle.std.proofs.Common.{◌+◌, ◌<◌, length, get_or, set, slice_get}
 use Rattle.std.specs.Result.{result_err}
 use Rattle.std.proofs.lemmas.List.{get_or-set_same, get_or-set_other}
 use Rattle.std.proofs.lemmas.Option.{get_or_from_slice_get}
 use Rattle.std.proofs.lemmas.Bool.{false≢true, cases_eq}
-use Rattle.std.proofs.lemmas.Int.{ints}
 use Rattle.rail_base.specs.declared.numbers.Money.{Money}
 use Rattle.branch_tree.specs.declared.multipliers.Entry.{Entry}
 use Rattle.branch_tree.specs.declared.relaxation.BoundAnswer.{BoundAnswer}
 use Rattle.branch_tree.specs.declared.relaxation.BoundAnswer.TheVariants.{Empty, Value}
-use Rattle.branch_tree.specs.declared.relaxation.Settled.TheVariants.{Costs, Broken}
+use Rattle.branch_tree.specs.declared.relaxation.Settled.TheVariants.{Broken}
 use Rattle.branch_tree.specs.declared.relaxation.Weight.{Weight}
 use Rattle.branch_tree.specs.declared.relaxation.Weight.TheVariants.{Cost, NoCost}
 use Rattle.branch_tree.specs.Entries.{refusal_of, put_in}
 use Rattle.branch_tree.specs.Bounds.{IsBound, IsChainValue, IsEmpty, IsSettled}
-use Rattle.branch_tree.specs.Claims.{Priced, IsPlanIn, is_below}
+use Rattle.branch_tree.specs.Claims.{Priced}
 use Rattle.branch_tree.specs.Meanings.{Meanings, IsRelaxation, DoFitFor}
 use Rattle.branch_tree.proofs.Duality.{bounds_are_chain_values}
 use Rattle.branch_tree.proofs.Settling.{broken_picks_have_rays}
 use Rattle.search.specs.Evaluations.{HasNoRay, IsEvaluated, IsRayTest, IsSettledAs}
 use Rattle.search.specs.Offers.{HasPlanIn, IsOffered}
-use Rattle.search.proofs.Below.{lower, not_lower, lower_test, not_lower_test}
+use Rattle.search.proofs.Below.{lower, not_lower}
 
 -- the test of a chain value without cost
 pub ray_test : (problem : Meanings) (region : List (List Bool)) (multipliers : List Entry) (value : Money) (old new : List ℕ) →
@@ -54,46 +53,6 @@ offered_again problem region old middle new first next = record {
     | inr has ↦ inr has
   ];
 }
-
--- after an offer the best solution costs no more than what was offered
-pub record IsTaken (problem : Meanings) (region : List (List Bool)) (old new : Option Priced) (plan : Priced) : Type 0 where
-  pub offered : IsOffered problem region old new
-  pub not_below : is_below plan.cost new ≡ false
-
-no_dearer_than : (plan : Priced) (old : Option Priced) → is_below plan.cost old ≡ true → (bound : ℤ) → is_below bound (Some plan) ≡ true → is_below bound old ≡ true
-no_dearer_than plan None cheaper bound below = refl
-no_dearer_than plan (Some best) cheaper bound below =
-    let under : plan.cost <ℤ best.cost = lower plan.cost best.cost cheaper in
-    let first : bound <ℤ plan.cost = lower bound plan.cost below in
-    lower_test bound best.cost (omega (arith, ints))
-
-taken_by : (problem : Meanings) (region : List (List Bool)) (old : Option Priced) (plan : Priced) → IsPlanIn problem region plan →
-    (cheaper : Bool) → is_below plan.cost old ≡ cheaper → IsTaken problem region old (if cheaper then Some plan else old) plan
-taken_by problem region old plan is true e = record {
-  offered = record { no_dearer = no_dearer_than plan old e; either = inr is };
-  not_below = not_lower_test plan.cost plan.cost (omega (arith, ints));
-}
-taken_by problem region old plan is false e = record { offered = not_offered problem region old; not_below = e }
-
-pub taken : (problem : Meanings) (region : List (List Bool)) (old new : Option Priced) (plan : Priced) → IsPlanIn problem region plan →
-    new ≡ (if is_below plan.cost old then Some plan else old) → IsTaken problem region old new plan
-taken problem region old new plan is e =
-    subst (λ best. IsTaken problem region old best plan) (sym e) (taken_by problem region old plan is (is_below plan.cost old) refl)
-
--- near picks that settle at a cost are a solution in the region
-pub plan_of_costs : (problem : Meanings) → IsRelaxation problem → (region : List (List Bool)) (picks : List ℕ) (cost : Money) →
-    problem.AreNear picks region → IsSettled problem picks (Costs cost) → IsPlanIn problem region (record { cost = cost.0; picks = picks })
-plan_of_costs problem relaxation region picks cost near settled = record {
-  inside = relaxation.near_in picks region near;
-  solution = settled.0;
-  cost = settled.1;
-}
-
--- picks that settle at a cost, once they were offered
-pub settled_at_cost : (problem : Meanings) (region : List (List Bool)) (old new : Option Priced) (picks : List ℕ) (cost : Money) →
-    IsSettled problem picks (Costs cost) → IsTaken problem region old new (record { cost = cost.0; picks = picks }) → IsSettledAs problem region new picks None
-settled_at_cost problem region old new picks cost settled is =
-    inl (settled.0, subst (λ (value : ℤ). is_below value new ≡ false) (sym settled.1) is.not_below)
 
 -- the multiplier that is named for picks
 named_is : (problem : Meanings) (picks : List ℕ) (index : ℕ) (sign : ℤ) → IsSettled problem picks (Broken index sign) → problem.broken picks ≡ record { index = index; value = sign }

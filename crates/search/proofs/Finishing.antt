@@ -4,7 +4,7 @@ use Rattle.std.proofs.Common.{Contains, Bool, true, false, if◌then◌else◌, 
 use Rattle.std.proofs.Common.{ap, subst, arith, ◌∙◌, inl, inr, ◌⊎◌, ℤ, ◌≤ℤ◌, ◌<ℤ◌, int_lt}
 use Rattle.std.specs.List.{fold}
 use Rattle.std.proofs.lemmas.Int.{ints}
-use Rattle.std.proofs.lemmas.List.{append-nil, append_assoc, length-append, length-map, length-reverse, reverse-append}
+use Rattle.std.proofs.lemmas.List.{append-nil, length-append, length-map, length-reverse}
 use Rattle.std.proofs.lemmas.List.Elements.{All-cons, All-nil, All-head, All-tail, All-contains, All-weaker}
 use Rattle.rail_base.specs.declared.numbers.Money.{Money}
 use Rattle.branch_tree.specs.declared.multipliers.Entry.{Entry}
@@ -25,7 +25,7 @@ use Rattle.search.specs.Frontiers.{can_improve}
 use Rattle.search.specs.Ends.{HasEnded, found_by, least_of, lesser, lesser_of, closed_by, bounded_by}
 use Rattle.search.specs.Nodes.{CanBranch, IsNodeOf, IsPlaced, IsSearched, cut_at, tree_node, tree_nodes}
 use Rattle.search.specs.Offers.{HasPlanIn}
-use Rattle.search.specs.Conclusions.{IsSolved, plan_in, bounded_with}
+use Rattle.search.specs.Conclusions.{IsSolved, nodes_found, plan_found, plan_in, bounded_with}
 use Rattle.search.proofs.Below.{lower, not_lower, not_lower_test}
 
 -- ---- the tree
@@ -199,6 +199,19 @@ plan_bounded : (bound : ℤ) (plan : Option Priced) → plan_of (bounded_with bo
 plan_bounded bound None = refl
 plan_bounded bound (Some plan) = refl
 
+-- what is found has the tree and the best solution of the search
+closed_nodes : (best : Option Best) (nodes : List Node) → (nodes_found (closed_by best nodes) ≡ nodes) × (plan_found (closed_by best nodes) ≡ plan_in best)
+closed_nodes None nodes = (refl, refl)
+closed_nodes (Some best) nodes = (refl, refl)
+
+bounded_nodes : (below : Bool) (bound : Money) (best : Option Best) (nodes : List Node) → (nodes_found (bounded_by below bound best nodes) ≡ nodes) × (plan_found (bounded_by below bound best nodes) ≡ plan_in best)
+bounded_nodes true bound best nodes = (refl, plan_bounded bound.0 (plan_in best))
+bounded_nodes false bound best nodes = closed_nodes best nodes
+
+pub found_nodes : (least : Option Money) (best : Option Best) (nodes : List Node) → (nodes_found (found_by least best nodes) ≡ nodes) × (plan_found (found_by least best nodes) ≡ plan_in best)
+found_nodes None best nodes = closed_nodes best nodes
+found_nodes (Some bound) best nodes = bounded_nodes (is_below bound.0 (plan_in best)) bound best nodes
+
 do_bound : (bounds : List ℤ) (bound : ℤ) (plan : Option Priced) → IsLeast bounds bound → DoBound bounds (bounded_with bound plan)
 do_bound bounds bound None least = least
 do_bound bounds bound (Some plan) least = least
@@ -280,17 +293,6 @@ solved problem root grant best nodes is granted ended =
     solved_by problem root grant best (tree_nodes nodes) (tree_of problem root (plan_in best) nodes is) granted ended (least_of (tree_nodes nodes)) (least_is (tree_nodes nodes))
 
 -- ---- the nodes as they are put into the tree
-
-pub lesser_push : (least : Option Money) (tree : List Node) (node : Node) → fold lesser least (tree ++ node ∷ []) ≡ lesser (fold lesser least tree) node
-lesser_push least [] node = refl
-lesser_push least (first ∷ tree) node = lesser_push (lesser least first) tree node
-
-pub moved : (tree : List Node) (rest left whole : List SearchNode) (node : SearchNode) → rest ≡ left ++ node ∷ [] → tree ++ tree_nodes (reverse rest) ≡ tree_nodes whole →
-    (tree ++ tree_node node ∷ []) ++ tree_nodes (reverse left) ≡ tree_nodes whole
-moved tree rest left whole node is all =
-    let turned : reverse rest ≡ node ∷ reverse left = ap reverse is ∙ reverse-append left (node ∷ []) in
-    let step : tree ++ tree_nodes (node ∷ reverse left) ≡ tree_nodes whole = subst (λ nodes. tree ++ tree_nodes nodes ≡ tree_nodes whole) turned all in
-    append_assoc tree (tree_node node ∷ []) (tree_nodes (reverse left)) ∙ step
 
 pub length-moved : (tree : List Node) (rest whole : List SearchNode) → tree ++ tree_nodes (reverse rest) ≡ tree_nodes whole → length tree + length rest ≡ length whole
 length-moved tree rest whole all =

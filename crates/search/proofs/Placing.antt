@@ -1,6 +1,7 @@
 -- What is known of a node from its work.
 use Rattle.std.proofs.Common.{◌≡◌, ℕ, List, [], Bool, true, false, Option, Some, None, MatchOption, inl, inr, refl, sym}
 use Rattle.std.proofs.Common.{subst, arith, ℤ, pos, ◌+ℤ◌}
+use Rattle.std.proofs.lemmas.Bool.{both_ways}
 use Rattle.std.proofs.lemmas.Int.{ints}
 use Rattle.rail_base.specs.declared.numbers.Money.{Money}
 use Rattle.branch_tree.specs.declared.multipliers.Entry.{Entry}
@@ -24,9 +25,6 @@ use Rattle.search.specs.NodesInWork.{IsWorkedOn, ended_by, is_left_open, left_by
 pub chain_of : (problem : Meanings) (region : List (List Bool)) (evaluation : Evaluation) → IsEvaluated problem region evaluation → IsChainValue problem region evaluation.multipliers Cost evaluation.value.0
 chain_of problem region evaluation is = bounds_are_chain_values problem region evaluation.multipliers Cost evaluation.value [] evaluation.picks (is.choice, is.value)
 
-not_both : (b : Bool) → b ≡ true → b ≡ false → ⊥
-not_both b e f = let same : true ≡ false = cc in cc
-
 -- a node after its first evaluation
 module _ (problem : Meanings) (region : List (List Bool)) (best : Option Priced) where
   not_evident_by : (value : Money) (picks : List ℕ) → IsEvaluated problem region (record { value = value; multipliers = []; picks = picks }) → AreSettled problem region best picks →
@@ -34,7 +32,7 @@ module _ (problem : Meanings) (region : List (List Bool)) (best : Option Priced)
   not_evident_by value picks is settled below = elim settled as (λ _. IsNotEvident problem region) [
     | inl solution ↦
         let cost : problem.cost picks ≡ value.0 = let priced : (problem.cost picks +ℤ pos 0) ≡ value.0 = is.value in omega (arith, ints, priced) in
-        absurd (not_both (is_below value.0 best) below (subst (λ (amount : ℤ). is_below amount best ≡ false) cost solution.1))
+        absurd (both_ways (is_below value.0 best) (subst (λ (amount : ℤ). is_below amount best ≡ false) cost solution.1) below)
     | inr opens ↦ record {
       picks = picks;
       choice = is.choice;
@@ -72,11 +70,11 @@ module _ (problem : Meanings) (region : List (List Bool)) (best : Option Priced)
   pub ended_leaf : (ending : Ending) → IsEnding problem region ending → IsLeafOf problem best region (Fixed (leaf_of ending))
   ended_leaf Empty is = record {
     leaf = refl;
-    known = record { proved = record { proper = tt; fitting = tt; bound = tt; ray = tt; empty = is }; raised = tt; branches = λ opens. absurd (not_both false opens refl) };
+    known = record { proved = record { proper = tt; fitting = tt; bound = tt; ray = tt; empty = is }; raised = tt; branches = λ opens. absurd (both_ways false refl opens) };
   }
   ended_leaf (Ray multipliers) is = record {
     leaf = refl;
-    known = record { proved = record { proper = tt; fitting = is.0; bound = tt; ray = is.1; empty = tt }; raised = tt; branches = λ opens. absurd (not_both false opens refl) };
+    known = record { proved = record { proper = tt; fitting = is.0; bound = tt; ray = is.1; empty = tt }; raised = tt; branches = λ opens. absurd (both_ways false refl opens) };
   }
 
 -- a leaf with a bound
@@ -95,7 +93,7 @@ bound_leaf problem best number work is false e = record {
   known = record {
     proved = record { proper = tt; fitting = is.kept.fits; bound = chain_of problem work.region work.kept is.kept; ray = tt; empty = tt };
     raised = (work.first.0, is.first, is.raised);
-    branches = λ opens. absurd (not_both (is_below work.kept.value.0 best) opens e);
+    branches = λ opens. absurd (both_ways (is_below work.kept.value.0 best) e opens);
   };
 }
 
@@ -112,9 +110,9 @@ leaf_from problem best number work is = leaf_by problem best number work is work
 open_by : (best : Option Priced) (number : ℕ) (work : Work) (below : Bool) → is_below work.kept.value.0 best ≡ below → (end : Option Ending) →
     is_open best (tree_node (ended_by (node_by number below work) end)) ≡ true → left_by below end ≡ true
 open_by best number work true e None opens = refl
-open_by best number work false e None opens = absurd (not_both (is_below work.kept.value.0 best) opens e)
-open_by best number work below e (Some Empty) opens = absurd (not_both false opens refl)
-open_by best number work below e (Some (Ray multipliers)) opens = absurd (not_both false opens refl)
+open_by best number work false e None opens = absurd (both_ways (is_below work.kept.value.0 best) e opens)
+open_by best number work below e (Some Empty) opens = absurd (both_ways false refl opens)
+open_by best number work below e (Some (Ray multipliers)) opens = absurd (both_ways false refl opens)
 
 pub left_open_from : (best : Option Priced) (number : ℕ) (work : Work) → is_open best (tree_node (node_from number best work)) ≡ true → is_left_open best work ≡ true
 left_open_from best number work opens = open_by best number work (is_below work.kept.value.0 best) refl work.end opens
@@ -130,5 +128,5 @@ left_open_made best number work node made opens = left_open_from best number wor
 
 -- a leaf without a bound is not open
 pub ended_not_open : (best : Option Priced) (ending : Ending) → is_open best (leaf_of ending) ≡ true → ⊥
-ended_not_open best Empty opens = not_both false opens refl
-ended_not_open best (Ray multipliers) opens = not_both false opens refl
+ended_not_open best Empty opens = both_ways false refl opens
+ended_not_open best (Ray multipliers) opens = both_ways false refl opens

@@ -5,8 +5,7 @@ use Rattle.search.specs.Questions.{AreAsked, in_rounds}
 use Rattle.search.specs.Ends.{least_of}
 use Rattle.search.specs.Nodes.{tree_nodes}
 use Rattle.search.specs.Conclusions.{IsSolved, nodes_found, plan_found, plan_in}
-use Rattle.search.proofs.Counting.{found_nodes}
-use Rattle.search.proofs.Finishing.{length-tree, solved}
+use Rattle.search.proofs.Finishing.{found_nodes, length-tree, solved}
 use Rattle.search.proofs.solving.solve.Goals as goal
 
 pub finish-requires : goal.finish-requires
