@@ -6,7 +6,7 @@ use Rattle.std.proofs.lemmas.List.{get_or_default, get_or-set_other}
 use Rattle.std.proofs.lemmas.List.Elements.{All-cons, All-nil, All-head, All-tail}
 use Rattle.search.specs.Questions.{IsAsked, AreAsked, AreAskedUpTo, AreTheSame, CanAsk, IsAskedAt, MayBeAsked, in_rounds}
 use Rattle.search.specs.Questions.{once}
-use Rattle.search.specs.Desks.{AreNotedBut}
+use Rattle.search.specs.NodeAdvice.{AreNotedBut}
 
 -- ---- one advisor
 

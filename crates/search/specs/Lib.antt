@@ -5,9 +5,9 @@ pub mod Conclusions
 -- the best solution so far, and evaluations of a region
 pub mod Offers
 pub mod Evaluations
--- a node in work, and its advisors' desk
+-- a node in work, and what its advisors are shown and answer
 pub mod NodesInWork
-pub mod Desks
+pub mod NodeAdvice
 -- the nodes of a search, and those of them that may be branched
 pub mod Nodes
 pub mod Frontiers

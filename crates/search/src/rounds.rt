@@ -4,7 +4,7 @@ ghost use Rattle.std.specs.Prelude.{◌≡◌, ◌+◌, ◌<◌, ◌^◌, false,
 ghost use Rattle.advisors.specs.Quits.{quit_after};
 ghost use Rattle.advisors.specs.Proposals.{IsOverSame};
 ghost use Rattle.search.specs.Questions.{AreAsked, AreTheSame, CanAsk, IsAskedAt, MayBeAsked, in_rounds, once};
-ghost use Rattle.search.specs.Desks.{AreNotedBut, IsLaidOut};
+ghost use Rattle.search.specs.NodeAdvice.{AreNotedBut, IsAdviceFor};
 ghost use Rattle.search.specs.Offers.{IsOffered};
 ghost use Rattle.search.specs.Conclusions.{plan_in};
 ghost use Rattle.search.specs.NodesInWork.{IsWorkedOn, is_left_open};
@@ -16,9 +16,9 @@ use branch_tree::{Region, Relaxation, Slacks};
 use rail_base::{NoMemory, TripNo};
 use std::alloc::Global;
 
-/// What lies before the advisors of one node.
+/// What is shown to the advisors of one node, and what they answered.
 #[derive(Drop)]
-struct Desk {
+struct NodeAdvice {
     /// How many compositions each trip has left.
     sizes: Vec<u32>,
     /// The slacks of the last picks.
@@ -59,12 +59,12 @@ pub(crate) fn make_rounds<R: Relaxation>(
     if !work.is_open(best) {
         return Ok(());
     }
-    let mut desk = Desk::new(alloc, problem, &work.region, advisors.len())?;
+    let mut advice = NodeAdvice::new(alloc, problem, &work.region, advisors.len())?;
     for round in 0..rounds {
         if !work.is_open(best) {
             break;
         }
-        make_round(alloc, problem, work, best, round, &mut desk, advisors)?;
+        make_round(alloc, problem, work, best, round, &mut advice, advisors)?;
     }
     Ok(())
 }
@@ -76,13 +76,13 @@ fn make_round<R: Relaxation>(
     work: &mut Work,
     best: &mut Option<Best>,
     round: u8,
-    desk: &mut Desk,
+    advice: &mut NodeAdvice,
     advisors: &mut Vec<Box<dyn Advisor>>,
 ) -> Result<(), NoMemory>
     requires region { length work.old.region ≡ (R.meanings (R.problem problem.old)).trips }
     requires worked { IsWorkedOn (R.meanings (R.problem problem.old)) (plan_in best.old) work.old }
     requires room { MayBeAsked advisors.old.items asked 1 }
-    requires desk { IsLaidOut (R.meanings (R.problem problem.old)) (length advisors.old.items) desk.old }
+    requires advice { IsAdviceFor (R.meanings (R.problem problem.old)) (length advisors.old.items) advice.old }
 
     // The problem, and the node.
     ensures same { R.problem problem.new ≡ R.problem problem.old }
@@ -92,23 +92,24 @@ fn make_round<R: Relaxation>(
     ensures worked { OnOk result (IsWorkedOn (R.meanings (R.problem problem.old)) (plan_in best.new) work.new) }
 
     // The advisors: what is shown to them, that each stays at its place, and how often it was asked.
-    ensures desk { OnOk result (IsLaidOut (R.meanings (R.problem problem.old)) (length advisors.old.items) desk.new) }
+    ensures advice { OnOk result
+        (IsAdviceFor (R.meanings (R.problem problem.old)) (length advisors.old.items) advice.new) }
     ensures advisors { AreTheSame advisors.old.items advisors.new.items identity }
     ensures asked { AreAsked advisors.old.items advisors.new.items asked has_quit 0 1 }
     ensures least { OnOk result (is_left_open (plan_in best.new) work.new ≡ true →
-        AreAsked advisors.old.items advisors.new.items asked has_quit (once desk.old.has_enough.items) 1) }
+        AreAsked advisors.old.items advisors.new.items asked has_quit (once advice.old.has_enough.items) 1) }
 {
     for place in 0..advisors.len() {
         if !work.is_open(best) {
             return Ok(());
         }
-        if desk.has_enough[place] {
+        if advice.has_enough[place] {
             continue;
         }
         if did_quit(&advisors[place]) {
             continue;
         }
-        take_advice(alloc, problem, work, best, round, desk, advisors, place)?;
+        take_advice(alloc, problem, work, best, round, advice, advisors, place)?;
     }
     Ok(())
 }
@@ -120,14 +121,14 @@ fn take_advice<R: Relaxation>(
     work: &mut Work,
     best: &mut Option<Best>,
     round: u8,
-    desk: &mut Desk,
+    advice: &mut NodeAdvice,
     advisors: &mut Vec<Box<dyn Advisor>>,
     place: usize,
 ) -> Result<(), NoMemory>
     requires region { length work.old.region ≡ (R.meanings (R.problem problem.old)).trips }
     requires worked { IsWorkedOn (R.meanings (R.problem problem.old)) (plan_in best.old) work.old }
     requires ask { CanAsk advisors.old.items asked has_quit place }
-    requires desk { IsLaidOut (R.meanings (R.problem problem.old)) (length advisors.old.items) desk.old }
+    requires advice { IsAdviceFor (R.meanings (R.problem problem.old)) (length advisors.old.items) advice.old }
 
     // The problem, and the node.
     ensures same { R.problem problem.new ≡ R.problem problem.old }
@@ -137,17 +138,18 @@ fn take_advice<R: Relaxation>(
     ensures worked { OnOk result (IsWorkedOn (R.meanings (R.problem problem.old)) (plan_in best.new) work.new) }
 
     // The advisors: what is shown to them, that each stays at its place, and which of them was asked.
-    ensures desk { OnOk result (IsLaidOut (R.meanings (R.problem problem.old)) (length advisors.old.items) desk.new) }
-    ensures enough { OnOk result (AreNotedBut place desk.old.has_enough.items desk.new.has_enough.items) }
+    ensures advice { OnOk result
+        (IsAdviceFor (R.meanings (R.problem problem.old)) (length advisors.old.items) advice.new) }
+    ensures enough { OnOk result (AreNotedBut place advice.old.has_enough.items advice.new.has_enough.items) }
     ensures advisors { AreTheSame advisors.old.items advisors.new.items identity }
     ensures asked { IsAskedAt advisors.old.items advisors.new.items asked has_quit place }
 {
-    let word = ask(problem, work, round, desk, &mut advisors[place])?;
-    desk.has_enough[place] = word == Word::Enough;
+    let word = ask(problem, work, round, advice, &mut advisors[place])?;
+    advice.has_enough[place] = word == Word::Enough;
     if word == Word::Quit {
         return Ok(());
     }
-    work.take_up(alloc, problem, &desk.proposal, best)
+    work.take_up(alloc, problem, &advice.proposal, best)
 }
 
 /// Whether an advisor has quit.
@@ -162,7 +164,7 @@ fn ask<R: Relaxation>(
     problem: &mut R,
     work: &Work,
     round: u8,
-    desk: &mut Desk,
+    advice: &mut NodeAdvice,
     advisor: &mut Box<dyn Advisor>,
 ) -> Result<Word, NoMemory>
     requires follow { (R.meanings (R.problem problem.old)).Follow work.now.last.picks }
@@ -172,42 +174,42 @@ fn ask<R: Relaxation>(
     ensures asked { asked advisor.new ≡ asked advisor.old + 1 }
     ensures quit { has_quit advisor.new ≡ quit_after result }
     ensures advisor { identity advisor.new ≡ identity advisor.old }
-    ensures over { IsOverSame desk.old.proposal desk.new.proposal }
-    ensures has_enough { desk.new.has_enough ≡ desk.old.has_enough }
+    ensures over { IsOverSame advice.old.proposal advice.new.proposal }
+    ensures has_enough { advice.new.has_enough ≡ advice.old.has_enough }
 {
-    problem.slacks(&work.last.picks, &mut desk.slacks);
-    desk.proposal.clear();
+    problem.slacks(&work.last.picks, &mut advice.slacks);
+    advice.proposal.clear();
     let look = Look {
         round,
-        sizes: &desk.sizes,
+        sizes: &advice.sizes,
         first: work.first,
         kept: work.kept.value,
         last: work.last.value,
         multipliers: &work.last.multipliers,
         picks: &work.last.picks,
-        slacks: &desk.slacks,
+        slacks: &advice.slacks,
         free_from: problem.free_from(),
     };
-    advisor.advise(&look, &mut desk.proposal)
+    advisor.advise(&look, &mut advice.proposal)
 }
 
-impl Desk {
-    /// What lies before so many advisors for a region. The error is want of memory.
+impl NodeAdvice {
+    /// What is shown of a region to so many advisors, none of whom has answered yet. The error is want of memory.
     #[tactic(auto, using(crate::proofs::Asking::once_replicated))]
     fn new<R: Relaxation>(
         alloc: Global,
         problem: &R,
         region: &Region,
         advisors: usize,
-    ) -> Result<Desk, NoMemory>
-        ensures laid { IfOk result (IsLaidOut (R.meanings (R.problem problem.now)) advisors) }
-        ensures once { IfOk result (λ desk. once desk.has_enough.items ≡ 1) }
+    ) -> Result<NodeAdvice, NoMemory>
+        ensures advice { IfOk result (IsAdviceFor (R.meanings (R.problem problem.now)) advisors) }
+        ensures once { IfOk result (λ advice. once advice.has_enough.items ≡ 1) }
     {
         let mut sizes = Vec::new(alloc);
         for trip in 0..region.trips() {
             sizes.push(region.size(TripNo(trip)))?;
         }
-        Ok(Desk {
+        Ok(NodeAdvice {
             sizes,
             slacks: Slacks::new(alloc)?,
             proposal: Proposal::new(alloc, problem.indices(), problem.free_from())?,

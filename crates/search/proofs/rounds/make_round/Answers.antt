@@ -1,7 +1,7 @@
 use Rattle.std.proofs.Common.{◌≡◌, ℕ, suc, ◌≤◌, length, refl, sym, ap, subst, ◌∙◌, arith}
 use Rattle.std.proofs.lemmas.Bool.{false≢true, true≢false}
 use Rattle.search.specs.Questions.{once}
-use Rattle.search.specs.Desks.{IsLaidOut}
+use Rattle.search.specs.NodeAdvice.{IsAdviceFor}
 use Rattle.search.specs.Offers.{IsOffered}
 use Rattle.search.specs.Conclusions.{plan_in}
 use Rattle.search.specs.NodesInWork.{IsWorkedOn}
@@ -16,7 +16,7 @@ loop-place-init g c = record {
   region = refl;
   offered = not_offered (g.R.Relaxation.meanings (g.R.Relaxation.problem c.args.problem.now)) c.args.work.now.region (plan_in c.args.best.now);
   worked = c.requires.worked;
-  desk = c.requires.desk;
+  advice = c.requires.advice;
   enough = λ place from. refl;
   advisors = refl;
   asked = refl;
@@ -24,77 +24,77 @@ loop-place-init g c = record {
 
 pub returns-then-not-is_open-clause-asked : goal.returns-then-not-is_open-clause-asked
 returns-then-not-is_open-clause-asked g c =
-    asked_so_far _ _ (once c.args.desk.now.has_enough.items) c.loop-place.place c.args.advisors.now.items c.loop-place.advisors.items c.loop-place.invariant.asked
+    asked_so_far _ _ (once c.args.advice.now.has_enough.items) c.loop-place.place c.args.advisors.now.items c.loop-place.advisors.items c.loop-place.invariant.asked
 
 pub returns-then-not-is_open-clause-least : goal.returns-then-not-is_open-clause-least
 returns-then-not-is_open-clause-least g c = λ left. absurd (false≢true (sym c.if-not-is_open.true ∙ (c.is_open.ensures ∙ left)))
 
 pub returns-clause-asked : goal.returns-clause-asked
 returns-clause-asked g c =
-    asked_so_far _ _ (once c.args.desk.now.has_enough.items) c.loop-place.place c.args.advisors.now.items c.loop-place.advisors.items c.loop-place.invariant.asked
+    asked_so_far _ _ (once c.args.advice.now.has_enough.items) c.loop-place.place c.args.advisors.now.items c.loop-place.advisors.items c.loop-place.invariant.asked
 
 pub returns-clause-least : goal.returns-clause-least
 returns-clause-least g c = λ left.
     let all : length c.args.advisors.now.items ≤ c.loop-place.place = omega (arith, c.len-place-end.ensures, c.loop-place-test.false) in
-    asked_all _ _ (once c.args.desk.now.has_enough.items) c.loop-place.place c.args.advisors.now.items c.loop-place.advisors.items all c.loop-place.invariant.asked
+    asked_all _ _ (once c.args.advice.now.has_enough.items) c.loop-place.place c.args.advisors.now.items c.loop-place.advisors.items all c.loop-place.invariant.asked
 
 pub index-requires-in-loop-place : goal.index-requires-in-loop-place
 index-requires-in-loop-place g c =
-    let same : length c.loop-place.advisors.items ≡ length c.args.advisors.now.items = length-up_to _ _ (once c.args.desk.now.has_enough.items) c.loop-place.place c.args.advisors.now.items c.loop-place.advisors.items c.loop-place.invariant.asked in
+    let same : length c.loop-place.advisors.items ≡ length c.args.advisors.now.items = length-up_to _ _ (once c.args.advice.now.has_enough.items) c.loop-place.place c.args.advisors.now.items c.loop-place.advisors.items c.loop-place.invariant.asked in
     omega (arith, c.loop-place-test.true, c.len-place-end.ensures)
 
 pub take_advice-requires-clause-ask : goal.take_advice-requires-clause-ask
 take_advice-requires-clause-ask g c =
-    let same : length c.loop-place.advisors.items ≡ length c.args.advisors.now.items = length-up_to _ _ (once c.args.desk.now.has_enough.items) c.loop-place.place c.args.advisors.now.items c.loop-place.advisors.items c.loop-place.invariant.asked in
-    can_ask _ _ (once c.args.desk.now.has_enough.items) c.loop-place.place c.args.advisors.now.items c.loop-place.advisors.items c.index-in-loop-place.result.now c.requires.room c.loop-place.invariant.asked
+    let same : length c.loop-place.advisors.items ≡ length c.args.advisors.now.items = length-up_to _ _ (once c.args.advice.now.has_enough.items) c.loop-place.place c.args.advisors.now.items c.loop-place.advisors.items c.loop-place.invariant.asked in
+    can_ask _ _ (once c.args.advice.now.has_enough.items) c.loop-place.place c.args.advisors.now.items c.loop-place.advisors.items c.index-in-loop-place.result.now c.requires.room c.loop-place.invariant.asked
     (omega (arith, c.loop-place-test.true, c.len-place-end.ensures)) c.index-in-loop-place.ensures (sym c.did_quit.ensures ∙ c.if-did_quit.false)
 
-pub take_advice-requires-clause-desk : goal.take_advice-requires-clause-desk
-take_advice-requires-clause-desk g c =
-    let same : length c.loop-place.advisors.items ≡ length c.args.advisors.now.items = length-up_to _ _ (once c.args.desk.now.has_enough.items) c.loop-place.place c.args.advisors.now.items c.loop-place.advisors.items c.loop-place.invariant.asked in
+pub take_advice-requires-clause-advice : goal.take_advice-requires-clause-advice
+take_advice-requires-clause-advice g c =
+    let same : length c.loop-place.advisors.items ≡ length c.args.advisors.now.items = length-up_to _ _ (once c.args.advice.now.has_enough.items) c.loop-place.place c.args.advisors.now.items c.loop-place.advisors.items c.loop-place.invariant.asked in
     record {
-      indices = c.loop-place.invariant.desk.indices ∙ ap (λ p. (g.R.Relaxation.meanings p).indices) (sym c.loop-place.invariant.same);
-      free_from = c.loop-place.invariant.desk.free_from ∙ ap (λ p. (g.R.Relaxation.meanings p).free_from) (sym c.loop-place.invariant.same);
-      each = c.loop-place.invariant.desk.each ∙ sym same;
+      indices = c.loop-place.invariant.advice.indices ∙ ap (λ p. (g.R.Relaxation.meanings p).indices) (sym c.loop-place.invariant.same);
+      free_from = c.loop-place.invariant.advice.free_from ∙ ap (λ p. (g.R.Relaxation.meanings p).free_from) (sym c.loop-place.invariant.same);
+      each = c.loop-place.invariant.advice.each ∙ sym same;
     }
 
 pub loop-place-preserved-then-index : goal.loop-place-preserved-then-index
 loop-place-preserved-then-index g c =
-    let same : length c.loop-place.advisors.items ≡ length c.args.advisors.now.items = length-up_to _ _ (once c.args.desk.now.has_enough.items) c.loop-place.place c.args.advisors.now.items c.loop-place.advisors.items c.loop-place.invariant.asked in
-    let none : once c.args.desk.now.has_enough.items ≡ 0 =
-    once_read c.loop-place.desk.has_enough.items c.args.desk.now.has_enough.items c.loop-place.place c.index.result.now
-    (omega (arith, c.loop-place-test.true, c.len-place-end.ensures, c.loop-place.invariant.desk.each)) c.index.ensures c.if-index.true (c.loop-place.invariant.enough c.loop-place.place (omega arith)) in
+    let same : length c.loop-place.advisors.items ≡ length c.args.advisors.now.items = length-up_to _ _ (once c.args.advice.now.has_enough.items) c.loop-place.place c.args.advisors.now.items c.loop-place.advisors.items c.loop-place.invariant.asked in
+    let none : once c.args.advice.now.has_enough.items ≡ 0 =
+    once_read c.loop-place.advice.has_enough.items c.args.advice.now.has_enough.items c.loop-place.place c.index.result.now
+    (omega (arith, c.loop-place-test.true, c.len-place-end.ensures, c.loop-place.invariant.advice.each)) c.index.ensures c.if-index.true (c.loop-place.invariant.enough c.loop-place.place (omega arith)) in
     record {
       same = c.loop-place.invariant.same;
       region = c.loop-place.invariant.region;
       offered = c.loop-place.invariant.offered;
       worked = c.loop-place.invariant.worked;
-      desk = c.loop-place.invariant.desk;
+      advice = c.loop-place.invariant.advice;
       enough = λ place from. c.loop-place.invariant.enough place (omega (arith, from));
       advisors = c.loop-place.invariant.advisors;
-      asked = up_to_next _ _ (once c.args.desk.now.has_enough.items) c.loop-place.place c.args.advisors.now.items c.loop-place.advisors.items
-          (pass_unclaimed _ _ (once c.args.desk.now.has_enough.items) c.loop-place.place c.args.advisors.now.items c.loop-place.advisors.items none (omega (arith, c.loop-place-test.true, c.len-place-end.ensures)) c.loop-place.invariant.asked);
+      asked = up_to_next _ _ (once c.args.advice.now.has_enough.items) c.loop-place.place c.args.advisors.now.items c.loop-place.advisors.items
+          (pass_unclaimed _ _ (once c.args.advice.now.has_enough.items) c.loop-place.place c.args.advisors.now.items c.loop-place.advisors.items none (omega (arith, c.loop-place-test.true, c.len-place-end.ensures)) c.loop-place.invariant.asked);
     }
 
 pub loop-place-preserved-then-did_quit : goal.loop-place-preserved-then-did_quit
 loop-place-preserved-then-did_quit g c =
-    let same : length c.loop-place.advisors.items ≡ length c.args.advisors.now.items = length-up_to _ _ (once c.args.desk.now.has_enough.items) c.loop-place.place c.args.advisors.now.items c.loop-place.advisors.items c.loop-place.invariant.asked in
+    let same : length c.loop-place.advisors.items ≡ length c.args.advisors.now.items = length-up_to _ _ (once c.args.advice.now.has_enough.items) c.loop-place.place c.args.advisors.now.items c.loop-place.advisors.items c.loop-place.invariant.asked in
     record {
       same = c.loop-place.invariant.same;
       region = c.loop-place.invariant.region;
       offered = c.loop-place.invariant.offered;
       worked = c.loop-place.invariant.worked;
-      desk = c.loop-place.invariant.desk;
+      advice = c.loop-place.invariant.advice;
       enough = λ place from. c.loop-place.invariant.enough place (omega (arith, from));
       advisors = c.loop-place.invariant.advisors;
-      asked = up_to_next _ _ (once c.args.desk.now.has_enough.items) c.loop-place.place c.args.advisors.now.items c.loop-place.advisors.items
-          (pass_over _ _ (once c.args.desk.now.has_enough.items) c.loop-place.place c.args.advisors.now.items c.loop-place.advisors.items c.index-in-loop-place.result.now (omega (arith, c.loop-place-test.true, c.len-place-end.ensures)) c.index-in-loop-place.ensures
+      asked = up_to_next _ _ (once c.args.advice.now.has_enough.items) c.loop-place.place c.args.advisors.now.items c.loop-place.advisors.items
+          (pass_over _ _ (once c.args.advice.now.has_enough.items) c.loop-place.place c.args.advisors.now.items c.loop-place.advisors.items c.index-in-loop-place.result.now (omega (arith, c.loop-place-test.true, c.len-place-end.ensures)) c.index-in-loop-place.ensures
           c.loop-place.invariant.asked (λ stays. absurd (true≢false (sym c.if-did_quit.true ∙ (c.did_quit.ensures ∙ stays)))));
     }
 
 pub loop-place-preserved : goal.loop-place-preserved
 loop-place-preserved g c =
-    let same : length c.loop-place.advisors.items ≡ length c.args.advisors.now.items = length-up_to _ _ (once c.args.desk.now.has_enough.items) c.loop-place.place c.args.advisors.now.items c.loop-place.advisors.items c.loop-place.invariant.asked in
+    let same : length c.loop-place.advisors.items ≡ length c.args.advisors.now.items = length-up_to _ _ (once c.args.advice.now.has_enough.items) c.loop-place.place c.args.advisors.now.items c.loop-place.advisors.items c.loop-place.invariant.asked in
     let problem = g.R.Relaxation.meanings (g.R.Relaxation.problem c.args.problem.now) in
     let first = plan_in c.args.best.now in
     let before = plan_in c.loop-place.best in
@@ -106,19 +106,19 @@ loop-place-preserved g c =
           (subst (λ sets. IsOffered problem sets before after) c.loop-place.invariant.region
           (subst (λ p. IsOffered (g.R.Relaxation.meanings p) c.loop-place.work.region before after) c.loop-place.invariant.same c.in_ok-take_advice.ensures.offered));
       worked = subst (λ p. IsWorkedOn (g.R.Relaxation.meanings p) after c.take_advice.new.work) c.loop-place.invariant.same c.in_ok-take_advice.ensures.worked;
-      desk = subst (λ (count : ℕ). IsLaidOut problem count c.take_advice.new.desk) same
-          (subst (λ p. IsLaidOut (g.R.Relaxation.meanings p) (length c.loop-place.advisors.items) c.take_advice.new.desk) c.loop-place.invariant.same c.in_ok-take_advice.ensures.desk);
+      advice = subst (λ (count : ℕ). IsAdviceFor problem count c.take_advice.new.advice) same
+          (subst (λ p. IsAdviceFor (g.R.Relaxation.meanings p) (length c.loop-place.advisors.items) c.take_advice.new.advice) c.loop-place.invariant.same c.in_ok-take_advice.ensures.advice);
       enough = λ place from. c.in_ok-take_advice.ensures.enough place (omega (arith, from)) ∙ c.loop-place.invariant.enough place (omega (arith, from));
       advisors = c.take_advice.ensures.advisors ∙ c.loop-place.invariant.advisors;
-      asked = up_to_next _ _ (once c.args.desk.now.has_enough.items) c.loop-place.place c.args.advisors.now.items c.take_advice.new.advisors.items
-          (then_asked _ _ (once c.args.desk.now.has_enough.items) c.loop-place.place c.args.advisors.now.items c.loop-place.advisors.items c.take_advice.new.advisors.items (once_most c.args.desk.now.has_enough.items) c.loop-place.invariant.asked c.take_advice.ensures.asked);
+      asked = up_to_next _ _ (once c.args.advice.now.has_enough.items) c.loop-place.place c.args.advisors.now.items c.take_advice.new.advisors.items
+          (then_asked _ _ (once c.args.advice.now.has_enough.items) c.loop-place.place c.args.advisors.now.items c.loop-place.advisors.items c.take_advice.new.advisors.items (once_most c.args.advice.now.has_enough.items) c.loop-place.invariant.asked c.take_advice.ensures.asked);
     }
 
 pub returns-in_err-take_advice-clause-asked : goal.returns-in_err-take_advice-clause-asked
 returns-in_err-take_advice-clause-asked g c =
-    asked_so_far _ _ (once c.args.desk.now.has_enough.items) (suc c.loop-place.place) c.args.advisors.now.items c.take_advice.new.advisors.items
-    (then_asked _ _ (once c.args.desk.now.has_enough.items) c.loop-place.place c.args.advisors.now.items c.loop-place.advisors.items c.take_advice.new.advisors.items
-    (once_most c.args.desk.now.has_enough.items) c.loop-place.invariant.asked c.take_advice.ensures.asked)
+    asked_so_far _ _ (once c.args.advice.now.has_enough.items) (suc c.loop-place.place) c.args.advisors.now.items c.take_advice.new.advisors.items
+    (then_asked _ _ (once c.args.advice.now.has_enough.items) c.loop-place.place c.args.advisors.now.items c.loop-place.advisors.items c.take_advice.new.advisors.items
+    (once_most c.args.advice.now.has_enough.items) c.loop-place.invariant.asked c.take_advice.ensures.asked)
 
 pub returns-in_err-take_advice-clause-advisors : goal.returns-in_err-take_advice-clause-advisors
 returns-in_err-take_advice-clause-advisors g c = c.take_advice.ensures.advisors ∙ c.loop-place.invariant.advisors

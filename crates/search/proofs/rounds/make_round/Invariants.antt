@@ -1,6 +1,6 @@
 use Rattle.std.proofs.Common.{◌≡◌, ℕ, ◌≤◌, false, length, get_or}
 use Rattle.search.specs.Questions.{AreAskedUpTo, AreTheSame, once}
-use Rattle.search.specs.Desks.{IsLaidOut}
+use Rattle.search.specs.NodeAdvice.{IsAdviceFor}
 use Rattle.search.specs.Offers.{IsOffered}
 use Rattle.search.specs.Conclusions.{plan_in}
 use Rattle.search.specs.NodesInWork.{IsWorkedOn}
@@ -12,9 +12,9 @@ invariant-loop-place g l = record {
   region : l.work.region ≡ l.fn.work.region;
   offered : IsOffered (g.R.Relaxation.meanings (g.R.Relaxation.problem l.fn.problem)) l.fn.work.region (plan_in l.fn.best) (plan_in l.best);
   worked : IsWorkedOn (g.R.Relaxation.meanings (g.R.Relaxation.problem l.fn.problem)) (plan_in l.best) l.work;
-  desk : IsLaidOut (g.R.Relaxation.meanings (g.R.Relaxation.problem l.fn.problem)) (length l.fn.advisors.items) l.desk;
-  enough : (place : ℕ) → l.place ≤ place → get_or l.desk.has_enough.items place false ≡ get_or l.fn.desk.has_enough.items place false;
+  advice : IsAdviceFor (g.R.Relaxation.meanings (g.R.Relaxation.problem l.fn.problem)) (length l.fn.advisors.items) l.advice;
+  enough : (place : ℕ) → l.place ≤ place → get_or l.advice.has_enough.items place false ≡ get_or l.fn.advice.has_enough.items place false;
   advisors : AreTheSame l.fn.advisors.items l.advisors.items (λ b. (goal.Advisor-dyn g (b.vtable, b.value)).identity b.value);
   asked : AreAskedUpTo l.fn.advisors.items l.advisors.items (λ b. (goal.Advisor-dyn g (b.vtable, b.value)).asked b.value)
-      (λ b. (goal.Advisor-dyn g (b.vtable, b.value)).has_quit b.value) (once l.fn.desk.has_enough.items) l.place;
+      (λ b. (goal.Advisor-dyn g (b.vtable, b.value)).has_quit b.value) (once l.fn.advice.has_enough.items) l.place;
 }

@@ -1,7 +1,7 @@
 use Rattle.std.proofs.Common.{◌≡◌, ℕ, ◌+◌, ◌≤◌, length, refl, sym, subst, ◌∙◌, arith}
 use Rattle.std.proofs.lemmas.Bool.{false≢true}
 use Rattle.search.specs.Questions.{AreAsked, in_rounds, once}
-use Rattle.search.specs.Desks.{IsLaidOut}
+use Rattle.search.specs.NodeAdvice.{IsAdviceFor}
 use Rattle.search.specs.Offers.{IsOffered}
 use Rattle.search.specs.Conclusions.{plan_in}
 use Rattle.search.specs.NodesInWork.{IsWorkedOn}
@@ -11,8 +11,8 @@ use Rattle.search.proofs.Evaluating.{not_offered, offered_again}
 use Rattle.search.proofs.rounds.make_rounds.Goals.{else-loop-round-test, then-loop-round-test+then-not-is_open-2}
 use Rattle.search.proofs.rounds.make_rounds.Goals as goal
 
-pub returns-in_err-desk-clause-asked : goal.returns-in_err-desk-clause-asked
-returns-in_err-desk-clause-asked g c = are_unasked _ _ c.args.rounds c.args.advisors.now.items
+pub returns-in_err-advice-clause-asked : goal.returns-in_err-advice-clause-asked
+returns-in_err-advice-clause-asked g c = are_unasked _ _ c.args.rounds c.args.advisors.now.items
 
 pub loop-round-init : goal.loop-round-init
 loop-round-init g c = record {
@@ -20,11 +20,11 @@ loop-round-init g c = record {
   region = refl;
   offered = not_offered (g.R.Relaxation.meanings (g.R.Relaxation.problem c.args.problem.now)) c.args.work.now.region (plan_in c.args.best.now);
   worked = c.requires.worked;
-  desk = let count : c.len.result ≡ length c.args.advisors.now.items = omega (arith, c.len.ensures) in
-      subst (λ (advisors : ℕ). IsLaidOut (g.R.Relaxation.meanings (g.R.Relaxation.problem c.args.problem.now)) advisors c.in_ok-desk.desk) count c.in_ok-desk.ensures.laid;
+  advice = let count : c.len.result ≡ length c.args.advisors.now.items = omega (arith, c.len.ensures) in
+      subst (λ (advisors : ℕ). IsAdviceFor (g.R.Relaxation.meanings (g.R.Relaxation.problem c.args.problem.now)) advisors c.in_ok-advice.advice) count c.in_ok-advice.ensures.advice;
   advisors = refl;
   asked = are_unasked _ _ 0 c.args.advisors.now.items;
-  first = λ zero_round. c.in_ok-desk.ensures.once;
+  first = λ zero_round. c.in_ok-advice.ensures.once;
   least = λ some left. absurd (omega (arith, some));
 }
 
@@ -61,12 +61,12 @@ loop-round-preserved g c =
           (subst (λ sets. IsOffered problem sets before after) c.loop-round.invariant.region
           (subst (λ p. IsOffered (g.R.Relaxation.meanings p) c.loop-round.work.region before after) c.loop-round.invariant.same c.in_ok-make_round.ensures.offered));
       worked = subst (λ p. IsWorkedOn (g.R.Relaxation.meanings p) after c.make_round.new.work) c.loop-round.invariant.same c.in_ok-make_round.ensures.worked;
-      desk = subst (λ (count : ℕ). IsLaidOut problem count c.make_round.new.desk) (sym same)
-          (subst (λ p. IsLaidOut (g.R.Relaxation.meanings p) (length c.loop-round.advisors.items) c.make_round.new.desk) c.loop-round.invariant.same c.in_ok-make_round.ensures.desk);
+      advice = subst (λ (count : ℕ). IsAdviceFor problem count c.make_round.new.advice) (sym same)
+          (subst (λ p. IsAdviceFor (g.R.Relaxation.meanings p) (length c.loop-round.advisors.items) c.make_round.new.advice) c.loop-round.invariant.same c.in_ok-make_round.ensures.advice);
       advisors = c.make_round.ensures.advisors ∙ c.loop-round.invariant.advisors;
       asked = are_asked_again _ _ 0 c.loop-round.round 0 1 c.args.advisors.now.items c.loop-round.advisors.items c.make_round.new.advisors.items c.loop-round.invariant.asked c.make_round.ensures.asked;
       first = λ none. absurd (omega (arith, none));
-      least = λ some left. asked_once _ _ c.loop-round.round (once c.loop-round.desk.has_enough.items) c.args.advisors.now.items c.loop-round.advisors.items c.make_round.new.advisors.items c.loop-round.invariant.first c.loop-round.invariant.asked
+      least = λ some left. asked_once _ _ c.loop-round.round (once c.loop-round.advice.has_enough.items) c.args.advisors.now.items c.loop-round.advisors.items c.make_round.new.advisors.items c.loop-round.invariant.first c.loop-round.invariant.asked
           (λ more. c.loop-round.invariant.least more (sym c.is_open-in-loop-round.ensures ∙ c.if-not-is_open-2.false)) (c.in_ok-make_round.ensures.least left) c.make_round.ensures.asked;
     }
 

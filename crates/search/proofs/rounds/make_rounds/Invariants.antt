@@ -1,6 +1,6 @@
 use Rattle.std.proofs.Common.{◌≡◌, ◌≤◌, true, length}
 use Rattle.search.specs.Questions.{AreAsked, AreTheSame, once}
-use Rattle.search.specs.Desks.{IsLaidOut}
+use Rattle.search.specs.NodeAdvice.{IsAdviceFor}
 use Rattle.search.specs.Offers.{IsOffered}
 use Rattle.search.specs.Conclusions.{plan_in}
 use Rattle.search.specs.NodesInWork.{IsWorkedOn, is_left_open}
@@ -12,11 +12,11 @@ invariant-loop-round g l = record {
   region : l.work.region ≡ l.fn.work.region;
   offered : IsOffered (g.R.Relaxation.meanings (g.R.Relaxation.problem l.fn.problem)) l.fn.work.region (plan_in l.fn.best) (plan_in l.best);
   worked : IsWorkedOn (g.R.Relaxation.meanings (g.R.Relaxation.problem l.fn.problem)) (plan_in l.best) l.work;
-  desk : IsLaidOut (g.R.Relaxation.meanings (g.R.Relaxation.problem l.fn.problem)) (length l.advisors.items) l.desk;
+  advice : IsAdviceFor (g.R.Relaxation.meanings (g.R.Relaxation.problem l.fn.problem)) (length l.advisors.items) l.advice;
   advisors : AreTheSame l.fn.advisors.items l.advisors.items (λ b. (goal.Advisor-dyn g (b.vtable, b.value)).identity b.value);
   asked : AreAsked l.fn.advisors.items l.advisors.items (λ b. (goal.Advisor-dyn g (b.vtable, b.value)).asked b.value)
       (λ b. (goal.Advisor-dyn g (b.vtable, b.value)).has_quit b.value) 0 l.round;
-  first : l.round ≡ 0 → once l.desk.has_enough.items ≡ 1;
+  first : l.round ≡ 0 → once l.advice.has_enough.items ≡ 1;
   least : 1 ≤ l.round → is_left_open (plan_in l.best) l.work ≡ true →
       AreAsked l.fn.advisors.items l.advisors.items (λ b. (goal.Advisor-dyn g (b.vtable, b.value)).asked b.value)
       (λ b. (goal.Advisor-dyn g (b.vtable, b.value)).has_quit b.value) 1 l.round;

@@ -18,9 +18,9 @@ ask-requires-clause-room g c =
 
 pub index_mut-requires-2 : goal.index_mut-requires-2
 index_mut-requires-2 g c =
-    let same : length c.ask.new.desk.has_enough.items ≡ length c.args.desk.now.has_enough.items = cc in
+    let same : length c.ask.new.advice.has_enough.items ≡ length c.args.advice.now.has_enough.items = cc in
     let within : c.args.place < length c.args.advisors.now.items = c.requires.ask.within in
-    omega (arith, c.requires.desk.each)
+    omega (arith, c.requires.advice.each)
 
 pub returns-in_err-word-clause-advisors : goal.returns-in_err-word-clause-advisors
 returns-in_err-word-clause-advisors g c =
@@ -58,51 +58,51 @@ returns-in_err-word-clause-offered g c = IfOk-from_err c.from_residual.result _ 
 pub returns-in_err-word-clause-worked : goal.returns-in_err-word-clause-worked
 returns-in_err-word-clause-worked g c = IfOk-from_err c.from_residual.result _ c.from_residual.ensures.0
 
-pub returns-in_err-word-clause-desk : goal.returns-in_err-word-clause-desk
-returns-in_err-word-clause-desk g c = IfOk-from_err c.from_residual.result _ c.from_residual.ensures.0
+pub returns-in_err-word-clause-advice : goal.returns-in_err-word-clause-advice
+returns-in_err-word-clause-advice g c = IfOk-from_err c.from_residual.result _ c.from_residual.ensures.0
 
 pub returns-in_err-word-clause-enough : goal.returns-in_err-word-clause-enough
 returns-in_err-word-clause-enough g c = IfOk-from_err c.from_residual.result _ c.from_residual.ensures.0
 
 pub take_up-requires-clause-indices : goal.take_up-requires-clause-indices
 take_up-requires-clause-indices g c =
-    c.ask.ensures.over.indices ∙ (c.requires.desk.indices ∙ ap (λ problem. (g.R.Relaxation.meanings problem).indices) (sym c.ask.ensures.same))
+    c.ask.ensures.over.indices ∙ (c.requires.advice.indices ∙ ap (λ problem. (g.R.Relaxation.meanings problem).indices) (sym c.ask.ensures.same))
 
 pub take_up-requires-clause-free_from : goal.take_up-requires-clause-free_from
 take_up-requires-clause-free_from g c =
-    c.ask.ensures.over.free_from ∙ (c.requires.desk.free_from ∙ ap (λ problem. (g.R.Relaxation.meanings problem).free_from) (sym c.ask.ensures.same))
+    c.ask.ensures.over.free_from ∙ (c.requires.advice.free_from ∙ ap (λ problem. (g.R.Relaxation.meanings problem).free_from) (sym c.ask.ensures.same))
 
 pub take_up-requires-clause-worked : goal.take_up-requires-clause-worked
 take_up-requires-clause-worked g c =
     subst (λ problem. IsWorkedOn (g.R.Relaxation.meanings problem) (plan_in c.args.best.now) c.args.work.now) (sym c.ask.ensures.same) c.requires.worked
 
-pub returns-then-eq-clause-desk : goal.returns-then-eq-clause-desk
-returns-then-eq-clause-desk g c =
-    let flags : c.ask.new.desk.has_enough.items ≡ c.args.desk.now.has_enough.items = λ i. (c.ask.ensures.has_enough i).items in
+pub returns-then-eq-clause-advice : goal.returns-then-eq-clause-advice
+returns-then-eq-clause-advice g c =
+    let flags : c.ask.new.advice.has_enough.items ≡ c.args.advice.now.has_enough.items = λ i. (c.ask.ensures.has_enough i).items in
     record {
-      indices = c.ask.ensures.over.indices ∙ c.requires.desk.indices;
-      free_from = c.ask.ensures.over.free_from ∙ c.requires.desk.free_from;
-      each = length-set c.ask.new.desk.has_enough.items c.args.place c.eq.result ∙ (ap length flags ∙ c.requires.desk.each);
+      indices = c.ask.ensures.over.indices ∙ c.requires.advice.indices;
+      free_from = c.ask.ensures.over.free_from ∙ c.requires.advice.free_from;
+      each = length-set c.ask.new.advice.has_enough.items c.args.place c.eq.result ∙ (ap length flags ∙ c.requires.advice.each);
     }
 
 pub returns-then-eq-clause-enough : goal.returns-then-eq-clause-enough
 returns-then-eq-clause-enough g c =
-    let flags : c.ask.new.desk.has_enough.items ≡ c.args.desk.now.has_enough.items = λ i. (c.ask.ensures.has_enough i).items in
-    noted_but c.args.desk.now.has_enough.items c.ask.new.desk.has_enough.items c.args.place c.eq.result flags
+    let flags : c.ask.new.advice.has_enough.items ≡ c.args.advice.now.has_enough.items = λ i. (c.ask.ensures.has_enough i).items in
+    noted_but c.args.advice.now.has_enough.items c.ask.new.advice.has_enough.items c.args.place c.eq.result flags
 
-pub returns-clause-desk : goal.returns-clause-desk
-returns-clause-desk g c =
-    let flags : c.ask.new.desk.has_enough.items ≡ c.args.desk.now.has_enough.items = λ i. (c.ask.ensures.has_enough i).items in
+pub returns-clause-advice : goal.returns-clause-advice
+returns-clause-advice g c =
+    let flags : c.ask.new.advice.has_enough.items ≡ c.args.advice.now.has_enough.items = λ i. (c.ask.ensures.has_enough i).items in
     on_ok_weaker c.take_up.result (λ _. record {
-      indices = c.ask.ensures.over.indices ∙ c.requires.desk.indices;
-      free_from = c.ask.ensures.over.free_from ∙ c.requires.desk.free_from;
-      each = length-set c.ask.new.desk.has_enough.items c.args.place c.eq.result ∙ (ap length flags ∙ c.requires.desk.each);
+      indices = c.ask.ensures.over.indices ∙ c.requires.advice.indices;
+      free_from = c.ask.ensures.over.free_from ∙ c.requires.advice.free_from;
+      each = length-set c.ask.new.advice.has_enough.items c.args.place c.eq.result ∙ (ap length flags ∙ c.requires.advice.each);
     }) c.take_up.ensures.region
 
 pub returns-clause-enough : goal.returns-clause-enough
 returns-clause-enough g c =
-    let flags : c.ask.new.desk.has_enough.items ≡ c.args.desk.now.has_enough.items = λ i. (c.ask.ensures.has_enough i).items in
-    on_ok_weaker c.take_up.result (λ _. noted_but c.args.desk.now.has_enough.items c.ask.new.desk.has_enough.items c.args.place c.eq.result flags)
+    let flags : c.ask.new.advice.has_enough.items ≡ c.args.advice.now.has_enough.items = λ i. (c.ask.ensures.has_enough i).items in
+    on_ok_weaker c.take_up.result (λ _. noted_but c.args.advice.now.has_enough.items c.ask.new.advice.has_enough.items c.args.place c.eq.result flags)
     c.take_up.ensures.region
 
 pub returns-then-eq-clause-offered : goal.returns-then-eq-clause-offered
