@@ -1,7 +1,7 @@
 -- The frontier of a search: which nodes it has, and which of them it names.
-use Rattle.std.specs.Prelude.{ℕ, ◌≡◌, ◌<◌, ◌&&◌, List, length, slice_index_or, Bool, true, false, Option, nat_eq}
+use Rattle.std.specs.Prelude.{ℕ, ◌≡◌, ◌<◌, ◌&&◌, List, length, slice_index_or, All, Bool, true, false, Option, nat_eq}
 use Rattle.std.specs.declared.cmp.Ordering.{Ordering}
-use Rattle.std.specs.Ordering.{int_cmp, nat_cmp, ordering_then, int_eq}
+use Rattle.std.specs.Ordering.{int_cmp, nat_cmp, ordering_then, int_eq, is_gt}
 use Rattle.std.specs.BTreeMap.{ContainsKey}
 use Rattle.rail_base.specs.declared.numbers.Money.{Money}
 use Rattle.branch_tree.specs.Claims.{Priced, is_below}
@@ -27,6 +27,18 @@ rank_order one other = ordering_then (int_cmp one.0.0 other.0.0) (nat_cmp one.1 
 abbrev pub has_rank : Money → ℕ → SearchNode → Bool
 has_rank bound number (Fixed node) = false
 has_rank bound number (Pending node) = int_eq node.bound.0 bound.0 && nat_eq node.number number
+
+-- a rank is not above that of a node which may be branched
+abbrev pub IsUpTo : Money → ℕ → SearchNode → Type 0
+IsUpTo bound number (Fixed node) = Unit {0}
+IsUpTo bound number (Pending node) = is_gt (rank_order (bound, number) (node.bound, node.number)) ≡ false
+
+-- the node at a place has the least rank of those that may be branched and leave room for a better solution
+pub record HasLeastRank (best : Option Priced) (nodes : List SearchNode) (place : ℕ) : Type 0 where
+  pub bound : Money
+  pub number : ℕ
+  pub here : (node : SearchNode) → has_rank bound number (slice_index_or nodes place node) ≡ true
+  pub least : All (λ node. can_improve best node ≡ true → IsUpTo bound number node) nodes
 
 -- a frontier has the rank of a node, where it may be branched and leaves room for a better solution
 abbrev pub IsEntered : Option Priced → Frontier → SearchNode → Type 0

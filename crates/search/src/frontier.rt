@@ -1,9 +1,9 @@
 //! The frontier of a search: which of its open nodes is branched next.
 
-ghost use Rattle.std.specs.Prelude.{◌≡◌, ◌<◌, true, false, length, get_or, All, MatchOption, OnOk, Option};
-ghost use Rattle.std.specs.BTreeMap.{ContainsKey, IsEmpty};
+ghost use Rattle.std.specs.Prelude.{◌≡◌, ◌<◌, true, false, length, get_or, All, IfSome, MatchOption, OnOk, Option};
+ghost use Rattle.std.specs.BTreeMap.{ContainsKey, IsEmpty, IsLowerBound};
 ghost use Rattle.branch_tree.specs.Claims.{Priced};
-ghost use Rattle.search.specs.Frontiers.{IsEntered, IsOpenAt, can_improve, has_rank, rank_order};
+ghost use Rattle.search.specs.Frontiers.{HasLeastRank, IsEntered, IsOpenAt, can_improve, has_rank, rank_order};
 ghost use Rattle.search.specs.Conclusions.{plan_in};
 ghost use Rattle.search.specs.declared.nodes.SearchNode.{SearchNode};
 
@@ -49,6 +49,7 @@ impl Frontier {
         ensures entered { All (IsEntered (plan_in best.now) self.new) nodes.now }
         ensures next { MatchOption result (All (λ node. can_improve (plan_in best.now) node ≡ false) nodes.now)
             (IsOpenAt (plan_in best.now) nodes.now) }
+        ensures least { IfSome result (HasLeastRank (plan_in best.now) nodes.now) }
     {
         while let Some((bound, number)) = self.first() {
             if is_below(bound, best) {
@@ -63,7 +64,8 @@ impl Frontier {
 
     /// The least rank, where there is one.
     fn first(&self) -> Option<(Money, u32)>
-        ensures { MatchOption result (IsEmpty self.now.ranks) (ContainsKey rank_order self.now.ranks) }
+        ensures rank { MatchOption result (IsEmpty self.now.ranks) (ContainsKey rank_order self.now.ranks) }
+        ensures least { IfSome result (IsLowerBound rank_order self.now.ranks) }
     {
         match self.ranks.first_key_value() {
             Some((rank, _)) => Some(*rank),
