@@ -1,10 +1,10 @@
 -- Types that may run on a trip are a composition of the day.
-use Rattle.std.proofs.Common.{◌≡◌, ℕ, zero, suc, ◌<◌, ◌≤◌, List, length, Bool, [], ◌∷◌, true, Option, Some, None, inl}
-use Rattle.std.proofs.Common.{inr, sym, ap, subst, ◌∙◌, arith, get_or, slice_get, unwrap_or, Contains}
+use Rattle.std.proofs.Common.{◌≡◌, ℕ, ◌<◌, ◌≤◌, List, length, Bool, [], true, Option, Some, None, inl}
+use Rattle.std.proofs.Common.{inr, sym, ap, subst, ◌∙◌, arith, get_or, slice_get}
 use Rattle.std.specs.Prelude.{◌↔◌, ◌&&◌, ◌==◌, nat_lt}
-use Rattle.std.proofs.lemmas.Bool.{and_parts, and_from, or_cases, eqb-true, ltb-true, leb-true, le-leb, cases_eq}
+use Rattle.std.proofs.lemmas.Bool.{and_parts, or_cases, eqb-true, ltb-true, cases_eq}
 use Rattle.std.proofs.lemmas.Bool.{cases_lt}
-use Rattle.std.proofs.lemmas.Option.{slice_get-get_or, slice_get_within, get_or_from_slice_get, unwrap_or-slice_get}
+use Rattle.std.proofs.lemmas.Option.{slice_get_within, get_or_from_slice_get, unwrap_or-slice_get}
 use Rattle.compositions.specs.Catalogue.{is_lower, comes_before}
 use Rattle.compositions.proofs.Fitting.{Fits-from_test}
 use Rattle.compositions.proofs.Listing.{catalogue_listed}
