@@ -6,8 +6,8 @@ use Rattle.std.specs.Prelude.{slice_get}
 use Rattle.std.proofs.lemmas.List.{at_drop_more, get_or-map, length-append, length-map, map-append}
 use Rattle.std.proofs.lemmas.Option.{get_or_from_slice_get, slice_get_within}
 use Rattle.std.proofs.lemmas.List.Sums.{fold_more}
-use Rattle.command_line.specs.declared.form.Choice.{Choice}
-use Rattle.command_line.specs.declared.form.Choice.TheVariants.{Nodes, Rounds}
+use Rattle.command_line.specs.declared.form.OptionName.{OptionName}
+use Rattle.command_line.specs.declared.form.OptionName.TheVariants.{Nodes, Rounds}
 use Rattle.command_line.specs.declared.form.Kind.{Kind}
 use Rattle.command_line.specs.declared.form.Kind.TheVariants.{Plain, Name, Whole, Other}
 use Rattle.command_line.specs.Items.{WordList}
@@ -23,23 +23,23 @@ pub record AreAtMost (most : ℕ) (counts : Counts) : Type 0 where
 one_longer : (words : WordList) (word : List ℕ) → length (words ++ word ∷ []) ≡ length words + 1
 one_longer words word = length-append words (word ∷ [])
 
-counts_value : (choice : Choice) (value : List ℕ) (parts : Parts)
-    → counts_of (with_value choice value parts) ≡ with_option choice (counts_of parts)
+counts_value : (name : OptionName) (value : List ℕ) (parts : Parts)
+    → counts_of (with_value name value parts) ≡ with_option name (counts_of parts)
 counts_value Nodes value parts =
     ap (λ (n : ℕ). record (counts_of parts) { nodes = n }) (one_longer parts.nodes value)
 counts_value Rounds value parts =
     ap (λ (n : ℕ). record (counts_of parts) { rounds = n }) (one_longer parts.rounds value)
 
-counts_stepped : (waiting : Option Choice) (kind : Kind) (word : List ℕ) (parts : Parts)
+counts_stepped : (waiting : Option OptionName) (kind : Kind) (word : List ℕ) (parts : Parts)
     → counts_of (stepped waiting kind word parts) ≡ counted waiting kind (counts_of parts)
-counts_stepped (Some choice) Plain word parts = counts_value choice word (record parts { waiting = None })
-counts_stepped (Some choice) (Name other) word parts = refl
-counts_stepped (Some choice) (Whole other) word parts = refl
-counts_stepped (Some choice) Other word parts = refl
+counts_stepped (Some name) Plain word parts = counts_value name word (record parts { waiting = None })
+counts_stepped (Some name) (Name other) word parts = refl
+counts_stepped (Some name) (Whole other) word parts = refl
+counts_stepped (Some name) Other word parts = refl
 counts_stepped None Plain word parts =
     ap (λ (n : ℕ). record (counts_of parts) { positional = n }) (one_longer parts.positional word)
-counts_stepped None (Name choice) word parts = refl
-counts_stepped None (Whole choice) word parts = counts_value choice (value_of choice word) parts
+counts_stepped None (Name name) word parts = refl
+counts_stepped None (Whole name) word parts = counts_value name (value_of name word) parts
 counts_stepped None Other word parts = refl
 
 pub counts_word : (parts : Parts) (word : List ℕ)
@@ -47,8 +47,8 @@ pub counts_word : (parts : Parts) (word : List ℕ)
 unfolding with_word
 counts_word parts word = counts_stepped parts.waiting (kind_of word) word parts
 
-most_option : (n : ℕ) (choice : Choice) (counts : Counts) → AreAtMost n counts
-    → AreAtMost (n + 1) (with_option choice counts)
+most_option : (n : ℕ) (name : OptionName) (counts : Counts) → AreAtMost n counts
+    → AreAtMost (n + 1) (with_option name counts)
 most_option n Nodes counts most = record {
   positional = omega (arith, most.positional);
   nodes = omega (arith, most.nodes);
@@ -61,7 +61,7 @@ most_option n Rounds counts most = record {
 }
 
 -- other flags, and the same counts
-more : (n : ℕ) (counts : Counts) (waiting : Option Choice) (has_others : Bool) → AreAtMost n counts
+more : (n : ℕ) (counts : Counts) (waiting : Option OptionName) (has_others : Bool) → AreAtMost n counts
     → AreAtMost (n + 1) (record counts { waiting = waiting; has_others = has_others })
 more n counts waiting has_others most = record {
   positional = omega (arith, most.positional);
@@ -70,21 +70,21 @@ more n counts waiting has_others most = record {
 }
 
 -- one word counts once
-pub most_counted : (n : ℕ) (waiting : Option Choice) (kind : Kind) (counts : Counts) → AreAtMost n counts
+pub most_counted : (n : ℕ) (waiting : Option OptionName) (kind : Kind) (counts : Counts) → AreAtMost n counts
     → AreAtMost (n + 1) (counted waiting kind counts)
-most_counted n (Some choice) Plain counts most =
-    most_option n choice (record counts { waiting = None })
+most_counted n (Some name) Plain counts most =
+    most_option n name (record counts { waiting = None })
     (record { positional = most.positional; nodes = most.nodes; rounds = most.rounds })
-most_counted n (Some choice) (Name other) counts most = more n counts counts.waiting true most
-most_counted n (Some choice) (Whole other) counts most = more n counts counts.waiting true most
-most_counted n (Some choice) Other counts most = more n counts counts.waiting true most
+most_counted n (Some name) (Name other) counts most = more n counts counts.waiting true most
+most_counted n (Some name) (Whole other) counts most = more n counts counts.waiting true most
+most_counted n (Some name) Other counts most = more n counts counts.waiting true most
 most_counted n None Plain counts most = record {
   positional = omega (arith, most.positional);
   nodes = omega (arith, most.nodes);
   rounds = omega (arith, most.rounds);
 }
-most_counted n None (Name choice) counts most = more n counts (Some choice) counts.has_others most
-most_counted n None (Whole choice) counts most = most_option n choice counts most
+most_counted n None (Name name) counts most = more n counts (Some name) counts.has_others most
+most_counted n None (Whole name) counts most = most_option n name counts most
 most_counted n None Other counts most = more n counts counts.waiting true most
 
 -- one more word, of those that were passed

@@ -10,8 +10,8 @@ use Rattle.clap.specs.Lexer.{long_of}
 use Rattle.clap.specs.Walk.{Rule, Row, Text, Held, Step, Waiting, has_row, idle, option, plain_word, reading_by, used}
 use Rattle.clap.specs.Takes.{bundle_passes, flag_word_passes, settle_passes, step_passes, turn_passes}
 use Rattle.clap.specs.Simple.{Shape, built, filled}
-use Rattle.command_line.specs.declared.form.Choice.{Choice}
-use Rattle.command_line.specs.declared.form.Choice.TheVariants.{Nodes, Rounds}
+use Rattle.command_line.specs.declared.form.OptionName.{OptionName}
+use Rattle.command_line.specs.declared.form.OptionName.TheVariants.{Nodes, Rounds}
 use Rattle.command_line.specs.declared.form.Form.{Form}
 use Rattle.command_line.specs.declared.form.Form.TheVariants.{Folder, FolderSearch, DaySearch}
 use Rattle.command_line.specs.Apps.{app, nodes_rule, rules}
@@ -62,32 +62,32 @@ positional_passes_here form place has h x xs e settles =
     (ap (λ (met : Held × Step). step_passes (shape form) (position place) met.0 met.1)
     (plain_met (rules form) idle (position place) x xs h e) ∙ place_passes form place has h x xs settles)
 
-value_passes : (form : Form) (choice : Choice) → has_options form ≡ true → (rows : List Row) (h : Held)
+value_passes : (form : Form) (name : OptionName) → has_options form ≡ true → (rows : List Row) (h : Held)
     → (position x : ℕ) (xs : List ℕ)
-    → plain_passes form (option (id_of choice)) position (x ∷ xs) (hold rows (Some (id_of choice, [])) h) ≡ true
-value_passes Folder choice none rows h position x xs = absurd cc
+    → plain_passes form (option (id_of name)) position (x ∷ xs) (hold rows (Some (id_of name, [])) h) ≡ true
+value_passes Folder name none rows h position x xs = absurd cc
 value_passes FolderSearch Nodes has rows h position x xs = refl
 value_passes FolderSearch Rounds has rows h position x xs = refl
 value_passes DaySearch Nodes has rows h position x xs = refl
 value_passes DaySearch Rounds has rows h position x xs = refl
 
-pub value_passes_here : (form : Form) (choice : Choice) → has_options form ≡ true → (rows : List Row) (h : Held)
+pub value_passes_here : (form : Form) (name : OptionName) → has_options form ≡ true → (rows : List Row) (h : Held)
     → (position x : ℕ) (xs : List ℕ) → (x == 45) ≡ false
-    → turn_passes (shape form) [] (await choice (hold rows (Some (id_of choice, [])) h) position) (x ∷ xs) ≡ true
-value_passes_here form choice has rows h position x xs e =
-    let held : Held = hold rows (Some (id_of choice, [])) h in
+    → turn_passes (shape form) [] (await name (hold rows (Some (id_of name, [])) h) position) (x ∷ xs) ≡ true
+value_passes_here form name has rows h position x xs e =
+    let held : Held = hold rows (Some (id_of name, [])) h in
     and_from _ _ (or_right (bytes_eq (x ∷ xs) (45 ∷ 45 ∷ [])) _
     (no_flag_passes (shape form).rules (shape form).args_override_self x xs held e))
     (ap (λ (met : Held × Step). step_passes (shape form) position met.0 met.1)
-    (plain_met (rules form) (option (id_of choice)) position x xs held e)
-    ∙ value_passes form choice has rows h position x xs)
+    (plain_met (rules form) (option (id_of name)) position x xs held e)
+    ∙ value_passes form name has rows h position x xs)
 
 -- ---- options
 
-pub name_passes_here : (form : Form) (choice : Choice) → has_options form ≡ true → (h : Held) (position : ℕ)
+pub name_passes_here : (form : Form) (name : OptionName) → has_options form ≡ true → (h : Held) (position : ℕ)
     → settle_passes (rules form) false h ≡ true
-    → turn_passes (shape form) [] (stand h position) (option_name choice) ≡ true
-name_passes_here Folder choice none h position settles = absurd cc
+    → turn_passes (shape form) [] (stand h position) (option_name name) ≡ true
+name_passes_here Folder name none h position settles = absurd cc
 name_passes_here FolderSearch Nodes has h position settles = and_from _ _ settles refl
 name_passes_here FolderSearch Rounds has h position settles = and_from _ _ settles refl
 name_passes_here DaySearch Nodes has h position settles = and_from _ _ settles refl
@@ -96,11 +96,11 @@ name_passes_here DaySearch Rounds has h position settles = and_from _ _ settles 
 once : (b : Bool) → b ≡ false → ((not b || false) && true) ≡ true
 once b new = ap (λ (b : Bool). (not b || false) && true) new
 
-pub whole_passes_here : (form : Form) (choice : Choice) → has_options form ≡ true
+pub whole_passes_here : (form : Form) (name : OptionName) → has_options form ≡ true
     → (h : Held) (position : ℕ) (v : List ℕ) → settle_passes (rules form) false h ≡ true
-    → has_row (id_of choice) (settle form h) ≡ false
-    → turn_passes (shape form) [] (stand h position) (option_name choice ++ (codes "=" ++ v)) ≡ true
-whole_passes_here Folder choice none h position v settles new = absurd cc
+    → has_row (id_of name) (settle form h) ≡ false
+    → turn_passes (shape form) [] (stand h position) (option_name name ++ (codes "=" ++ v)) ≡ true
+whole_passes_here Folder name none h position v settles new = absurd cc
 whole_passes_here FolderSearch Nodes has h position v settles new =
     and_from _ _ (and_from _ _ settles (once _ new)) refl
 whole_passes_here FolderSearch Rounds has h position v settles new =
@@ -112,10 +112,10 @@ whole_passes_here DaySearch Rounds has h position v settles new =
 
 -- ---- what waits passes, where the argument was not used before
 
-pub value_settles : (form : Form) (choice : Choice) → has_options form ≡ true → (rows : List Row) (h : Held) (v : Text)
-    → has_row (id_of choice) rows ≡ false
-    → settle_passes (rules form) false (hold rows (Some (id_of choice, v ∷ [])) h) ≡ true
-value_settles Folder choice none rows h v new = absurd cc
+pub value_settles : (form : Form) (name : OptionName) → has_options form ≡ true → (rows : List Row) (h : Held) (v : Text)
+    → has_row (id_of name) rows ≡ false
+    → settle_passes (rules form) false (hold rows (Some (id_of name, v ∷ [])) h) ≡ true
+value_settles Folder name none rows h v new = absurd cc
 value_settles FolderSearch Nodes has rows h v new = once _ new
 value_settles FolderSearch Rounds has rows h v new = once _ new
 value_settles DaySearch Nodes has rows h v new = once _ new
@@ -136,16 +136,16 @@ place_settles DaySearch Third none rows h v new = absurd cc
 
 -- ---- what is settled
 
-pub settled_value : (form : Form) (choice : Choice) → has_options form ≡ true → (rows : List Row) (h : Held) (v : Text)
-    → settle form (hold rows (Some (id_of choice, v ∷ [])) h) ≡ put (id_of choice) how v rows
-settled_value Folder choice none rows h v = absurd cc
+pub settled_value : (form : Form) (name : OptionName) → has_options form ≡ true → (rows : List Row) (h : Held) (v : Text)
+    → settle form (hold rows (Some (id_of name, v ∷ [])) h) ≡ put (id_of name) how v rows
+settled_value Folder name none rows h v = absurd cc
 settled_value FolderSearch Nodes has rows h v = refl
 settled_value FolderSearch Rounds has rows h v = refl
 settled_value DaySearch Nodes has rows h v = refl
 settled_value DaySearch Rounds has rows h v = refl
 
-pub settled_whole : (choice : Choice) (rows : List Row) (v : Text)
-    → used (rule_for choice) (v ∷ []) rows ≡ put (id_of choice) how v rows
+pub settled_whole : (name : OptionName) (rows : List Row) (v : Text)
+    → used (rule_for name) (v ∷ []) rows ≡ put (id_of name) how v rows
 settled_whole Nodes rows v = refl
 settled_whole Rounds rows v = refl
 

@@ -6,8 +6,8 @@ use Rattle.std.specs.Str.{bytes_eq}
 use Rattle.std.proofs.lemmas.Bool.{both_ways}
 use Rattle.std.proofs.lemmas.List.{take-append-drop}
 use Rattle.std.proofs.lemmas.Slice.Eq.{bytes_eq-Decides}
-use Rattle.command_line.specs.declared.form.Choice.{Choice}
-use Rattle.command_line.specs.declared.form.Choice.TheVariants.{Nodes, Rounds}
+use Rattle.command_line.specs.declared.form.OptionName.{OptionName}
+use Rattle.command_line.specs.declared.form.OptionName.TheVariants.{Nodes, Rounds}
 use Rattle.command_line.specs.declared.form.Kind.{Kind}
 use Rattle.command_line.specs.declared.form.Kind.TheVariants.{Plain, Name, Whole, Other}
 use Rattle.command_line.specs.Items.{WordList, Item, Positional, TwoWords, OneWord, HaveTheirForm, option_name}
@@ -25,8 +25,8 @@ clean positional nodes rounds =
     record { positional = positional; nodes = nodes; rounds = rounds; waiting = None; has_others = false }
 
 -- an option waits for its value
-abbrev waits : Choice → (positional nodes rounds : WordList) → Parts
-waits choice positional nodes rounds = record (clean positional nodes rounds) { waiting = Some choice }
+abbrev waits : OptionName → (positional nodes rounds : WordList) → Parts
+waits name positional nodes rounds = record (clean positional nodes rounds) { waiting = Some name }
 
 -- ---- one item
 
@@ -35,24 +35,24 @@ word_step : (word : List ℕ) (p n r : WordList) → is_positional word ≡ true
 unfolding with_word
 word_step word p n r holds = rw holds refl
 
-open_step : (choice : Choice) (p n r : WordList)
-    → with_word (clean p n r) (option_name choice) ≡ waits choice p n r
+open_step : (name : OptionName) (p n r : WordList)
+    → with_word (clean p n r) (option_name name) ≡ waits name p n r
 unfolding with_word
 open_step Nodes p n r = refl
 open_step Rounds p n r = refl
 
-value_step : (choice : Choice) (value : List ℕ) (p n r : WordList) → is_positional value ≡ true
-    → with_word (waits choice p n r) value ≡ with_value choice value (clean p n r)
+value_step : (name : OptionName) (value : List ℕ) (p n r : WordList) → is_positional value ≡ true
+    → with_word (waits name p n r) value ≡ with_value name value (clean p n r)
 unfolding with_word
-value_step choice value p n r holds = rw holds refl
+value_step name value p n r holds = rw holds refl
 
-name_step : (choice : Choice) (value : List ℕ) (p n r : WordList) → is_positional value ≡ true
-    → with_word (with_word (clean p n r) (option_name choice)) value ≡ with_value choice value (clean p n r)
-name_step choice value p n r holds =
-    ap (λ (parts : Parts). with_word parts value) (open_step choice p n r) ∙ value_step choice value p n r holds
+name_step : (name : OptionName) (value : List ℕ) (p n r : WordList) → is_positional value ≡ true
+    → with_word (with_word (clean p n r) (option_name name)) value ≡ with_value name value (clean p n r)
+name_step name value p n r holds =
+    ap (λ (parts : Parts). with_word parts value) (open_step name p n r) ∙ value_step name value p n r holds
 
-whole_step : (choice : Choice) (value : List ℕ) (p n r : WordList)
-    → with_word (clean p n r) (option_name choice ++ (codes "=" ++ value)) ≡ with_value choice value (clean p n r)
+whole_step : (name : OptionName) (value : List ℕ) (p n r : WordList)
+    → with_word (clean p n r) (option_name name ++ (codes "=" ++ value)) ≡ with_value name value (clean p n r)
 unfolding with_word
 whole_step Nodes value p n r = refl
 whole_step Rounds value p n r = refl
@@ -94,8 +94,8 @@ parts_are (OneWord Rounds value ∷ items) p n r form =
 -- what a word can be
 data IsOf (word : List ℕ) : Type 0 where
   IsPlain : is_positional word ≡ true → IsOf word
-  IsName : (choice : Choice) → word ≡ option_name choice → IsOf word
-  IsWhole : (choice : Choice) (value : List ℕ) → word ≡ option_name choice ++ (codes "=" ++ value) → IsOf word
+  IsName : (name : OptionName) → word ≡ option_name name → IsOf word
+  IsWhole : (name : OptionName) (value : List ℕ) → word ≡ option_name name ++ (codes "=" ++ value) → IsOf word
   IsOther : kind_of word ≡ Other → IsOf word
 
 front_is : (word front : List ℕ) (n : ℕ) → bytes_eq (take n word) front ≡ true → word ≡ front ++ drop n word
@@ -121,15 +121,15 @@ kind word = elim (cases (is_positional word)) [
 ]
 
 -- a word that is none of these is never forgotten
-still_others : (waiting : Option Choice) (kind : Kind) (word : List ℕ) (parts : Parts) → parts.has_others ≡ true
+still_others : (waiting : Option OptionName) (kind : Kind) (word : List ℕ) (parts : Parts) → parts.has_others ≡ true
     → (stepped waiting kind word parts).has_others ≡ true
 still_others (Some Nodes) Plain word parts h = h
 still_others (Some Rounds) Plain word parts h = h
-still_others (Some choice) (Name other) word parts h = refl
-still_others (Some choice) (Whole other) word parts h = refl
-still_others (Some choice) Other word parts h = refl
+still_others (Some name) (Name other) word parts h = refl
+still_others (Some name) (Whole other) word parts h = refl
+still_others (Some name) Other word parts h = refl
 still_others None Plain word parts h = h
-still_others None (Name choice) word parts h = h
+still_others None (Name name) word parts h = h
 still_others None (Whole Nodes) word parts h = h
 still_others None (Whole Rounds) word parts h = h
 still_others None Other word parts h = refl
@@ -148,35 +148,35 @@ never_whole words parts others whole =
     let broken : is_whole (fold with_word parts words) ≡ false = rw stay refl in
     both_ways (is_whole (fold with_word parts words)) broken whole
 
-never_open : (choice : Choice) (p n r : WordList) → is_whole (with_word (clean p n r) (option_name choice)) ≡ true → ⊥
+never_open : (name : OptionName) (p n r : WordList) → is_whole (with_word (clean p n r) (option_name name)) ≡ true → ⊥
 unfolding with_word
 never_open Nodes p n r whole = absurd cc
 never_open Rounds p n r whole = absurd cc
 
 -- a word that is no value is none that may stand there
-no_name : (choice other : Choice) (parts : Parts)
-    → (stepped (Some choice) (kind_of (option_name other)) (option_name other) parts).has_others ≡ true
-no_name choice Nodes parts = refl
-no_name choice Rounds parts = refl
+no_name : (name other : OptionName) (parts : Parts)
+    → (stepped (Some name) (kind_of (option_name other)) (option_name other) parts).has_others ≡ true
+no_name name Nodes parts = refl
+no_name name Rounds parts = refl
 
-no_whole : (choice other : Choice) (value : List ℕ) (parts : Parts)
-    → (stepped (Some choice) (kind_of (option_name other ++ (codes "=" ++ value)))
+no_whole : (name other : OptionName) (value : List ℕ) (parts : Parts)
+    → (stepped (Some name) (kind_of (option_name other ++ (codes "=" ++ value)))
     (option_name other ++ (codes "=" ++ value)) parts).has_others ≡ true
-no_whole choice Nodes value parts = refl
-no_whole choice Rounds value parts = refl
+no_whole name Nodes value parts = refl
+no_whole name Rounds value parts = refl
 
-value_or_other : (choice : Choice) (word : List ℕ) (p n r : WordList) → (is_positional word ≡ true)
-    ⊎ ((with_word (waits choice p n r) word).has_others ≡ true)
+value_or_other : (name : OptionName) (word : List ℕ) (p n r : WordList) → (is_positional word ≡ true)
+    ⊎ ((with_word (waits name p n r) word).has_others ≡ true)
 unfolding with_word
-value_or_other choice word p n r = elim (kind word) [
+value_or_other name word p n r = elim (kind word) [
   | IsPlain holds ↦ inl holds
   | IsName other is ↦ inr
-      (subst (λ (w : List ℕ). (stepped (Some choice) (kind_of w) w (waits choice p n r)).has_others ≡ true) (sym is)
-      (no_name choice other (waits choice p n r)))
+      (subst (λ (w : List ℕ). (stepped (Some name) (kind_of w) w (waits name p n r)).has_others ≡ true) (sym is)
+      (no_name name other (waits name p n r)))
   | IsWhole other value is ↦ inr
-      (subst (λ (w : List ℕ). (stepped (Some choice) (kind_of w) w (waits choice p n r)).has_others ≡ true) (sym is)
-      (no_whole choice other value (waits choice p n r)))
-  | IsOther is ↦ inr (ap (λ (k : Kind). (stepped (Some choice) k word (waits choice p n r)).has_others) is)
+      (subst (λ (w : List ℕ). (stepped (Some name) (kind_of w) w (waits name p n r)).has_others ≡ true) (sym is)
+      (no_whole name other value (waits name p n r)))
+  | IsOther is ↦ inr (ap (λ (k : Kind). (stepped (Some name) k word (waits name p n r)).has_others) is)
 ]
 
 other_step : (word : List ℕ) (p n r : WordList) → kind_of word ≡ Other
@@ -197,29 +197,29 @@ Made words = (items : List Item) × HaveTheirForm items × (words ≡ words_of i
 word_made : (word : List ℕ) (words : WordList) → is_positional word ≡ true → Made words → Made (word ∷ words)
 word_made word words holds rest = (Positional word ∷ rest.0, (holds, rest.1), ap (λ (w : WordList). word ∷ w) rest.2)
 
-name_made : (word value : List ℕ) (words : WordList) (choice : Choice) → word ≡ option_name choice
+name_made : (word value : List ℕ) (words : WordList) (name : OptionName) → word ≡ option_name name
     → is_positional value ≡ true → Made words → Made (word ∷ value ∷ words)
-name_made word value words choice is holds rest = (
-  TwoWords choice value ∷ rest.0,
+name_made word value words name is holds rest = (
+  TwoWords name value ∷ rest.0,
   (holds, rest.1),
-  ap (λ (w : List ℕ). w ∷ value ∷ words) is ∙ ap (λ (w : WordList). option_name choice ∷ value ∷ w) rest.2,
+  ap (λ (w : List ℕ). w ∷ value ∷ words) is ∙ ap (λ (w : WordList). option_name name ∷ value ∷ w) rest.2,
 )
 
-whole_made : (word value : List ℕ) (words : WordList) (choice : Choice)
-    → word ≡ option_name choice ++ (codes "=" ++ value) → Made words → Made (word ∷ words)
-whole_made word value words choice is rest = (
-  OneWord choice value ∷ rest.0,
+whole_made : (word value : List ℕ) (words : WordList) (name : OptionName)
+    → word ≡ option_name name ++ (codes "=" ++ value) → Made words → Made (word ∷ words)
+whole_made word value words name is rest = (
+  OneWord name value ∷ rest.0,
   (tt, rest.1),
-  ap (λ (w : List ℕ). w ∷ words) is ∙ ap (λ (w : WordList). (option_name choice ++ (codes "=" ++ value)) ∷ w) rest.2,
+  ap (λ (w : List ℕ). w ∷ words) is ∙ ap (λ (w : WordList). (option_name name ++ (codes "=" ++ value)) ∷ w) rest.2,
 )
 
-abbrev value_parts : Choice → List ℕ → (p n r : WordList) → WordList × WordList
+abbrev value_parts : OptionName → List ℕ → (p n r : WordList) → WordList × WordList
 value_parts Nodes value p n r = (n ++ value ∷ [], r)
 value_parts Rounds value p n r = (n, r ++ value ∷ [])
 
-with_value_is : (choice : Choice) (value : List ℕ) (p n r : WordList)
-    → with_value choice value (clean p n r) ≡ clean p (value_parts choice value p n r).0
-    (value_parts choice value p n r).1
+with_value_is : (name : OptionName) (value : List ℕ) (p n r : WordList)
+    → with_value name value (clean p n r) ≡ clean p (value_parts name value p n r).0
+    (value_parts name value p n r).1
 with_value_is Nodes value p n r = refl
 with_value_is Rounds value p n r = refl
 
@@ -227,9 +227,9 @@ pub made : (words : WordList) (p n r : WordList) → is_whole (fold with_word (c
 made [] p n r whole = ([], tt, refl)
 made (word ∷ []) p n r whole = elim (kind word) [
   | IsPlain holds ↦ word_made word [] holds ([], tt, refl)
-  | IsName choice is ↦
-      absurd (never_open choice p n r (subst (λ (w : List ℕ). is_whole (with_word (clean p n r) w) ≡ true) is whole))
-  | IsWhole choice value is ↦ whole_made word value [] choice is ([], tt, refl)
+  | IsName name is ↦
+      absurd (never_open name p n r (subst (λ (w : List ℕ). is_whole (with_word (clean p n r) w) ≡ true) is whole))
+  | IsWhole name value is ↦ whole_made word value [] name is ([], tt, refl)
   | IsOther is ↦ absurd (never_whole [] (with_word (clean p n r) word) (other_step word p n r is) whole)
 ]
 made (word ∷ next ∷ words) p n r whole = elim (kind word) [
@@ -237,29 +237,29 @@ made (word ∷ next ∷ words) p n r whole = elim (kind word) [
       (made (next ∷ words) (p ++ word ∷ []) n r
       (moved (next ∷ words) (with_word (clean p n r) word) (clean (p ++ word ∷ []) n r)
       (word_step word p n r holds) whole))
-  | IsName choice is ↦
+  | IsName name is ↦
       let opened : with_word (with_word (clean p n r) word) next
-      ≡ with_word (waits choice p n r) next =
+      ≡ with_word (waits name p n r) next =
       ap (λ (w : List ℕ). with_word (with_word (clean p n r) w) next) is
-      ∙ ap (λ (parts : Parts). with_word parts next) (open_step choice p n r) in
-      elim (value_or_other choice next p n r) [
+      ∙ ap (λ (parts : Parts). with_word parts next) (open_step name p n r) in
+      elim (value_or_other name next p n r) [
         | inl holds ↦
-            name_made word next words choice is holds
-            (made words p (value_parts choice next p n r).0 (value_parts choice next p n r).1
+            name_made word next words name is holds
+            (made words p (value_parts name next p n r).0 (value_parts name next p n r).1
             (moved words (with_word (with_word (clean p n r) word) next)
-            (clean p (value_parts choice next p n r).0 (value_parts choice next p n r).1)
-            (opened ∙ value_step choice next p n r holds ∙ with_value_is choice next p n r) whole))
+            (clean p (value_parts name next p n r).0 (value_parts name next p n r).1)
+            (opened ∙ value_step name next p n r holds ∙ with_value_is name next p n r) whole))
         | inr others ↦ absurd
-            (never_whole words (with_word (waits choice p n r) next) others
+            (never_whole words (with_word (waits name p n r) next) others
             (moved words (with_word (with_word (clean p n r) word) next)
-            (with_word (waits choice p n r) next) opened whole))
+            (with_word (waits name p n r) next) opened whole))
       ]
-  | IsWhole choice value is ↦
-      whole_made word value (next ∷ words) choice is
-      (made (next ∷ words) p (value_parts choice value p n r).0 (value_parts choice value p n r).1
+  | IsWhole name value is ↦
+      whole_made word value (next ∷ words) name is
+      (made (next ∷ words) p (value_parts name value p n r).0 (value_parts name value p n r).1
       (moved (next ∷ words) (with_word (clean p n r) word)
-      (clean p (value_parts choice value p n r).0 (value_parts choice value p n r).1)
-      (ap (λ (w : List ℕ). with_word (clean p n r) w) is ∙ whole_step choice value p n r
-      ∙ with_value_is choice value p n r) whole))
+      (clean p (value_parts name value p n r).0 (value_parts name value p n r).1)
+      (ap (λ (w : List ℕ). with_word (clean p n r) w) is ∙ whole_step name value p n r
+      ∙ with_value_is name value p n r) whole))
   | IsOther is ↦ absurd (never_whole (next ∷ words) (with_word (clean p n r) word) (other_step word p n r is) whole)
 ]

@@ -9,8 +9,8 @@ use Rattle.clap.specs.Walk.{Waiting, Step, option, trailing, after_step, long_or
 use Rattle.clap.specs.Walk.{plain_word, pushed, settled}
 use Rattle.clap.specs.Walk.{Rule, Row, Text, Held, Walk, walked, settled_rows, used, idle}
 use Rattle.clap.specs.Simple.{filled}
-use Rattle.command_line.specs.declared.form.Choice.{Choice}
-use Rattle.command_line.specs.declared.form.Choice.TheVariants.{Nodes, Rounds}
+use Rattle.command_line.specs.declared.form.OptionName.{OptionName}
+use Rattle.command_line.specs.declared.form.OptionName.TheVariants.{Nodes, Rounds}
 use Rattle.command_line.specs.declared.form.Form.{Form}
 use Rattle.command_line.specs.declared.form.Form.TheVariants.{Folder, FolderSearch, DaySearch}
 use Rattle.command_line.specs.Apps.{first_id, nodes_rule, rounds_rule, rules}
@@ -56,11 +56,11 @@ has_options Folder = false
 has_options FolderSearch = true
 has_options DaySearch = true
 
-abbrev pub id_of : Choice → Text
+abbrev pub id_of : OptionName → Text
 id_of Nodes = codes "nodes"
 id_of Rounds = codes "rounds"
 
-abbrev pub rule_for : Choice → Rule
+abbrev pub rule_for : OptionName → Rule
 rule_for Nodes = filled nodes_rule
 rule_for Rounds = filled rounds_rule
 
@@ -73,10 +73,10 @@ stand h position =
     record { held = h; waiting = idle; position = position; is_trailing = false; stopped = None }
 
 -- between an option and its value
-abbrev pub await : Choice → Held → ℕ → Walk
-await choice h position = record {
+abbrev pub await : OptionName → Held → ℕ → Walk
+await name h position = record {
   held = h;
-  waiting = option (id_of choice);
+  waiting = option (id_of name);
   position = position;
   is_trailing = false;
   stopped = None;
@@ -117,53 +117,53 @@ plain_met c waiting position x xs h e =
 
 -- ---- the steps
 
-pub name_step : (form : Form) (choice : Choice) → has_options form ≡ true → (h : Held) (position : ℕ)
-    → walked (rules form) [] (stand h position) (option_name choice)
-    ≡ await choice (hold (settle form h) (Some (id_of choice, [])) h) position
+pub name_step : (form : Form) (name : OptionName) → has_options form ≡ true → (h : Held) (position : ℕ)
+    → walked (rules form) [] (stand h position) (option_name name)
+    ≡ await name (hold (settle form h) (Some (id_of name, [])) h) position
 unfolding walked
-name_step Folder choice none h position = absurd cc
+name_step Folder name none h position = absurd cc
 name_step FolderSearch Nodes has h position = refl
 name_step FolderSearch Rounds has h position = refl
 name_step DaySearch Nodes has h position = refl
 name_step DaySearch Rounds has h position = refl
 
-pub whole_step : (form : Form) (choice : Choice) → has_options form ≡ true
+pub whole_step : (form : Form) (name : OptionName) → has_options form ≡ true
     → (h : Held) (position : ℕ) (value : List ℕ)
-    → walked (rules form) [] (stand h position) (option_name choice ++ (codes "=" ++ value))
-    ≡ stand (hold (used (rule_for choice) (value ∷ []) (settle form h)) None h) position
+    → walked (rules form) [] (stand h position) (option_name name ++ (codes "=" ++ value))
+    ≡ stand (hold (used (rule_for name) (value ∷ []) (settle form h)) None h) position
 unfolding walked
-whole_step Folder choice none h position value = absurd cc
+whole_step Folder name none h position value = absurd cc
 whole_step FolderSearch Nodes has h position value = refl
 whole_step FolderSearch Rounds has h position value = refl
 whole_step DaySearch Nodes has h position value = refl
 whole_step DaySearch Rounds has h position value = refl
 
-abbrev value_after : Form → Choice → List Row → Held → ℕ → ℕ → List ℕ → Walk
-value_after form choice rows h position x xs =
-    let held : Held = hold rows (Some (id_of choice, [])) h in
-    let met : Held × Step = plain_word (rules form) (option (id_of choice)) (x ∷ xs) held in
-    after_step (rules form) (x ∷ xs) (await choice held position) met.0 met.1
+abbrev value_after : Form → OptionName → List Row → Held → ℕ → ℕ → List ℕ → Walk
+value_after form name rows h position x xs =
+    let held : Held = hold rows (Some (id_of name, [])) h in
+    let met : Held × Step = plain_word (rules form) (option (id_of name)) (x ∷ xs) held in
+    after_step (rules form) (x ∷ xs) (await name held position) met.0 met.1
 
-value_there : (form : Form) (choice : Choice) → has_options form ≡ true
+value_there : (form : Form) (name : OptionName) → has_options form ≡ true
     → (rows : List Row) (h : Held) (position x : ℕ) (xs : List ℕ)
-    → value_after form choice rows h position x xs
-    ≡ stand (hold rows (Some (id_of choice, (x ∷ xs) ∷ [])) h) position
-value_there Folder choice none rows h position x xs = absurd cc
+    → value_after form name rows h position x xs
+    ≡ stand (hold rows (Some (id_of name, (x ∷ xs) ∷ [])) h) position
+value_there Folder name none rows h position x xs = absurd cc
 value_there FolderSearch Nodes has rows h position x xs = refl
 value_there FolderSearch Rounds has rows h position x xs = refl
 value_there DaySearch Nodes has rows h position x xs = refl
 value_there DaySearch Rounds has rows h position x xs = refl
 
-pub value_step : (form : Form) (choice : Choice) → has_options form ≡ true
+pub value_step : (form : Form) (name : OptionName) → has_options form ≡ true
     → (rows : List Row) (h : Held) (position x : ℕ) (xs : List ℕ) → (x == 45) ≡ false
-    → walked (rules form) [] (await choice (hold rows (Some (id_of choice, [])) h) position) (x ∷ xs)
-    ≡ stand (hold rows (Some (id_of choice, (x ∷ xs) ∷ [])) h) position
+    → walked (rules form) [] (await name (hold rows (Some (id_of name, [])) h) position) (x ∷ xs)
+    ≡ stand (hold rows (Some (id_of name, (x ∷ xs) ∷ [])) h) position
 unfolding walked
-value_step form choice has rows h position x xs e =
-    let held : Held = hold rows (Some (id_of choice, [])) h in
-    ap (λ (met : Held × Step). after_step (rules form) (x ∷ xs) (await choice held position) met.0 met.1)
-    (plain_met (rules form) (option (id_of choice)) position x xs held e)
-    ∙ value_there form choice has rows h position x xs
+value_step form name has rows h position x xs e =
+    let held : Held = hold rows (Some (id_of name, [])) h in
+    ap (λ (met : Held × Step). after_step (rules form) (x ∷ xs) (await name held position) met.0 met.1)
+    (plain_met (rules form) (option (id_of name)) position x xs held e)
+    ∙ value_there form name has rows h position x xs
 
 abbrev again : Text → Held → Bool
 again id h = option_map_or (λ q. bytes_eq q.0 id) h.pending false

@@ -14,14 +14,14 @@ use Rattle.clap.specs.Takes.{level_passes, settle_passes, takes}
 use Rattle.clap.specs.Simple.{built, is_simple, matches_of}
 use Rattle.clap.proofs.OnLiterals.{clap_on_literals}
 use Rattle.clap.proofs.TakesLemmas.{leaf_takes}
-use Rattle.command_line.specs.declared.form.Choice.{Choice}
-use Rattle.command_line.specs.declared.form.Choice.TheVariants.{Nodes, Rounds}
+use Rattle.command_line.specs.declared.form.OptionName.{OptionName}
+use Rattle.command_line.specs.declared.form.OptionName.TheVariants.{Nodes, Rounds}
 use Rattle.command_line.specs.declared.form.Form.{Form}
 use Rattle.command_line.specs.declared.form.Form.TheVariants.{Folder, FolderSearch, DaySearch}
 use Rattle.command_line.specs.Apps.{app, first_id, rules}
 use Rattle.command_line.specs.Items.{WordList, Item, Positional, TwoWords, OneWord, HaveTheirForm}
 use Rattle.command_line.specs.Items.{positional_in, value_before, values_in, words_of}
-use Rattle.command_line.specs.declared.taken.Taken.{Taken}
+use Rattle.command_line.specs.declared.taken.GivenTexts.{GivenTexts}
 use Rattle.command_line.specs.Texts.{SaysItems, Texts, said, texts_in, texts_of}
 use Rattle.command_line.specs.Parts.{Parts, fits, is_whole, parts_of, places, times}
 use Rattle.command_line.proofs.PlainForms.{Made, clean, made, parts_are}
@@ -32,11 +32,11 @@ use Rattle.command_line.proofs.Walking.{HasRoomFor, Stands, Walks, apart, apart_
 
 -- ---- from nothing
 
-abbrev none_given : Choice → Bool
-none_given choice = false
+abbrev none_given : OptionName → Bool
+none_given name = false
 
 nothing_stands : (form : Form) → Stands form First none_given []
-nothing_stands form = record { options = λ choice. refl; places = nowhere }
+nothing_stands form = record { options = λ name. refl; places = nowhere }
   where
     nowhere : (other : Place) → has_place form other ≡ true → false ≡ before other First
     nowhere First has = refl
@@ -136,24 +136,24 @@ first_text : (form : Form) (items : List Item)
 first_text form [] = refl
 first_text form (Positional word ∷ items) =
     met (first_id form) (first_id form) word (item_rows form Second items) (first_same form)
-first_text form (TwoWords choice value ∷ items) =
-    passed (first_id form) (id_of choice) value (item_rows form First items) (slice_get (positional_in items) 0)
-    (apart_too form First choice) (first_text form items)
-first_text form (OneWord choice value ∷ items) =
-    passed (first_id form) (id_of choice) value (item_rows form First items) (slice_get (positional_in items) 0)
-    (apart_too form First choice) (first_text form items)
+first_text form (TwoWords name value ∷ items) =
+    passed (first_id form) (id_of name) value (item_rows form First items) (slice_get (positional_in items) 0)
+    (apart_too form First name) (first_text form items)
+first_text form (OneWord name value ∷ items) =
+    passed (first_id form) (id_of name) value (item_rows form First items) (slice_get (positional_in items) 0)
+    (apart_too form First name) (first_text form items)
 
 second_later : (form : Form) (items : List Item)
     → first_of (codes "trips") (item_rows form Second items) ≡ slice_get (positional_in items) 0
 second_later form [] = refl
 second_later form (Positional word ∷ items) =
     met (codes "trips") (codes "trips") word (item_rows form Third items) refl
-second_later form (TwoWords choice value ∷ items) =
-    passed (codes "trips") (id_of choice) value (item_rows form Second items) (slice_get (positional_in items) 0)
-    (apart_too form Second choice) (second_later form items)
-second_later form (OneWord choice value ∷ items) =
-    passed (codes "trips") (id_of choice) value (item_rows form Second items) (slice_get (positional_in items) 0)
-    (apart_too form Second choice) (second_later form items)
+second_later form (TwoWords name value ∷ items) =
+    passed (codes "trips") (id_of name) value (item_rows form Second items) (slice_get (positional_in items) 0)
+    (apart_too form Second name) (second_later form items)
+second_later form (OneWord name value ∷ items) =
+    passed (codes "trips") (id_of name) value (item_rows form Second items) (slice_get (positional_in items) 0)
+    (apart_too form Second name) (second_later form items)
 
 second_text : (form : Form) (items : List Item)
     → first_of (codes "trips") (item_rows form First items) ≡ slice_get (positional_in items) 1
@@ -161,33 +161,33 @@ second_text form [] = refl
 second_text form (Positional word ∷ items) =
     passed (codes "trips") (first_id form) word (item_rows form Second items) (slice_get (positional_in items) 0)
     (first_other form) (second_later form items)
-second_text form (TwoWords choice value ∷ items) =
-    passed (codes "trips") (id_of choice) value (item_rows form First items) (slice_get (positional_in items) 1)
-    (apart_too form Second choice) (second_text form items)
-second_text form (OneWord choice value ∷ items) =
-    passed (codes "trips") (id_of choice) value (item_rows form First items) (slice_get (positional_in items) 1)
-    (apart_too form Second choice) (second_text form items)
+second_text form (TwoWords name value ∷ items) =
+    passed (codes "trips") (id_of name) value (item_rows form First items) (slice_get (positional_in items) 1)
+    (apart_too form Second name) (second_text form items)
+second_text form (OneWord name value ∷ items) =
+    passed (codes "trips") (id_of name) value (item_rows form First items) (slice_get (positional_in items) 1)
+    (apart_too form Second name) (second_text form items)
 
-option_row : (asked choice : Choice) (value : Text) (rows : List Row) (values : WordList)
+option_row : (asked name : OptionName) (value : Text) (rows : List Row) (values : WordList)
     → first_of (id_of asked) rows ≡ slice_get values 0
-    → first_of (id_of asked) (one_row (id_of choice) how value ∷ rows)
-    ≡ slice_get (value_before asked choice value values) 0
+    → first_of (id_of asked) (one_row (id_of name) how value ∷ rows)
+    ≡ slice_get (value_before asked name value values) 0
 option_row Nodes Nodes value rows values same = refl
 option_row Nodes Rounds value rows values same = same
 option_row Rounds Nodes value rows values same = same
 option_row Rounds Rounds value rows values same = refl
 
-option_text : (form : Form) (place : Place) (asked : Choice) (items : List Item)
+option_text : (form : Form) (place : Place) (asked : OptionName) (items : List Item)
     → first_of (id_of asked) (item_rows form place items) ≡ slice_get (values_in asked items) 0
 option_text form place asked [] = refl
 option_text form place asked (Positional word ∷ items) =
     passed (id_of asked) (place_id form place) word (item_rows form (next place) items)
     (slice_get (values_in asked items) 0) (apart form place asked) (option_text form (next place) asked items)
-option_text form place asked (TwoWords choice value ∷ items) =
-    option_row asked choice value (item_rows form place items) (values_in asked items)
+option_text form place asked (TwoWords name value ∷ items) =
+    option_row asked name value (item_rows form place items) (values_in asked items)
     (option_text form place asked items)
-option_text form place asked (OneWord choice value ∷ items) =
-    option_row asked choice value (item_rows form place items) (values_in asked items)
+option_text form place asked (OneWord name value ∷ items) =
+    option_row asked name value (item_rows form place items) (values_in asked items)
     (option_text form place asked items)
 
 -- ---- words that fit the form
@@ -216,7 +216,7 @@ room form items parts same fit =
     record { places_left = omega (arith, places_are); options_left = by_choice nodes_are rounds_are }
   where
     by_choice : length (values_in Nodes items) ≤ times form → length (values_in Rounds items) ≤ times form
-        → (choice : Choice) → 0 + length (values_in choice items) ≤ times form
+        → (name : OptionName) → 0 + length (values_in name items) ≤ times form
     by_choice n r Nodes = omega (arith, n)
     by_choice n r Rounds = omega (arith, r)
 
@@ -253,7 +253,7 @@ abbrev Of : Option (Bor Text) → Option Text
 Of = option_map (λ text. text.now)
 
 -- the texts of the rows are those of the words
-pub has_texts : (form : Form) (words : List Text) (found : Found) (taken : Taken) → IsTaken form words
+pub has_texts : (form : Form) (words : List Text) (found : Found) (taken : GivenTexts) → IsTaken form words
     → rows_of found ≡ matches_of (app form) words
     → Of taken.first ≡ first_value found (first_id form) → Of taken.second ≡ first_value found (codes "trips")
     → Of taken.nodes ≡ first_value found (codes "nodes") → Of taken.rounds ≡ first_value found (codes "rounds")

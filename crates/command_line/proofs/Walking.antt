@@ -7,8 +7,8 @@ use Rattle.std.specs.Str.{bytes_eq}
 use Rattle.std.proofs.lemmas.Bool.{and_from}
 use Rattle.clap.specs.Walk.{Row, Text, Held, Walk, has_row, used, walked}
 use Rattle.clap.specs.Takes.{settle_passes, turn_passes, walk_passes}
-use Rattle.command_line.specs.declared.form.Choice.{Choice}
-use Rattle.command_line.specs.declared.form.Choice.TheVariants.{Nodes, Rounds}
+use Rattle.command_line.specs.declared.form.OptionName.{OptionName}
+use Rattle.command_line.specs.declared.form.OptionName.TheVariants.{Nodes, Rounds}
 use Rattle.command_line.specs.declared.form.Form.{Form}
 use Rattle.command_line.specs.declared.form.Form.TheVariants.{Folder, FolderSearch, DaySearch}
 use Rattle.command_line.specs.Apps.{rules}
@@ -31,8 +31,8 @@ abbrev pub item_rows : Form → Place → List Item → List Row
 item_rows form place [] = []
 item_rows form place (Positional word ∷ items) =
     one_row (place_id form place) how word ∷ item_rows form (next place) items
-item_rows form place (TwoWords choice value ∷ items) = one_row (id_of choice) how value ∷ item_rows form place items
-item_rows form place (OneWord choice value ∷ items) = one_row (id_of choice) how value ∷ item_rows form place items
+item_rows form place (TwoWords name value ∷ items) = one_row (id_of name) how value ∷ item_rows form place items
+item_rows form place (OneWord name value ∷ items) = one_row (id_of name) how value ∷ item_rows form place items
 
 -- ---- which arguments have their row already
 
@@ -45,18 +45,18 @@ before Second Second = false
 before Second Third = true
 before Third place = false
 
-abbrev same_choice : Choice → Choice → Bool
-same_choice Nodes Nodes = true
-same_choice Nodes Rounds = false
-same_choice Rounds Nodes = false
-same_choice Rounds Rounds = true
+abbrev same_name : OptionName → OptionName → Bool
+same_name Nodes Nodes = true
+same_name Nodes Rounds = false
+same_name Rounds Nodes = false
+same_name Rounds Rounds = true
 
-pub record Stands (form : Form) (place : Place) (given : Choice → Bool) (rows : List Row) : Type 0 where
-  pub options : (choice : Choice) → has_row (id_of choice) rows ≡ given choice
+pub record Stands (form : Form) (place : Place) (given : OptionName → Bool) (rows : List Row) : Type 0 where
+  pub options : (name : OptionName) → has_row (id_of name) rows ≡ given name
   pub places : (other : Place) → has_place form other ≡ true → has_row (place_id form other) rows ≡ before other place
 
-abbrev with_given : Choice → (Choice → Bool) → Choice → Bool
-with_given choice given other = given other || same_choice choice other
+abbrev with_given : OptionName → (OptionName → Bool) → OptionName → Bool
+with_given name given other = given other || same_name name other
 
 or_false : (b : Bool) → (b || false) ≡ b
 or_false true = refl
@@ -68,7 +68,7 @@ not_before Second = refl
 not_before Third = refl
 
 -- names of options are no names of positional words
-pub apart : (form : Form) (place : Place) (choice : Choice) → bytes_eq (place_id form place) (id_of choice) ≡ false
+pub apart : (form : Form) (place : Place) (name : OptionName) → bytes_eq (place_id form place) (id_of name) ≡ false
 apart Folder First Nodes = refl
 apart Folder First Rounds = refl
 apart FolderSearch First Nodes = refl
@@ -80,7 +80,7 @@ apart form Second Rounds = refl
 apart form Third Nodes = refl
 apart form Third Rounds = refl
 
-pub apart_too : (form : Form) (place : Place) (choice : Choice) → bytes_eq (id_of choice) (place_id form place) ≡ false
+pub apart_too : (form : Form) (place : Place) (name : OptionName) → bytes_eq (id_of name) (place_id form place) ≡ false
 apart_too Folder First Nodes = refl
 apart_too Folder First Rounds = refl
 apart_too FolderSearch First Nodes = refl
@@ -92,7 +92,7 @@ apart_too form Second Rounds = refl
 apart_too form Third Nodes = refl
 apart_too form Third Rounds = refl
 
-pub same_id : (choice other : Choice) → bytes_eq (id_of choice) (id_of other) ≡ same_choice choice other
+pub same_id : (name other : OptionName) → bytes_eq (id_of name) (id_of other) ≡ same_name name other
 same_id Nodes Nodes = refl
 same_id Nodes Rounds = refl
 same_id Rounds Nodes = refl
@@ -124,25 +124,25 @@ grown asked id v rows was same now had is sum =
     has_row-more asked id how v rows ∙ ap (λ (b : Bool). b || bytes_eq id asked) had
     ∙ ap (λ (b : Bool). was || b) is ∙ sum
 
-after_place : (form : Form) (place : Place) (given : Choice → Bool) (rows : List Row) (v : Text)
+after_place : (form : Form) (place : Place) (given : OptionName → Bool) (rows : List Row) (v : Text)
     → has_place form place ≡ true → Stands form place given rows
     → Stands form (next place) given (rows ++ one_row (place_id form place) how v ∷ [])
 after_place form place given rows v has stands = record {
-  options = λ choice. grown (id_of choice) (place_id form place) v rows (given choice) false (given choice)
-      (stands.options choice) (apart form place choice) (or_false (given choice));
+  options = λ name. grown (id_of name) (place_id form place) v rows (given name) false (given name)
+      (stands.options name) (apart form place name) (or_false (given name));
   places = λ other there. grown (place_id form other) (place_id form place) v rows (before other place)
       (bytes_eq (place_id form place) (place_id form other)) (before other (next place))
       (stands.places other there) refl (next_place form place other has there);
 }
 
-after_option : (form : Form) (place : Place) (given : Choice → Bool) (rows : List Row) (choice : Choice) (v : Text)
+after_option : (form : Form) (place : Place) (given : OptionName → Bool) (rows : List Row) (name : OptionName) (v : Text)
     → Stands form place given rows
-    → Stands form place (with_given choice given) (rows ++ one_row (id_of choice) how v ∷ [])
-after_option form place given rows choice v stands = record {
-  options = λ other. grown (id_of other) (id_of choice) v rows (given other) (same_choice choice other)
-      (given other || same_choice choice other) (stands.options other) (same_id choice other) refl;
-  places = λ other there. grown (place_id form other) (id_of choice) v rows (before other place) false
-      (before other place) (stands.places other there) (apart_too form other choice) (or_false (before other place));
+    → Stands form place (with_given name given) (rows ++ one_row (id_of name) how v ∷ [])
+after_option form place given rows name v stands = record {
+  options = λ other. grown (id_of other) (id_of name) v rows (given other) (same_name name other)
+      (given other || same_name name other) (stands.options other) (same_id name other) refl;
+  places = λ other there. grown (place_id form other) (id_of name) v rows (before other place) false
+      (before other place) (stands.places other there) (apart_too form other name) (or_false (before other place));
 }
 
 -- ---- how many more there may be
@@ -156,9 +156,9 @@ abbrev bit : Bool → ℕ
 bit false = 0
 bit true = 1
 
-pub record HasRoomFor (form : Form) (place : Place) (given : Choice → Bool) (items : List Item) : Type 0 where
+pub record HasRoomFor (form : Form) (place : Place) (given : OptionName → Bool) (items : List Item) : Type 0 where
   pub places_left : number place + length (positional_in items) ≤ places form
-  pub options_left : (choice : Choice) → bit (given choice) + length (values_in choice items) ≤ times form
+  pub options_left : (name : OptionName) → bit (given name) + length (values_in name items) ≤ times form
 
 has_it : (form : Form) (place : Place) (n : ℕ) → number place + (n + 1) ≤ places form → has_place form place ≡ true
 has_it Folder First n room = refl
@@ -179,8 +179,8 @@ next_number Folder Third n none room = absurd cc
 next_number FolderSearch Third n none room = absurd cc
 next_number DaySearch Third n none room = absurd cc
 
-is_free : (form : Form) (choice : Choice) (given : Bool) (v : Text) (vs : WordList)
-    → bit given + length (value_before choice choice v vs) ≤ times form
+is_free : (form : Form) (name : OptionName) (given : Bool) (v : Text) (vs : WordList)
+    → bit given + length (value_before name name v vs) ≤ times form
     → (given ≡ false) × (has_options form ≡ true)
 is_free Folder Nodes given v vs room = absurd (omega (arith, room))
 is_free Folder Rounds given v vs room = absurd (omega (arith, room))
@@ -193,8 +193,8 @@ is_free DaySearch Nodes true v vs room = absurd (omega (arith, room))
 is_free DaySearch Rounds false v vs room = (refl, refl)
 is_free DaySearch Rounds true v vs room = absurd (omega (arith, room))
 
-one_less : (choice other : Choice) (given : Bool) (v : Text) (vs : WordList) (n : ℕ)
-    → bit given + length (value_before other choice v vs) ≤ n → bit (given || same_choice choice other) + length vs ≤ n
+one_less : (name other : OptionName) (given : Bool) (v : Text) (vs : WordList) (n : ℕ)
+    → bit given + length (value_before other name v vs) ≤ n → bit (given || same_name name other) + length vs ≤ n
 one_less Nodes Nodes false v vs n room = omega (arith, room)
 one_less Nodes Nodes true v vs n room = omega (arith, room)
 one_less Nodes Rounds false v vs n room = room
@@ -247,7 +247,7 @@ no_dash x xs holds = from (x == 45) holds
     from true e = absurd cc
     from false e = refl
 
-pub walks : (form : Form) (items : List Item) (place : Place) (given : Choice → Bool) (h : Held)
+pub walks : (form : Form) (items : List Item) (place : Place) (given : OptionName → Bool) (h : Held)
     → settle_passes (rules form) false h ≡ true → Stands form place given (settle form h)
     → HasRoomFor form place given items → HaveTheirForm items
     → Walks form (stand h (position place)) (words_of items) (settle form h ++ item_rows form place items)
@@ -276,58 +276,58 @@ walks form (Positional (x ∷ xs) ∷ items) place given h settles stands room o
     (positional_step form place has h x xs plain) (positional_passes_here form place has h x xs plain settles)
     (ap (λ (r : List Row). r ++ item_rows form (next place) items) row
     ∙ append_assoc rows (one_row id how (x ∷ xs) ∷ []) (item_rows form (next place) items)) rest
-walks form (TwoWords choice [] ∷ items) place given h settles stands room own = absurd cc
-walks form (TwoWords choice (x ∷ xs) ∷ items) place given h settles stands room own =
+walks form (TwoWords name [] ∷ items) place given h settles stands room own = absurd cc
+walks form (TwoWords name (x ∷ xs) ∷ items) place given h settles stands room own =
     let rows : List Row = settle form h in
-    let id : Text = id_of choice in
-    let free = is_free form choice (given choice) (x ∷ xs) (values_in choice items) (room.options_left choice) in
+    let id : Text = id_of name in
+    let free = is_free form name (given name) (x ∷ xs) (values_in name items) (room.options_left name) in
     let has : has_options form ≡ true = free.1 in
     let plain : (x == 45) ≡ false = no_dash x xs own.0 in
-    let new : has_row id rows ≡ false = stands.options choice ∙ free.0 in
+    let new : has_row id rows ≡ false = stands.options name ∙ free.0 in
     let opened : Held = hold rows (Some (id, [])) h in
     let after : Held = hold rows (Some (id, (x ∷ xs) ∷ [])) h in
     let row : settle form after ≡ rows ++ one_row id how (x ∷ xs) ∷ [] =
-    settled_value form choice has rows h (x ∷ xs) ∙ put_is id how (x ∷ xs) rows new in
-    let rest = walks form items place (with_given choice given) after
-    (value_settles form choice has rows h (x ∷ xs) new)
-    (subst (λ (r : List Row). Stands form place (with_given choice given) r) (sym row)
-    (after_option form place given rows choice (x ∷ xs) stands))
+    settled_value form name has rows h (x ∷ xs) ∙ put_is id how (x ∷ xs) rows new in
+    let rest = walks form items place (with_given name given) after
+    (value_settles form name has rows h (x ∷ xs) new)
+    (subst (λ (r : List Row). Stands form place (with_given name given) r) (sym row)
+    (after_option form place given rows name (x ∷ xs) stands))
     (record {
       places_left = room.places_left;
-      options_left = λ other. one_less choice other (given other) (x ∷ xs) (values_in other items) (times form)
+      options_left = λ other. one_less name other (given other) (x ∷ xs) (values_in other items) (times form)
           (room.options_left other);
     }) own.1 in
-    let all : List Row = rows ++ item_rows form place (TwoWords choice (x ∷ xs) ∷ items) in
-    one_more form (stand h (position place)) (await choice opened (position place)) (option_name choice)
+    let all : List Row = rows ++ item_rows form place (TwoWords name (x ∷ xs) ∷ items) in
+    one_more form (stand h (position place)) (await name opened (position place)) (option_name name)
     ((x ∷ xs) ∷ words_of items) all all
-    (name_step form choice has h (position place)) (name_passes_here form choice has h (position place) settles) refl
-    (one_more form (await choice opened (position place)) (stand after (position place)) (x ∷ xs) (words_of items)
+    (name_step form name has h (position place)) (name_passes_here form name has h (position place) settles) refl
+    (one_more form (await name opened (position place)) (stand after (position place)) (x ∷ xs) (words_of items)
     all (settle form after ++ item_rows form place items)
-    (value_step form choice has rows h (position place) x xs plain)
-    (value_passes_here form choice has rows h (position place) x xs plain)
+    (value_step form name has rows h (position place) x xs plain)
+    (value_passes_here form name has rows h (position place) x xs plain)
     (ap (λ (r : List Row). r ++ item_rows form place items) row
     ∙ append_assoc rows (one_row id how (x ∷ xs) ∷ []) (item_rows form place items)) rest)
-walks form (OneWord choice value ∷ items) place given h settles stands room own =
+walks form (OneWord name value ∷ items) place given h settles stands room own =
     let rows : List Row = settle form h in
-    let id : Text = id_of choice in
-    let free = is_free form choice (given choice) value (values_in choice items) (room.options_left choice) in
+    let id : Text = id_of name in
+    let free = is_free form name (given name) value (values_in name items) (room.options_left name) in
     let has : has_options form ≡ true = free.1 in
-    let new : has_row id rows ≡ false = stands.options choice ∙ free.0 in
-    let after : Held = hold (used (rule_for choice) (value ∷ []) rows) None h in
+    let new : has_row id rows ≡ false = stands.options name ∙ free.0 in
+    let after : Held = hold (used (rule_for name) (value ∷ []) rows) None h in
     let row : settle form after ≡ rows ++ one_row id how value ∷ [] =
-    settled_whole choice rows value ∙ put_is id how value rows new in
-    let rest = walks form items place (with_given choice given) after refl
-    (subst (λ (r : List Row). Stands form place (with_given choice given) r) (sym row)
-    (after_option form place given rows choice value stands))
+    settled_whole name rows value ∙ put_is id how value rows new in
+    let rest = walks form items place (with_given name given) after refl
+    (subst (λ (r : List Row). Stands form place (with_given name given) r) (sym row)
+    (after_option form place given rows name value stands))
     (record {
       places_left = room.places_left;
-      options_left = λ other. one_less choice other (given other) value (values_in other items) (times form)
+      options_left = λ other. one_less name other (given other) value (values_in other items) (times form)
           (room.options_left other);
     }) own.1 in
     one_more form (stand h (position place)) (stand after (position place))
-    (option_name choice ++ (codes "=" ++ value)) (words_of items)
-    (rows ++ item_rows form place (OneWord choice value ∷ items)) (settle form after ++ item_rows form place items)
-    (whole_step form choice has h (position place) value)
-    (whole_passes_here form choice has h (position place) value settles new)
+    (option_name name ++ (codes "=" ++ value)) (words_of items)
+    (rows ++ item_rows form place (OneWord name value ∷ items)) (settle form after ++ item_rows form place items)
+    (whole_step form name has h (position place) value)
+    (whole_passes_here form name has h (position place) value settles new)
     (ap (λ (r : List Row). r ++ item_rows form place items) row
     ∙ append_assoc rows (one_row id how value ∷ []) (item_rows form place items)) rest

@@ -3,8 +3,8 @@ use Rattle.std.specs.Prelude.{ℕ, ◌<◌, ◌+◌, ◌^◌, List, [], ◌∷�
 use Rattle.std.specs.Prelude.{Bool, true, false, not, ◌&&◌, ◌==◌, nat_le, if◌then◌else◌}
 use Rattle.std.specs.Prelude.{Option, Some, None, is_some, codes}
 use Rattle.std.specs.Str.{bytes_eq}
-use Rattle.command_line.specs.declared.form.Choice.{Choice}
-use Rattle.command_line.specs.declared.form.Choice.TheVariants.{Nodes, Rounds}
+use Rattle.command_line.specs.declared.form.OptionName.{OptionName}
+use Rattle.command_line.specs.declared.form.OptionName.TheVariants.{Nodes, Rounds}
 use Rattle.command_line.specs.declared.form.Form.{Form}
 use Rattle.command_line.specs.declared.form.Form.TheVariants.{Folder, FolderSearch, DaySearch}
 use Rattle.command_line.specs.declared.form.Kind.{Kind}
@@ -30,7 +30,7 @@ kind_of word = if is_positional word then Plain
     else (if begins_with (codes "--rounds=") word then Whole Rounds else Other))))
 
 -- the value behind an option's name and `=`
-abbrev pub value_of : Choice → List ℕ → List ℕ
+abbrev pub value_of : OptionName → List ℕ → List ℕ
 value_of Nodes word = drop 8 word
 value_of Rounds word = drop 9 word
 
@@ -42,23 +42,23 @@ pub record Parts : Type 0 where
   pub positional : List (List ℕ)
   pub nodes : List (List ℕ)
   pub rounds : List (List ℕ)
-  pub waiting : Option Choice
+  pub waiting : Option OptionName
   pub has_others : Bool
 
 abbrev pub no_parts : Parts
 no_parts = record { positional = []; nodes = []; rounds = []; waiting = None; has_others = false }
 
 -- one more value of an option
-abbrev pub with_value : Choice → List ℕ → Parts → Parts
+abbrev pub with_value : OptionName → List ℕ → Parts → Parts
 with_value Nodes value parts = record parts { nodes = parts.nodes ++ value ∷ [] }
 with_value Rounds value parts = record parts { rounds = parts.rounds ++ value ∷ [] }
 
 -- one more word, which is of this kind
-abbrev pub stepped : Option Choice → Kind → List ℕ → Parts → Parts
-stepped (Some choice) Plain word parts = with_value choice word (record parts { waiting = None })
+abbrev pub stepped : Option OptionName → Kind → List ℕ → Parts → Parts
+stepped (Some name) Plain word parts = with_value name word (record parts { waiting = None })
 stepped None Plain word parts = record parts { positional = parts.positional ++ word ∷ [] }
-stepped None (Name choice) word parts = record parts { waiting = Some choice }
-stepped None (Whole choice) word parts = with_value choice (value_of choice word) parts
+stepped None (Name name) word parts = record parts { waiting = Some name }
+stepped None (Whole name) word parts = with_value name (value_of name word) parts
 stepped _ _ word parts = record parts { has_others = true }
 
 unfoldable pub with_word : Parts → List ℕ → Parts
@@ -77,7 +77,7 @@ pub record Counts : Type 0 where
   pub positional : ℕ
   pub nodes : ℕ
   pub rounds : ℕ
-  pub waiting : Option Choice
+  pub waiting : Option OptionName
   pub has_others : Bool
 
 abbrev pub no_counts : Counts
@@ -92,15 +92,15 @@ counts_of parts = record {
   has_others = parts.has_others;
 }
 
-abbrev pub with_option : Choice → Counts → Counts
+abbrev pub with_option : OptionName → Counts → Counts
 with_option Nodes counts = record counts { nodes = counts.nodes + 1 }
 with_option Rounds counts = record counts { rounds = counts.rounds + 1 }
 
-abbrev pub counted : Option Choice → Kind → Counts → Counts
-counted (Some choice) Plain counts = with_option choice (record counts { waiting = None })
+abbrev pub counted : Option OptionName → Kind → Counts → Counts
+counted (Some name) Plain counts = with_option name (record counts { waiting = None })
 counted None Plain counts = record counts { positional = counts.positional + 1 }
-counted None (Name choice) counts = record counts { waiting = Some choice }
-counted None (Whole choice) counts = with_option choice counts
+counted None (Name name) counts = record counts { waiting = Some name }
+counted None (Whole name) counts = with_option name counts
 counted _ _ counts = record counts { has_others = true }
 
 -- each can be counted once more

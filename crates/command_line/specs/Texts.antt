@@ -1,7 +1,7 @@
 -- What the words after a command word say.
 use Rattle.std.specs.Prelude.{ℕ, ◌≡◌, List, Option, option_map, slice_get}
-use Rattle.command_line.specs.declared.form.Choice.TheVariants.{Nodes, Rounds}
-use Rattle.command_line.specs.declared.taken.Taken.{Taken}
+use Rattle.command_line.specs.declared.form.OptionName.TheVariants.{Nodes, Rounds}
+use Rattle.command_line.specs.declared.taken.GivenTexts.{GivenTexts}
 use Rattle.command_line.specs.Items.{HaveTheirForm, Item, WordList, positional_in, values_in, words_of}
 use Rattle.command_line.specs.Parts.{Parts}
 
@@ -24,7 +24,7 @@ said positional nodes rounds = record {
 abbrev pub texts_of : Parts → Texts
 texts_of parts = said parts.positional parts.nodes parts.rounds
 
-abbrev pub texts_in : Taken → Texts
+abbrev pub texts_in : GivenTexts → Texts
 texts_in taken = record {
   first = option_map (λ text. text.now) taken.first;
   second = option_map (λ text. text.now) taken.second;

@@ -1,8 +1,8 @@
 //! What stands after a command word.
 
-/// An option of a command line, which has one value.
+/// The name of an option, which has one value.
 #[derive(Clone, Copy)]
-pub enum Choice {
+pub enum OptionName {
     /// `--nodes`: the branchings that are granted.
     Nodes,
     /// `--rounds`: the rounds of advice at each node.
@@ -26,9 +26,9 @@ pub enum Kind {
     /// A word that is not empty and doesn't begin with `-`.
     Plain,
     /// An option's name, whose value is the next word.
-    Name(Choice),
+    Name(OptionName),
     /// An option's name and its value, as `--nodes=5`.
-    Whole(Choice),
+    Whole(OptionName),
     /// None of these.
     Other,
 }

@@ -6,6 +6,6 @@ mod options;
 pub mod plain;
 pub mod taken;
 
-pub use form::{Choice, Form};
+pub use form::{Form, OptionName};
 pub use plain::is_plain;
-pub use taken::{Taken, take_apart, words_after};
+pub use taken::{GivenTexts, take_apart, words_after};

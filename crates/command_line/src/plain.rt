@@ -4,7 +4,7 @@ ghost use Rattle.std.specs.Prelude.{◌≡◌, map};
 ghost use Rattle.command_line.specs.Parts.{HasRoom, counted, fits, is_positional, kind_of, no_counts, parts_of, times};
 ghost use Rattle.command_line.specs.Parts.{fitting, places, whole_kind_of, with_option};
 
-use crate::form::{Choice, Form, Kind};
+use crate::form::{Form, Kind, OptionName};
 use std::marker::Model;
 
 /// How many words of each kind were seen.
@@ -13,7 +13,7 @@ struct Seen {
     positional: usize,
     nodes: usize,
     rounds: usize,
-    waiting: Option<Choice>,
+    waiting: Option<OptionName>,
     has_others: bool,
 }
 
@@ -39,7 +39,7 @@ pub fn is_plain(form: Form, words: &[&str]) -> bool
 {
     let mut seen = Seen::none();
     for place in 0..words.len() {
-        seen.word(words[place]);
+        seen.count_word(words[place]);
     }
     seen.fits(form)
 }
@@ -58,31 +58,31 @@ impl Seen {
         }
     }
 
-    /// One more word was seen.
-    fn word(&mut self, word: &str)
+    /// Counts one more word.
+    fn count_word(&mut self, word: &str)
         requires { HasRoom self.old }
         ensures { self.new ≡ counted self.old.waiting (kind_of word.now) self.old }
     {
         match (self.waiting, kind_of(word)) {
-            (Some(choice), Kind::Plain) => {
+            (Some(name), Kind::Plain) => {
                 self.waiting = None;
-                self.value(choice);
+                self.count_value(name);
             }
             (None, Kind::Plain) => self.positional += 1,
-            (None, Kind::Name(choice)) => self.waiting = Some(choice),
-            (None, Kind::Whole(choice)) => self.value(choice),
+            (None, Kind::Name(name)) => self.waiting = Some(name),
+            (None, Kind::Whole(name)) => self.count_value(name),
             _ => self.has_others = true,
         }
     }
 
-    /// One more value of an option was seen.
-    fn value(&mut self, choice: Choice)
+    /// Counts one more value of an option.
+    fn count_value(&mut self, name: OptionName)
         requires { HasRoom self.old }
-        ensures { self.new ≡ with_option choice self.old }
+        ensures { self.new ≡ with_option name self.old }
     {
-        match choice {
-            Choice::Nodes => self.nodes += 1,
-            Choice::Rounds => self.rounds += 1,
+        match name {
+            OptionName::Nodes => self.nodes += 1,
+            OptionName::Rounds => self.rounds += 1,
         }
     }
 
@@ -130,10 +130,10 @@ fn kind_of(word: &str) -> Kind
         return Kind::Plain;
     }
     if word == "--nodes" {
-        return Kind::Name(Choice::Nodes);
+        return Kind::Name(OptionName::Nodes);
     }
     if word == "--rounds" {
-        return Kind::Name(Choice::Rounds);
+        return Kind::Name(OptionName::Rounds);
     }
     whole_kind_of(word)
 }
@@ -143,10 +143,10 @@ fn whole_kind_of(word: &str) -> Kind
     ensures { result ≡ whole_kind_of word.now }
 {
     if word.as_bytes().starts_with(b"--nodes=") {
-        return Kind::Whole(Choice::Nodes);
+        return Kind::Whole(OptionName::Nodes);
     }
     if word.as_bytes().starts_with(b"--rounds=") {
-        return Kind::Whole(Choice::Rounds);
+        return Kind::Whole(OptionName::Rounds);
     }
     Kind::Other
 }

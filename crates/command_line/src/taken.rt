@@ -15,7 +15,7 @@ use std::alloc::Global;
 
 /// The texts of a command line: positional words, and the values of options.
 #[derive(Clone, Copy)]
-pub struct Taken<'a> {
+pub struct GivenTexts<'a> {
     /// The first positional word: a folder, or what a day is made from.
     pub first: Option<&'a str>,
     /// The second positional word: the trips of a day.
@@ -31,13 +31,13 @@ pub fn take_apart<'a>(
     alloc: Global,
     form: Form,
     words: &'a [&'a str],
-) -> Result<Taken<'a>, NoMemory>
+) -> Result<GivenTexts<'a>, NoMemory>
     requires { fits form (parts_of (map (λ word. word.now) words.now)) ≡ true }
     ensures value { IfOk result (λ taken. texts_in taken ≡ texts_of (parts_of (map (λ word. word.now) words.now))) }
     ensures meaning { IfOk result (λ taken. SaysItems (map (λ word. word.now) words.now) (texts_in taken)) }
 {
     let matches = matches(alloc, form, words)?;
-    Ok(Taken {
+    Ok(GivenTexts {
         first: matches.get_str(first_id(form)),
         second: matches.get_str("trips"),
         nodes: matches.get_str("nodes"),

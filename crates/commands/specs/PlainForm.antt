@@ -2,7 +2,7 @@
 use Rattle.std.specs.Prelude.{ℕ, ◌≡◌, ◌⊎◌, ◌≤◌, ◌%◌, List, [], ◌∷◌, length, true, codes, Result, Ok, Err}
 use Rattle.rail_base.specs.declared.limits.TheConstants.{MOST_BRANCHINGS, MOST_ROUNDS, MOST_TRIPS}
 use Rattle.rail_csv.specs.Fields.{are_digits, number_of}
-use Rattle.command_line.specs.declared.form.Choice.TheVariants.{Nodes, Rounds}
+use Rattle.command_line.specs.declared.form.OptionName.TheVariants.{Nodes, Rounds}
 use Rattle.command_line.specs.Items.{HaveTheirForm, Item, WordList, positional_in, values_in, words_of}
 use Rattle.commands.specs.declared.command.Command.{Command}
 use Rattle.commands.specs.declared.command.Command.TheVariants.{Plan, Simulate, Check, Duties, Yards, Costs, Trial}

@@ -12,7 +12,7 @@ ghost use Rattle.commands.specs.Commands.{named_plain, nodes_of, plan_of, rounds
 
 use crate::command::{Command, MOST_SEED, Text, USUAL_NODES, USUAL_ROUNDS};
 use crate::numbers::{number, option_number};
-use command_line::{Form, Taken, is_plain, take_apart, words_after};
+use command_line::{Form, GivenTexts, is_plain, take_apart, words_after};
 use rail_base::limits::{MOST_BRANCHINGS, MOST_ROUNDS, MOST_TRIPS};
 use rail_base::{NoMemory, Words};
 use std::alloc::Global;
@@ -102,7 +102,7 @@ fn form_of(word: &str) -> Form
 }
 
 /// The command of a command word and the texts after it.
-fn named(alloc: Global, word: &str, taken: Taken<'_>) -> Result<Command, WordsRefusal>
+fn named(alloc: Global, word: &str, taken: GivenTexts<'_>) -> Result<Command, WordsRefusal>
     ensures { Gives is_memory result (ok_or (named word.now (texts_in taken.entry)) NotUnderstood) }
 {
     if word == "plan" {
@@ -133,7 +133,7 @@ fn in_folder(alloc: Global, word: &str, dir: &str) -> Result<Command, WordsRefus
 }
 
 /// The command `plan DIR`.
-fn plan(alloc: Global, taken: Taken<'_>) -> Result<Command, WordsRefusal>
+fn plan(alloc: Global, taken: GivenTexts<'_>) -> Result<Command, WordsRefusal>
     ensures { Gives is_memory result (ok_or (plan_of (texts_in taken.entry)) NotUnderstood) }
 {
     let Some(dir) = taken.first else {
@@ -150,7 +150,7 @@ fn plan(alloc: Global, taken: Taken<'_>) -> Result<Command, WordsRefusal>
 }
 
 /// The command `trial SEED TRIPS`.
-fn trial(taken: Taken<'_>) -> Result<Command, WordsRefusal>
+fn trial(taken: GivenTexts<'_>) -> Result<Command, WordsRefusal>
     ensures { result ≡ ok_or (trial_of (texts_in taken.entry)) NotUnderstood }
 {
     let Some((seed, trips)) = day(taken) else {
@@ -171,14 +171,14 @@ fn trial(taken: Taken<'_>) -> Result<Command, WordsRefusal>
 }
 
 /// The branchings that are granted.
-fn nodes_of(taken: Taken<'_>) -> Option<u32>
+fn nodes_of(taken: GivenTexts<'_>) -> Option<u32>
     ensures { result ≡ nodes_of (texts_in taken.entry) }
 {
     option_number(taken.nodes, USUAL_NODES, MOST_BRANCHINGS)
 }
 
 /// The rounds of advice at each node.
-fn rounds_of(taken: Taken<'_>) -> Option<u8>
+fn rounds_of(taken: GivenTexts<'_>) -> Option<u8>
     ensures { result ≡ rounds_of (texts_in taken.entry) }
 {
     match option_number(taken.rounds, USUAL_ROUNDS, MOST_ROUNDS) {
@@ -188,7 +188,7 @@ fn rounds_of(taken: Taken<'_>) -> Option<u8>
 }
 
 /// What a generated day is made from, and its trips.
-fn day(taken: Taken<'_>) -> Option<(u32, u32)>
+fn day(taken: GivenTexts<'_>) -> Option<(u32, u32)>
     ensures { result ≡ day_of (texts_in taken.entry) }
 {
     let Some(seed) = taken.first else {

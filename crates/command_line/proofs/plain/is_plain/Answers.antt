@@ -12,11 +12,11 @@ loop-place-preserved c =
     let inside : place < length words = search rules in
     let kind = kind_of word.now in
     record {
-      seen = c.word.ensures
+      seen = c.count_word.ensures
           ∙ ap (λ (counts : Counts). counted counts.waiting kind counts) c.loop-place.invariant.seen
           ∙ sym (counts_word before word.now)
           ∙ sym (ap counts_of (parts_more words place (record { ref_ptr = (0, 0); now = [] }) inside));
       most = let counted_once = most_counted place c.loop-place.seen.waiting kind c.loop-place.seen
           c.loop-place.invariant.most in
-          rw c.word.ensures counted_once;
+          rw c.count_word.ensures counted_once;
     }
