@@ -5,7 +5,8 @@ use Rattle.rail_io.specs.Folders.{Files}
 use Rattle.command_line.specs.Items.{WordList}
 use Rattle.run_documents.specs.declared.outcome.Outcome.{Outcome}
 use Rattle.run_documents.specs.declared.outcome.Outcome.TheVariants.{Planned, Tried, Runs, Stops, Checked, Reported}
-use Rattle.run_documents.specs.declared.outcome.Outcome.TheVariants.{NoPlan, Usage, NoInputs, NoAnswer}
+use Rattle.run_documents.specs.declared.outcome.Outcome.TheVariants.{NoPlan, Usage, Refused, CannotRead}
+use Rattle.run_documents.specs.declared.outcome.Outcome.TheVariants.{NoAnswer, NoMemory}
 use Rattle.commands.specs.declared.command.Command.{Command}
 use Rattle.commands.specs.declared.command.Command.TheVariants as command
 use Rattle.commands.specs.PlainForm.{IsPlainForm}
@@ -34,8 +35,10 @@ IsAllowed (Checked head verdict) n = (2 ≤ n) × (n ≤ 5)
 IsAllowed (Reported text) n = (3 ≤ n) × (n ≤ 5)
 IsAllowed NoPlan n = (3 ≤ n) × (n ≤ 5)
 IsAllowed Usage n = ⊥
-IsAllowed (NoInputs error) n = ⊤
+IsAllowed (Refused why) n = ⊤
+IsAllowed (CannotRead table) n = ⊤
 IsAllowed (NoAnswer error) n = (2 ≤ n) × (n ≤ 5)
+IsAllowed NoMemory n = ⊤
 
 pub report_code : (kind : Report) (dir : List ℕ) → (3 ≤ code (command_for kind dir)) × (code (command_for kind dir) ≤ 5)
 report_code report.Duties dir = (omega arith, omega arith)
@@ -77,5 +80,7 @@ module _ (words : WordList) (files : Files) (mine : Command) (asked : IsPlainFor
   is_allowed (Reported text) says = report_here says.kind says.dir says.asked
   is_allowed NoPlan says = report_here says.kind says.dir says.asked
   is_allowed Usage says = says mine asked
-  is_allowed (NoInputs error) says = tt
+  is_allowed (Refused why) says = tt
+  is_allowed (CannotRead table) says = tt
   is_allowed (NoAnswer error) says = reads_here says.dir says.asked says.reads
+  is_allowed NoMemory says = tt

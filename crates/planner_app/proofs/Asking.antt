@@ -1,12 +1,13 @@
 -- What words ask for is one command, and its numbers are within their limits; where no day is read none is asked.
 use Rattle.std.proofs.Common.{◌≡◌, ℕ, ◌≤◌, List, [], ◌∷◌, Option, Some, inl, inr, sym, ap, ◌∙◌, arith, Bool, true}
-use Rattle.std.proofs.Common.{false, refl}
+use Rattle.std.proofs.Common.{false, refl, subst}
 use Rattle.std.proofs.lemmas.Bool.{both_ways}
 use Rattle.rail_base.specs.declared.limits.TheConstants.{MOST_BRANCHINGS, MOST_ROUNDS}
 use Rattle.trial_day.specs.Trial.{IsTrialSize}
 use Rattle.day_files.specs.declared.errors.ReadError.{ReadError}
 use Rattle.day_files.specs.declared.errors.ReadError.TheVariants.{CannotRead, Refused, NoMemory}
-use Rattle.run_documents.specs.declared.outcome.Outcome.TheVariants.{NoInputs}
+use Rattle.run_documents.specs.declared.outcome.Outcome.{Outcome}
+use Rattle.run_documents.specs.Errors.{outcome_of_error}
 use Rattle.command_line.specs.declared.form.OptionName.TheVariants.{Nodes, Rounds}
 use Rattle.command_line.specs.Items.{WordList, values_in}
 use Rattle.commands.specs.declared.command.Command.{Command}
@@ -95,8 +96,12 @@ grants_nothing words named n k none form (inr other) =
     both_ways (searches named) none (ap searches same)
 
 -- where no day is read, no advisor is asked
-pub none_asked_for : {A : Type 0} (asked : A → ℕ) (has_quit : A → Bool) (rounds : ℕ) (error : ReadError) (advisors : List A)
-    → AreAskedFor rounds (NoInputs error) advisors advisors asked has_quit
-none_asked_for asked has_quit rounds (CannotRead read) advisors = refl
-none_asked_for asked has_quit rounds (Refused why) advisors = refl
-none_asked_for asked has_quit rounds NoMemory advisors = tt
+pub none_asked_for : {A : Type 0} (asked : A → ℕ) (has_quit : A → Bool) (rounds : ℕ) (error : ReadError) (it : Outcome)
+    (advisors : List A) → it ≡ outcome_of_error error → AreAskedFor rounds it advisors advisors asked has_quit
+none_asked_for asked has_quit rounds error it advisors is =
+    subst (λ (other : Outcome). AreAskedFor rounds other advisors advisors asked has_quit) (sym is) (by error)
+  where
+    by : (error : ReadError) → AreAskedFor rounds (outcome_of_error error) advisors advisors asked has_quit
+    by (CannotRead read) = refl
+    by (Refused why) = refl
+    by NoMemory = tt

@@ -4,14 +4,12 @@ use Rattle.std.proofs.Common.{Ok, Err, refl, sym, ◌∙◌, ap, subst, arith}
 use Rattle.rail_io.specs.Folders.{Files}
 use Rattle.timetable.specs.Day.{Day}
 use Rattle.day_files.specs.declared.errors.Refusal.{Refusal}
-use Rattle.day_files.specs.declared.errors.ReadError.TheVariants.{CannotRead, Refused, NoMemory}
 use Rattle.day_files.specs.declared.inputs.Inputs.{Inputs}
 use Rattle.day_files.specs.Inputs.{day_in, inputs_in}
 use Rattle.answer_text.specs.declared.answer.Answer.{Answer}
 use Rattle.answer_text.specs.declared.answer.Head.{Head}
 use Rattle.answer_text.specs.declared.answer.Head.TheVariants.{Optimal, Infeasible, Bounded, BoundedPlan}
 use Rattle.answer_text.specs.Texts.{text_of}
-use Rattle.answer_text.specs.declared.refusal.AnswerRefusal.TheVariants as answer_refusal
 use Rattle.rail_io.specs.Sinks.{Appends}
 use Rattle.answer_check.specs.declared.checking.AnswerVerdict.{AnswerVerdict}
 use Rattle.answer_check.specs.declared.checking.AnswerVerdict.TheVariants.{Valid, RunsDiffer, UnknownUnit, Stops}
@@ -154,12 +152,12 @@ module _ (words : List (List ℕ)) (files : Files) (dir : List ℕ) where
       by (outcome.Reported text) says undisturbed allowed = absurd (omega (arith, allowed.0))
       by outcome.NoPlan says undisturbed allowed = absurd (omega (arith, allowed.0))
       by outcome.Usage says undisturbed allowed = absurd allowed
-      by (outcome.NoInputs (Refused why)) (OfDayAndPlan other asked' refused) undisturbed allowed =
+      by (outcome.Refused why) (OfDayAndPlan other asked' refused) undisturbed allowed =
           ended_refused why (subst (λ (d : List ℕ). inputs_in files d ≡ Err why) (one_simulated words dir other asked asked') refused)
-      by (outcome.NoInputs (Refused why)) (OfDay other about plain refused) undisturbed allowed =
+      by (outcome.Refused why) (OfDay other about plain refused) undisturbed allowed =
           absurd (simulate_reads_plan words dir other asked about plain)
-      by (outcome.NoInputs (CannotRead table)) says undisturbed allowed = absurd (undisturbed.0 refl)
-      by (outcome.NoInputs NoMemory) says undisturbed allowed = absurd (undisturbed.2 refl)
+      by (outcome.CannotRead table) says undisturbed allowed = absurd (undisturbed.0 refl)
+      by outcome.NoMemory says undisturbed allowed = absurd (undisturbed.2 refl)
       by (outcome.NoAnswer error) says undisturbed allowed = absurd (omega (arith, allowed.0))
 
   -- ---- an answer is checked
@@ -235,15 +233,8 @@ module _ (words : List (List ℕ)) (files : Files) (dir : List ℕ) where
   refused_answer day answer_error.CannotRead accepted wrong undisturbed = absurd (undisturbed.0 refl)
   refused_answer day answer_error.TooLong accepted wrong undisturbed =
       (refl, inr (day, accepted, inl wrong), λ other answer is. omega (arith, is.of_file.few, wrong))
-  refused_answer day (answer_error.Refused answer_refusal.NoMemory) accepted wrong undisturbed = absurd (undisturbed.2 refl)
-  refused_answer day (answer_error.Refused (answer_refusal.BadLine line)) accepted wrong undisturbed =
-      (refl, inr (day, accepted, inr (answer_refusal.BadLine line, wrong.refused)), λ other answer is. wrong.none answer is.of_file.text)
-  refused_answer day (answer_error.Refused answer_refusal.MissingEnd) accepted wrong undisturbed =
-      (refl, inr (day, accepted, inr (answer_refusal.MissingEnd, wrong.refused)), λ other answer is. wrong.none answer is.of_file.text)
-  refused_answer day (answer_error.Refused (answer_refusal.Trailing line)) accepted wrong undisturbed =
-      (refl, inr (day, accepted, inr (answer_refusal.Trailing line, wrong.refused)), λ other answer is. wrong.none answer is.of_file.text)
-  refused_answer day (answer_error.Refused answer_refusal.TooManyNodes) accepted wrong undisturbed =
-      (refl, inr (day, accepted, inr (answer_refusal.TooManyNodes, wrong.refused)), λ other answer is. wrong.none answer is.of_file.text)
+  refused_answer day (answer_error.Refused refusal) accepted wrong undisturbed =
+      (refl, inr (day, accepted, inr (refusal, wrong.refused)), λ other answer is. wrong.none answer is.of_file.text)
 
   no_answer : (day : Day) (error : AnswerError) → day_in files dir ≡ Ok day → IsWrongAnswer files dir error
       → IsUndisturbed (status_of (outcome.NoAnswer error)) → EndsCheck files dir (status_of (outcome.NoAnswer error))
@@ -271,14 +262,14 @@ module _ (words : List (List ℕ)) (files : Files) (dir : List ℕ) where
       by (outcome.Reported text) says undisturbed allowed = absurd (omega (arith, allowed.0))
       by outcome.NoPlan says undisturbed allowed = absurd (omega (arith, allowed.0))
       by outcome.Usage says undisturbed allowed = absurd allowed
-      by (outcome.NoInputs (Refused why)) (OfDayAndPlan other asked' refused) undisturbed allowed =
+      by (outcome.Refused why) (OfDayAndPlan other asked' refused) undisturbed allowed =
           let same = one_command words (command.Check dir) (command.Simulate other) asked asked' in absurd cc
-      by (outcome.NoInputs (Refused why)) (OfDay other about plain refused) undisturbed allowed =
+      by (outcome.Refused why) (OfDay other about plain refused) undisturbed allowed =
           let none : day_in files dir ≡ Err why = subst (λ (d : List ℕ). day_in files d ≡ Err why)
           (about_folder words dir other (command.Check dir) asked refl about) refused in
           checked_refused (inl (why, none)) (λ day answer is. day_or_not day why is.of_tables none)
-      by (outcome.NoInputs (CannotRead table)) says undisturbed allowed = absurd (undisturbed.0 refl)
-      by (outcome.NoInputs NoMemory) says undisturbed allowed = absurd (undisturbed.2 refl)
+      by (outcome.CannotRead table) says undisturbed allowed = absurd (undisturbed.0 refl)
+      by outcome.NoMemory says undisturbed allowed = absurd (undisturbed.2 refl)
       by (outcome.NoAnswer error) says undisturbed allowed =
           let is : says.dir ≡ dir = about_folder words dir says.dir (command.Check dir) asked refl says.asked in
           no_answer says.day error (subst (λ (d : List ℕ). day_in files d ≡ Ok says.day) is says.accepted)
@@ -334,11 +325,11 @@ module _ (words : List (List ℕ)) (files : Files) (dir : List ℕ) where
         by (outcome.Reported report) says text is written undisturbed allowed = absurd (omega (arith, allowed.0))
         by outcome.NoPlan says text is written undisturbed allowed = absurd (omega (arith, allowed.0))
         by outcome.Usage says text is written undisturbed allowed = absurd allowed
-        by (outcome.NoInputs (Refused why)) (OfDayAndPlan other asked' refused) text is written undisturbed allowed =
+        by (outcome.Refused why) (OfDayAndPlan other asked' refused) text is written undisturbed allowed =
             let same = one_command words (command.Plan dir nodes rounds) (command.Simulate other) asked asked' in absurd cc
-        by (outcome.NoInputs (Refused why)) (OfDay other about plain refused) text is written undisturbed allowed =
+        by (outcome.Refused why) (OfDay other about plain refused) text is written undisturbed allowed =
             planned_refused why (subst (λ (d : List ℕ). day_in files d ≡ Err why)
             (about_folder words dir other (command.Plan dir nodes rounds) asked refl about) refused)
-        by (outcome.NoInputs (CannotRead table)) says text is written undisturbed allowed = absurd (undisturbed.0 refl)
-        by (outcome.NoInputs NoMemory) says text is written undisturbed allowed = absurd (undisturbed.2 refl)
+        by (outcome.CannotRead table) says text is written undisturbed allowed = absurd (undisturbed.0 refl)
+        by outcome.NoMemory says text is written undisturbed allowed = absurd (undisturbed.2 refl)
         by (outcome.NoAnswer error) says text is written undisturbed allowed = absurd (omega (arith, allowed.0))

@@ -3,11 +3,9 @@ use Rattle.std.proofs.Common.{◌≡◌, ℕ, List, Bool, true, false, Option, S
 use Rattle.std.proofs.Common.{refl, sym, ap, subst, ◌∙◌, arith}
 use Rattle.std.specs.Prelude.{ℤ, IsTrue}
 use Rattle.rail_base.specs.declared.numbers.Money.{Money}
-use Rattle.rail_base.specs.Answers.{Unless}
 use Rattle.rail_io.specs.Folders.{Files}
 use Rattle.timetable.specs.Cost.{plan_cost}
 use Rattle.timetable.specs.Day.{Day}
-use Rattle.day_files.specs.declared.errors.ReadError.TheVariants.{CannotRead, Refused, NoMemory}
 use Rattle.day_files.specs.declared.errors.Refusal.{Refusal}
 use Rattle.day_files.specs.declared.inputs.Inputs.{Inputs}
 use Rattle.day_files.specs.Inputs.{day_in, inputs_in}
@@ -15,9 +13,6 @@ use Rattle.day_simulator.specs.declared.events.StepFault.{StepFault}
 use Rattle.day_simulator.specs.Calls.{IsCost}
 use Rattle.day_simulator.specs.Finish.{simulation}
 use Rattle.answer_text.specs.declared.answer.Answer.{Answer}
-use Rattle.answer_text.specs.declared.refusal.AnswerRefusal.{AnswerRefusal}
-use Rattle.answer_text.specs.declared.refusal.AnswerRefusal.TheVariants as answer_refusal
-use Rattle.answer_text.specs.Grammar.{is_memory}
 use Rattle.answer_text.specs.Limits.{has_plan}
 use Rattle.answer_text.proofs.Texts.{refusals_are_one}
 use Rattle.answer_check.specs.declared.checking.AnswerVerdict.{AnswerVerdict}
@@ -30,7 +25,7 @@ use Rattle.run_documents.specs.declared.answer_file.AnswerError.{AnswerError}
 use Rattle.run_documents.specs.declared.answer_file.AnswerError.TheVariants as answer_error
 use Rattle.run_documents.specs.declared.outcome.Outcome.{Outcome}
 use Rattle.run_documents.specs.declared.outcome.Outcome.TheVariants as outcome
-use Rattle.run_documents.specs.AnswerFiles.{AreRefusedFor, IsAnswerOf, IsWrongAnswer, answer_bytes}
+use Rattle.run_documents.specs.AnswerFiles.{IsAnswerOf, IsWrongAnswer, answer_bytes}
 use Rattle.commands.specs.declared.command.Command.{Command}
 use Rattle.commands.specs.declared.command.Command.TheVariants as command
 use Rattle.commands.specs.PlainForm.{IsPlainForm}
@@ -53,7 +48,7 @@ IsOne Tells = (one other : Outcome) → Tells one → Tells other → one ≡ ot
 
 -- the first file that is refused tells the outcome; or what the files are accepted as does
 data IsRead (X : Type 0) (read : Result X Refusal) (Tells : X → Outcome → Type 0) (it : Outcome) : Type 0 where
-  NotAccepted : (why : Refusal) → read ≡ Err why → it ≡ outcome.NoInputs (Refused why) → IsRead X read Tells it
+  NotAccepted : (why : Refusal) → read ≡ Err why → it ≡ outcome.Refused why → IsRead X read Tells it
   Accepted : (found : X) → read ≡ Ok found → Tells found it → IsRead X read Tells it
 
 one_read : (X : Type 0) (read : Result X Refusal) (Tells : X → Outcome → Type 0) → ((found : X) → IsOne (Tells found))
@@ -130,18 +125,9 @@ module _ (words : List (List ℕ)) (dir : List ℕ) (day : Day) (answer : Answer
 
 -- ---- an answer is refused, or read
 
--- a fact that is not set free holds
-unless_not : (free : Bool) (P : Type 0) → free ≡ false → Unless free P → P
-unless_not true P not holds = absurd cc
-unless_not false P not holds = holds
-
 module _ (files : Files) (dir : List ℕ) where
   abbrev bytes : List ℕ
   bytes = answer_bytes files dir
-
-  refused_for : (refusal : AnswerRefusal) → IsToldByFiles (outcome.NoAnswer (answer_error.Refused refusal))
-      → IsWrongAnswer files dir (answer_error.Refused refusal) → AreRefusedFor bytes refusal
-  refused_for refusal told wrong = unless_not (is_memory refusal) (AreRefusedFor bytes refusal) told wrong
 
   -- one thing is wrong with the file of an answer
   one_wrong : (error other : AnswerError) → IsToldByFiles (outcome.NoAnswer error) → IsToldByFiles (outcome.NoAnswer other)
@@ -150,20 +136,19 @@ module _ (files : Files) (dir : List ℕ) where
   one_wrong answer_error.TooLong answer_error.CannotRead told told' wrong wrong' = absurd told'
   one_wrong answer_error.TooLong answer_error.TooLong told told' wrong wrong' = refl
   one_wrong answer_error.TooLong (answer_error.Refused refusal) told told' wrong wrong' =
-      absurd (omega (arith, wrong, (refused_for refusal told' wrong').few))
+      absurd (omega (arith, wrong, wrong'.few))
   one_wrong (answer_error.Refused refusal) answer_error.CannotRead told told' wrong wrong' = absurd told'
   one_wrong (answer_error.Refused refusal) answer_error.TooLong told told' wrong wrong' =
-      absurd (omega (arith, wrong', (refused_for refusal told wrong).few))
+      absurd (omega (arith, wrong', wrong.few))
   one_wrong (answer_error.Refused refusal) (answer_error.Refused refusal') told told' wrong wrong' =
-      ap answer_error.Refused (refusals_are_one bytes refusal refusal' (refused_for refusal told wrong).refused
-      (refused_for refusal' told' wrong').refused)
+      ap answer_error.Refused (refusals_are_one bytes refusal refusal' wrong.refused wrong'.refused)
 
   -- nothing is wrong with it where it is read
   not_wrong : (error : AnswerError) (answer : Answer) → IsToldByFiles (outcome.NoAnswer error)
       → IsWrongAnswer files dir error → IsAnswerOf bytes answer → ⊥
   not_wrong answer_error.CannotRead answer told wrong is = told
   not_wrong answer_error.TooLong answer told wrong is = omega (arith, wrong, is.few)
-  not_wrong (answer_error.Refused refusal) answer told wrong is = (refused_for refusal told wrong).none answer is.text
+  not_wrong (answer_error.Refused refusal) answer told wrong is = wrong.none answer is.text
 
   module _ (words : List (List ℕ)) (day : Day) where
     -- what the words ask for reads an answer
@@ -277,17 +262,17 @@ module _ (words : List (List ℕ)) (files : Files) where
       by_report outcome.NoPlan says.dir says.kind says.asked says.day says.answer says.accepted says.valid
       (is_no_plan (has_plan says.answer.head) (report_text says.kind says.day says.answer.runs) says.none)
   is_told outcome.Usage told says = InVain says refl
-  is_told (outcome.NoInputs (Refused why)) told (OfDayAndPlan dir asked refused) =
+  is_told (outcome.Refused why) told (OfDayAndPlan dir asked refused) =
       ByInputs dir asked (NotAccepted why refused refl)
-  is_told (outcome.NoInputs (Refused why)) told (OfDay dir about plain refused) =
+  is_told (outcome.Refused why) told (OfDay dir about plain refused) =
       ByTables dir about plain (NotAccepted why refused refl)
   is_told (outcome.NoAnswer error) told says =
       by_answer (outcome.NoAnswer error) says.dir says.asked says.reads says.day says.accepted
       (IsWrong (reads_here says.dir says.asked says.reads) error told says.wrong refl)
   is_told (outcome.Planned answer) told says = absurd told
   is_told (outcome.Tried seed trips answer) told says = absurd told
-  is_told (outcome.NoInputs (CannotRead table)) told says = absurd told
-  is_told (outcome.NoInputs NoMemory) told says = absurd told
+  is_told (outcome.CannotRead table) told says = absurd told
+  is_told outcome.NoMemory told says = absurd told
 
   -- ---- beside a search
 
@@ -339,8 +324,10 @@ searches_are_apart words files one other told found says says' = by other found 
     by (outcome.Reported text) found said = found
     by outcome.NoPlan found said = found
     by outcome.Usage found said = found
-    by (outcome.NoInputs error) found said = found
+    by (outcome.Refused why) found said = found
+    by (outcome.CannotRead table) found said = found
     by (outcome.NoAnswer error) found said = found
+    by outcome.NoMemory found said = found
 
 -- ---- the others
 
@@ -353,13 +340,9 @@ others_are_told (outcome.Checked head verdict) undisturbed other = tt
 others_are_told (outcome.Reported text) undisturbed other = tt
 others_are_told outcome.NoPlan undisturbed other = tt
 others_are_told outcome.Usage undisturbed other = tt
-others_are_told (outcome.NoInputs (Refused why)) undisturbed other = tt
-others_are_told (outcome.NoInputs (CannotRead table)) undisturbed other = absurd (undisturbed.0 refl)
-others_are_told (outcome.NoInputs NoMemory) undisturbed other = absurd (undisturbed.2 refl)
+others_are_told (outcome.Refused why) undisturbed other = tt
+others_are_told (outcome.CannotRead table) undisturbed other = absurd (undisturbed.0 refl)
+others_are_told outcome.NoMemory undisturbed other = absurd (undisturbed.2 refl)
 others_are_told (outcome.NoAnswer answer_error.CannotRead) undisturbed other = absurd (undisturbed.0 refl)
 others_are_told (outcome.NoAnswer answer_error.TooLong) undisturbed other = tt
-others_are_told (outcome.NoAnswer (answer_error.Refused (answer_refusal.BadLine line))) undisturbed other = refl
-others_are_told (outcome.NoAnswer (answer_error.Refused answer_refusal.MissingEnd)) undisturbed other = refl
-others_are_told (outcome.NoAnswer (answer_error.Refused (answer_refusal.Trailing line))) undisturbed other = refl
-others_are_told (outcome.NoAnswer (answer_error.Refused answer_refusal.TooManyNodes)) undisturbed other = refl
-others_are_told (outcome.NoAnswer (answer_error.Refused answer_refusal.NoMemory)) undisturbed other = absurd (undisturbed.2 refl)
+others_are_told (outcome.NoAnswer (answer_error.Refused refusal)) undisturbed other = tt

@@ -12,7 +12,7 @@ use Rattle.timetable.specs.Running.{IsPlan}
 use Rattle.trial_day.specs.Trial.{trial_tables_of}
 use Rattle.answer_text.specs.Limits.{IsWithin, has_plan}
 use Rattle.day_files.specs.declared.errors.ReadError.{ReadError}
-use Rattle.day_files.specs.declared.errors.ReadError.TheVariants.{CannotRead, Refused, NoMemory}
+use Rattle.day_files.specs.declared.errors.ReadError.TheVariants as read_error
 use Rattle.day_files.specs.declared.inputs.Inputs.{Inputs}
 use Rattle.day_files.specs.Inputs.{day_in, inputs_in}
 use Rattle.day_files.specs.Order.{Reaches}
@@ -32,8 +32,10 @@ use Rattle.day_planner.specs.Headline.{IsHeadline}
 use Rattle.run_documents.specs.declared.answer_file.AnswerError.{AnswerError}
 use Rattle.run_documents.specs.declared.outcome.Outcome.{Outcome}
 use Rattle.run_documents.specs.declared.outcome.Outcome.TheVariants.{Planned, Tried, Runs, Stops, Checked, Reported}
-use Rattle.run_documents.specs.declared.outcome.Outcome.TheVariants.{NoPlan, Usage, NoInputs, NoAnswer}
+use Rattle.run_documents.specs.declared.outcome.Outcome.TheVariants.{NoPlan, Usage, Refused, CannotRead}
+use Rattle.run_documents.specs.declared.outcome.Outcome.TheVariants.{NoAnswer, NoMemory}
 use Rattle.run_documents.specs.AnswerFiles.{IsAnswerCaused, IsWrongAnswer}
+use Rattle.run_documents.specs.Errors.{outcome_of_error}
 use Rattle.commands.specs.declared.command.Command.TheVariants as command
 use Rattle.planner_app.specs.declared.reports.Report.{Report}
 use Rattle.planner_app.specs.declared.reports.Report.TheVariants as report
@@ -86,7 +88,7 @@ module _ {F : Type 0} (holds : F → Option Files) (may_fail : F → List ℕ �
   Given error = (files : Files) → holds before ≡ Some files → Reads {Y = Day} (Reaches files dir) (Err error) (day_in files dir)
 
   -- memory ran out
-  pub no_memory : Comes (NoInputs NoMemory)
+  pub no_memory : Comes NoMemory
   no_memory = record {
     told = λ files tells. tt;
     sound = tt;
@@ -107,57 +109,65 @@ module _ {F : Type 0} (holds : F → Option Files) (may_fail : F → List ℕ �
 
   -- an error of tables that a command reads has its cause
   cause_of : (error : ReadError) (about : AskAbout words dir) → IsErrorOf (IsReadBy about.named) error → Caused error
-      → HasCause may_fail faults taken words before after (NoInputs error)
-  cause_of (Refused why) about says caused = (dir, about, says, caused)
-  cause_of (CannotRead read) about says caused = (dir, about, says, caused)
-  cause_of NoMemory about says caused = tt
+      → HasCause may_fail faults taken words before after (outcome_of_error error)
+  cause_of (read_error.Refused why) about says caused = (dir, about, says, caused)
+  cause_of (read_error.CannotRead read) about says caused = (dir, about, says, caused)
+  cause_of read_error.NoMemory about says caused = tt
+
+  -- an error of tables is an outcome, where the words are understood
+  of_error : (error : ReadError) → ((files : Files) → holds before ≡ Some files → Says words files (outcome_of_error error))
+      → HasCause may_fail faults taken words before after (outcome_of_error error) → (AskInVain words → ⊥)
+      → Comes (outcome_of_error error)
+  of_error (read_error.Refused why) says cause understood =
+      record { told = says; sound = tt; usage = λ e. absurd cc; understood = λ vain. absurd (understood vain); caused = cause }
+  of_error (read_error.CannotRead read) says cause understood =
+      record { told = says; sound = tt; usage = λ e. absurd cc; understood = λ vain. absurd (understood vain); caused = cause }
+  of_error read_error.NoMemory says cause understood = no_memory
+
+  -- what an error of tables is made into comes where its outcome does
+  pub made_into : (error : ReadError) (it : Outcome) → it ≡ outcome_of_error error → Comes (outcome_of_error error) → Comes it
+  made_into error it is comes = subst (λ (it : Outcome). Comes it) (sym is) comes
 
   pub no_plan : (error : ReadError) → AskToSimulate words dir
       → ((files : Files) → holds before ≡ Some files → Reads {Y = Inputs} (Reaches files dir) (Err error) (inputs_in files dir))
-      → IsErrorOf (λ _. ⊤) error → Caused error → Comes (NoInputs error)
-  no_plan error asked told unread caused = record {
-    told = λ files tells. says error files (told files tells);
-    sound = tt;
-    usage = λ e. absurd cc;
-    understood = λ vain. absurd (vain (command.Simulate dir) asked);
-    caused = cause_of error (about_simulated words dir asked) (of_more (λ read any is. refl) error unread) caused;
-  }
+      → IsErrorOf (λ _. ⊤) error → Caused error → Comes (outcome_of_error error)
+  no_plan error asked told unread caused =
+      of_error error (λ files tells. says error files (told files tells))
+      (cause_of error (about_simulated words dir asked) (of_more (λ read any is. refl) error unread) caused)
+      (λ vain. vain (command.Simulate dir) asked)
     where
-      says : (error : ReadError) (files : Files) → Reads {Y = Inputs} (Reaches files dir) (Err error) (inputs_in files dir) → Says words files (NoInputs error)
-      says (Refused why) files given = OfDayAndPlan dir asked given
-      says (CannotRead read) files given =
+      says : (error : ReadError) (files : Files) → Reads {Y = Inputs} (Reaches files dir) (Err error) (inputs_in files dir) → Says words files (outcome_of_error error)
+      says (read_error.Refused why) files given = OfDayAndPlan dir asked given
+      says (read_error.CannotRead read) files given =
           record { dir = dir; asked = record { about = about_simulated words dir asked; plan = λ is. refl }; reached = given }
-      says NoMemory files given = tt
+      says read_error.NoMemory files given = tt
 
   -- the day of a command that reads no plan is not read
   module _ (about : AskAbout words dir) (plain : reads_plan about.named ≡ false) where
     pub no_day : (error : ReadError) → Given error → IsErrorOf (λ read. read ≢ table.Plan) error → Caused error
-        → Comes (NoInputs error)
-    no_day error told unread caused = record {
-      told = λ files tells. says error files unread (told files tells);
-      sound = tt;
-      usage = λ e. absurd cc;
-      understood = λ vain. absurd (vain about.named about.asked);
-      caused = cause_of error about (of_more (λ read other is. absurd (other is)) error unread) caused;
-    }
+        → Comes (outcome_of_error error)
+    no_day error told unread caused =
+        of_error error (λ files tells. says error files unread (told files tells))
+        (cause_of error about (of_more (λ read other is. absurd (other is)) error unread) caused)
+        (λ vain. vain about.named about.asked)
       where
         says : (error : ReadError) → (files : Files) → IsErrorOf (λ read. read ≢ table.Plan) error
-            → Reads {Y = Day} (Reaches files dir) (Err error) (day_in files dir) → Says words files (NoInputs error)
-        says (Refused why) files unread given = OfDay dir about plain given
-        says (CannotRead read) files unread given =
+            → Reads {Y = Day} (Reaches files dir) (Err error) (day_in files dir) → Says words files (outcome_of_error error)
+        says (read_error.Refused why) files unread given = OfDay dir about plain given
+        says (read_error.CannotRead read) files unread given =
             record { dir = dir; asked = record { about = about; plan = λ is. absurd (unread is) }; reached = given }
-        says NoMemory files unread given = tt
+        says read_error.NoMemory files unread given = tt
 
   pub day_not_planned : (nodes rounds : ℕ) (error : ReadError) → AskToPlan words dir nodes rounds → Given error
-      → IsErrorOf (λ read. read ≢ table.Plan) error → Caused error → Comes (NoInputs error)
+      → IsErrorOf (λ read. read ≢ table.Plan) error → Caused error → Comes (outcome_of_error error)
   day_not_planned nodes rounds error asked = no_day (about_planned words dir nodes rounds asked) refl error
 
   pub day_not_checked : (error : ReadError) → AskToCheck words dir → Given error
-      → IsErrorOf (λ read. read ≢ table.Plan) error → Caused error → Comes (NoInputs error)
+      → IsErrorOf (λ read. read ≢ table.Plan) error → Caused error → Comes (outcome_of_error error)
   day_not_checked error asked = no_day (about_checked words dir asked) refl error
 
   pub day_not_reported : (kind : Report) (error : ReadError) → AskToReport words kind dir → Given error
-      → IsErrorOf (λ read. read ≢ table.Plan) error → Caused error → Comes (NoInputs error)
+      → IsErrorOf (λ read. read ≢ table.Plan) error → Caused error → Comes (outcome_of_error error)
   day_not_reported kind error asked = no_day (about_reported words dir kind asked) (report_plain kind dir) error
 
   pub planned : (nodes rounds : ℕ) (day : Day) (answer : Answer) → AskToPlan words dir nodes rounds → IsMadeDay day
@@ -319,7 +329,9 @@ module _ {F : Type 0} (holds : F → Option Files) (may_fail : F → List ℕ �
   report_comes kind (Runs money) day answer asked made within told is = absurd is
   report_comes kind (Stops fault) day answer asked made within told is = absurd is
   report_comes kind Usage day answer asked made within told is = absurd is
-  report_comes kind (NoInputs error) day answer asked made within told is = absurd is
+  report_comes kind (Refused why) day answer asked made within told is = absurd is
+  report_comes kind (CannotRead read) day answer asked made within told is = absurd is
+  report_comes kind NoMemory day answer asked made within told is = absurd is
   report_comes kind (NoAnswer error) day answer asked made within told is = absurd is
 
   -- ---- a trial day
@@ -349,9 +361,9 @@ module _ {F : Type 0} (holds : F → Option Files) (may_fail : F → List ℕ �
       subst (λ (s : ℕ). Comes (Tried s trips' answer)) (sym is.0)
       (subst (λ (t : ℕ). Comes (Tried seed t answer)) (sym is.1)
       (tried seed trips nodes rounds is.2 answer asked is.3 is.4))
-  trial_comes seed trips nodes rounds (NoInputs NoMemory) asked is = no_memory
-  trial_comes seed trips nodes rounds (NoInputs (Refused why)) asked is = absurd is
-  trial_comes seed trips nodes rounds (NoInputs (CannotRead read)) asked is = absurd is
+  trial_comes seed trips nodes rounds NoMemory asked is = no_memory
+  trial_comes seed trips nodes rounds (Refused why) asked is = absurd is
+  trial_comes seed trips nodes rounds (CannotRead read) asked is = absurd is
   trial_comes seed trips nodes rounds (Planned answer) asked is = absurd is
   trial_comes seed trips nodes rounds (Runs money) asked is = absurd is
   trial_comes seed trips nodes rounds (Stops fault) asked is = absurd is

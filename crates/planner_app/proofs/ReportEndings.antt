@@ -7,7 +7,6 @@ use Rattle.rail_io.specs.Sinks.{Appends}
 use Rattle.timetable.specs.Build.{day_of}
 use Rattle.timetable.specs.Day.{Day}
 use Rattle.trial_day.specs.Trial.{trial_tables_of}
-use Rattle.day_files.specs.declared.errors.ReadError.TheVariants.{CannotRead, Refused, NoMemory}
 use Rattle.day_files.specs.Inputs.{day_in}
 use Rattle.answer_text.specs.declared.answer.Answer.{Answer}
 use Rattle.answer_text.specs.Limits.{has_plan}
@@ -144,14 +143,14 @@ module _ (words : List (List ℕ)) (files : Files) (dir : List ℕ) (kind : Repo
       by (outcome.Runs money) says text is written undisturbed allowed = absurd (omega (arith, allowed, (report_code kind dir).0))
       by (outcome.Stops fault) says text is written undisturbed allowed = absurd (omega (arith, allowed, (report_code kind dir).0))
       by outcome.Usage says text is written undisturbed allowed = absurd allowed
-      by (outcome.NoInputs (Refused why)) (OfDayAndPlan other asked' refused) text is written undisturbed allowed =
+      by (outcome.Refused why) (OfDayAndPlan other asked' refused) text is written undisturbed allowed =
           absurd (omega (arith, ap code (one_command words (command_for kind dir) (command.Simulate other) asked asked'), (report_code kind dir).0))
-      by (outcome.NoInputs (Refused why)) (OfDay other about plain refused) text is written undisturbed allowed =
+      by (outcome.Refused why) (OfDay other about plain refused) text is written undisturbed allowed =
           let none : day_in files dir ≡ Err why = subst (λ (d : List ℕ). day_in files d ≡ Err why)
           (about_folder words dir other (command_for kind dir) asked (folder_is kind dir) about) refused in
           ends_refused (inl (why, none)) (λ day answer is. day_or_not words files dir day why is.of_tables none)
-      by (outcome.NoInputs (CannotRead table)) says text is written undisturbed allowed = absurd (undisturbed.0 refl)
-      by (outcome.NoInputs NoMemory) says text is written undisturbed allowed = absurd (undisturbed.2 refl)
+      by (outcome.CannotRead table) says text is written undisturbed allowed = absurd (undisturbed.0 refl)
+      by outcome.NoMemory says text is written undisturbed allowed = absurd (undisturbed.2 refl)
       by (outcome.NoAnswer error) says text is written undisturbed allowed =
           let is : says.dir ≡ dir = about_folder words dir says.dir (command_for kind dir) asked (folder_is kind dir) says.asked in
           not_read says.day error (subst (λ (d : List ℕ). day_in files d ≡ Ok says.day) is says.accepted)
@@ -216,7 +215,7 @@ module _ (words : List (List ℕ)) (seed trips nodes rounds : ℕ) (asked : AskT
           absurd (omega (arith, named_trial (command_for sound.1 sound.0) sound.2, (report_code sound.1 sound.0).1))
       by outcome.Usage sound usage cause text document written undisturbed =
           absurd (usage refl (command.Trial seed trips nodes rounds) asked)
-      by (outcome.NoInputs (Refused why)) sound usage cause text document written undisturbed = absurd (no_folder cause.0 cause.1)
-      by (outcome.NoInputs (CannotRead table)) sound usage cause text document written undisturbed = absurd (undisturbed.0 refl)
-      by (outcome.NoInputs NoMemory) sound usage cause text document written undisturbed = absurd (undisturbed.2 refl)
+      by (outcome.Refused why) sound usage cause text document written undisturbed = absurd (no_folder cause.0 cause.1)
+      by (outcome.CannotRead table) sound usage cause text document written undisturbed = absurd (undisturbed.0 refl)
+      by outcome.NoMemory sound usage cause text document written undisturbed = absurd (undisturbed.2 refl)
       by (outcome.NoAnswer error) sound usage cause text document written undisturbed = absurd (no_folder cause.0 cause.1)

@@ -2,8 +2,6 @@
 use Rattle.std.proofs.Common.{◌≡◌, ◌≢◌, ◌↔◌, ◌⊎◌, inl, inr, ℕ, suc, Bool, List, Option, Some, ap, refl, sym, ◌∙◌, subst}
 use Rattle.std.proofs.Common.{arith}
 use Rattle.rail_io.specs.Folders.{Files, Rose}
-use Rattle.day_files.specs.declared.errors.ReadError.TheVariants.{CannotRead, Refused, NoMemory}
-use Rattle.answer_text.specs.declared.refusal.AnswerRefusal.TheVariants as answer_refusal
 use Rattle.answer_text.specs.declared.answer.Head.{Head}
 use Rattle.answer_text.specs.declared.answer.Head.TheVariants.{Optimal, Infeasible, Bounded, BoundedPlan}
 use Rattle.answer_check.specs.declared.checking.AnswerVerdict.{AnswerVerdict}
@@ -12,7 +10,8 @@ use Rattle.answer_check.specs.declared.checking.AnswerVerdict.TheVariants as ver
 use Rattle.run_documents.specs.declared.answer_file.AnswerError.TheVariants as answer_error
 use Rattle.run_documents.specs.declared.outcome.Outcome.{Outcome}
 use Rattle.run_documents.specs.declared.outcome.Outcome.TheVariants.{Planned, Tried, Runs, Stops, Checked, Reported}
-use Rattle.run_documents.specs.declared.outcome.Outcome.TheVariants.{NoPlan, Usage, NoInputs, NoAnswer}
+use Rattle.run_documents.specs.declared.outcome.Outcome.TheVariants.{NoPlan, Usage, Refused, CannotRead}
+use Rattle.run_documents.specs.declared.outcome.Outcome.TheVariants.{NoAnswer, NoMemory}
 use Rattle.planner_app.specs.declared.reports.Report.{Report}
 use Rattle.planner_app.specs.Statuses.{status_said}
 use Rattle.planner_app.specs.Outcomes.{AskInVain, AskToCheck, AskToPlan, AskToReport, AskToSimulate, AskToTry, HasCause}
@@ -51,16 +50,12 @@ rose_by may_fail faults taken words before after (Runs money) e cause = absurd (
 rose_by may_fail faults taken words before after (Stops fault) e cause = absurd (omega (arith, e))
 rose_by may_fail faults taken words before after (Checked head found) e cause = absurd (no_such found 3 e)
 rose_by may_fail faults taken words before after Usage e cause = absurd (omega (arith, e))
-rose_by may_fail faults taken words before after (NoInputs (Refused why)) e cause = absurd (omega (arith, e))
-rose_by may_fail faults taken words before after (NoInputs (CannotRead table)) e cause = cause.3.0
-rose_by may_fail faults taken words before after (NoInputs NoMemory) e cause = absurd (omega (arith, e))
+rose_by may_fail faults taken words before after (Refused why) e cause = absurd (omega (arith, e))
+rose_by may_fail faults taken words before after (CannotRead table) e cause = cause.3.0
 rose_by may_fail faults taken words before after (NoAnswer answer_error.CannotRead) e cause = cause.3.0
 rose_by may_fail faults taken words before after (NoAnswer answer_error.TooLong) e cause = absurd (omega (arith, e))
-rose_by may_fail faults taken words before after (NoAnswer (answer_error.Refused answer_refusal.NoMemory)) e cause = absurd (omega (arith, e))
-rose_by may_fail faults taken words before after (NoAnswer (answer_error.Refused (answer_refusal.BadLine line))) e cause = absurd (omega (arith, e))
-rose_by may_fail faults taken words before after (NoAnswer (answer_error.Refused answer_refusal.MissingEnd)) e cause = absurd (omega (arith, e))
-rose_by may_fail faults taken words before after (NoAnswer (answer_error.Refused (answer_refusal.Trailing line))) e cause = absurd (omega (arith, e))
-rose_by may_fail faults taken words before after (NoAnswer (answer_error.Refused answer_refusal.TooManyNodes)) e cause = absurd (omega (arith, e))
+rose_by may_fail faults taken words before after (NoAnswer (answer_error.Refused refusal)) e cause = absurd (omega (arith, e))
+rose_by may_fail faults taken words before after NoMemory e cause = absurd (omega (arith, e))
 
 -- only words that are not understood end with status 2
 usage_by : (outcome : Outcome) → status_of outcome ≡ 2 → outcome ≡ Usage
@@ -72,16 +67,12 @@ usage_by (Runs money) e = absurd (omega (arith, e))
 usage_by (Stops fault) e = absurd (omega (arith, e))
 usage_by (Checked head found) e = absurd (no_such found 0 e)
 usage_by Usage e = refl
-usage_by (NoInputs (Refused why)) e = absurd (omega (arith, e))
-usage_by (NoInputs (CannotRead table)) e = absurd (omega (arith, e))
-usage_by (NoInputs NoMemory) e = absurd (omega (arith, e))
+usage_by (Refused why) e = absurd (omega (arith, e))
+usage_by (CannotRead table) e = absurd (omega (arith, e))
 usage_by (NoAnswer answer_error.CannotRead) e = absurd (omega (arith, e))
 usage_by (NoAnswer answer_error.TooLong) e = absurd (omega (arith, e))
-usage_by (NoAnswer (answer_error.Refused answer_refusal.NoMemory)) e = absurd (omega (arith, e))
-usage_by (NoAnswer (answer_error.Refused (answer_refusal.BadLine line))) e = absurd (omega (arith, e))
-usage_by (NoAnswer (answer_error.Refused answer_refusal.MissingEnd)) e = absurd (omega (arith, e))
-usage_by (NoAnswer (answer_error.Refused (answer_refusal.Trailing line))) e = absurd (omega (arith, e))
-usage_by (NoAnswer (answer_error.Refused answer_refusal.TooManyNodes)) e = absurd (omega (arith, e))
+usage_by (NoAnswer (answer_error.Refused refusal)) e = absurd (omega (arith, e))
+usage_by NoMemory e = absurd (omega (arith, e))
 
 module _ {F : Type 0} (holds : F → Option Files) (may_fail : F → List ℕ → Bool) (counted taken : F → ℕ) (words : List (List ℕ)) (before after : F)
     (outcome : Outcome) (status : ℕ) (written written' : Option (List ℕ)) (faults faults' : ℕ)
@@ -152,6 +143,6 @@ module _ {F : Type 0} (holds : F → Option Files) (may_fail : F → List ℕ �
   pub ends_in_usage : IsUndisturbed status → (status ≡ 2) ↔ AskInVain words
   ends_in_usage undisturbed = (λ two. is.usage (usage_by outcome (its_own undisturbed ∙ two)), λ vain. by (is.understood vain))
     where
-      by : (outcome ≡ Usage) ⊎ (outcome ≡ NoInputs NoMemory) → status ≡ 2
+      by : (outcome ≡ Usage) ⊎ (outcome ≡ NoMemory) → status ≡ 2
       by (inl usage) = sym (its_own undisturbed) ∙ ap status_of usage
       by (inr memory) = absurd ((own_undisturbed undisturbed).2 (ap status_of memory))

@@ -2,16 +2,15 @@
 use Rattle.std.specs.Prelude.{ℕ, ◌≡◌, List, false, IsTrue, Ok, Option, ⊤}
 use Rattle.rail_io.specs.Folders.{Files}
 use Rattle.timetable.specs.Day.{Day}
-use Rattle.day_files.specs.declared.errors.ReadError.TheVariants.{CannotRead, NoMemory}
 use Rattle.day_files.specs.Inputs.{day_in}
 use Rattle.answer_text.specs.declared.answer.Answer.{Answer}
-use Rattle.answer_text.specs.Grammar.{is_memory}
 use Rattle.answer_text.specs.Texts.{text_of}
 use Rattle.answer_text.specs.Limits.{has_plan}
 use Rattle.day_planner.specs.Headline.{IsHeadline}
 use Rattle.run_documents.specs.declared.answer_file.AnswerError.TheVariants as answer_error
 use Rattle.run_documents.specs.declared.outcome.Outcome.{Outcome}
-use Rattle.run_documents.specs.declared.outcome.Outcome.TheVariants.{Planned, Tried, NoInputs, NoAnswer}
+use Rattle.run_documents.specs.declared.outcome.Outcome.TheVariants.{Planned, Tried, CannotRead, NoAnswer}
+use Rattle.run_documents.specs.declared.outcome.Outcome.TheVariants.{NoMemory}
 use Rattle.run_documents.specs.AnswerFiles.{answer_bytes}
 use Rattle.planner_app.specs.declared.reports.Report.{Report}
 use Rattle.planner_app.specs.Outcomes.{Says}
@@ -46,10 +45,9 @@ IsOfSearch other = ⊥
 abbrev pub IsToldByFiles : Outcome → Type 0
 IsToldByFiles (Planned answer) = ⊥
 IsToldByFiles (Tried seed trips answer) = ⊥
-IsToldByFiles (NoInputs (CannotRead table)) = ⊥
-IsToldByFiles (NoInputs NoMemory) = ⊥
+IsToldByFiles (CannotRead table) = ⊥
 IsToldByFiles (NoAnswer answer_error.CannotRead) = ⊥
-IsToldByFiles (NoAnswer (answer_error.Refused refusal)) = is_memory refusal ≡ false
+IsToldByFiles NoMemory = ⊥
 IsToldByFiles other = ⊤
 
 -- Words and files tell one such outcome at most.

@@ -9,7 +9,8 @@ use Rattle.timetable.specs.Day.{Day}
 use Rattle.timetable.specs.Running as running
 use Rattle.timetable.specs.Cost.{plan_cost}
 use Rattle.day_files.specs.declared.errors.Refusal.{Refusal}
-use Rattle.day_files.specs.declared.errors.ReadError.TheVariants.{CannotRead, Refused, NoMemory}
+use Rattle.day_files.specs.declared.errors.ReadError.{ReadError}
+use Rattle.day_files.specs.declared.errors.ReadError.TheVariants as read_error
 use Rattle.day_files.specs.declared.inputs.Inputs.{Inputs}
 use Rattle.day_files.specs.Inputs.{day_in, inputs_in}
 use Rattle.day_files.specs.Order.{Reaches}
@@ -30,7 +31,8 @@ use Rattle.day_planner.specs.Headline.{IsHeadline}
 use Rattle.run_documents.specs.declared.answer_file.AnswerError.{AnswerError}
 use Rattle.run_documents.specs.declared.outcome.Outcome.{Outcome}
 use Rattle.run_documents.specs.declared.outcome.Outcome.TheVariants.{Planned, Tried, Runs, Stops, Checked, Reported}
-use Rattle.run_documents.specs.declared.outcome.Outcome.TheVariants.{NoPlan, Usage, NoInputs, NoAnswer}
+use Rattle.run_documents.specs.declared.outcome.Outcome.TheVariants.{NoPlan, Usage, Refused, CannotRead}
+use Rattle.run_documents.specs.declared.outcome.Outcome.TheVariants.{NoAnswer, NoMemory}
 use Rattle.run_documents.specs.AnswerFiles.{IsAnswerCaused, IsAnswerOf, IsWrongAnswer, answer_bytes}
 use Rattle.commands.specs.declared.command.Command.{Command}
 use Rattle.commands.specs.declared.command.Command.TheVariants as command
@@ -226,10 +228,10 @@ Says words files (Checked head verdict) = IsChecked words files head verdict
 Says words files (Reported text) = IsReported words files text
 Says words files NoPlan = HasNoPlan words files
 Says words files Usage = AskInVain words
-Says words files (NoInputs (Refused why)) = IsRefusedFor words files why
-Says words files (NoInputs (CannotRead table)) = IsReached words files table
-Says words files (NoInputs NoMemory) = ⊤
+Says words files (Refused why) = IsRefusedFor words files why
+Says words files (CannotRead table) = IsReached words files table
 Says words files (NoAnswer error) = IsAnswerRefused words files error
+Says words files NoMemory = ⊤
 
 -- What an outcome says whatever the files are: an answer, a run, a verdict and a report are of the command that is
 -- asked for; an answer meets the headline for some day that tables make, or for the trial day that is asked for; a plan
@@ -254,17 +256,22 @@ IsSound words (Reported text) = (dir : List ℕ) × (kind : Report) × AskToRepo
 IsSound words NoPlan = (dir : List ℕ) × (kind : Report) × AskToReport words kind dir
     × (day : Day) × IsMadeDay day × (answer : Answer) × IsWithin MOST_NODES answer × IsValid day answer
     × (has_plan answer.head ≡ false)
-IsSound words Usage = ⊤
-IsSound words (NoInputs error) = ⊤
-IsSound words (NoAnswer error) = ⊤
+IsSound words other = ⊤
+
+-- an error is one of the tables that the command reads, and what it is caused by is seen in the counts of the folder
+abbrev pub IsOfTables : {F : Type 0} → (F → List ℕ → Bool) → (F → ℕ) → (F → ℕ) → List (List ℕ) → F → F → ReadError
+    → Type 0
+IsOfTables may_fail faults taken words before after error =
+    (dir : List ℕ) × (about : AskAbout words dir) × IsErrorOf (IsReadBy about.named) error
+    × IsCaused may_fail faults taken dir before after error
 
 -- An error is one of the files that the command reads. What it is caused by is seen in the counts of the folder, and of
 -- a refusal there are bytes, tables or rows that are refused for it.
 abbrev pub HasCause : {F : Type 0} → (F → List ℕ → Bool) → (F → ℕ) → (F → ℕ) → List (List ℕ) → F → F → Outcome → Type 0
-HasCause may_fail faults taken words before after (NoInputs NoMemory) = ⊤
-HasCause may_fail faults taken words before after (NoInputs error) =
-    (dir : List ℕ) × (about : AskAbout words dir) × IsErrorOf (IsReadBy about.named) error
-    × IsCaused may_fail faults taken dir before after error
+HasCause may_fail faults taken words before after (Refused why) =
+    IsOfTables may_fail faults taken words before after (read_error.Refused why)
+HasCause may_fail faults taken words before after (CannotRead table) =
+    IsOfTables may_fail faults taken words before after (read_error.CannotRead table)
 HasCause may_fail faults taken words before after (NoAnswer error) =
     (dir : List ℕ) × (about : AskAbout words dir) × (reads_answer about.named ≡ true)
     × IsAnswerCaused may_fail faults taken dir before after error
@@ -278,5 +285,5 @@ pub record IsOutcome {F : Type 0} (holds : F → Option Files) (may_fail : F →
   pub told : (files : Files) → holds before ≡ Some files → Says words files outcome
   pub sound : IsSound words outcome
   pub usage : outcome ≡ Usage → AskInVain words
-  pub understood : AskInVain words → (outcome ≡ Usage) ⊎ (outcome ≡ NoInputs NoMemory)
+  pub understood : AskInVain words → (outcome ≡ Usage) ⊎ (outcome ≡ NoMemory)
   pub caused : HasCause may_fail faults taken words before after outcome

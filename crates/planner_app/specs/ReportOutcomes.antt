@@ -3,14 +3,13 @@ use Rattle.std.specs.Prelude.{ℕ, ◌≡◌, ◌≢◌, false, Ok, ⊤}
 use Rattle.timetable.specs.Build.{day_of}
 use Rattle.timetable.specs.Day.{Day}
 use Rattle.trial_day.specs.Trial.{trial_tables_of}
-use Rattle.day_files.specs.declared.errors.ReadError.TheVariants.{NoMemory}
 use Rattle.answer_text.specs.declared.answer.Answer.{Answer}
 use Rattle.answer_text.specs.Limits.{has_plan}
 use Rattle.answer_check.specs.declared.checking.AnswerVerdict.TheVariants.{Valid}
 use Rattle.answer_check.specs.Validity.{IsValid}
 use Rattle.day_planner.specs.Headline.{IsHeadline}
 use Rattle.run_documents.specs.declared.outcome.Outcome.{Outcome}
-use Rattle.run_documents.specs.declared.outcome.Outcome.TheVariants.{Checked, Reported, NoPlan, NoInputs, Tried}
+use Rattle.run_documents.specs.declared.outcome.Outcome.TheVariants.{Checked, Reported, NoPlan, NoMemory, Tried}
 use Rattle.planner_app.specs.declared.reports.Report.{Report}
 use Rattle.planner_app.specs.Outcomes.{IsReportOf, IsVerdictOn}
 
@@ -26,5 +25,5 @@ abbrev pub IsTrialOutcome : ℕ → ℕ → ℕ → Outcome → Type 0
 IsTrialOutcome seed trips nodes (Tried seed' trips' answer) =
     (seed' ≡ seed) × (trips' ≡ trips) × (day : Day) × (day_of (trial_tables_of seed trips) ≡ Ok day)
     × IsHeadline day nodes answer
-IsTrialOutcome seed trips nodes (NoInputs NoMemory) = ⊤
+IsTrialOutcome seed trips nodes NoMemory = ⊤
 IsTrialOutcome seed trips nodes other = ⊥

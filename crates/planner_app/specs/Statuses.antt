@@ -6,14 +6,12 @@ use Rattle.rail_io.specs.Sinks.{Appends, AppendsPart}
 use Rattle.timetable.specs.Build.{day_of}
 use Rattle.timetable.specs.Day.{Day}
 use Rattle.day_files.specs.declared.errors.Refusal.{Refusal}
-use Rattle.day_files.specs.declared.errors.ReadError.TheVariants.{CannotRead, Refused, NoMemory}
 use Rattle.day_files.specs.declared.inputs.Inputs.{Inputs}
 use Rattle.day_files.specs.Inputs.{day_in, inputs_in}
 use Rattle.answer_text.specs.declared.answer.Answer.{Answer}
 use Rattle.answer_text.specs.declared.answer.Head.{Head}
 use Rattle.answer_text.specs.declared.answer.Head.TheVariants.{Optimal, Infeasible, Bounded, BoundedPlan}
 use Rattle.answer_text.specs.declared.refusal.AnswerRefusal.{AnswerRefusal}
-use Rattle.answer_text.specs.declared.refusal.AnswerRefusal.TheVariants as answer_refusal
 use Rattle.answer_text.specs.Grammar.{IsRefused}
 use Rattle.answer_text.specs.Limits.{has_plan}
 use Rattle.answer_text.specs.Texts.{text_of}
@@ -25,7 +23,8 @@ use Rattle.day_planner.specs.Headline.{IsHeadline}
 use Rattle.run_documents.specs.declared.answer_file.AnswerError.TheVariants as answer_error
 use Rattle.run_documents.specs.declared.outcome.Outcome.{Outcome}
 use Rattle.run_documents.specs.declared.outcome.Outcome.TheVariants.{Planned, Tried, Runs, Stops, Checked, Reported}
-use Rattle.run_documents.specs.declared.outcome.Outcome.TheVariants.{NoPlan, Usage, NoInputs, NoAnswer}
+use Rattle.run_documents.specs.declared.outcome.Outcome.TheVariants.{NoPlan, Usage, Refused, CannotRead}
+use Rattle.run_documents.specs.declared.outcome.Outcome.TheVariants.{NoAnswer, NoMemory}
 use Rattle.run_documents.specs.AnswerFiles.{answer_bytes}
 use Rattle.run_documents.specs.Texts.{IsDocument}
 use Rattle.run_documents.specs.TrialTexts.{trial_text}
@@ -138,13 +137,11 @@ status_of (Checked head verdict) = status_of_verdict verdict
 status_of (Reported text) = 0
 status_of NoPlan = 1
 status_of Usage = 2
-status_of (NoInputs (Refused why)) = 3
-status_of (NoInputs (CannotRead table)) = 5
-status_of (NoInputs NoMemory) = 7
+status_of (Refused why) = 3
+status_of (CannotRead table) = 5
 status_of (NoAnswer answer_error.CannotRead) = 5
-status_of (NoAnswer answer_error.TooLong) = 3
-status_of (NoAnswer (answer_error.Refused answer_refusal.NoMemory)) = 7
-status_of (NoAnswer (answer_error.Refused refusal)) = 3
+status_of (NoAnswer other) = 3
+status_of NoMemory = 7
 
 -- What was written of an outcome, and the status that says so: its whole document; or a front of it, where a write
 -- failed; or nothing, where memory ran out.

@@ -12,7 +12,7 @@ ghost use Rattle.planner_app.specs.ReportTexts.{report_text};
 
 use answer_check::{AnswerVerdict, copy_of, picks_of_plan, verdict_on};
 use answer_text::Answer;
-use day_files::{ReadError, day_in};
+use day_files::day_in;
 use day_reports::{costs_table, duties_table, yards_table};
 use rail_base::{Bytes, NoMemory};
 use rail_io::Folder;
@@ -39,15 +39,16 @@ pub(crate) fn reported<F: Folder>(alloc: Global, folder: &mut F, dir: &str, kind
 {
     let instance = match day_in(alloc, folder, dir) {
         Ok(instance) => instance,
-        Err(error) => return Outcome::NoInputs(error),
+        Err(error) => return Outcome::from(error),
     };
     let answer = match answer_in(alloc, folder, dir) {
-        Ok(answer) => answer,
-        Err(error) => return Outcome::NoAnswer(error),
+        Ok(Ok(answer)) => answer,
+        Ok(Err(error)) => return Outcome::NoAnswer(error),
+        Err(NoMemory) => return Outcome::NoMemory,
     };
     match report_on(alloc, &instance, &answer, kind) {
         Ok(outcome) => outcome,
-        Err(NoMemory) => Outcome::NoInputs(ReadError::NoMemory),
+        Err(NoMemory) => Outcome::NoMemory,
     }
 }
 

@@ -13,7 +13,7 @@ use crate::reports::{Report, reported};
 use advisors::Advisor;
 use answer_check::verdict_on;
 use commands::{Command, WordsRefusal, read_words};
-use day_files::{ReadError, day_in, inputs_in};
+use day_files::{day_in, inputs_in};
 use day_planner::answer_for;
 use day_simulator::{SimulateRefusal, simulate};
 use rail_base::{NoMemory, Words};
@@ -63,7 +63,7 @@ pub(crate) fn outcome_of<F: Folder>(
             },
         ) => tried(alloc, seed, trips, nodes, rounds, advisors),
         Err(WordsRefusal::NotUnderstood) => Outcome::Usage,
-        Err(WordsRefusal::NoMemory) => Outcome::NoInputs(ReadError::NoMemory),
+        Err(WordsRefusal::NoMemory) => Outcome::NoMemory,
     }
 }
 
@@ -88,11 +88,11 @@ fn planned<F: Folder>(
 {
     let instance = match day_in(alloc, folder, dir) {
         Ok(instance) => instance,
-        Err(error) => return Outcome::NoInputs(error),
+        Err(error) => return Outcome::from(error),
     };
     match answer_for(alloc, &instance, nodes, rounds, advisors) {
         Ok(answer) => Outcome::Planned(answer),
-        Err(NoMemory) => Outcome::NoInputs(ReadError::NoMemory),
+        Err(NoMemory) => Outcome::NoMemory,
     }
 }
 
@@ -115,7 +115,7 @@ fn tried(
     ensures asked_for { AreAskedFor rounds result advisors.old.items advisors.new.items asked has_quit }
 {
     let Ok(instance) = trial_instance(alloc, seed, trips) else {
-        return Outcome::NoInputs(ReadError::NoMemory);
+        return Outcome::NoMemory;
     };
     match answer_for(alloc, &instance, nodes, rounds, advisors) {
         Ok(answer) => Outcome::Tried {
@@ -123,7 +123,7 @@ fn tried(
             trips,
             answer,
         },
-        Err(NoMemory) => Outcome::NoInputs(ReadError::NoMemory),
+        Err(NoMemory) => Outcome::NoMemory,
     }
 }
 
@@ -135,12 +135,12 @@ fn simulated<F: Folder>(alloc: Global, folder: &mut F, dir: &str) -> Outcome
 {
     let inputs = match inputs_in(alloc, folder, dir) {
         Ok(inputs) => inputs,
-        Err(error) => return Outcome::NoInputs(error),
+        Err(error) => return Outcome::from(error),
     };
     match simulate(alloc, &inputs.instance, &inputs.plan) {
         Ok(ran) => Outcome::Runs(ran.cost),
         Err(SimulateRefusal::Stops(fault)) => Outcome::Stops(fault),
-        Err(SimulateRefusal::NoMemory) => Outcome::NoInputs(ReadError::NoMemory),
+        Err(SimulateRefusal::NoMemory) => Outcome::NoMemory,
     }
 }
 
@@ -152,17 +152,18 @@ fn checked<F: Folder>(alloc: Global, folder: &mut F, dir: &str) -> Outcome
 {
     let instance = match day_in(alloc, folder, dir) {
         Ok(instance) => instance,
-        Err(error) => return Outcome::NoInputs(error),
+        Err(error) => return Outcome::from(error),
     };
     let answer = match answer_in(alloc, folder, dir) {
-        Ok(answer) => answer,
-        Err(error) => return Outcome::NoAnswer(error),
+        Ok(Ok(answer)) => answer,
+        Ok(Err(error)) => return Outcome::NoAnswer(error),
+        Err(NoMemory) => return Outcome::NoMemory,
     };
     match verdict_on(alloc, &instance, &answer) {
         Ok(verdict) => Outcome::Checked {
             head: answer.head,
             verdict,
         },
-        Err(NoMemory) => Outcome::NoInputs(ReadError::NoMemory),
+        Err(NoMemory) => Outcome::NoMemory,
     }
 }

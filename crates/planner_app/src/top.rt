@@ -14,8 +14,7 @@ ghost use Rattle.planner_app.specs.Statuses.{IsStatus, IsUndisturbed, Wrote, sta
 use crate::run::outcome_of;
 use advisors::Advisor;
 use answer_check::AnswerVerdict;
-use answer_text::{AnswerRefusal, Head};
-use day_files::ReadError;
+use answer_text::Head;
 use rail_base::Words;
 use rail_io::{Folder, Sink, write_all};
 use run_documents::document::document;
@@ -45,12 +44,9 @@ fn status_of(outcome: &Outcome) -> u8
         Outcome::Reported(_) => 0,
         Outcome::NoPlan => 1,
         Outcome::Usage => 2,
-        Outcome::NoInputs(ReadError::Refused(_)) => 3,
-        Outcome::NoInputs(ReadError::CannotRead(_)) => 5,
-        Outcome::NoInputs(ReadError::NoMemory) => 7,
-        Outcome::NoAnswer(AnswerError::CannotRead) => 5,
-        Outcome::NoAnswer(AnswerError::Refused(AnswerRefusal::NoMemory)) => 7,
-        Outcome::NoAnswer(_) => 3,
+        Outcome::CannotRead(_) | Outcome::NoAnswer(AnswerError::CannotRead) => 5,
+        Outcome::Refused(_) | Outcome::NoAnswer(_) => 3,
+        Outcome::NoMemory => 7,
     }
 }
 

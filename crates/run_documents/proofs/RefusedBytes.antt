@@ -1,28 +1,30 @@
--- Where bytes are read as no answer, there are bytes that are refused for it.
-use Rattle.std.proofs.Common.{◌≡◌, ◌≤◌, ℕ, Bool, true, false, List, length, Result, Ok, Err}
+-- Where bytes are read as no answer, they are refused for what is told, unless memory ran out.
+use Rattle.std.proofs.Common.{◌≡◌, ◌≢◌, ◌≤◌, ℕ, List, length, Result, Ok, Err, refl}
 use Rattle.rail_base.specs.declared.limits.TheConstants.{MOST_FILE_BYTES}
 use Rattle.rail_base.specs.Answers.{Gives, Unless}
 use Rattle.answer_text.specs.declared.answer.Answer.{Answer}
 use Rattle.answer_text.specs.declared.refusal.AnswerRefusal.{AnswerRefusal}
+use Rattle.answer_text.specs.declared.refusal.AnswerRefusal.TheVariants.{BadLine, MissingEnd, Trailing, TooManyNodes}
+use Rattle.answer_text.specs.declared.refusal.AnswerRefusal.TheVariants.{NoMemory}
 use Rattle.answer_text.specs.Grammar.{IsRefused, IsText, is_memory}
 use Rattle.run_documents.specs.AnswerFiles.{AreRefusedFor}
 
-module _ (bytes : List ℕ) (refusal : AnswerRefusal) where
+module _ (bytes : List ℕ) (few : length bytes ≤ MOST_FILE_BYTES) where
   -- no answer has these bytes as its text, unless memory ran out
-  abbrev IsOther : Bool → Answer → Type 0
-  IsOther memory answer = Unless memory (◌≡◌ {A = Result Answer AnswerRefusal} (Ok answer) (Err refusal))
+  abbrev NoText : AnswerRefusal → Type 0
+  NoText refusal = (answer : Answer) → IsText bytes answer → Gives {X = Answer} is_memory (Err refusal) (Ok answer)
 
-  by_memory : (memory : Bool) → length bytes ≤ MOST_FILE_BYTES → Unless memory (IsRefused bytes refusal)
-      → ((answer : Answer) → IsText bytes answer → IsOther memory answer)
-      → Unless memory ((some : List ℕ) × AreRefusedFor some refusal)
-  by_memory true few refused other = tt
-  by_memory false few refused other =
-      (bytes, record { few = few; refused = refused; none = λ answer is. apart answer (other answer is) })
-    where
-      apart : (answer : Answer) → ◌≡◌ {A = Result Answer AnswerRefusal} (Ok answer) (Err refusal) → ⊥
-      apart answer e = absurd cc
+  apart : (answer : Answer) (refusal : AnswerRefusal) → ◌≡◌ {A = Result Answer AnswerRefusal} (Ok answer) (Err refusal) → ⊥
+  apart answer refusal e = absurd cc
 
-  pub some_are_refused : length bytes ≤ MOST_FILE_BYTES → Unless (is_memory refusal) (IsRefused bytes refusal)
-      → ((answer : Answer) → IsText bytes answer → Gives {X = Answer} is_memory (Err refusal) (Ok answer))
-      → Unless (is_memory refusal) ((some : List ℕ) × AreRefusedFor some refusal)
-  some_are_refused = by_memory (is_memory refusal)
+  pub are_refused : (refusal : AnswerRefusal) → refusal ≢ NoMemory → Unless (is_memory refusal) (IsRefused bytes refusal)
+      → NoText refusal → AreRefusedFor bytes refusal
+  are_refused (BadLine line) not refused other =
+      record { few = few; refused = refused; none = λ answer is. apart answer (BadLine line) (other answer is) }
+  are_refused MissingEnd not refused other =
+      record { few = few; refused = refused; none = λ answer is. apart answer MissingEnd (other answer is) }
+  are_refused (Trailing line) not refused other =
+      record { few = few; refused = refused; none = λ answer is. apart answer (Trailing line) (other answer is) }
+  are_refused TooManyNodes not refused other =
+      record { few = few; refused = refused; none = λ answer is. apart answer TooManyNodes (other answer is) }
+  are_refused NoMemory not refused other = absurd (not refl)

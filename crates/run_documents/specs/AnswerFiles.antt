@@ -1,11 +1,10 @@
 -- The answer of a folder, or what is wrong with its file.
 use Rattle.std.specs.Prelude.{ℕ, ◌≡◌, ◌<◌, ◌≤◌, List, ◌++◌, length, codes, Bool, IsTrue, Result, Ok, Err, ⊤}
 use Rattle.rail_base.specs.declared.limits.TheConstants.{MOST_FILE_BYTES}
-use Rattle.rail_base.specs.Answers.{Unless}
 use Rattle.rail_io.specs.Folders.{Files, Rose, RosePast, file_at}
 use Rattle.answer_text.specs.declared.answer.Answer.{Answer}
 use Rattle.answer_text.specs.declared.refusal.AnswerRefusal.{AnswerRefusal}
-use Rattle.answer_text.specs.Grammar.{IsRefused, IsText, is_memory}
+use Rattle.answer_text.specs.Grammar.{IsRefused, IsText}
 use Rattle.run_documents.specs.declared.answer_file.AnswerError.{AnswerError}
 use Rattle.run_documents.specs.declared.answer_file.AnswerError.TheVariants.{CannotRead, TooLong, Refused}
 
@@ -34,11 +33,11 @@ pub record AreRefusedFor (bytes : List ℕ) (refusal : AnswerRefusal) : Type 0 w
   pub refused : IsRefused bytes refusal
   pub none : (answer : Answer) → ¬ IsText bytes answer
 
--- what is wrong with the file; a file that could not be read, and want of memory, say nothing of it
+-- what is wrong with the file; that it could not be read says nothing of it
 abbrev pub IsWrongAnswer : Files → List ℕ → AnswerError → Type 0
 IsWrongAnswer files dir CannotRead = ⊤
 IsWrongAnswer files dir TooLong = MOST_FILE_BYTES < length (answer_bytes files dir)
-IsWrongAnswer files dir (Refused refusal) = Unless (is_memory refusal) (AreRefusedFor (answer_bytes files dir) refusal)
+IsWrongAnswer files dir (Refused refusal) = AreRefusedFor (answer_bytes files dir) refusal
 
 -- the file is that of this answer, or it is wrong
 abbrev pub ReadsAnswer : Files → List ℕ → Result Answer AnswerError → Type 0
@@ -47,11 +46,11 @@ ReadsAnswer files dir (Err error) = IsWrongAnswer files dir error
 
 -- What an error says whatever the folder tells: the file could not be read only where the count of faults rose and a
 -- read of it may fail; it was too long only where more bytes were taken than an answer may have, or the count of them
--- was at 2^63; and for any other refusal but want of memory there are bytes that are refused for it.
+-- was at 2^63; and for any other refusal there are bytes that are refused for it.
 abbrev pub IsAnswerCaused : {F : Type 0} → (F → List ℕ → Bool) → (F → ℕ) → (F → ℕ) → List ℕ → F → F → AnswerError
     → Type 0
 IsAnswerCaused may_fail faults taken dir before after CannotRead =
     Rose (faults before) (faults after) × IsTrue (may_fail before (answer_path dir))
 IsAnswerCaused may_fail faults taken dir before after TooLong = RosePast MOST_FILE_BYTES (taken before) (taken after)
 IsAnswerCaused may_fail faults taken dir before after (Refused refusal) =
-    Unless (is_memory refusal) ((bytes : List ℕ) × AreRefusedFor bytes refusal)
+    (bytes : List ℕ) × AreRefusedFor bytes refusal

@@ -6,3 +6,5 @@ pub mod CheckTexts
 pub mod TrialTexts
 -- the document of what a run comes to
 pub mod Texts
+-- what an error of the tables comes to
+pub mod Errors

@@ -1,10 +1,10 @@
 //! The answer of a folder, read from its file.
 
-ghost use Rattle.std.specs.Prelude.{◌≡◌, Some, IfOk, IfErr, string_bytes};
+ghost use Rattle.std.specs.Prelude.{◌≡◌, ◌≤◌, Some, IfOk, IfErr, length, string_bytes};
 ghost use Rattle.rail_io.specs.Folders.{Files, OnlyReads};
 ghost use Rattle.answer_text.specs.Limits.{IsWithin};
-ghost use Rattle.rail_base.specs.declared.limits.TheConstants.{MOST_NODES};
-ghost use Rattle.run_documents.specs.AnswerFiles.{IsAnswerCaused, ReadsAnswer, answer_path};
+ghost use Rattle.rail_base.specs.declared.limits.TheConstants.{MOST_FILE_BYTES, MOST_NODES};
+ghost use Rattle.run_documents.specs.AnswerFiles.{AreRefusedFor, IsAnswerCaused, IsAnswerOf, ReadsAnswer, answer_path};
 
 use answer_text::{Answer, AnswerRefusal, read};
 use rail_base::NoMemory;
@@ -16,7 +16,7 @@ use thiserror::Error;
 /// The name of the answer's file, without the folder.
 pub(crate) const ANSWER_FILE: &str = "answer.txt";
 
-/// Why the answer of a folder was not read.
+/// Why there is no answer in a folder.
 #[derive(Clone, Copy, Debug, Error)]
 pub enum AnswerError {
     /// Its file could not be read.
@@ -25,7 +25,7 @@ pub enum AnswerError {
     /// Its file is too long.
     #[error("too long")]
     TooLong,
-    /// The bytes of its file are no answer, or memory ran out.
+    /// The bytes of its file are no answer.
     #[error("no answer")]
     Refused(AnswerRefusal),
 }
@@ -38,32 +38,48 @@ fn path_of(alloc: Global, dir: &str) -> Result<String, NoMemory>
     Ok(format!(in alloc; "{dir}/{name}")?)
 }
 
-/// The answer that the file `answer.txt` of a folder is.
+/// The answer that the file `answer.txt` of a folder is, or why there is none. The error is want of memory.
 ///
 /// - `CannotRead`: the count of failed reads rose, and a read of that file may fail.
 /// - `TooLong`: more bytes were handed out than an answer may have, or their count had reached 2^63; the file is
 ///   longer.
-/// - `Refused`: the bytes are no answer, for the first wrong line; or memory ran out. There are such bytes also where
-///   the folder doesn't tell what it holds.
-pub fn answer_in<F: Folder>(alloc: Global, folder: &mut F, dir: &str) -> Result<Answer, AnswerError>
-    ensures told { (files : Files) → F.holds folder.old ≡ Some files → ReadsAnswer files dir.now result }
-    ensures within { IfOk result (IsWithin MOST_NODES) }
-    ensures caused { IfErr result (IsAnswerCaused F.may_fail F.faults F.taken dir.now folder.old folder.new) }
+/// - `Refused`: the bytes are no answer, for the first wrong line. There are such bytes also where the folder doesn't
+///   tell what it holds.
+pub fn answer_in<F: Folder>(
+    alloc: Global,
+    folder: &mut F,
+    dir: &str,
+) -> Result<Result<Answer, AnswerError>, NoMemory>
+    ensures told { (files : Files) → F.holds folder.old ≡ Some files → IfOk result (ReadsAnswer files dir.now) }
+    ensures within { IfOk result (λ read. IfOk read (IsWithin MOST_NODES)) }
+    ensures caused { IfOk result (λ read.
+        IfErr read (IsAnswerCaused F.may_fail F.faults F.taken dir.now folder.old folder.new)) }
     ensures only_reads { OnlyReads F.holds F.may_fail F.faults F.taken folder.old folder.new }
 {
-    let Ok(path) = path_of(alloc, dir) else {
-        return Err(AnswerError::Refused(AnswerRefusal::NoMemory));
-    };
+    let path = path_of(alloc, dir)?;
     let bytes = match read_file(alloc, folder, path.as_str(), MOST_FILE_BYTES) {
         Ok(bytes) => bytes,
-        Err(FileRefusal::ReadFault) => return Err(AnswerError::CannotRead),
-        Err(FileRefusal::TooLong) => return Err(AnswerError::TooLong),
-        Err(FileRefusal::NoMemory) => {
-            return Err(AnswerError::Refused(AnswerRefusal::NoMemory));
-        }
+        Err(FileRefusal::ReadFault) => return Ok(Err(AnswerError::CannotRead)),
+        Err(FileRefusal::TooLong) => return Ok(Err(AnswerError::TooLong)),
+        Err(FileRefusal::NoMemory) => return Err(NoMemory),
     };
-    match read(alloc, bytes.as_slice()) {
-        Ok(answer) => Ok(answer),
-        Err(refusal) => Err(AnswerError::Refused(refusal)),
+    match answer_of(alloc, bytes.as_slice())? {
+        Ok(answer) => Ok(Ok(answer)),
+        Err(refusal) => Ok(Err(AnswerError::Refused(refusal))),
+    }
+}
+
+/// The answer whose text these bytes are, or why they are refused. The error is want of memory.
+fn answer_of(alloc: Global, bytes: &[u8]) -> Result<Result<Answer, AnswerRefusal>, NoMemory>
+    requires { length bytes.now ≤ MOST_FILE_BYTES }
+    ensures read { IfOk result (λ read. IfOk read (IsAnswerOf bytes.now)) }
+    ensures refused { IfOk result (λ read. IfErr read (AreRefusedFor bytes.now)) }
+{
+    match read(alloc, bytes) {
+        Ok(answer) => Ok(Ok(answer)),
+        Err(refusal) => match refusal {
+            AnswerRefusal::NoMemory => Err(NoMemory),
+            _ => Ok(Err(refusal)),
+        },
     }
 }

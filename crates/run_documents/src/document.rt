@@ -13,7 +13,7 @@ use crate::answer_file::{ANSWER_FILE, AnswerError};
 use crate::check_lines::check_line;
 use crate::outcome::Outcome;
 use answer_text::{Answer, AnswerRefusal, Head, print, write_head};
-use day_files::{ReadError, Refusal, file_name};
+use day_files::{Refusal, file_name};
 use day_simulator::StepFault;
 use rail_base::{Money, NoMemory, StationNo, TripNo, TypeNo, UnitNo};
 use rail_csv::Table;
@@ -37,8 +37,10 @@ pub fn document(alloc: Global, outcome: &Outcome) -> Result<Vec<u8>, NoMemory>
         Outcome::Reported(report) => Ok(report.items().to_vec(alloc)?),
         Outcome::NoPlan => Ok(String::from_str(alloc, "no plan\n")?.into_bytes()),
         Outcome::Usage => Ok(usage_text(alloc)?.into_bytes()),
-        Outcome::NoInputs(error) => Ok(no_inputs_line(alloc, error)?.into_bytes()),
+        Outcome::Refused(refusal) => Ok(refused_line(alloc, refusal)?.into_bytes()),
+        Outcome::CannotRead(table) => Ok(cannot_read_line(alloc, *table)?.into_bytes()),
         Outcome::NoAnswer(error) => Ok(no_answer_line(alloc, error)?.into_bytes()),
+        Outcome::NoMemory => Err(NoMemory),
     }
 }
 
@@ -86,30 +88,18 @@ fn head_line(alloc: Global, head: &Head) -> Result<Vec<u8>, NoMemory>
     Ok(line.into_bytes())
 }
 
-/// The line of a day or a plan that was not read. There is none for want of memory.
-fn no_inputs_line(alloc: Global, error: &ReadError) -> Result<String, NoMemory>
-    ensures { IfOk result (λ text. IsDocument (Outcome.NoInputs error.now) (string_bytes text)) }
-{
-    match error {
-        ReadError::Refused(refusal) => refused_line(alloc, refusal),
-        ReadError::CannotRead(table) => cannot_read_line(alloc, *table),
-        ReadError::NoMemory => Err(NoMemory),
-    }
-}
-
-/// The line of an answer that was not read. There is none for want of memory.
+/// The line of an answer that was not read.
 fn no_answer_line(alloc: Global, error: &AnswerError) -> Result<String, NoMemory>
     ensures { IfOk result (λ text. IsDocument (Outcome.NoAnswer error.now) (string_bytes text)) }
 {
     match *error {
         AnswerError::CannotRead => file_unread_line(alloc, ANSWER_FILE),
         AnswerError::TooLong => file_refused_line(alloc, ANSWER_FILE, "too long"),
-        AnswerError::Refused(AnswerRefusal::NoMemory) => Err(NoMemory),
         AnswerError::Refused(refusal) => refused_answer_line(alloc, refusal),
     }
 }
 
-/// The line of an answer file that is the text of no answer, for a cause that is not want of memory.
+/// The line of an answer file that is the text of no answer.
 fn refused_answer_line(alloc: Global, refusal: AnswerRefusal) -> Result<String, NoMemory>
     ensures { IfOk result (λ line. string_bytes line ≡ file_refused_line answer_file (answer_refusal_text refusal)) }
 {

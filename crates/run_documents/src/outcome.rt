@@ -3,9 +3,10 @@
 use crate::answer_file::AnswerError;
 use answer_check::AnswerVerdict;
 use answer_text::{Answer, Head};
-use day_files::ReadError;
+use day_files::{ReadError, Refusal};
 use day_simulator::StepFault;
 use rail_base::{Bytes, Money};
+use rail_csv::Table;
 
 /// What a run comes to: the document that it writes and the status that it ends with follow from it.
 #[derive(Drop)]
@@ -38,8 +39,27 @@ pub enum Outcome {
     NoPlan,
     /// The words are not understood.
     Usage,
-    /// There is no day, or no plan of it: a file could not be read or is refused. Or memory ran out, wherever it did.
-    NoInputs(ReadError),
-    /// There is no answer for the day: its file could not be read or is refused, or memory ran out.
+    /// There is no day, or no plan of it: a file is refused.
+    Refused(Refusal),
+    /// There is no day, or no plan of it: the file of this table could not be read.
+    CannotRead(Table),
+    /// There is no answer for the day: its file could not be read or is refused.
     NoAnswer(AnswerError),
+    /// Memory ran out; there is no document.
+    NoMemory,
+}
+
+impl From<ReadError> for Outcome {
+    ghost use Rattle.std.specs.Prelude.{◌≡◌};
+    ghost use Rattle.run_documents.specs.Errors.{outcome_of_error};
+
+    ghost from_gives = { λ error outcome. outcome ≡ outcome_of_error error };
+
+    fn from(error: ReadError) -> Outcome {
+        match error {
+            ReadError::Refused(refusal) => Outcome::Refused(refusal),
+            ReadError::CannotRead(table) => Outcome::CannotRead(table),
+            ReadError::NoMemory => Outcome::NoMemory,
+        }
+    }
 }
