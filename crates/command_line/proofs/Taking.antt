@@ -3,7 +3,7 @@ use Rattle.std.proofs.Common.{◌≡◌, ◌≤◌, ◌+◌, ◌∙◌, refl, ap
 use Rattle.std.proofs.Common.{Option, Some, cond, length, arith, Bor}
 use Rattle.std.specs.Prelude.{◌&&◌, ◌==◌, find, fold, nat_le, option_map, slice_get, ⊤}
 use Rattle.std.specs.Str.{bytes_eq}
-use Rattle.std.proofs.lemmas.Bool.{and_from}
+use Rattle.std.proofs.lemmas.Bool.{and_from, and_parts}
 use Rattle.std.proofs.lemmas.Bool.Decides.{nat_tests}
 use Rattle.clap.specs.declared.parser.matches.Found.{Found}
 use Rattle.clap.specs.Matches.{first_value}
@@ -192,10 +192,6 @@ option_text form place asked (OneWord name value ∷ items) =
 
 -- ---- words that fit the form
 
-both : (a b : Bool) → (a && b) ≡ true → (a ≡ true) × (b ≡ true)
-both true b h = (refl, h)
-both false b h = absurd cc
-
 abbrev counts_fit : Form → Parts → Bool
 counts_fit form parts = (length parts.positional == places form)
     && (nat_le (length parts.nodes) (times form) && nat_le (length parts.rounds) (times form))
@@ -204,9 +200,9 @@ room : (form : Form) (items : List Item) (parts : Parts)
     → parts ≡ clean (positional_in items) (values_in Nodes items) (values_in Rounds items)
     → counts_fit form parts ≡ true → HasRoomFor form First none_given items
 room form items parts same fit =
-    let counts = both (length parts.positional == places form) _ fit in
+    let counts = and_parts (length parts.positional == places form) _ fit in
     let options =
-    both (nat_le (length parts.nodes) (times form)) (nat_le (length parts.rounds) (times form)) counts.1 in
+    and_parts (nat_le (length parts.nodes) (times form)) (nat_le (length parts.rounds) (times form)) counts.1 in
     let places_are : length (positional_in items) ≤ places form =
     subst (λ (p : Parts). length p.positional ≤ places form) same (grind (arith, nat_tests, counts.0)) in
     let nodes_are : length (values_in Nodes items) ≤ times form =
@@ -230,7 +226,7 @@ pub record IsTaken (form : Form) (words : List Text) : Type 0 where
 
 pub is_taken : (form : Form) (words : List Text) → fits form (parts_of words) ≡ true → IsTaken form words
 is_taken form words fit =
-    let whole = both (is_whole (parts_of words)) (counts_fit form (parts_of words)) fit in
+    let whole = and_parts (is_whole (parts_of words)) (counts_fit form (parts_of words)) fit in
     let items : Made words = made words [] [] [] whole.0 in
     let parts : parts_of words ≡ clean (positional_in items.0) (values_in Nodes items.0) (values_in Rounds items.0) =
     ap parts_of items.2 ∙ parts_are items.0 [] [] [] items.1 in

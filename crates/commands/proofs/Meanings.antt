@@ -3,6 +3,7 @@ use Rattle.std.proofs.Common.{◌≡◌, ◌≤◌, ℕ, Bool, true, false, ◌&
 use Rattle.std.proofs.Common.{length, refl, sym, ap, subst, ◌∙◌, inl, inr, codes, arith}
 use Rattle.std.specs.Prelude.{nat_le, if◌then◌else◌, option_map, option_and_then, slice_get}
 use Rattle.std.specs.Str.{bytes_eq}
+use Rattle.std.proofs.lemmas.Bool.{and_parts}
 use Rattle.std.proofs.lemmas.Bool.Decides.{nat_tests}
 use Rattle.std.proofs.lemmas.Slice.Eq.{bytes_eq-Decides}
 use Rattle.rail_base.specs.declared.limits.TheConstants.{MOST_BRANCHINGS, MOST_ROUNDS, MOST_TRIPS}
@@ -30,10 +31,6 @@ le_true a b h = grind (arith, nat_tests)
 le_of : (a b : ℕ) → nat_le a b ≡ true → a ≤ b
 le_of a b h = grind (arith, nat_tests)
 
-both : (a b : Bool) → (a && b) ≡ true → (a ≡ true) × (b ≡ true)
-both true b h = (refl, h)
-both false b h = absurd cc
-
 if_some : {X : Type 0} (b : Bool) (x y : X) → ◌≡◌ {A = Option X} (if b then Some x else None) (Some y)
     → (b ≡ true) × (x ≡ y)
 if_some true x y e = (refl, cc)
@@ -55,10 +52,10 @@ number_back most text number e =
     if_some (nat_le 1 (length text) &&
     (nat_le (length text) MOST_DIGITS && (are_digits text && nat_le (number_of text) most))) (number_of text) number e in
     let first =
-    both (nat_le 1 (length text))
+    and_parts (nat_le 1 (length text))
     (nat_le (length text) MOST_DIGITS && (are_digits text && nat_le (number_of text) most)) found.0 in
-    let second = both (nat_le (length text) MOST_DIGITS) (are_digits text && nat_le (number_of text) most) first.1 in
-    let third = both (are_digits text) (nat_le (number_of text) most) second.1 in
+    let second = and_parts (nat_le (length text) MOST_DIGITS) (are_digits text && nat_le (number_of text) most) first.1 in
+    let third = and_parts (are_digits text) (nat_le (number_of text) most) second.1 in
     let fits : number_of text ≤ most = le_of (number_of text) most third.1 in
     record {
       not_empty = le_of 1 (length text) first.0;
@@ -95,8 +92,8 @@ record IsSized (form : Form) (p n r : WordList) : Type 0 where
 
 sized : (form : Form) (p n r : WordList) → fits form (clean p n r) ≡ true → IsSized form p n r
 sized form p n r fit =
-    let first = both (length p == places form) (nat_le (length n) (times form) && nat_le (length r) (times form)) fit in
-    let second = both (nat_le (length n) (times form)) (nat_le (length r) (times form)) first.1 in
+    let first = and_parts (length p == places form) (nat_le (length n) (times form) && nat_le (length r) (times form)) fit in
+    let second = and_parts (nat_le (length n) (times form)) (nat_le (length r) (times form)) first.1 in
     record {
       as_many = grind (arith, nat_tests, first.0);
       few_nodes = le_of (length n) (times form) second.0;
@@ -145,7 +142,7 @@ trips_forth text trips is some even =
 even_back : (trips found : ℕ) → even_trips found ≡ Some trips → (found ≡ trips) × (2 ≤ trips) × (trips % 2 ≡ 0)
 even_back trips found e =
     let is = if_some (nat_le 2 found && (found % 2 == 0)) found trips e in
-    let tests = both (nat_le 2 found) (found % 2 == 0) is.0 in
+    let tests = and_parts (nat_le 2 found) (found % 2 == 0) is.0 in
     let even : found % 2 ≡ 0 = grind (arith, nat_tests, tests.1) in
     (is.1, subst (λ (n : ℕ). 2 ≤ n) is.1 (le_of 2 found tests.0), subst (λ (n : ℕ). n % 2 ≡ 0) is.1 even)
 
@@ -367,7 +364,7 @@ understood (program ∷ []) command e = absurd cc
 understood (program ∷ word ∷ rest) command e = elim (cases (fits (form_of word) (parts_of rest))) [
   | inr broken ↦ let at : named_plain word (parts_of rest) ≡ None = rw broken refl in
       let never : ◌≡◌ {A = Option Command} None (Some command) = sym at ∙ e in absurd cc
-  | inl fit ↦ let items : Made rest = made rest [] [] [] (both (is_whole (parts_of rest)) _ fit).0 in
+  | inl fit ↦ let items : Made rest = made rest [] [] [] (and_parts (is_whole (parts_of rest)) _ fit).0 in
       let p : WordList = positional_in items.0 in
       let n : WordList = values_in Nodes items.0 in
       let r : WordList = values_in Rounds items.0 in

@@ -1,6 +1,6 @@
 //! Numbers on the command line.
 
-ghost use Rattle.std.specs.Prelude.{◌≡◌, ◌≤◌, length, Some, None, if◌then◌else◌, option_map, IfSome};
+ghost use Rattle.std.specs.Prelude.{◌≡◌, ◌≤◌, Some, None, option_map, IfSome};
 ghost use Rattle.commands.specs.Commands.{number_up_to, option_number};
 
 use crate::command::MOST_DIGITS;
