@@ -61,7 +61,7 @@ fn matches<'a>(alloc: Global, form: Form, words: &'a [&'a str]) -> Result<ArgMat
     }
 }
 
-/// The words from a place on, counted from 0.
+/// The words from a place on, counted from 0. The error is want of memory.
 pub fn words_after<'a>(
     alloc: Global,
     words: &'a Words,

@@ -80,7 +80,7 @@ file_unread_line file = codes "cannot read " ++ (file ++ line_end)
 abbrev pub cannot_read_line : Table → List ℕ
 cannot_read_line table = file_unread_line (file_name table)
 
--- why bytes are no answer; want of memory has no text
+-- why bytes are no answer; want of memory has the empty text, which is never written
 abbrev pub answer_refusal_text : AnswerRefusal → List ℕ
 answer_refusal_text (BadLine line) = codes "line " ++ decimal line
 answer_refusal_text MissingEnd = codes "no end line"

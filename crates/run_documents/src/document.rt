@@ -107,7 +107,7 @@ fn refused_answer_line(alloc: Global, refusal: AnswerRefusal) -> Result<String, 
     file_refused_line(alloc, ANSWER_FILE, why.as_str())
 }
 
-/// Why bytes are no answer. Want of memory has no text.
+/// Why bytes are no answer. Want of memory has the empty text, which is never written.
 fn answer_refusal_text(alloc: Global, refusal: AnswerRefusal) -> Result<String, NoMemory>
     ensures { IfOk result (λ text. string_bytes text ≡ answer_refusal_text refusal) }
 {
