@@ -10,8 +10,8 @@ use Rattle.run_documents.specs.declared.outcome.Outcome.TheVariants.{NoAnswer, N
 use Rattle.commands.specs.declared.command.Command.{Command}
 use Rattle.commands.specs.declared.command.Command.TheVariants as command
 use Rattle.commands.specs.PlainForm.{IsPlainForm}
-use Rattle.planner_app.specs.declared.reports.Report.{Report}
-use Rattle.planner_app.specs.declared.reports.Report.TheVariants as report
+use Rattle.planner_app.specs.declared.reports.ReportKind.{ReportKind}
+use Rattle.planner_app.specs.declared.reports.ReportKind.TheVariants as report
 use Rattle.planner_app.specs.Outcomes.{AskAbout, Says, command_for, reads_answer}
 use Rattle.planner_app.proofs.Asking.{one_command}
 
@@ -40,7 +40,7 @@ IsAllowed (CannotRead table) n = ⊤
 IsAllowed (NoAnswer error) n = (2 ≤ n) × (n ≤ 5)
 IsAllowed NoMemory n = ⊤
 
-pub report_code : (kind : Report) (dir : List ℕ) → (3 ≤ code (command_for kind dir)) × (code (command_for kind dir) ≤ 5)
+pub report_code : (kind : ReportKind) (dir : List ℕ) → (3 ≤ code (command_for kind dir)) × (code (command_for kind dir) ≤ 5)
 report_code report.Duties dir = (omega arith, omega arith)
 report_code report.Yards dir = (omega arith, omega arith)
 report_code report.Costs dir = (omega arith, omega arith)
@@ -58,7 +58,7 @@ module _ (words : WordList) (files : Files) (mine : Command) (asked : IsPlainFor
   same_code : (named : Command) → IsPlainForm words named → code mine ≡ code named
   same_code named form = ap code (one_command words mine named asked form)
 
-  report_here : (kind : Report) (dir : List ℕ) → IsPlainForm words (command_for kind dir) → (3 ≤ code mine) × (code mine ≤ 5)
+  report_here : (kind : ReportKind) (dir : List ℕ) → IsPlainForm words (command_for kind dir) → (3 ≤ code mine) × (code mine ≤ 5)
   report_here kind dir form =
       let same = same_code (command_for kind dir) form in
       let within = report_code kind dir in

@@ -27,8 +27,8 @@ use Rattle.run_documents.specs.Texts.{IsDocument}
 use Rattle.commands.specs.declared.command.Command.{Command}
 use Rattle.commands.specs.declared.command.Command.TheVariants as command
 use Rattle.commands.specs.PlainForm.{IsPlainForm}
-use Rattle.planner_app.specs.declared.reports.Report.{Report}
-use Rattle.planner_app.specs.declared.reports.Report.TheVariants as report
+use Rattle.planner_app.specs.declared.reports.ReportKind.{ReportKind}
+use Rattle.planner_app.specs.declared.reports.ReportKind.TheVariants as report
 use Rattle.planner_app.specs.Statuses.{status_said}
 use Rattle.planner_app.specs.Outcomes.{AreAnswered, AskAbout, AskToCheck, AskToPlan, AskToReport, AskToSimulate}
 use Rattle.planner_app.specs.Outcomes.{OfDay, OfDayAndPlan, PlanRuns, Says, command_for, folder_of, reads_plan}
@@ -67,22 +67,22 @@ one_simulated words dir other first second =
     let same = one_command words (command.Simulate dir) (command.Simulate other) first second in cc
 
 -- the report that is asked for, and its folder
-abbrev kind_of : Command → Report
+abbrev kind_of : Command → ReportKind
 kind_of (command.Duties dir) = report.Duties
 kind_of (command.Yards dir) = report.Yards
 kind_of other = report.Costs
 
-kind_is : (kind : Report) (dir : List ℕ) → kind_of (command_for kind dir) ≡ kind
+kind_is : (kind : ReportKind) (dir : List ℕ) → kind_of (command_for kind dir) ≡ kind
 kind_is report.Duties dir = refl
 kind_is report.Yards dir = refl
 kind_is report.Costs dir = refl
 
-pub folder_is : (kind : Report) (dir : List ℕ) → folder_of (command_for kind dir) ≡ Some dir
+pub folder_is : (kind : ReportKind) (dir : List ℕ) → folder_of (command_for kind dir) ≡ Some dir
 folder_is report.Duties dir = refl
 folder_is report.Yards dir = refl
 folder_is report.Costs dir = refl
 
-pub one_report : (words : List (List ℕ)) (kind other : Report) (dir another : List ℕ) → AskToReport words kind dir
+pub one_report : (words : List (List ℕ)) (kind other : ReportKind) (dir another : List ℕ) → AskToReport words kind dir
     → AskToReport words other another → (other ≡ kind) × (another ≡ dir)
 one_report words kind other dir another first second =
     let same : command_for kind dir ≡ command_for other another =

@@ -29,8 +29,8 @@ use Rattle.run_documents.specs.AnswerFiles.{IsAnswerOf, IsWrongAnswer, answer_by
 use Rattle.commands.specs.declared.command.Command.{Command}
 use Rattle.commands.specs.declared.command.Command.TheVariants as command
 use Rattle.commands.specs.PlainForm.{IsPlainForm}
-use Rattle.planner_app.specs.declared.reports.Report.{Report}
-use Rattle.planner_app.specs.declared.reports.Report.TheVariants as report
+use Rattle.planner_app.specs.declared.reports.ReportKind.{ReportKind}
+use Rattle.planner_app.specs.declared.reports.ReportKind.TheVariants as report
 use Rattle.planner_app.specs.Outcomes.{AreAnswered, AskAbout, AskInVain, AskToCheck, AskToReport, AskToSimulate}
 use Rattle.planner_app.specs.Outcomes.{IsPlanned, IsTried, OfDay, OfDayAndPlan, PlanRuns, Says}
 use Rattle.planner_app.specs.Outcomes.{command_for, folder_of, reads_answer, reads_plan}
@@ -101,12 +101,12 @@ module _ (words : List (List ℕ)) (dir : List ℕ) (day : Day) (answer : Answer
   data IsJudged (it : Outcome) : Type 0 where
     ByVerdict : (verdict : AnswerVerdict) → IsAnswerVerdict day answer verdict → (verdict ≡ Valid → AskToCheck words dir)
         → it ≡ outcome.Checked answer.head verdict → IsJudged it
-    ByReport : (kind : Report) → AskToReport words kind dir → IsValid day answer
+    ByReport : (kind : ReportKind) → AskToReport words kind dir → IsValid day answer
         → it ≡ report_of (has_plan answer.head) (report_text kind day answer.runs) → IsJudged it
 
   -- the verdict on a valid answer is not told where a report is asked for
   not_told : (verdict : AnswerVerdict) → IsAnswerVerdict day answer verdict → (verdict ≡ Valid → AskToCheck words dir)
-      → (kind : Report) → AskToReport words kind dir → IsValid day answer → ⊥
+      → (kind : ReportKind) → AskToReport words kind dir → IsValid day answer → ⊥
   not_told verdict right alone kind asked valid =
       let check = alone (only_valid day answer valid verdict right) in
       let same = ap code (one_command words (command.Check dir) (command_for kind dir) check asked) in
@@ -121,7 +121,7 @@ module _ (words : List (List ℕ)) (dir : List ℕ) (day : Day) (answer : Answer
       absurd (not_told verdict right alone kind asked valid)
   one_judged one other (ByReport kind asked valid is) (ByReport kind' asked' valid' is') =
       let same : kind' ≡ kind = (one_report words kind kind' dir dir asked asked').0 in
-      is ∙ sym (subst (λ (k : Report). other ≡ report_of (has_plan answer.head) (report_text k day answer.runs)) same is')
+      is ∙ sym (subst (λ (k : ReportKind). other ≡ report_of (has_plan answer.head) (report_text k day answer.runs)) same is')
 
 -- ---- an answer is refused, or read
 
@@ -233,12 +233,12 @@ module _ (words : List (List ℕ)) (files : Files) where
   by_answer it dir about reads day accepted answered =
       ByTables dir about (not_both about.named reads) (Accepted day accepted answered)
 
-  report_reads : (kind : Report) (dir : List ℕ) → reads_answer (command_for kind dir) ≡ true
+  report_reads : (kind : ReportKind) (dir : List ℕ) → reads_answer (command_for kind dir) ≡ true
   report_reads report.Duties dir = refl
   report_reads report.Yards dir = refl
   report_reads report.Costs dir = refl
 
-  by_report : (it : Outcome) (dir : List ℕ) (kind : Report) → AskToReport words kind dir → (day : Day) (answer : Answer)
+  by_report : (it : Outcome) (dir : List ℕ) (kind : ReportKind) → AskToReport words kind dir → (day : Day) (answer : Answer)
       → AreAnswered files dir day answer → IsValid day answer
       → it ≡ report_of (has_plan answer.head) (report_text kind day answer.runs) → IsTold it
   by_report it dir kind asked day answer accepted valid is =

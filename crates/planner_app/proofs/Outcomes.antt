@@ -37,8 +37,8 @@ use Rattle.run_documents.specs.declared.outcome.Outcome.TheVariants.{NoAnswer, N
 use Rattle.run_documents.specs.AnswerFiles.{IsAnswerCaused, IsWrongAnswer}
 use Rattle.run_documents.specs.Errors.{outcome_of_error}
 use Rattle.commands.specs.declared.command.Command.TheVariants as command
-use Rattle.planner_app.specs.declared.reports.Report.{Report}
-use Rattle.planner_app.specs.declared.reports.Report.TheVariants as report
+use Rattle.planner_app.specs.declared.reports.ReportKind.{ReportKind}
+use Rattle.planner_app.specs.declared.reports.ReportKind.TheVariants as report
 use Rattle.planner_app.specs.Outcomes.{AreAnswered, AskAbout, AskInVain, AskToCheck, AskToPlan, AskToReport}
 use Rattle.planner_app.specs.Outcomes.{AskToSimulate}
 use Rattle.planner_app.specs.Outcomes.{AskToTry, HasCause, IsOutcome, IsReadBy, IsPlanned, IsReportOf}
@@ -58,22 +58,22 @@ about_simulated words dir asked = record { named = command.Simulate dir; asked =
 abbrev about_checked : (words : List (List ℕ)) (dir : List ℕ) → AskToCheck words dir → AskAbout words dir
 about_checked words dir asked = record { named = command.Check dir; asked = asked; folder = refl }
 
-report_folder : (kind : Report) (dir : List ℕ) → folder_of (command_for kind dir) ≡ Some dir
+report_folder : (kind : ReportKind) (dir : List ℕ) → folder_of (command_for kind dir) ≡ Some dir
 report_folder report.Duties dir = refl
 report_folder report.Yards dir = refl
 report_folder report.Costs dir = refl
 
-report_plain : (kind : Report) (dir : List ℕ) → reads_plan (command_for kind dir) ≡ false
+report_plain : (kind : ReportKind) (dir : List ℕ) → reads_plan (command_for kind dir) ≡ false
 report_plain report.Duties dir = refl
 report_plain report.Yards dir = refl
 report_plain report.Costs dir = refl
 
-report_reads : (kind : Report) (dir : List ℕ) → reads_answer (command_for kind dir) ≡ true
+report_reads : (kind : ReportKind) (dir : List ℕ) → reads_answer (command_for kind dir) ≡ true
 report_reads report.Duties dir = refl
 report_reads report.Yards dir = refl
 report_reads report.Costs dir = refl
 
-abbrev about_reported : (words : List (List ℕ)) (dir : List ℕ) (kind : Report) → AskToReport words kind dir → AskAbout words dir
+abbrev about_reported : (words : List (List ℕ)) (dir : List ℕ) (kind : ReportKind) → AskToReport words kind dir → AskAbout words dir
 about_reported words dir kind asked =
     record { named = command_for kind dir; asked = asked; folder = report_folder kind dir }
 
@@ -166,7 +166,7 @@ module _ {F : Type 0} (holds : F → Option Files) (may_fail : F → List ℕ �
       → IsErrorOf (λ read. read ≢ table.Plan) error → Caused error → Comes (outcome_of_error error)
   day_not_checked error asked = no_day (about_checked words dir asked) refl error
 
-  pub day_not_reported : (kind : Report) (error : ReadError) → AskToReport words kind dir → Given error
+  pub day_not_reported : (kind : ReportKind) (error : ReadError) → AskToReport words kind dir → Given error
       → IsErrorOf (λ read. read ≢ table.Plan) error → Caused error → Comes (outcome_of_error error)
   day_not_reported kind error asked = no_day (about_reported words dir kind asked) (report_plain kind dir) error
 
@@ -207,7 +207,7 @@ module _ {F : Type 0} (holds : F → Option Files) (may_fail : F → List ℕ �
       → IsAnswerCaused may_fail faults taken dir before after error → Comes (NoAnswer error)
   no_answer error day asked = answer_not_read (about_checked words dir asked) refl error day
 
-  pub answer_not_reported : (kind : Report) (error : AnswerError) (day : Day) → AskToReport words kind dir
+  pub answer_not_reported : (kind : ReportKind) (error : AnswerError) (day : Day) → AskToReport words kind dir
       → ((files : Files) → holds before ≡ Some files → (day_in files dir ≡ Ok day) × IsWrongAnswer files dir error)
       → IsAnswerCaused may_fail faults taken dir before after error → Comes (NoAnswer error)
   answer_not_reported kind error day asked =
@@ -258,7 +258,7 @@ module _ {F : Type 0} (holds : F → Option Files) (may_fail : F → List ℕ �
 
   -- ---- a report
 
-  rejected : (kind : Report) (head : Head) (verdict : AnswerVerdict) (day : Day) (answer : Answer) → AskToReport words kind dir
+  rejected : (kind : ReportKind) (head : Head) (verdict : AnswerVerdict) (day : Day) (answer : Answer) → AskToReport words kind dir
       → IsMadeDay day → IsWithin MOST_NODES answer → ((files : Files) → holds before ≡ Some files → AreAnswered files dir day answer)
       → IsVerdictOn day answer head verdict → verdict ≢ Valid → Comes (Checked head verdict)
   rejected kind head verdict day answer asked made within told on wrong = record {
@@ -278,7 +278,7 @@ module _ {F : Type 0} (holds : F → Option Files) (may_fail : F → List ℕ �
     caused = tt;
   }
 
-  reported : (kind : Report) (text : List ℕ) (day : Day) (answer : Answer) → AskToReport words kind dir
+  reported : (kind : ReportKind) (text : List ℕ) (day : Day) (answer : Answer) → AskToReport words kind dir
       → IsMadeDay day → IsWithin MOST_NODES answer → ((files : Files) → holds before ≡ Some files → AreAnswered files dir day answer)
       → IsReportOf kind day answer text → Comes (Reported text)
   reported kind text day answer asked made within told of = record {
@@ -297,7 +297,7 @@ module _ {F : Type 0} (holds : F → Option Files) (may_fail : F → List ℕ �
     caused = tt;
   }
 
-  without_plan : (kind : Report) (day : Day) (answer : Answer) → AskToReport words kind dir
+  without_plan : (kind : ReportKind) (day : Day) (answer : Answer) → AskToReport words kind dir
       → IsMadeDay day → IsWithin MOST_NODES answer → ((files : Files) → holds before ≡ Some files → AreAnswered files dir day answer)
       → IsValid day answer → has_plan answer.head ≡ false → Comes NoPlan
   without_plan kind day answer asked made within told valid none = record {
@@ -317,7 +317,7 @@ module _ {F : Type 0} (holds : F → Option Files) (may_fail : F → List ℕ �
     caused = tt;
   }
 
-  pub report_comes : (kind : Report) (it : Outcome) (day : Day) (answer : Answer) → AskToReport words kind dir
+  pub report_comes : (kind : ReportKind) (it : Outcome) (day : Day) (answer : Answer) → AskToReport words kind dir
       → IsMadeDay day → IsWithin MOST_NODES answer → ((files : Files) → holds before ≡ Some files → AreAnswered files dir day answer)
       → IsReportOutcome kind day answer it → Comes it
   report_comes kind (Checked head verdict) day answer asked made within told is =

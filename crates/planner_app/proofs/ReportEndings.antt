@@ -23,7 +23,7 @@ use Rattle.run_documents.specs.TrialTexts.{trial_text}
 use Rattle.commands.specs.declared.command.Command.{Command}
 use Rattle.commands.specs.declared.command.Command.TheVariants as command
 use Rattle.commands.specs.PlainForm.{IsPlainForm}
-use Rattle.planner_app.specs.declared.reports.Report.{Report}
+use Rattle.planner_app.specs.declared.reports.ReportKind.{ReportKind}
 use Rattle.planner_app.specs.Statuses.{status_said}
 use Rattle.planner_app.specs.Outcomes.{AreAnswered, AskToReport, AskToTry, IsTried, OfDay, OfDayAndPlan, Says}
 use Rattle.planner_app.specs.Outcomes.{command_for}
@@ -36,7 +36,7 @@ use Rattle.planner_app.proofs.Asking.{about_folder, one_command}
 use Rattle.planner_app.proofs.Endings.{answered_once, answered_right, at_answer, at_folder, day_or_not, folder_is}
 use Rattle.planner_app.proofs.Endings.{one_report, only_valid, refused_answer, same_answer, status_by_verdict}
 
-module _ (words : List (List ℕ)) (files : Files) (dir : List ℕ) (kind : Report) (asked : AskToReport words kind dir)
+module _ (words : List (List ℕ)) (files : Files) (dir : List ℕ) (kind : ReportKind) (asked : AskToReport words kind dir)
     (before after : Option (List ℕ)) where
   abbrev Ends : ℕ → Type 0
   Ends status = EndsReport files dir kind status before after
@@ -95,7 +95,7 @@ module _ (words : List (List ℕ)) (files : Files) (dir : List ℕ) (kind : Repo
     refused = (λ e. wrong, λ said. refl);
   }
 
-  here : (other : Report) (another : List ℕ) → AskToReport words other another → (other ≡ kind) × (another ≡ dir)
+  here : (other : ReportKind) (another : List ℕ) → AskToReport words other another → (other ≡ kind) × (another ≡ dir)
   here other another form = one_report words kind other dir another asked form
 
   by_verdict : (day : Day) (answer : Answer) (verdict : AnswerVerdict) → AreAnswered files dir day answer
@@ -123,7 +123,7 @@ module _ (words : List (List ℕ)) (files : Files) (dir : List ℕ) (kind : Repo
           let accepted : AreAnswered files dir says.day says.answer =
           at_folder words files dir says.dir says.day says.answer same.1 says.accepted in
           ends_reported says.day says.answer accepted says.of.valid says.of.planned
-          (subst (λ (k : Report). Appends (report_text k says.day says.answer.runs) before after) same.0
+          (subst (λ (k : ReportKind). Appends (report_text k says.day says.answer.runs) before after) same.0
           (subst (λ (t : List ℕ). Appends t before after) (is ∙ says.of.is) written))
       by outcome.NoPlan says text is written undisturbed allowed =
           let same = here says.kind says.dir says.asked in

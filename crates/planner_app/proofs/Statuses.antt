@@ -12,7 +12,7 @@ use Rattle.run_documents.specs.declared.outcome.Outcome.{Outcome}
 use Rattle.run_documents.specs.declared.outcome.Outcome.TheVariants.{Planned, Tried, Runs, Stops, Checked, Reported}
 use Rattle.run_documents.specs.declared.outcome.Outcome.TheVariants.{NoPlan, Usage, Refused, CannotRead}
 use Rattle.run_documents.specs.declared.outcome.Outcome.TheVariants.{NoAnswer, NoMemory}
-use Rattle.planner_app.specs.declared.reports.Report.{Report}
+use Rattle.planner_app.specs.declared.reports.ReportKind.{ReportKind}
 use Rattle.planner_app.specs.Statuses.{status_said}
 use Rattle.planner_app.specs.Outcomes.{AskInVain, AskToCheck, AskToPlan, AskToReport, AskToSimulate, AskToTry, HasCause}
 use Rattle.planner_app.specs.Outcomes.{IsOutcome}
@@ -108,7 +108,7 @@ module _ {F : Type 0} (holds : F → Option Files) (may_fail : F → List ℕ �
       by (Part text d appends rose six) = absurd (undisturbed.1 six)
       by (Nothing same seven) = absurd (undisturbed.2 seven)
 
-  pub ends_report : (files : Files) (dir : List ℕ) (kind : Report) → holds before ≡ Some files → AskToReport words kind dir
+  pub ends_report : (files : Files) (dir : List ℕ) (kind : ReportKind) → holds before ≡ Some files → AskToReport words kind dir
       → IsUndisturbed status → EndsReport files dir kind status written written'
   ends_report files dir kind tells asked undisturbed = by wrote
     where

@@ -12,7 +12,7 @@ use Rattle.run_documents.specs.declared.outcome.Outcome.{Outcome}
 use Rattle.run_documents.specs.declared.outcome.Outcome.TheVariants.{Planned, Tried, CannotRead, NoAnswer}
 use Rattle.run_documents.specs.declared.outcome.Outcome.TheVariants.{NoMemory}
 use Rattle.run_documents.specs.AnswerFiles.{answer_bytes}
-use Rattle.planner_app.specs.declared.reports.Report.{Report}
+use Rattle.planner_app.specs.declared.reports.ReportKind.{ReportKind}
 use Rattle.planner_app.specs.Outcomes.{Says}
 use Rattle.planner_app.specs.Statuses.{EndsCheck, EndsReport, IsUndisturbed, status_of}
 
@@ -27,7 +27,7 @@ HeadlinesAreValid = (files : Files) (dir : List ℕ) (day : Day) (granted : ℕ)
 
 -- And a report on it ends with status 0, where the answer has a plan.
 abbrev pub HeadlinesAreReported : Type 0
-HeadlinesAreReported = (files : Files) (dir : List ℕ) (day : Day) (granted : ℕ) (answer : Answer) (kind : Report)
+HeadlinesAreReported = (files : Files) (dir : List ℕ) (day : Day) (granted : ℕ) (answer : Answer) (kind : ReportKind)
     (status : ℕ) (before after : Option (List ℕ)) →
     day_in files dir ≡ Ok day → answer_bytes files dir ≡ text_of answer → IsHeadline day granted answer →
     IsTrue (has_plan answer.head) → EndsReport files dir kind status before after → status ≡ 0

@@ -37,8 +37,8 @@ use Rattle.run_documents.specs.AnswerFiles.{IsAnswerCaused, IsAnswerOf, IsWrongA
 use Rattle.commands.specs.declared.command.Command.{Command}
 use Rattle.commands.specs.declared.command.Command.TheVariants as command
 use Rattle.commands.specs.PlainForm.{IsPlainForm}
-use Rattle.planner_app.specs.declared.reports.Report.{Report}
-use Rattle.planner_app.specs.declared.reports.Report.TheVariants as report
+use Rattle.planner_app.specs.declared.reports.ReportKind.{ReportKind}
+use Rattle.planner_app.specs.declared.reports.ReportKind.TheVariants as report
 use Rattle.planner_app.specs.ReportTexts.{report_text}
 
 -- ---- what the words ask for
@@ -55,12 +55,12 @@ abbrev pub AskToCheck : List (List ℕ) → List ℕ → Type 0
 AskToCheck words dir = IsPlainForm words (command.Check dir)
 
 -- the command of a report on the answer of a folder
-abbrev pub command_for : Report → List ℕ → Command
+abbrev pub command_for : ReportKind → List ℕ → Command
 command_for report.Duties dir = command.Duties dir
 command_for report.Yards dir = command.Yards dir
 command_for report.Costs dir = command.Costs dir
 
-abbrev pub AskToReport : List (List ℕ) → Report → List ℕ → Type 0
+abbrev pub AskToReport : List (List ℕ) → ReportKind → List ℕ → Type 0
 AskToReport words kind dir = IsPlainForm words (command_for kind dir)
 
 abbrev pub AskToTry : List (List ℕ) → ℕ → ℕ → ℕ → ℕ → Type 0
@@ -157,7 +157,7 @@ pub record IsChecked (words : List (List ℕ)) (files : Files) (head : Head) (ve
   pub on : IsVerdictOn day answer head verdict
 
 -- a report on the plan of a valid answer of a day
-pub record IsReportOf (kind : Report) (day : Day) (answer : Answer) (text : List ℕ) : Type 0 where
+pub record IsReportOf (kind : ReportKind) (day : Day) (answer : Answer) (text : List ℕ) : Type 0 where
   pub valid : IsValid day answer
   pub planned : IsTrue (has_plan answer.head)
   pub is : text ≡ report_text kind day answer.runs
@@ -165,7 +165,7 @@ pub record IsReportOf (kind : Report) (day : Day) (answer : Answer) (text : List
 -- the report on the answer of the files
 pub record IsReported (words : List (List ℕ)) (files : Files) (text : List ℕ) : Type 0 where
   pub dir : List ℕ
-  pub kind : Report
+  pub kind : ReportKind
   pub asked : AskToReport words kind dir
   pub day : Day
   pub answer : Answer
@@ -175,7 +175,7 @@ pub record IsReported (words : List (List ℕ)) (files : Files) (text : List ℕ
 -- the answer of the files is valid, and has no plan to report on
 pub record HasNoPlan (words : List (List ℕ)) (files : Files) : Type 0 where
   pub dir : List ℕ
-  pub kind : Report
+  pub kind : ReportKind
   pub asked : AskToReport words kind dir
   pub day : Day
   pub answer : Answer
@@ -251,9 +251,9 @@ IsSound words (Stops fault) = (dir : List ℕ) × AskToSimulate words dir
 IsSound words (Checked head verdict) = (dir : List ℕ) × (about : AskAbout words dir) × (reads_answer about.named ≡ true)
     × (verdict ≡ Valid → AskToCheck words dir) × (day : Day) × IsMadeDay day
     × (answer : Answer) × IsWithin MOST_NODES answer × IsVerdictOn day answer head verdict
-IsSound words (Reported text) = (dir : List ℕ) × (kind : Report) × AskToReport words kind dir
+IsSound words (Reported text) = (dir : List ℕ) × (kind : ReportKind) × AskToReport words kind dir
     × (day : Day) × IsMadeDay day × (answer : Answer) × IsWithin MOST_NODES answer × IsReportOf kind day answer text
-IsSound words NoPlan = (dir : List ℕ) × (kind : Report) × AskToReport words kind dir
+IsSound words NoPlan = (dir : List ℕ) × (kind : ReportKind) × AskToReport words kind dir
     × (day : Day) × IsMadeDay day × (answer : Answer) × IsWithin MOST_NODES answer × IsValid day answer
     × (has_plan answer.head ≡ false)
 IsSound words other = ⊤

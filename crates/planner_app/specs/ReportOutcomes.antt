@@ -10,11 +10,11 @@ use Rattle.answer_check.specs.Validity.{IsValid}
 use Rattle.day_planner.specs.Headline.{IsHeadline}
 use Rattle.run_documents.specs.declared.outcome.Outcome.{Outcome}
 use Rattle.run_documents.specs.declared.outcome.Outcome.TheVariants.{Checked, Reported, NoPlan, NoMemory, Tried}
-use Rattle.planner_app.specs.declared.reports.Report.{Report}
+use Rattle.planner_app.specs.declared.reports.ReportKind.{ReportKind}
 use Rattle.planner_app.specs.Outcomes.{IsReportOf, IsVerdictOn}
 
 -- what is wrong with the answer; or the report on its plan; or that it has none
-abbrev pub IsReportOutcome : Report → Day → Answer → Outcome → Type 0
+abbrev pub IsReportOutcome : ReportKind → Day → Answer → Outcome → Type 0
 IsReportOutcome kind day answer (Checked head verdict) = IsVerdictOn day answer head verdict × (verdict ≢ Valid)
 IsReportOutcome kind day answer (Reported text) = IsReportOf kind day answer text
 IsReportOutcome kind day answer NoPlan = IsValid day answer × (has_plan answer.head ≡ false)

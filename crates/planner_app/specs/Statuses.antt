@@ -28,7 +28,7 @@ use Rattle.run_documents.specs.declared.outcome.Outcome.TheVariants.{NoAnswer, N
 use Rattle.run_documents.specs.AnswerFiles.{answer_bytes}
 use Rattle.run_documents.specs.Texts.{IsDocument}
 use Rattle.run_documents.specs.TrialTexts.{trial_text}
-use Rattle.planner_app.specs.declared.reports.Report.{Report}
+use Rattle.planner_app.specs.declared.reports.ReportKind.{ReportKind}
 use Rattle.planner_app.specs.Outcomes.{AreAnswered, PlanRuns}
 use Rattle.planner_app.specs.ReportTexts.{report_text}
 
@@ -92,7 +92,7 @@ pub record EndsCheck (files : Files) (dir : List ℕ) (status : ℕ) : Type 0 wh
   pub refused : (status ≡ 3) ↔ IsAnswerRefusedIn files dir
 
 -- the status with which a report on the answer of a folder ends, and what was written
-pub record EndsReport (files : Files) (dir : List ℕ) (kind : Report) (status : ℕ)
+pub record EndsReport (files : Files) (dir : List ℕ) (kind : ReportKind) (status : ℕ)
     (before after : Option (List ℕ)) : Type 0 where
   -- 0 exactly where the files are accepted, and the answer is valid and has a plan
   pub reported : (status ≡ 0) ↔ ((day : Day) × (answer : Answer) × AreAnswered files dir day answer × IsValid day answer

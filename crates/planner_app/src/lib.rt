@@ -10,7 +10,7 @@ mod top;
 pub use answer_check::{AnswerVerdict, check_answer, checking};
 pub use commands::{Command, Text, WordsRefusal, command, command_words, read_words};
 pub use day_reports::{costs_table, duties_table, yards_table};
-pub use reports::Report;
+pub use reports::ReportKind;
 pub use run_documents::{AnswerError, Outcome, answer_file, outcome};
 pub use top::railplan;
 pub use trial_day::trial_tables;

@@ -22,7 +22,7 @@ use timetable::{Instance, NamedPlan};
 
 /// What a report tells of a plan.
 #[derive(Clone, Copy)]
-pub enum Report {
+pub enum ReportKind {
     /// The trips of each unit.
     Duties,
     /// The units in the yards of the stations.
@@ -32,7 +32,12 @@ pub enum Report {
 }
 
 /// Reports on the answer of a folder.
-pub(crate) fn reported<F: Folder>(alloc: Global, folder: &mut F, dir: &str, kind: Report) -> Outcome
+pub(crate) fn reported<F: Folder>(
+    alloc: Global,
+    folder: &mut F,
+    dir: &str,
+    kind: ReportKind,
+) -> Outcome
     ensures outcome { (words : List (List ℕ)) → AskToReport words kind dir.now
         → IsOutcome F.holds F.may_fail F.faults F.taken words folder.old folder.new result }
     ensures only_reads { OnlyReads F.holds F.may_fail F.faults F.taken folder.old folder.new }
@@ -57,7 +62,7 @@ fn report_on(
     alloc: Global,
     instance: &Instance,
     answer: &Answer,
-    kind: Report,
+    kind: ReportKind,
 ) -> Result<Outcome, NoMemory>
     requires { length answer.now.runs ≤ MOST_TRIPS }
     ensures { IfOk result (IsReportOutcome kind instance.now answer.now) }
@@ -81,7 +86,7 @@ fn table_of(
     alloc: Global,
     instance: &Instance,
     answer: &Answer,
-    kind: Report,
+    kind: ReportKind,
 ) -> Result<Vec<u8>, NoMemory>
     requires few { length answer.now.runs ≤ MOST_TRIPS }
     requires runs { running.Runs instance.now answer.now.runs }
@@ -89,12 +94,12 @@ fn table_of(
 {
     let plan = NamedPlan::of(copy_of(alloc, answer.runs.items())?);
     match kind {
-        Report::Duties => duties_table(alloc, instance, &plan),
-        Report::Yards => {
+        ReportKind::Duties => duties_table(alloc, instance, &plan),
+        ReportKind::Yards => {
             let picks = picks_of_plan(alloc, instance, &plan)?;
             yards_table(alloc, instance, &picks)
         }
-        Report::Costs => {
+        ReportKind::Costs => {
             let picks = picks_of_plan(alloc, instance, &plan)?;
             costs_table(alloc, instance, &picks)
         }

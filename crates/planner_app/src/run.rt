@@ -9,7 +9,7 @@ ghost use Rattle.planner_app.specs.Advice.{AreAskedFor};
 ghost use Rattle.planner_app.specs.Outcomes.{AskAbout, AskToCheck, AskToPlan, AskToSimulate, Grants, IsOutcome};
 ghost use Rattle.planner_app.specs.ReportOutcomes.{IsTrialOutcome};
 
-use crate::reports::{Report, reported};
+use crate::reports::{ReportKind, reported};
 use advisors::Advisor;
 use answer_check::verdict_on;
 use commands::{Command, WordsRefusal, read_words};
@@ -51,9 +51,9 @@ pub(crate) fn outcome_of<F: Folder>(
         }
         Ok(Command::Simulate { dir }) => simulated(alloc, folder, dir.as_str()),
         Ok(Command::Check { dir }) => checked(alloc, folder, dir.as_str()),
-        Ok(Command::Duties { dir }) => reported(alloc, folder, dir.as_str(), Report::Duties),
-        Ok(Command::Yards { dir }) => reported(alloc, folder, dir.as_str(), Report::Yards),
-        Ok(Command::Costs { dir }) => reported(alloc, folder, dir.as_str(), Report::Costs),
+        Ok(Command::Duties { dir }) => reported(alloc, folder, dir.as_str(), ReportKind::Duties),
+        Ok(Command::Yards { dir }) => reported(alloc, folder, dir.as_str(), ReportKind::Yards),
+        Ok(Command::Costs { dir }) => reported(alloc, folder, dir.as_str(), ReportKind::Costs),
         Ok(
             Command::Trial {
                 seed,

@@ -4,7 +4,7 @@ ghost use Rattle.std.specs.Prelude.{ℕ, List, ◌≡◌, ◌≤◌, ◌+◌, �
 ghost use Rattle.rail_io.specs.Folders.{Files, OnlyReads, Rose};
 ghost use Rattle.search.specs.Questions.{AreAsked, AreTheSame};
 ghost use Rattle.run_documents.specs.declared.outcome.Outcome.{Outcome};
-ghost use Rattle.planner_app.specs.declared.reports.Report.{Report};
+ghost use Rattle.planner_app.specs.declared.reports.ReportKind.{ReportKind};
 ghost use Rattle.planner_app.specs.Advice.{AreAskedFor};
 ghost use Rattle.planner_app.specs.Outcomes.{AskAbout, AskInVain, AskToCheck, AskToPlan, AskToReport, AskToSimulate};
 ghost use Rattle.planner_app.specs.Outcomes.{AskToTry, Grants, IsOutcome};
@@ -124,7 +124,7 @@ pub fn railplan<F: Folder, K: Sink>(
         → IsUndisturbed result → EndsSimulation files dir result }
     ensures check { (files : Files) (dir : List ℕ) → F.holds folder.old ≡ Some files → AskToCheck words.now dir
         → IsUndisturbed result → EndsCheck files dir result }
-    ensures report { (files : Files) (dir : List ℕ) (kind : Report) → F.holds folder.old ≡ Some files
+    ensures report { (files : Files) (dir : List ℕ) (kind : ReportKind) → F.holds folder.old ≡ Some files
         → AskToReport words.now kind dir → IsUndisturbed result
         → EndsReport files dir kind result (K.written out.old) (K.written out.new) }
     ensures trial { (seed trips nodes rounds : ℕ) → AskToTry words.now seed trips nodes rounds → IsUndisturbed result

@@ -3,7 +3,7 @@ use Rattle.search.specs.Questions.{AreAsked}
 use Rattle.search.proofs.Asking.{are_unasked}
 use Rattle.commands.specs.declared.command.Command.TheVariants as command
 use Rattle.planner_app.specs.Advice.{AreAskedFor}
-use Rattle.planner_app.specs.declared.reports.Report.TheVariants as report
+use Rattle.planner_app.specs.declared.reports.ReportKind.TheVariants as report
 use Rattle.planner_app.specs.Outcomes.{AskToCheck, AskToPlan, AskToReport, AskToSimulate}
 use Rattle.planner_app.proofs.Asking.{grants_nothing, plan_grants, plan_within, trial_grants, trial_size, trial_within}
 use Rattle.planner_app.proofs.Outcomes.{in_vain, trial_comes}
