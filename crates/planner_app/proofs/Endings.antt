@@ -36,6 +36,7 @@ use Rattle.planner_app.specs.Statuses.{EndsCheck, EndsPlanning, EndsSimulation, 
 use Rattle.planner_app.specs.Statuses.{IsUndisturbed, status_of, status_of_verdict}
 use Rattle.planner_app.proofs.Allowed.{IsAllowed, is_allowed}
 use Rattle.planner_app.proofs.Asking.{about_folder, one_command}
+use Rattle.planner_app.proofs.Outcomes.{report_folder}
 
 -- status 0 is that of `Valid` alone
 pub only_valid : (verdict : AnswerVerdict) → status_of_verdict verdict ≡ 0 → verdict ≡ Valid
@@ -77,18 +78,13 @@ kind_is report.Duties dir = refl
 kind_is report.Yards dir = refl
 kind_is report.Costs dir = refl
 
-pub folder_is : (kind : ReportKind) (dir : List ℕ) → folder_of (command_for kind dir) ≡ Some dir
-folder_is report.Duties dir = refl
-folder_is report.Yards dir = refl
-folder_is report.Costs dir = refl
-
 pub one_report : (words : List (List ℕ)) (kind other : ReportKind) (dir another : List ℕ) → AskToReport words kind dir
     → AskToReport words other another → (other ≡ kind) × (another ≡ dir)
 one_report words kind other dir another first second =
     let same : command_for kind dir ≡ command_for other another =
     one_command words (command_for kind dir) (command_for other another) first second in
     let folders : ◌≡◌ {A = Option (List ℕ)} (Some dir) (Some another) =
-    sym (folder_is kind dir) ∙ ap folder_of same ∙ folder_is other another in (
+    sym (report_folder kind dir) ∙ ap folder_of same ∙ report_folder other another in (
       sym (kind_is other another) ∙ ap kind_of (sym same) ∙ kind_is kind dir,
       cc,
     )

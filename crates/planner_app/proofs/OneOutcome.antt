@@ -30,7 +30,6 @@ use Rattle.commands.specs.declared.command.Command.{Command}
 use Rattle.commands.specs.declared.command.Command.TheVariants as command
 use Rattle.commands.specs.PlainForm.{IsPlainForm}
 use Rattle.planner_app.specs.declared.reports.ReportKind.{ReportKind}
-use Rattle.planner_app.specs.declared.reports.ReportKind.TheVariants as report
 use Rattle.planner_app.specs.Outcomes.{AreAnswered, AskAbout, AskInVain, AskToCheck, AskToReport, AskToSimulate}
 use Rattle.planner_app.specs.Outcomes.{IsPlanned, IsTried, OfDay, OfDayAndPlan, PlanRuns, Says}
 use Rattle.planner_app.specs.Outcomes.{command_for, folder_of, reads_answer, reads_plan}
@@ -38,7 +37,8 @@ use Rattle.planner_app.specs.ReportTexts.{report_text}
 use Rattle.planner_app.specs.Laws.{IsOfSearch, IsToldByFiles, OthersAreTold, OutcomesAreOne, SearchesAreApart}
 use Rattle.planner_app.proofs.Allowed.{code, report_code}
 use Rattle.planner_app.proofs.Asking.{about_folder, one_command}
-use Rattle.planner_app.proofs.Endings.{folder_is, one_report}
+use Rattle.planner_app.proofs.Endings.{one_report}
+use Rattle.planner_app.proofs.Outcomes.{report_folder, report_reads}
 
 -- at most one outcome is told so
 abbrev IsOne : (Outcome → Type 0) → Type 0
@@ -233,16 +233,11 @@ module _ (words : List (List ℕ)) (files : Files) where
   by_answer it dir about reads day accepted answered =
       ByTables dir about (not_both about.named reads) (Accepted day accepted answered)
 
-  report_reads : (kind : ReportKind) (dir : List ℕ) → reads_answer (command_for kind dir) ≡ true
-  report_reads report.Duties dir = refl
-  report_reads report.Yards dir = refl
-  report_reads report.Costs dir = refl
-
   by_report : (it : Outcome) (dir : List ℕ) (kind : ReportKind) → AskToReport words kind dir → (day : Day) (answer : Answer)
       → AreAnswered files dir day answer → IsValid day answer
       → it ≡ report_of (has_plan answer.head) (report_text kind day answer.runs) → IsTold it
   by_report it dir kind asked day answer accepted valid is =
-      let about : AskAbout words dir = record { named = command_for kind dir; asked = asked; folder = folder_is kind dir } in
+      let about : AskAbout words dir = record { named = command_for kind dir; asked = asked; folder = report_folder kind dir } in
       by_answer it dir about (report_reads kind dir) day accepted.of_tables
       (IsRight (reads_here dir about (report_reads kind dir)) answer accepted.of_file (ByReport kind asked valid is))
 

@@ -58,7 +58,7 @@ about_simulated words dir asked = record { named = command.Simulate dir; asked =
 abbrev about_checked : (words : List (List ℕ)) (dir : List ℕ) → AskToCheck words dir → AskAbout words dir
 about_checked words dir asked = record { named = command.Check dir; asked = asked; folder = refl }
 
-report_folder : (kind : ReportKind) (dir : List ℕ) → folder_of (command_for kind dir) ≡ Some dir
+pub report_folder : (kind : ReportKind) (dir : List ℕ) → folder_of (command_for kind dir) ≡ Some dir
 report_folder report.Duties dir = refl
 report_folder report.Yards dir = refl
 report_folder report.Costs dir = refl
@@ -68,7 +68,7 @@ report_plain report.Duties dir = refl
 report_plain report.Yards dir = refl
 report_plain report.Costs dir = refl
 
-report_reads : (kind : ReportKind) (dir : List ℕ) → reads_answer (command_for kind dir) ≡ true
+pub report_reads : (kind : ReportKind) (dir : List ℕ) → reads_answer (command_for kind dir) ≡ true
 report_reads report.Duties dir = refl
 report_reads report.Yards dir = refl
 report_reads report.Costs dir = refl

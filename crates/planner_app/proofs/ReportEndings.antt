@@ -33,8 +33,9 @@ use Rattle.planner_app.specs.Statuses.{EndsReport, EndsTrial, IsAnswerRefusedIn,
 use Rattle.planner_app.specs.Statuses.{status_of_verdict}
 use Rattle.planner_app.proofs.Allowed.{IsAllowed, code, is_allowed, report_code}
 use Rattle.planner_app.proofs.Asking.{about_folder, one_command}
-use Rattle.planner_app.proofs.Endings.{answered_once, answered_right, at_answer, at_folder, day_or_not, folder_is}
+use Rattle.planner_app.proofs.Endings.{answered_once, answered_right, at_answer, at_folder, day_or_not}
 use Rattle.planner_app.proofs.Endings.{one_report, only_valid, refused_answer, same_answer, status_by_verdict}
+use Rattle.planner_app.proofs.Outcomes.{report_folder}
 
 module _ (words : List (List ℕ)) (files : Files) (dir : List ℕ) (kind : ReportKind) (asked : AskToReport words kind dir)
     (before after : Option (List ℕ)) where
@@ -132,7 +133,7 @@ module _ (words : List (List ℕ)) (files : Files) (dir : List ℕ) (kind : Repo
       by (outcome.Checked head verdict) says text is written undisturbed allowed =
           by_verdict says.day says.answer verdict
           (at_folder words files dir says.dir says.day says.answer
-          (about_folder words dir says.dir (command_for kind dir) asked (folder_is kind dir) says.asked) says.accepted)
+          (about_folder words dir says.dir (command_for kind dir) asked (report_folder kind dir) says.asked) says.accepted)
           (status_by_verdict says.day says.answer verdict says.on.is)
           (λ valid. apart (one_command words (command_for kind dir) (command.Check says.dir) asked (says.alone valid)))
         where
@@ -147,12 +148,12 @@ module _ (words : List (List ℕ)) (files : Files) (dir : List ℕ) (kind : Repo
           absurd (omega (arith, ap code (one_command words (command_for kind dir) (command.Simulate other) asked asked'), (report_code kind dir).0))
       by (outcome.Refused why) (OfDay other about plain refused) text is written undisturbed allowed =
           let none : day_in files dir ≡ Err why = subst (λ (d : List ℕ). day_in files d ≡ Err why)
-          (about_folder words dir other (command_for kind dir) asked (folder_is kind dir) about) refused in
+          (about_folder words dir other (command_for kind dir) asked (report_folder kind dir) about) refused in
           ends_refused (inl (why, none)) (λ day answer is. day_or_not words files dir day why is.of_tables none)
       by (outcome.CannotRead table) says text is written undisturbed allowed = absurd (undisturbed.0 refl)
       by outcome.NoMemory says text is written undisturbed allowed = absurd (undisturbed.2 refl)
       by (outcome.NoAnswer error) says text is written undisturbed allowed =
-          let is : says.dir ≡ dir = about_folder words dir says.dir (command_for kind dir) asked (folder_is kind dir) says.asked in
+          let is : says.dir ≡ dir = about_folder words dir says.dir (command_for kind dir) asked (report_folder kind dir) says.asked in
           not_read says.day error (subst (λ (d : List ℕ). day_in files d ≡ Ok says.day) is says.accepted)
           (at_answer words files dir says.dir error is says.wrong) undisturbed
 

@@ -1,5 +1,5 @@
 -- What holds of every answer that is found to a day, and of every outcome that the files tell.
-use Rattle.std.specs.Prelude.{ℕ, ◌≡◌, List, false, IsTrue, Ok, Option, ⊤}
+use Rattle.std.specs.Prelude.{ℕ, ◌≡◌, List, IsTrue, Ok, Option, ⊤}
 use Rattle.rail_io.specs.Folders.{Files}
 use Rattle.timetable.specs.Day.{Day}
 use Rattle.day_files.specs.Inputs.{day_in}

@@ -1,11 +1,10 @@
 //! Reports on the plan of a folder's answer, once it is found valid.
 
-ghost use Rattle.std.specs.Prelude.{ℕ, List, ◌≡◌, ◌≤◌, IfOk, IsTrue, length};
+ghost use Rattle.std.specs.Prelude.{ℕ, List, ◌≡◌, ◌≤◌, IfOk, length};
 ghost use Rattle.rail_base.specs.declared.limits.TheConstants.{MOST_TRIPS};
 ghost use Rattle.rail_io.specs.Folders.{OnlyReads};
 ghost use Rattle.timetable.specs.Running as running;
 ghost use Rattle.answer_text.specs.Limits.{has_plan};
-ghost use Rattle.answer_check.specs.Validity.{IsValid};
 ghost use Rattle.planner_app.specs.Outcomes.{AskToReport, IsOutcome};
 ghost use Rattle.planner_app.specs.ReportOutcomes.{IsReportOutcome};
 ghost use Rattle.planner_app.specs.ReportTexts.{report_text};

@@ -1,6 +1,6 @@
 //! From the words to the outcome: what each command does with the files of its folder.
 
-ghost use Rattle.std.specs.Prelude.{ℕ, List, ◌≡◌, ◌≤◌, ◌+◌, ◌*◌, ◌^◌, Some, All};
+ghost use Rattle.std.specs.Prelude.{ℕ, List, ◌≡◌, ◌≤◌, ◌+◌, ◌*◌, ◌^◌, All};
 ghost use Rattle.rail_base.specs.declared.limits.TheConstants.{MOST_BRANCHINGS, MOST_ROUNDS};
 ghost use Rattle.rail_io.specs.Folders.{OnlyReads};
 ghost use Rattle.search.specs.Questions.{AreAsked, AreTheSame};
