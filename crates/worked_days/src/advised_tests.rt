@@ -213,7 +213,7 @@ struct Row {
 }
 
 /// An advisor that proposes nothing, with two branchings.
-const SILENT: Row = Row {
+const NO_PROPOSALS: Row = Row {
     words: WITH_TWO_BRANCHINGS,
     advice: Advice::Nothing,
     replies: [Reply::More, Reply::More],
@@ -225,19 +225,19 @@ const SILENT: Row = Row {
 const ROWS: &[Row] = &[
     Row {
         advice: Advice::RefusedMultipliers,
-        ..SILENT
+        ..NO_PROPOSALS
     },
     Row {
         advice: Advice::Only { trip: 400, comp: 0 },
-        ..SILENT
+        ..NO_PROPOSALS
     },
     Row {
         advice: Advice::Only { trip: 0, comp: 5 },
-        ..SILENT
+        ..NO_PROPOSALS
     },
     Row {
         advice: Advice::Multiplier(-1_000_000_000_000),
-        ..SILENT
+        ..NO_PROPOSALS
     },
     // Under it the bound is that of the cheapest picks that leave a unit at Y.
     Row {
@@ -245,19 +245,19 @@ const ROWS: &[Row] = &[
         document: "railplan answer 1\noptimal 190\nbranchings 0\nrun 0 0 1\nrun 1 1\ntree\n\
             cost 190 1 3:1000000000000\nend\n",
         asked: "asked 1",
-        ..SILENT
+        ..NO_PROPOSALS
     },
     Row {
         replies: [Reply::Quit, Reply::More],
         asked: "asked 1, quit",
-        ..SILENT
+        ..NO_PROPOSALS
     },
     Row {
         replies: [Reply::More, Reply::NoMemory],
         status: 7,
         document: "",
         asked: "asked 2",
-        ..SILENT
+        ..NO_PROPOSALS
     },
     // Under 70 at index 3 no picks have a lower value than the plan.
     Row {
@@ -265,7 +265,7 @@ const ROWS: &[Row] = &[
         advice: Advice::Multiplier(70),
         document: "railplan answer 1\noptimal 190\nbranchings 0\nrun 0 0 1\nrun 1 1\ntree\ncost 190 1 3:70\nend\n",
         asked: "asked 1",
-        ..SILENT
+        ..NO_PROPOSALS
     },
     // The first bound stays open, so that all rounds are made: 20 where no number of them is given.
     Row {
@@ -273,14 +273,14 @@ const ROWS: &[Row] = &[
         status: 4,
         document: FIRST_BOUND,
         asked: "asked 20",
-        ..SILENT
+        ..NO_PROPOSALS
     },
     Row {
         words: IN_SEVEN_ROUNDS,
         status: 4,
         document: FIRST_BOUND,
         asked: "asked 7",
-        ..SILENT
+        ..NO_PROPOSALS
     },
 ];
 

@@ -1,4 +1,4 @@
-//! Worked days: the top call over folders and sinks in memory, and what crosses crates.
+//! Worked days: the top call over folders and sinks in memory, and the three reports by single calls, as tests.
 #![tactic(auto)]
 
 #[cfg(test)]
