@@ -6,8 +6,8 @@ use Rattle.std.specs.List.{AllZip}
 use Rattle.std.proofs.lemmas.Bool.{and_parts, and_from, eqb-true, eqb-false, eq-eqb, leb-true, leb-false, ltb-true}
 use Rattle.std.proofs.lemmas.Bool.{ltb-false, both_ways}
 use Rattle.std.proofs.lemmas.Option.{same_Some, get_or_from_slice_get}
-use Rattle.rail_base.specs.Answers.{Unless, Fails, Gives}
-use Rattle.rail_base.proofs.Answers.{Unless-then, Fails-then}
+use Rattle.rail_base.specs.Answers.{Unless, Gives}
+use Rattle.rail_base.proofs.Answers.{Unless-then}
 use Rattle.rail_base.specs.declared.limits.TheConstants.{MOST_UNITS, MOST_COMPOSITIONS}
 use Rattle.compositions.specs.Catalogue.{catalogue_of}
 use Rattle.compositions.specs.Composition.{fits_in}
@@ -23,7 +23,7 @@ use Rattle.timetable.specs.declared.building.refusal.InstanceRefusal.TheVariants
 use Rattle.timetable.specs.declared.building.tables.Tables.{Tables}
 use Rattle.timetable.specs.Build.{has_stock, new_stock, has_fitting, platform_at, accept_type, accept_station}
 use Rattle.timetable.specs.Build.{accept_stock, accept_trip, accept_run, type_in, station_in, types_in, stations_in}
-use Rattle.timetable.specs.Build.{stock_in, trips_in, trip_between, starts_of, catalogue_in, is_memory, weights_in}
+use Rattle.timetable.specs.Build.{stock_in, trips_in, trip_between, starts_of, catalogue_in, is_memory}
 use Rattle.timetable.specs.Build.{day_of}
 use Rattle.timetable.specs.Compositions.{greatest_in}
 use Rattle.timetable.specs.Day.{Day}

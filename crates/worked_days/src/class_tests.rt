@@ -48,7 +48,8 @@ fn each_class_has_its_own_shortage(rt: HostRuntime) -> Result<(), Fail> {
 
 #[test]
 fn costs_tell_the_shortages_of_both_classes(rt: HostRuntime) -> Result<(), Fail> {
-    let answer = "railplan answer 1\noptimal 220\nbranchings 0\nrun 0 0 1\nrun 1 1 0\ntree\ncost 220 0\nend\n";
+    let answer =
+        "railplan answer 1\noptimal 220\nbranchings 0\nrun 0 0 1\nrun 1 1 0\ntree\ncost 220 0\nend\n";
     let costs = "part,amount\ncarriage,120\nshortage,100\nshunting,0\ntotal,220\n";
     expect_answered(&rt, rt.alloc(), "costs", &two_classes(), answer, 0, costs)?;
     Ok(())
