@@ -2,11 +2,12 @@
 use Rattle.std.proofs.Common.{◌≡◌, ℕ, zero, suc, ◌+◌, ◌<◌, ◌≤◌, ◌^◌, List, [], ◌∷◌, length, get_or, set, replicate}
 use Rattle.std.proofs.Common.{map, Bool, true, false, refl, sym, ap, subst, arith, add-one, ◌∙◌, ◌⊎◌, inl, inr}
 use Rattle.std.proofs.lemmas.Bool.{both_ways}
+use Rattle.std.proofs.lemmas.Bool.{cases_eq}
 use Rattle.std.proofs.lemmas.List.{get_or_default, get_or-set_other}
 use Rattle.std.proofs.lemmas.List.Elements.{All-cons, All-nil, All-head, All-tail}
 use Rattle.search.specs.Questions.{IsAsked, AreAsked, AreAskedUpTo, AreTheSame, CanAsk, IsAskedAt, MayBeAsked, in_rounds}
-use Rattle.search.specs.Questions.{once}
-use Rattle.search.specs.NodeAdvice.{AreNotedBut}
+use Rattle.search.specs.Questions.{AreAskedOnce, AreLeftAlone, once}
+use Rattle.search.specs.NodeAdvice.{AreStillNoted}
 
 -- ---- one advisor
 
@@ -272,7 +273,64 @@ module _ {A : Type 0} (asked : A → ℕ) (has_quit : A → Bool) where
     | inr some ↦ are_asked_within asked has_quit 1 made (in_rounds rounds 1) rounds first last (in_rounds_most rounds 1) most (least (omega (arith, some, all)))
   ]
 
--- what is noted at a place changes nothing behind it
-pub noted_but : (before after : List Bool) (place : ℕ) (enough : Bool) → after ≡ before → AreNotedBut place before (set after place enough)
-noted_but before after place enough same = λ later below.
-    get_or-set_other after place later enough false (λ e. omega (arith, e, below)) ∙ ap (λ (flags : List Bool). get_or flags later false) same
+-- what is noted at a place changes nothing elsewhere
+pub noted_but : (before after : List Bool) (place : ℕ) (enough : Bool) → after ≡ set before place enough → (other : ℕ) → (other ≡ place → ⊥) → get_or after other false ≡ get_or before other false
+noted_but before after place enough same = λ other elsewhere.
+    ap (λ (flags : List Bool). get_or flags other false) same ∙ get_or-set_other before place other enough false elsewhere
+
+-- what is noted of an advisor that had not enough keeps what was noted of the others
+pub noted_still : (first before after : List Bool) (place : ℕ) (enough : Bool) → get_or first place false ≡ false → after ≡ set before place enough → AreStillNoted first before → AreStillNoted first after
+noted_still first before after place enough none same still = λ other was. elim (cases_eq other place) as (λ _. get_or after other false ≡ true) [
+  | inl here ↦ absurd (both_ways (get_or first place false) none (ap (λ (at : ℕ). get_or first at false) (sym here) ∙ was))
+  | inr elsewhere ↦ noted_but before after place enough same other elsewhere ∙ still other was
+]
+
+-- ---- each advisor in a round
+
+module _ {A : Type 0} (asked : A → ℕ) (has_quit : A → Bool) where
+  pub asked_elsewhere : (before after : List A) (place other : ℕ) (none : A) → (other ≡ place → ⊥) → IsAskedAt before after asked has_quit place → get_or after other none ≡ get_or before other none
+  asked_elsewhere [] after place other none apart is = absurd is
+  asked_elsewhere (x ∷ xs) [] place other none apart is = absurd is
+  asked_elsewhere (x ∷ xs) (y ∷ ys) zero zero none apart is = absurd (apart refl)
+  asked_elsewhere (x ∷ xs) (y ∷ ys) zero (suc other) none apart is = ap (λ advisors. get_or advisors other none) is.1
+  asked_elsewhere (x ∷ xs) (y ∷ ys) (suc place) zero none apart is = is.0
+  asked_elsewhere (x ∷ xs) (y ∷ ys) (suc place) (suc other) none apart is = asked_elsewhere xs ys place other none (λ e. apart (ap suc e)) is.1
+
+  pub asked_at : (before after : List A) (place : ℕ) (none : A) → IsAskedAt before after asked has_quit place →
+      IsAsked 1 1 (asked (get_or before place none)) (asked (get_or after place none)) (has_quit (get_or before place none)) (has_quit (get_or after place none))
+  asked_at [] after place none is = absurd is
+  asked_at (x ∷ xs) [] place none is = absurd is
+  asked_at (x ∷ xs) (y ∷ ys) zero none is = is.0
+  asked_at (x ∷ xs) (y ∷ ys) (suc place) none is = asked_at xs ys place none is.1
+
+  -- the next advisor is asked
+  pub then_asked_once : (enough : List Bool) (place : ℕ) (first now last : List A) → ((none : A) → get_or now place none ≡ get_or first place none) →
+      IsAskedAt now last asked has_quit place → AreAskedOnce first now asked has_quit enough place → AreAskedOnce first last asked has_quit enough (place + 1)
+  then_asked_once enough place first now last not_yet at once = λ other none below flag stays.
+      elim (cases_eq other place) as (λ _. asked (get_or last other none) ≡ asked (get_or first other none) + 1) [
+        | inl here ↦ subst (λ (p : ℕ). asked (get_or last p none) ≡ asked (get_or first p none) + 1) (sym here)
+            (let here_stays : has_quit (get_or last place none) ≡ false = subst (λ (p : ℕ). has_quit (get_or last p none) ≡ false) here stays in
+            let is : IsAsked 1 1 (asked (get_or now place none)) (asked (get_or last place none)) (has_quit (get_or now place none)) (has_quit (get_or last place none)) = asked_at now last place none at in
+            let before : asked (get_or now place none) ≡ asked (get_or first place none) = ap asked (not_yet none) in
+            omega (arith, is.at_most, is.at_least here_stays, before))
+        | inr elsewhere ↦
+            let same : get_or last other none ≡ get_or now other none = asked_elsewhere now last place other none elsewhere at in
+            ap asked same ∙ once other none (omega (arith, below, elsewhere)) flag (ap has_quit (sym same) ∙ stays)
+      ]
+
+  -- the next advisor is passed over, which has enough or has quit
+  pub then_passed : (enough : List Bool) (place : ℕ) (first now : List A) → ((none : A) → get_or enough place false ≡ false → has_quit (get_or now place none) ≡ false → ⊥) →
+      AreAskedOnce first now asked has_quit enough place → AreAskedOnce first now asked has_quit enough (place + 1)
+  then_passed enough place first now passed once = λ other none below flag stays.
+      elim (cases_eq other place) as (λ _. asked (get_or now other none) ≡ asked (get_or first other none) + 1) [
+        | inl here ↦ absurd (passed none (subst (λ (p : ℕ). get_or enough p false ≡ false) here flag) (subst (λ (p : ℕ). has_quit (get_or now p none) ≡ false) here stays))
+        | inr elsewhere ↦ once other none (omega (arith, below, elsewhere)) flag stays
+      ]
+
+  -- those that have enough are left alone, where the one that is asked had not
+  pub still_alone : (enough : List Bool) (place : ℕ) (first now last : List A) → get_or enough place false ≡ false → IsAskedAt now last asked has_quit place →
+      AreLeftAlone first now enough → AreLeftAlone first last enough
+  still_alone enough place first now last none_yet at alone = λ other none flag. elim (cases_eq other place) as (λ _. get_or last other none ≡ get_or first other none) [
+    | inl here ↦ absurd (both_ways (get_or enough place false) none_yet (subst (λ (p : ℕ). get_or enough p false ≡ true) here flag))
+    | inr elsewhere ↦ asked_elsewhere now last place other none elsewhere at ∙ alone other none flag
+  ]

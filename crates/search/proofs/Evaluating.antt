@@ -16,12 +16,15 @@ use Rattle.branch_tree.specs.declared.relaxation.Weight.{Weight}
 use Rattle.branch_tree.specs.declared.relaxation.Weight.TheVariants.{Cost, NoCost}
 use Rattle.branch_tree.specs.Entries.{refusal_of, put_in}
 use Rattle.branch_tree.specs.Bounds.{IsBound, IsChainValue, IsEmpty, IsSettled}
-use Rattle.branch_tree.specs.Claims.{Priced}
+use Rattle.branch_tree.specs.Claims.{Priced, is_below}
 use Rattle.branch_tree.specs.Meanings.{Meanings, IsRelaxation, DoFitFor}
 use Rattle.branch_tree.proofs.Duality.{bounds_are_chain_values}
 use Rattle.branch_tree.proofs.Settling.{broken_picks_have_rays}
-use Rattle.search.specs.Evaluations.{HasNoRay, IsEvaluated, IsRayTest, IsSettledAs}
-use Rattle.search.specs.Offers.{HasPlanIn, IsOffered}
+use Rattle.search.specs.declared.evaluation.Ending.{Ending}
+use Rattle.search.specs.declared.evaluation.Ending.TheVariants as endings
+use Rattle.search.specs.declared.evaluation.Outcome.TheVariants.{Ended}
+use Rattle.search.specs.Evaluations.{HasNoRay, IsEnding, IsEvaluated, IsOutcome, IsRayTest, IsSettledAs}
+use Rattle.search.specs.Offers.{HasCheaperIn, IsOffered}
 use Rattle.search.proofs.Below.{lower, not_lower}
 
 -- the test of a chain value without cost
@@ -40,17 +43,22 @@ ray_test problem region multipliers value old new is = at (int_lt (pos 0) value.
 pub not_offered : (problem : Meanings) (region : List (List Bool)) (best : Option Priced) → IsOffered problem region best best
 not_offered problem region best = record { no_dearer = λ bound below. below; either = inl refl }
 
+cheaper_again : (problem : Meanings) (region : List (List Bool)) (old middle new : Option Priced) →
+    ((bound : ℤ) → is_below bound middle ≡ true → is_below bound old ≡ true) → HasCheaperIn problem region middle new → HasCheaperIn problem region old new
+cheaper_again problem region old middle None no_dearer has = has
+cheaper_again problem region old middle (Some plan) no_dearer has = (has.0, no_dearer plan.cost has.1)
+
 -- one offer after another
 pub offered_again : (problem : Meanings) (region : List (List Bool)) (old middle new : Option Priced) →
     IsOffered problem region old middle → IsOffered problem region middle new → IsOffered problem region old new
 offered_again problem region old middle new first next = record {
   no_dearer = λ bound below. first.no_dearer bound (next.no_dearer bound below);
-  either = elim next.either as (λ _. (new ≡ old) ⊎ HasPlanIn problem region new) [
-    | inl same ↦ elim first.either as (λ _. (new ≡ old) ⊎ HasPlanIn problem region new) [
+  either = elim next.either as (λ _. (new ≡ old) ⊎ HasCheaperIn problem region old new) [
+    | inl same ↦ elim first.either as (λ _. (new ≡ old) ⊎ HasCheaperIn problem region old new) [
       | inl before ↦ inl cc
-      | inr has ↦ inr (subst (λ best. HasPlanIn problem region best) (sym same) has)
+      | inr has ↦ inr (subst (λ best. HasCheaperIn problem region old best) (sym same) has)
     ]
-    | inr has ↦ inr has
+    | inr has ↦ inr (cheaper_again problem region old middle new first.no_dearer has)
   ];
 }
 
@@ -111,6 +119,18 @@ pub settled_unnamed : (problem : Meanings) (region : List (List Bool)) (best : O
     ((named : List Entry) → found ≡ Some named → ⊥) → IsSettledAs problem region best picks found → IsSettledAs problem region best picks None
 settled_unnamed problem region best picks None not is = is
 settled_unnamed problem region best picks (Some named) not is = absurd (not named refl)
+
+-- what is named by a sign that was passed on is the multiplier that is named for the picks
+pub named_broken : (problem : Meanings) (picks : List ℕ) (index : ℕ) (sign : ℤ) (named : List Entry) → IsSettled problem picks (Broken index sign) →
+    named ≡ record { index = index; value = to_z w8 (of_z w8 sign) } ∷ [] → named ≡ problem.broken picks ∷ []
+named_broken problem picks index sign named settled e =
+    named_by problem picks index sign named settled e ∙ ap (λ (entry : Entry). entry ∷ []) (sym (named_is problem picks index sign settled))
+
+-- an evaluation ends by an end of its region
+pub is_ending : (problem : Meanings) (region : List (List Bool)) (multipliers : List Entry) (best : Option Priced) (ending : Ending) →
+    IsOutcome problem region multipliers best (Ended ending) → IsEnding problem region ending
+is_ending problem region multipliers best endings.Empty is = is
+is_ending problem region multipliers best (endings.Ray ray) is = is.0
 
 -- where there is no value nothing is near
 pub empty_unvalued : (problem : Meanings) (region : List (List Bool)) (multipliers : List Entry) (weight : Weight) (answer : BoundAnswer) (old new : List ℕ) →

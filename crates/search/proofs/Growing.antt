@@ -29,7 +29,7 @@ use Rattle.search.specs.declared.nodes.SearchNode.TheVariants.{Fixed, Pending}
 use Rattle.search.specs.Ends.{made_or_open}
 use Rattle.search.specs.Nodes.{IsLeafOf, IsNodeOf, IsDivision, IsDivisionAt, IsPending, IsPlaced, IsSearched, IsWithin}
 use Rattle.search.specs.Nodes.{CanBranch, branched, cut_at, tree_node, tree_nodes}
-use Rattle.search.specs.Offers.{HasPlanIn, IsOffered}
+use Rattle.search.specs.Offers.{HasCheaperIn, HasPlanIn, IsOffered}
 use Rattle.search.proofs.Evaluating.{offered_again}
 
 -- ---- a node in its region
@@ -125,24 +125,27 @@ plan_kept problem root region old new within offered plan = elim offered.either 
   | inr has ↦ widened new has
 ]
   where
-    widened : (best : Option Priced) → HasPlanIn problem region best → HasPlanIn problem root best
+    widened : (best : Option Priced) → HasCheaperIn problem region old best → HasPlanIn problem root best
     widened None has = tt
-    widened (Some plan) has = record { inside = within plan.picks has.inside; solution = has.solution; cost = has.cost }
+    widened (Some plan) has = record { inside = within plan.picks has.0.inside; solution = has.0.solution; cost = has.0.cost }
 
 -- an offer in a side is one in the region
 pub offered_in_side : (problem : Meanings) (region : List (List Bool)) (cut : Cut) (side : Side) (old new : Option Priced) → IsProper problem.catalogue region cut →
     IsOffered problem (side_of problem.catalogue cut side region) old new → IsOffered problem region old new
 offered_in_side problem region cut side old new proper offered = record {
   no_dearer = offered.no_dearer;
-  either = elim offered.either as (λ _. (new ≡ old) ⊎ HasPlanIn problem region new) [
+  either = elim offered.either as (λ _. (new ≡ old) ⊎ HasCheaperIn problem region old new) [
     | inl same ↦ inl same
     | inr has ↦ inr (widened new has)
   ];
 }
   where
-    widened : (best : Option Priced) → HasPlanIn problem (side_of problem.catalogue cut side region) best → HasPlanIn problem region best
-    widened None has = tt
-    widened (Some plan) has = record { inside = within_side problem region region cut side proper (λ picks inside. inside) plan.picks has.inside; solution = has.solution; cost = has.cost }
+    widened : (best : Option Priced) → HasCheaperIn problem (side_of problem.catalogue cut side region) old best → HasCheaperIn problem region old best
+    widened None has = has
+    widened (Some plan) has = (
+      record { inside = within_side problem region region cut side proper (λ picks inside. inside) plan.picks has.0.inside; solution = has.0.solution; cost = has.0.cost },
+      has.1,
+    )
 
 cut_before : (problem : Meanings) (region : List (List Bool)) (node : SearchNode) → CanBranch problem region node → cut_at node ≡ None
 cut_before problem region (Fixed node) can = absurd can
@@ -239,7 +242,7 @@ pub record IsReady (problem : Meanings) (node : PendingNode) : Type 0 where
 
 ready_by : (problem : Meanings) → IsRelaxation problem → (root region : List (List Bool)) (best : Option Priced) (node : PendingNode) → IsPlaced problem root best region (Pending node) → IsPending problem region node → IsReady problem node
 ready_by problem relaxation root region best node placed can = record {
-  inside = subst (λ sets. IsTrue (are_in node.picks sets)) (sym can.own) (relaxation.near_in node.picks region can.near);
+  inside = subst (λ sets. IsTrue (are_in node.picks sets)) (sym can.own) (relaxation.near_in node.picks region can.choice.near);
   divisible = λ single. single_picks_are_evident problem relaxation region (subst (λ sets. IsSingle sets) can.own single) can.not_evident;
   within = λ trip comp listed. placed.over.within trip comp (subst (λ sets. IsTrue (has sets trip comp)) can.own listed);
   sets = ap length can.own ∙ placed.over.each;

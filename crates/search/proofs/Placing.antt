@@ -13,14 +13,14 @@ use Rattle.branch_tree.proofs.Duality.{bounds_are_chain_values}
 use Rattle.search.specs.declared.evaluation.Ending.{Ending}
 use Rattle.search.specs.declared.evaluation.Ending.TheVariants.{Empty, Ray}
 use Rattle.search.specs.declared.evaluation.Evaluation.{Evaluation}
-use Rattle.search.specs.declared.evaluation.Outcome.TheVariants.{Open}
 use Rattle.search.specs.declared.nodes.SearchNode.{SearchNode}
 use Rattle.search.specs.declared.nodes.SearchNode.TheVariants.{Fixed}
 use Rattle.search.specs.declared.work.Work.{Work}
-use Rattle.search.specs.Evaluations.{AreSettled, IsEnding, IsEvaluated, IsOutcome, leaf_of}
+use Rattle.search.specs.Evaluations.{AreSettled, IsEnding, IsEvaluated, leaf_of}
 use Rattle.search.specs.Nodes.{IsLeafOf, tree_node}
 use Rattle.search.proofs.Below.{below_less}
 use Rattle.search.specs.NodesInWork.{IsWorkedOn, ended_by, is_left_open, left_by, node_by, node_from}
+use Rattle.search.specs.Putting.{IsNumbered}
 
 pub chain_of : (problem : Meanings) (region : List (List Bool)) (evaluation : Evaluation) → IsEvaluated problem region evaluation → IsChainValue problem region evaluation.multipliers Cost evaluation.value.0
 chain_of problem region evaluation is = bounds_are_chain_values problem region evaluation.multipliers Cost evaluation.value [] evaluation.picks (is.choice, is.value)
@@ -62,9 +62,9 @@ module _ (problem : Meanings) (region : List (List Bool)) (best : Option Priced)
     ended = tt;
   }
 
-  pub begun : (evaluation : Evaluation) → IsOutcome problem region [] best (Open evaluation) →
+  pub begun : (evaluation : Evaluation) → IsEvaluated problem region evaluation → evaluation.multipliers ≡ [] → AreSettled problem region best evaluation.picks →
       IsWorkedOn problem best (record { region = region; first = evaluation.value; kept = evaluation; last = evaluation; cut = None; end = None })
-  begun evaluation is = begun_by evaluation.value evaluation.multipliers evaluation.picks is.1 is.0 is.2
+  begun evaluation is none settled = begun_by evaluation.value evaluation.multipliers evaluation.picks none is settled
 
   -- a leaf without a bound
   pub ended_leaf : (ending : Ending) → IsEnding problem region ending → IsLeafOf problem best region (Fixed (leaf_of ending))
@@ -85,7 +85,7 @@ bound_leaf problem best number work is true e = record {
   known = record {
     proved = record { proper = tt; fitting = is.kept.fits; bound = chain_of problem work.region work.kept is.kept; ray = tt; empty = tt };
     raised = (work.first.0, is.first, is.raised);
-    branches = λ opens. record { own = refl; near = is.kept.choice.near; not_evident = is.not_evident (below_less work.first.0 work.kept.value.0 best is.raised opens) };
+    branches = λ opens. record { own = refl; choice = is.kept.choice; not_evident = is.not_evident (below_less work.first.0 work.kept.value.0 best is.raised opens) };
   };
 }
 bound_leaf problem best number work is false e = record {
@@ -125,6 +125,20 @@ leaf_made_from problem best number work region node made same is =
 
 pub left_open_made : (best : Option Priced) (number : ℕ) (work : Work) (node : SearchNode) → node ≡ node_from number best work → is_open best (tree_node node) ≡ true → is_left_open best work ≡ true
 left_open_made best number work node made opens = left_open_from best number work (subst (λ one. is_open best (tree_node one) ≡ true) made opens)
+
+-- a node from work has the number that was given
+numbered_by : (number : ℕ) (below : Bool) (work : Work) → IsNumbered number (node_by number below work)
+numbered_by number true work = refl
+numbered_by number false work = tt
+
+numbered_ended : (number : ℕ) (node : SearchNode) (end : Option Ending) → IsNumbered number node → IsNumbered number (ended_by node end)
+numbered_ended number node None is = is
+numbered_ended number node (Some ending) is = tt
+
+pub numbered_from : (best : Option Priced) (number : ℕ) (work : Work) (node : SearchNode) → node ≡ node_from number best work → IsNumbered number node
+numbered_from best number work node made =
+    subst (λ one. IsNumbered number one) (sym made)
+    (numbered_ended number (node_by number (is_below work.kept.value.0 best) work) work.end (numbered_by number (is_below work.kept.value.0 best) work))
 
 -- a leaf without a bound is not open
 pub ended_not_open : (best : Option Priced) (ending : Ending) → is_open best (leaf_of ending) ≡ true → ⊥

@@ -1,5 +1,6 @@
 -- Evaluations of a region: what is known of it under multipliers.
-use Rattle.std.specs.Prelude.{ℕ, ◌≡◌, ◌⊎◌, List, [], ◌∷◌, Bool, true, false, ℤ, pos, ◌≤ℤ◌, Option, Some, None}
+use Rattle.std.specs.Prelude.{ℕ, ◌≡◌, ◌<◌, ◌⊎◌, List, [], ◌∷◌, length, Bool, true, false, ℤ, pos, ◌≤ℤ◌, Option}
+use Rattle.std.specs.Prelude.{Some, None}
 use Rattle.branch_tree.specs.declared.multipliers.Entry.{Entry}
 use Rattle.branch_tree.specs.declared.relaxation.Weight.TheVariants.{Cost, NoCost}
 use Rattle.branch_tree.specs.declared.tree.Node.{Node}
@@ -42,16 +43,29 @@ abbrev pub AreSettled : Meanings → List (List Bool) → Option Priced → List
 AreSettled problem region best picks =
     (problem.IsSolution picks × (is_below (problem.cost picks) best ≡ false)) ⊎ LeaveOpen problem region picks
 
--- how the evaluation of a region under multipliers ends
+-- the ray that ends an evaluation: the multiplier that is named for the choice, where the choice is no solution; or,
+-- where the choice is settled and shows no ray, the multipliers themselves
+abbrev pub IsFirstRay : Meanings → List (List Bool) → List Entry → Option Priced → List ℕ → List Entry → Type 0
+IsFirstRay problem region multipliers best picks ray =
+    ((problem.IsSolution picks → ⊥) × (ray ≡ problem.broken picks ∷ [])) ⊎
+    (AreSettled problem region best picks × (0 < length multipliers) × (ray ≡ multipliers))
+
+-- how the evaluation of a region under multipliers ends: nothing is near the region; the multiplier that is named for
+-- the choice, or the multipliers themselves, are a ray; or neither is shown
 abbrev pub IsOutcome : Meanings → List (List Bool) → List Entry → Option Priced → Outcome → Type 0
-IsOutcome problem region multipliers best (Ended ending) = IsEnding problem region ending
+IsOutcome problem region multipliers best (Ended Empty) = IsEmpty problem region
+IsOutcome problem region multipliers best (Ended (Ray ray)) = IsEnding problem region (Ray ray) ×
+    ((picks : List ℕ) × IsChoice problem region multipliers Cost picks ×
+    IsFirstRay problem region multipliers best picks ray)
 IsOutcome problem region multipliers best (Open evaluation) = IsEvaluated problem region evaluation ×
-    (evaluation.multipliers ≡ multipliers) × AreSettled problem region best evaluation.picks
+    (evaluation.multipliers ≡ multipliers) × AreSettled problem region best evaluation.picks ×
+    (0 < length multipliers → HasNoRay problem region multipliers)
 
 -- what settling picks near a region shows: that the multiplier named for them is a ray, or how they are settled
 abbrev pub IsSettledAs : Meanings → List (List Bool) → Option Priced → List ℕ → Option (List Entry) → Type 0
 IsSettledAs problem region best picks None = AreSettled problem region best picks
-IsSettledAs problem region best picks (Some named) = IsEnding problem region (Ray named)
+IsSettledAs problem region best picks (Some named) =
+    IsEnding problem region (Ray named) × (problem.IsSolution picks → ⊥) × (named ≡ problem.broken picks ∷ [])
 
 -- whether the chain value of a region without cost is positive
 abbrev pub IsRayTest : Meanings → List (List Bool) → List Entry → Bool → Type 0

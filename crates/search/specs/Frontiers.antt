@@ -14,7 +14,7 @@ abbrev pub can_improve : Option Priced → SearchNode → Bool
 can_improve best (Fixed node) = false
 can_improve best (Pending node) = is_below node.bound.0 best
 
--- the node at a place may be branched
+-- the node at a place may be branched, and leaves room for a better solution
 pub record IsOpenAt (best : Option Priced) (nodes : List SearchNode) (place : ℕ) : Type 0 where
   pub within : place < length nodes
   pub here : (node : SearchNode) → can_improve best (slice_index_or nodes place node) ≡ true

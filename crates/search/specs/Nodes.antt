@@ -1,14 +1,18 @@
 -- The nodes of a search: how each stands in its tree, and what is known of it in its region.
-use Rattle.std.specs.Prelude.{ℕ, suc, ◌≡◌, ◌<◌, List, [], ◌∷◌, ◌++◌, length, get_or, map, take, drop, Bool, true}
-use Rattle.std.specs.Prelude.{IsTrue, Option, None}
+use Rattle.std.specs.Prelude.{ℕ, suc, ◌≡◌, ◌<◌, ◌≤◌, List, [], ◌∷◌, ◌++◌, length, get_or, map, take, drop, Bool, true}
+use Rattle.std.specs.Prelude.{IsTrue, Option, Some, None}
 use Rattle.branch_tree.specs.declared.cuts.Cut.{Cut}
+use Rattle.branch_tree.specs.declared.cuts.Cut.TheVariants.{Only}
 use Rattle.branch_tree.specs.declared.cuts.Side.TheVariants.{Left, Right}
 use Rattle.branch_tree.specs.declared.tree.Node.{Node}
 use Rattle.branch_tree.specs.declared.tree.Node.TheVariants.{Branch, CostLeaf}
+use Rattle.branch_tree.specs.declared.relaxation.Weight.TheVariants.{Cost}
+use Rattle.branch_tree.specs.Bounds.{IsChoice}
 use Rattle.branch_tree.specs.Claims.{Priced, IsProvedAt, IsRaisedAt, IsNotEvident, is_below, is_open}
 use Rattle.branch_tree.specs.Cuts.{side_of, IsProper}
 use Rattle.branch_tree.specs.Meanings.{Meanings, DoFitFor}
-use Rattle.branch_tree.specs.Regions.{IsOver, are_in}
+use Rattle.branch_tree.specs.Regions.{IsOver, are_in, set_at}
+use Rattle.branch_tree.specs.Sets.{size_of}
 use Rattle.branch_tree.specs.Trees.{Walks, cut_of}
 use Rattle.search.specs.declared.nodes.Division.{Division}
 use Rattle.search.specs.declared.nodes.PendingNode.{PendingNode}
@@ -24,10 +28,10 @@ tree_node (Pending node) = CostLeaf node.bound node.multipliers
 abbrev pub cut_at : SearchNode → Option Cut
 cut_at node = cut_of (tree_node node)
 
--- a node can be branched: it has its region, picks near it, and no evident end
+-- a node can be branched: it has its region, the choice of it under its multipliers, and no evident end
 pub record IsPending (problem : Meanings) (region : List (List Bool)) (node : PendingNode) : Type 0 where
   pub own : node.region ≡ region
-  pub near : problem.AreNear node.picks region
+  pub choice : IsChoice problem region node.multipliers Cost node.picks
   pub not_evident : IsNotEvident problem region
 
 abbrev pub CanBranch : Meanings → List (List Bool) → SearchNode → Type 0
@@ -64,9 +68,24 @@ pub record IsSearched (problem : Meanings) (root : List (List Bool)) (best : Opt
   pub walks : Walks cut_at problem.catalogue (IsPlaced problem root best) (root ∷ []) nodes
   pub plan : HasPlanIn problem root best
 
--- what a branching makes of a node: a cut that is proper in its region, the sides of that cut, and its multipliers
+-- the first trip of a region that has more than one composition
+pub record IsFirstDivisible (region : List (List Bool)) (trip : ℕ) : Type 0 where
+  pub within : trip < length region
+  pub several : 1 < size_of (set_at region trip)
+  pub first : (earlier : ℕ) → earlier < trip → size_of (set_at region earlier) ≤ 1
+
+-- the cut by which a node is branched: the one that was proposed last, where it is proper; else that of the first trip
+-- with more than one composition, by its pick
+pub record IsOwnCut (catalogue : List (List ℕ)) (node : PendingNode) (cut : Cut) : Type 0 where
+  pub proposed : (asked : Cut) → node.cut ≡ Some asked → IsProper catalogue node.region asked → cut ≡ asked
+  pub other : ((asked : Cut) → node.cut ≡ Some asked → IsProper catalogue node.region asked → ⊥) →
+      (trip : ℕ) × IsFirstDivisible node.region trip × (cut ≡ Only trip (get_or node.picks trip 0))
+
+-- what a branching makes of a node: its own cut, which is proper in its region, the sides of that cut, and its
+-- multipliers
 pub record IsDivision (catalogue : List (List ℕ)) (node : PendingNode) (division : Division) : Type 0 where
   pub proper : IsProper catalogue node.region division.cut
+  pub own : IsOwnCut catalogue node division.cut
   pub left : division.left ≡ side_of catalogue division.cut Left node.region
   pub right : division.right ≡ side_of catalogue division.cut Right node.region
   pub multipliers : division.multipliers ≡ node.multipliers

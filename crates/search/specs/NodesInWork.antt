@@ -1,21 +1,26 @@
--- A node in work: what its evaluations have given.
-use Rattle.std.specs.Prelude.{ℕ, ◌≡◌, [], Bool, true, false, ◌≤ℤ◌, Option, Some, None, MatchOption, if◌then◌else◌}
-use Rattle.std.specs.Prelude.{int_lt}
+-- A node in work: what its evaluations have given, and what an evaluation, what it inherits and a proposal make of it.
+use Rattle.std.specs.Prelude.{ℕ, ◌≡◌, ◌<◌, List, [], length, Bool, true, false, ◌≤ℤ◌, Option, Some, None, MatchOption}
+use Rattle.std.specs.Prelude.{if◌then◌else◌, int_lt}
 use Rattle.branch_tree.specs.declared.cuts.Cut.{Cut}
+use Rattle.branch_tree.specs.declared.multipliers.Entry.{Entry}
 use Rattle.branch_tree.specs.declared.relaxation.Weight.TheVariants.{Cost}
 use Rattle.branch_tree.specs.Bounds.{IsChainValue}
 use Rattle.branch_tree.specs.Claims.{Priced, IsNotEvident, is_below}
 use Rattle.branch_tree.specs.Meanings.{Meanings}
 use Rattle.branch_tree.specs.declared.tree.Node.TheVariants.{CostLeaf}
+use Rattle.advisors.specs.Proposed.{Proposed}
 use Rattle.search.specs.declared.evaluation.Ending.{Ending}
 use Rattle.search.specs.declared.evaluation.Evaluation.{Evaluation}
+use Rattle.search.specs.declared.evaluation.Outcome.{Outcome}
+use Rattle.search.specs.declared.evaluation.Outcome.TheVariants.{Ended, Open}
 use Rattle.search.specs.declared.nodes.SearchNode.{SearchNode}
 use Rattle.search.specs.declared.nodes.SearchNode.TheVariants.{Fixed, Pending}
 use Rattle.search.specs.declared.work.Work.{Work}
-use Rattle.search.specs.Evaluations.{IsEnding, IsEvaluated, leaf_of}
+use Rattle.search.specs.Evaluations.{IsEnding, IsEvaluated, IsOutcome, leaf_of}
 
--- the kept value is at least the one with no multipliers; and where that leaves room for a better solution, the end of
--- the region is not evident
+-- What is known of a node in work: its kept and its last evaluation are of its region, its first value is the chain
+-- value with no multipliers, and its end, where it has one, is one of its region. The kept value is at least the first
+-- one; and where that leaves room for a better solution, the end of the region is not evident.
 pub record IsWorkedOn (problem : Meanings) (best : Option Priced) (work : Work) : Type 0 where
   pub kept : IsEvaluated problem work.region work.kept
   pub last : IsEvaluated problem work.region work.last
@@ -23,6 +28,17 @@ pub record IsWorkedOn (problem : Meanings) (best : Option Priced) (work : Work) 
   pub raised : work.first.0 ≤ℤ work.kept.value.0
   pub not_evident : is_below work.first.0 best ≡ true → IsNotEvident problem work.region
   pub ended : MatchOption work.end (Unit {0}) (IsEnding problem work.region)
+
+-- a node in work after its first evaluation
+abbrev pub begun : List (List Bool) → Evaluation → Work
+begun region evaluation = record {
+  region = region;
+  first = evaluation.value;
+  kept = evaluation;
+  last = evaluation;
+  cut = None;
+  end = None;
+}
 
 -- whether a bound leaves room for a better solution, where the end of the region is not shown
 abbrev pub left_by : Bool → Option Ending → Bool
@@ -54,7 +70,7 @@ ended_by node (Some ending) = Fixed (leaf_of ending)
 abbrev pub node_from : ℕ → Option Priced → Work → SearchNode
 node_from number best work = ended_by (node_by number (is_below work.kept.value.0 best) work) work.end
 
--- a node in work after an evaluation left it open
+-- a node in work after an evaluation that shows no end
 abbrev pub learned : Work → Evaluation → Work
 learned work evaluation = record work {
   kept = if int_lt work.kept.value.0 evaluation.value.0 then evaluation else work.kept;
@@ -65,3 +81,35 @@ learned work evaluation = record work {
 abbrev pub or_else : Option Cut → Option Cut → Option Cut
 or_else None earlier = earlier
 or_else (Some cut) earlier = Some cut
+
+-- a node in work after an evaluation, which shows its end or none
+abbrev pub after_outcome : Work → Outcome → Work
+after_outcome work (Ended ending) = record work { end = Some ending }
+after_outcome work (Open evaluation) = learned work evaluation
+
+-- a node in work was evaluated under multipliers
+pub record IsConsidered (problem : Meanings) (best : Option Priced) (multipliers : List Entry) (before after : Work) :
+    Type 0 where
+  pub outcome : Outcome
+  pub is : IsOutcome problem before.region multipliers best outcome
+  pub node : after ≡ after_outcome before outcome
+
+-- a node in work was evaluated under the multipliers that it inherits, where there are such and it was open; else it
+-- and the best solution are as they were
+pub record HasInherited (problem : Meanings) (earlier best : Option Priced) (inherited : List Entry)
+    (before after : Work) : Type 0 where
+  pub considered : is_left_open earlier before ≡ true → 0 < length inherited →
+      IsConsidered problem best inherited before after
+  pub closed : is_left_open earlier before ≡ false → (after ≡ before) × (best ≡ earlier)
+  pub none : inherited ≡ [] → (after ≡ before) × (best ≡ earlier)
+
+-- a node in work with a cut that is proposed, where one is, in place of an earlier one
+abbrev pub remembering : Option Cut → Work → Work
+remembering cut work = record work { cut = or_else cut work.cut }
+
+-- a proposal was taken up: its cut is remembered, and under its multipliers, where it has any, the node was evaluated
+pub record IsTakenUp (problem : Meanings) (earlier best : Option Priced) (proposal : Proposed) (before after : Work) :
+    Type 0 where
+  pub considered : 0 < length proposal.multipliers →
+      IsConsidered problem best proposal.multipliers (remembering proposal.cut before) after
+  pub none : proposal.multipliers ≡ [] → (after ≡ remembering proposal.cut before) × (best ≡ earlier)

@@ -8,7 +8,12 @@ abbrev pub HasPlanIn : Meanings → List (List Bool) → Option Priced → Type 
 HasPlanIn problem region None = Unit {0}
 HasPlanIn problem region (Some plan) = IsPlanIn problem region plan
 
--- the new best one costs no more than the old one, and it is the old one or lies in the region
+-- there is a plan, a solution in the region, and it costs less than the old one, where there was one
+abbrev pub HasCheaperIn : Meanings → List (List Bool) → Option Priced → Option Priced → Type 0
+HasCheaperIn problem region old None = ⊥
+HasCheaperIn problem region old (Some plan) = IsPlanIn problem region plan × (is_below plan.cost old ≡ true)
+
+-- the new best one is the old one, or costs less and lies in the region; so it costs no more
 pub record IsOffered (problem : Meanings) (region : List (List Bool)) (old new : Option Priced) : Type 0 where
   pub no_dearer : (bound : ℤ) → is_below bound new ≡ true → is_below bound old ≡ true
-  pub either : (new ≡ old) ⊎ HasPlanIn problem region new
+  pub either : (new ≡ old) ⊎ HasCheaperIn problem region old new

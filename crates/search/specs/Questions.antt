@@ -3,8 +3,8 @@ use Rattle.std.specs.Prelude.{ℕ, zero, suc, ◌+◌, ◌<◌, ◌≤◌, ◌^�
 use Rattle.std.specs.Prelude.{true, false}
 use Rattle.std.specs.List.{AllZip}
 
--- An advisor that has not quit was asked so many times at least, and each was asked so many times at most. One that has
--- quit stays so, and is not asked.
+-- An advisor that has not quit was asked so many times at least, and each was asked so many times at most. One that had
+-- quit stays so, and was not asked.
 pub record IsAsked (least most before after : ℕ) (had_quit has_quit : Bool) : Type 0 where
   pub not_fewer : before ≤ after
   pub at_most : after ≤ before + most
@@ -17,7 +17,7 @@ abbrev pub AreAsked : {A : Type 0} → List A → List A → (A → ℕ) → (A 
 AreAsked before after asked has_quit least most =
     AllZip (λ old new. IsAsked least most (asked old) (asked new) (has_quit old) (has_quit new)) before after
 
--- the same advisors as before, each at its place
+-- as many advisors as before, each of the identity of the one at its place
 abbrev pub AreTheSame : {A : Type 0} → List A → List A → (A → ℕ) → Type 0
 AreTheSame before after identity = map identity after ≡ map identity before
 
@@ -47,7 +47,7 @@ AreAskedUpTo (old ∷ before) (new ∷ after) asked has_quit least (suc places) 
     IsAsked least 1 (asked old) (asked new) (has_quit old) (has_quit new) ×
     AreAskedUpTo before after asked has_quit least places
 
--- the advisor at a place was asked once, and no other was
+-- the advisor at a place was asked once at most, and once where it has not quit afterwards; and no other was asked
 abbrev pub IsAskedAt : {A : Type 0} → List A → List A → (A → ℕ) → (A → Bool) → ℕ → Type 0
 IsAskedAt [] after asked has_quit place = ⊥
 IsAskedAt (old ∷ before) [] asked has_quit place = ⊥
@@ -61,3 +61,15 @@ pub record CanAsk {A : Type 0} (advisors : List A) (asked : A → ℕ) (has_quit
   pub within : place < length advisors
   pub stays : (advisor : A) → has_quit (get_or advisors place advisor) ≡ false
   pub room : (advisor : A) → asked (get_or advisors place advisor) + 1 < 2 ^ 64
+
+-- the advisors of which it is noted that they have enough are as they were
+abbrev pub AreLeftAlone : {A : Type 0} → List A → List A → List Bool → Type 0
+AreLeftAlone {A} before after enough =
+    (place : ℕ) → (none : A) → get_or enough place false ≡ true → get_or after place none ≡ get_or before place none
+
+-- each other advisor at the first places that has not quit was asked once
+abbrev pub AreAskedOnce : {A : Type 0} → List A → List A → (A → ℕ) → (A → Bool) → List Bool → ℕ → Type 0
+AreAskedOnce {A} before after asked has_quit enough places =
+    (place : ℕ) → (none : A) → place < places → get_or enough place false ≡ false →
+    has_quit (get_or after place none) ≡ false →
+    asked (get_or after place none) ≡ asked (get_or before place none) + 1

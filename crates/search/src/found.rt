@@ -32,7 +32,7 @@ pub enum Found {
     },
     /// All branchings that were granted are made, and a leaf is open.
     Bounded {
-        /// The cheapest solution that was found, where one was.
+        /// A solution, where one was found.
         best: Option<Best>,
         /// No solution costs less.
         bound: Money,

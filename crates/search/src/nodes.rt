@@ -2,10 +2,9 @@
 
 ghost use Rattle.std.specs.Prelude.{ℕ, ◌≡◌, ◌<◌, length, IfOk, IsTrue};
 ghost use Rattle.branch_tree.specs.Cuts.{IsProper};
-ghost use Rattle.branch_tree.specs.Regions.{IsSingle, are_in, has, set_at};
-ghost use Rattle.branch_tree.specs.Sets.{size_of};
+ghost use Rattle.branch_tree.specs.Regions.{IsSingle, are_in, has};
 ghost use Rattle.search.specs.Frontiers.{has_rank};
-ghost use Rattle.search.specs.Nodes.{IsDivision, tree_node};
+ghost use Rattle.search.specs.Nodes.{IsDivision, IsFirstDivisible, IsOwnCut, tree_node};
 
 use branch_tree::{Cut, Multipliers, Node, Region, Side};
 use compositions::Catalogue;
@@ -81,7 +80,7 @@ impl SearchNode {
 }
 
 impl PendingNode {
-    /// Divides the node by its cut. The error is want of memory.
+    /// Divides the node by the cut that `proper_cut` answers. The error is want of memory.
     pub(crate) fn divide(&self, alloc: Global, catalogue: &Catalogue) -> Result<Division, NoMemory>
         requires inside { IsTrue (are_in self.now.picks self.now.region) }
         requires divisible { IsSingle self.now.region → ⊥ }
@@ -108,7 +107,8 @@ impl PendingNode {
         requires inside { IsTrue (are_in self.now.picks self.now.region) }
         requires divisible { IsSingle self.now.region → ⊥ }
         requires within { (trip comp : ℕ) → IsTrue (has self.now.region trip comp) → comp < length catalogue.now }
-        ensures { IsProper catalogue.now self.now.region result }
+        ensures proper { IsProper catalogue.now self.now.region result }
+        ensures own { IsOwnCut catalogue.now self.now result }
     {
         if let Some(cut) = self.cut {
             if self.region.is_proper(catalogue, &cut) {
@@ -126,8 +126,7 @@ impl PendingNode {
     fn divisible_trip(&self) -> TripNo
         requires inside { IsTrue (are_in self.now.picks self.now.region) }
         requires divisible { IsSingle self.now.region → ⊥ }
-        ensures range { result < length self.now.region }
-        ensures size { 1 < size_of (set_at self.now.region result) }
+        ensures { IsFirstDivisible self.now.region result }
     {
         for trip in 0..self.region.trips() {
             if self.region.size(TripNo(trip)) > 1 {

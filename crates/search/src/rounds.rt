@@ -1,16 +1,20 @@
-//! Rounds of advice: each advisor that has not quit is asked once a round, while a node is open.
+//! Rounds of advice: while a node is open, each advisor that has not quit and has not said `Enough` for it is asked
+//! once a round.
 
-ghost use Rattle.std.specs.Prelude.{◌≡◌, ◌+◌, ◌<◌, ◌^◌, false, true, length, All, IfOk, OnOk};
+ghost use Rattle.std.specs.Prelude.{◌≡◌, ◌+◌, ◌<◌, ◌^◌, [], None, false, true, length, get_or, map, set, All};
+ghost use Rattle.std.specs.Prelude.{IfOk, OnOk};
+ghost use Rattle.branch_tree.specs.Sets.{size_of};
 ghost use Rattle.advisors.specs.Quits.{quit_after};
 ghost use Rattle.advisors.specs.Proposals.{IsOverSame};
 ghost use Rattle.search.specs.Questions.{AreAsked, AreTheSame, CanAsk, IsAskedAt, MayBeAsked, in_rounds, once};
-ghost use Rattle.search.specs.NodeAdvice.{AreNotedBut, IsAdviceFor};
+ghost use Rattle.search.specs.Questions.{AreAskedOnce, AreLeftAlone};
+ghost use Rattle.search.specs.NodeAdvice.{AreStillNoted, IsAdviceFor, IsUsed, is_enough};
 ghost use Rattle.search.specs.Offers.{IsOffered};
 ghost use Rattle.search.specs.Conclusions.{plan_in};
 ghost use Rattle.search.specs.NodesInWork.{IsWorkedOn, is_left_open};
 
 use crate::found::Best;
-use crate::work::Work;
+use crate::work::{Shown, Work};
 use advisors::{Advisor, Look, Proposal, Word};
 use branch_tree::{Region, Relaxation, Slacks};
 use rail_base::{NoMemory, TripNo};
@@ -18,30 +22,33 @@ use std::alloc::Global;
 
 /// What is shown to the advisors of one node, and what they answered.
 #[derive(Drop)]
-struct NodeAdvice {
-    /// How many compositions each trip has left.
-    sizes: Vec<u32>,
-    /// The slacks of the last picks.
-    slacks: Slacks,
+pub(crate) struct NodeAdvice {
+    /// What is shown beside its evaluations.
+    shown: Shown,
     /// The proposal that is asked for.
     proposal: Proposal,
     /// For each advisor whether it has said `Enough`.
     has_enough: Vec<bool>,
 }
 
-/// Asks the advisors about an open node, in so many rounds at most, and takes up what they propose. The error is want
-/// of memory.
+/// Asks the advisors about a node while it is open, in so many rounds at most, and takes up what they propose. None of
+/// them was asked about it yet. The error is want of memory.
 pub(crate) fn make_rounds<R: Relaxation>(
     alloc: Global,
     problem: &mut R,
     work: &mut Work,
     best: &mut Option<Best>,
     rounds: u8,
+    advice: &mut NodeAdvice,
     advisors: &mut Vec<Box<dyn Advisor>>,
 ) -> Result<(), NoMemory>
     requires region { length work.old.region ≡ (R.meanings (R.problem problem.old)).trips }
     requires worked { IsWorkedOn (R.meanings (R.problem problem.old)) (plan_in best.old) work.old }
     requires room { MayBeAsked advisors.old.items asked rounds }
+    requires advice { IsAdviceFor (R.meanings (R.problem problem.old)) work.old.region
+        (length advisors.old.items) advice.old }
+    requires unasked { once advice.old.has_enough.items ≡ 1 }
+    requires rounds { advice.old.shown.rounds ≡ 0 }
 
     // The problem, and the node.
     ensures same { R.problem problem.new ≡ R.problem problem.old }
@@ -50,21 +57,21 @@ pub(crate) fn make_rounds<R: Relaxation>(
         (plan_in best.new)) }
     ensures worked { OnOk result (IsWorkedOn (R.meanings (R.problem problem.old)) (plan_in best.new) work.new) }
 
-    // The advisors: that each stays at its place, and how often it was asked.
+    // The advisors: that one of the same identity stands at each place, and how often it was asked.
     ensures advisors { AreTheSame advisors.old.items advisors.new.items identity }
     ensures asked { AreAsked advisors.old.items advisors.new.items asked has_quit 0 rounds }
     ensures least { OnOk result (is_left_open (plan_in best.new) work.new ≡ true →
         AreAsked advisors.old.items advisors.new.items asked has_quit (in_rounds rounds 1) rounds) }
+
+    // The rounds: where their count stands, where the node is left open; and that nothing was done without.
+    ensures rounds { OnOk result (is_left_open (plan_in best.new) work.new ≡ true → advice.new.shown.rounds ≡ rounds) }
+    ensures none { rounds ≡ 0 → OnOk result ((work.new ≡ work.old) × (plan_in best.new ≡ plan_in best.old)) }
 {
-    if !work.is_open(best) {
-        return Ok(());
-    }
-    let mut advice = NodeAdvice::new(alloc, problem, &work.region, advisors.len())?;
-    for round in 0..rounds {
+    for _round in 0..rounds {
         if !work.is_open(best) {
             break;
         }
-        make_round(alloc, problem, work, best, round, &mut advice, advisors)?;
+        make_round(alloc, problem, work, best, advice, advisors)?;
     }
     Ok(())
 }
@@ -75,14 +82,15 @@ fn make_round<R: Relaxation>(
     problem: &mut R,
     work: &mut Work,
     best: &mut Option<Best>,
-    round: u8,
     advice: &mut NodeAdvice,
     advisors: &mut Vec<Box<dyn Advisor>>,
 ) -> Result<(), NoMemory>
     requires region { length work.old.region ≡ (R.meanings (R.problem problem.old)).trips }
     requires worked { IsWorkedOn (R.meanings (R.problem problem.old)) (plan_in best.old) work.old }
     requires room { MayBeAsked advisors.old.items asked 1 }
-    requires advice { IsAdviceFor (R.meanings (R.problem problem.old)) (length advisors.old.items) advice.old }
+    requires advice { IsAdviceFor (R.meanings (R.problem problem.old)) work.old.region
+        (length advisors.old.items) advice.old }
+    requires rounds { advice.old.shown.rounds + 1 < 2 ^ 8 }
 
     // The problem, and the node.
     ensures same { R.problem problem.new ≡ R.problem problem.old }
@@ -91,13 +99,23 @@ fn make_round<R: Relaxation>(
         (plan_in best.new)) }
     ensures worked { OnOk result (IsWorkedOn (R.meanings (R.problem problem.old)) (plan_in best.new) work.new) }
 
-    // The advisors: what is shown to them, that each stays at its place, and how often it was asked.
+    // The advisors: what is shown to them, that one of the same identity stands at each place, and how often it was
+    // asked.
     ensures advice { OnOk result
-        (IsAdviceFor (R.meanings (R.problem problem.old)) (length advisors.old.items) advice.new) }
+        (IsAdviceFor (R.meanings (R.problem problem.old)) work.old.region (length advisors.old.items) advice.new) }
+    ensures rounds { OnOk result (is_left_open (plan_in best.new) work.new ≡ true →
+        advice.new.shown.rounds ≡ advice.old.shown.rounds + 1) }
     ensures advisors { AreTheSame advisors.old.items advisors.new.items identity }
     ensures asked { AreAsked advisors.old.items advisors.new.items asked has_quit 0 1 }
     ensures least { OnOk result (is_left_open (plan_in best.new) work.new ≡ true →
         AreAsked advisors.old.items advisors.new.items asked has_quit (once advice.old.has_enough.items) 1) }
+
+    // Those that have enough, and the others.
+    ensures noted { OnOk result (AreStillNoted advice.old.has_enough.items advice.new.has_enough.items) }
+    ensures alone { AreLeftAlone advisors.old.items advisors.new.items advice.old.has_enough.items }
+    ensures each { OnOk result (is_left_open (plan_in best.new) work.new ≡ true →
+        AreAskedOnce advisors.old.items advisors.new.items asked has_quit advice.old.has_enough.items
+        (length advisors.old.items)) }
 {
     for place in 0..advisors.len() {
         if !work.is_open(best) {
@@ -109,26 +127,30 @@ fn make_round<R: Relaxation>(
         if did_quit(&advisors[place]) {
             continue;
         }
-        take_advice(alloc, problem, work, best, round, advice, advisors, place)?;
+        take_advice(alloc, problem, work, best, advice, advisors, place)?;
     }
+    advice.shown.rounds += 1;
     Ok(())
 }
 
-/// Asks the advisor at a place, which has not quit, and takes up what it proposes unless it quits.
+/// Asks the advisor at a place about an open node, and takes up what it proposes unless it quits. It has not quit, and
+/// has not said `Enough` for this node. Answers its word; the error is want of memory.
 fn take_advice<R: Relaxation>(
     alloc: Global,
     problem: &mut R,
     work: &mut Work,
     best: &mut Option<Best>,
-    round: u8,
     advice: &mut NodeAdvice,
     advisors: &mut Vec<Box<dyn Advisor>>,
     place: usize,
-) -> Result<(), NoMemory>
+) -> Result<Word, NoMemory>
     requires region { length work.old.region ≡ (R.meanings (R.problem problem.old)).trips }
     requires worked { IsWorkedOn (R.meanings (R.problem problem.old)) (plan_in best.old) work.old }
+    requires open { is_left_open (plan_in best.old) work.old ≡ true }
     requires ask { CanAsk advisors.old.items asked has_quit place }
-    requires advice { IsAdviceFor (R.meanings (R.problem problem.old)) (length advisors.old.items) advice.old }
+    requires again { get_or advice.old.has_enough.items place false ≡ false }
+    requires advice { IsAdviceFor (R.meanings (R.problem problem.old)) work.old.region
+        (length advisors.old.items) advice.old }
 
     // The problem, and the node.
     ensures same { R.problem problem.new ≡ R.problem problem.old }
@@ -137,19 +159,23 @@ fn take_advice<R: Relaxation>(
         (plan_in best.new)) }
     ensures worked { OnOk result (IsWorkedOn (R.meanings (R.problem problem.old)) (plan_in best.new) work.new) }
 
-    // The advisors: what is shown to them, that each stays at its place, and which of them was asked.
+    // The advisors: what is shown to them, that one of the same identity stands at each place, and which of them was
+    // asked.
     ensures advice { OnOk result
-        (IsAdviceFor (R.meanings (R.problem problem.old)) (length advisors.old.items) advice.new) }
-    ensures enough { OnOk result (AreNotedBut place advice.old.has_enough.items advice.new.has_enough.items) }
+        (IsAdviceFor (R.meanings (R.problem problem.old)) work.old.region (length advisors.old.items) advice.new) }
+    ensures enough { IfOk result (λ word. advice.new.has_enough.items ≡
+        set advice.old.has_enough.items place (is_enough word)) }
+    ensures rounds { OnOk result (advice.new.shown.rounds ≡ advice.old.shown.rounds) }
+    ensures used { OnOk result (IsUsed advisors.new.items has_quit place (R.meanings (R.problem problem.old))
+        (plan_in best.old) (plan_in best.new) advice.new.proposal work.old work.new) }
     ensures advisors { AreTheSame advisors.old.items advisors.new.items identity }
     ensures asked { IsAskedAt advisors.old.items advisors.new.items asked has_quit place }
 {
-    let word = ask(problem, work, round, advice, &mut advisors[place])?;
-    advice.has_enough[place] = word == Word::Enough;
-    if word == Word::Quit {
-        return Ok(());
+    let word = ask(problem, work, advice, place, &mut advisors[place])?;
+    if word != Word::Quit {
+        work.take_up(alloc, problem, &advice.proposal, best)?;
     }
-    work.take_up(alloc, problem, &advice.proposal, best)
+    Ok(word)
 }
 
 /// Whether an advisor has quit.
@@ -159,15 +185,18 @@ fn did_quit(advisor: &Box<dyn Advisor>) -> bool
     advisor.has_quit()
 }
 
-/// Shows an advisor the node, and asks it for a proposal.
+/// Shows the advisor at a place the node, asks it for a proposal, and notes whether it has enough.
 fn ask<R: Relaxation>(
     problem: &mut R,
     work: &Work,
-    round: u8,
     advice: &mut NodeAdvice,
+    place: usize,
     advisor: &mut Box<dyn Advisor>,
 ) -> Result<Word, NoMemory>
     requires follow { (R.meanings (R.problem problem.old)).Follow work.now.last.picks }
+    requires sizes { advice.old.shown.sizes.items ≡ map size_of work.now.region }
+    requires place { place < length advice.old.has_enough.items }
+    requires again { get_or advice.old.has_enough.items place false ≡ false }
     requires stays { has_quit advisor.old ≡ false }
     requires room { asked advisor.old + 1 < 2 ^ 64 }
     ensures same { R.problem problem.new ≡ R.problem problem.old }
@@ -175,45 +204,69 @@ fn ask<R: Relaxation>(
     ensures quit { has_quit advisor.new ≡ quit_after result }
     ensures advisor { identity advisor.new ≡ identity advisor.old }
     ensures over { IsOverSame advice.old.proposal advice.new.proposal }
-    ensures has_enough { advice.new.has_enough ≡ advice.old.has_enough }
+    ensures rounds { advice.new.shown.rounds ≡ advice.old.shown.rounds }
+    ensures sizes { advice.new.shown.sizes ≡ advice.old.shown.sizes }
+    ensures has_enough { IfOk result (λ word. advice.new.has_enough.items ≡
+        set advice.old.has_enough.items place (is_enough word)) }
 {
-    problem.slacks(&work.last.picks, &mut advice.slacks);
+    problem.slacks(work.last_picks(), &mut advice.shown.slacks);
     advice.proposal.clear();
-    let look = Look {
-        round,
-        sizes: &advice.sizes,
-        first: work.first,
-        kept: work.kept.value,
-        last: work.last.value,
-        multipliers: &work.last.multipliers,
-        picks: &work.last.picks,
-        slacks: &advice.slacks,
-        free_from: problem.free_from(),
-    };
-    advisor.advise(&look, &mut advice.proposal)
+    let look = work.look(problem, &advice.shown);
+    let word = propose(&look, &mut advice.proposal, advisor)?;
+    advice.has_enough[place] = word == Word::Enough;
+    Ok(word)
+}
+
+/// Asks an advisor to fill a proposal that is empty.
+fn propose(
+    look: &Look<'_>,
+    proposal: &mut Proposal,
+    advisor: &mut Box<dyn Advisor>,
+) -> Result<Word, NoMemory>
+    requires stays { has_quit advisor.old ≡ false }
+    requires room { asked advisor.old + 1 < 2 ^ 64 }
+    requires multipliers { proposal.old.multipliers ≡ [] }
+    requires cut { proposal.old.cut ≡ None }
+    ensures asked { asked advisor.new ≡ asked advisor.old + 1 }
+    ensures quit { has_quit advisor.new ≡ quit_after result }
+    ensures advisor { identity advisor.new ≡ identity advisor.old }
+    ensures over { IsOverSame proposal.old proposal.new }
+{
+    advisor.advise(look, proposal)
 }
 
 impl NodeAdvice {
     /// What is shown of a region to so many advisors, none of whom has answered yet. The error is want of memory.
     #[tactic(auto, using(crate::proofs::Asking::once_replicated))]
-    fn new<R: Relaxation>(
+    pub(crate) fn new<R: Relaxation>(
         alloc: Global,
         problem: &R,
         region: &Region,
         advisors: usize,
     ) -> Result<NodeAdvice, NoMemory>
-        ensures advice { IfOk result (IsAdviceFor (R.meanings (R.problem problem.now)) advisors) }
+        ensures advice { IfOk result (IsAdviceFor (R.meanings (R.problem problem.now)) region.now advisors) }
         ensures once { IfOk result (λ advice. once advice.has_enough.items ≡ 1) }
+        ensures rounds { IfOk result (λ advice. advice.shown.rounds ≡ 0) }
     {
-        let mut sizes = Vec::new(alloc);
-        for trip in 0..region.trips() {
-            sizes.push(region.size(TripNo(trip)))?;
-        }
         Ok(NodeAdvice {
-            sizes,
-            slacks: Slacks::new(alloc)?,
+            shown: Shown {
+                rounds: 0,
+                sizes: sizes_of(alloc, region)?,
+                slacks: Slacks::new(alloc)?,
+            },
             proposal: Proposal::new(alloc, problem.indices(), problem.free_from())?,
             has_enough: vec![in alloc; false; advisors]?,
         })
     }
+}
+
+/// How many compositions each trip of a region has. The error is want of memory.
+fn sizes_of(alloc: Global, region: &Region) -> Result<Vec<u32>, NoMemory>
+    ensures { IfOk result (λ sizes. sizes.items ≡ map size_of region.now) }
+{
+    let mut sizes = Vec::new(alloc);
+    for trip in 0..region.trips() {
+        sizes.push(region.size(TripNo(trip)))?;
+    }
+    Ok(sizes)
 }

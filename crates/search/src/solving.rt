@@ -1,26 +1,28 @@
 //! The search: it begins with the root, branches the open node of the least bound while branchings are granted, and
 //! tells what its tree proves.
 
-ghost use Rattle.std.specs.Prelude.{ℕ, List, Bool, Option, ◌≡◌, ◌+◌, ◌*◌, ◌<◌, ◌≤◌, ◌^◌, true, length, All, IfOk, OnOk};
+ghost use Rattle.std.specs.Prelude.{ℕ, List, [], ◌∷◌, Bool, Option, ◌≡◌, ◌+◌, ◌*◌, ◌<◌, ◌≤◌, ◌^◌, true, length, All};
+ghost use Rattle.std.specs.Prelude.{IfOk, OnOk};
 ghost use Rattle.rail_base.specs.declared.limits.TheConstants.{MOST_BRANCHINGS, MOST_NODES, MOST_ROUNDS};
 ghost use Rattle.branch_tree.specs.Claims.{Priced, is_open, open_leaves_of};
 ghost use Rattle.branch_tree.specs.Meanings.{DoFitFor};
 ghost use Rattle.branch_tree.specs.Regions.{IsOver};
 ghost use Rattle.branch_tree.specs.Trees.{branchings_of};
+ghost use Rattle.search.specs.declared.nodes.SearchNode.{SearchNode};
 ghost use Rattle.search.specs.Questions.{AreAsked, AreTheSame, MayBeAsked, in_rounds};
 ghost use Rattle.search.specs.Ends.{HasEnded, HaveKeptUp, found_by, least_of, lesser, made_or_open};
-ghost use Rattle.search.specs.Frontiers.{IsEntered, IsOpenAt};
-ghost use Rattle.search.specs.Putting.{IsPut};
+ghost use Rattle.search.specs.Frontiers.{HasLeastRank, IsEntered, IsOpenAt};
+ghost use Rattle.search.specs.Putting.{IsBranchedAt, IsMade, IsNumbered, IsPut};
 ghost use Rattle.search.specs.Nodes.{IsDivisionAt, IsLeafOf, IsSearched, tree_node, tree_nodes};
 ghost use Rattle.search.specs.Offers.{IsOffered};
 ghost use Rattle.search.specs.Conclusions.{IsSolved, nodes_found, plan_found, plan_in};
-ghost use Rattle.search.specs.NodesInWork.{IsWorkedOn, is_left_open};
+ghost use Rattle.search.specs.NodesInWork.{HasInherited, IsWorkedOn, is_left_open};
 
 use crate::evaluation::{Outcome, evaluate, is_below};
 use crate::found::{Best, Found};
 use crate::frontier::Frontier;
 use crate::nodes::{Division, SearchNode};
-use crate::rounds::make_rounds;
+use crate::rounds::{NodeAdvice, make_rounds};
 use crate::work::Work;
 use advisors::Advisor;
 use branch_tree::{Multipliers, Node, Region, Relaxation, Tree};
@@ -49,11 +51,11 @@ struct Search {
 /// are granted are made and a leaf is open: its bound is below the cost of the best solution, or there is none yet.
 /// Else it is `Optimal` where a solution was found, and `Infeasible` where none was: then there is none in the root.
 ///
-/// The advisors are the same afterwards, each at its place, whatever the answer is, and none was asked fewer times than
-/// before. One that has quit, before or meanwhile, stays so and is not asked again. Each was asked at most `rounds`
-/// times as often as nodes were made, or, after the error, as nodes may be made. Where there is no error and there are
-/// rounds, one that has not quit was asked at least as often as there are branchings and leaves that are open at the
-/// end.
+/// Afterwards an advisor of the same identity stands at each place, whatever the answer is, and none was asked fewer
+/// times than before. One that had quit stays so and is not asked, and none is asked once it has quit, as its call
+/// wants. Each was asked at most `rounds` times for each node that was made, or, after the error, for each that may be
+/// made. Where there is no error and there are rounds, one that has not quit was asked at least as often as there are
+/// branchings and leaves that are open at the end.
 ///
 /// The error is want of memory alone, here or in an advisor. What the problem means is as before after any answer.
 pub fn solve<R: Relaxation>(
@@ -104,7 +106,7 @@ fn run<R: Relaxation>(
     ensures granted { IfOk result (λ search. branchings_of (tree_nodes search.nodes.items) ≤ grant) }
     ensures ended { IfOk result (λ search. HasEnded grant (plan_in search.best) (tree_nodes search.nodes.items)) }
 
-    // The advisors: that each stays at its place, and how often it was asked.
+    // The advisors: that one of the same identity stands at each place, and how often it was asked.
     ensures advisors { AreTheSame advisors.old.items advisors.new.items identity }
     ensures asked { AreAsked advisors.old.items advisors.new.items asked has_quit 0 (rounds * (2 * grant + 1)) }
     ensures counted { IfOk result (λ search. AreAsked advisors.old.items advisors.new.items asked has_quit
@@ -142,8 +144,10 @@ impl Search {
         ensures entered { IfOk result (λ search.
             All (IsEntered (plan_in search.best) search.frontier) search.nodes.items) }
         ensures none { IfOk result (λ search. branchings_of (tree_nodes search.nodes.items) ≡ 0) }
+        ensures made { rounds ≡ 0 → IfOk result (λ search. (node : SearchNode) × (search.nodes.items ≡ node ∷ []) ×
+            IsMade (R.meanings (R.problem problem.old)) (plan_in search.best) root.now [] 0 node) }
 
-        // The advisors: that each stays at its place, and how often it was asked.
+        // The advisors: that one of the same identity stands at each place, and how often it was asked.
         ensures advisors { AreTheSame advisors.old.items advisors.new.items identity }
         ensures asked { AreAsked advisors.old.items advisors.new.items asked has_quit 0 rounds }
         ensures counted { IfOk result (λ search. AreAsked advisors.old.items advisors.new.items asked has_quit
@@ -160,7 +164,8 @@ impl Search {
         Ok(search)
     }
 
-    /// Branches the open node at a place.
+    /// Branches the open node of the least bound, of these the one with the least number, which is at a place. Its left
+    /// side is made first.
     fn branch<R: Relaxation>(
         &mut self,
         alloc: Global,
@@ -175,6 +180,7 @@ impl Search {
         requires entered { All (IsEntered (plan_in self.old.best) self.old.frontier) self.old.nodes.items }
         requires few { length self.old.nodes.items < MOST_NODES }
         requires open { IsOpenAt (plan_in self.old.best) self.old.nodes.items place }
+        requires least { HasLeastRank (plan_in self.old.best) self.old.nodes.items place }
         requires room { MayBeAsked advisors.old.items asked (2 * rounds) }
 
         // The problem, and the nodes.
@@ -185,8 +191,10 @@ impl Search {
         ensures entered { OnOk result (All (IsEntered (plan_in self.new.best) self.new.frontier) self.new.nodes.items) }
         ensures one { OnOk result
             (branchings_of (tree_nodes self.new.nodes.items) ≡ branchings_of (tree_nodes self.old.nodes.items) + 1) }
+        ensures branched { OnOk result (IsBranchedAt (R.meanings (R.problem problem.old)) (plan_in self.old.best)
+            (plan_in self.new.best) rounds self.old.nodes.items self.new.nodes.items place) }
 
-        // The advisors: that each stays at its place, and how often it was asked.
+        // The advisors: that one of the same identity stands at each place, and how often it was asked.
         ensures advisors { AreTheSame advisors.old.items advisors.new.items identity }
         ensures asked { AreAsked advisors.old.items advisors.new.items asked has_quit 0 (2 * rounds) }
         ensures counted { OnOk result (HaveKeptUp (plan_in self.old.best) (tree_nodes self.old.nodes.items)
@@ -242,7 +250,8 @@ impl Search {
         ensures offered { OnOk result (IsOffered (R.meanings (R.problem problem.old)) region (plan_in self.old.best)
             (plan_in self.new.best)) }
         ensures accepted { OnOk result (R.IsAccepted (R.problem problem.old)) }
-        ensures put { OnOk result (IsPut (R.meanings (R.problem problem.old)) region place self.old self.new
+        ensures put { OnOk result (IsPut (R.meanings (R.problem problem.old)) region inherited.now rounds place
+            self.old self.new
             (AreAsked advisors.old.items advisors.new.items asked has_quit (in_rounds rounds 1) rounds)) }
         ensures advisors { AreTheSame advisors.old.items advisors.new.items identity }
         ensures asked { AreAsked advisors.old.items advisors.new.items asked has_quit 0 rounds }
@@ -362,8 +371,11 @@ fn make_node<R: Relaxation>(
         (plan_in best.new)) }
     ensures accepted { OnOk result (R.IsAccepted (R.problem problem.old)) }
     ensures node { IfOk result (IsLeafOf (R.meanings (R.problem problem.old)) (plan_in best.new) region) }
+    ensures number { IfOk result (IsNumbered number) }
+    ensures made { rounds ≡ 0 → IfOk result (IsMade (R.meanings (R.problem problem.old)) (plan_in best.new) region
+        inherited.now number) }
 
-    // The advisors: that each stays at its place, and how often it was asked.
+    // The advisors: that one of the same identity stands at each place, and how often it was asked.
     ensures advisors { AreTheSame advisors.old.items advisors.new.items identity }
     ensures asked { AreAsked advisors.old.items advisors.new.items asked has_quit 0 rounds }
     ensures least { IfOk result (λ node. is_open (plan_in best.new) (tree_node node) ≡ true →
@@ -404,12 +416,20 @@ fn work_on<R: Relaxation>(
         (plan_in best.new)) }
     ensures worked { OnOk result (IsWorkedOn (R.meanings (R.problem problem.old)) (plan_in best.new) work.new) }
 
-    // The advisors: that each stays at its place, and how often it was asked.
+    // The advisors: that one of the same identity stands at each place, and how often it was asked.
     ensures advisors { AreTheSame advisors.old.items advisors.new.items identity }
     ensures asked { AreAsked advisors.old.items advisors.new.items asked has_quit 0 rounds }
     ensures least { OnOk result (is_left_open (plan_in best.new) work.new ≡ true →
         AreAsked advisors.old.items advisors.new.items asked has_quit (in_rounds rounds 1) rounds) }
+
+    // Without rounds: what is inherited, and no more.
+    ensures inherited { rounds ≡ 0 → OnOk result (HasInherited (R.meanings (R.problem problem.old)) (plan_in best.old)
+        (plan_in best.new) inherited.now work.old work.new) }
 {
     work.inherit(alloc, problem, inherited, best)?;
-    make_rounds(alloc, problem, work, best, rounds, advisors)
+    if !work.is_open(best) {
+        return Ok(());
+    }
+    let mut advice = NodeAdvice::new(alloc, problem, work.region(), advisors.len())?;
+    make_rounds(alloc, problem, work, best, rounds, &mut advice, advisors)
 }

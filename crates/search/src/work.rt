@@ -1,34 +1,50 @@
 //! A node in work: its region, and what its evaluations have given so far.
 
-ghost use Rattle.std.specs.Prelude.{◌≡◌, None, length, IfOk, OnOk};
+ghost use Rattle.std.specs.Prelude.{◌≡◌, true, length, map, IfOk, OnOk};
+ghost use Rattle.branch_tree.specs.Bounds.{AreSlacks};
 ghost use Rattle.branch_tree.specs.Meanings.{DoFitFor};
+ghost use Rattle.branch_tree.specs.Sets.{size_of};
+ghost use Rattle.search.specs.NodeAdvice.{IsLookAt};
 ghost use Rattle.search.specs.Offers.{IsOffered};
 ghost use Rattle.search.specs.Conclusions.{plan_in};
-ghost use Rattle.search.specs.NodesInWork.{IsWorkedOn, is_left_open, learned, node_from, or_else};
+ghost use Rattle.search.specs.NodesInWork.{HasInherited, IsConsidered, IsTakenUp, IsWorkedOn};
+ghost use Rattle.search.specs.NodesInWork.{begun, is_left_open, learned, node_from, remembering};
 
 use crate::evaluation::{Ending, Evaluation, Outcome, evaluate, is_below};
 use crate::found::Best;
 use crate::nodes::{PendingNode, SearchNode};
-use advisors::Proposal;
-use branch_tree::{Cut, Multipliers, Node, Region, Relaxation};
+use advisors::{Look, Proposal};
+use branch_tree::{Cut, Multipliers, Node, Region, Relaxation, Slacks};
 use rail_base::{Money, NoMemory};
 use std::alloc::Global;
+use timetable::Picks;
 
-/// A node whose first evaluation, with no multipliers, has left it open.
+/// A node whose first evaluation, with no multipliers, has not shown that its region has no solution.
 #[derive(Drop)]
 pub(crate) struct Work {
     /// The region of the node.
-    pub region: Region,
+    region: Region,
     /// The least priced value with no multipliers.
-    pub first: Money,
+    first: Money,
     /// The evaluation with the greatest value, the earliest of these.
-    pub kept: Evaluation,
-    /// The last evaluation that left the node open.
-    pub last: Evaluation,
+    kept: Evaluation,
+    /// The last evaluation that showed no end.
+    last: Evaluation,
     /// The cut that was proposed last.
-    pub cut: Option<Cut>,
+    cut: Option<Cut>,
     /// Why the region has no solution, once that is shown.
-    pub end: Option<Ending>,
+    end: Option<Ending>,
+}
+
+/// What is shown of a node beside its evaluations.
+#[derive(Drop)]
+pub(crate) struct Shown {
+    /// How many rounds of advice were made before.
+    pub rounds: u8,
+    /// How many compositions each trip of its region has.
+    pub sizes: Vec<u32>,
+    /// The slacks of its last picks.
+    pub slacks: Slacks,
 }
 
 impl Work {
@@ -38,14 +54,7 @@ impl Work {
         region: Region,
         evaluation: Evaluation,
     ) -> Result<Work, NoMemory>
-        ensures { IfOk result (λ work. work ≡ record {
-          region = region;
-          first = evaluation.value;
-          kept = evaluation;
-          last = evaluation;
-          cut = None;
-          end = None;
-        }) }
+        ensures { IfOk result (λ work. work ≡ begun region evaluation) }
     {
         Ok(Work {
             region,
@@ -57,6 +66,39 @@ impl Work {
         })
     }
 
+    /// The region of the node.
+    pub(crate) fn region(&self) -> &Region
+        ensures { result.now ≡ self.now.region }
+    {
+        &self.region
+    }
+
+    /// The picks of the last evaluation that showed no end.
+    pub(crate) fn last_picks(&self) -> &Picks
+        ensures { result.now ≡ self.now.last.picks }
+    {
+        &self.last.picks
+    }
+
+    /// All that is shown of the node.
+    pub(crate) fn look<'a, R: Relaxation>(&'a self, problem: &R, shown: &'a Shown) -> Look<'a>
+        requires sizes { shown.now.sizes.items ≡ map size_of self.now.region }
+        requires slacks { AreSlacks (R.meanings (R.problem problem.now)) self.now.last.picks shown.now.slacks }
+        ensures { IsLookAt (R.meanings (R.problem problem.now)) self.now shown.now result }
+    {
+        Look {
+            round: shown.rounds,
+            sizes: &shown.sizes,
+            first: self.first,
+            kept: self.kept.value,
+            last: self.last.value,
+            multipliers: &self.last.multipliers,
+            picks: &self.last.picks,
+            slacks: &shown.slacks,
+            free_from: problem.free_from(),
+        }
+    }
+
     /// Whether the node may still have a better solution than the best one.
     pub(crate) fn is_open(&self, best: &Option<Best>) -> bool
         ensures { result ≡ is_left_open (plan_in best.now) self.now }
@@ -64,8 +106,8 @@ impl Work {
         self.end.is_none() && is_below(self.kept.value, best)
     }
 
-    /// Evaluates the node under multipliers that fit, which are kept where their value is greater than that of the kept
-    /// ones. The error is want of memory.
+    /// Evaluates the node, which is open, under multipliers that fit. They are kept where their value is greater than
+    /// that of the kept ones. The error is want of memory.
     pub(crate) fn consider<R: Relaxation>(
         &mut self,
         alloc: Global,
@@ -75,12 +117,15 @@ impl Work {
     ) -> Result<(), NoMemory>
         requires fits { DoFitFor (R.meanings (R.problem problem.old)) multipliers }
         requires region { length self.old.region ≡ (R.meanings (R.problem problem.old)).trips }
+        requires open { is_left_open (plan_in best.old) self.old ≡ true }
         requires worked { IsWorkedOn (R.meanings (R.problem problem.old)) (plan_in best.old) self.old }
         ensures same { R.problem problem.new ≡ R.problem problem.old }
         ensures region { OnOk result (self.new.region ≡ self.old.region) }
         ensures offered { OnOk result (IsOffered (R.meanings (R.problem problem.old)) self.old.region
             (plan_in best.old) (plan_in best.new)) }
         ensures worked { OnOk result (IsWorkedOn (R.meanings (R.problem problem.old)) (plan_in best.new) self.new) }
+        ensures considered { OnOk result (IsConsidered (R.meanings (R.problem problem.old)) (plan_in best.new)
+            multipliers self.old self.new) }
     {
         match evaluate(alloc, problem, &self.region, multipliers, best)? {
             Outcome::Ended(ending) => self.end = Some(ending),
@@ -106,6 +151,8 @@ impl Work {
         ensures offered { OnOk result (IsOffered (R.meanings (R.problem problem.old)) self.old.region
             (plan_in best.old) (plan_in best.new)) }
         ensures worked { OnOk result (IsWorkedOn (R.meanings (R.problem problem.old)) (plan_in best.new) self.new) }
+        ensures inherited { OnOk result (HasInherited (R.meanings (R.problem problem.old)) (plan_in best.old)
+            (plan_in best.new) inherited.now self.old self.new) }
     {
         if inherited.len() > 0 && self.is_open(best) {
             return self.consider(alloc, problem, inherited.copy(alloc)?, best);
@@ -113,8 +160,8 @@ impl Work {
         Ok(())
     }
 
-    /// Tries a proposal: its cut is remembered, and its multipliers, where it has an entry, are considered. The error
-    /// is want of memory.
+    /// Takes up a proposal for the node, which is open: its cut is remembered, and its multipliers, where it has an
+    /// entry, are considered. The error is want of memory.
     pub(crate) fn take_up<R: Relaxation>(
         &mut self,
         alloc: Global,
@@ -125,12 +172,15 @@ impl Work {
         requires indices { proposal.now.indices ≡ (R.meanings (R.problem problem.old)).indices }
         requires free_from { proposal.now.free_from ≡ (R.meanings (R.problem problem.old)).free_from }
         requires region { length self.old.region ≡ (R.meanings (R.problem problem.old)).trips }
+        requires open { is_left_open (plan_in best.old) self.old ≡ true }
         requires worked { IsWorkedOn (R.meanings (R.problem problem.old)) (plan_in best.old) self.old }
         ensures same { R.problem problem.new ≡ R.problem problem.old }
         ensures region { OnOk result (self.new.region ≡ self.old.region) }
         ensures offered { OnOk result (IsOffered (R.meanings (R.problem problem.old)) self.old.region
             (plan_in best.old) (plan_in best.new)) }
         ensures worked { OnOk result (IsWorkedOn (R.meanings (R.problem problem.old)) (plan_in best.new) self.new) }
+        ensures taken_up { OnOk result (IsTakenUp (R.meanings (R.problem problem.old)) (plan_in best.old)
+            (plan_in best.new) proposal.now self.old self.new) }
     {
         self.remember(proposal.asked_cut());
         if proposal.multipliers().len() > 0 {
@@ -153,7 +203,7 @@ impl Work {
 
     /// Remembers a cut in place of an earlier one.
     fn remember(&mut self, cut: Option<Cut>)
-        ensures { self.new ≡ record self.old { cut = or_else cut self.old.cut } }
+        ensures { self.new ≡ remembering cut self.old }
     {
         if let Some(cut) = cut {
             self.cut = Some(cut);

@@ -1,4 +1,4 @@
-use Rattle.std.proofs.Common.{◌≡◌, ap, Bool, Option, Some, None, List, [], sym, ◌∙◌, subst, refl}
+use Rattle.std.proofs.Common.{◌≡◌, ap, Bool, Option, Some, None, List, [], inl, inr, sym, ◌∙◌, subst, refl, arith}
 use Rattle.std.proofs.lemmas.Result.{IfOk-from_err}
 use Rattle.branch_tree.specs.declared.multipliers.Entry.{Entry}
 use Rattle.branch_tree.specs.declared.relaxation.Weight.TheVariants.{Cost}
@@ -6,7 +6,7 @@ use Rattle.branch_tree.specs.Bounds.{IsEmpty}
 use Rattle.branch_tree.specs.Claims.{IsRay}
 use Rattle.branch_tree.specs.Meanings.{DoFitFor}
 use Rattle.search.specs.Conclusions.{plan_in}
-use Rattle.search.specs.Evaluations.{IsRayTest, IsSettledAs}
+use Rattle.search.specs.Evaluations.{HasNoRay, IsRayTest, IsSettledAs}
 use Rattle.search.specs.Offers.{IsOffered}
 use Rattle.search.proofs.Evaluating.{not_offered, evaluated, settled_unnamed, empty_unvalued}
 use Rattle.search.proofs.evaluation.evaluate.Goals as goal
@@ -50,9 +50,11 @@ returns-in-Some-clause-offered g c =
 
 pub returns-in-Some-clause-outcome : goal.returns-in-Some-clause-outcome
 returns-in-Some-clause-outcome g c =
+    let settled =
     subst (λ problem. IsSettledAs (g.R.Relaxation.meanings problem) c.args.region.now (plan_in c.settle.new.best) c.bound.new.best (Some c.in-Some.named)) c.bound.ensures.same
     (subst (λ (found : Option (List Entry)). IsSettledAs (g.R.Relaxation.meanings (g.R.Relaxation.problem c.bound.new.self)) c.args.region.now
-    (plan_in c.settle.new.best) c.bound.new.best found) c.in-Some.is c.in_ok-named.ensures.settled)
+    (plan_in c.settle.new.best) c.bound.new.best found) c.in-Some.is c.in_ok-named.ensures.settled) in
+    (settled.0, (c.bound.new.best, c.in-Value.ensures.bound.0, inl (settled.1, settled.2)))
 
 pub is_ray-requires-clause-fits : goal.is_ray-requires-clause-fits
 is_ray-requires-clause-fits g c =
@@ -79,10 +81,22 @@ returns-then-branch-clause-offered g c =
 
 pub returns-then-branch-clause-outcome : goal.returns-then-branch-clause-outcome
 returns-then-branch-clause-outcome g c = (
-  c.requires.fits,
-  subst (λ problem. IsRay (g.R.Relaxation.meanings problem) c.args.region.now c.args.multipliers) (c.settle.ensures.same ∙ c.bound.ensures.same)
-      (subst (λ (found : Bool). IsRayTest (g.R.Relaxation.meanings (g.R.Relaxation.problem c.settle.new.problem)) c.args.region.now c.args.multipliers found)
-      c.if-branch.true c.in_ok-is_ray.ensures.ray),
+  (
+    c.requires.fits,
+    subst (λ problem. IsRay (g.R.Relaxation.meanings problem) c.args.region.now c.args.multipliers) (c.settle.ensures.same ∙ c.bound.ensures.same)
+        (subst (λ (found : Bool). IsRayTest (g.R.Relaxation.meanings (g.R.Relaxation.problem c.settle.new.problem)) c.args.region.now c.args.multipliers found)
+        c.if-branch.true c.in_ok-is_ray.ensures.ray),
+  ),
+  (
+    c.bound.new.best,
+    c.in-Value.ensures.bound.0,
+    inr (
+      subst (λ problem. IsSettledAs (g.R.Relaxation.meanings problem) c.args.region.now (plan_in c.settle.new.best) c.bound.new.best None) c.bound.ensures.same
+          (settled_unnamed _ _ _ _ c.in_ok-named.field-0 c.in_default-2.not-Some c.in_ok-named.ensures.settled),
+      omega (arith, c.if-len-gt0.true, c.len.ensures.value),
+      refl,
+    ),
+  ),
 )
 
 pub returns-clause-offered : goal.returns-clause-offered
@@ -97,6 +111,12 @@ returns-clause-outcome g c =
       refl,
       subst (λ problem. IsSettledAs (g.R.Relaxation.meanings problem) c.args.region.now (plan_in c.settle.new.best) c.bound.new.best None) c.bound.ensures.same
           (settled_unnamed _ _ _ _ c.in_ok-named.field-0 c.in_default-2.not-Some c.in_ok-named.ensures.settled),
+      λ some. elim c.else-len-gt0.branch as (λ _. HasNoRay (g.R.Relaxation.meanings (g.R.Relaxation.problem c.args.problem.now)) c.args.region.now c.args.multipliers) [
+        | else-len-gt0-via-then-len-gt0+in_ok-is_ray+else-branch w ↦
+            subst (λ problem. HasNoRay (g.R.Relaxation.meanings problem) c.args.region.now c.args.multipliers) (c.settle.ensures.same ∙ c.bound.ensures.same)
+            (subst (λ (found : Bool). IsRayTest (g.R.Relaxation.meanings (g.R.Relaxation.problem c.settle.new.problem)) c.args.region.now c.args.multipliers found) w.if-branch.false w.in_ok-is_ray.ensures.ray)
+        | else-len-gt0-via-else-len-gt0 w ↦ absurd (omega (arith, w.if-len-gt0.false, c.len.ensures.value, some))
+      ],
     )
 
 pub returns-in_default-clause-accepted : goal.returns-in_default-clause-accepted

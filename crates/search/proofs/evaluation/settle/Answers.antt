@@ -5,7 +5,7 @@ use Rattle.branch_tree.specs.Claims.{IsRay}
 use Rattle.branch_tree.specs.Meanings.{DoFitFor}
 use Rattle.search.specs.Conclusions.{plan_in}
 use Rattle.search.specs.Evaluations.{HasNoRay, IsRayTest}
-use Rattle.search.proofs.Evaluating.{not_offered, passed_unit, passed_fits, left_open_by_passed}
+use Rattle.search.proofs.Evaluating.{not_offered, passed_unit, passed_fits, left_open_by_passed, named_broken}
 use Rattle.search.proofs.evaluation.settle.Goals as goal
 
 pub settle-requires : goal.settle-requires
@@ -44,11 +44,15 @@ returns-then-branch-clause-offered g c = not_offered _ _ _
 pub returns-then-branch-clause-settled : goal.returns-then-branch-clause-settled
 returns-then-branch-clause-settled g c =
     let relaxation = g.met.R.Relaxation.relaxes (g.R.Relaxation.problem c.args.problem.now) c.requires.accepted in (
-      passed_fits _ relaxation c.args.picks.now c.in-Broken.index c.in-Broken.sign _
-          (relaxation.near_follow c.args.picks.now c.args.region.now c.requires.near) c.in-Broken.ensures.settled c.in_ok-named-in-Broken.ensures,
-      subst (λ problem. IsRay (g.R.Relaxation.meanings problem) c.args.region.now c.in_ok-named-in-Broken.named) c.settle.ensures.same
-          (subst (λ (found : Bool). IsRayTest (g.R.Relaxation.meanings (g.R.Relaxation.problem c.settle.new.self)) c.args.region.now c.in_ok-named-in-Broken.named found)
-          c.if-branch.true c.in_ok-is_ray-in-Broken.ensures.ray),
+      (
+        passed_fits _ relaxation c.args.picks.now c.in-Broken.index c.in-Broken.sign _
+            (relaxation.near_follow c.args.picks.now c.args.region.now c.requires.near) c.in-Broken.ensures.settled c.in_ok-named-in-Broken.ensures,
+        subst (λ problem. IsRay (g.R.Relaxation.meanings problem) c.args.region.now c.in_ok-named-in-Broken.named) c.settle.ensures.same
+            (subst (λ (found : Bool). IsRayTest (g.R.Relaxation.meanings (g.R.Relaxation.problem c.settle.new.self)) c.args.region.now c.in_ok-named-in-Broken.named found)
+            c.if-branch.true c.in_ok-is_ray-in-Broken.ensures.ray),
+      ),
+      c.in-Broken.ensures.settled.0,
+      named_broken _ c.args.picks.now c.in-Broken.index c.in-Broken.sign _ c.in-Broken.ensures.settled c.in_ok-named-in-Broken.ensures,
     )
 
 pub returns-else-branch-clause-offered : goal.returns-else-branch-clause-offered

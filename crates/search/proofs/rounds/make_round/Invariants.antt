@@ -1,6 +1,6 @@
 use Rattle.std.proofs.Common.{◌≡◌, ℕ, ◌≤◌, false, length, get_or}
-use Rattle.search.specs.Questions.{AreAskedUpTo, AreTheSame, once}
-use Rattle.search.specs.NodeAdvice.{IsAdviceFor}
+use Rattle.search.specs.Questions.{AreAskedOnce, AreAskedUpTo, AreLeftAlone, AreTheSame, once}
+use Rattle.search.specs.NodeAdvice.{AreStillNoted, IsAdviceFor}
 use Rattle.search.specs.Offers.{IsOffered}
 use Rattle.search.specs.Conclusions.{plan_in}
 use Rattle.search.specs.NodesInWork.{IsWorkedOn}
@@ -12,8 +12,13 @@ invariant-loop-place g l = record {
   region : l.work.region ≡ l.fn.work.region;
   offered : IsOffered (g.R.Relaxation.meanings (g.R.Relaxation.problem l.fn.problem)) l.fn.work.region (plan_in l.fn.best) (plan_in l.best);
   worked : IsWorkedOn (g.R.Relaxation.meanings (g.R.Relaxation.problem l.fn.problem)) (plan_in l.best) l.work;
-  advice : IsAdviceFor (g.R.Relaxation.meanings (g.R.Relaxation.problem l.fn.problem)) (length l.fn.advisors.items) l.advice;
+  advice : IsAdviceFor (g.R.Relaxation.meanings (g.R.Relaxation.problem l.fn.problem)) l.fn.work.region (length l.fn.advisors.items) l.advice;
+  rounds : l.advice.shown.rounds ≡ l.fn.advice.shown.rounds;
   enough : (place : ℕ) → l.place ≤ place → get_or l.advice.has_enough.items place false ≡ get_or l.fn.advice.has_enough.items place false;
+  noted : AreStillNoted l.fn.advice.has_enough.items l.advice.has_enough.items;
+  alone : AreLeftAlone l.fn.advisors.items l.advisors.items l.fn.advice.has_enough.items;
+  each : AreAskedOnce l.fn.advisors.items l.advisors.items (λ b. (goal.Advisor-dyn g (b.vtable, b.value)).asked b.value)
+      (λ b. (goal.Advisor-dyn g (b.vtable, b.value)).has_quit b.value) l.fn.advice.has_enough.items l.place;
   advisors : AreTheSame l.fn.advisors.items l.advisors.items (λ b. (goal.Advisor-dyn g (b.vtable, b.value)).identity b.value);
   asked : AreAskedUpTo l.fn.advisors.items l.advisors.items (λ b. (goal.Advisor-dyn g (b.vtable, b.value)).asked b.value)
       (λ b. (goal.Advisor-dyn g (b.vtable, b.value)).has_quit b.value) (once l.fn.advice.has_enough.items) l.place;

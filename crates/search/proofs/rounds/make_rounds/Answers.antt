@@ -1,6 +1,5 @@
 use Rattle.std.proofs.Common.{◌≡◌, ℕ, ◌+◌, ◌≤◌, length, refl, sym, subst, ◌∙◌, arith}
-use Rattle.std.proofs.lemmas.Bool.{false≢true}
-use Rattle.search.specs.Questions.{AreAsked, in_rounds, once}
+use Rattle.search.specs.Questions.{once}
 use Rattle.search.specs.NodeAdvice.{IsAdviceFor}
 use Rattle.search.specs.Offers.{IsOffered}
 use Rattle.search.specs.Conclusions.{plan_in}
@@ -8,11 +7,7 @@ use Rattle.search.specs.NodesInWork.{IsWorkedOn}
 use Rattle.search.proofs.Asking.{are_asked_again, are_asked_within, are_unasked, asked_in_all, asked_once, length-asked}
 use Rattle.search.proofs.Asking.{may_be_asked_yet}
 use Rattle.search.proofs.Evaluating.{not_offered, offered_again}
-use Rattle.search.proofs.rounds.make_rounds.Goals.{else-loop-round-test, then-loop-round-test+then-not-is_open-2}
 use Rattle.search.proofs.rounds.make_rounds.Goals as goal
-
-pub returns-in_err-advice-clause-asked : goal.returns-in_err-advice-clause-asked
-returns-in_err-advice-clause-asked g c = are_unasked _ _ c.args.rounds c.args.advisors.now.items
 
 pub loop-round-init : goal.loop-round-init
 loop-round-init g c = record {
@@ -20,29 +15,28 @@ loop-round-init g c = record {
   region = refl;
   offered = not_offered (g.R.Relaxation.meanings (g.R.Relaxation.problem c.args.problem.now)) c.args.work.now.region (plan_in c.args.best.now);
   worked = c.requires.worked;
-  advice = let count : c.len.result ≡ length c.args.advisors.now.items = omega (arith, c.len.ensures) in
-      subst (λ (advisors : ℕ). IsAdviceFor (g.R.Relaxation.meanings (g.R.Relaxation.problem c.args.problem.now)) advisors c.in_ok-advice.advice) count c.in_ok-advice.ensures.advice;
+  advice = c.requires.advice;
   advisors = refl;
   asked = are_unasked _ _ 0 c.args.advisors.now.items;
-  first = λ zero_round. c.in_ok-advice.ensures.once;
+  counted = λ left. c.requires.rounds;
+  none = λ zero_round. (refl, refl);
+  first = λ zero_round. c.requires.unasked;
   least = λ some left. absurd (omega (arith, some));
 }
 
-pub returns-then-not-is_open-clause-asked : goal.returns-then-not-is_open-clause-asked
-returns-then-not-is_open-clause-asked g c = are_unasked _ _ c.args.rounds c.args.advisors.now.items
-
-pub returns-then-not-is_open-clause-least : goal.returns-then-not-is_open-clause-least
-returns-then-not-is_open-clause-least g c = λ left. absurd (false≢true (sym c.if-not-is_open.true ∙ (c.is_open.ensures ∙ left)))
-
 pub make_round-requires-clause-room : goal.make_round-requires-clause-room
 make_round-requires-clause-room g c =
-    may_be_asked_yet _ _ 0 c.loop-round.round 1 c.args.advisors.now.items c.loop-round.advisors.items
-    (λ place none below. let few : c.loop-round.round + 1 ≤ c.args.rounds = omega (arith, c.loop-round-test.true) in omega (arith, c.requires.room place none below, few)) c.loop-round.invariant.asked
+    may_be_asked_yet _ _ 0 c.loop-round._round 1 c.args.advisors.now.items c.loop-round.advisors.items
+    (λ place none below. let few : c.loop-round._round + 1 ≤ c.args.rounds = omega (arith, c.loop-round-test.true) in omega (arith, c.requires.room place none below, few)) c.loop-round.invariant.asked
+
+pub make_round-requires-clause-rounds : goal.make_round-requires-clause-rounds
+make_round-requires-clause-rounds g c =
+    omega (arith, c.loop-round.invariant.counted (sym c.is_open.ensures ∙ c.if-not-is_open.false), c.loop-round-test.true, c.ranges.rounds.fits)
 
 pub returns-in_err-make_round-clause-asked : goal.returns-in_err-make_round-clause-asked
 returns-in_err-make_round-clause-asked g c =
-    are_asked_within _ _ (0 + 0) (c.loop-round.round + 1) 0 c.args.rounds c.args.advisors.now.items c.make_round.new.advisors.items (omega arith) (omega (arith, c.loop-round-test.true))
-    (are_asked_again _ _ 0 c.loop-round.round 0 1 c.args.advisors.now.items c.loop-round.advisors.items c.make_round.new.advisors.items c.loop-round.invariant.asked c.make_round.ensures.asked)
+    are_asked_within _ _ (0 + 0) (c.loop-round._round + 1) 0 c.args.rounds c.args.advisors.now.items c.make_round.new.advisors.items (omega arith) (omega (arith, c.loop-round-test.true))
+    (are_asked_again _ _ 0 c.loop-round._round 0 1 c.args.advisors.now.items c.loop-round.advisors.items c.make_round.new.advisors.items c.loop-round.invariant.asked c.make_round.ensures.asked)
 
 pub returns-in_err-make_round-clause-advisors : goal.returns-in_err-make_round-clause-advisors
 returns-in_err-make_round-clause-advisors g c = c.make_round.ensures.advisors ∙ c.loop-round.invariant.advisors
@@ -61,25 +55,28 @@ loop-round-preserved g c =
           (subst (λ sets. IsOffered problem sets before after) c.loop-round.invariant.region
           (subst (λ p. IsOffered (g.R.Relaxation.meanings p) c.loop-round.work.region before after) c.loop-round.invariant.same c.in_ok-make_round.ensures.offered));
       worked = subst (λ p. IsWorkedOn (g.R.Relaxation.meanings p) after c.make_round.new.work) c.loop-round.invariant.same c.in_ok-make_round.ensures.worked;
-      advice = subst (λ (count : ℕ). IsAdviceFor problem count c.make_round.new.advice) (sym same)
-          (subst (λ p. IsAdviceFor (g.R.Relaxation.meanings p) (length c.loop-round.advisors.items) c.make_round.new.advice) c.loop-round.invariant.same c.in_ok-make_round.ensures.advice);
+      advice = subst (λ (count : ℕ). IsAdviceFor problem c.args.work.now.region count c.make_round.new.advice) (sym same)
+          (subst (λ sets. IsAdviceFor problem sets (length c.loop-round.advisors.items) c.make_round.new.advice) c.loop-round.invariant.region
+          (subst (λ p. IsAdviceFor (g.R.Relaxation.meanings p) c.loop-round.work.region (length c.loop-round.advisors.items) c.make_round.new.advice) c.loop-round.invariant.same c.in_ok-make_round.ensures.advice));
       advisors = c.make_round.ensures.advisors ∙ c.loop-round.invariant.advisors;
-      asked = are_asked_again _ _ 0 c.loop-round.round 0 1 c.args.advisors.now.items c.loop-round.advisors.items c.make_round.new.advisors.items c.loop-round.invariant.asked c.make_round.ensures.asked;
+      asked = are_asked_again _ _ 0 c.loop-round._round 0 1 c.args.advisors.now.items c.loop-round.advisors.items c.make_round.new.advisors.items c.loop-round.invariant.asked c.make_round.ensures.asked;
+      counted = λ left. let so_far : c.loop-round.advice.shown.rounds ≡ c.loop-round._round = c.loop-round.invariant.counted (sym c.is_open.ensures ∙ c.if-not-is_open.false) in
+          omega (arith, so_far, c.in_ok-make_round.ensures.rounds left);
+      none = λ none. absurd (omega (arith, none));
       first = λ none. absurd (omega (arith, none));
-      least = λ some left. asked_once _ _ c.loop-round.round (once c.loop-round.advice.has_enough.items) c.args.advisors.now.items c.loop-round.advisors.items c.make_round.new.advisors.items c.loop-round.invariant.first c.loop-round.invariant.asked
-          (λ more. c.loop-round.invariant.least more (sym c.is_open-in-loop-round.ensures ∙ c.if-not-is_open-2.false)) (c.in_ok-make_round.ensures.least left) c.make_round.ensures.asked;
+      least = λ some left. asked_once _ _ c.loop-round._round (once c.loop-round.advice.has_enough.items) c.args.advisors.now.items c.loop-round.advisors.items c.make_round.new.advisors.items c.loop-round.invariant.first c.loop-round.invariant.asked
+          (λ more. c.loop-round.invariant.least more (sym c.is_open.ensures ∙ c.if-not-is_open.false)) (c.in_ok-make_round.ensures.least left) c.make_round.ensures.asked;
     }
 
-pub returns-clause-asked : goal.returns-clause-asked
-returns-clause-asked g c =
-    are_asked_within _ _ 0 c.loop-round.round 0 c.args.rounds c.args.advisors.now.items c.loop-round.advisors.items (omega arith) (omega (arith, c.loop-round.auto.round-end)) c.loop-round.invariant.asked
+pub returns-after-loop-round-clause-asked : goal.returns-after-loop-round-clause-asked
+returns-after-loop-round-clause-asked g c =
+    are_asked_within _ _ 0 c.loop-round._round 0 c.args.rounds c.args.advisors.now.items c.loop-round.advisors.items (omega arith) (omega (arith, c.loop-round.auto._round-end)) c.loop-round.invariant.asked
 
-pub returns-clause-least : goal.returns-clause-least
-returns-clause-least g c = λ left.
-    elim c.loop-round-test.branch as (λ _. AreAsked c.args.advisors.now.items c.loop-round.advisors.items (λ b. (goal.Advisor-dyn g (b.vtable, b.value)).asked b.value)
-    (λ b. (goal.Advisor-dyn g (b.vtable, b.value)).has_quit b.value) (in_rounds c.args.rounds 1) c.args.rounds) [
-      | else-loop-round-test w ↦
-          asked_in_all _ _ c.args.rounds c.loop-round.round c.args.advisors.now.items c.loop-round.advisors.items (omega (arith, w.loop-round-test.false)) (omega (arith, c.loop-round.auto.round-end)) c.loop-round.invariant.asked
-          (λ some. c.loop-round.invariant.least some left)
-      | then-loop-round-test+then-not-is_open-2 w ↦ absurd (false≢true (sym w.if-not-is_open-2.true ∙ (w.is_open-in-loop-round.ensures ∙ left)))
-    ]
+pub returns-then-not-is_open-clause-asked : goal.returns-then-not-is_open-clause-asked
+returns-then-not-is_open-clause-asked g c =
+    are_asked_within _ _ 0 c.loop-round._round 0 c.args.rounds c.args.advisors.now.items c.loop-round.advisors.items (omega arith) (omega (arith, c.loop-round.auto._round-end)) c.loop-round.invariant.asked
+
+pub returns-after-loop-round-clause-least : goal.returns-after-loop-round-clause-least
+returns-after-loop-round-clause-least g c = λ left.
+    asked_in_all _ _ c.args.rounds c.loop-round._round c.args.advisors.now.items c.loop-round.advisors.items (omega (arith, c.loop-round-test.false)) (omega (arith, c.loop-round.auto._round-end)) c.loop-round.invariant.asked
+    (λ some. c.loop-round.invariant.least some left)

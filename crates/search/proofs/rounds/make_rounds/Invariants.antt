@@ -12,12 +12,14 @@ invariant-loop-round g l = record {
   region : l.work.region ≡ l.fn.work.region;
   offered : IsOffered (g.R.Relaxation.meanings (g.R.Relaxation.problem l.fn.problem)) l.fn.work.region (plan_in l.fn.best) (plan_in l.best);
   worked : IsWorkedOn (g.R.Relaxation.meanings (g.R.Relaxation.problem l.fn.problem)) (plan_in l.best) l.work;
-  advice : IsAdviceFor (g.R.Relaxation.meanings (g.R.Relaxation.problem l.fn.problem)) (length l.advisors.items) l.advice;
+  advice : IsAdviceFor (g.R.Relaxation.meanings (g.R.Relaxation.problem l.fn.problem)) l.fn.work.region (length l.advisors.items) l.advice;
+  none : l._round ≡ 0 → (l.work ≡ l.fn.work) × (plan_in l.best ≡ plan_in l.fn.best);
   advisors : AreTheSame l.fn.advisors.items l.advisors.items (λ b. (goal.Advisor-dyn g (b.vtable, b.value)).identity b.value);
   asked : AreAsked l.fn.advisors.items l.advisors.items (λ b. (goal.Advisor-dyn g (b.vtable, b.value)).asked b.value)
-      (λ b. (goal.Advisor-dyn g (b.vtable, b.value)).has_quit b.value) 0 l.round;
-  first : l.round ≡ 0 → once l.advice.has_enough.items ≡ 1;
-  least : 1 ≤ l.round → is_left_open (plan_in l.best) l.work ≡ true →
+      (λ b. (goal.Advisor-dyn g (b.vtable, b.value)).has_quit b.value) 0 l._round;
+  counted : is_left_open (plan_in l.best) l.work ≡ true → l.advice.shown.rounds ≡ l._round;
+  first : l._round ≡ 0 → once l.advice.has_enough.items ≡ 1;
+  least : 1 ≤ l._round → is_left_open (plan_in l.best) l.work ≡ true →
       AreAsked l.fn.advisors.items l.advisors.items (λ b. (goal.Advisor-dyn g (b.vtable, b.value)).asked b.value)
-      (λ b. (goal.Advisor-dyn g (b.vtable, b.value)).has_quit b.value) 1 l.round;
+      (λ b. (goal.Advisor-dyn g (b.vtable, b.value)).has_quit b.value) 1 l._round;
 }

@@ -2,16 +2,18 @@ use Rattle.std.proofs.Common.{◌≡◌, true, OnOk, IfOk, subst, sym, ap, ◌�
 use Rattle.std.proofs.lemmas.Result.{on_ok_weaker}
 use Rattle.branch_tree.specs.Claims.{is_open}
 use Rattle.search.specs.declared.nodes.SearchNode.TheVariants.{Fixed}
+use Rattle.search.specs.declared.evaluation.Outcome.TheVariants.{Ended, Open}
 use Rattle.search.specs.declared.work.Work.{Work}
 use Rattle.search.specs.Evaluations.{IsOutcome}
 use Rattle.search.specs.Nodes.{IsLeafOf, tree_node}
 use Rattle.search.specs.Questions.{AreAsked, in_rounds}
 use Rattle.search.specs.Offers.{IsOffered}
 use Rattle.search.specs.Conclusions.{plan_in}
-use Rattle.search.specs.NodesInWork.{IsWorkedOn}
+use Rattle.search.specs.NodesInWork.{HasInherited, IsWorkedOn}
 use Rattle.search.proofs.Asking.{are_unasked}
-use Rattle.search.proofs.Evaluating.{offered_again}
-use Rattle.search.proofs.Placing.{begun, ended_leaf, ended_not_open, leaf_made_from, left_open_made}
+use Rattle.search.proofs.Evaluating.{is_ending, offered_again}
+use Rattle.search.specs.Putting.{IsMade, IsNumbered}
+use Rattle.search.proofs.Placing.{begun, ended_leaf, ended_not_open, leaf_made_from, left_open_made, numbered_from}
 use Rattle.search.proofs.Returning.{if_ok_and, on_ok_and, on_ok_both, on_ok_known}
 use Rattle.search.proofs.solving.make_node.Goals as goal
 
@@ -32,7 +34,8 @@ returns-in-Ended-clause-node g c =
     let problem = g.R.Relaxation.meanings (g.R.Relaxation.problem c.args.problem.now) in
     let best = plan_in c.evaluate.new.best in
     subst (λ leaf. IsLeafOf problem best c.args.region (Fixed leaf)) (sym c.into_leaf.ensures)
-    (ended_leaf problem c.args.region best c.in-Ended.ending (subst (λ outcome. IsOutcome problem c.args.region c.in_ok-none.none best outcome) c.in-Ended.is c.in_ok-outcome.ensures.outcome))
+    (ended_leaf problem c.args.region best c.in-Ended.ending
+    (is_ending problem c.args.region c.in_ok-none.none best c.in-Ended.ending (subst (λ outcome. IsOutcome problem c.args.region c.in_ok-none.none best outcome) c.in-Ended.is c.in_ok-outcome.ensures.outcome)))
 
 pub returns-in-Ended-clause-least : goal.returns-in-Ended-clause-least
 returns-in-Ended-clause-least g c = λ opens.
@@ -46,7 +49,7 @@ work_on-worked-requires-clause-worked g c =
     let outcome = subst (λ outcome. IsOutcome problem c.args.region c.in_ok-none.none best outcome) c.in-Open.is c.in_ok-outcome.ensures.outcome in
     subst (λ p. IsWorkedOn (g.R.Relaxation.meanings p) best c.in_ok-work-in-Open.work) (sym c.evaluate.ensures.same)
     (subst (λ work. IsWorkedOn problem best work) (sym c.in_ok-work-in-Open.ensures)
-    (begun problem c.args.region best c.in-Open.evaluation (outcome.0, outcome.1 ∙ c.in_ok-none.ensures, outcome.2)))
+    (begun problem c.args.region best c.in-Open.evaluation outcome.0 (outcome.1 ∙ c.in_ok-none.ensures) outcome.2))
 
 pub returns-in_ok-work-in-Open-clause-offered : goal.returns-in_ok-work-in-Open-clause-offered
 returns-in_ok-work-in-Open-clause-offered g c =
@@ -74,6 +77,13 @@ returns-in_ok-work-in-Open-clause-node g c =
     (region ∙ ap (λ (work : Work). work.region) c.in_ok-work-in-Open.ensures)
     (subst (λ p. IsWorkedOn (g.R.Relaxation.meanings p) best c.work_on-worked.new.work) c.evaluate.ensures.same worked))))
 
+pub returns-in_ok-work-in-Open-clause-number : goal.returns-in_ok-work-in-Open-clause-number
+returns-in_ok-work-in-Open-clause-number g c =
+    subst (λ result. IfOk result (IsNumbered c.args.number)) (sym c.and.ensures)
+    (if_ok_and (IsNumbered c.args.number) c.work_on-worked.result c.into_node.result
+    (on_ok_known c.work_on-worked.result
+    (numbered_from (plan_in c.work_on-worked.new.best) c.args.number c.work_on-worked.new.work c.into_node.result c.into_node.ensures)))
+
 pub returns-in_ok-work-in-Open-clause-least : goal.returns-in_ok-work-in-Open-clause-least
 returns-in_ok-work-in-Open-clause-least g c =
     let best = plan_in c.work_on-worked.new.best in
@@ -82,3 +92,36 @@ returns-in_ok-work-in-Open-clause-least g c =
     (in_rounds c.args.rounds 1) c.args.rounds)) (sym c.and.ensures)
     (if_ok_and _ c.work_on-worked.result c.into_node.result (on_ok_weaker c.work_on-worked.result
     (λ least opens. least (left_open_made best c.args.number c.work_on-worked.new.work c.into_node.result c.into_node.ensures opens)) c.work_on-worked.ensures.least))
+
+pub returns-in-Ended-clause-made : goal.returns-in-Ended-clause-made
+returns-in-Ended-clause-made g c = λ no_rounds.
+    let problem = g.R.Relaxation.meanings (g.R.Relaxation.problem c.args.problem.now) in
+    let best = plan_in c.evaluate.new.best in
+    record {
+      middle = best;
+      outcome = Ended c.in-Ended.ending;
+      first = subst (λ entries. IsOutcome problem c.args.region entries best (Ended c.in-Ended.ending)) c.in_ok-none.ensures
+          (subst (λ outcome. IsOutcome problem c.args.region c.in_ok-none.none best outcome) c.in-Ended.is c.in_ok-outcome.ensures.outcome);
+      after = ap Fixed c.into_leaf.ensures;
+    }
+
+pub returns-in_ok-work-in-Open-clause-made : goal.returns-in_ok-work-in-Open-clause-made
+returns-in_ok-work-in-Open-clause-made g c = λ no_rounds.
+    let problem = g.R.Relaxation.meanings (g.R.Relaxation.problem c.args.problem.now) in
+    let best = plan_in c.evaluate.new.best in
+    let after = plan_in c.work_on-worked.new.best in
+    let inherited = c.args.inherited.now in
+    subst (λ result. IfOk result (IsMade problem after c.args.region inherited c.args.number)) (sym c.and.ensures)
+    (if_ok_and (IsMade problem after c.args.region inherited c.args.number) c.work_on-worked.result c.into_node.result
+    (on_ok_weaker c.work_on-worked.result (λ given. record {
+      middle = best;
+      outcome = Open c.in-Open.evaluation;
+      first = subst (λ entries. IsOutcome problem c.args.region entries best (Open c.in-Open.evaluation)) c.in_ok-none.ensures
+          (subst (λ outcome. IsOutcome problem c.args.region c.in_ok-none.none best outcome) c.in-Open.is c.in_ok-outcome.ensures.outcome);
+      after = (
+        c.work_on-worked.new.work,
+        subst (λ work. HasInherited problem best after inherited work c.work_on-worked.new.work) c.in_ok-work-in-Open.ensures
+            (subst (λ p. HasInherited (g.R.Relaxation.meanings p) best after inherited c.in_ok-work-in-Open.work c.work_on-worked.new.work) c.evaluate.ensures.same given),
+        c.into_node.ensures,
+      );
+    }) (c.work_on-worked.ensures.inherited no_rounds)))

@@ -1,8 +1,10 @@
-use Rattle.std.proofs.Common.{OnOk, subst, ◌∙◌}
+use Rattle.std.proofs.Common.{◌≡◌, ℕ, length, OnOk, subst, sym, ◌∙◌, arith}
+use Rattle.std.proofs.lemmas.Bool.{false≢true}
 use Rattle.std.proofs.lemmas.Result.{on_ok_weaker}
+use Rattle.search.specs.NodeAdvice.{IsAdviceFor}
 use Rattle.search.specs.Offers.{IsOffered}
 use Rattle.search.specs.Conclusions.{plan_in}
-use Rattle.search.specs.NodesInWork.{IsWorkedOn}
+use Rattle.search.specs.NodesInWork.{HasInherited, IsWorkedOn}
 use Rattle.search.proofs.Asking.{are_unasked}
 use Rattle.search.proofs.Evaluating.{offered_again}
 use Rattle.search.proofs.solving.work_on.Goals as goal
@@ -28,3 +30,27 @@ returns-clause-offered g c =
 
 pub returns-clause-least : goal.returns-clause-least
 returns-clause-least g c = c.make_rounds.ensures.least
+
+pub returns-clause-inherited : goal.returns-clause-inherited
+returns-clause-inherited g c = λ none.
+    let problem = g.R.Relaxation.meanings (g.R.Relaxation.problem c.args.problem.now) in
+    let first = plan_in c.args.best.now in
+    on_ok_weaker c.make_rounds.result (λ same.
+    subst (λ work. HasInherited problem first (plan_in c.make_rounds.new.best) c.args.inherited.now c.args.work.now work) (sym same.0)
+    (subst (λ best. HasInherited problem first best c.args.inherited.now c.args.work.now c.inherit.new.self) (sym same.1) c.in_ok-inherit.ensures.inherited)) (c.make_rounds.ensures.none none)
+
+pub returns-then-not-is_open-clause-asked : goal.returns-then-not-is_open-clause-asked
+returns-then-not-is_open-clause-asked g c = are_unasked _ _ c.args.rounds c.args.advisors.now.items
+
+pub returns-then-not-is_open-clause-least : goal.returns-then-not-is_open-clause-least
+returns-then-not-is_open-clause-least g c = λ left. absurd (false≢true (sym c.if-not-is_open.true ∙ (c.is_open.ensures ∙ left)))
+
+pub returns-in_err-advice-clause-asked : goal.returns-in_err-advice-clause-asked
+returns-in_err-advice-clause-asked g c = are_unasked _ _ c.args.rounds c.args.advisors.now.items
+
+pub make_rounds-requires-clause-advice : goal.make_rounds-requires-clause-advice
+make_rounds-requires-clause-advice g c =
+    let count : c.len.result ≡ length c.args.advisors.now.items = omega (arith, c.len.ensures) in
+    let problem = g.R.Relaxation.meanings (g.R.Relaxation.problem c.inherit.new.problem) in
+    subst (λ (advisors : ℕ). IsAdviceFor problem c.inherit.new.self.region advisors c.in_ok-advice.advice) count
+    (subst (λ sets. IsAdviceFor problem sets c.len.result c.in_ok-advice.advice) c.region.ensures c.in_ok-advice.ensures.advice)

@@ -1,4 +1,4 @@
-use Rattle.std.proofs.Common.{◌≡◌, None, [], ◌∷◌, All, length, insert, sym, ap, subst, ◌∙◌}
+use Rattle.std.proofs.Common.{◌≡◌, ℕ, None, [], ◌∷◌, All, length, insert, sym, ap, subst, ◌∙◌}
 use Rattle.std.proofs.lemmas.List.Elements.{All-cons, All-nil}
 use Rattle.branch_tree.specs.Trees.{branchings_of}
 use Rattle.search.specs.Questions.{AreAsked, in_rounds}
@@ -6,6 +6,7 @@ use Rattle.search.specs.Ends.{made_or_open}
 use Rattle.search.specs.Frontiers.{IsEntered}
 use Rattle.search.specs.Nodes.{IsLeafOf, IsSearched, tree_node, tree_nodes}
 use Rattle.search.specs.Offers.{IsOffered}
+use Rattle.search.specs.Putting.{IsMade}
 use Rattle.search.specs.Conclusions.{plan_in}
 use Rattle.search.proofs.Asking.{are_unasked}
 use Rattle.search.proofs.Counting.{asked_for_leaf}
@@ -56,3 +57,16 @@ returns-clause-counted g c =
     (in_rounds c.args.rounds (made_or_open best (tree_nodes nodes))) c.args.rounds) (sym items)
     (asked_for_leaf _ _ c.args.rounds best (tree_node put.node) c.args.advisors.now.items c.put_node.new.advisors.items
     put.leaf.leaf c.put_node.ensures.asked put.done)
+
+pub returns-clause-made : goal.returns-clause-made
+returns-clause-made g c = λ none.
+    let problem = g.R.Relaxation.meanings (g.R.Relaxation.problem c.args.problem.now) in
+    let best = plan_in c.put_node.new.self.best in
+    let put = c.in_ok-put_node.ensures.put in
+    let items : c.put_node.new.self.nodes.items ≡ put.node ∷ [] = put.nodes ∙ ap (λ before. insert before 0 put.node) c.new-2.ensures.items in (
+      put.node,
+      items,
+      subst (λ (number : ℕ). IsMade problem best c.args.root.now [] number put.node) (ap length c.new-2.ensures.items)
+          (subst (λ entries. IsMade problem best c.args.root.now entries (length c.new-2.result.items) put.node) c.in_ok-inherited.ensures
+          (subst (λ sets. IsMade problem best sets c.in_ok-inherited.inherited (length c.new-2.result.items) put.node) c.in_ok-root.ensures (put.made none))),
+    )

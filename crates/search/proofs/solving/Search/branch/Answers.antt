@@ -9,6 +9,7 @@ use Rattle.search.specs.Ends.{made_or_open}
 use Rattle.search.specs.Frontiers.{IsEntered}
 use Rattle.search.specs.Nodes.{IsLeafOf, IsSearched, branched, tree_node, tree_nodes}
 use Rattle.search.specs.Offers.{IsOffered}
+use Rattle.search.specs.Putting.{IsMade, IsNumbered}
 use Rattle.search.specs.Conclusions.{plan_in}
 use Rattle.search.proofs.Asking.{are_asked_again, are_asked_within, are_unasked, may_be_asked_yet}
 use Rattle.search.proofs.Counting.{asked_for_both, asked_if_open}
@@ -130,3 +131,29 @@ returns-clause-entered g c =
     c.in_ok-division.ensures c.in_ok-put_node.ensures.offered
     (subst (λ p. IsOffered (g.R.Relaxation.meanings p) c.in_ok-division.division.right middle new) c.put_node.ensures.same second)
     (other.others new one.node (one.entered new)) (other.entered new) (λ node entered. other.others new node (one.others new node entered)) c.requires.entered))
+
+pub returns-clause-branched : goal.returns-clause-branched
+returns-clause-branched g c =
+    let problem = g.R.Relaxation.meanings (g.R.Relaxation.problem c.args.problem.now) in
+    let one = c.in_ok-put_node.ensures.put in
+    let before = set c.args.self.now.nodes.items c.args.place (Fixed (Branch c.in_ok-division.division.cut)) in
+    let same : length before ≡ length c.args.self.now.nodes.items = length-set c.args.self.now.nodes.items c.args.place (Fixed (Branch c.in_ok-division.division.cut)) in
+    let longer : length c.put_node.new.self.nodes.items ≡ length c.args.self.now.nodes.items + 1 =
+    ap length one.nodes ∙ (length-insert before (c.args.place + 1) one.node (omega (arith, same, c.requires.open.within)) ∙ ap (λ (n : ℕ). n + 1) same) in
+    on_ok_both c.put_node-2.result c.put_node-2.ensures.put c.put_node-2.ensures.offered (λ other second. record {
+      division = c.in_ok-division.division;
+      left = one.node;
+      right = other.node;
+      at = c.in_ok-division.ensures;
+      nodes = put_after c.args.self.now.nodes.items c.args.place c.in_ok-division.division.cut one.node other.node c.put_node.new.self.nodes.items c.put_node-2.new.self.nodes.items
+          c.requires.open.within one.nodes other.nodes;
+      left_number = subst (λ (n : ℕ). IsNumbered n one.node) same one.number;
+      right_number = subst (λ (n : ℕ). IsNumbered n other.node) longer other.number;
+      middle = plan_in c.put_node.new.self.best;
+      first = c.in_ok-put_node.ensures.offered;
+      second = subst (λ p. IsOffered (g.R.Relaxation.meanings p) c.in_ok-division.division.right (plan_in c.put_node.new.self.best) (plan_in c.put_node-2.new.self.best)) c.put_node.ensures.same second;
+      left_made = λ none. subst (λ (n : ℕ). IsMade problem (plan_in c.put_node.new.self.best) c.in_ok-division.division.left c.in_ok-division.division.multipliers n one.node) same (one.made none);
+      right_made = λ none. subst (λ (n : ℕ). IsMade problem (plan_in c.put_node-2.new.self.best) c.in_ok-division.division.right c.in_ok-division.division.multipliers n other.node) longer
+          (subst (λ p. IsMade (g.R.Relaxation.meanings p) (plan_in c.put_node-2.new.self.best) c.in_ok-division.division.right c.in_ok-division.division.multipliers (length c.put_node.new.self.nodes.items) other.node)
+          c.put_node.ensures.same (other.made none));
+    })

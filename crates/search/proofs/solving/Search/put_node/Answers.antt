@@ -1,6 +1,8 @@
-use Rattle.std.proofs.Common.{◌≡◌, length, get_or, subst, ap, ◌∙◌, arith}
+use Rattle.std.proofs.Common.{◌≡◌, ℕ, length, get_or, subst, ap, ◌∙◌, arith}
 use Rattle.std.proofs.lemmas.List.Edits.{get_or-insert_at, length-insert}
+use Rattle.search.specs.Conclusions.{plan_in}
 use Rattle.search.specs.Frontiers.{IsEntered}
+use Rattle.search.specs.Putting.{IsMade, IsNumbered}
 use Rattle.search.proofs.Returning.{on_ok_both, on_ok_known}
 use Rattle.search.proofs.solving.Search.put_node.Goals as goal
 
@@ -11,9 +13,14 @@ pub returns-clause-put : goal.returns-clause-put
 returns-clause-put g c =
     let here : c.index.result.now ≡ c.in_ok-node.node =
     c.index.ensures ∙ (ap (λ nodes. get_or nodes c.args.place c.index.result.now) c.in_ok-insert.ensures.items ∙ get_or-insert_at c.args.self.now.nodes.items c.args.place c.in_ok-node.node c.index.result.now c.requires.place) in
+    let count : c.len-number.result ≡ length c.args.self.now.nodes.items = omega (arith, c.len-number.ensures) in
     on_ok_both c.enter.result c.enter.ensures.node c.enter.ensures.others (λ entered others. record {
       node = c.in_ok-node.node;
       leaf = c.in_ok-node.ensures.node;
+      number = subst (λ number. IsNumbered number c.in_ok-node.node) count c.in_ok-node.ensures.number;
+      made = λ no_rounds.
+          subst (λ (number : ℕ). IsMade (g.R.Relaxation.meanings (g.R.Relaxation.problem c.args.problem.now)) (plan_in c.make_node.new.best) c.args.region c.args.inherited.now number c.in_ok-node.node) count
+          (c.in_ok-node.ensures.made no_rounds);
       nodes = c.in_ok-insert.ensures.items;
       entered = λ best. subst (λ node. IsEntered best c.enter.new.self node) here (entered best);
       others = others;
