@@ -3,7 +3,7 @@
 //! On the day where one unit is left at Y, with multipliers u, v, w and x at its four indices, (A, A) has the priced
 //! value 1060 - u - w + x, (AA, A) has 190 and is a solution, and (AA, AA) has 120 - w + x.
 
-use crate::scripts::{Call, CutNumbers, SILENT};
+use crate::scripts::{Call, CutNumbers, NO_PROPOSALS};
 use crate::search_days::{APART, EARLY_BACK, LEVEL, LEVEL_BACK, TOO_FEW, TWO_ALIKE};
 use crate::trials::{Search, expect, expect_all};
 use advisors::Word;
@@ -33,13 +33,13 @@ const CHILD_AGAIN: &str =
 /// Proposes 30 at index 3, under which (AA, AA) has 150.
 const RAISES: Call = Call {
     puts: &[(3, 30)],
-    ..SILENT
+    ..NO_PROPOSALS
 };
 
 /// Proposes 70 at index 3, under which both (AA, A) and (AA, AA) have 190.
 const CLOSES: Call = Call {
     puts: &[(3, 70)],
-    ..SILENT
+    ..NO_PROPOSALS
 };
 
 /// The first trip with one unit at most, and with more.
@@ -55,22 +55,22 @@ const LOOKS: &[Call] = &[
     Call {
         shown: RAISED_BEFORE,
         puts: &[(3, 10)],
-        ..SILENT
+        ..NO_PROPOSALS
     },
     Call {
         shown: "round 2; left 2 2; first 120, kept 150, last 130; at 3:10; picks 1 1; slacks 2:-1 3:1; free from 2",
         puts: &[(0, 1000)],
-        ..SILENT
+        ..NO_PROPOSALS
     },
     Call {
         shown: "round 3; left 2 2; first 120, kept 150, last 60; at 0:1000; picks 0 0; slacks 0:-1 2:-1 3:1; \
             free from 2",
         word: Word::Enough,
-        ..SILENT
+        ..NO_PROPOSALS
     },
     Call {
         shown: CHILD,
-        ..SILENT
+        ..NO_PROPOSALS
     },
     Call {
         shown: CHILD_AGAIN,
@@ -87,12 +87,12 @@ const FIRST: &[Call] = &[
     },
     Call {
         shown: "round 1; left 2 2; first 120, kept 150, last 140; at 2:-20; picks 1 1; slacks 2:-1 3:1; free from 2",
-        ..SILENT
+        ..NO_PROPOSALS
     },
     Call {
         shown: CHILD,
         word: Word::Enough,
-        ..SILENT
+        ..NO_PROPOSALS
     },
 ];
 
@@ -102,7 +102,7 @@ const SECOND: &[Call] = &[
         shown: RAISED,
         puts: &[(2, -20)],
         word: Word::Enough,
-        ..SILENT
+        ..NO_PROPOSALS
     },
     Call {
         shown: CHILD,
@@ -114,21 +114,21 @@ const SECOND: &[Call] = &[
 const CUTS: &[Call] = &[
     Call {
         cut: CutNumbers::Only(1, 0),
-        ..SILENT
+        ..NO_PROPOSALS
     },
     Call {
         cut: CutNumbers::Only(1, 1),
         puts: &[(3, 10)],
-        ..SILENT
+        ..NO_PROPOSALS
     },
     Call {
         cut: FIRST_SHORT,
-        ..SILENT
+        ..NO_PROPOSALS
     },
-    SILENT,
+    NO_PROPOSALS,
     Call {
         cut: CutNumbers::Only(400, 0),
-        ..SILENT
+        ..NO_PROPOSALS
     },
 ];
 
@@ -136,36 +136,36 @@ const CUTS: &[Call] = &[
 const CUT_AND_ENOUGH: &[Call] = &[Call {
     cut: CutNumbers::Only(1, 0),
     word: Word::Enough,
-    ..SILENT
+    ..NO_PROPOSALS
 }];
 
 /// Proposes a cut of T2 at the root, and nothing after it.
 const SECOND_TRIP_ONCE: &[Call] = &[
     Call {
         cut: CutNumbers::Only(1, 0),
-        ..SILENT
+        ..NO_PROPOSALS
     },
-    SILENT,
+    NO_PROPOSALS,
 ];
 
 /// Proposes three multipliers, under which (A, A) has 1125, and both (AA, A) and (AA, AA) have 190.
 const THREE: &[Call] = &[Call {
     puts: &[(0, 5), (2, -20), (3, 50)],
-    ..SILENT
+    ..NO_PROPOSALS
 }];
 
 /// The first of two advisors that are both asked in two rounds, which proposes multipliers in the second one.
-const FIRST_IN_EACH_ROUND: &[Call] = &[SILENT, RAISES];
+const FIRST_IN_EACH_ROUND: &[Call] = &[NO_PROPOSALS, RAISES];
 
 /// The second one, which is shown in the second round what they gave.
 const SECOND_IN_EACH_ROUND: &[Call] = &[
     Call {
         shown: ROOT,
-        ..SILENT
+        ..NO_PROPOSALS
     },
     Call {
         shown: RAISED_BEFORE,
-        ..SILENT
+        ..NO_PROPOSALS
     },
 ];
 
@@ -175,12 +175,12 @@ const CLOSING: &[Call] = &[CLOSES];
 /// Is never asked, and would quit.
 const UNASKED: &[Call] = &[Call {
     word: Word::Quit,
-    ..SILENT
+    ..NO_PROPOSALS
 }];
 
 /// Quits at its second call with a proposal.
 const QUITTING_WITH_MORE: &[Call] = &[
-    SILENT,
+    NO_PROPOSALS,
     Call {
         cut: FIRST_SHORT,
         word: Word::Quit,
@@ -191,13 +191,13 @@ const QUITTING_WITH_MORE: &[Call] = &[
 /// Proposes multipliers under which (AA, AA) has 120, as with none.
 const NO_HIGHER: &[Call] = &[Call {
     puts: &[(0, 5)],
-    ..SILENT
+    ..NO_PROPOSALS
 }];
 
 /// Puts multipliers under which each picks have a positive value without cost, on the day where T2 leaves early.
 const RAY: &[Call] = &[Call {
     puts: &[(1, 1), (2, 1)],
-    ..SILENT
+    ..NO_PROPOSALS
 }];
 
 /// Proposes a multiplier at its first call and has enough of that node, and proposes no more.
@@ -205,9 +205,9 @@ const ONCE: &[Call] = &[
     Call {
         puts: &[(1, 1)],
         word: Word::Enough,
-        ..SILENT
+        ..NO_PROPOSALS
     },
-    SILENT,
+    NO_PROPOSALS,
 ];
 
 /// What an advisor is shown on the day of two trips without a link: the root, its left side, where T1 has A alone, and
@@ -216,28 +216,28 @@ const SIDES: &[Call] = &[
     Call {
         shown: "round 0; left 3 3; first 150, kept 150, last 150; at; picks 0 2; slacks 0:-1 1:2 2:-3 3:3; \
             free from 2",
-        ..SILENT
+        ..NO_PROPOSALS
     },
     Call {
         shown: "round 0; left 1 3; first 150, kept 150, last 150; at; picks 0 2; slacks 0:-1 1:2 2:-3 3:3; \
             free from 2",
-        ..SILENT
+        ..NO_PROPOSALS
     },
     Call {
         shown: "round 0; left 2 3; first 150, kept 150, last 150; at; picks 1 2; slacks 1:1 2:-2 3:2; free from 2",
-        ..SILENT
+        ..NO_PROPOSALS
     },
 ];
 
 /// Proposes nothing at its first three calls, and then a multiplier under which (A, A) has 120 and (A, AA) has 160, on
 /// the day with two solutions of one cost.
 const LATE: &[Call] = &[
-    SILENT,
-    SILENT,
-    SILENT,
+    NO_PROPOSALS,
+    NO_PROPOSALS,
+    NO_PROPOSALS,
     Call {
         puts: &[(1, 70)],
-        ..SILENT
+        ..NO_PROPOSALS
     },
 ];
 
@@ -245,14 +245,14 @@ const LATE: &[Call] = &[
 const LONG_RAY: &[Call] = &[Call {
     puts: &[(2, 1000)],
     word: Word::Enough,
-    ..SILENT
+    ..NO_PROPOSALS
 }];
 
 /// Proposes 10 at index 3, under which (AA, AAA) alone has the least value, 170, on the day of two trips without a
 /// link.
 const SECOND_AHEAD: &[Call] = &[Call {
     puts: &[(3, 10)],
-    ..SILENT
+    ..NO_PROPOSALS
 }];
 
 /// The same, with the cut that leaves T1 A alone, and nothing after it.
@@ -260,26 +260,26 @@ const RAY_TO_COME: &[Call] = &[
     Call {
         puts: &[(3, 10)],
         cut: CutNumbers::Only(0, 0),
-        ..SILENT
+        ..NO_PROPOSALS
     },
-    SILENT,
+    NO_PROPOSALS,
 ];
 
 /// Raises the bound of the third node that it is asked about from 120 to 130, on the day where leaves are as low.
 const RAISES_THE_RIGHT: &[Call] = &[
-    SILENT,
-    SILENT,
+    NO_PROPOSALS,
+    NO_PROPOSALS,
     Call {
         puts: &[(3, 10)],
-        ..SILENT
+        ..NO_PROPOSALS
     },
-    SILENT,
+    NO_PROPOSALS,
 ];
 
 /// Proposes the cut that leaves the first trip A alone.
 const FIRST_ALONE: &[Call] = &[Call {
     cut: CutNumbers::Only(0, 0),
-    ..SILENT
+    ..NO_PROPOSALS
 }];
 
 /// Searches of that day.

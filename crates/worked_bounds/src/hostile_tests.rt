@@ -1,6 +1,6 @@
 //! Advisors that propose what is refused, what is no use, or as much as they may.
 
-use crate::scripts::{Call, CutNumbers, SILENT};
+use crate::scripts::{Call, CutNumbers, NO_PROPOSALS};
 use crate::trials::{Search, expect_all};
 use advisors::Word;
 use branch_tree::PutRefusal;
@@ -14,37 +14,37 @@ const REFUSED: &[Call] = &[Call {
         (0, -1, PutRefusal::Negative),
         (3, 1_000_000_000_001, PutRefusal::TooLarge),
     ],
-    ..SILENT
+    ..NO_PROPOSALS
 }];
 
 /// Proposes a trip that is not there.
 const NO_TRIP: &[Call] = &[Call {
     cut: CutNumbers::Only(400, 0),
-    ..SILENT
+    ..NO_PROPOSALS
 }];
 
 /// Proposes a composition that is not there.
 const NO_COMPOSITION: &[Call] = &[Call {
     cut: CutNumbers::Only(0, 5),
-    ..SILENT
+    ..NO_PROPOSALS
 }];
 
 /// Puts the least multiplier.
 const LEAST: &[Call] = &[Call {
     puts: &[(3, -1_000_000_000_000)],
-    ..SILENT
+    ..NO_PROPOSALS
 }];
 
 /// Puts the greatest multiplier.
 const GREATEST: &[Call] = &[Call {
     puts: &[(3, 1_000_000_000_000)],
-    ..SILENT
+    ..NO_PROPOSALS
 }];
 
 /// Quits at its first call.
 const QUITTING: &[Call] = &[Call {
     word: Word::Quit,
-    ..SILENT
+    ..NO_PROPOSALS
 }];
 
 /// What is found without any advice in two branchings and three rounds, by an advisor that may be asked each time.

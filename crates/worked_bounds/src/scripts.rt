@@ -37,7 +37,7 @@ pub(crate) struct Call {
 }
 
 /// A call that is shown anything, proposes nothing, and may be asked again.
-pub(crate) const SILENT: Call = Call {
+pub(crate) const NO_PROPOSALS: Call = Call {
     shown: "",
     puts: &[],
     refused: &[],
