@@ -51,12 +51,12 @@ pub trait Advisor: Drop {
     /// Whether it has answered `Quit`, after which it is not asked again.
     ghost has_quit: { Self → Bool };
 
-    /// Which advisor it is: where nothing else is said, none is told from another. It never changes.
+    /// Which advisor it is: where nothing else is said, none is told from another. `advise` leaves it as it is.
     ghost identity: { Self → ℕ } = { λ _. 0 };
 
     /// Asks for a proposal, which it puts into `to`, and for a word. It has not quit, and it was asked fewer than
-    /// 2^64 - 1 times. The only refusal is want of memory, after which too the count of calls has risen by one, it is
-    /// the advisor that it was, and `to` has the indices that it had and multipliers that fit them. An implementation
+    /// 2^64 - 1 times. The only refusal is want of memory, after which too the count of calls has risen by one, it has
+    /// the identity that it had, and `to` has the indices that it had and multipliers that fit them. An implementation
     /// that leaves `to` as it is learns from `Proposal::multipliers` that they fit.
     fn advise(&mut self, look: &Look<'_>, to: &mut Proposal) -> Result<Word, NoMemory>
         requires stays { has_quit self.old ≡ false }

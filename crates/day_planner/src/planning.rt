@@ -40,7 +40,7 @@ use unit_duties::{DutyRefusal, name_units};
 /// says of all plans of named units is true of them, and its tree proves that, so that `check_answer` finds it valid.
 /// It is `bounded` only where all branchings that are granted were made and a leaf is open.
 ///
-/// The advisors are the same afterwards, each at its place, whatever the answer is, and they are asked as
+/// Afterwards an advisor of the same identity stands at each place, whatever the answer is, and they are asked as
 /// `search::solve` tells. The error is want of memory alone, here or in an advisor.
 pub fn answer_for(
     alloc: Global,

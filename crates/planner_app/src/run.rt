@@ -32,7 +32,7 @@ pub(crate) fn outcome_of<F: Folder>(
     requires asked { All (λ advisor. asked advisor ≤ 2 ^ 63) advisors.old.items }
     ensures outcome { IsOutcome F.holds F.may_fail F.faults F.taken words.now folder.old folder.new result }
 
-    // The advisors: that each stays at its place, and how often it was asked.
+    // The advisors: that one of the same identity stands at each place, and how often it was asked.
     ensures advisors { AreTheSame advisors.old.items advisors.new.items identity }
     ensures asked { (nodes rounds : ℕ) → Grants words.now nodes rounds
         → AreAsked advisors.old.items advisors.new.items asked has_quit 0 (rounds * (2 * nodes + 1)) }

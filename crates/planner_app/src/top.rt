@@ -100,12 +100,12 @@ fn write_outcome<K: Sink>(alloc: Global, outcome: &Outcome, out: &mut K) -> u8
 /// holds, and what is said of the document where the sink tells what was written. A count rises where it is greater
 /// afterwards, or stands at 2^64 - 1.
 ///
-/// Each advisor was asked at most 2^63 times before. Afterwards the advisors are the same, each at its place, and none
-/// was asked fewer times than before, whatever the status is. One that has quit stays so and is not asked. Where an
-/// answer with B branchings and L open leaves comes, each was asked K (2 B + 1) times at most, which is K times for the
-/// root and for both sides of each branching; and one that has not quit at the end was asked B + L times at least,
-/// unless K is 0. Where no day is read, other than for want of memory, none was asked. Other commands leave the list as
-/// it is. Words that ask for no command on a folder leave the folder as it is, those of `trial` among them.
+/// Each advisor was asked at most 2^63 times before. Afterwards an advisor of the same identity stands at each place,
+/// and none was asked fewer times than before, whatever the status is. One that had quit stays so and is not asked.
+/// Where an answer with B branchings and L open leaves comes, each was asked K (2 B + 1) times at most, which is K
+/// times for the root and for both sides of each branching; and one that has not quit at the end was asked B + L times
+/// at least, unless K is 0. Where no day is read, other than for want of memory, none was asked. Other commands leave
+/// the list as it is. Words that ask for no command on a folder leave the folder as it is, those of `trial` among them.
 #[tactic(auto, using(crate::proofs::Statuses::unread_rose))]
 pub fn railplan<F: Folder, K: Sink>(
     alloc: Global,
@@ -145,7 +145,8 @@ pub fn railplan<F: Folder, K: Sink>(
         × ((nodes rounds : ℕ) → Grants words.now nodes rounds
         → AreAskedFor rounds outcome advisors.old.items advisors.new.items asked has_quit) }
 
-    // The advisors, whatever the status is: that each stays at its place, and how often it was asked.
+    // The advisors, whatever the status is: that one of the same identity stands at each place, and how often it was
+    // asked.
     ensures advisors { AreTheSame advisors.old.items advisors.new.items identity }
     ensures asked { (nodes rounds : ℕ) → Grants words.now nodes rounds
         → AreAsked advisors.old.items advisors.new.items asked has_quit 0 (rounds * (2 * nodes + 1)) }
