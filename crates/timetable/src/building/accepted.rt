@@ -86,7 +86,8 @@ struct Yards {
 }
 
 impl Yards {
-    /// Adds the entries of these rows to yards that have none. Where a test fails, those before it stay.
+    /// Adds the entries of these rows to yards that have none, or tells the first test that fails. What the yards hold
+    /// then is of no use.
     fn add(
         &mut self,
         alloc: Global,
