@@ -28,8 +28,8 @@ pub fn print(alloc: Global, answer: &Answer) -> Result<Vec<u8>, NoMemory>
     Ok(text.into_bytes())
 }
 
-/// Adds the line that tells what an answer says of the day, with its line feed. The error is want of memory; then the
-/// text may keep a front of the line.
+/// Adds the line that tells what an answer says of the day, with its line feed. The error is want of memory, after
+/// which the text is of no use.
 pub fn write_head(text: &mut String, head: &Head) -> Result<(), NoMemory>
     ensures { OnOk result (Adds (string_bytes text.old) (string_bytes text.new) (head_line head.now ∷ [])) }
 {
