@@ -1,6 +1,6 @@
 //! The real folder and the real sink: files on disk, and the standard output. They tell no contents.
 
-ghost use Rattle.std.specs.Prelude.{◌≡◌, ◌<◌, ◌≤◌, length, IfOk, OnErr, Ok, None, if◌then◌else◌};
+ghost use Rattle.std.specs.Prelude.{◌≡◌, ◌<◌, ◌≤◌, length, IfOk, IsTrue, OnErr, Ok, None, if◌then◌else◌};
 ghost use Rattle.std.specs.Result.{is_err};
 ghost use Rattle.rail_io.specs.Folders.{Rose, RoseBy, counted};
 
@@ -24,10 +24,12 @@ struct OpenFile<F: Drop> {
 
 impl<F: Read + Seek + Drop> OpenFile<F> {
     /// Opens the file of a path, to be read from its front on.
-    fn new<R: Files<File = F>>(rt: &R, path: &str) -> io::Result<OpenFile<F>> {
+    fn new<R: Files<File = F>>(rt: &R, path: &str) -> io::Result<OpenFile<F>>
+        ensures { IfOk result (λ opened. length path.now ≤ MOST_PATH_BYTES → opened.path.items ≡ path.now) }
+    {
         let file = fs::open(rt, path)?;
         let mut kept = ArrayVec::new();
-        // A path that is too long to be kept is that of no later read.
+        // A path that is too long is not kept, so that the next read of it opens the file anew.
         let _kept = kept.try_extend_from_slice(path.as_bytes());
         Ok(OpenFile {
             path: kept,
@@ -36,13 +38,15 @@ impl<F: Read + Seek + Drop> OpenFile<F> {
         })
     }
 
-    /// Whether the file was opened by this path.
-    fn is_of(&self, path: &str) -> bool {
+    /// Whether the file is known to have been opened by this path.
+    fn is_of(&self, path: &str) -> bool
+        ensures { IsTrue result → self.now.path.items ≡ path.now }
+    {
         !path.is_empty() && self.path.as_slice() == path.as_bytes()
     }
 
-    /// Reads some bytes from a place on, and answers how many: 0 only at the file's end. It seeks only where the place
-    /// is not that of the next read.
+    /// Reads some bytes from a place on, and answers how many: 0 only at the file's end or where there is no room. It
+    /// seeks only where the place is not that of the next read.
     fn read_from(&mut self, from: u64, into: &mut [u8]) -> io::Result<usize>
         ensures { IfOk result (λ n. n ≤ length into.new) }
     {
@@ -55,10 +59,11 @@ impl<F: Read + Seek + Drop> OpenFile<F> {
     }
 }
 
-/// The files of the system, over the runtime that main is given. A path is taken from the folder that the program runs
-/// in. A file stays open while reads go on in it, so that one that is replaced meanwhile is read as it was opened; a
-/// read of another path, the file's end and an error close it. Each error of the system raises the count of faults,
-/// which stays at its last value. A contract sees the counts of faults and of bytes handed out.
+/// The files of the system, over the runtime that main is given. A path that is not absolute is taken from the folder
+/// that the program runs in. A file whose path has 1 to 4,096 bytes stays open while reads go on in it, so that one
+/// that is replaced meanwhile is read as it was opened; a read of another path, the file's end and an error close it.
+/// Each error of the system raises the count of faults, which stays where it is once it is the greatest of its type. A
+/// contract sees the counts of faults and of bytes handed out.
 #[derive(Drop)]
 pub struct DiskFolder<'a, R: Files> {
     rt: &'a R,
@@ -90,7 +95,8 @@ impl<'a, R: Files> DiskFolder<'a, R> {
 
     /// Takes out the file of a path, which is opened if it doesn't stand open.
     fn take_open(&mut self, path: &str) -> io::Result<OpenFile<R::File>>
-        ensures { self.new ≡ self.old }
+        ensures counts { self.new ≡ self.old }
+        ensures path { IfOk result (λ opened. length path.now ≤ MOST_PATH_BYTES → opened.path.items ≡ path.now) }
     {
         match self.open.take() {
             Some(open) if open.is_of(path) => Ok(open),
@@ -98,8 +104,8 @@ impl<'a, R: Files> DiskFolder<'a, R> {
         }
     }
 
-    /// Reads some bytes of a file from a place on, and answers how many: 0 only at its end, which closes it as an error
-    /// does.
+    /// Reads some bytes of a file from a place on, and answers how many: 0 only at its end or where there is no room,
+    /// which closes it as an error does.
     fn read_on(&mut self, path: &str, from: u64, into: &mut [u8]) -> io::Result<usize>
         ensures room { IfOk result (λ n. n ≤ length into.new) }
         ensures counts { self.new ≡ self.old }
@@ -144,7 +150,8 @@ impl<'a, R: Files> Folder for DiskFolder<'a, R> {
 }
 
 /// The standard output, over the runtime that main is given. Each error of the system, and a write of no bytes of a
-/// piece that is not empty, raises the count of faults, which stays at its last value. A contract sees that count.
+/// piece that is not empty, raises the count of faults, which stays where it is once it is the greatest of its type. A
+/// contract sees that count.
 #[derive(Drop)]
 pub struct StdoutSink<'a, R: Print> {
     rt: &'a R,

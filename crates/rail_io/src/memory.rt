@@ -1,7 +1,8 @@
-//! A folder and a sink in memory, whose calls fail where they are told to. They are for tests.
+//! A folder and a sink in memory, whose calls fail where they are told to, where no file has the path, and where no
+//! room is left. They are for tests.
 
 ghost use Rattle.std.specs.Prelude.{◌≡◌, ◌<◌, ◌≤◌, ◌++◌, [], length, take, IsTrue, MatchOption, None, Some, IfOk};
-ghost use Rattle.std.specs.Prelude.{IfSome, OnErr, if◌then◌else◌, is_none};
+ghost use Rattle.std.specs.Prelude.{◌+◌, ◌⊎◌, IfSome, OnErr, if◌then◌else◌, is_none};
 ghost use Rattle.std.specs.Result.{is_err};
 ghost use Rattle.std.specs.FinMap as map;
 ghost use Rattle.rail_base.specs.Names.{is_name};
@@ -79,10 +80,12 @@ pub(crate) fn find_file<'a>(files: &'a [MemoryFile], path: &str) -> Option<&'a [
     None
 }
 
-/// Copies what a file has from a place on, as far as there is room, and answers how many bytes that was.
+/// Copies what a file has from a place on, as far as there is room, and answers how many bytes that was: where room is
+/// left, the file ends there.
 pub(crate) fn copy_from(file: &[u8], from: u64, into: &mut [u8]) -> usize
     ensures read { IsReadFrom file.now from result into.new }
     ensures room { result ≤ length into.new }
+    ensures whole { (result ≡ length into.new) ⊎ (length file.now ≤ from + result) }
 {
     let start = file.len().min(from as usize);
     let rest = &file[start..];

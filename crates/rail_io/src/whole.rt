@@ -44,8 +44,8 @@ impl From<AllocError> for FileRefusal {
     }
 }
 
-/// The whole file of a path, where it has at most `limit` bytes, and no byte past the limit. The limit is at most that
-/// of a file of any kind.
+/// The whole file of a path, where it has at most `limit` bytes; what is answered is never longer. The limit is at most
+/// that of a file of any kind.
 ///
 /// - `ReadFault`: a read failed: the count of failed reads rose or stands at its last value, and reads of this path may
 ///   fail.
@@ -102,8 +102,8 @@ fn read_into<F: Folder>(
     }
 }
 
-/// Writes all the bytes, piece by piece. Where it fails, the sink's count of faults rose, and a front of the bytes was
-/// written that is shorter than they are. It takes no memory.
+/// Writes all the bytes, piece by piece. Where it fails, the sink's count of faults rose or stands at its last value,
+/// and a front of the bytes was written that is shorter than they are. It takes no memory.
 pub fn write_all<K: Sink>(sink: &mut K, bytes: &[u8]) -> Result<(), Failed>
     ensures whole { OnOk result (Appends bytes.now (K.written sink.old) (K.written sink.new)) }
     ensures part { OnErr result (AppendsPart bytes.now (K.written sink.old) (K.written sink.new)) }

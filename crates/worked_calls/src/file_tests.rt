@@ -143,6 +143,13 @@ const IN_MEMORY: &[InMemory] = &[
         reads: &[("links.csv", 100), ("links.csv", 100)],
         told: "ReadFault\nTooLong\n",
     },
+    // It reads no more of a file that is too long.
+    InMemory {
+        files: &[("links.csv", Bytes::Digits(101))],
+        failing: Some(&[1]),
+        reads: &[("links.csv", 100)],
+        told: "TooLong\n",
+    },
     // A sure folder reads every path.
     InMemory {
         files: &[
@@ -269,6 +276,8 @@ enum Step {
     Read(u64),
     /// At most four bytes of a file that is not there are read, whose path is as long as that of a `txt` file.
     ReadMissing,
+    /// At most four bytes of a file that is not there are read, whose path begins with that of a `txt` file.
+    ReadLonger,
     /// The whole is read, where so many bytes may be read.
     ReadWhole(u64),
 }
@@ -311,8 +320,13 @@ const ON_DISK: &[OnDisk] = &[
             Step::Remove,
             Step::ReadMissing,
             Step::Read(3),
+            // A path that only begins with that of an open file is not taken for it.
+            Step::Write(Bytes::Text(b"again")),
+            Step::Read(0),
+            Step::Remove,
+            Step::ReadLonger,
         ],
-        told: "befo\nore\nefor\nefor\n\nafte\nfailed\nfailed\n",
+        told: "befo\nore\nefor\nefor\n\nafte\nfailed\nfailed\nagai\nfailed\n",
     },
     // A seek that fails is told. No file of the system has a place past 2^63.
     OnDisk {
@@ -323,9 +337,14 @@ const ON_DISK: &[OnDisk] = &[
             Step::Read(4),
             Step::Read(u64::MAX),
             Step::Read(5),
+            // It closes the file, so that the one that takes its place is read next.
+            Step::Read(u64::MAX),
+            Step::Remove,
+            Step::Write(Bytes::Text(b"stops")),
+            Step::Read(0),
             Step::Remove,
         ],
-        told: "failed\n 60\n\nfailed\n60\n\n",
+        told: "failed\n 60\n\nfailed\n60\n\nfailed\nstop\n",
     },
 ];
 
@@ -356,6 +375,10 @@ fn write_step(
         Step::ReadMissing => {
             let missing = path_on_disk(rt, "not")?;
             Ok(write_piece(text, folder, missing.as_path().as_str(), 0)?)
+        }
+        Step::ReadLonger => {
+            let longer = path_on_disk(rt, "txt2")?;
+            Ok(write_piece(text, folder, longer.as_path().as_str(), 0)?)
         }
         Step::ReadWhole(most) => { Ok(write_whole(text, rt.alloc(), folder, path.as_str(), most)?) }
     }
@@ -390,14 +413,31 @@ fn a_folder_is_no_file(rt: HostRuntime) -> Result<(), Fail> {
     Ok(())
 }
 
-/// A standard output that takes one byte at a call, where it is the one that is wanted next.
+/// A standard output that takes so many bytes at a call at most, where they are the ones that are wanted next, and
+/// fails at the call of one number.
 #[derive(Drop)]
-struct OneByte<'a> {
+struct FewBytes<'a> {
     wanted: &'a [u8],
+    most: usize,
+    failing: Option<usize>,
+    calls: Cell<usize>,
     taken: Cell<usize>,
 }
 
-impl Print for OneByte<'_> {
+impl<'a> FewBytes<'a> {
+    /// One that was not called yet.
+    fn new(wanted: &'a [u8], most: usize, failing: Option<usize>) -> FewBytes<'a> {
+        FewBytes {
+            wanted,
+            most,
+            failing,
+            calls: Cell::new(0),
+            taken: Cell::new(0),
+        }
+    }
+}
+
+impl Print for FewBytes<'_> {
     fn print<D: Display + Drop>(&self, _value: D) -> io::Result<()> {
         Err(io::Error::from(ErrorKind::Unsupported))
     }
@@ -411,26 +451,40 @@ impl Print for OneByte<'_> {
     }
 
     fn write_some(&self, bytes: &[u8]) -> io::Result<usize> {
+        let call = self.calls.get();
+        self.calls.set(call.saturating_add(1));
         let taken = self.taken.get();
-        if bytes.is_empty() || bytes.first() != self.wanted.get(taken) {
+        let rest = self.wanted.get(taken..).unwrap_or(b"");
+        let count = bytes.len().min(self.most);
+        if self.failing == Some(call) || count == 0 || !rest.starts_with(&bytes[..count]) {
             return Err(io::Error::from(ErrorKind::InvalidData));
         }
-        self.taken.set(taken.saturating_add(1));
-        Ok(1)
+        self.taken.set(taken.saturating_add(count));
+        Ok(count)
     }
 }
 
 #[test]
 fn a_short_write_is_no_whole_one(rt: HostRuntime) -> Result<(), Fail> {
-    let output = OneByte {
-        wanted: b"runs 60\n",
-        taken: Cell::new(0),
-    };
+    let output = FewBytes::new(b"runs 60\n", 1, None);
     let mut sink = StdoutSink::new(&output);
+    assert!(rt; output.calls.get() == 0);
     assert!(rt; sink.write(b"runs 60\n") == Ok(1));
     assert!(rt; is_written(&mut sink, b"uns 60\n"));
     assert!(rt; output.taken.get() == 8);
     assert!(rt; !is_written(&mut sink, b"runs 60\n"));
+    let output = FewBytes::new(b"runs 60\n", 3, None);
+    assert!(rt; is_written(&mut StdoutSink::new(&output), b"runs 60\n"));
+    assert!(rt; output.taken.get() == 8);
+    Ok(())
+}
+
+#[test]
+fn a_failed_write_is_not_made_again(rt: HostRuntime) -> Result<(), Fail> {
+    let output = FewBytes::new(b"runs 60\n", 3, Some(1));
+    assert!(rt; !is_written(&mut StdoutSink::new(&output), b"runs 60\n"));
+    assert!(rt; output.calls.get() == 2);
+    assert!(rt; output.taken.get() == 3);
     Ok(())
 }
 
