@@ -38,6 +38,13 @@ IsCaused may_fail faults taken dir before after (Refused (TooLong table)) =
     RosePast MOST_TABLE_BYTES (taken before) (taken after)
 IsCaused may_fail faults taken dir before after _ = ⊤
 
+-- no failed read is passed over: unless a file is said to be one that could not be read, the count of faults stays
+abbrev pub TellsFaults : {Y : Type 0} → Result Y ReadError → ℕ → ℕ → Type 0
+TellsFaults (Ok y) before after = after ≡ before
+TellsFaults (Err (CannotRead table)) before after = ⊤
+TellsFaults (Err (Refused why)) before after = after ≡ before
+TellsFaults (Err NoMemory) before after = after ≡ before
+
 -- the reader of a table gives this refusal of these bytes, unless it is want of memory
 abbrev pub IsWrong : Table → List ℕ → TableRefusal → Type 0
 IsWrong table bytes why = Fails is_memory why (reading table bytes)

@@ -1,6 +1,6 @@
 //! The day and the plan of a folder: the tables, the day that they make, and the plan of it.
 
-ghost use Rattle.std.specs.Prelude.{◌≡◌, ◌≢◌, [], Some, Result, IfOk, IfErr, ⊤};
+ghost use Rattle.std.specs.Prelude.{◌≡◌, true, ◌≢◌, [], Some, Result, IfOk, IfErr, ⊤};
 ghost use Rattle.rail_csv.specs.declared.rows.Table.TheVariants.{Plan};
 ghost use Rattle.rail_io.specs.Folders.{Files, OnlyReads};
 ghost use Rattle.rail_csv.specs.Rows.{ArePlanRows};
@@ -11,7 +11,7 @@ ghost use Rattle.day_files.specs.Tables.{AreTables, IsMadeDay};
 ghost use Rattle.day_files.specs.UnitTables.{AreUnitTables, AreUnitTablesIn};
 ghost use Rattle.day_files.specs.Inputs.{as_day, as_plan, day_in, inputs_in, tables_in};
 ghost use Rattle.day_files.specs.Order.{Reaches};
-ghost use Rattle.day_files.specs.Answers.{Reads, IsCaused, IsMade, IsErrorOf};
+ghost use Rattle.day_files.specs.Answers.{Reads, IsCaused, IsMade, IsErrorOf, TellsFaults};
 
 use crate::errors::{ReadError, Refusal};
 use crate::tables::table_in;
@@ -37,6 +37,7 @@ fn tables_in<F: Folder>(alloc: Global, folder: &mut F, dir: &str) -> Result<Tabl
     ensures within { IfOk result AreTables }
     ensures says { IfErr result (IsErrorOf (λ table. table ≢ Plan)) }
     ensures caused { IfErr result (IsCaused F.may_fail F.faults F.taken dir.now folder.old folder.new) }
+    ensures faults { F.counts_failed ≡ true → TellsFaults result (F.faults folder.old) (F.faults folder.new) }
     ensures only_reads { OnlyReads F.holds F.may_fail F.faults F.taken folder.old folder.new }
 {
     let units = UnitTables {
@@ -70,6 +71,7 @@ fn tables_with<F: Folder>(
     ensures within { IfOk result AreTables }
     ensures says { IfErr result (IsErrorOf (λ table. table ≢ Plan)) }
     ensures caused { IfErr result (IsCaused F.may_fail F.faults F.taken dir.now folder.old folder.new) }
+    ensures faults { F.counts_failed ≡ true → TellsFaults result (F.faults folder.old) (F.faults folder.new) }
     ensures only_reads { OnlyReads F.holds F.may_fail F.faults F.taken folder.old folder.new }
 {
     let trips = table_in(alloc, folder, dir)?;
@@ -127,7 +129,8 @@ fn plan_of(alloc: Global, instance: &Instance, rows: &[PlanRow]) -> Result<Named
 /// - `Refused`: a file is refused, never that of the plan, or the tables make no day. It is never want of memory.
 /// - `NoMemory`: want of memory.
 ///
-/// Where the folder tells what it holds, each file before that one is accepted.
+/// Where the folder tells what it holds, each file before that one is accepted. No failed read is passed over: where
+/// the folder counts failed calls alone, the count stays, unless the answer is `CannotRead`.
 #[tactic(auto, unfolding(crate::specs::Inputs::day_in))]
 pub fn day_in<F: Folder>(alloc: Global, folder: &mut F, dir: &str) -> Result<Instance, ReadError>
     ensures told { (files : Files) → F.holds folder.old ≡ Some files
@@ -135,6 +138,7 @@ pub fn day_in<F: Folder>(alloc: Global, folder: &mut F, dir: &str) -> Result<Ins
     ensures made { IfOk result IsMadeDay }
     ensures says { IfErr result (IsErrorOf (λ table. table ≢ Plan)) }
     ensures caused { IfErr result (IsCaused F.may_fail F.faults F.taken dir.now folder.old folder.new) }
+    ensures faults { F.counts_failed ≡ true → TellsFaults result (F.faults folder.old) (F.faults folder.new) }
     ensures only_reads { OnlyReads F.holds F.may_fail F.faults F.taken folder.old folder.new }
 {
     let tables = tables_in(alloc, folder, dir)?;
@@ -151,7 +155,8 @@ pub fn day_in<F: Folder>(alloc: Global, folder: &mut F, dir: &str) -> Result<Ins
 /// - `NoMemory`: want of memory.
 ///
 /// Where the folder tells what it holds, each file before that one is accepted; where it is that of the plan, the
-/// tables make a day.
+/// tables make a day. No failed read is passed over: where the folder counts failed calls alone, the count stays,
+/// unless the answer is `CannotRead`.
 #[tactic(auto, using(crate::proofs::Reached::plan_ended), unfolding(crate::specs::Inputs::inputs_in))]
 pub fn inputs_in<F: Folder>(alloc: Global, folder: &mut F, dir: &str) -> Result<Inputs, ReadError>
     ensures told { (files : Files) → F.holds folder.old ≡ Some files
@@ -160,6 +165,7 @@ pub fn inputs_in<F: Folder>(alloc: Global, folder: &mut F, dir: &str) -> Result<
     ensures is_plan { IfOk result (λ inputs. IsPlan inputs.instance inputs.plan) }
     ensures says { IfErr result (IsErrorOf (λ _. ⊤)) }
     ensures caused { IfErr result (IsCaused F.may_fail F.faults F.taken dir.now folder.old folder.new) }
+    ensures faults { F.counts_failed ≡ true → TellsFaults result (F.faults folder.old) (F.faults folder.new) }
     ensures only_reads { OnlyReads F.holds F.may_fail F.faults F.taken folder.old folder.new }
 {
     let instance = day_in(alloc, folder, dir)?;

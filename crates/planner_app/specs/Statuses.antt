@@ -143,6 +143,10 @@ status_of (NoAnswer answer_error.CannotRead) = 5
 status_of (NoAnswer other) = 3
 status_of NoMemory = 7
 
+-- no failed read is passed over: unless the outcome is that a file could not be read, the count of faults stays
+abbrev pub TellsFaults : Outcome → ℕ → ℕ → Type 0
+TellsFaults outcome before after = status_of outcome ≢ 5 → after ≡ before
+
 -- What was written of an outcome, and the status that says so: its whole document; or a front of it, where a write
 -- failed; or nothing, where memory ran out.
 pub data Wrote (outcome : Outcome) (status : ℕ) (before after : Option (List ℕ)) (faults faults' : ℕ) : Type 0 where

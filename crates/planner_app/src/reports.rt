@@ -1,6 +1,6 @@
 //! Reports on the plan of a folder's answer, once it is found valid.
 
-ghost use Rattle.std.specs.Prelude.{ℕ, List, ◌≡◌, ◌≤◌, IfOk, length};
+ghost use Rattle.std.specs.Prelude.{ℕ, true, List, ◌≡◌, ◌≤◌, IfOk, length};
 ghost use Rattle.rail_base.specs.declared.limits.TheConstants.{MOST_TRIPS};
 ghost use Rattle.rail_io.specs.Folders.{OnlyReads};
 ghost use Rattle.timetable.specs.Running as running;
@@ -8,6 +8,7 @@ ghost use Rattle.answer_text.specs.Limits.{has_plan};
 ghost use Rattle.planner_app.specs.Outcomes.{AskToReport, IsOutcome};
 ghost use Rattle.planner_app.specs.ReportOutcomes.{IsReportOutcome};
 ghost use Rattle.planner_app.specs.ReportTexts.{report_text};
+ghost use Rattle.planner_app.specs.Statuses.{TellsFaults};
 
 use answer_check::{AnswerVerdict, copy_of, picks_of_plan, verdict_on};
 use answer_text::Answer;
@@ -40,6 +41,7 @@ pub(crate) fn reported<F: Folder>(
     ensures outcome { (words : List (List ℕ)) → AskToReport words kind dir.now
         → IsOutcome F.holds F.may_fail F.faults F.taken words folder.old folder.new result }
     ensures only_reads { OnlyReads F.holds F.may_fail F.faults F.taken folder.old folder.new }
+    ensures faults { F.counts_failed ≡ true → TellsFaults result (F.faults folder.old) (F.faults folder.new) }
 {
     let instance = match day_in(alloc, folder, dir) {
         Ok(instance) => instance,

@@ -1,6 +1,6 @@
 //! From the words to the outcome: what each command does with the files of its folder.
 
-ghost use Rattle.std.specs.Prelude.{ℕ, List, ◌≡◌, ◌≤◌, ◌+◌, ◌*◌, ◌^◌, All};
+ghost use Rattle.std.specs.Prelude.{ℕ, true, List, ◌≡◌, ◌≤◌, ◌+◌, ◌*◌, ◌^◌, All};
 ghost use Rattle.rail_base.specs.declared.limits.TheConstants.{MOST_BRANCHINGS, MOST_ROUNDS};
 ghost use Rattle.rail_io.specs.Folders.{OnlyReads};
 ghost use Rattle.search.specs.Questions.{AreAsked, AreTheSame};
@@ -8,6 +8,7 @@ ghost use Rattle.trial_day.specs.Trial.{IsTrialSize};
 ghost use Rattle.planner_app.specs.Advice.{AreAskedFor};
 ghost use Rattle.planner_app.specs.Outcomes.{AskAbout, AskToCheck, AskToPlan, AskToSimulate, Grants, IsOutcome};
 ghost use Rattle.planner_app.specs.ReportOutcomes.{IsTrialOutcome};
+ghost use Rattle.planner_app.specs.Statuses.{TellsFaults};
 
 use crate::reports::{ReportKind, reported};
 use advisors::Advisor;
@@ -43,6 +44,7 @@ pub(crate) fn outcome_of<F: Folder>(
 
     // The folder.
     ensures only_reads { OnlyReads F.holds F.may_fail F.faults F.taken folder.old folder.new }
+    ensures faults { F.counts_failed ≡ true → TellsFaults result (F.faults folder.old) (F.faults folder.new) }
     ensures untouched { ((dir : List ℕ) → ¬ AskAbout words.now dir) → folder.new ≡ folder.old }
 {
     match read_words(alloc, words) {
@@ -82,6 +84,7 @@ fn planned<F: Folder>(
     ensures outcome { (words : List (List ℕ)) → AskToPlan words dir.now nodes rounds
         → IsOutcome F.holds F.may_fail F.faults F.taken words folder.old folder.new result }
     ensures only_reads { OnlyReads F.holds F.may_fail F.faults F.taken folder.old folder.new }
+    ensures faults { F.counts_failed ≡ true → TellsFaults result (F.faults folder.old) (F.faults folder.new) }
     ensures advisors { AreTheSame advisors.old.items advisors.new.items identity }
     ensures asked { AreAsked advisors.old.items advisors.new.items asked has_quit 0 (rounds * (2 * nodes + 1)) }
     ensures asked_for { AreAskedFor rounds result advisors.old.items advisors.new.items asked has_quit }
@@ -132,6 +135,7 @@ fn simulated<F: Folder>(alloc: Global, folder: &mut F, dir: &str) -> Outcome
     ensures outcome { (words : List (List ℕ)) → AskToSimulate words dir.now
         → IsOutcome F.holds F.may_fail F.faults F.taken words folder.old folder.new result }
     ensures only_reads { OnlyReads F.holds F.may_fail F.faults F.taken folder.old folder.new }
+    ensures faults { F.counts_failed ≡ true → TellsFaults result (F.faults folder.old) (F.faults folder.new) }
 {
     let inputs = match inputs_in(alloc, folder, dir) {
         Ok(inputs) => inputs,
@@ -149,6 +153,7 @@ fn checked<F: Folder>(alloc: Global, folder: &mut F, dir: &str) -> Outcome
     ensures outcome { (words : List (List ℕ)) → AskToCheck words dir.now
         → IsOutcome F.holds F.may_fail F.faults F.taken words folder.old folder.new result }
     ensures only_reads { OnlyReads F.holds F.may_fail F.faults F.taken folder.old folder.new }
+    ensures faults { F.counts_failed ≡ true → TellsFaults result (F.faults folder.old) (F.faults folder.new) }
 {
     let instance = match day_in(alloc, folder, dir) {
         Ok(instance) => instance,

@@ -1,6 +1,6 @@
 //! The top call: it reads a folder, writes one document and answers a status.
 
-ghost use Rattle.std.specs.Prelude.{ℕ, List, ◌≡◌, ◌≤◌, ◌+◌, ◌*◌, ◌^◌, ◌↔◌, Some, All};
+ghost use Rattle.std.specs.Prelude.{ℕ, true, List, ◌≡◌, ◌≤◌, ◌+◌, ◌*◌, ◌^◌, ◌↔◌, ◌≢◌, Some, All};
 ghost use Rattle.rail_io.specs.Folders.{Files, OnlyReads, Rose};
 ghost use Rattle.search.specs.Questions.{AreAsked, AreTheSame};
 ghost use Rattle.run_documents.specs.declared.outcome.Outcome.{Outcome};
@@ -55,6 +55,7 @@ fn write_outcome<K: Sink>(alloc: Global, outcome: &Outcome, out: &mut K) -> u8
     ensures wrote { Wrote outcome.now result (K.written out.old) (K.written out.new) (K.faults out.old)
         (K.faults out.new) }
     ensures lasting { K.faults out.old ≤ K.faults out.new }
+    ensures writes { K.counts_failed ≡ true → result ≢ 6 → K.faults out.new ≡ K.faults out.old }
 {
     let Ok(text) = document(alloc, outcome) else {
         return 7;
@@ -96,6 +97,9 @@ fn write_outcome<K: Sink>(alloc: Global, outcome: &Outcome, out: &mut K) -> u8
 ///   of it.
 /// - 7 is want of memory; nothing was written.
 ///
+/// No failed read or write is passed over: where the folder counts failed calls alone, its count rises only where the
+/// status is 5, 6 or 7, and where the sink does, its count rises only where it is 6.
+///
 /// Each "exactly where" yields to statuses 5, 6 and 7. What is said of the files holds where the folder tells what it
 /// holds, and what is said of the document where the sink tells what was written. A count rises where it is greater
 /// afterwards, or stands at 2^64 - 1.
@@ -131,10 +135,12 @@ pub fn railplan<F: Folder, K: Sink>(
         → EndsTrial seed trips nodes result (K.written out.old) (K.written out.new) }
     ensures usage { IsUndisturbed result → (result ≡ 2) ↔ AskInVain words.now }
 
-    // The other statuses, and that there are no more.
+    // The other statuses, that there are no more, and that no failed read or write is passed over.
     ensures unread { result ≡ 5 → Rose (F.faults folder.old) (F.faults folder.new) }
     ensures unwritten { result ≡ 6 → Rose (K.faults out.old) (K.faults out.new) }
     ensures nothing { result ≡ 7 → K.written out.new ≡ K.written out.old }
+    ensures reads { F.counts_failed ≡ true → IsUndisturbed result → F.faults folder.new ≡ F.faults folder.old }
+    ensures writes { K.counts_failed ≡ true → result ≢ 6 → K.faults out.new ≡ K.faults out.old }
     ensures statuses { IsStatus result }
 
     // What was written is the document of an outcome of these words and this folder, whose status is the result; and

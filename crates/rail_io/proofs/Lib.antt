@@ -2,3 +2,4 @@ pub mod Calls
 pub mod Finding
 pub mod Reading
 pub mod Writing
+pub mod Faults

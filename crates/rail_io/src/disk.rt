@@ -1,6 +1,6 @@
 //! The real folder and the real sink: files on disk, and the standard output. They tell no contents.
 
-ghost use Rattle.std.specs.Prelude.{◌≡◌, ◌<◌, ◌≤◌, length, IfOk, IsTrue, OnErr, Ok, None, if◌then◌else◌};
+ghost use Rattle.std.specs.Prelude.{◌≡◌, true, ◌<◌, ◌≤◌, length, IfOk, IsTrue, OnErr, Ok, None, if◌then◌else◌};
 ghost use Rattle.std.specs.Result.{is_err};
 ghost use Rattle.rail_io.specs.Folders.{Rose, RoseBy, counted};
 
@@ -124,6 +124,8 @@ impl<'a, R: Files> Folder for DiskFolder<'a, R> {
 
     ghost faults = { λ folder. folder.faults };
 
+    ghost counts_failed = { true };
+
     ghost taken = { λ folder. folder.taken };
 
     fn read_at(&mut self, path: &str, from: u64, into: &mut [u8]) -> Result<usize, Failed>
@@ -179,6 +181,8 @@ impl<'a, R: Print> Sink for StdoutSink<'a, R> {
     ghost written = { λ _. None };
 
     ghost faults = { λ sink. sink };
+
+    ghost counts_failed = { true };
 
     fn write(&mut self, piece: &[u8]) -> Result<usize, Failed>
         ensures room { IfOk result (λ n. n ≤ length piece.now) }

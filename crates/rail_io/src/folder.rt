@@ -1,6 +1,7 @@
 //! A folder: a place from which files are read piece by piece.
 
-ghost use Rattle.std.specs.Prelude.{◌≡◌, ◌≤◌, ℕ, Bool, true, List, Option, Some, IsTrue, length, IfOk, OnErr};
+ghost use Rattle.std.specs.Prelude.{◌≡◌, ◌≤◌, ℕ, Bool, true, false, List, Option, Some, IsTrue, length, IfOk, OnOk};
+ghost use Rattle.std.specs.Prelude.{OnErr};
 ghost use Rattle.rail_io.specs.Folders.{Files, IsReadFrom, OnlyReads, Rose, RoseBy, file_at};
 
 use thiserror::Error;
@@ -24,11 +25,14 @@ pub trait Folder {
     /// Whether a read of a path may fail: where nothing else is said, each may. It never changes.
     ghost may_fail: { Self → List ℕ → Bool } = { λ _ _. true };
 
+    /// Whether the count of faults rises in failed calls alone: where nothing else is said, it may rise in others.
+    ghost counts_failed: { Bool } = { false };
+
     /// Puts bytes of the path's file, from place `from` on, at the front of `into`, and answers how many. Where the
     /// folder tells what it holds, it answers 0 exactly where `into` is empty or nothing is left from there on. What
     /// stands in `into` past the bytes put there is left open. `Failed` comes only where the count of faults rose, and
     /// where a read of this path may fail; of the bytes handed out it says no more than that their count has not
-    /// fallen.
+    /// fallen. A read that doesn't fail leaves the count of faults, where it counts failed calls alone.
     fn read_at(&mut self, path: &str, from: u64, into: &mut [u8]) -> Result<usize, Failed>
         ensures told { (files : Files) → holds self.old ≡ Some files →
             IfOk result (λ n. IsReadFrom (file_at files path.now) from n into.new) }
@@ -36,5 +40,6 @@ pub trait Folder {
         ensures taken { IfOk result (λ n. RoseBy n (taken self.old) (taken self.new)) }
         ensures fault { OnErr result (Rose (faults self.old) (faults self.new)) }
         ensures may { OnErr result (IsTrue (may_fail self.old path.now)) }
+        ensures no_fault { counts_failed ≡ true → OnOk result (faults self.new ≡ faults self.old) }
         ensures only_reads { OnlyReads holds may_fail faults taken self.old self.new };
 }

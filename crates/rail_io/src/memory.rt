@@ -2,7 +2,7 @@
 //! room is left. They are for tests.
 
 ghost use Rattle.std.specs.Prelude.{◌≡◌, ◌<◌, ◌≤◌, ◌++◌, [], length, take, IsTrue, MatchOption, None, Some, IfOk};
-ghost use Rattle.std.specs.Prelude.{◌+◌, ◌⊎◌, IfSome, OnErr, if◌then◌else◌, is_none};
+ghost use Rattle.std.specs.Prelude.{◌+◌, ◌⊎◌, true, IfSome, OnErr, if◌then◌else◌, is_none};
 ghost use Rattle.std.specs.Result.{is_err};
 ghost use Rattle.std.specs.FinMap as map;
 ghost use Rattle.rail_base.specs.Names.{is_name};
@@ -138,6 +138,8 @@ impl Folder for MemoryFolder {
 
     ghost faults = { λ folder. folder.faults };
 
+    ghost counts_failed = { true };
+
     ghost taken = { λ folder. folder.taken };
 
     ghost may_fail = { λ folder path. read_may_fail folder path };
@@ -262,6 +264,8 @@ impl Sink for MemorySink {
     ghost written = { λ sink. Some sink.written };
 
     ghost faults = { λ sink. sink.faults };
+
+    ghost counts_failed = { true };
 
     fn write(&mut self, piece: &[u8]) -> Result<usize, Failed>
         ensures room { IfOk result (λ n. n ≤ length piece.now) }

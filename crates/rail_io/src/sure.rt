@@ -1,7 +1,7 @@
 //! A folder and a sink in memory whose calls never fail. They are for tests.
 
-ghost use Rattle.std.specs.Prelude.{◌≡◌, ◌+◌, ◌≤◌, ◌++◌, ◌||◌, nat_lt, [], length, take, false, None, Some, Ok, IsTrue};
-ghost use Rattle.std.specs.Prelude.{MatchOption, IfOk};
+ghost use Rattle.std.specs.Prelude.{◌≡◌, ◌+◌, ◌≤◌, ◌++◌, ◌||◌, nat_lt, [], length, take, true, false, None, Some, Ok};
+ghost use Rattle.std.specs.Prelude.{MatchOption, IfOk, IsTrue};
 ghost use Rattle.std.specs.Result.{is_ok};
 ghost use Rattle.rail_io.specs.Folders.{IsReadFrom, RoseBy, file_at};
 ghost use Rattle.rail_io.specs.MemoryFiles.{files_of};
@@ -54,6 +54,8 @@ impl Folder for SureFolder {
     ghost holds = { λ folder. Some folder.files };
 
     ghost faults = { λ _. 0 };
+
+    ghost counts_failed = { true };
 
     ghost taken = { λ folder. folder.taken };
 
@@ -142,6 +144,8 @@ impl Sink for SureSink {
     ghost written = { λ sink. told_by sink };
 
     ghost faults = { λ _. 0 };
+
+    ghost counts_failed = { true };
 
     fn write(&mut self, piece: &[u8]) -> Result<usize, Failed>
         ensures appended { Appends piece.now (told_by self.old) (told_by self.new) }

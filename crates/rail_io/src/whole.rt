@@ -1,6 +1,6 @@
 //! Whole files in, and whole documents out.
 
-ghost use Rattle.std.specs.Prelude.{◌≡◌, ◌+◌, ◌<◌, ◌≤◌, [], Some, IsTrue, length, IfOk, IsErrOf, OnOk, OnErr};
+ghost use Rattle.std.specs.Prelude.{◌≡◌, ◌+◌, ◌<◌, ◌≤◌, [], Some, true, IsTrue, length, IfOk, IsErrOf, OnOk, OnErr};
 ghost use Rattle.rail_io.specs.Folders.{Files, OnlyReads, Rose, RosePast, file_at};
 ghost use Rattle.rail_io.specs.Sinks.{Appends, AppendsPart};
 ghost use Rattle.rail_io.specs.Wholes.{HasRead};
@@ -52,6 +52,9 @@ impl From<AllocError> for FileRefusal {
 /// - `TooLong`: more than `limit` bytes were taken, or the count of them has reached 2^63; where the folder tells what
 ///   it holds, the file is longer.
 /// - `NoMemory`: the memory for its bytes could not be had.
+///
+/// Where the folder counts failed calls alone, no failed read is passed over: the count stays, unless the answer is
+/// `ReadFault`.
 pub fn read_file<F: Folder>(
     alloc: Global,
     folder: &mut F,
@@ -69,6 +72,8 @@ pub fn read_file<F: Folder>(
     ensures fault { IsErrOf result FileRefusal.ReadFault → Rose (F.faults folder.old) (F.faults folder.new) }
     ensures may { IsErrOf result FileRefusal.ReadFault → IsTrue (F.may_fail folder.old path.now) }
     ensures too_long { IsErrOf result FileRefusal.TooLong → RosePast limit (F.taken folder.old) (F.taken folder.new) }
+    ensures no_fault { F.counts_failed ≡ true → ¬ IsErrOf result FileRefusal.ReadFault
+        → F.faults folder.new ≡ F.faults folder.old }
 
     ensures only_reads { OnlyReads F.holds F.may_fail F.faults F.taken folder.old folder.new }
     ensures taken_at_most { IfOk result (λ bytes. F.taken folder.new ≤ F.taken folder.old + length bytes.items) }
@@ -87,7 +92,8 @@ fn read_into<F: Folder>(
 ) -> Result<(), FileRefusal>
     requires small { limit ≤ MOST_FILE_BYTES }
     requires empty { bytes.old.items ≡ [] }
-    ensures { HasRead F.holds F.may_fail F.faults F.taken folder.old folder.new path.now limit bytes.new.items result }
+    ensures { HasRead F.holds F.may_fail F.faults F.taken F.counts_failed folder.old folder.new path.now limit
+        bytes.new.items result }
 {
     let mut piece = [0; PIECE_BYTES];
     loop {
@@ -108,6 +114,7 @@ pub fn write_all<K: Sink>(sink: &mut K, bytes: &[u8]) -> Result<(), Failed>
     ensures whole { OnOk result (Appends bytes.now (K.written sink.old) (K.written sink.new)) }
     ensures part { OnErr result (AppendsPart bytes.now (K.written sink.old) (K.written sink.new)) }
     ensures fault { OnErr result (Rose (K.faults sink.old) (K.faults sink.new)) }
+    ensures no_fault { K.counts_failed ≡ true → OnOk result (K.faults sink.new ≡ K.faults sink.old) }
     ensures lasting { K.faults sink.old ≤ K.faults sink.new }
 {
     let mut done = 0;

@@ -1,10 +1,11 @@
 //! The answer of a folder, read from its file.
 
-ghost use Rattle.std.specs.Prelude.{◌≡◌, ◌≤◌, Some, IfOk, IfErr, length, string_bytes};
+ghost use Rattle.std.specs.Prelude.{◌≡◌, true, ◌≤◌, Some, IfOk, IfErr, length, string_bytes};
 ghost use Rattle.rail_io.specs.Folders.{Files, OnlyReads};
 ghost use Rattle.answer_text.specs.Limits.{IsWithin};
 ghost use Rattle.rail_base.specs.declared.limits.TheConstants.{MOST_FILE_BYTES, MOST_NODES};
-ghost use Rattle.run_documents.specs.AnswerFiles.{AreRefusedFor, IsAnswerCaused, IsAnswerOf, ReadsAnswer, answer_path};
+ghost use Rattle.run_documents.specs.AnswerFiles.{AreRefusedFor, IsAnswerCaused, IsAnswerOf, ReadsAnswer, TellsFaults};
+ghost use Rattle.run_documents.specs.AnswerFiles.{answer_path};
 
 use answer_text::{Answer, AnswerRefusal, read};
 use rail_base::NoMemory;
@@ -45,6 +46,9 @@ fn path_of(alloc: Global, dir: &str) -> Result<String, NoMemory>
 ///   longer.
 /// - `Refused`: the bytes are no answer, for the first wrong line. There are such bytes also where the folder doesn't
 ///   tell what it holds.
+///
+/// No failed read is passed over: where the folder counts failed calls alone, the count stays, unless the answer is
+/// `CannotRead`.
 pub fn answer_in<F: Folder>(
     alloc: Global,
     folder: &mut F,
@@ -54,6 +58,7 @@ pub fn answer_in<F: Folder>(
     ensures within { IfOk result (λ read. IfOk read (IsWithin MOST_NODES)) }
     ensures caused { IfOk result (λ read.
         IfErr read (IsAnswerCaused F.may_fail F.faults F.taken dir.now folder.old folder.new)) }
+    ensures faults { F.counts_failed ≡ true → TellsFaults result (F.faults folder.old) (F.faults folder.new) }
     ensures only_reads { OnlyReads F.holds F.may_fail F.faults F.taken folder.old folder.new }
 {
     let path = path_of(alloc, dir)?;
