@@ -1,5 +1,5 @@
 -- What a call that reads a folder answers.
-use Rattle.std.specs.Prelude.{ℕ, ◌≡◌, ◌≤◌, List, length, Bool, false, IsTrue, if◌then◌else◌, Result, Ok, Err, ⊤}
+use Rattle.std.specs.Prelude.{ℕ, ◌≡◌, ◌≤◌, List, length, Bool, true, false, IsTrue, if◌then◌else◌, Result, Ok, Err, ⊤}
 use Rattle.rail_base.specs.Answers.{Fails}
 use Rattle.rail_base.specs.declared.limits.TheConstants.{MOST_TABLE_BYTES}
 use Rattle.rail_io.specs.Folders.{Rose, RosePast}
@@ -38,12 +38,12 @@ IsCaused may_fail faults taken dir before after (Refused (TooLong table)) =
     RosePast MOST_TABLE_BYTES (taken before) (taken after)
 IsCaused may_fail faults taken dir before after _ = ⊤
 
--- no failed read is passed over: unless a file is said to be one that could not be read, the count of faults stays
-abbrev pub TellsFaults : {Y : Type 0} → Result Y ReadError → ℕ → ℕ → Type 0
-TellsFaults (Ok y) before after = after ≡ before
-TellsFaults (Err (CannotRead table)) before after = ⊤
-TellsFaults (Err (Refused why)) before after = after ≡ before
-TellsFaults (Err NoMemory) before after = after ≡ before
+-- whether a file is said to be one that could not be read
+abbrev pub tells_unread : {Y : Type 0} → Result Y ReadError → Bool
+tells_unread (Ok y) = false
+tells_unread (Err (CannotRead table)) = true
+tells_unread (Err (Refused why)) = false
+tells_unread (Err NoMemory) = false
 
 -- the reader of a table gives this refusal of these bytes, unless it is want of memory
 abbrev pub IsWrong : Table → List ℕ → TableRefusal → Type 0

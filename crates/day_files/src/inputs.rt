@@ -2,7 +2,7 @@
 
 ghost use Rattle.std.specs.Prelude.{◌≡◌, true, ◌≢◌, [], Some, Result, IfOk, IfErr, ⊤};
 ghost use Rattle.rail_csv.specs.declared.rows.Table.TheVariants.{Plan};
-ghost use Rattle.rail_io.specs.Folders.{Files, OnlyReads};
+ghost use Rattle.rail_io.specs.Folders.{Files, OnlyReads, faults_after};
 ghost use Rattle.rail_csv.specs.Rows.{ArePlanRows};
 ghost use Rattle.timetable.specs.Build.{day_of};
 ghost use Rattle.timetable.specs.Plans.{plan_of};
@@ -11,7 +11,7 @@ ghost use Rattle.day_files.specs.Tables.{AreTables, IsMadeDay};
 ghost use Rattle.day_files.specs.UnitTables.{AreUnitTables, AreUnitTablesIn};
 ghost use Rattle.day_files.specs.Inputs.{as_day, as_plan, day_in, inputs_in, tables_in};
 ghost use Rattle.day_files.specs.Order.{Reaches};
-ghost use Rattle.day_files.specs.Answers.{Reads, IsCaused, IsMade, IsErrorOf, TellsFaults};
+ghost use Rattle.day_files.specs.Answers.{Reads, IsCaused, IsMade, IsErrorOf, tells_unread};
 
 use crate::errors::{ReadError, Refusal};
 use crate::tables::table_in;
@@ -37,7 +37,8 @@ fn tables_in<F: Folder>(alloc: Global, folder: &mut F, dir: &str) -> Result<Tabl
     ensures within { IfOk result AreTables }
     ensures says { IfErr result (IsErrorOf (λ table. table ≢ Plan)) }
     ensures caused { IfErr result (IsCaused F.may_fail F.faults F.taken dir.now folder.old folder.new) }
-    ensures faults { F.counts_failed ≡ true → TellsFaults result (F.faults folder.old) (F.faults folder.new) }
+    ensures fault_counted { F.counts_failed ≡ true
+        → F.faults folder.new ≡ faults_after (tells_unread result) (F.faults folder.old) }
     ensures only_reads { OnlyReads F.holds F.may_fail F.faults F.taken folder.old folder.new }
 {
     let units = UnitTables {
@@ -64,14 +65,20 @@ fn tables_with<F: Folder>(
     dir: &str,
     units: UnitTables,
 ) -> Result<Tables, ReadError>
+    // The tables that were read.
     requires read { (files : Files) → F.holds folder.old ≡ Some files → AreUnitTablesIn files dir.now units }
     requires within { AreUnitTables units }
+
+    // What the files come to.
     ensures told { (files : Files) → F.holds folder.old ≡ Some files
         → Reads (Reaches files dir.now) result (tables_in files dir.now) }
     ensures within { IfOk result AreTables }
+
+    // What an error says, and what stays.
     ensures says { IfErr result (IsErrorOf (λ table. table ≢ Plan)) }
     ensures caused { IfErr result (IsCaused F.may_fail F.faults F.taken dir.now folder.old folder.new) }
-    ensures faults { F.counts_failed ≡ true → TellsFaults result (F.faults folder.old) (F.faults folder.new) }
+    ensures fault_counted { F.counts_failed ≡ true
+        → F.faults folder.new ≡ faults_after (tells_unread result) (F.faults folder.old) }
     ensures only_reads { OnlyReads F.holds F.may_fail F.faults F.taken folder.old folder.new }
 {
     let trips = table_in(alloc, folder, dir)?;
@@ -124,13 +131,14 @@ fn plan_of(alloc: Global, instance: &Instance, rows: &[PlanRow]) -> Result<Named
 /// of the day come after the six files. The day is one that tables make whose rows keep within the ranges of their
 /// columns, also where the folder doesn't tell what it holds.
 ///
-/// - `CannotRead`: the count of failed reads rose or stands at its last value, and a read of that file may fail. It is
+/// - `CannotRead`: the count of faults rose or stands at its last value, and a read of that file may fail. It is
 ///   never the file of the plan, which isn't read.
 /// - `Refused`: a file is refused, never that of the plan, or the tables make no day. It is never want of memory.
 /// - `NoMemory`: want of memory.
 ///
-/// Where the folder tells what it holds, each file before that one is accepted. No failed read is passed over: where
-/// the folder counts failed calls alone, the count stays, unless the answer is `CannotRead`.
+/// Where the folder tells what it holds, each file before that one is accepted. Where it counts its failed calls, the
+/// count rises by one where the answer is `CannotRead`, unless it stands at its last value, and else stays. So, unless
+/// it comes to that value, at most one read fails, and it is told.
 #[tactic(auto, unfolding(crate::specs::Inputs::day_in))]
 pub fn day_in<F: Folder>(alloc: Global, folder: &mut F, dir: &str) -> Result<Instance, ReadError>
     ensures told { (files : Files) → F.holds folder.old ≡ Some files
@@ -138,7 +146,8 @@ pub fn day_in<F: Folder>(alloc: Global, folder: &mut F, dir: &str) -> Result<Ins
     ensures made { IfOk result IsMadeDay }
     ensures says { IfErr result (IsErrorOf (λ table. table ≢ Plan)) }
     ensures caused { IfErr result (IsCaused F.may_fail F.faults F.taken dir.now folder.old folder.new) }
-    ensures faults { F.counts_failed ≡ true → TellsFaults result (F.faults folder.old) (F.faults folder.new) }
+    ensures fault_counted { F.counts_failed ≡ true
+        → F.faults folder.new ≡ faults_after (tells_unread result) (F.faults folder.old) }
     ensures only_reads { OnlyReads F.holds F.may_fail F.faults F.taken folder.old folder.new }
 {
     let tables = tables_in(alloc, folder, dir)?;
@@ -149,23 +158,28 @@ pub fn day_in<F: Folder>(alloc: Global, folder: &mut F, dir: &str) -> Result<Ins
 /// first file that is refused or cannot be read ends the reading. The day is one that tables make whose rows keep
 /// within the ranges of their columns, also where the folder doesn't tell what it holds.
 ///
-/// - `CannotRead`: the count of failed reads rose or stands at its last value, and a read of that file may fail.
+/// - `CannotRead`: the count of faults rose or stands at its last value, and a read of that file may fail.
 /// - `Refused`: a file is refused, the tables make no day, or the rows of the plan no plan of it. It is never want of
 ///   memory.
 /// - `NoMemory`: want of memory.
 ///
 /// Where the folder tells what it holds, each file before that one is accepted; where it is that of the plan, the
-/// tables make a day. No failed read is passed over: where the folder counts failed calls alone, the count stays,
-/// unless the answer is `CannotRead`.
+/// tables make a day. Where it counts its failed calls, the count rises by one where the answer is `CannotRead`, unless
+/// it stands at its last value, and else stays. So, unless it comes to that value, at most one read fails, and it is
+/// told.
 #[tactic(auto, using(crate::proofs::Reached::plan_ended), unfolding(crate::specs::Inputs::inputs_in))]
 pub fn inputs_in<F: Folder>(alloc: Global, folder: &mut F, dir: &str) -> Result<Inputs, ReadError>
+    // What the files come to.
     ensures told { (files : Files) → F.holds folder.old ≡ Some files
         → Reads (Reaches files dir.now) result (inputs_in files dir.now) }
     ensures made { IfOk result (λ inputs. IsMadeDay inputs.instance) }
     ensures is_plan { IfOk result (λ inputs. IsPlan inputs.instance inputs.plan) }
+
+    // What an error says, and what stays.
     ensures says { IfErr result (IsErrorOf (λ _. ⊤)) }
     ensures caused { IfErr result (IsCaused F.may_fail F.faults F.taken dir.now folder.old folder.new) }
-    ensures faults { F.counts_failed ≡ true → TellsFaults result (F.faults folder.old) (F.faults folder.new) }
+    ensures fault_counted { F.counts_failed ≡ true
+        → F.faults folder.new ≡ faults_after (tells_unread result) (F.faults folder.old) }
     ensures only_reads { OnlyReads F.holds F.may_fail F.faults F.taken folder.old folder.new }
 {
     let instance = day_in(alloc, folder, dir)?;

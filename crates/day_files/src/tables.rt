@@ -1,13 +1,13 @@
 //! The tables of a folder: each is read from the bytes of its file by its own reader.
 
 ghost use Rattle.std.specs.Prelude.{◌≡◌, true, ◌≤◌, ℕ, length, List, Some, Result, IfOk, IfErr};
-ghost use Rattle.rail_io.specs.Folders.{Files, OnlyReads};
+ghost use Rattle.rail_io.specs.Folders.{Files, OnlyReads, faults_after};
 ghost use Rattle.rail_base.specs.Answers.{Gives};
 ghost use Rattle.rail_csv.specs.Tables.{is_memory};
 ghost use Rattle.rail_csv.specs.declared.rows.Table.{Table};
 ghost use Rattle.rail_csv.specs.declared.refusal.TableRefusal.{TableRefusal};
 ghost use Rattle.day_files.specs.Tables.{bytes_in, read_by};
-ghost use Rattle.day_files.specs.Answers.{Reads, IsCaused, IsErrorOf, IsWrong, TellsFaults, error_of};
+ghost use Rattle.day_files.specs.Answers.{Reads, IsCaused, IsErrorOf, IsWrong, error_of, tells_unread};
 
 use crate::errors::{ReadError, Refusal};
 use crate::names::path_of;
@@ -57,7 +57,8 @@ fn bytes_of<F: Folder>(
     ensures few { IfOk result (λ bytes. length bytes ≤ MOST_TABLE_BYTES) }
     ensures says { IfErr result (IsErrorOf (λ other. other ≡ table)) }
     ensures caused { IfErr result (IsCaused F.may_fail F.faults F.taken dir.now folder.old folder.new) }
-    ensures faults { F.counts_failed ≡ true → TellsFaults result (F.faults folder.old) (F.faults folder.new) }
+    ensures fault_counted { F.counts_failed ≡ true
+        → F.faults folder.new ≡ faults_after (tells_unread result) (F.faults folder.old) }
     ensures only_reads { OnlyReads F.holds F.may_fail F.faults F.taken folder.old folder.new }
 {
     let path = path_of(alloc, dir, table)?;
@@ -93,7 +94,8 @@ pub(crate) fn table_in<F: Folder, T: DayTable>(
     ensures within { IfOk result T.is_within }
     ensures says { IfErr result (IsErrorOf (λ other. other ≡ T.table)) }
     ensures caused { IfErr result (IsCaused F.may_fail F.faults F.taken dir.now folder.old folder.new) }
-    ensures faults { F.counts_failed ≡ true → TellsFaults result (F.faults folder.old) (F.faults folder.new) }
+    ensures fault_counted { F.counts_failed ≡ true
+        → F.faults folder.new ≡ faults_after (tells_unread result) (F.faults folder.old) }
     ensures only_reads { OnlyReads F.holds F.may_fail F.faults F.taken folder.old folder.new }
 {
     let bytes = bytes_of(alloc, folder, dir, T::table())?;

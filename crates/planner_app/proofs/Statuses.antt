@@ -1,7 +1,7 @@
 -- The statuses of outcomes, and their causes.
-use Rattle.std.proofs.Common.{◌≡◌, ◌≢◌, ◌↔◌, ◌⊎◌, inl, inr, ℕ, suc, Bool, List, Option, Some, ap, refl, sym, ◌∙◌, subst}
+use Rattle.std.proofs.Common.{◌≡◌, ◌≢◌, ◌↔◌, ◌≤◌, ◌⊎◌, inl, inr, ℕ, suc, Bool, true, false, List, Option, Some, ap, refl, sym, ◌∙◌, subst}
 use Rattle.std.proofs.Common.{arith}
-use Rattle.rail_io.specs.Folders.{Files, Rose}
+use Rattle.rail_io.specs.Folders.{Files, Rose, faults_after}
 use Rattle.answer_text.specs.declared.answer.Head.{Head}
 use Rattle.answer_text.specs.declared.answer.Head.TheVariants.{Optimal, Infeasible, Bounded, BoundedPlan}
 use Rattle.answer_check.specs.declared.checking.AnswerVerdict.{AnswerVerdict}
@@ -16,8 +16,8 @@ use Rattle.planner_app.specs.declared.reports.ReportKind.{ReportKind}
 use Rattle.planner_app.specs.Statuses.{status_said}
 use Rattle.planner_app.specs.Outcomes.{AskInVain, AskToCheck, AskToPlan, AskToReport, AskToSimulate, AskToTry, HasCause}
 use Rattle.planner_app.specs.Outcomes.{IsOutcome}
-use Rattle.planner_app.specs.Statuses.{EndsCheck, EndsPlanning, EndsReport, EndsSimulation, EndsTrial, IsUndisturbed}
-use Rattle.planner_app.specs.Statuses.{status_of, status_of_verdict, Wrote, Whole, Part, Nothing}
+use Rattle.planner_app.specs.Statuses.{CountsFailedReads, CountsFailedWrites, EndsCheck, EndsPlanning, EndsReport, EndsSimulation, EndsTrial}
+use Rattle.planner_app.specs.Statuses.{IsUndisturbed, tells_unread, status_of, status_of_verdict, Wrote, Whole, Part, Nothing}
 use Rattle.planner_app.proofs.Endings.{check_ends, planning_ends, simulation_ends}
 use Rattle.planner_app.proofs.ReportEndings.{report_ends, trial_ended}
 
@@ -73,6 +73,59 @@ usage_by (NoAnswer answer_error.CannotRead) e = absurd (omega (arith, e))
 usage_by (NoAnswer answer_error.TooLong) e = absurd (omega (arith, e))
 usage_by (NoAnswer (answer_error.Refused refusal)) e = absurd (omega (arith, e))
 usage_by NoMemory e = absurd (omega (arith, e))
+
+-- an outcome says that a file could not be read, and has status 5, or it doesn't, and has another, which is never 6
+abbrev IsToldByFive : Outcome → Type 0
+IsToldByFive outcome = ((tells_unread outcome ≡ true) × (status_of outcome ≡ 5)) ⊎ ((tells_unread outcome ≡ false) × (status_of outcome ≢ 5) × (status_of outcome ≢ 6))
+
+low_head : (head : Head) (n : ℕ) → status_said head ≡ n → n ≤ 4
+low_head (Optimal cost) n e = omega (arith, e)
+low_head Infeasible n e = omega (arith, e)
+low_head (Bounded bound) n e = omega (arith, e)
+low_head (BoundedPlan bound cost) n e = omega (arith, e)
+
+unread_is_five : (outcome : Outcome) → IsToldByFive outcome
+unread_is_five (Planned answer) = inr (refl, λ five. omega (arith, low_head answer.head 5 five), λ six. omega (arith, low_head answer.head 6 six))
+unread_is_five (Tried seed trips answer) = inr (refl, λ five. omega (arith, low_head answer.head 5 five), λ six. omega (arith, low_head answer.head 6 six))
+unread_is_five (Reported text) = inr (refl, λ five. omega (arith, five), λ six. omega (arith, six))
+unread_is_five NoPlan = inr (refl, λ five. omega (arith, five), λ six. omega (arith, six))
+unread_is_five (Runs money) = inr (refl, λ five. omega (arith, five), λ six. omega (arith, six))
+unread_is_five (Stops fault) = inr (refl, λ five. omega (arith, five), λ six. omega (arith, six))
+unread_is_five (Checked head found) = inr (refl, λ five. no_such found 3 five, λ six. no_such found 4 six)
+unread_is_five Usage = inr (refl, λ five. omega (arith, five), λ six. omega (arith, six))
+unread_is_five (Refused why) = inr (refl, λ five. omega (arith, five), λ six. omega (arith, six))
+unread_is_five (CannotRead table) = inl (refl, refl)
+unread_is_five (NoAnswer answer_error.CannotRead) = inl (refl, refl)
+unread_is_five (NoAnswer answer_error.TooLong) = inr (refl, λ five. omega (arith, five), λ six. omega (arith, six))
+unread_is_five (NoAnswer (answer_error.Refused refusal)) = inr (refl, λ five. omega (arith, five), λ six. omega (arith, six))
+unread_is_five NoMemory = inr (refl, λ five. omega (arith, five), λ six. omega (arith, six))
+
+-- the status tells of the outcome whether a read failed
+pub counts_reads : (outcome : Outcome) (status before after : ℕ) (written written' : Option (List ℕ)) (faults faults' : ℕ)
+    → Wrote outcome status written written' faults faults' → after ≡ faults_after (tells_unread outcome) before → CountsFailedReads status before after
+counts_reads outcome status before after written written' faults faults' wrote counts = by (unread_is_five outcome) wrote
+  where
+    failed : tells_unread outcome ≡ true → after ≡ faults_after true before
+    failed unread = counts ∙ ap (λ (failed : Bool). faults_after failed before) unread
+
+    same : tells_unread outcome ≡ false → after ≡ before
+    same read = counts ∙ ap (λ (failed : Bool). faults_after failed before) read
+
+    by : IsToldByFive outcome → Wrote outcome status written written' faults faults' → CountsFailedReads status before after
+    by (inl (unread, five)) (Whole text d appends e) = record { failed = λ _. failed unread; undisturbed = λ undisturbed. absurd (undisturbed.0 (e ∙ five)); at_most_one = inr (failed unread) }
+    by (inl (unread, five)) (Part text d appends rose six) = record { failed = λ _. failed unread; undisturbed = λ undisturbed. absurd (undisturbed.1 six); at_most_one = inr (failed unread) }
+    by (inl (unread, five)) (Nothing kept seven) = record { failed = λ _. failed unread; undisturbed = λ undisturbed. absurd (undisturbed.2 seven); at_most_one = inr (failed unread) }
+    by (inr (read, not_five, not_six)) (Whole text d appends e) = record { failed = λ five. absurd (not_five (sym e ∙ five)); undisturbed = λ _. same read; at_most_one = inl (same read) }
+    by (inr (read, not_five, not_six)) (Part text d appends rose six) = record { failed = λ five. absurd (omega (arith, five, six)); undisturbed = λ _. same read; at_most_one = inl (same read) }
+    by (inr (read, not_five, not_six)) (Nothing kept seven) = record { failed = λ five. absurd (omega (arith, five, seven)); undisturbed = λ _. same read; at_most_one = inl (same read) }
+
+-- the status of an outcome says of no write that it failed
+pub counts_no_write : (outcome : Outcome) (status before after : ℕ) → status ≡ status_of outcome → after ≡ before → CountsFailedWrites status before after
+counts_no_write outcome status before after is same = record { failed = λ six. absurd (by (unread_is_five outcome) (sym is ∙ six)); none = λ _. same }
+  where
+    by : IsToldByFive outcome → status_of outcome ≢ 6
+    by (inl (unread, five)) = λ six. omega (arith, five, six)
+    by (inr (read, not_five, not_six)) = not_six
 
 module _ {F : Type 0} (holds : F → Option Files) (may_fail : F → List ℕ → Bool) (counted taken : F → ℕ) (words : List (List ℕ)) (before after : F)
     (outcome : Outcome) (status : ℕ) (written written' : Option (List ℕ)) (faults faults' : ℕ)

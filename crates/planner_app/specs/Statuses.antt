@@ -1,7 +1,7 @@
--- The status that a run ends with, and what it wrote.
-use Rattle.std.specs.Prelude.{ℕ, ◌≡◌, ◌≢◌, ◌⊎◌, ◌≤◌, ◌<◌, ◌↔◌, List, length, Option, Ok, Err, false, IsTrue}
+-- The status that a run ends with, what it wrote, and how many calls failed.
+use Rattle.std.specs.Prelude.{ℕ, ◌≡◌, ◌≢◌, ◌⊎◌, ◌≤◌, ◌<◌, ◌↔◌, List, length, Option, Ok, Err, Bool, true, false, IsTrue}
 use Rattle.rail_base.specs.declared.limits.TheConstants.{MOST_FILE_BYTES}
-use Rattle.rail_io.specs.Folders.{Files, Rose}
+use Rattle.rail_io.specs.Folders.{Files, Rose, counted}
 use Rattle.rail_io.specs.Sinks.{Appends, AppendsPart}
 use Rattle.timetable.specs.Build.{day_of}
 use Rattle.timetable.specs.Day.{Day}
@@ -143,9 +143,11 @@ status_of (NoAnswer answer_error.CannotRead) = 5
 status_of (NoAnswer other) = 3
 status_of NoMemory = 7
 
--- no failed read is passed over: unless the outcome is that a file could not be read, the count of faults stays
-abbrev pub TellsFaults : Outcome → ℕ → ℕ → Type 0
-TellsFaults outcome before after = status_of outcome ≢ 5 → after ≡ before
+-- whether an outcome is that a file could not be read
+abbrev pub tells_unread : Outcome → Bool
+tells_unread (CannotRead table) = true
+tells_unread (NoAnswer answer_error.CannotRead) = true
+tells_unread other = false
 
 -- What was written of an outcome, and the status that says so: its whole document; or a front of it, where a write
 -- failed; or nothing, where memory ran out.
@@ -155,3 +157,17 @@ pub data Wrote (outcome : Outcome) (status : ℕ) (before after : Option (List �
   Part : (text : List ℕ) → IsDocument outcome text → AppendsPart text before after → Rose faults faults' → status ≡ 6
       → Wrote outcome status before after faults faults'
   Nothing : after ≡ before → status ≡ 7 → Wrote outcome status before after faults faults'
+
+-- ---- how many calls failed
+
+-- a folder's count of failed reads before a run and after it: one more where the status says that a file could not be
+-- read, the same where it is none of 5, 6 and 7, and either of the two where it is 6 or 7
+pub record CountsFailedReads (status before after : ℕ) : Type 0 where
+  pub failed : status ≡ 5 → after ≡ counted before
+  pub undisturbed : IsUndisturbed status → after ≡ before
+  pub at_most_one : (after ≡ before) ⊎ (after ≡ counted before)
+
+-- a sink's count of failed writes before a run and after it: one more where the status is 6, and else the same
+pub record CountsFailedWrites (status before after : ℕ) : Type 0 where
+  pub failed : status ≡ 6 → after ≡ counted before
+  pub none : status ≢ 6 → after ≡ before

@@ -2,13 +2,13 @@
 
 ghost use Rattle.std.specs.Prelude.{ℕ, true, List, ◌≡◌, ◌≤◌, IfOk, length};
 ghost use Rattle.rail_base.specs.declared.limits.TheConstants.{MOST_TRIPS};
-ghost use Rattle.rail_io.specs.Folders.{OnlyReads};
+ghost use Rattle.rail_io.specs.Folders.{OnlyReads, faults_after};
 ghost use Rattle.timetable.specs.Running as running;
 ghost use Rattle.answer_text.specs.Limits.{has_plan};
 ghost use Rattle.planner_app.specs.Outcomes.{AskToReport, IsOutcome};
 ghost use Rattle.planner_app.specs.ReportOutcomes.{IsReportOutcome};
 ghost use Rattle.planner_app.specs.ReportTexts.{report_text};
-ghost use Rattle.planner_app.specs.Statuses.{TellsFaults};
+ghost use Rattle.planner_app.specs.Statuses.{tells_unread};
 
 use answer_check::{AnswerVerdict, copy_of, picks_of_plan, verdict_on};
 use answer_text::Answer;
@@ -41,7 +41,8 @@ pub(crate) fn reported<F: Folder>(
     ensures outcome { (words : List (List ℕ)) → AskToReport words kind dir.now
         → IsOutcome F.holds F.may_fail F.faults F.taken words folder.old folder.new result }
     ensures only_reads { OnlyReads F.holds F.may_fail F.faults F.taken folder.old folder.new }
-    ensures faults { F.counts_failed ≡ true → TellsFaults result (F.faults folder.old) (F.faults folder.new) }
+    ensures fault_counted { F.counts_failed ≡ true
+        → F.faults folder.new ≡ faults_after (tells_unread result) (F.faults folder.old) }
 {
     let instance = match day_in(alloc, folder, dir) {
         Ok(instance) => instance,

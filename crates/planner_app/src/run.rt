@@ -2,13 +2,13 @@
 
 ghost use Rattle.std.specs.Prelude.{ℕ, true, List, ◌≡◌, ◌≤◌, ◌+◌, ◌*◌, ◌^◌, All};
 ghost use Rattle.rail_base.specs.declared.limits.TheConstants.{MOST_BRANCHINGS, MOST_ROUNDS};
-ghost use Rattle.rail_io.specs.Folders.{OnlyReads};
+ghost use Rattle.rail_io.specs.Folders.{OnlyReads, faults_after};
 ghost use Rattle.search.specs.Questions.{AreAsked, AreTheSame};
 ghost use Rattle.trial_day.specs.Trial.{IsTrialSize};
 ghost use Rattle.planner_app.specs.Advice.{AreAskedFor};
 ghost use Rattle.planner_app.specs.Outcomes.{AskAbout, AskToCheck, AskToPlan, AskToSimulate, Grants, IsOutcome};
 ghost use Rattle.planner_app.specs.ReportOutcomes.{IsTrialOutcome};
-ghost use Rattle.planner_app.specs.Statuses.{TellsFaults};
+ghost use Rattle.planner_app.specs.Statuses.{tells_unread};
 
 use crate::reports::{ReportKind, reported};
 use advisors::Advisor;
@@ -30,7 +30,10 @@ pub(crate) fn outcome_of<F: Folder>(
     folder: &mut F,
     advisors: &mut Vec<Box<dyn Advisor>>,
 ) -> Outcome
+    // The advisors before.
     requires asked { All (λ advisor. asked advisor ≤ 2 ^ 63) advisors.old.items }
+
+    // What it comes to.
     ensures outcome { IsOutcome F.holds F.may_fail F.faults F.taken words.now folder.old folder.new result }
 
     // The advisors: that one of the same identity stands at each place, and how often it was asked.
@@ -44,7 +47,8 @@ pub(crate) fn outcome_of<F: Folder>(
 
     // The folder.
     ensures only_reads { OnlyReads F.holds F.may_fail F.faults F.taken folder.old folder.new }
-    ensures faults { F.counts_failed ≡ true → TellsFaults result (F.faults folder.old) (F.faults folder.new) }
+    ensures fault_counted { F.counts_failed ≡ true
+        → F.faults folder.new ≡ faults_after (tells_unread result) (F.faults folder.old) }
     ensures untouched { ((dir : List ℕ) → ¬ AskAbout words.now dir) → folder.new ≡ folder.old }
 {
     match read_words(alloc, words) {
@@ -78,13 +82,21 @@ fn planned<F: Folder>(
     rounds: u8,
     advisors: &mut Vec<Box<dyn Advisor>>,
 ) -> Outcome
+    // The grants, and the advisors before.
     requires nodes { nodes ≤ MOST_BRANCHINGS }
     requires rounds { rounds ≤ MOST_ROUNDS }
     requires asked { All (λ advisor. asked advisor ≤ 2 ^ 63) advisors.old.items }
+
+    // What it comes to.
     ensures outcome { (words : List (List ℕ)) → AskToPlan words dir.now nodes rounds
         → IsOutcome F.holds F.may_fail F.faults F.taken words folder.old folder.new result }
+
+    // The folder.
     ensures only_reads { OnlyReads F.holds F.may_fail F.faults F.taken folder.old folder.new }
-    ensures faults { F.counts_failed ≡ true → TellsFaults result (F.faults folder.old) (F.faults folder.new) }
+    ensures fault_counted { F.counts_failed ≡ true
+        → F.faults folder.new ≡ faults_after (tells_unread result) (F.faults folder.old) }
+
+    // The advisors.
     ensures advisors { AreTheSame advisors.old.items advisors.new.items identity }
     ensures asked { AreAsked advisors.old.items advisors.new.items asked has_quit 0 (rounds * (2 * nodes + 1)) }
     ensures asked_for { AreAskedFor rounds result advisors.old.items advisors.new.items asked has_quit }
@@ -108,11 +120,16 @@ fn tried(
     rounds: u8,
     advisors: &mut Vec<Box<dyn Advisor>>,
 ) -> Outcome
+    // The size, the grants, and the advisors before.
     requires size { IsTrialSize trips }
     requires nodes { nodes ≤ MOST_BRANCHINGS }
     requires rounds { rounds ≤ MOST_ROUNDS }
     requires asked { All (λ advisor. asked advisor ≤ 2 ^ 63) advisors.old.items }
+
+    // What it comes to.
     ensures outcome { IsTrialOutcome seed trips nodes result }
+
+    // The advisors.
     ensures advisors { AreTheSame advisors.old.items advisors.new.items identity }
     ensures asked { AreAsked advisors.old.items advisors.new.items asked has_quit 0 (rounds * (2 * nodes + 1)) }
     ensures asked_for { AreAskedFor rounds result advisors.old.items advisors.new.items asked has_quit }
@@ -135,7 +152,8 @@ fn simulated<F: Folder>(alloc: Global, folder: &mut F, dir: &str) -> Outcome
     ensures outcome { (words : List (List ℕ)) → AskToSimulate words dir.now
         → IsOutcome F.holds F.may_fail F.faults F.taken words folder.old folder.new result }
     ensures only_reads { OnlyReads F.holds F.may_fail F.faults F.taken folder.old folder.new }
-    ensures faults { F.counts_failed ≡ true → TellsFaults result (F.faults folder.old) (F.faults folder.new) }
+    ensures fault_counted { F.counts_failed ≡ true
+        → F.faults folder.new ≡ faults_after (tells_unread result) (F.faults folder.old) }
 {
     let inputs = match inputs_in(alloc, folder, dir) {
         Ok(inputs) => inputs,
@@ -153,7 +171,8 @@ fn checked<F: Folder>(alloc: Global, folder: &mut F, dir: &str) -> Outcome
     ensures outcome { (words : List (List ℕ)) → AskToCheck words dir.now
         → IsOutcome F.holds F.may_fail F.faults F.taken words folder.old folder.new result }
     ensures only_reads { OnlyReads F.holds F.may_fail F.faults F.taken folder.old folder.new }
-    ensures faults { F.counts_failed ≡ true → TellsFaults result (F.faults folder.old) (F.faults folder.new) }
+    ensures fault_counted { F.counts_failed ≡ true
+        → F.faults folder.new ≡ faults_after (tells_unread result) (F.faults folder.old) }
 {
     let instance = match day_in(alloc, folder, dir) {
         Ok(instance) => instance,

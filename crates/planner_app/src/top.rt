@@ -1,7 +1,7 @@
 //! The top call: it reads a folder, writes one document and answers a status.
 
-ghost use Rattle.std.specs.Prelude.{ℕ, true, List, ◌≡◌, ◌≤◌, ◌+◌, ◌*◌, ◌^◌, ◌↔◌, ◌≢◌, Some, All};
-ghost use Rattle.rail_io.specs.Folders.{Files, OnlyReads, Rose};
+ghost use Rattle.std.specs.Prelude.{ℕ, true, List, ◌≡◌, ◌≤◌, ◌+◌, ◌*◌, ◌^◌, ◌↔◌, Some, All};
+ghost use Rattle.rail_io.specs.Folders.{Files, OnlyReads, Rose, faults_after};
 ghost use Rattle.search.specs.Questions.{AreAsked, AreTheSame};
 ghost use Rattle.run_documents.specs.declared.outcome.Outcome.{Outcome};
 ghost use Rattle.planner_app.specs.declared.reports.ReportKind.{ReportKind};
@@ -9,7 +9,8 @@ ghost use Rattle.planner_app.specs.Advice.{AreAskedFor};
 ghost use Rattle.planner_app.specs.Outcomes.{AskAbout, AskInVain, AskToCheck, AskToPlan, AskToReport, AskToSimulate};
 ghost use Rattle.planner_app.specs.Outcomes.{AskToTry, Grants, IsOutcome};
 ghost use Rattle.planner_app.specs.Statuses.{EndsCheck, EndsPlanning, EndsReport, EndsSimulation, EndsTrial};
-ghost use Rattle.planner_app.specs.Statuses.{IsStatus, IsUndisturbed, Wrote, status_of, status_said};
+ghost use Rattle.planner_app.specs.Statuses.{CountsFailedReads, CountsFailedWrites, IsStatus, IsUndisturbed, Wrote};
+ghost use Rattle.planner_app.specs.Statuses.{status_of, status_said, tells_unread};
 
 use crate::run::outcome_of;
 use advisors::Advisor;
@@ -55,7 +56,7 @@ fn write_outcome<K: Sink>(alloc: Global, outcome: &Outcome, out: &mut K) -> u8
     ensures wrote { Wrote outcome.now result (K.written out.old) (K.written out.new) (K.faults out.old)
         (K.faults out.new) }
     ensures lasting { K.faults out.old ≤ K.faults out.new }
-    ensures writes { K.counts_failed ≡ true → result ≢ 6 → K.faults out.new ≡ K.faults out.old }
+    ensures failed_writes { K.counts_failed ≡ true → CountsFailedWrites result (K.faults out.old) (K.faults out.new) }
 {
     let Ok(text) = document(alloc, outcome) else {
         return 7;
@@ -92,17 +93,18 @@ fn write_outcome<K: Sink>(alloc: Global, outcome: &Outcome, out: &mut K) -> u8
 /// - 3 comes exactly where a file is refused.
 /// - 4 comes exactly where they are accepted, and the answer found is bounded: all granted branchings were made, and a
 ///   leaf is open.
-/// - 5 comes only where the count of failed reads rose in this call.
-/// - 6 comes only where the count of failed writes rose in this call; a front of the document was written, and not all
-///   of it.
+/// - 5 comes only where the folder's count of faults rose in this call, or stands at its last value, 2^64 - 1.
+/// - 6 comes only where the sink's count of faults rose in this call, or stands there; a front of the document was
+///   written, and not all of it.
 /// - 7 is want of memory; nothing was written.
 ///
-/// No failed read or write is passed over: where the folder counts failed calls alone, its count rises only where the
-/// status is 5, 6 or 7, and where the sink does, its count rises only where it is 6.
+/// Where the folder counts its failed calls, its count rises by one where the status is 5, by one or not at all where
+/// it is 6 or 7, and else not at all; where the sink does, its count rises by one where the status is 6, and else not
+/// at all. A count that stands at its last value stays. So, unless one comes to that value, at most one read of a run
+/// fails, and at most one write: the write is told by status 6, and the read by 5, unless the status is 6 or 7.
 ///
 /// Each "exactly where" yields to statuses 5, 6 and 7. What is said of the files holds where the folder tells what it
-/// holds, and what is said of the document where the sink tells what was written. A count rises where it is greater
-/// afterwards, or stands at 2^64 - 1.
+/// holds, and what is said of the document where the sink tells what was written.
 ///
 /// Each advisor was asked at most 2^63 times before. Afterwards an advisor of the same identity stands at each place,
 /// and none was asked fewer times than before, whatever the status is. One that had quit stays so and is not asked.
@@ -135,19 +137,23 @@ pub fn railplan<F: Folder, K: Sink>(
         → EndsTrial seed trips nodes result (K.written out.old) (K.written out.new) }
     ensures usage { IsUndisturbed result → (result ≡ 2) ↔ AskInVain words.now }
 
-    // The other statuses, that there are no more, and that no failed read or write is passed over.
+    // The other statuses, how many calls failed, and that there are no more statuses.
     ensures unread { result ≡ 5 → Rose (F.faults folder.old) (F.faults folder.new) }
     ensures unwritten { result ≡ 6 → Rose (K.faults out.old) (K.faults out.new) }
     ensures nothing { result ≡ 7 → K.written out.new ≡ K.written out.old }
-    ensures reads { F.counts_failed ≡ true → IsUndisturbed result → F.faults folder.new ≡ F.faults folder.old }
-    ensures writes { K.counts_failed ≡ true → result ≢ 6 → K.faults out.new ≡ K.faults out.old }
+    ensures failed_reads { F.counts_failed ≡ true
+        → CountsFailedReads result (F.faults folder.old) (F.faults folder.new) }
+    ensures failed_writes { K.counts_failed ≡ true → CountsFailedWrites result (K.faults out.old) (K.faults out.new) }
     ensures statuses { IsStatus result }
 
-    // What was written is the document of an outcome of these words and this folder, whose status is the result; and
-    // the advisors were asked as it tells.
+    // What was written is the document of an outcome of these words and this folder, whose status is the result unless
+    // that is 6 or 7. Whether a read failed, where the folder counts its failed calls, and how the advisors were asked
+    // is as it tells.
     ensures document { (outcome : Outcome)
         × IsOutcome F.holds F.may_fail F.faults F.taken words.now folder.old folder.new outcome
         × Wrote outcome result (K.written out.old) (K.written out.new) (K.faults out.old) (K.faults out.new)
+        × (F.counts_failed ≡ true
+        → F.faults folder.new ≡ faults_after (tells_unread outcome) (F.faults folder.old))
         × ((nodes rounds : ℕ) → Grants words.now nodes rounds
         → AreAskedFor rounds outcome advisors.old.items advisors.new.items asked has_quit) }
 

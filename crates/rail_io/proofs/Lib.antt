@@ -2,4 +2,3 @@ pub mod Calls
 pub mod Finding
 pub mod Reading
 pub mod Writing
-pub mod Faults

@@ -6,7 +6,7 @@ use Rattle.std.proofs.lemmas.List.{append-nil, append_assoc, length-drop, take_r
 use Rattle.rail_io.specs.Sinks.{Appends}
 
 -- after some writes: this front of the bytes was appended, and the count of faults has not fallen, and is as it was
--- where it counts failed calls alone
+-- where it is that of failed calls
 pub record IsWriting (bytes : List ℕ) (done : ℕ) (written_before written : Option (List ℕ)) (faults_before faults : ℕ) (counts_failed : Bool) : Type 0 where
   pub within : done ≤ length bytes
   pub appended : Appends (take done bytes) written_before written

@@ -1,6 +1,7 @@
--- What a folder holds, what a read hands out, when a count of faults rose, and what no call on a folder changes.
+-- What a folder holds, what a read hands out, when a count of faults rose, what a count of failed calls is after more
+-- calls, and what no call on a folder changes.
 use Rattle.std.specs.Prelude.{◌≡◌, ◌⊎◌, ◌↔◌, ℕ, Bool, min, ◌+◌, ◌-◌, ◌^◌, ◌<◌, ◌≤◌, List, [], length, take, drop}
-use Rattle.std.specs.Prelude.{Option, unwrap_or}
+use Rattle.std.specs.Prelude.{Option, unwrap_or, if◌then◌else◌}
 use Rattle.std.specs.Ordering.{nat_cmp}
 use Rattle.std.specs.Cmp.Lexicographic.{slice_cmp}
 use Rattle.std.specs.FinMap as map
@@ -16,6 +17,10 @@ file_at files path = unwrap_or (map.get files path) []
 -- a counter after one more; it stays at its last value
 abbrev pub counted : ℕ → ℕ
 counted count = min (count + 1) (2 ^ 64 - 1)
+
+-- a count of failed calls after more calls, of which one failed or none did; it stays at its last value
+abbrev pub faults_after : Bool → ℕ → ℕ
+faults_after failed before = if failed then counted before else before
 
 -- a count of faults rose: it is greater than before, or it stands at a counter's last value
 abbrev pub Rose : ℕ → ℕ → Type 0

@@ -1,8 +1,8 @@
 //! The real folder and the real sink: files on disk, and the standard output. They tell no contents.
 
-ghost use Rattle.std.specs.Prelude.{◌≡◌, true, ◌<◌, ◌≤◌, length, IfOk, IsTrue, OnErr, Ok, None, if◌then◌else◌};
+ghost use Rattle.std.specs.Prelude.{◌≡◌, true, ◌<◌, ◌≤◌, length, IfOk, IsTrue, OnErr, Ok, None};
 ghost use Rattle.std.specs.Result.{is_err};
-ghost use Rattle.rail_io.specs.Folders.{Rose, RoseBy, counted};
+ghost use Rattle.rail_io.specs.Folders.{Rose, RoseBy, faults_after};
 
 use crate::{Failed, Folder, Sink};
 use arrayvec::ArrayVec;
@@ -129,14 +129,16 @@ impl<'a, R: Files> Folder for DiskFolder<'a, R> {
     ghost taken = { λ folder. folder.taken };
 
     fn read_at(&mut self, path: &str, from: u64, into: &mut [u8]) -> Result<usize, Failed>
+        // What the trait asks.
         ensures room { IfOk result (λ n. n ≤ length into.new) }
         ensures fault { OnErr result (Rose self.old.faults self.new.faults) }
+        ensures faults { self.new.faults ≡ faults_after (is_err result) self.old.faults }
         ensures lasting { self.old.faults ≤ self.new.faults }
         ensures growing { self.old.taken ≤ self.new.taken }
         ensures taken { IfOk result (λ n. RoseBy n self.old.taken self.new.taken) }
-        ensures untaken { OnErr result (self.new.taken ≡ self.old.taken) }
 
-        ensures faults { self.new.faults ≡ (if is_err result then counted self.old.faults else self.old.faults) }
+        // More, of this one.
+        ensures untaken { OnErr result (self.new.taken ≡ self.old.taken) }
         ensures empty { length into.old ≡ 0 → result ≡ Ok 0 }
     {
         if into.is_empty() {
@@ -190,7 +192,7 @@ impl<'a, R: Print> Sink for StdoutSink<'a, R> {
         ensures fault { OnErr result (Rose self.old self.new) }
         ensures lasting { self.old ≤ self.new }
 
-        ensures faults { self.new ≡ (if is_err result then counted self.old else self.old) }
+        ensures faults { self.new ≡ faults_after (is_err result) self.old }
         ensures empty { length piece.now ≡ 0 → result ≡ Ok 0 }
     {
         if piece.is_empty() {

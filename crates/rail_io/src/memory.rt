@@ -2,11 +2,11 @@
 //! room is left. They are for tests.
 
 ghost use Rattle.std.specs.Prelude.{◌≡◌, ◌<◌, ◌≤◌, ◌++◌, [], length, take, IsTrue, MatchOption, None, Some, IfOk};
-ghost use Rattle.std.specs.Prelude.{◌+◌, ◌⊎◌, true, IfSome, OnErr, if◌then◌else◌, is_none};
+ghost use Rattle.std.specs.Prelude.{◌+◌, ◌⊎◌, true, IfSome, OnErr, is_none};
 ghost use Rattle.std.specs.Result.{is_err};
 ghost use Rattle.std.specs.FinMap as map;
 ghost use Rattle.rail_base.specs.Names.{is_name};
-ghost use Rattle.rail_io.specs.Folders.{IsReadFrom, Rose, RoseBy, counted, file_at};
+ghost use Rattle.rail_io.specs.Folders.{IsReadFrom, Rose, RoseBy, counted, faults_after, file_at};
 ghost use Rattle.rail_io.specs.InMemory.{read_fails, read_may_fail, write_fails, write_takes};
 ghost use Rattle.rail_io.specs.MemoryFiles.{files_of};
 
@@ -145,20 +145,22 @@ impl Folder for MemoryFolder {
     ghost may_fail = { λ folder path. read_may_fail folder path };
 
     fn read_at(&mut self, path: &str, from: u64, into: &mut [u8]) -> Result<usize, Failed>
+        // What the trait asks.
         ensures told { IfOk result (λ n. IsReadFrom (file_at self.old.files path.now) from n into.new) }
         ensures room { IfOk result (λ n. n ≤ length into.new) }
         ensures fault { OnErr result (Rose self.old.faults self.new.faults) }
+        ensures faults { self.new.faults ≡ faults_after (is_err result) self.old.faults }
+        ensures failing { self.new.failing ≡ self.old.failing }
         ensures may { OnErr result (IsTrue (read_may_fail self.old path.now)) }
         ensures lasting { self.old.faults ≤ self.new.faults }
         ensures growing { self.old.taken ≤ self.new.taken }
         ensures same { self.new.files ≡ self.old.files }
         ensures taken { IfOk result (λ n. RoseBy n self.old.taken self.new.taken) }
-        ensures untaken { OnErr result (self.new.taken ≡ self.old.taken) }
 
+        // More, of this one.
+        ensures untaken { OnErr result (self.new.taken ≡ self.old.taken) }
         ensures fails { is_err result ≡ read_fails self.old path.now }
-        ensures faults { self.new.faults ≡ (if is_err result then counted self.old.faults else self.old.faults) }
         ensures calls { self.new.calls ≡ counted self.old.calls }
-        ensures failing { self.new.failing ≡ self.old.failing }
     {
         let copied = self.copied(path, from, into);
         self.calls = self.calls.saturating_add(1);
@@ -268,16 +270,18 @@ impl Sink for MemorySink {
     ghost counts_failed = { true };
 
     fn write(&mut self, piece: &[u8]) -> Result<usize, Failed>
+        // What the trait asks.
         ensures room { IfOk result (λ n. n ≤ length piece.now) }
         ensures some { 0 < length piece.now → IfOk result (λ n. 0 < n) }
         ensures appended { IfOk result (λ n. self.new.written ≡ self.old.written ++ take n piece.now) }
         ensures kept { OnErr result (self.new.written ≡ self.old.written) }
         ensures fault { OnErr result (Rose self.old.faults self.new.faults) }
+        ensures faults { self.new.faults ≡ faults_after (is_err result) self.old.faults }
         ensures lasting { self.old.faults ≤ self.new.faults }
 
+        // More, of this one.
         ensures fails { is_err result ≡ write_fails self.old piece.now }
         ensures count { IfOk result (λ n. n ≡ write_takes self.old piece.now) }
-        ensures faults { self.new.faults ≡ (if is_err result then counted self.old.faults else self.old.faults) }
         ensures calls { self.new.calls ≡ counted self.old.calls }
         ensures room_stays { self.new.room ≡ self.old.room }
         ensures most_stays { self.new.most ≡ self.old.most }

@@ -1,9 +1,10 @@
 //! Whole files in, and whole documents out.
 
 ghost use Rattle.std.specs.Prelude.{◌≡◌, ◌+◌, ◌<◌, ◌≤◌, [], Some, true, IsTrue, length, IfOk, IsErrOf, OnOk, OnErr};
-ghost use Rattle.rail_io.specs.Folders.{Files, OnlyReads, Rose, RosePast, file_at};
+ghost use Rattle.std.specs.Result.{is_err};
+ghost use Rattle.rail_io.specs.Folders.{Files, OnlyReads, Rose, RosePast, faults_after, file_at};
 ghost use Rattle.rail_io.specs.Sinks.{Appends, AppendsPart};
-ghost use Rattle.rail_io.specs.Wholes.{HasRead};
+ghost use Rattle.rail_io.specs.Wholes.{HasRead, tells_read_fault};
 ghost use Rattle.rail_io.specs.declared.whole.FileRefusal.TheVariants.{NoMemory, ReadFault};
 
 use crate::{Failed, Folder, Sink};
@@ -47,14 +48,13 @@ impl From<AllocError> for FileRefusal {
 /// The whole file of a path, where it has at most `limit` bytes; what is answered is never longer. The limit is at most
 /// that of a file of any kind.
 ///
-/// - `ReadFault`: a read failed: the count of failed reads rose or stands at its last value, and reads of this path may
-///   fail.
+/// - `ReadFault`: a read failed: the count of faults rose or stands at its last value, and reads of this path may fail.
 /// - `TooLong`: more than `limit` bytes were taken, or the count of them has reached 2^63; where the folder tells what
 ///   it holds, the file is longer.
 /// - `NoMemory`: the memory for its bytes could not be had.
 ///
-/// Where the folder counts failed calls alone, no failed read is passed over: the count stays, unless the answer is
-/// `ReadFault`.
+/// Where the folder counts its failed calls, the count rises by one where the answer is `ReadFault`, unless it stands
+/// at its last value, and else stays. So, unless it comes to that value, at most one read fails, and it is told.
 pub fn read_file<F: Folder>(
     alloc: Global,
     folder: &mut F,
@@ -63,18 +63,21 @@ pub fn read_file<F: Folder>(
 ) -> Result<Vec<u8>, FileRefusal>
     requires { limit ≤ MOST_FILE_BYTES }
 
+    // The bytes, where the folder tells what it holds, and how many there are.
     ensures told { (files : Files) → F.holds folder.old ≡ Some files →
         IfOk result (λ bytes. bytes.items ≡ file_at files path.now) }
     ensures within { IfOk result (λ bytes. length bytes.items ≤ limit) }
     ensures longer { (files : Files) → F.holds folder.old ≡ Some files →
         IsErrOf result FileRefusal.TooLong → limit < length (file_at files path.now) }
 
+    // What each refusal is caused by, and by how much the count of faults rises.
     ensures fault { IsErrOf result FileRefusal.ReadFault → Rose (F.faults folder.old) (F.faults folder.new) }
     ensures may { IsErrOf result FileRefusal.ReadFault → IsTrue (F.may_fail folder.old path.now) }
     ensures too_long { IsErrOf result FileRefusal.TooLong → RosePast limit (F.taken folder.old) (F.taken folder.new) }
-    ensures no_fault { F.counts_failed ≡ true → ¬ IsErrOf result FileRefusal.ReadFault
-        → F.faults folder.new ≡ F.faults folder.old }
+    ensures fault_counted { F.counts_failed ≡ true
+        → F.faults folder.new ≡ faults_after (tells_read_fault result) (F.faults folder.old) }
 
+    // What stays.
     ensures only_reads { OnlyReads F.holds F.may_fail F.faults F.taken folder.old folder.new }
     ensures taken_at_most { IfOk result (λ bytes. F.taken folder.new ≤ F.taken folder.old + length bytes.items) }
 {
@@ -110,11 +113,15 @@ fn read_into<F: Folder>(
 
 /// Writes all the bytes, piece by piece. Where it fails, the sink's count of faults rose or stands at its last value,
 /// and a front of the bytes was written that is shorter than they are. It takes no memory.
+///
+/// Where the sink counts its failed calls, the count rises by one where the answer is `Failed`, unless it stands at its
+/// last value, and else stays. So, unless it comes to that value, at most one write fails, and it is told.
 pub fn write_all<K: Sink>(sink: &mut K, bytes: &[u8]) -> Result<(), Failed>
     ensures whole { OnOk result (Appends bytes.now (K.written sink.old) (K.written sink.new)) }
     ensures part { OnErr result (AppendsPart bytes.now (K.written sink.old) (K.written sink.new)) }
     ensures fault { OnErr result (Rose (K.faults sink.old) (K.faults sink.new)) }
-    ensures no_fault { K.counts_failed ≡ true → OnOk result (K.faults sink.new ≡ K.faults sink.old) }
+    ensures fault_counted { K.counts_failed ≡ true
+        → K.faults sink.new ≡ faults_after (is_err result) (K.faults sink.old) }
     ensures lasting { K.faults sink.old ≤ K.faults sink.new }
 {
     let mut done = 0;

@@ -1,5 +1,6 @@
 -- The answer of a folder, or what is wrong with its file.
-use Rattle.std.specs.Prelude.{ℕ, ◌≡◌, ◌<◌, ◌≤◌, List, ◌++◌, length, codes, Bool, IsTrue, Result, Ok, Err, ⊤}
+use Rattle.std.specs.Prelude.{ℕ, ◌≡◌, ◌<◌, ◌≤◌, List, ◌++◌, length, codes, Bool, true, false, IsTrue, Result, ⊤}
+use Rattle.std.specs.Prelude.{Ok, Err}
 use Rattle.rail_base.specs.declared.limits.TheConstants.{MOST_FILE_BYTES}
 use Rattle.rail_base.specs.declared.memory.NoMemory.{NoMemory}
 use Rattle.rail_io.specs.Folders.{Files, Rose, RosePast, file_at}
@@ -45,13 +46,13 @@ abbrev pub ReadsAnswer : Files → List ℕ → Result Answer AnswerError → Ty
 ReadsAnswer files dir (Ok answer) = IsAnswerOf (answer_bytes files dir) answer
 ReadsAnswer files dir (Err error) = IsWrongAnswer files dir error
 
--- no failed read is passed over: unless the file is said to be one that could not be read, the count of faults stays
-abbrev pub TellsFaults : Result (Result Answer AnswerError) NoMemory → ℕ → ℕ → Type 0
-TellsFaults (Ok (Ok answer)) before after = after ≡ before
-TellsFaults (Ok (Err CannotRead)) before after = ⊤
-TellsFaults (Ok (Err TooLong)) before after = after ≡ before
-TellsFaults (Ok (Err (Refused refusal))) before after = after ≡ before
-TellsFaults (Err error) before after = after ≡ before
+-- whether the answer's file is said to be one that could not be read
+abbrev pub tells_unread : Result (Result Answer AnswerError) NoMemory → Bool
+tells_unread (Ok (Ok answer)) = false
+tells_unread (Ok (Err CannotRead)) = true
+tells_unread (Ok (Err TooLong)) = false
+tells_unread (Ok (Err (Refused refusal))) = false
+tells_unread (Err error) = false
 
 -- What an error says whatever the folder tells: the file could not be read only where the count of faults rose and a
 -- read of it may fail; it was too long only where more bytes were taken than an answer may have, or the count of them

@@ -1,11 +1,11 @@
 //! The answer of a folder, read from its file.
 
 ghost use Rattle.std.specs.Prelude.{◌≡◌, true, ◌≤◌, Some, IfOk, IfErr, length, string_bytes};
-ghost use Rattle.rail_io.specs.Folders.{Files, OnlyReads};
+ghost use Rattle.rail_io.specs.Folders.{Files, OnlyReads, faults_after};
 ghost use Rattle.answer_text.specs.Limits.{IsWithin};
 ghost use Rattle.rail_base.specs.declared.limits.TheConstants.{MOST_FILE_BYTES, MOST_NODES};
-ghost use Rattle.run_documents.specs.AnswerFiles.{AreRefusedFor, IsAnswerCaused, IsAnswerOf, ReadsAnswer, TellsFaults};
-ghost use Rattle.run_documents.specs.AnswerFiles.{answer_path};
+ghost use Rattle.run_documents.specs.AnswerFiles.{AreRefusedFor, IsAnswerCaused, IsAnswerOf, ReadsAnswer};
+ghost use Rattle.run_documents.specs.AnswerFiles.{answer_path, tells_unread};
 
 use answer_text::{Answer, AnswerRefusal, read};
 use rail_base::NoMemory;
@@ -41,14 +41,14 @@ fn path_of(alloc: Global, dir: &str) -> Result<String, NoMemory>
 
 /// The answer that the file `answer.txt` of a folder is, or why there is none. The error is want of memory.
 ///
-/// - `CannotRead`: the count of failed reads rose or stands at its last value, and a read of that file may fail.
+/// - `CannotRead`: the count of faults rose or stands at its last value, and a read of that file may fail.
 /// - `TooLong`: more bytes were handed out than an answer may have, or their count had reached 2^63; the file is
 ///   longer.
 /// - `Refused`: the bytes are no answer, for the first wrong line. There are such bytes also where the folder doesn't
 ///   tell what it holds.
 ///
-/// No failed read is passed over: where the folder counts failed calls alone, the count stays, unless the answer is
-/// `CannotRead`.
+/// Where the folder counts its failed calls, the count rises by one where `CannotRead` is answered, unless it stands at
+/// its last value, and else stays. So, unless it comes to that value, at most one read fails, and it is told.
 pub fn answer_in<F: Folder>(
     alloc: Global,
     folder: &mut F,
@@ -58,7 +58,8 @@ pub fn answer_in<F: Folder>(
     ensures within { IfOk result (λ read. IfOk read (IsWithin MOST_NODES)) }
     ensures caused { IfOk result (λ read.
         IfErr read (IsAnswerCaused F.may_fail F.faults F.taken dir.now folder.old folder.new)) }
-    ensures faults { F.counts_failed ≡ true → TellsFaults result (F.faults folder.old) (F.faults folder.new) }
+    ensures fault_counted { F.counts_failed ≡ true
+        → F.faults folder.new ≡ faults_after (tells_unread result) (F.faults folder.old) }
     ensures only_reads { OnlyReads F.holds F.may_fail F.faults F.taken folder.old folder.new }
 {
     let path = path_of(alloc, dir)?;

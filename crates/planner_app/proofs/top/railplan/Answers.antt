@@ -1,5 +1,5 @@
 use Rattle.planner_app.proofs.Statuses.{ends_check, ends_in_usage, ends_planning, ends_report, ends_simulation}
-use Rattle.planner_app.proofs.Statuses.{ends_trial}
+use Rattle.planner_app.proofs.Statuses.{counts_reads, ends_trial}
 use Rattle.planner_app.proofs.top.railplan.Goals as goal
 
 pub returns-clause-plan : goal.returns-clause-plan
@@ -22,3 +22,7 @@ returns-clause-report g c files dir kind =
 pub returns-clause-trial : goal.returns-clause-trial
 returns-clause-trial g c seed trips nodes rounds =
     ends_trial _ _ _ _ _ _ _ _ _ _ _ _ _ c.outcome_of-outcome.ensures.outcome c.write_outcome.ensures.wrote seed trips nodes rounds
+
+pub returns-clause-failed_reads : goal.returns-clause-failed_reads
+returns-clause-failed_reads g c counts =
+    counts_reads _ _ _ _ _ _ _ _ c.write_outcome.ensures.wrote (c.outcome_of-outcome.ensures.fault_counted counts)

@@ -7,4 +7,4 @@ loop-done-init g c = record { within = omega arith; appended = Appends-none _; l
 
 pub loop-done-preserved : goal.loop-done-preserved
 loop-done-preserved g c =
-    IsWriting-more _ _ _ _ _ _ _ _ _ _ c.loop-done.invariant c.in_ok-done.ensures.room c.in_ok-done.ensures.appended c.write.ensures.lasting c.in_ok-done.ensures.no_fault
+    IsWriting-more _ _ _ _ _ _ _ _ _ _ c.loop-done.invariant c.in_ok-done.ensures.room c.in_ok-done.ensures.appended c.write.ensures.lasting c.in_ok-done.ensures.fault_counted

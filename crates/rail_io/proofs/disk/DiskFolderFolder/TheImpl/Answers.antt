@@ -1,7 +1,6 @@
 use Rattle.std.proofs.Common.{refl}
 use Rattle.std.proofs.lemmas.Option.{none-some}
 use Rattle.std.proofs.lemmas.Result.{on_err_weaker}
-use Rattle.rail_io.proofs.Faults.{on_ok_stays}
 use Rattle.rail_io.proofs.disk.DiskFolderFolder.TheImpl.Goals as goal
 
 -- a folder on disk doesn't tell what it holds
@@ -11,7 +10,7 @@ read_at-tells g c = record {
   room = c.ensures.room;
   taken = c.ensures.taken;
   fault = c.ensures.fault;
-  no_fault = λ counts. on_ok_stays c.result c.args.self.now.faults c.new.self.now.faults _ c.ensures.faults;
+  fault_counted = λ counts. c.ensures.faults;
   may = on_err_weaker c.result (λ _. refl) c.ensures.fault;
   only_reads = record { same = refl; steady = refl; lasting = c.ensures.lasting; growing = c.ensures.growing };
 }
