@@ -1,5 +1,5 @@
-//! Whole files in and documents out: over memory with calls that fail on the way, over the disk and the standard
-//! output.
+//! Whole files in and documents out: over memory with calls that fail on the way, over the disk, over a system that
+//! fails once, and over the standard output.
 
 use rail_base::NoMemory;
 use rail_base::limits::MOST_FILE_BYTES;
@@ -8,12 +8,14 @@ use rail_io::{
     DiskFolder, Failed, FileRefusal, Folder, MemoryFile, MemoryFolder, MemorySink, Sink,
     StdoutSink, SureFolder, SureSink, read_file, write_all,
 };
-use std::alloc::{AllocError, Global};
+use std::alloc::{AllocError, Allocator, Global};
 use std::cell::Cell;
 use std::fmt::Display;
-use std::io::{ErrorKind, Print};
+use std::fs::{Metadata, OpenFile, OpenOptions};
+use std::io::{ErrorKind, Print, Read, Seek, SeekFrom, Write};
 use std::path::{Path, PathBuf};
 use std::process::Abort;
+use std::rt::Files;
 use std::test::Fail;
 use std::{env, fs, io};
 
@@ -413,6 +415,226 @@ fn a_folder_is_no_file(rt: HostRuntime) -> Result<(), Fail> {
     Ok(())
 }
 
+/// A system that has the same bytes in every file, counts the calls by which one is opened, sought and read, and fails
+/// at the call of one number. It makes no file and tells nothing else of one.
+#[derive(Clone, Copy, Drop)]
+struct FailingDisk<'a> {
+    bytes: &'a [u8],
+    failing: Option<usize>,
+    calls: &'a Cell<usize>,
+}
+
+impl FailingDisk<'_> {
+    /// Counts a call, which fails where it has the number of the one that is to fail. Why is what the system says where
+    /// a signal came, so that a call may well be made again.
+    fn call(&self) -> io::Result<()> {
+        let call = self.calls.get();
+        self.calls.set(call.saturating_add(1));
+        if self.failing == Some(call) {
+            return Err(io::Error::from(ErrorKind::Interrupted));
+        }
+        Ok(())
+    }
+}
+
+/// A file of this system that was opened, and where its next read begins.
+#[derive(Drop)]
+struct FailingFile<'a> {
+    disk: FailingDisk<'a>,
+    at: usize,
+}
+
+/// What a call answers that is not made in these tests.
+fn unsupported<T>() -> io::Result<T> {
+    Err(io::Error::from(ErrorKind::Unsupported))
+}
+
+impl Read for FailingFile<'_> {
+    fn read(&mut self, into: &mut [u8]) -> io::Result<usize> {
+        self.disk.call()?;
+        let rest = self.disk.bytes.get(self.at..).unwrap_or(b"");
+        let count = rest.len().min(into.len());
+        into[..count].copy_from_slice(&rest[..count]);
+        self.at = self.at.saturating_add(count);
+        Ok(count)
+    }
+}
+
+impl Seek for FailingFile<'_> {
+    fn seek(&mut self, to: SeekFrom) -> io::Result<u64> {
+        self.disk.call()?;
+        let SeekFrom::Start(at) = to else {
+            return unsupported();
+        };
+        self.at = at as usize;
+        Ok(at)
+    }
+}
+
+impl Write for FailingFile<'_> {
+    fn write(&mut self, _bytes: &[u8]) -> io::Result<usize> {
+        Err(io::Error::from(ErrorKind::Unsupported))
+    }
+
+    fn flush(&mut self) -> io::Result<()> {
+        unsupported()
+    }
+}
+
+impl OpenFile for FailingFile<'_> {
+    fn metadata(&self) -> io::Result<Metadata> {
+        unsupported()
+    }
+
+    fn set_len(&self, _size: u64) -> io::Result<()> {
+        unsupported()
+    }
+
+    fn sync_all(&self) -> io::Result<()> {
+        unsupported()
+    }
+
+    fn sync_data(&self) -> io::Result<()> {
+        unsupported()
+    }
+}
+
+impl<'a> Files for FailingDisk<'a> {
+    type File = FailingFile<'a>;
+
+    type Dir = FailingFile<'a>;
+
+    fn open_file(&self, _how: &OpenOptions, _path: &str) -> io::Result<FailingFile<'a>> {
+        self.call()?;
+        Ok(FailingFile { disk: *self, at: 0 })
+    }
+
+    fn open_dir(&self, _path: &str) -> io::Result<FailingFile<'a>> {
+        unsupported()
+    }
+
+    fn metadata(&self, _path: &str) -> io::Result<Metadata> {
+        unsupported()
+    }
+
+    fn symlink_metadata(&self, _path: &str) -> io::Result<Metadata> {
+        unsupported()
+    }
+
+    fn copy(&self, _from: &str, _to: &str) -> io::Result<u64> {
+        unsupported()
+    }
+
+    fn rename(&self, _from: &str, _to: &str) -> io::Result<()> {
+        unsupported()
+    }
+
+    fn remove_file(&self, _path: &str) -> io::Result<()> {
+        unsupported()
+    }
+
+    fn create_dir(&self, _path: &str) -> io::Result<()> {
+        unsupported()
+    }
+
+    fn remove_dir(&self, _path: &str) -> io::Result<()> {
+        unsupported()
+    }
+
+    fn remove_dir_all<B: Allocator>(&self, _alloc: B, _path: &str) -> io::Result<()> {
+        unsupported()
+    }
+}
+
+/// Of a system that has `runs 60` in every file: the number of the call that fails, the places from which at most four
+/// bytes of one path are read, what the reads give, one a line, and how many calls there were.
+struct OnFailingDisk {
+    failing: Option<usize>,
+    places: &'static [u64],
+    told: &'static str,
+    calls: usize,
+}
+
+const ON_FAILING_DISK: &[OnFailingDisk] = &[
+    // None fails: the file's end closes it, and nothing is sought where a read goes on.
+    OnFailingDisk {
+        failing: None,
+        places: &[0, 4, 7, 7],
+        told: "runs\n 60\n\n\n",
+        calls: 7,
+    },
+    // A file that can't be opened is not opened again in this read.
+    OnFailingDisk {
+        failing: Some(0),
+        places: &[0, 0],
+        told: "failed\nruns\n",
+        calls: 3,
+    },
+    // A read that fails is not made again, whether the file was just opened, stood open or was sought, and closes it.
+    OnFailingDisk {
+        failing: Some(1),
+        places: &[0, 0],
+        told: "failed\nruns\n",
+        calls: 4,
+    },
+    OnFailingDisk {
+        failing: Some(2),
+        places: &[0, 4, 4],
+        told: "runs\nfailed\n 60\n",
+        calls: 6,
+    },
+    OnFailingDisk {
+        failing: Some(3),
+        places: &[0, 2, 2],
+        told: "runs\nfailed\nns 6\n",
+        calls: 7,
+    },
+    // Nor is a seek that fails, after which nothing is read, and which closes it too.
+    OnFailingDisk {
+        failing: Some(2),
+        places: &[0, 2, 4],
+        told: "runs\nfailed\n 60\n",
+        calls: 6,
+    },
+    OnFailingDisk {
+        failing: Some(1),
+        places: &[2, 0],
+        told: "failed\nruns\n",
+        calls: 4,
+    },
+];
+
+/// What the reads of a row give.
+fn failing_disk_told(
+    alloc: Global,
+    row: &OnFailingDisk,
+    calls: &Cell<usize>,
+) -> Result<String, AllocError> {
+    let disk = FailingDisk {
+        bytes: b"runs 60",
+        failing: row.failing,
+        calls,
+    };
+    let mut folder = DiskFolder::new(&disk);
+    let mut text = String::new(alloc);
+    for place in row.places {
+        write_piece(&mut text, &mut folder, "trips.csv", *place)?;
+    }
+    Ok(text)
+}
+
+#[test]
+fn a_failed_read_is_not_made_again(rt: HostRuntime) -> Result<(), Fail> {
+    for row in ON_FAILING_DISK {
+        let calls = Cell::new(0);
+        let text = failing_disk_told(rt.alloc(), row, &calls)?;
+        assert!(rt; text.as_str() == row.told, "{text}");
+        let count = calls.get();
+        assert!(rt; count == row.calls, "{count} calls, {text}");
+    }
+    Ok(())
+}
+
 /// A standard output that takes so many bytes at a call at most, where they are the ones that are wanted next, and
 /// fails at the call of one number.
 #[derive(Drop)]
@@ -439,15 +661,15 @@ impl<'a> FewBytes<'a> {
 
 impl Print for FewBytes<'_> {
     fn print<D: Display + Drop>(&self, _value: D) -> io::Result<()> {
-        Err(io::Error::from(ErrorKind::Unsupported))
+        unsupported()
     }
 
     fn println<D: Display + Drop>(&self, _value: D) -> io::Result<()> {
-        Err(io::Error::from(ErrorKind::Unsupported))
+        unsupported()
     }
 
     fn write_all(&self, _bytes: &[u8]) -> io::Result<()> {
-        Err(io::Error::from(ErrorKind::Unsupported))
+        unsupported()
     }
 
     fn write_some(&self, bytes: &[u8]) -> io::Result<usize> {
@@ -457,7 +679,8 @@ impl Print for FewBytes<'_> {
         let rest = self.wanted.get(taken..).unwrap_or(b"");
         let count = bytes.len().min(self.most);
         if self.failing == Some(call) || count == 0 || !rest.starts_with(&bytes[..count]) {
-            return Err(io::Error::from(ErrorKind::InvalidData));
+            // As where a signal came, so that a call may well be made again.
+            return Err(io::Error::from(ErrorKind::Interrupted));
         }
         self.taken.set(taken.saturating_add(count));
         Ok(count)
