@@ -1,15 +1,21 @@
 //! A day in memory, with one text a file, and what a run over it comes to.
 
-ghost use Rattle.std.specs.Prelude.{◌≡◌, ◌≢◌, IfOk};
+ghost use Rattle.std.specs.Prelude.{◌≡◌, ◌≢◌, true, IfOk};
 ghost use Rattle.rail_io.specs.Folders.{Rose};
+ghost use Rattle.planner_app.specs.Statuses.{CountsFailedReads, CountsFailedWrites};
 
 use advisors::{Advisor, Diver, Subgradient};
 use planner_app::railplan;
 use rail_base::name::is_name;
 use rail_base::{NoMemory, Words};
-use rail_io::{Folder, MemoryFile, MemoryFolder, MemorySink, Sink, SureFolder, SureSink};
+use rail_io::{
+    DiskFolder, Folder, MemoryFile, MemoryFolder, MemorySink, Sink, StdoutSink, SureFolder,
+    SureSink,
+};
 use std::alloc::Global;
+use std::io::Print;
 use std::process::Abort;
+use std::rt::Files;
 
 /// The texts of a day's files. A file that is None is not in the folder.
 #[derive(Clone, Copy)]
@@ -285,7 +291,8 @@ pub(crate) fn words_of(rt: &impl Abort, alloc: Global, texts: &[&str]) -> Result
 }
 
 /// The status of the words over a folder and a sink, with the advisors that the program has. It tells of a failed read
-/// or a failed write only where a count of faults rose.
+/// or a failed write only where a count of faults rose or stands at its last value; and where the folder or the sink
+/// counts its failed calls, by how much that count rose, of reads at 6 and 7 only that it was by one at most.
 pub(crate) fn run<F: Folder, K: Sink>(
     alloc: Global,
     words: &Words,
@@ -294,6 +301,10 @@ pub(crate) fn run<F: Folder, K: Sink>(
 ) -> Result<u8, NoMemory>
     ensures unread { IfOk result (λ status. status ≡ 5 → Rose (F.faults folder.old) (F.faults folder.new)) }
     ensures unwritten { IfOk result (λ status. status ≡ 6 → Rose (K.faults out.old) (K.faults out.new)) }
+    ensures failed_reads { F.counts_failed ≡ true
+        → IfOk result (λ status. CountsFailedReads status (F.faults folder.old) (F.faults folder.new)) }
+    ensures failed_writes { K.counts_failed ≡ true
+        → IfOk result (λ status. CountsFailedWrites status (K.faults out.old) (K.faults out.new)) }
 {
     let mut advisors: Vec<Box<dyn Advisor>> = Vec::new(alloc);
     advisors.push(Box::new(alloc, Subgradient::new())?)?;
@@ -315,19 +326,37 @@ pub(crate) fn run_surely(
     run(alloc, words, folder, out)
 }
 
+/// The status of the words over the files of the system and the standard output, which both count their failed calls,
+/// so that `CountsFailedReads` and `CountsFailedWrites` hold.
+pub(crate) fn run_on_disk<R: Files, P: Print>(
+    alloc: Global,
+    words: &Words,
+    folder: &mut DiskFolder<'_, R>,
+    out: &mut StdoutSink<'_, P>,
+) -> Result<u8, NoMemory>
+    ensures failed_reads { IfOk result (λ status. CountsFailedReads status folder.old.faults folder.new.faults) }
+    ensures failed_writes { IfOk result (λ status. CountsFailedWrites status out.old out.new) }
+{
+    run(alloc, words, folder, out)
+}
+
 /// A sink with room for so many bytes, whose writes never fail.
 pub(crate) fn ample_sink(alloc: Global, room: usize) -> Result<MemorySink, NoMemory> {
     MemorySink::new(alloc, room, 1000, Vec::new(alloc))
 }
 
-/// The status of a command line over a folder and a sink.
+/// The status of a command line over a folder and a sink in memory, which both count their failed calls, so that
+/// `CountsFailedReads` and `CountsFailedWrites` hold.
 pub(crate) fn status_of(
     rt: &impl Abort,
     alloc: Global,
     words: &[&str],
     folder: &mut MemoryFolder,
     out: &mut MemorySink,
-) -> Result<u8, NoMemory> {
+) -> Result<u8, NoMemory>
+    ensures failed_reads { IfOk result (λ status. CountsFailedReads status folder.old.faults folder.new.faults) }
+    ensures failed_writes { IfOk result (λ status. CountsFailedWrites status out.old.faults out.new.faults) }
+{
     let words = words_of(rt, alloc, words)?;
     run(alloc, &words, folder, out)
 }

@@ -1,14 +1,15 @@
 //! Each read and each write of a run fails in turn: the answer is the one that says so, or the one that the run has
-//! where it never comes to that call. Over a folder and a sink that never fail the run has its answer too.
+//! where it never comes to that call. Over a folder and a sink that never fail the run has its answer too. Over the
+//! disk a folder that is not there cannot be read.
 
 use crate::day::{
-    Day, base_day, expect_run, folder_of, one_stays, ring, run_surely, sure_folder_of, two_trips,
-    words_of,
+    Day, base_day, expect_run, folder_of, one_stays, ring, run_on_disk, run_surely, sure_folder_of,
+    two_trips, words_of,
 };
 use crate::report_tests::{COSTS, DUTIES, FIRST_BOUND, ONE_RETURNS, WRONG_BOUND, YARDS};
 use crate::simulate_tests::USAGE;
 use rail_base::NoMemory;
-use rail_io::{MemorySink, SureFolder, SureSink};
+use rail_io::{DiskFolder, MemorySink, StdoutSink, SureFolder, SureSink};
 use std::alloc::Global;
 use std::process::Abort;
 use std::test::Fail;
@@ -469,5 +470,15 @@ fn a_name_may_not_fill_a_table(rt: HostRuntime) -> Result<(), Fail> {
 #[test]
 fn a_plan_names_the_file_that_is_not_there(rt: HostRuntime) -> Result<(), Fail> {
     expect_case(&rt, rt.alloc(), &without_trips_file())?;
+    Ok(())
+}
+
+#[test]
+fn a_folder_that_is_not_there_cannot_be_read(rt: HostRuntime) -> Result<(), Fail> {
+    let alloc = rt.alloc();
+    let words = words_of(&rt, alloc, &["railplan", "simulate", "/no such folder"])?;
+    let mut folder = DiskFolder::new(&rt);
+    let mut out = StdoutSink::new(&rt);
+    assert!(rt; run_on_disk(alloc, &words, &mut folder, &mut out)? == 5);
     Ok(())
 }
