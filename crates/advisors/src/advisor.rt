@@ -1,8 +1,12 @@
 //! Advisors, what they are shown of a node, and what they answer.
 
-ghost use Rattle.std.specs.Prelude.{◌≡◌, ℕ, ◌+◌, ◌<◌, ◌^◌, Bool, false};
+ghost use Rattle.std.specs.Prelude.{◌≡◌, ℕ, ◌+◌, ◌<◌, ◌^◌, Bool, true, false, Result};
+ghost use Rattle.rail_base.specs.declared.memory.NoMemory.{NoMemory};
+ghost use Rattle.advisors.specs.declared.advisor.Look.{Look};
+ghost use Rattle.advisors.specs.declared.advisor.Word.{Word};
 ghost use Rattle.advisors.specs.Quits.{quit_after};
 ghost use Rattle.advisors.specs.Proposals.{DoesFit, IsOverSame};
+ghost use Rattle.advisors.specs.Proposed.{Proposed};
 
 use crate::proposal::Proposal;
 use branch_tree::{Multipliers, Slacks};
@@ -54,6 +58,10 @@ pub trait Advisor: Drop {
     /// Which advisor it is: where nothing else is said, none is told from another. `advise` leaves it as it is.
     ghost identity: { Self → ℕ } = { λ _. 0 };
 
+    /// Whether its last call may have been this one: what it was shown, the proposal that it was given, its answer, and
+    /// the proposal that it left. Where nothing else is said, it may have been any.
+    ghost has_answered: { Self → Look → Proposed → Result Word NoMemory → Proposed → Bool } = { λ _ _ _ _ _. true };
+
     /// Asks for a proposal, which it puts into `to`, and for a word. It has not quit, and it was asked fewer than
     /// 2^64 - 1 times. The only refusal is want of memory, after which too the count of calls has risen by one, it has
     /// the identity that it had, and `to` has the indices that it had and multipliers that fit them. An implementation
@@ -64,6 +72,7 @@ pub trait Advisor: Drop {
         ensures asked { asked self.new ≡ asked self.old + 1 }
         ensures quit { has_quit self.new ≡ quit_after result }
         ensures same { identity self.new ≡ identity self.old }
+        ensures answered { has_answered self.new look.now to.old result to.new ≡ true }
         ensures over { IsOverSame to.old to.new }
         ensures fit { DoesFit to.new };
 

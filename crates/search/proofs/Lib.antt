@@ -6,8 +6,9 @@ pub mod Below
 pub mod Evaluating
 -- nodes in work
 pub mod Working
--- how often advisors are asked
+-- how often advisors are asked, and what they make of a node
 pub mod Asking
+pub mod Hearing
 -- the cut of a node, and nodes from their work
 pub mod Choosing
 pub mod Placing

@@ -8,6 +8,7 @@ pub mod Evaluations
 -- a node in work, and what its advisors are shown and answer
 pub mod NodesInWork
 pub mod NodeAdvice
+pub mod Rounds
 -- the nodes of a search, and those of them that may be branched
 pub mod Nodes
 pub mod Frontiers

@@ -1,6 +1,7 @@
 -- What is shown to the advisors of a node, and what they answered.
-use Rattle.std.specs.Prelude.{ℕ, ◌≡◌, length, get_or, map, List, Bool, true, false, Option}
-use Rattle.branch_tree.specs.Claims.{Priced}
+use Rattle.std.specs.Prelude.{ℕ, ◌≡◌, [], length, get_or, map, List, Bool, true, false, None, Result}
+use Rattle.rail_base.specs.declared.memory.NoMemory.{NoMemory}
+use Rattle.branch_tree.specs.Bounds.{AreSlacks}
 use Rattle.branch_tree.specs.Meanings.{Meanings}
 use Rattle.branch_tree.specs.Sets.{size_of}
 use Rattle.advisors.specs.declared.advisor.Look.{Look}
@@ -8,9 +9,7 @@ use Rattle.advisors.specs.declared.advisor.Word.{Word}
 use Rattle.advisors.specs.declared.advisor.Word.TheVariants.{More, Enough, Quit}
 use Rattle.advisors.specs.Proposed.{Proposed}
 use Rattle.search.specs.declared.rounds.NodeAdvice.{NodeAdvice}
-use Rattle.search.specs.declared.work.Shown.{Shown}
 use Rattle.search.specs.declared.work.Work.{Work}
-use Rattle.search.specs.NodesInWork.{IsTakenUp}
 
 -- a proposal for the problem's indices, how many compositions each trip of a region has, and a flag for each advisor
 pub record IsAdviceFor (problem : Meanings) (region : List (List Bool)) (advisors : ℕ) (advice : NodeAdvice) :
@@ -30,22 +29,38 @@ is_enough More = false
 is_enough Enough = true
 is_enough Quit = false
 
--- what is shown of a node: what its first, its kept and its last evaluation gave, and the rest beside
-pub record IsLookAt (problem : Meanings) (work : Work) (shown : Shown) (look : Look) : Type 0 where
-  pub round : look.round ≡ shown.rounds
-  pub sizes : look.sizes.now ≡ shown.sizes.items
+-- what is shown of a node after so many rounds: how far its region is divided, what its first, its kept and its last evaluation
+-- gave, and the slacks of its last picks
+pub record IsLookAt (problem : Meanings) (rounds : ℕ) (work : Work) (look : Look) : Type 0 where
+  pub round : look.round ≡ rounds
+  pub sizes : look.sizes.now ≡ map size_of work.region
   pub first : look.first ≡ work.first
   pub kept : look.kept ≡ work.kept.value
   pub last : look.last ≡ work.last.value
   pub multipliers : look.multipliers.now ≡ work.last.multipliers
   pub picks : look.picks.now ≡ work.last.picks
-  pub slacks : look.slacks.now ≡ shown.slacks
+  pub slacks : AreSlacks problem work.last.picks look.slacks.now
   pub free_from : look.free_from ≡ problem.free_from
 
--- a proposal was taken up, where the advisor at a place has not quit; and where it has, the node and the best solution
--- are as they were
-pub record IsUsed {A : Type 0} (advisors : List A) (has_quit : A → Bool) (place : ℕ) (problem : Meanings)
-    (earlier best : Option Priced) (proposal : Proposed) (before after : Work) : Type 0 where
-  pub taken_up : (none : A) → has_quit (get_or advisors place none) ≡ false →
-      IsTakenUp problem earlier best proposal before after
-  pub left : (none : A) → has_quit (get_or advisors place none) ≡ true → (after ≡ before) × (best ≡ earlier)
+-- a proposal for the problem's indices with no multipliers and no cut
+pub record IsEmptyFor (problem : Meanings) (proposal : Proposed) : Type 0 where
+  pub indices : proposal.indices ≡ problem.indices
+  pub free_from : proposal.free_from ≡ problem.free_from
+  pub multipliers : proposal.multipliers ≡ []
+  pub cut : proposal.cut ≡ None
+
+-- a test of an advisor: whether its last call may have been one with this look, this proposal given, this answer and
+-- this proposal left
+abbrev pub AnswerTest : Type 0 → Type 0
+AnswerTest A = A → Look → Proposed → Result Word NoMemory → Proposed → Bool
+
+-- an advisor was shown a node in a round and given a proposal that is empty, and then it answered this and left this
+-- proposal
+pub record IsAnswered {A : Type 0} (has_answered : AnswerTest A)
+    (problem : Meanings) (round : ℕ) (work : Work) (advisor : A) (answer : Result Word NoMemory)
+    (proposal : Proposed) : Type 0 where
+  pub look : Look
+  pub given : Proposed
+  pub shown : IsLookAt problem round work look
+  pub empty : IsEmptyFor problem given
+  pub answered : has_answered advisor look given answer proposal ≡ true

@@ -1,5 +1,5 @@
 -- A node that is put among those of a search, and a node that is branched.
-use Rattle.std.specs.Prelude.{ℕ, ◌≡◌, ◌+◌, List, [], Bool, Option, true, length}
+use Rattle.std.specs.Prelude.{ℕ, ◌≡◌, ◌+◌, List, [], Bool, Option, true, false, length, replicate}
 use Rattle.std.specs.List.{insert}
 use Rattle.branch_tree.specs.declared.multipliers.Entry.{Entry}
 use Rattle.branch_tree.specs.Claims.{Priced, is_open}
@@ -15,41 +15,67 @@ use Rattle.search.specs.declared.evaluation.Outcome.TheVariants.{Ended, Open}
 use Rattle.search.specs.declared.work.Work.{Work}
 use Rattle.search.specs.Evaluations.{IsOutcome, leaf_of}
 use Rattle.search.specs.Nodes.{IsDivisionAt, IsLeafOf, branched, tree_node}
+use Rattle.search.specs.NodeAdvice.{AnswerTest}
 use Rattle.search.specs.NodesInWork.{HasInherited, begun, node_from}
 use Rattle.search.specs.Offers.{IsOffered}
+use Rattle.search.specs.Rounds.{AreRounds}
 
 -- a node that may be branched has this number
 abbrev pub IsNumbered : ℕ → SearchNode → Type 0
 IsNumbered number (Fixed node) = Unit {0}
 IsNumbered number (Pending node) = node.number ≡ number
 
--- what a node is made of after the first evaluation of its region: the end that this shows; or what it inherits
-abbrev pub IsMadeAfter : Meanings → Option Priced → Option Priced → List (List Bool) → List Entry → ℕ → Outcome →
-    SearchNode → Type 0
-IsMadeAfter problem middle best region inherited number (Ended ending) node = node ≡ Fixed (leaf_of ending)
-IsMadeAfter problem middle best region inherited number (Open evaluation) node =
-    (work : Work) × HasInherited problem middle best inherited (begun region evaluation) work ×
-    (node ≡ node_from number best work)
+-- A node in work was evaluated under what it inherits, and then so many rounds of advice were made, before which no
+-- advisor had enough.
+pub record IsWorkedOut {A : Type 0} (has_quit : A → Bool)
+    (has_answered : AnswerTest A) (problem : Meanings) (rounds : ℕ)
+    (inherited : List Entry) (advisors later : List A) (earlier best : Option Priced) (before after : Work) :
+    Type 0 where
+  pub middle : Option Priced
+  pub begun : Work
+  pub first : HasInherited problem earlier middle inherited before begun
+  pub enough : List Bool
+  pub asked : AreRounds has_quit has_answered problem rounds
+      (record {
+        advisors = advisors;
+        enough = replicate (length advisors) false;
+        best = middle;
+        work = begun;
+      })
+      (record { advisors = later; enough = enough; best = best; work = after })
 
--- a node was made of a region: it was evaluated with no multipliers, and then, where that leaves it open and there are
--- such, under those that it inherits
-pub record IsMade (problem : Meanings) (best : Option Priced) (region : List (List Bool)) (inherited : List Entry)
-    (number : ℕ) (node : SearchNode) : Type 0 where
+-- what a node is made of after the first evaluation of its region: the end that this shows, about which no advisor is
+-- asked; or what it inherits and the rounds of advice
+abbrev pub IsMadeAfter : {A : Type 0} → (A → Bool) → AnswerTest A →
+    Meanings → ℕ → List A → List A → Option Priced → Option Priced → List (List Bool) → List Entry → ℕ → Outcome →
+    SearchNode → Type 0
+IsMadeAfter has_quit has_answered problem rounds advisors later middle best region inherited number (Ended ending) node =
+    (node ≡ Fixed (leaf_of ending)) × (best ≡ middle) × (later ≡ advisors)
+IsMadeAfter has_quit has_answered problem rounds advisors later middle best region inherited number (Open evaluation)
+    node = (work : Work) × IsWorkedOut has_quit has_answered problem rounds inherited advisors later middle best
+    (begun region evaluation) work × (node ≡ node_from number best work)
+
+-- a node was made of a region: it was evaluated with no multipliers, and then, where that leaves it open, under those
+-- that it inherits and as the advisors propose
+pub record IsMade {A : Type 0} (has_quit : A → Bool)
+    (has_answered : AnswerTest A) (problem : Meanings) (rounds : ℕ)
+    (advisors later : List A) (best : Option Priced) (region : List (List Bool)) (inherited : List Entry) (number : ℕ)
+    (node : SearchNode) : Type 0 where
   pub middle : Option Priced
   pub outcome : Outcome
   pub first : IsOutcome problem region [] middle outcome
-  pub after : IsMadeAfter problem middle best region inherited number outcome node
+  pub after : IsMadeAfter has_quit has_answered problem rounds advisors later middle best region inherited number
+      outcome node
 
 -- A leaf over a region is put at a place and entered in the frontier, as the others still are. Where it may be branched
 -- its number is how many nodes there were before; where it is open, `Done` holds; and without rounds it is made of its
 -- first evaluation and of what it inherits.
-pub record IsPut (problem : Meanings) (region : List (List Bool)) (inherited : List Entry) (rounds place : ℕ)
-    (before after : Search) (Done : Type 0) : Type 0 where
+pub record IsPut (problem : Meanings) (region : List (List Bool)) (place : ℕ) (before after : Search)
+    (Made : SearchNode → Type 0) (Done : Type 0) : Type 0 where
   pub node : SearchNode
   pub leaf : IsLeafOf problem (plan_in after.best) region node
   pub number : IsNumbered (length before.nodes.items) node
-  pub made : rounds ≡ 0 →
-      IsMade problem (plan_in after.best) region inherited (length before.nodes.items) node
+  pub made : Made node
   pub nodes : after.nodes.items ≡ insert before.nodes.items place node
   pub entered : (best : Option Priced) → IsEntered best after.frontier node
   pub others : (best : Option Priced) (other : SearchNode) →
@@ -58,9 +84,11 @@ pub record IsPut (problem : Meanings) (region : List (List Bool)) (inherited : L
 
 -- The open node at a place was branched: by a division of it, and behind the branch stand two nodes. Where these may be
 -- branched they have the next two numbers, the first one the lower. The best solution is that of the first side, and
--- then of the second. Without rounds the nodes are made of the sides of the division, which inherit its multipliers.
-pub record IsBranchedAt (problem : Meanings) (best later : Option Priced) (rounds : ℕ) (before after : List SearchNode)
-    (place : ℕ) : Type 0 where
+-- then of the second. The nodes are made of the sides of the division, which inherit its multipliers: that of the first
+-- side before that of the second.
+pub record IsBranchedAt {A : Type 0} (has_quit : A → Bool)
+    (has_answered : AnswerTest A) (problem : Meanings) (rounds : ℕ)
+    (advisors later : List A) (best best' : Option Priced) (before after : List SearchNode) (place : ℕ) : Type 0 where
   pub division : Division
   pub left : SearchNode
   pub right : SearchNode
@@ -70,6 +98,9 @@ pub record IsBranchedAt (problem : Meanings) (best later : Option Priced) (round
   pub right_number : IsNumbered (length before + 1) right
   pub middle : Option Priced
   pub first : IsOffered problem division.left best middle
-  pub second : IsOffered problem division.right middle later
-  pub left_made : rounds ≡ 0 → IsMade problem middle division.left division.multipliers (length before) left
-  pub right_made : rounds ≡ 0 → IsMade problem later division.right division.multipliers (length before + 1) right
+  pub second : IsOffered problem division.right middle best'
+  pub between : List A
+  pub left_made : IsMade has_quit has_answered problem rounds advisors between middle division.left division.multipliers
+      (length before) left
+  pub right_made : IsMade has_quit has_answered problem rounds between later best' division.right division.multipliers
+      (length before + 1) right

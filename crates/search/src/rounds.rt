@@ -1,17 +1,19 @@
 //! Rounds of advice: while a node is open, each advisor that has not quit and has not said `Enough` for it is asked
 //! once a round.
 
-ghost use Rattle.std.specs.Prelude.{◌≡◌, ◌+◌, ◌<◌, ◌^◌, [], None, false, true, length, get_or, map, set, All};
+ghost use Rattle.std.specs.Prelude.{◌≡◌, ◌+◌, ◌<◌, ◌^◌, [], None, false, true, length, get_or, map, replicate, set};
+ghost use Rattle.std.specs.Prelude.{All};
 ghost use Rattle.std.specs.Prelude.{IfOk, OnOk};
 ghost use Rattle.branch_tree.specs.Sets.{size_of};
 ghost use Rattle.advisors.specs.Quits.{quit_after};
 ghost use Rattle.advisors.specs.Proposals.{IsOverSame};
 ghost use Rattle.search.specs.Questions.{AreAsked, AreTheSame, CanAsk, IsAskedAt, MayBeAsked, in_rounds, once};
 ghost use Rattle.search.specs.Questions.{AreAskedOnce, AreLeftAlone};
-ghost use Rattle.search.specs.NodeAdvice.{AreStillNoted, IsAdviceFor, IsUsed, is_enough};
+ghost use Rattle.search.specs.NodeAdvice.{AreStillNoted, IsAdviceFor, IsAnswered, is_enough};
 ghost use Rattle.search.specs.Offers.{IsOffered};
 ghost use Rattle.search.specs.Conclusions.{plan_in};
 ghost use Rattle.search.specs.NodesInWork.{IsWorkedOn, is_left_open};
+ghost use Rattle.search.specs.Rounds.{AreHeard, AreRounds, IsHeard, advised};
 
 use crate::found::Best;
 use crate::work::{Shown, Work};
@@ -63,9 +65,11 @@ pub(crate) fn make_rounds<R: Relaxation>(
     ensures least { OnOk result (is_left_open (plan_in best.new) work.new ≡ true →
         AreAsked advisors.old.items advisors.new.items asked has_quit (in_rounds rounds 1) rounds) }
 
-    // The rounds: where their count stands, where the node is left open; and that nothing was done without.
+    // The rounds: where their count stands, where the node is left open; and what they make of it.
     ensures rounds { OnOk result (is_left_open (plan_in best.new) work.new ≡ true → advice.new.shown.rounds ≡ rounds) }
-    ensures none { rounds ≡ 0 → OnOk result ((work.new ≡ work.old) × (plan_in best.new ≡ plan_in best.old)) }
+    ensures made { OnOk result (AreRounds has_quit has_answered (R.meanings (R.problem problem.old)) rounds
+        (advised advisors.old.items advice.old (plan_in best.old) work.old)
+        (advised advisors.new.items advice.new (plan_in best.new) work.new)) }
 {
     for _round in 0..rounds {
         if !work.is_open(best) {
@@ -109,6 +113,12 @@ fn make_round<R: Relaxation>(
     ensures asked { AreAsked advisors.old.items advisors.new.items asked has_quit 0 1 }
     ensures least { OnOk result (is_left_open (plan_in best.new) work.new ≡ true →
         AreAsked advisors.old.items advisors.new.items asked has_quit (once advice.old.has_enough.items) 1) }
+
+    // What the round makes of the node.
+    ensures heard { OnOk result (AreHeard has_quit has_answered (R.meanings (R.problem problem.old))
+        advice.old.shown.rounds (length advisors.old.items)
+        (advised advisors.old.items advice.old (plan_in best.old) work.old)
+        (advised advisors.new.items advice.new (plan_in best.new) work.new)) }
 
     // Those that have enough, and the others.
     ensures noted { OnOk result (AreStillNoted advice.old.has_enough.items advice.new.has_enough.items) }
@@ -166,8 +176,9 @@ fn take_advice<R: Relaxation>(
     ensures enough { IfOk result (λ word. advice.new.has_enough.items ≡
         set advice.old.has_enough.items place (is_enough word)) }
     ensures rounds { OnOk result (advice.new.shown.rounds ≡ advice.old.shown.rounds) }
-    ensures used { OnOk result (IsUsed advisors.new.items has_quit place (R.meanings (R.problem problem.old))
-        (plan_in best.old) (plan_in best.new) advice.new.proposal work.old work.new) }
+    ensures heard { OnOk result (IsHeard has_quit has_answered (R.meanings (R.problem problem.old))
+        advice.old.shown.rounds place (advised advisors.old.items advice.old (plan_in best.old) work.old)
+        (advised advisors.new.items advice.new (plan_in best.new) work.new)) }
     ensures advisors { AreTheSame advisors.old.items advisors.new.items identity }
     ensures asked { IsAskedAt advisors.old.items advisors.new.items asked has_quit place }
 {
@@ -194,6 +205,8 @@ fn ask<R: Relaxation>(
     advisor: &mut Box<dyn Advisor>,
 ) -> Result<Word, NoMemory>
     requires follow { (R.meanings (R.problem problem.old)).Follow work.now.last.picks }
+    requires indices { advice.old.proposal.indices ≡ (R.meanings (R.problem problem.old)).indices }
+    requires free_from { advice.old.proposal.free_from ≡ (R.meanings (R.problem problem.old)).free_from }
     requires sizes { advice.old.shown.sizes.items ≡ map size_of work.now.region }
     requires place { place < length advice.old.has_enough.items }
     requires again { get_or advice.old.has_enough.items place false ≡ false }
@@ -208,6 +221,8 @@ fn ask<R: Relaxation>(
     ensures sizes { advice.new.shown.sizes ≡ advice.old.shown.sizes }
     ensures has_enough { IfOk result (λ word. advice.new.has_enough.items ≡
         set advice.old.has_enough.items place (is_enough word)) }
+    ensures answered { IsAnswered has_answered (R.meanings (R.problem problem.old)) advice.old.shown.rounds work.now
+        advisor.new result advice.new.proposal }
 {
     problem.slacks(work.last_picks(), &mut advice.shown.slacks);
     advice.proposal.clear();
@@ -231,6 +246,7 @@ fn propose(
     ensures quit { has_quit advisor.new ≡ quit_after result }
     ensures advisor { identity advisor.new ≡ identity advisor.old }
     ensures over { IsOverSame proposal.old proposal.new }
+    ensures answered { has_answered advisor.new look.now proposal.old result proposal.new ≡ true }
 {
     advisor.advise(look, proposal)
 }
@@ -246,6 +262,7 @@ impl NodeAdvice {
     ) -> Result<NodeAdvice, NoMemory>
         ensures advice { IfOk result (IsAdviceFor (R.meanings (R.problem problem.now)) region.now advisors) }
         ensures once { IfOk result (λ advice. once advice.has_enough.items ≡ 1) }
+        ensures none { IfOk result (λ advice. advice.has_enough.items ≡ replicate advisors false) }
         ensures rounds { IfOk result (λ advice. advice.shown.rounds ≡ 0) }
     {
         Ok(NodeAdvice {

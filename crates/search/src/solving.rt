@@ -12,11 +12,11 @@ ghost use Rattle.search.specs.declared.nodes.SearchNode.{SearchNode};
 ghost use Rattle.search.specs.Questions.{AreAsked, AreTheSame, MayBeAsked, in_rounds};
 ghost use Rattle.search.specs.Ends.{HasEnded, HaveKeptUp, found_by, least_of, lesser, made_or_open};
 ghost use Rattle.search.specs.Frontiers.{HasLeastRank, IsEntered, IsOpenAt};
-ghost use Rattle.search.specs.Putting.{IsBranchedAt, IsMade, IsNumbered, IsPut};
+ghost use Rattle.search.specs.Putting.{IsBranchedAt, IsMade, IsNumbered, IsPut, IsWorkedOut};
 ghost use Rattle.search.specs.Nodes.{IsDivisionAt, IsLeafOf, IsSearched, tree_node, tree_nodes};
 ghost use Rattle.search.specs.Offers.{IsOffered};
 ghost use Rattle.search.specs.Conclusions.{IsSolved, nodes_found, plan_found, plan_in};
-ghost use Rattle.search.specs.NodesInWork.{HasInherited, IsWorkedOn, is_left_open};
+ghost use Rattle.search.specs.NodesInWork.{IsWorkedOn, is_left_open};
 
 use crate::evaluation::{Outcome, evaluate, is_below};
 use crate::found::{Best, Found};
@@ -144,8 +144,9 @@ impl Search {
         ensures entered { IfOk result (λ search.
             All (IsEntered (plan_in search.best) search.frontier) search.nodes.items) }
         ensures none { IfOk result (λ search. branchings_of (tree_nodes search.nodes.items) ≡ 0) }
-        ensures made { rounds ≡ 0 → IfOk result (λ search. (node : SearchNode) × (search.nodes.items ≡ node ∷ []) ×
-            IsMade (R.meanings (R.problem problem.old)) (plan_in search.best) root.now [] 0 node) }
+        ensures made { IfOk result (λ search. (node : SearchNode) × (search.nodes.items ≡ node ∷ []) ×
+            IsMade has_quit has_answered (R.meanings (R.problem problem.old)) rounds advisors.old.items
+            advisors.new.items (plan_in search.best) root.now [] 0 node) }
 
         // The advisors: that one of the same identity stands at each place, and how often it was asked.
         ensures advisors { AreTheSame advisors.old.items advisors.new.items identity }
@@ -191,8 +192,9 @@ impl Search {
         ensures entered { OnOk result (All (IsEntered (plan_in self.new.best) self.new.frontier) self.new.nodes.items) }
         ensures one { OnOk result
             (branchings_of (tree_nodes self.new.nodes.items) ≡ branchings_of (tree_nodes self.old.nodes.items) + 1) }
-        ensures branched { OnOk result (IsBranchedAt (R.meanings (R.problem problem.old)) (plan_in self.old.best)
-            (plan_in self.new.best) rounds self.old.nodes.items self.new.nodes.items place) }
+        ensures branched { OnOk result (IsBranchedAt has_quit has_answered (R.meanings (R.problem problem.old)) rounds
+            advisors.old.items advisors.new.items (plan_in self.old.best) (plan_in self.new.best)
+            self.old.nodes.items self.new.nodes.items place) }
 
         // The advisors: that one of the same identity stands at each place, and how often it was asked.
         ensures advisors { AreTheSame advisors.old.items advisors.new.items identity }
@@ -250,8 +252,9 @@ impl Search {
         ensures offered { OnOk result (IsOffered (R.meanings (R.problem problem.old)) region (plan_in self.old.best)
             (plan_in self.new.best)) }
         ensures accepted { OnOk result (R.IsAccepted (R.problem problem.old)) }
-        ensures put { OnOk result (IsPut (R.meanings (R.problem problem.old)) region inherited.now rounds place
-            self.old self.new
+        ensures put { OnOk result (IsPut (R.meanings (R.problem problem.old)) region place self.old self.new
+            (IsMade has_quit has_answered (R.meanings (R.problem problem.old)) rounds advisors.old.items
+            advisors.new.items (plan_in self.new.best) region inherited.now (length self.old.nodes.items))
             (AreAsked advisors.old.items advisors.new.items asked has_quit (in_rounds rounds 1) rounds)) }
         ensures advisors { AreTheSame advisors.old.items advisors.new.items identity }
         ensures asked { AreAsked advisors.old.items advisors.new.items asked has_quit 0 rounds }
@@ -372,8 +375,8 @@ fn make_node<R: Relaxation>(
     ensures accepted { OnOk result (R.IsAccepted (R.problem problem.old)) }
     ensures node { IfOk result (IsLeafOf (R.meanings (R.problem problem.old)) (plan_in best.new) region) }
     ensures number { IfOk result (IsNumbered number) }
-    ensures made { rounds ≡ 0 → IfOk result (IsMade (R.meanings (R.problem problem.old)) (plan_in best.new) region
-        inherited.now number) }
+    ensures made { IfOk result (IsMade has_quit has_answered (R.meanings (R.problem problem.old)) rounds
+        advisors.old.items advisors.new.items (plan_in best.new) region inherited.now number) }
 
     // The advisors: that one of the same identity stands at each place, and how often it was asked.
     ensures advisors { AreTheSame advisors.old.items advisors.new.items identity }
@@ -422,9 +425,9 @@ fn work_on<R: Relaxation>(
     ensures least { OnOk result (is_left_open (plan_in best.new) work.new ≡ true →
         AreAsked advisors.old.items advisors.new.items asked has_quit (in_rounds rounds 1) rounds) }
 
-    // Without rounds: what is inherited, and no more.
-    ensures inherited { rounds ≡ 0 → OnOk result (HasInherited (R.meanings (R.problem problem.old)) (plan_in best.old)
-        (plan_in best.new) inherited.now work.old work.new) }
+    // What is inherited and the rounds make of the node.
+    ensures worked_out { OnOk result (IsWorkedOut has_quit has_answered (R.meanings (R.problem problem.old)) rounds
+        inherited.now advisors.old.items advisors.new.items (plan_in best.old) (plan_in best.new) work.old work.new) }
 {
     work.inherit(alloc, problem, inherited, best)?;
     if !work.is_open(best) {

@@ -84,7 +84,7 @@ impl Work {
     pub(crate) fn look<'a, R: Relaxation>(&'a self, problem: &R, shown: &'a Shown) -> Look<'a>
         requires sizes { shown.now.sizes.items ≡ map size_of self.now.region }
         requires slacks { AreSlacks (R.meanings (R.problem problem.now)) self.now.last.picks shown.now.slacks }
-        ensures { IsLookAt (R.meanings (R.problem problem.now)) self.now shown.now result }
+        ensures { IsLookAt (R.meanings (R.problem problem.now)) shown.now.rounds self.now result }
     {
         Look {
             round: shown.rounds,

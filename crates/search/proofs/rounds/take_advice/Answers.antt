@@ -1,5 +1,9 @@
-use Rattle.std.proofs.Common.{◌≡◌, ◌<◌, ◌+◌, ◌^◌, false, length, subst, sym, arith}
+use Rattle.std.proofs.Common.{◌≡◌, ◌<◌, ◌+◌, ◌^◌, false, length, refl, subst, sym, ◌∙◌, arith, rules}
+use Rattle.std.proofs.lemmas.Bool.{true≢false}
+use Rattle.search.specs.Conclusions.{plan_in}
+use Rattle.search.specs.NodesInWork.{IsTakenUp}
 use Rattle.search.proofs.Asking.{asked_here, asked_one, same_but_asked}
+use Rattle.search.proofs.Hearing.{stays_on}
 use Rattle.search.proofs.rounds.take_advice.Goals as goal
 
 pub ask-requires-clause-stays : goal.ask-requires-clause-stays
@@ -48,3 +52,31 @@ pub returns-else-ne-clause-asked : goal.returns-else-ne-clause-asked
 returns-else-ne-clause-asked g c =
     asked_here _ _ c.args.advisors.now.items c.args.place c.index_mut.result.now c.ask.new.advisor c.requires.ask.within c.index_mut.ensures.value
     (asked_one 1 _ _ _ _ (omega arith) c.ask.ensures.asked (subst (λ b. (goal.Advisor-dyn g (b.vtable, b.value)).has_quit b.value ≡ false) (sym c.index_mut.ensures.value) (c.requires.ask.stays c.index_mut.result.now)))
+
+pub returns-in_ok-take_up-clause-heard : goal.returns-in_ok-take_up-clause-heard
+returns-in_ok-take_up-clause-heard g c = record {
+  advisor = c.ask.new.advisor;
+  word = c.in_ok-word.word;
+  proposal = c.ask.new.advice.proposal;
+  answered = c.in_ok-word.ensures.answered;
+  advisors = refl;
+  enough = c.in_ok-word.ensures.has_enough;
+  used = record {
+    taken_up = λ stays. subst (λ p. IsTakenUp (g.R.Relaxation.meanings p) (plan_in c.args.best.now) (plan_in c.take_up.new.best) c.ask.new.advice.proposal c.args.work.now c.take_up.new.self) c.ask.ensures.same c.in_ok-take_up.ensures.taken_up;
+    left = λ quit. absurd (true≢false (sym quit ∙ (c.in_ok-word.ensures.quit ∙ stays_on c.in_ok-word.word (sym c.ne.ensures ∙ c.if-ne.true))));
+  };
+}
+
+pub returns-else-ne-clause-heard : goal.returns-else-ne-clause-heard
+returns-else-ne-clause-heard g c = record {
+  advisor = c.ask.new.advisor;
+  word = c.in_ok-word.word;
+  proposal = c.ask.new.advice.proposal;
+  answered = c.in_ok-word.ensures.answered;
+  advisors = refl;
+  enough = c.in_ok-word.ensures.has_enough;
+  used = record {
+    taken_up = λ stays. search rules;
+    left = λ quit. (refl, refl);
+  };
+}

@@ -1,4 +1,4 @@
-use Rattle.std.proofs.Common.{◌≡◌, true, OnOk, IfOk, subst, sym, ap, ◌∙◌}
+use Rattle.std.proofs.Common.{◌≡◌, true, OnOk, IfOk, refl, subst, sym, ap, ◌∙◌}
 use Rattle.std.proofs.lemmas.Result.{on_ok_weaker}
 use Rattle.branch_tree.specs.Claims.{is_open}
 use Rattle.search.specs.declared.nodes.SearchNode.TheVariants.{Fixed}
@@ -9,10 +9,10 @@ use Rattle.search.specs.Nodes.{IsLeafOf, tree_node}
 use Rattle.search.specs.Questions.{AreAsked, in_rounds}
 use Rattle.search.specs.Offers.{IsOffered}
 use Rattle.search.specs.Conclusions.{plan_in}
-use Rattle.search.specs.NodesInWork.{HasInherited, IsWorkedOn}
+use Rattle.search.specs.NodesInWork.{IsWorkedOn}
 use Rattle.search.proofs.Asking.{are_unasked}
 use Rattle.search.proofs.Evaluating.{is_ending, offered_again}
-use Rattle.search.specs.Putting.{IsMade, IsNumbered}
+use Rattle.search.specs.Putting.{IsMade, IsNumbered, IsWorkedOut}
 use Rattle.search.proofs.Placing.{begun, ended_leaf, ended_not_open, leaf_made_from, left_open_made, numbered_from}
 use Rattle.search.proofs.Returning.{if_ok_and, on_ok_and, on_ok_both, on_ok_known}
 use Rattle.search.proofs.solving.make_node.Goals as goal
@@ -94,7 +94,7 @@ returns-in_ok-work-in-Open-clause-least g c =
     (λ least opens. least (left_open_made best c.args.number c.work_on-worked.new.work c.into_node.result c.into_node.ensures opens)) c.work_on-worked.ensures.least))
 
 pub returns-in-Ended-clause-made : goal.returns-in-Ended-clause-made
-returns-in-Ended-clause-made g c = λ no_rounds.
+returns-in-Ended-clause-made g c =
     let problem = g.R.Relaxation.meanings (g.R.Relaxation.problem c.args.problem.now) in
     let best = plan_in c.evaluate.new.best in
     record {
@@ -102,17 +102,20 @@ returns-in-Ended-clause-made g c = λ no_rounds.
       outcome = Ended c.in-Ended.ending;
       first = subst (λ entries. IsOutcome problem c.args.region entries best (Ended c.in-Ended.ending)) c.in_ok-none.ensures
           (subst (λ outcome. IsOutcome problem c.args.region c.in_ok-none.none best outcome) c.in-Ended.is c.in_ok-outcome.ensures.outcome);
-      after = ap Fixed c.into_leaf.ensures;
+      after = (ap Fixed c.into_leaf.ensures, refl, refl);
     }
 
 pub returns-in_ok-work-in-Open-clause-made : goal.returns-in_ok-work-in-Open-clause-made
-returns-in_ok-work-in-Open-clause-made g c = λ no_rounds.
+returns-in_ok-work-in-Open-clause-made g c =
     let problem = g.R.Relaxation.meanings (g.R.Relaxation.problem c.args.problem.now) in
+    let first = c.args.advisors.now.items in
+    let last = c.work_on-worked.new.advisors.items in
     let best = plan_in c.evaluate.new.best in
     let after = plan_in c.work_on-worked.new.best in
     let inherited = c.args.inherited.now in
-    subst (λ result. IfOk result (IsMade problem after c.args.region inherited c.args.number)) (sym c.and.ensures)
-    (if_ok_and (IsMade problem after c.args.region inherited c.args.number) c.work_on-worked.result c.into_node.result
+    let Made = IsMade (λ b. (goal.Advisor-dyn g (b.vtable, b.value)).has_quit b.value) (λ b. (goal.Advisor-dyn g (b.vtable, b.value)).has_answered b.value) problem c.args.rounds first last after c.args.region inherited c.args.number in
+    subst (λ result. IfOk result Made) (sym c.and.ensures)
+    (if_ok_and Made c.work_on-worked.result c.into_node.result
     (on_ok_weaker c.work_on-worked.result (λ given. record {
       middle = best;
       outcome = Open c.in-Open.evaluation;
@@ -120,8 +123,9 @@ returns-in_ok-work-in-Open-clause-made g c = λ no_rounds.
           (subst (λ outcome. IsOutcome problem c.args.region c.in_ok-none.none best outcome) c.in-Open.is c.in_ok-outcome.ensures.outcome);
       after = (
         c.work_on-worked.new.work,
-        subst (λ work. HasInherited problem best after inherited work c.work_on-worked.new.work) c.in_ok-work-in-Open.ensures
-            (subst (λ p. HasInherited (g.R.Relaxation.meanings p) best after inherited c.in_ok-work-in-Open.work c.work_on-worked.new.work) c.evaluate.ensures.same given),
+        subst (λ work. IsWorkedOut (λ b. (goal.Advisor-dyn g (b.vtable, b.value)).has_quit b.value) (λ b. (goal.Advisor-dyn g (b.vtable, b.value)).has_answered b.value) problem c.args.rounds inherited first last best after work c.work_on-worked.new.work) c.in_ok-work-in-Open.ensures
+            (subst (λ p. IsWorkedOut (λ b. (goal.Advisor-dyn g (b.vtable, b.value)).has_quit b.value) (λ b. (goal.Advisor-dyn g (b.vtable, b.value)).has_answered b.value) (g.R.Relaxation.meanings p) c.args.rounds inherited first last best after c.in_ok-work-in-Open.work c.work_on-worked.new.work)
+            c.evaluate.ensures.same given),
         c.into_node.ensures,
       );
-    }) (c.work_on-worked.ensures.inherited no_rounds)))
+    }) c.work_on-worked.ensures.worked_out))

@@ -1,12 +1,14 @@
-use Rattle.std.proofs.Common.{◌≡◌, ℕ, length, OnOk, subst, sym, ◌∙◌, arith}
+use Rattle.std.proofs.Common.{◌≡◌, ℕ, length, replicate, false, OnOk, refl, ap, subst, sym, ◌∙◌, arith}
 use Rattle.std.proofs.lemmas.Bool.{false≢true}
 use Rattle.std.proofs.lemmas.Result.{on_ok_weaker}
 use Rattle.search.specs.NodeAdvice.{IsAdviceFor}
 use Rattle.search.specs.Offers.{IsOffered}
 use Rattle.search.specs.Conclusions.{plan_in}
-use Rattle.search.specs.NodesInWork.{HasInherited, IsWorkedOn}
+use Rattle.search.specs.NodesInWork.{IsWorkedOn}
+use Rattle.search.specs.Rounds.{AreRounds, advised}
 use Rattle.search.proofs.Asking.{are_unasked}
 use Rattle.search.proofs.Evaluating.{offered_again}
+use Rattle.search.proofs.Hearing.{rounds_unasked}
 use Rattle.search.proofs.solving.work_on.Goals as goal
 
 pub returns-in_err-inherit-clause-asked : goal.returns-in_err-inherit-clause-asked
@@ -31,13 +33,40 @@ returns-clause-offered g c =
 pub returns-clause-least : goal.returns-clause-least
 returns-clause-least g c = c.make_rounds.ensures.least
 
-pub returns-clause-inherited : goal.returns-clause-inherited
-returns-clause-inherited g c = λ none.
+pub returns-clause-worked_out : goal.returns-clause-worked_out
+returns-clause-worked_out g c =
     let problem = g.R.Relaxation.meanings (g.R.Relaxation.problem c.args.problem.now) in
-    let first = plan_in c.args.best.now in
-    on_ok_weaker c.make_rounds.result (λ same.
-    subst (λ work. HasInherited problem first (plan_in c.make_rounds.new.best) c.args.inherited.now c.args.work.now work) (sym same.0)
-    (subst (λ best. HasInherited problem first best c.args.inherited.now c.args.work.now c.inherit.new.self) (sym same.1) c.in_ok-inherit.ensures.inherited)) (c.make_rounds.ensures.none none)
+    let middle = plan_in c.inherit.new.best in
+    let last = advised c.make_rounds.new.advisors.items c.make_rounds.new.advice (plan_in c.make_rounds.new.best) c.make_rounds.new.work in
+    let count : c.len.result ≡ length c.args.advisors.now.items = omega (arith, c.len.ensures) in
+    on_ok_weaker c.make_rounds.result (λ made. record {
+      middle = middle;
+      begun = c.inherit.new.self;
+      first = c.in_ok-inherit.ensures.inherited;
+      enough = c.make_rounds.new.advice.has_enough.items;
+      asked = subst (λ p. AreRounds (λ b. (goal.Advisor-dyn g (b.vtable, b.value)).has_quit b.value) (λ b. (goal.Advisor-dyn g (b.vtable, b.value)).has_answered b.value) (g.R.Relaxation.meanings p) c.args.rounds (record {
+        advisors = c.args.advisors.now.items;
+        enough = replicate (length c.args.advisors.now.items) false;
+        best = middle;
+        work = c.inherit.new.self;
+      }) last) c.inherit.ensures.same
+          (subst (λ flags. AreRounds (λ b. (goal.Advisor-dyn g (b.vtable, b.value)).has_quit b.value) (λ b. (goal.Advisor-dyn g (b.vtable, b.value)).has_answered b.value) (g.R.Relaxation.meanings (g.R.Relaxation.problem c.inherit.new.problem)) c.args.rounds (record {
+            advisors = c.args.advisors.now.items;
+            enough = flags;
+            best = middle;
+            work = c.inherit.new.self;
+          }) last) (c.in_ok-advice.ensures.none ∙ ap (λ (n : ℕ). replicate n false) count) made);
+    }) c.make_rounds.ensures.made
+
+pub returns-then-not-is_open-clause-worked_out : goal.returns-then-not-is_open-clause-worked_out
+returns-then-not-is_open-clause-worked_out g c = record {
+  middle = plan_in c.inherit.new.best;
+  begun = c.inherit.new.self;
+  first = c.in_ok-inherit.ensures.inherited;
+  enough = replicate (length c.args.advisors.now.items) false;
+  asked = rounds_unasked (λ b. (goal.Advisor-dyn g (b.vtable, b.value)).has_quit b.value) (λ b. (goal.Advisor-dyn g (b.vtable, b.value)).has_answered b.value) (g.R.Relaxation.meanings (g.R.Relaxation.problem c.args.problem.now)) c.args.rounds
+      c.args.advisors.now.items (replicate (length c.args.advisors.now.items) false) (plan_in c.inherit.new.best) c.inherit.new.self (sym c.is_open.ensures ∙ c.if-not-is_open.true);
+}
 
 pub returns-then-not-is_open-clause-asked : goal.returns-then-not-is_open-clause-asked
 returns-then-not-is_open-clause-asked g c = are_unasked _ _ c.args.rounds c.args.advisors.now.items

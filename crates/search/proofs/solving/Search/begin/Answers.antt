@@ -59,14 +59,15 @@ returns-clause-counted g c =
     put.leaf.leaf c.put_node.ensures.asked put.done)
 
 pub returns-clause-made : goal.returns-clause-made
-returns-clause-made g c = λ none.
+returns-clause-made g c =
     let problem = g.R.Relaxation.meanings (g.R.Relaxation.problem c.args.problem.now) in
     let best = plan_in c.put_node.new.self.best in
     let put = c.in_ok-put_node.ensures.put in
-    let items : c.put_node.new.self.nodes.items ≡ put.node ∷ [] = put.nodes ∙ ap (λ before. insert before 0 put.node) c.new-2.ensures.items in (
+    let items : c.put_node.new.self.nodes.items ≡ put.node ∷ [] = put.nodes ∙ ap (λ before. insert before 0 put.node) c.new-2.ensures.items in
+    let Made = IsMade (λ b. (goal.Advisor-dyn g (b.vtable, b.value)).has_quit b.value) (λ b. (goal.Advisor-dyn g (b.vtable, b.value)).has_answered b.value) problem c.args.rounds c.args.advisors.now.items c.put_node.new.advisors.items best in (
       put.node,
       items,
-      subst (λ (number : ℕ). IsMade problem best c.args.root.now [] number put.node) (ap length c.new-2.ensures.items)
-          (subst (λ entries. IsMade problem best c.args.root.now entries (length c.new-2.result.items) put.node) c.in_ok-inherited.ensures
-          (subst (λ sets. IsMade problem best sets c.in_ok-inherited.inherited (length c.new-2.result.items) put.node) c.in_ok-root.ensures (put.made none))),
+      subst (λ (number : ℕ). Made c.args.root.now [] number put.node) (ap length c.new-2.ensures.items)
+          (subst (λ entries. Made c.args.root.now entries (length c.new-2.result.items) put.node) c.in_ok-inherited.ensures
+          (subst (λ sets. Made sets c.in_ok-inherited.inherited (length c.new-2.result.items) put.node) c.in_ok-root.ensures put.made)),
     )
