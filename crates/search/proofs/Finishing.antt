@@ -11,7 +11,7 @@ use Rattle.branch_tree.specs.declared.multipliers.Entry.{Entry}
 use Rattle.branch_tree.specs.declared.tree.Node.{Node}
 use Rattle.branch_tree.specs.declared.tree.Node.TheVariants.{Branch, CostLeaf, RayLeaf, EmptyLeaf}
 use Rattle.branch_tree.specs.Claims.{Priced, Conclusion, optimal, infeasible, plan_of, IsPlanIn, IsProved, IsProvedAt}
-use Rattle.branch_tree.specs.Claims.{IsRaisedAt, IsNotEvident, IsNotEvidentAt, IsLeast, DoBound, EndsInTime}
+use Rattle.branch_tree.specs.Claims.{IsRaisedAt, IsSettledAt, IsNotEvident, IsNotEvidentAt, IsLeast, DoBound, EndsInTime}
 use Rattle.branch_tree.specs.Claims.{HasOpenLeaf, is_open, is_below, open_leaves_of}
 use Rattle.branch_tree.specs.Meanings.{Meanings}
 use Rattle.branch_tree.specs.Trees.{Walks, Covers, IsWhole, bounds_of, branchings_of, cut_of, regions_below}
@@ -54,6 +54,7 @@ tree_of problem root best nodes is = record {
   proved = tree_walk problem.catalogue (IsPlaced problem root best) (IsProvedAt problem) (λ region node placed. placed.known.proved) (root ∷ []) nodes is.walks;
   in_time = record {
     raised = tree_walk problem.catalogue (IsPlaced problem root best) (IsRaisedAt problem) (λ region node placed. placed.known.raised) (root ∷ []) nodes is.walks;
+    settled = tree_walk problem.catalogue (IsPlaced problem root best) (IsSettledAt problem best) (λ region node placed. placed.known.settled) (root ∷ []) nodes is.walks;
     not_evident = tree_walk problem.catalogue (IsPlaced problem root best) (IsNotEvidentAt problem best) (λ region node placed opens. evident_by problem region node (placed.known.branches opens)) (root ∷ []) nodes is.walks;
   };
   has = is.plan;

@@ -10,7 +10,7 @@ use Rattle.branch_tree.specs.declared.cuts.Side.{Side}
 use Rattle.branch_tree.specs.declared.cuts.Side.TheVariants.{Left, Right}
 use Rattle.branch_tree.specs.declared.tree.Node.{Node}
 use Rattle.branch_tree.specs.declared.tree.Node.TheVariants.{Branch, CostLeaf, RayLeaf, EmptyLeaf}
-use Rattle.branch_tree.specs.Claims.{Priced, is_open, is_below, open_leaves_of}
+use Rattle.branch_tree.specs.Claims.{Priced, IsSettledAt, is_open, is_below, open_leaves_of}
 use Rattle.branch_tree.specs.Cuts.{IsProper, is_on, side_of, trip_of}
 use Rattle.branch_tree.specs.Laws.{IsDivided}
 use Rattle.branch_tree.specs.Meanings.{Meanings, IsRelaxation, DoFitFor}
@@ -30,6 +30,7 @@ use Rattle.search.specs.Ends.{made_or_open}
 use Rattle.search.specs.Nodes.{IsLeafOf, IsNodeOf, IsDivision, IsDivisionAt, IsPending, IsPlaced, IsSearched, IsWithin}
 use Rattle.search.specs.Nodes.{CanBranch, branched, cut_at, tree_node, tree_nodes}
 use Rattle.search.specs.Offers.{HasCheaperIn, HasPlanIn, IsOffered}
+use Rattle.search.proofs.Below.{no_better_on}
 use Rattle.search.proofs.Evaluating.{offered_again}
 
 -- ---- a node in its region
@@ -61,11 +62,19 @@ open_before old new dearer (CostLeaf bound multipliers) opens = dearer bound.0 o
 open_before old new dearer (RayLeaf multipliers) opens = opens
 open_before old new dearer EmptyLeaf opens = opens
 
+settled_with : (problem : Meanings) (old new : Option Priced) (region : List (List Bool)) (node : Node) → ((bound : ℤ) → is_below bound new ≡ true → is_below bound old ≡ true) → IsSettledAt problem old region node →
+    IsSettledAt problem new region node
+settled_with problem old new region (Branch cut) dearer is = is
+settled_with problem old new region (CostLeaf bound multipliers) dearer is = (is.0, is.1, no_better_on problem old new is.0 dearer is.2)
+settled_with problem old new region (RayLeaf multipliers) dearer is = is
+settled_with problem old new region EmptyLeaf dearer is = is
+
 pub node_with : (problem : Meanings) (old new : Option Priced) (region : List (List Bool)) (node : SearchNode) → ((bound : ℤ) → is_below bound new ≡ true → is_below bound old ≡ true) →
     IsNodeOf problem old region node → IsNodeOf problem new region node
 node_with problem old new region node dearer is = record {
   proved = is.proved;
   raised = is.raised;
+  settled = settled_with problem old new region (tree_node node) dearer is.settled;
   branches = λ opens. is.branches (open_before old new dearer (tree_node node) opens);
 }
 
@@ -97,7 +106,7 @@ side_placed problem root region best cut side node proper over within is = recor
 branch_placed : (problem : Meanings) (root region : List (List Bool)) (best : Option Priced) (cut : Cut) → IsProper problem.catalogue region cut → IsOver problem.trips problem.catalogue region → IsWithin root region →
     IsPlaced problem root best region (Fixed (Branch cut))
 branch_placed problem root region best cut proper over within = record {
-  known = record { proved = record { proper = proper; fitting = tt; bound = tt; ray = tt; empty = tt }; raised = tt; branches = λ opens. absurd (let no : false ≡ true = opens in cc) };
+  known = record { proved = record { proper = proper; fitting = tt; bound = tt; ray = tt; empty = tt }; raised = tt; settled = tt; branches = λ opens. absurd (let no : false ≡ true = opens in cc) };
   over = over;
   within = within;
 }

@@ -18,7 +18,7 @@ use Rattle.search.specs.declared.nodes.SearchNode.TheVariants.{Fixed}
 use Rattle.search.specs.declared.work.Work.{Work}
 use Rattle.search.specs.Evaluations.{AreSettled, IsEnding, IsEvaluated, leaf_of}
 use Rattle.search.specs.Nodes.{IsLeafOf, tree_node}
-use Rattle.search.proofs.Below.{below_less}
+use Rattle.search.proofs.Below.{below_less, no_better}
 use Rattle.search.specs.NodesInWork.{IsWorkedOn, ended_by, is_left_open, left_by, node_by, node_from}
 use Rattle.search.specs.Putting.{IsNumbered}
 
@@ -57,6 +57,7 @@ module _ (problem : Meanings) (region : List (List Bool)) (best : Option Priced)
     kept = is;
     last = is;
     first = subst (λ entries. IsChainValue problem region entries Cost value.0) none (chain_of problem region (record { value = value; multipliers = multipliers; picks = picks }) is);
+    settled = no_better problem region best picks settled;
     raised = omega (arith, ints);
     not_evident = not_evident_by value picks (subst (λ entries. IsEvaluated problem region (record { value = value; multipliers = entries; picks = picks })) none is) settled;
     ended = tt;
@@ -70,11 +71,11 @@ module _ (problem : Meanings) (region : List (List Bool)) (best : Option Priced)
   pub ended_leaf : (ending : Ending) → IsEnding problem region ending → IsLeafOf problem best region (Fixed (leaf_of ending))
   ended_leaf Empty is = record {
     leaf = refl;
-    known = record { proved = record { proper = tt; fitting = tt; bound = tt; ray = tt; empty = is }; raised = tt; branches = λ opens. absurd (both_ways false refl opens) };
+    known = record { proved = record { proper = tt; fitting = tt; bound = tt; ray = tt; empty = is }; raised = tt; settled = tt; branches = λ opens. absurd (both_ways false refl opens) };
   }
   ended_leaf (Ray multipliers) is = record {
     leaf = refl;
-    known = record { proved = record { proper = tt; fitting = is.0; bound = tt; ray = is.1; empty = tt }; raised = tt; branches = λ opens. absurd (both_ways false refl opens) };
+    known = record { proved = record { proper = tt; fitting = is.0; bound = tt; ray = is.1; empty = tt }; raised = tt; settled = tt; branches = λ opens. absurd (both_ways false refl opens) };
   }
 
 -- a leaf with a bound
@@ -85,6 +86,7 @@ bound_leaf problem best number work is true e = record {
   known = record {
     proved = record { proper = tt; fitting = is.kept.fits; bound = chain_of problem work.region work.kept is.kept; ray = tt; empty = tt };
     raised = (work.first.0, is.first, is.raised);
+    settled = (work.kept.picks, is.kept.choice, is.settled);
     branches = λ opens. record { own = refl; choice = is.kept.choice; not_evident = is.not_evident (below_less work.first.0 work.kept.value.0 best is.raised opens) };
   };
 }
@@ -93,6 +95,7 @@ bound_leaf problem best number work is false e = record {
   known = record {
     proved = record { proper = tt; fitting = is.kept.fits; bound = chain_of problem work.region work.kept is.kept; ray = tt; empty = tt };
     raised = (work.first.0, is.first, is.raised);
+    settled = (work.kept.picks, is.kept.choice, is.settled);
     branches = λ opens. absurd (both_ways (is_below work.kept.value.0 best) e opens);
   };
 }

@@ -2,7 +2,7 @@
 use Rattle.std.proofs.Common.{◌≡◌, ℕ, List, sym, subst, Bool, true, false, if◌then◌else◌, Option, refl, arith, ◌≤ℤ◌, ◌<ℤ◌, int_lt}
 use Rattle.std.proofs.lemmas.Int.{ints}
 use Rattle.branch_tree.specs.declared.cuts.Cut.{Cut}
-use Rattle.branch_tree.specs.Claims.{Priced}
+use Rattle.branch_tree.specs.Claims.{Priced, IsNoBetter}
 use Rattle.branch_tree.specs.declared.multipliers.Entry.{Entry}
 use Rattle.branch_tree.specs.Entries.{DoFit}
 use Rattle.branch_tree.specs.Meanings.{Meanings, DoFitFor}
@@ -10,10 +10,10 @@ use Rattle.advisors.specs.Proposed.{Proposed}
 use Rattle.advisors.specs.Proposals.{DoesFit}
 use Rattle.search.specs.declared.evaluation.Evaluation.{Evaluation}
 use Rattle.search.specs.declared.work.Work.{Work}
-use Rattle.search.specs.Evaluations.{IsEvaluated}
+use Rattle.search.specs.Evaluations.{AreSettled, IsEvaluated}
 use Rattle.search.specs.Offers.{IsOffered}
 use Rattle.search.specs.NodesInWork.{IsWorkedOn, learned}
-use Rattle.search.proofs.Below.{lower}
+use Rattle.search.proofs.Below.{lower, no_better, no_better_on}
 
 -- the multipliers of a proposal for a problem's indices fit the problem
 pub fits_for : (problem : Meanings) (proposal : Proposed) (multipliers : List Entry) → proposal.indices ≡ problem.indices → proposal.free_from ≡ problem.free_from →
@@ -28,30 +28,34 @@ worked_with_cut problem best work cut is = record {
   kept = is.kept;
   last = is.last;
   first = is.first;
+  settled = is.settled;
   raised = is.raised;
   not_evident = is.not_evident;
   ended = is.ended;
 }
 
 -- the better evaluation of two
-record IsBetter (problem : Meanings) (work : Work) (kept : Evaluation) : Type 0 where
+record IsBetter (problem : Meanings) (best : Option Priced) (work : Work) (kept : Evaluation) : Type 0 where
   is : IsEvaluated problem work.region kept
+  settled : IsNoBetter problem best kept.picks
   raised : work.first.0 ≤ℤ kept.value.0
 
-better : (problem : Meanings) (best : Option Priced) (work : Work) (evaluation : Evaluation) → IsWorkedOn problem best work → IsEvaluated problem work.region evaluation →
-    (greater : Bool) → int_lt work.kept.value.0 evaluation.value.0 ≡ greater → IsBetter problem work (if greater then evaluation else work.kept)
-better problem best work evaluation is evaluated true e =
+better : (problem : Meanings) (old new : Option Priced) (work : Work) (evaluation : Evaluation) → IsWorkedOn problem old work → IsEvaluated problem work.region evaluation → AreSettled problem work.region new evaluation.picks →
+    IsOffered problem work.region old new → (greater : Bool) → int_lt work.kept.value.0 evaluation.value.0 ≡ greater → IsBetter problem new work (if greater then evaluation else work.kept)
+better problem old new work evaluation is evaluated settled offered true e =
     let above : work.kept.value.0 <ℤ evaluation.value.0 = lower work.kept.value.0 evaluation.value.0 e in
-    record { is = evaluated; raised = omega (arith, ints, is.raised) }
-better problem best work evaluation is evaluated false e = record { is = is.kept; raised = is.raised }
+    record { is = evaluated; settled = no_better problem work.region new evaluation.picks settled; raised = omega (arith, ints, is.raised) }
+better problem old new work evaluation is evaluated settled offered false e =
+    record { is = is.kept; settled = no_better_on problem old new work.kept.picks offered.no_dearer is.settled; raised = is.raised }
 
 pub worked_after : (problem : Meanings) (old new : Option Priced) (work : Work) (evaluation : Evaluation) → IsWorkedOn problem old work → IsEvaluated problem work.region evaluation →
-    IsOffered problem work.region old new → IsWorkedOn problem new (learned work evaluation)
-worked_after problem old new work evaluation is evaluated offered =
-    let kept : IsBetter problem work (if int_lt work.kept.value.0 evaluation.value.0 then evaluation else work.kept) =
-    better problem old work evaluation is evaluated (int_lt work.kept.value.0 evaluation.value.0) refl in
+    AreSettled problem work.region new evaluation.picks → IsOffered problem work.region old new → IsWorkedOn problem new (learned work evaluation)
+worked_after problem old new work evaluation is evaluated settled offered =
+    let kept : IsBetter problem new work (if int_lt work.kept.value.0 evaluation.value.0 then evaluation else work.kept) =
+    better problem old new work evaluation is evaluated settled offered (int_lt work.kept.value.0 evaluation.value.0) refl in
     record {
       kept = kept.is;
+      settled = kept.settled;
       last = evaluated;
       first = is.first;
       raised = kept.raised;

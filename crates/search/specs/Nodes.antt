@@ -8,7 +8,8 @@ use Rattle.branch_tree.specs.declared.tree.Node.{Node}
 use Rattle.branch_tree.specs.declared.tree.Node.TheVariants.{Branch, CostLeaf}
 use Rattle.branch_tree.specs.declared.relaxation.Weight.TheVariants.{Cost}
 use Rattle.branch_tree.specs.Bounds.{IsChoice}
-use Rattle.branch_tree.specs.Claims.{Priced, IsProvedAt, IsRaisedAt, IsNotEvident, is_below, is_open}
+use Rattle.branch_tree.specs.Claims.{Priced, IsProvedAt, IsRaisedAt, IsSettledAt, IsNotEvident, is_below}
+use Rattle.branch_tree.specs.Claims.{is_open}
 use Rattle.branch_tree.specs.Cuts.{side_of, IsProper}
 use Rattle.branch_tree.specs.Meanings.{Meanings, DoFitFor}
 use Rattle.branch_tree.specs.Regions.{IsOver, are_in, set_at}
@@ -43,6 +44,7 @@ pub record IsNodeOf (problem : Meanings) (best : Option Priced) (region : List (
     Type 0 where
   pub proved : IsProvedAt problem region (tree_node node)
   pub raised : IsRaisedAt problem region (tree_node node)
+  pub settled : IsSettledAt problem best region (tree_node node)
   pub branches : is_open best (tree_node node) ≡ true → CanBranch problem region node
 
 -- a leaf over a region

@@ -5,7 +5,7 @@ use Rattle.branch_tree.specs.declared.cuts.Cut.{Cut}
 use Rattle.branch_tree.specs.declared.multipliers.Entry.{Entry}
 use Rattle.branch_tree.specs.declared.relaxation.Weight.TheVariants.{Cost}
 use Rattle.branch_tree.specs.Bounds.{IsChainValue}
-use Rattle.branch_tree.specs.Claims.{Priced, IsNotEvident, is_below}
+use Rattle.branch_tree.specs.Claims.{Priced, IsNoBetter, IsNotEvident, is_below}
 use Rattle.branch_tree.specs.Meanings.{Meanings}
 use Rattle.branch_tree.specs.declared.tree.Node.TheVariants.{CostLeaf}
 use Rattle.advisors.specs.Proposed.{Proposed}
@@ -19,12 +19,13 @@ use Rattle.search.specs.declared.work.Work.{Work}
 use Rattle.search.specs.Evaluations.{IsEnding, IsEvaluated, IsOutcome, leaf_of}
 
 -- What is known of a node in work: its kept and its last evaluation are of its region, its first value is the chain
--- value with no multipliers, and its end, where it has one, is one of its region. The kept value is at least the first
--- one; and where that leaves room for a better solution, the end of the region is not evident.
+-- value with no multipliers, and its end, where it has one, is one of its region. The kept picks are no better than the
+-- best solution. The kept value is at least the first one; and where that leaves room for a better solution, the end of the region is not evident.
 pub record IsWorkedOn (problem : Meanings) (best : Option Priced) (work : Work) : Type 0 where
   pub kept : IsEvaluated problem work.region work.kept
   pub last : IsEvaluated problem work.region work.last
   pub first : IsChainValue problem work.region [] Cost work.first.0
+  pub settled : IsNoBetter problem best work.kept.picks
   pub raised : work.first.0 ≤ℤ work.kept.value.0
   pub not_evident : is_below work.first.0 best ≡ true → IsNotEvident problem work.region
   pub ended : MatchOption work.end (Unit {0}) (IsEnding problem work.region)

@@ -11,4 +11,4 @@ returns-in_ok-learn-in-Open-clause-worked g c =
     let best = plan_in c.evaluate.new.best in
     let outcome = subst (λ outcome. IsOutcome problem c.args.self.now.region c.args.multipliers best outcome) c.in-Open.is c.in_ok-ending.ensures.outcome in
     subst (λ work. IsWorkedOn problem best work) (sym c.in_ok-learn-in-Open.ensures)
-    (worked_after problem (plan_in c.args.best.now) best c.args.self.now c.in-Open.evaluation c.requires.worked outcome.0 c.in_ok-ending.ensures.offered)
+    (worked_after problem (plan_in c.args.best.now) best c.args.self.now c.in-Open.evaluation c.requires.worked outcome.0 outcome.2 c.in_ok-ending.ensures.offered)
