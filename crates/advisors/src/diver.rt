@@ -41,6 +41,9 @@ impl Advisor for Diver {
 
     ghost has_quit = { λ _. false };
 
+    /// It is told from a `Subgradient`, and from an advisor that says nothing of its identity.
+    ghost identity = { λ _. 2 };
+
     /// Proposes the cut of the first trip with the fewest compositions left, more than one, and answers `Enough`. Where
     /// no trip has more than one it proposes nothing. It was asked fewer than 2^64 - 1 times, and takes no memory.
     fn advise(&mut self, look: &Look<'_>, to: &mut Proposal) -> Result<Word, NoMemory>

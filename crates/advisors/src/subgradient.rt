@@ -41,6 +41,9 @@ impl Advisor for Subgradient {
 
     ghost has_quit = { λ _. false };
 
+    /// It is told from a `Diver`, and from an advisor that says nothing of its identity.
+    ghost identity = { λ _. 1 };
+
     /// Proposes the last multipliers, moved by the step times the slack at each index that has one, kept within 10^12
     /// in size, and at 0 where they may not be negative and would be. They are put by rising index, and one for which
     /// there is no room is left out. It answers `More`; without slacks it proposes nothing and answers `Enough`. It was
