@@ -160,6 +160,7 @@ module _ (day : Day) (accepted : IsAccepted day) (served : HaveCompositions day)
         record {
           holds = valid_answers_are_true day answer (relaxes day accepted) comps valid;
           valid = valid;
+          named = says.named;
           branchings = says.branchings;
           granted = subst (λ (nodes : List Node). branchings_of nodes ≤ granted) (sym says.tree) solved.granted;
           spent = spent;

@@ -1,6 +1,8 @@
 -- How an answer says what a search has found.
-use Rattle.std.specs.Prelude.{ℕ, ◌≡◌, List, [], false, MatchOption}
+use Rattle.std.specs.Prelude.{ℕ, ◌≡◌, List, [], false, IsTrue, MatchOption}
+use Rattle.inventory.specs.NamedUnits.{named_plan}
 use Rattle.timetable.specs.Day.{Day}
+use Rattle.timetable.specs.Picks.{picked}
 use Rattle.branch_tree.specs.Claims.{IsPlanIn}
 use Rattle.branch_tree.specs.Regions.{root_of}
 use Rattle.branch_tree.specs.Trees.{KeepLimits, branchings_of}
@@ -20,6 +22,8 @@ IsPlanFound day found =
 pub record SaysFound (day : Day) (found : Found) (answer : Answer) : Type 0 where
   pub picks : List ℕ
   pub planned : HasPicks day answer picks
+  -- the units of the plan, where there is one, are named by the rule
+  pub named : IsTrue (has_plan answer.head) → answer.runs ≡ named_plan day (picked day picks)
   pub concludes : conclusion_of answer.head picks ≡ search.conclusion_of found
   pub branchings : answer.branchings ≡ branchings_of answer.tree
   pub tree : answer.tree ≡ search.nodes_found found

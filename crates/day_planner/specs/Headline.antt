@@ -1,13 +1,15 @@
 -- What is said with an answer to a day that was planned.
-use Rattle.std.specs.Prelude.{ℕ, ◌+◌, ◌≤◌, ◌≡◌, List, [], Option, None, IsSome}
+use Rattle.std.specs.Prelude.{ℕ, ◌+◌, ◌≤◌, ◌≡◌, List, [], Option, None, IsSome, IsTrue}
 use Rattle.rail_base.specs.declared.limits.TheConstants.{MOST_NODES}
+use Rattle.inventory.specs.NamedUnits.{named_plan}
 use Rattle.timetable.specs.Day.{Day}
+use Rattle.timetable.specs.Picks.{picked}
 use Rattle.branch_tree.specs.Claims.{EndsInTime, HasOpenLeaf, Priced, open_leaves_of, plan_of}
 use Rattle.branch_tree.specs.Regions.{choices_of, root_of}
 use Rattle.branch_tree.specs.Trees.{branchings_of}
 use Rattle.price_bound.specs.DayMeanings.{meanings_of}
 use Rattle.answer_text.specs.declared.answer.Answer.{Answer}
-use Rattle.answer_text.specs.Limits.{IsWithin}
+use Rattle.answer_text.specs.Limits.{IsWithin, has_plan}
 use Rattle.answer_check.specs.Validity.{IsTrueOf, IsValid, bound_said, conclusion_of}
 
 -- the plan of an answer, where it has one, by these picks
@@ -25,6 +27,8 @@ pub record IsHeadline (day : Day) (grant : ℕ) (answer : Answer) : Type 0 where
   pub holds : IsTrueOf day answer
   -- the tree proves what the head says
   pub valid : IsValid day answer
+  -- the units of the plan, where the answer has one, are named by the rule
+  pub named : IsTrue (has_plan answer.head) → answer.runs ≡ named_plan day (picked day valid.picks)
   -- the branchings that are said are those of the tree
   pub branchings : answer.branchings ≡ branchings_of answer.tree
   -- no more branchings were made than were granted
@@ -35,7 +39,8 @@ pub record IsHeadline (day : Day) (grant : ℕ) (answer : Answer) : Type 0 where
   pub left_open : IsSome (bound_said answer.head) → HasOpenLeaf (plan_said answer valid.picks) answer.tree
   -- `bounded` never comes where as many branchings are granted as the trips have choices of compositions, less one
   pub enough : choices_of (root_of day) ≤ grant + 1 → bound_said answer.head ≡ None
-  -- no open leaf has an evident end, and no bound is below the one without multipliers
+  -- no bound is below the one without multipliers, what a bound finds is no plan cheaper than that of the answer, and no
+  -- open leaf has an evident end
   pub evident : EndsInTime (meanings_of day) (root_of day) (plan_said answer valid.picks) answer.tree
   -- its text can be read again
   pub within : IsWithin MOST_NODES answer

@@ -2,7 +2,8 @@
 
 ghost use Rattle.std.specs.Prelude.{ℕ, List, ◌≡◌, ◌≤◌, ◌+◌, ◌*◌, ◌^◌, [], All, IfOk};
 ghost use Rattle.rail_base.specs.declared.limits.TheConstants.{MOST_BRANCHINGS, MOST_ROUNDS};
-ghost use Rattle.timetable.specs.Picks.{IsSolution};
+ghost use Rattle.inventory.specs.NamedUnits.{named_plan};
+ghost use Rattle.timetable.specs.Picks.{IsSolution, picked};
 ghost use Rattle.transitions.specs.Edges.{AreGraphs};
 ghost use Rattle.branch_tree.specs.Claims.{open_leaves_of};
 ghost use Rattle.branch_tree.specs.Regions.{root_of};
@@ -191,7 +192,8 @@ fn runs_for(
 ) -> Result<Runs, NoMemory>
     requires graphs { AreGraphs instance.now graphs.now }
     requires solution { IsSolution instance.now picks.now }
-    ensures { IfOk result (λ runs. RunsByPicks instance.now runs picks.now) }
+    ensures by_picks { IfOk result (λ runs. RunsByPicks instance.now runs picks.now) }
+    ensures named { IfOk result (λ runs. runs ≡ named_plan instance.now (picked instance.now picks.now)) }
 {
     match name_units(alloc, instance, graphs, picks) {
         Ok(plan) => runs_of(alloc, &plan),
