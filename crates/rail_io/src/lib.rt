@@ -3,6 +3,7 @@
 
 pub mod disk;
 pub mod folder;
+pub mod laws;
 pub mod memory;
 pub mod sink;
 pub mod sure;
