@@ -12,5 +12,5 @@ of_more more (CannotRead read) of = more read of
 of_more more (Refused (TooLong read)) of = more read of
 of_more more (Refused (WrongTable read why)) of = (more read of.0, of.1, of.2, of.3)
 of_more more (Refused (NoDay why)) of = of
-of_more more (Refused (NoPlan why)) of = (more table.Plan of.0, of.1, of.2, of.3, of.4, of.5)
+of_more more (Refused (NoPlan why)) of = (more table.Plan of.0, of.1, of.2, of.3, of.4, of.5, of.6)
 of_more more NoMemory of = tt

@@ -8,7 +8,9 @@ use Rattle.rail_csv.specs.declared.rows.Table.{Table}
 use Rattle.rail_csv.specs.declared.rows.Table.TheVariants.{Plan}
 use Rattle.timetable.specs.declared.building.tables.Tables.{Tables}
 use Rattle.timetable.specs.Day.{Day}
+use Rattle.timetable.specs.Build as build
 use Rattle.timetable.specs.Build.{day_of}
+use Rattle.timetable.specs.Plans as plans
 use Rattle.timetable.specs.Plans.{plan_of}
 use Rattle.day_files.specs.declared.errors.Refusal.{Refusal}
 use Rattle.day_files.specs.declared.errors.Refusal.TheVariants.{TooLong, WrongTable, NoDay, NoPlan}
@@ -57,16 +59,18 @@ pub record AreRefused (table : Table) (bytes : List ℕ) (why : TableRefusal) : 
 -- What an error says whatever the folder tells, where a call reads these tables: a file that could not be read, that is
 -- too long or that is refused as it stands, is one of theirs; of a refusal but that of a file that is too long, some
 -- bytes are no such table, some tables make no day, or some rows no plan of a day that tables make, for the reason that
--- is told, where rows keep within the ranges of their columns; and no refusal of a table is want of memory. Want of
--- memory says nothing.
+-- is told, where rows keep within the ranges of their columns; and no refusal is want of memory. Want of memory says
+-- nothing.
 abbrev pub IsErrorOf : (Table → Type 0) → ReadError → Type 0
 IsErrorOf AreRead (CannotRead table) = AreRead table
 IsErrorOf AreRead (Refused (TooLong table)) = AreRead table
 IsErrorOf AreRead (Refused (WrongTable table why)) =
     AreRead table × (is_memory why ≡ false) × (bytes : List ℕ) × AreRefused table bytes why
-IsErrorOf AreRead (Refused (NoDay why)) = (tables : Tables) × AreTables tables × (day_of tables ≡ Err why)
+IsErrorOf AreRead (Refused (NoDay why)) =
+    (build.is_memory why ≡ false) × (tables : Tables) × AreTables tables × (day_of tables ≡ Err why)
 IsErrorOf AreRead (Refused (NoPlan why)) =
-    AreRead Plan × (day : Day) × IsMadeDay day × (rows : List PlanRow) × ArePlanRows rows × (plan_of day rows ≡ Err why)
+    AreRead Plan × (plans.is_memory why ≡ false) × (day : Day) × IsMadeDay day × (rows : List PlanRow)
+    × ArePlanRows rows × (plan_of day rows ≡ Err why)
 IsErrorOf AreRead NoMemory = ⊤
 
 -- what the refusal of a table comes to
