@@ -12,8 +12,13 @@ use Rattle.rail_base.specs.declared.limits.TheConstants.{MOST_WEIGHT}
 use Rattle.rail_base.specs.declared.limits.TheConstants.{MOST_COMPOSITION, MOST_COMPOSITIONS, MOST_EXCHANGED}
 use Rattle.rail_base.specs.declared.limits.TheConstants.{MOST_UNITS}
 use Rattle.rail_base.specs.declared.limits.TheConstants.{MOST_ENTRIES, MOST_MULTIPLIER, MOST_NODES}
+use Rattle.rail_csv.specs.declared.limits.TheConstants.{LAST_HOUR, LAST_MINUTE_OF_AN_HOUR, MINUTES_OF_AN_HOUR}
+use Rattle.rail_csv.specs.declared.limits.TheConstants.{MOST_NUMBER_DIGITS}
+use Rattle.rail_csv.specs.declared.limits.TheConstants.{FEWEST_TYPE_COLUMNS, FEWEST_STATION_COLUMNS}
+use Rattle.rail_csv.specs.declared.limits.TheConstants.{FEWEST_STOCK_COLUMNS, FEWEST_TRIP_COLUMNS, FEWEST_LINK_COLUMNS}
+use Rattle.rail_csv.specs.declared.limits.TheConstants.{FEWEST_WEIGHT_COLUMNS, FEWEST_PLAN_COLUMNS}
 use Rattle.price_bound.specs.declared.sizes.TheConstants.{MOST_VALUE}
-use Rattle.answer_text.specs.declared.limits.TheConstants.{MOST_AMOUNT, MOST_INDEX}
+use Rattle.answer_text.specs.declared.limits.TheConstants.{MOST_AMOUNT, MOST_DIGITS, MOST_INDEX}
 
 -- the rows of each table
 pub record AreRowLimits : Type 0 where
@@ -24,6 +29,23 @@ pub record AreRowLimits : Type 0 where
   pub links : MOST_LINKS ≡ 400
   pub weights : MOST_WEIGHT_ROWS ≡ 1
   pub plan : MOST_PLAN_ROWS ≡ 400
+
+-- the columns of the first version of each table, which are the fewest that a header may have
+pub record AreHeaderLimits : Type 0 where
+  pub types : FEWEST_TYPE_COLUMNS ≡ 5
+  pub stations : FEWEST_STATION_COLUMNS ≡ 3
+  pub stock : FEWEST_STOCK_COLUMNS ≡ 4
+  pub trips : FEWEST_TRIP_COLUMNS ≡ 7
+  pub links : FEWEST_LINK_COLUMNS ≡ 8
+  pub weights : FEWEST_WEIGHT_COLUMNS ≡ 3
+  pub plan : FEWEST_PLAN_COLUMNS ≡ 2
+
+-- the digits of a number, and the hours and minutes of a time
+pub record AreFieldLimits : Type 0 where
+  pub digits : MOST_NUMBER_DIGITS ≡ 9
+  pub hour : LAST_HOUR ≡ 47
+  pub minute : LAST_MINUTE_OF_AN_HOUR ≡ 59
+  pub hour_minutes : MINUTES_OF_AN_HOUR ≡ 60
 
 -- the columns of the tables
 pub record AreColumnLimits : Type 0 where
@@ -57,6 +79,7 @@ pub record AreRunLimits : Type 0 where
   pub multiplier : MOST_MULTIPLIER ≡ 1000000000000
   pub slacks : MOST_SLACKS ≡ 4000
   pub change : MOST_CHANGE ≡ 1000000
+  pub digits : MOST_DIGITS ≡ 21
   pub index : MOST_INDEX ≡ 999999
   pub amount : MOST_AMOUNT ≡ 100000000000000000000
   pub value : MOST_VALUE ≡ 100000000000000000000

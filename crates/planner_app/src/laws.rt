@@ -5,7 +5,8 @@
 ghost use Rattle.commands.specs.Limits.{AreWordLimits};
 ghost use Rattle.planner_app.specs.Laws.{HeadlinesAreReported, HeadlinesAreValid};
 ghost use Rattle.planner_app.specs.Laws.{OthersAreTold, OutcomesAreOne, SearchesAreApart};
-ghost use Rattle.planner_app.specs.Limits.{AreColumnLimits, AreDayLimits, AreRowLimits, AreRunLimits};
+ghost use Rattle.planner_app.specs.Limits.{AreColumnLimits, AreDayLimits, AreFieldLimits, AreHeaderLimits};
+ghost use Rattle.planner_app.specs.Limits.{AreRowLimits, AreRunLimits};
 
 pub use answer_check::laws::valid_answers_are_found;
 
@@ -29,9 +30,12 @@ pub fn outcomes_are_one()
     ensures others { OthersAreTold }
 {}
 
-/// The limits of tables, columns, days, words, files and answers, and what an option is that is not given, as numbers.
+/// The limits of tables, headers, fields, columns, days, words, files and answers, the minutes of an hour, and what an
+/// option is that is not given, as numbers.
 pub fn limits_are_these()
     ensures rows { AreRowLimits }
+    ensures headers { AreHeaderLimits }
+    ensures fields { AreFieldLimits }
     ensures columns { AreColumnLimits }
     ensures days { AreDayLimits }
     ensures words { AreWordLimits }

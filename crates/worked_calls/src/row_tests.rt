@@ -175,6 +175,31 @@ const VERSIONS: &[File] = &[
         bytes: b"station,platform,reallocation,first\n",
         told: "WrongHeader",
     },
+    File {
+        table: Table::Stock,
+        bytes: b"station,type,start\n",
+        told: "WrongHeader",
+    },
+    File {
+        table: Table::Trips,
+        bytes: b"trip,from,departure,to,arrival,km\n",
+        told: "WrongHeader",
+    },
+    File {
+        table: Table::Links,
+        bytes: b"kind,arriving,arriving2,departing,departing2,reverse,uncouple\n",
+        told: "WrongHeader",
+    },
+    File {
+        table: Table::Weights,
+        bytes: b"carriage,shortage\n",
+        told: "WrongHeader",
+    },
+    File {
+        table: Table::Plan,
+        bytes: b"trip\n",
+        told: "WrongHeader",
+    },
 ];
 
 /// Tables that are wrong in more than one way.
