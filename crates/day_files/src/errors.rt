@@ -3,7 +3,7 @@
 ghost use Rattle.std.specs.Prelude.{◌≡◌, IfOk, string_bytes};
 ghost use Rattle.day_files.specs.Texts.{refusal_file, refusal_text};
 
-use crate::texts::{instance_file, instance_text, plan_text, table_text, words};
+use crate::texts::{fixed_text, instance_file, instance_text, plan_text, table_text};
 use rail_base::NoMemory;
 use rail_csv::{Table, TableRefusal};
 use std::alloc::Global;
@@ -72,7 +72,7 @@ impl Refusal {
         ensures { IfOk result (λ text. string_bytes text ≡ refusal_text self.now) }
     {
         match self {
-            Refusal::TooLong(_) => words(alloc, "too long"),
+            Refusal::TooLong(_) => fixed_text(alloc, "too long"),
             Refusal::WrongTable(table, refusal) => table_text(alloc, *table, refusal),
             Refusal::NoDay(refusal) => instance_text(alloc, refusal),
             Refusal::NoPlan(refusal) => plan_text(alloc, refusal),

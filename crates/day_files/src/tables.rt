@@ -71,7 +71,7 @@ fn bytes_of<F: Folder>(
 }
 
 /// What the refusal of a table comes to.
-fn why(table: Table, refusal: TableRefusal) -> ReadError
+fn error_of(table: Table, refusal: TableRefusal) -> ReadError
     ensures value { result ≡ error_of table refusal }
     ensures says { (bytes : List ℕ) → length bytes ≤ MOST_TABLE_BYTES → IsWrong table bytes refusal
         → IsErrorOf (λ other. other ≡ table) result }
@@ -101,7 +101,7 @@ pub(crate) fn table_in<F: Folder, T: DayTable>(
     let bytes = bytes_of(alloc, folder, dir, T::table())?;
     match T::read(alloc, bytes.items()) {
         Ok(table) => Ok(table),
-        Err(refusal) => Err(why(T::table(), refusal)),
+        Err(refusal) => Err(error_of(T::table(), refusal)),
     }
 }
 

@@ -40,7 +40,7 @@ pub(crate) fn table_text(
 {
     match *refusal {
         TableRefusal::NotUtf8(row) => Ok(format!(in alloc; "row {row} is not UTF-8")?),
-        TableRefusal::WrongHeader => words(alloc, "wrong header"),
+        TableRefusal::WrongHeader => fixed_text(alloc, "wrong header"),
         TableRefusal::FieldCount { row, found } => {
             Ok(format!(in alloc; "row {row} has {found} fields")?)
         }
@@ -59,8 +59,8 @@ pub(crate) fn table_text(
         TableRefusal::BadWord { row, column } => {
             at_column(alloc, table, row, column, "not a word of this column")
         }
-        TableRefusal::TooManyRows => words(alloc, "too many rows"),
-        TableRefusal::NoRow => words(alloc, "no row"),
+        TableRefusal::TooManyRows => fixed_text(alloc, "too many rows"),
+        TableRefusal::NoRow => fixed_text(alloc, "no row"),
         TableRefusal::NoMemory => Ok(String::new(alloc)),
     }
 }
@@ -88,8 +88,8 @@ pub(crate) fn instance_text(alloc: Global, refusal: &InstanceRefusal) -> Result<
             at_row(alloc, row, "fields do not fit the kind")
         }
         InstanceRefusal::NoComposition(row) => at_row(alloc, row, "no composition fits"),
-        InstanceRefusal::TooManyUnits => words(alloc, "too many units"),
-        InstanceRefusal::TooManyCompositions => words(alloc, "too many compositions"),
+        InstanceRefusal::TooManyUnits => fixed_text(alloc, "too many units"),
+        InstanceRefusal::TooManyCompositions => fixed_text(alloc, "too many compositions"),
         InstanceRefusal::NoMemory => Ok(String::new(alloc)),
     }
 }
@@ -107,7 +107,7 @@ pub(crate) fn plan_text(alloc: Global, refusal: &PlanRefusal) -> Result<String, 
 }
 
 /// A text of fixed words.
-pub(crate) fn words(alloc: Global, text: &str) -> Result<String, NoMemory>
+pub(crate) fn fixed_text(alloc: Global, text: &str) -> Result<String, NoMemory>
     ensures { IfOk result (λ copy. string_bytes copy ≡ text.now) }
 {
     Ok(String::from_str(alloc, text)?)

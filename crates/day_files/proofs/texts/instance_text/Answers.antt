@@ -42,7 +42,7 @@ pub returns-in-NoComposition : goal.returns-in-NoComposition
 returns-in-NoComposition c = says c.args.refusal.now _ c.at_row-in-NoComposition.result c.in-NoComposition.is c.at_row-in-NoComposition.ensures
 
 pub returns-in-TooManyUnits : goal.returns-in-TooManyUnits
-returns-in-TooManyUnits c = says c.args.refusal.now _ c.words.result c.in-TooManyUnits.is c.words.ensures
+returns-in-TooManyUnits c = says c.args.refusal.now _ c.fixed_text.result c.in-TooManyUnits.is c.fixed_text.ensures
 
 pub returns-in-TooManyCompositions : goal.returns-in-TooManyCompositions
-returns-in-TooManyCompositions c = says c.args.refusal.now _ c.words-in-TooManyCompositions.result c.in-TooManyCompositions.is c.words-in-TooManyCompositions.ensures
+returns-in-TooManyCompositions c = says c.args.refusal.now _ c.fixed_text-in-TooManyCompositions.result c.in-TooManyCompositions.is c.fixed_text-in-TooManyCompositions.ensures

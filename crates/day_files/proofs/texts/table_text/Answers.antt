@@ -27,13 +27,13 @@ pub returns-in-BadWord : goal.returns-in-BadWord
 returns-in-BadWord c = says c.args.table c.args.refusal.now _ c.at_column-in-BadWord.result c.in-BadWord.is c.at_column-in-BadWord.ensures
 
 pub returns-in-WrongHeader : goal.returns-in-WrongHeader
-returns-in-WrongHeader c = says c.args.table c.args.refusal.now _ c.words.result c.in-WrongHeader.is c.words.ensures
+returns-in-WrongHeader c = says c.args.table c.args.refusal.now _ c.fixed_text.result c.in-WrongHeader.is c.fixed_text.ensures
 
 pub returns-in-TooManyRows : goal.returns-in-TooManyRows
-returns-in-TooManyRows c = says c.args.table c.args.refusal.now _ c.words-in-TooManyRows.result c.in-TooManyRows.is c.words-in-TooManyRows.ensures
+returns-in-TooManyRows c = says c.args.table c.args.refusal.now _ c.fixed_text-in-TooManyRows.result c.in-TooManyRows.is c.fixed_text-in-TooManyRows.ensures
 
 pub returns-in-NoRow : goal.returns-in-NoRow
-returns-in-NoRow c = says c.args.table c.args.refusal.now _ c.words-in-NoRow.result c.in-NoRow.is c.words-in-NoRow.ensures
+returns-in-NoRow c = says c.args.table c.args.refusal.now _ c.fixed_text-in-NoRow.result c.in-NoRow.is c.fixed_text-in-NoRow.ensures
 
 pub returns-in_ok-format-in-NotUtf8 : goal.returns-in_ok-format-in-NotUtf8
 returns-in_ok-format-in-NotUtf8 c =
