@@ -1,14 +1,16 @@
 -- Which tables make a day and which rows make a plan, decided by tests in their order; how many units are at home at a
--- station; that a day's chains are no others; what a turn keeps, gives and takes; and what has a multiplier.
-use Rattle.std.specs.Prelude.{ℕ, ◌≤◌, ◌≡◌, ◌↔◌, ◌==◌, ◌&&◌, List, Bool, Result, Ok, Err, IsOk, Some, length}
+-- station, and how many are wanted there; that a day's chains are no others; what a turn keeps, gives and takes; and
+-- what has a multiplier.
+use Rattle.std.specs.Prelude.{ℕ, ◌≤◌, ◌≡◌, ◌↔◌, ◌==◌, ◌&&◌, List, Bool, Result, Ok, Err, IsOk, Some, length, slice_get}
 use Rattle.rail_csv.specs.declared.rows.End.{End}
 use Rattle.rail_csv.specs.declared.rows.PlanRow.{PlanRow}
 use Rattle.timetable.specs.declared.building.tables.Tables.{Tables}
 use Rattle.timetable.specs.declared.day.records.LinkKind.{LinkKind}
+use Rattle.timetable.specs.declared.day.records.Stock.{Stock}
 use Rattle.timetable.specs.Accepted.{AreLinks, rows_of}
 use Rattle.timetable.specs.Build.{day_of}
 use Rattle.timetable.specs.Chains.{AreChains}
-use Rattle.timetable.specs.Day.{Day, home_of, type_of, unit_count}
+use Rattle.timetable.specs.Day.{Day, home_of, type_of, unit_count, wanted_of}
 use Rattle.timetable.specs.Indices.{HaveMultipliers, lambdas_of, places_of}
 use Rattle.timetable.specs.Lists.{count_below}
 use Rattle.timetable.specs.Meaning.{IsDayOf}
@@ -39,6 +41,18 @@ pub record PlansAreMade : Type 0 where
 abbrev pub UnitsAreAtHome : Type 0
 UnitsAreAtHome = (day : Day) (s m : ℕ) → rows_of day.stock s m ≤ 1
     → count_below (λ u. (home_of day u == s) && (type_of day u == m)) (unit_count day) ≡ start_of day s m
+
+-- how many units of a type stand at a station at the start of the day, and how many are wanted there at its end
+pub record HasStock (day : Day) (s m start end : ℕ) : Type 0 where
+  pub at_start : start_of day s m ≡ start
+  pub at_end : wanted_of day s m ≡ end
+
+-- a stock row says it of its station and type, where no other row is of the two; where no row is, there are none and
+-- none are wanted
+pub record RowsSayStock : Type 0 where
+  pub row : (day : Day) (r : ℕ) (row : Stock) → slice_get day.stock r ≡ Some row
+      → rows_of day.stock row.station row.unit_type ≤ 1 → HasStock day row.station row.unit_type row.start row.end
+  pub no_row : (day : Day) (s m : ℕ) → rows_of day.stock s m ≡ 0 → HasStock day s m 0 0
 
 -- two lists that are the chains of a day are one
 abbrev pub ChainsAreOne : Type 0

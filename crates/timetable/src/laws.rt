@@ -3,7 +3,7 @@
 //! Each law is the contract of a function that does nothing.
 
 ghost use Rattle.timetable.specs.Laws.{DaysAreMade, PlansAreMade, ChainsAreOne, KeepTheLongest, HaveParts};
-ghost use Rattle.timetable.specs.Laws.{UnitsAreAtHome, PlacesHaveMultipliers};
+ghost use Rattle.timetable.specs.Laws.{UnitsAreAtHome, RowsSayStock, PlacesHaveMultipliers};
 ghost use Rattle.timetable.specs.TurnsWithoutExchange.{IsPlainTurn};
 
 /// Tables make a day exactly where no test on them fails, and a refusal is that of the first test that fails. A day is
@@ -22,6 +22,13 @@ pub fn plans_are_made()
 /// the row says for the start of the day, and none where it has no such row.
 pub fn units_are_at_home()
     ensures law { UnitsAreAtHome }
+{}
+
+/// The stock row of a station and a type says how many units of the type stand there at the start of the day, and how
+/// many are wanted there at its end, where no other row is of the two. Where none is, none stand there and none are
+/// wanted.
+pub fn rows_say_stock()
+    ensures law { RowsSayStock }
 {}
 
 /// Where no trip arrives for two links or departs by two, and links keep time, as on every accepted day, no other lists
