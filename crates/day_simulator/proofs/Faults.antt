@@ -6,11 +6,12 @@ use Rattle.std.specs.List.{list_all}
 use Rattle.std.proofs.lemmas.Bool.{le-leb}
 use Rattle.std.proofs.lemmas.Bool.Decides.{nat_tests}
 use Rattle.timetable.specs.Day.{Day}
+use Rattle.timetable.specs.Links.{trips_into}
 use Rattle.day_simulator.specs.declared.events.DayEvent.{DayEvent}
 use Rattle.day_simulator.specs.declared.events.DayEvent.TheVariants.{Depart, Arrive}
 use Rattle.day_simulator.specs.declared.events.StepFault.TheVariants.{NotNow, LinkBroken}
 use Rattle.day_simulator.specs.State.{State, stage_of, is_waiting, is_under_way, has_arrived, moment_of}
-use Rattle.day_simulator.specs.Steps.{is_now, trips_into, broken_out, train_fault, fault_of}
+use Rattle.day_simulator.specs.Steps.{is_now, broken_out, train_fault, fault_of}
 
 -- an event that is not now has that fault
 pub not_now : (day : Day) (plan : List (List ℕ)) (state : State) (e : DayEvent) → is_now day state e ≡ false → Some (NotNow e) ≡ fault_of day plan state e

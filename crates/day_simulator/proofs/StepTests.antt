@@ -12,7 +12,7 @@ use Rattle.timetable.specs.declared.day.records.LinkKind.{LinkKind}
 use Rattle.timetable.specs.declared.day.records.LinkKind.TheVariants.{Turn, Join, Split}
 use Rattle.timetable.specs.Admissible.{is_admissible}
 use Rattle.timetable.specs.Day.{Day, leaves, arrives, from_of, type_of, types_of, unit_count}
-use Rattle.timetable.specs.Links.{list_of, incoming, outgoing, link_into, link_holds, arriving_in, taken}
+use Rattle.timetable.specs.Links.{list_of, incoming, outgoing, link_into, link_holds, arriving_in, taken, trips_into}
 use Rattle.timetable.specs.Lists.{count_of, has, below}
 use Rattle.timetable.specs.Running.{IsPlan}
 use Rattle.timetable.specs.Tests.{Test, ◌when◌}
@@ -27,7 +27,7 @@ use Rattle.day_simulator.specs.declared.events.StepFault.TheVariants.{NotNow, No
 use Rattle.day_simulator.specs.declared.events.StepFault.TheVariants.{NotInYard}
 use Rattle.day_simulator.specs.State.{State, place_of, stage_of, moment_of, is_waiting, is_under_way, has_arrived, is_ready}
 use Rattle.day_simulator.specs.State.{put_all}
-use Rattle.day_simulator.specs.Steps.{is_now, trips_into, is_tested_at, broken, broken_into, broken_out, first_missing}
+use Rattle.day_simulator.specs.Steps.{is_now, is_tested_at, broken, broken_into, broken_out, first_missing}
 use Rattle.day_simulator.specs.Steps.{train_fault, fault_of}
 use Rattle.day_simulator.specs.StepTests.{MayLeave, MayArrive, IsJoin, IsTurnOrSplit, BreaksRule, rule_tests, StandsReady}
 use Rattle.day_simulator.specs.StepTests.{CannotBeTaken, unit_tests, step_tests, StepsAreTested}

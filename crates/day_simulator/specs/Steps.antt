@@ -7,7 +7,7 @@ use Rattle.timetable.specs.declared.day.records.LinkKind.{LinkKind}
 use Rattle.timetable.specs.declared.day.records.LinkKind.TheVariants.{Turn, Join, Split}
 use Rattle.timetable.specs.Day.{Day, leaves, from_of, to_of, type_of, types_of, ready_at}
 use Rattle.timetable.specs.Admissible.{is_admissible}
-use Rattle.timetable.specs.Links.{list_of, incoming, outgoing, link_into, link_holds, arriving_in, given, taken}
+use Rattle.timetable.specs.Links.{list_of, incoming, outgoing, trips_into, link_holds, given, taken}
 use Rattle.timetable.specs.Lists.{below}
 use Rattle.day_simulator.specs.declared.events.DayEvent.{DayEvent}
 use Rattle.day_simulator.specs.declared.events.DayEvent.TheVariants.{Depart, Arrive}
@@ -19,10 +19,6 @@ use Rattle.day_simulator.specs.declared.events.StepFault.TheVariants.{NotNow, No
 use Rattle.day_simulator.specs.declared.events.StepFault.TheVariants.{NotInYard}
 use Rattle.day_simulator.specs.State.{State, place_of, stage_of, is_waiting, is_under_way, has_arrived, is_ready}
 use Rattle.day_simulator.specs.State.{moment_of, put_all}
-
--- the trips that arrive for the link into a trip
-abbrev pub trips_into : Day → ℕ → List ℕ
-trips_into day t = unwrap_or (option_map (λ link. arriving_in link.kind) (link_into day t)) []
 
 -- an event may be made now: its moment has not passed, and its trip, with the trips that it waits for, has come so far
 unfoldable pub is_now : Day → State → DayEvent → Bool

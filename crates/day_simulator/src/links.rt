@@ -2,10 +2,10 @@
 
 ghost use Rattle.std.specs.Prelude.{◌≡◌, ◌<◌, length, IfSome};
 ghost use Rattle.std.specs.List.{list_all};
-ghost use Rattle.timetable.specs.Links.{arriving_in};
+ghost use Rattle.timetable.specs.Links.{arriving_in, trips_into};
 ghost use Rattle.timetable.specs.Running.{IsPlan};
 ghost use Rattle.day_simulator.specs.State.{stage_of, has_arrived};
-ghost use Rattle.day_simulator.specs.Steps.{is_tested_at, broken, broken_into, broken_out, trips_into};
+ghost use Rattle.day_simulator.specs.Steps.{is_tested_at, broken, broken_into, broken_out};
 
 use crate::balance::stage_of;
 use crate::events::Stage;

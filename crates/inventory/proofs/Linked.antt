@@ -12,13 +12,13 @@ use Rattle.timetable.specs.Accepted.{AreLinks}
 use Rattle.timetable.specs.Day.{Day, leaves, arrives}
 use Rattle.timetable.specs.Links.{list_of, itself, turned, link_holds, kind_holds, arriving_in, departing_in, incoming}
 use Rattle.timetable.specs.Links.{outgoing, link_out, link_into, kept_by, given_by, taken_by, kept_with, given_with}
-use Rattle.timetable.specs.Links.{taken_with}
+use Rattle.timetable.specs.Links.{taken_with, trips_into}
 use Rattle.timetable.specs.Lists.{count_of, has}
 use Rattle.timetable.specs.Turns.{kept_count, staying}
 use Rattle.timetable.proofs.NamedTrips.{IsNamed, named_or_not, named_here, place_is}
 use Rattle.timetable.proofs.Shares.{count_of-append}
 use Rattle.inventory.specs.Places.{going_by, left_by, come_by, fetched_by, coupled_by, going_on, given_places}
-use Rattle.inventory.specs.Places.{kept_places, taken_places, put_together, trips_into, coming}
+use Rattle.inventory.specs.Places.{kept_places, taken_places, put_together, coming}
 use Rattle.inventory.proofs.Sums.{one_same}
 use Rattle.inventory.proofs.Order.{in_list}
 use Rattle.inventory.proofs.ByKind.{kind_given, kind_taken, kind_kept, kind_come, kind_back, kind_within}
@@ -142,7 +142,6 @@ module _ (day : Day) (types : List (List ℕ)) where
   put_at b come fetched o e = ap (λ o. unwrap_or (option_map (λ link. coupled_by link.kind come fetched) o) fetched) e
 
   trips_into_at : (b : ℕ) (o : Option Link) → link_into day b ≡ o → trips_into day b ≡ unwrap_or (option_map (λ link. arriving_in link.kind) o) []
-  unfolding trips_into
   trips_into_at b o e = ap (λ o. unwrap_or (option_map (λ link. arriving_in link.kind) o) []) e
 
   out_is : (t : ℕ) (link : Link) → IsNamed arriving_in day.links t link → link_out day t ≡ Some link

@@ -6,9 +6,9 @@ use Rattle.std.specs.Prelude.{if◌then◌else◌}
 use Rattle.std.proofs.lemmas.Bool.{cases_eq, cases_lt, cond-true, cond-false, false≢true, le-leb, lt-leb}
 use Rattle.timetable.specs.Accepted.{IsDay, AreLinks}
 use Rattle.timetable.specs.Day.{Day, leaves, from_of, home_of, types_of, unit_count}
-use Rattle.timetable.specs.Links.{list_of}
+use Rattle.timetable.specs.Links.{list_of, trips_into}
 use Rattle.timetable.specs.Lists.{count_of, has}
-use Rattle.inventory.specs.Places.{going_on, given_places, kept_places, taken_places, trips_into, coming}
+use Rattle.inventory.specs.Places.{going_on, given_places, kept_places, taken_places, coming}
 use Rattle.inventory.specs.NamedUnits.{InYard, after_trip, standing, may_be_taken}
 use Rattle.inventory.proofs.Sums.{one_same}
 use Rattle.inventory.proofs.Order.{in_list, IsTurn, AreInTurn, leaves_before}

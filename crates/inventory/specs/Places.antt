@@ -7,7 +7,7 @@ use Rattle.rail_csv.specs.declared.rows.End.TheVariants as at
 use Rattle.timetable.specs.declared.day.records.LinkKind.{LinkKind}
 use Rattle.timetable.specs.declared.day.records.LinkKind.TheVariants.{Turn, Join, Split}
 use Rattle.timetable.specs.Day.{Day}
-use Rattle.timetable.specs.Links.{list_of, turned, arriving_in, link_out, link_into}
+use Rattle.timetable.specs.Links.{list_of, turned, link_out, link_into, trips_into}
 use Rattle.timetable.specs.Turns.{staying, beyond, kept_count}
 
 -- ---- by the kind of a link
@@ -80,10 +80,6 @@ taken_places day types b us =
 unfoldable pub put_together : Day → ℕ → List ℕ → List ℕ → List ℕ
 put_together day b come fetched =
     unwrap_or (option_map (λ link. coupled_by link.kind come fetched) (link_into day b)) fetched
-
--- the trips that arrive for the link into trip b
-unfoldable pub trips_into : Day → ℕ → List ℕ
-trips_into day b = unwrap_or (option_map (λ link. arriving_in link.kind) (link_into day b)) []
 
 -- what comes with the trains that lead into trip b, where each trip has such a list
 unfoldable pub coming : Day → List (List ℕ) → (ℕ → List ℕ) → ℕ → List ℕ

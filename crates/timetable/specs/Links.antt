@@ -71,6 +71,10 @@ link_out day t = option_and_then (slice_get day.links) (outgoing day t)
 abbrev pub link_into : Day → ℕ → Option Link
 link_into day t = option_and_then (slice_get day.links) (incoming day t)
 
+-- the trips that arrive for the link into a trip: none where no link leads into it
+abbrev pub trips_into : Day → ℕ → List ℕ
+trips_into day t = unwrap_or (option_map (λ link. arriving_in link.kind) (link_into day t)) []
+
 -- ---- kept, given and taken
 
 -- the units that a turn keeps, gives and takes; nothing is kept where its rule is broken

@@ -148,7 +148,7 @@ fn behind(units: &[UnitNo], number: usize) -> ArrayVec<UnitNo, MOST_COMPOSITION>
 }
 
 /// The units that come into a trip with the trains that arrive for the link into it.
-#[tactic(auto, unfolding(inventory::specs::Places::coming, inventory::specs::Places::trips_into))]
+#[tactic(auto, unfolding(inventory::specs::Places::coming))]
 fn coming(
     alloc: Global,
     instance: &Instance,

@@ -1,11 +1,12 @@
 use Rattle.std.proofs.Common.{◌≡◌, ◌<◌, ◌≤◌, List, false, sym, ap, ◌∙◌, subst, arith, length}
 use Rattle.std.specs.List.{list_all}
+use Rattle.timetable.specs.Links.{trips_into}
 use Rattle.day_simulator.specs.declared.events.Stage.{Stage}
 use Rattle.day_simulator.specs.declared.events.DayEvent.TheVariants.{Depart, Arrive}
 use Rattle.day_simulator.specs.Machine.{Machine}
 use Rattle.day_simulator.specs.Fields.{machine_in}
 use Rattle.day_simulator.specs.State.{stage_of, is_waiting, is_under_way, has_arrived, moment_of}
-use Rattle.day_simulator.specs.Steps.{trips_into, is_now}
+use Rattle.day_simulator.specs.Steps.{is_now}
 use Rattle.day_simulator.proofs.Faults.{too_late, departure_of_waiting, departure_of_left, arrival_in_time}
 use Rattle.day_simulator.proofs.Missing.{stage_read}
 use Rattle.day_simulator.proofs.day.Day.is_now.Goals as goal
