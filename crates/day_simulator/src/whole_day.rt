@@ -46,9 +46,9 @@ impl From<NoMemory> for SimulateRefusal {
     }
 }
 
-/// Steps a day's events by minute, arrivals before departures and then by trip number, and finishes it: its cost
-/// exactly where the plan runs, and else the first fault, which is never that an event is out of turn. The plan is one
-/// of this day.
+/// Steps a day's events by minute, arrivals before departures and then by trip number, and finishes it: but for want of
+/// memory, its cost exactly where the plan runs, and else the first fault, which is never that an event is out of turn.
+/// The plan is one of this day.
 pub fn simulate(
     alloc: Global,
     instance: &Instance,

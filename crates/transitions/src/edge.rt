@@ -7,13 +7,24 @@ use rail_base::CompNo;
 pub enum Shunt {
     /// The same units go on.
     Keep,
-    /// So many units are uncoupled, and given to the yard.
-    Uncouple { units: u8 },
-    /// So many units are coupled, which were taken from the yard.
-    Couple { units: u8 },
-    /// So many units are uncoupled and given to the yard, and so many are coupled, which were taken from it. The two
-    /// ends may be one and the same.
-    Exchange { uncouple: u8, couple: u8 },
+    /// Units are uncoupled, and given to the yard.
+    Uncouple {
+        /// How many are uncoupled, one at least.
+        units: u8,
+    },
+    /// Units are coupled, which were taken from the yard.
+    Couple {
+        /// How many are coupled, one at least.
+        units: u8,
+    },
+    /// Units are uncoupled and given to the yard, and units are coupled, which were taken from it. The two ends may be
+    /// one and the same.
+    Exchange {
+        /// How many are uncoupled, one or two.
+        uncouple: u8,
+        /// How many are coupled, one or two.
+        couple: u8,
+    },
 }
 
 /// A step that a link allows from one composition of the day's catalogue to another. It takes 20 bytes.

@@ -122,7 +122,7 @@ fn may_exchange(kind: LinkKind) -> bool
 
 /// How many compositions stand in the catalogue before the first of more units than an exchange may uncouple: all of no
 /// more units are among them.
-fn uncoupled_parts(instance: &Instance) -> u32
+fn uncoupled_part_count(instance: &Instance) -> u32
     ensures { AreAmongFirst instance.now result }
 {
     let catalogue = instance.catalogue();
@@ -256,7 +256,7 @@ pub(crate) fn pairs_of(
     ensures in_order { IfOk result (λ pairs. AllPairs IsBeforePair pairs.items) }
 {
     let mut pairs = Vec::new(alloc);
-    let few = uncoupled_parts(instance);
+    let few = uncoupled_part_count(instance);
     for to in 0..instance.catalogue().len() {
         if may_run(&admitted.departing, CompNo(to)) {
             add_made(&mut pairs, instance, link, few, CompNo(to))?;

@@ -23,8 +23,8 @@ use transitions::Graphs;
 /// its home is ready from the first minute on. The graphs are those of the instance, and each picked composition may
 /// run on its trip.
 ///
-/// The picks are refused exactly where no plan that runs has them: by the first link whose rule the types break; or,
-/// where no link is broken, by the first fault of the yards. Want of memory is a refusal too.
+/// But for want of memory, the picks are refused exactly where no plan that runs has them: by the first link whose rule
+/// the types break; or, where no link is broken, by the first fault of the yards.
 pub fn name_units(
     alloc: Global,
     instance: &Instance,
@@ -39,6 +39,7 @@ pub fn name_units(
     ensures refusal { IfErr result (IsRefusal instance.now picks.now) }
     ensures none { IfErr result (HaveNoPlan instance.now picks.now) }
 {
+    // What these three calls ensure of trips, links and units is what the laws of naming ask of the day.
     prove!(instance.trips() as usize <= MOST_TRIPS);
     prove!(instance.links() as usize <= MOST_LINKS);
     prove!(instance.units() <= MOST_UNITS);

@@ -23,12 +23,12 @@ loop-to-preserved c =
     elim c.if-may_run.branch [
       | then-may_run+in_ok-add_made w ↦
           let items : c.if-may_run.pairs.items ≡ w.add_made.new.pairs.items = cc w.pairs-is in
-          subst (λ (pairs : List Pair). Grown c.args.instance.now [] pairs (λ (pair : Pair). (pair.to < c.loop-to.to + 1) × IsMadeOn c.args.instance.now c.args.link.now.kind c.args.link.now.reverse c.uncoupled_parts-few.result pair)) (sym items)
-          (made_row c.args.instance.now c.args.link.now.kind c.args.link.now.reverse c.uncoupled_parts-few.result c.loop-to.pairs.items c.loop-to.to w.add_made.new.pairs.items c.loop-to.invariant (w.in_ok-add_made.ensures))
+          subst (λ (pairs : List Pair). Grown c.args.instance.now [] pairs (λ (pair : Pair). (pair.to < c.loop-to.to + 1) × IsMadeOn c.args.instance.now c.args.link.now.kind c.args.link.now.reverse c.uncoupled_part_count-few.result pair)) (sym items)
+          (made_row c.args.instance.now c.args.link.now.kind c.args.link.now.reverse c.uncoupled_part_count-few.result c.loop-to.pairs.items c.loop-to.to w.add_made.new.pairs.items c.loop-to.invariant (w.in_ok-add_made.ensures))
       | else-may_run w ↦
           let items : c.if-may_run.pairs.items ≡ c.loop-to.pairs.items = cc w.pairs-is in
-          subst (λ (pairs : List Pair). Grown c.args.instance.now [] pairs (λ (pair : Pair). (pair.to < c.loop-to.to + 1) × IsMadeOn c.args.instance.now c.args.link.now.kind c.args.link.now.reverse c.uncoupled_parts-few.result pair)) (sym items)
-          (no_made_row c.args.instance.now c.args.link.now.kind c.args.link.now.reverse c.uncoupled_parts-few.result c.loop-to.pairs.items c.loop-to.to c.loop-to.invariant (iff_false told w.if-may_run.false))
+          subst (λ (pairs : List Pair). Grown c.args.instance.now [] pairs (λ (pair : Pair). (pair.to < c.loop-to.to + 1) × IsMadeOn c.args.instance.now c.args.link.now.kind c.args.link.now.reverse c.uncoupled_part_count-few.result pair)) (sym items)
+          (no_made_row c.args.instance.now c.args.link.now.kind c.args.link.now.reverse c.uncoupled_part_count-few.result c.loop-to.pairs.items c.loop-to.to c.loop-to.invariant (iff_false told w.if-may_run.false))
     ]
 
 pub loop-from-preserved : goal.loop-from-preserved
@@ -40,12 +40,12 @@ loop-from-preserved c =
           let row =
           subst (λ (e : End). Grown c.args.instance.now c.loop-from.pairs.items w.add_lefts.new.pairs.items (λ pair. (pair.from ≡ c.loop-from.from) × IsLeft c.args.instance.now c.args.link.now.reverse e (length (composition_at c.args.instance.now c.loop-from.from)) pair))
           c.uncoupled_at-uncouple.ensures (w.in_ok-add_lefts.ensures) in
-          subst (λ (pairs : List Pair). Grown c.args.instance.now [] pairs (λ (pair : Pair). IsMadeOn c.args.instance.now c.args.link.now.kind c.args.link.now.reverse c.uncoupled_parts-few.result pair ⊎ ((pair.from < c.loop-from.from + 1) × IsLeftOn c.args.instance.now c.args.link.now.kind c.args.link.now.reverse pair))) (sym items)
-          (left_row c.args.instance.now c.args.link.now.kind c.args.link.now.reverse c.uncoupled_parts-few.result c.loop-from.pairs.items c.loop-from.from w.add_lefts.new.pairs.items c.loop-from.invariant row)
+          subst (λ (pairs : List Pair). Grown c.args.instance.now [] pairs (λ (pair : Pair). IsMadeOn c.args.instance.now c.args.link.now.kind c.args.link.now.reverse c.uncoupled_part_count-few.result pair ⊎ ((pair.from < c.loop-from.from + 1) × IsLeftOn c.args.instance.now c.args.link.now.kind c.args.link.now.reverse pair))) (sym items)
+          (left_row c.args.instance.now c.args.link.now.kind c.args.link.now.reverse c.uncoupled_part_count-few.result c.loop-from.pairs.items c.loop-from.from w.add_lefts.new.pairs.items c.loop-from.invariant row)
       | else-may_run-2 w ↦
           let items : c.if-may_run-2.pairs.items ≡ c.loop-from.pairs.items = cc w.pairs-is in
-          subst (λ (pairs : List Pair). Grown c.args.instance.now [] pairs (λ (pair : Pair). IsMadeOn c.args.instance.now c.args.link.now.kind c.args.link.now.reverse c.uncoupled_parts-few.result pair ⊎ ((pair.from < c.loop-from.from + 1) × IsLeftOn c.args.instance.now c.args.link.now.kind c.args.link.now.reverse pair))) (sym items)
-          (no_left_row c.args.instance.now c.args.link.now.kind c.args.link.now.reverse c.uncoupled_parts-few.result c.loop-from.pairs.items c.loop-from.from c.loop-from.invariant (iff_false told w.if-may_run-2.false))
+          subst (λ (pairs : List Pair). Grown c.args.instance.now [] pairs (λ (pair : Pair). IsMadeOn c.args.instance.now c.args.link.now.kind c.args.link.now.reverse c.uncoupled_part_count-few.result pair ⊎ ((pair.from < c.loop-from.from + 1) × IsLeftOn c.args.instance.now c.args.link.now.kind c.args.link.now.reverse pair))) (sym items)
+          (no_left_row c.args.instance.now c.args.link.now.kind c.args.link.now.reverse c.uncoupled_part_count-few.result c.loop-from.pairs.items c.loop-from.from c.loop-from.invariant (iff_false told w.if-may_run-2.false))
     ]
 
 pub returns-clause-edges : goal.returns-clause-edges
@@ -55,7 +55,7 @@ returns-clause-edges c = λ edge allowed.
     let sorted =
     Contains-permutation c.loop-from.pairs.items c.sort_unstable.new.self.items (record { from = edge.from; to = edge.to }) c.sort_unstable.ensures.permutation
     (c.loop-from.invariant.adds (record { from = edge.from; to = edge.to }) (record { from = from_below; to = to_below })
-    (elim (reaches c.args.instance.now c.args.link.now.kind c.args.link.now.reverse c.uncoupled_parts-few.result c.uncoupled_parts-few.ensures edge allowed) [ inl made ↦ inl made | inr left ↦ inr (omega (arith, from_below, c.len-from-end.ensures.value, ap length c.catalogue-2.ensures, c.loop-from-test.false), left) ])) in
+    (elim (reaches c.args.instance.now c.args.link.now.kind c.args.link.now.reverse c.uncoupled_part_count-few.result c.uncoupled_part_count-few.ensures edge allowed) [ inl made ↦ inl made | inr left ↦ inr (omega (arith, from_below, c.len-from-end.ensures.value, ap length c.catalogue-2.ensures, c.loop-from-test.false), left) ])) in
     subst (λ (pairs : List Pair). Contains pairs (record { from = edge.from; to = edge.to })) (sym (dedup_is are_equal c.sort_unstable.new.self.items c.dedup.new.self.items c.dedup.ensures.filtered))
     (all_there c.sort_unstable.new.self.items (record { from = edge.from; to = edge.to }) sorted)
 

@@ -1,7 +1,7 @@
 -- The first composition of more units.
 use Rattle.std.proofs.Common.{arith, ap, length}
 use Rattle.transitions.proofs.Listed.{among_first}
-use Rattle.transitions.proofs.pairs.uncoupled_parts.Goals as goal
+use Rattle.transitions.proofs.pairs.uncoupled_part_count.Goals as goal
 
 pub returns-then-units-gt-MOST_EXCHANGED : goal.returns-then-units-gt-MOST_EXCHANGED
 returns-then-units-gt-MOST_EXCHANGED c =
