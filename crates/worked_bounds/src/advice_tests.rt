@@ -139,10 +139,15 @@ const CUT_AND_ENOUGH: &[Call] = &[Call {
     ..NO_PROPOSALS
 }];
 
-/// Proposes a cut of T2 at the root, and nothing after it.
+/// Proposes a cut of T2 at the root, and nothing after it. At the left side, where T2 has A alone, (A, A) is the first
+/// of least value: one of the two units stays at X, and at the end both are there.
 const SECOND_TRIP_ONCE: &[Call] = &[
     Call {
         cut: CutNumbers::Only(1, 0),
+        ..NO_PROPOSALS
+    },
+    Call {
+        shown: "round 0; left 3 1; first 2150, kept 2150, last 2150; at; picks 0 0; slacks 0:-1 2:-1 3:1; free from 2",
         ..NO_PROPOSALS
     },
     NO_PROPOSALS,
@@ -276,11 +281,21 @@ const RAISES_THE_RIGHT: &[Call] = &[
     NO_PROPOSALS,
 ];
 
-/// Proposes the cut that leaves the first trip A alone.
-const FIRST_ALONE: &[Call] = &[Call {
-    cut: CutNumbers::Only(0, 0),
-    ..NO_PROPOSALS
-}];
+/// Proposes the cut that leaves the first trip of the ring A alone, and nothing after it. With no multipliers T1 to T4
+/// have AAA, AA, AA and AAA: the split leaves A, where T3 has AA, and the join takes A, where T2 has AA.
+const FIRST_ALONE: &[Call] = &[
+    Call {
+        shown: "round 0; left 3 3 3 3; first 300, kept 300, last 300; at; picks 2 1 1 2; slacks 7:1 8:-1 10:1 11:-1; \
+            free from 4",
+        cut: CutNumbers::Only(0, 0),
+        ..NO_PROPOSALS
+    },
+    Call {
+        shown: "round 0; left 2 3 3 3; first 300, kept 300, last 300; at; picks 2 1 1 2; slacks 7:1 8:-1 10:1 11:-1; \
+            free from 4",
+        ..NO_PROPOSALS
+    },
+];
 
 /// Searches of that day.
 const ADVISED: &[Search] = &[
