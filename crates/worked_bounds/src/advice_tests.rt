@@ -297,6 +297,23 @@ const FIRST_ALONE: &[Call] = &[
     },
 ];
 
+/// Proposes multipliers of both hand-overs of the ring, with the cut that leaves T3 A alone, and nothing after it.
+///
+/// Under them the least values of the chains are 1120 and 150, each of two picks. The first ones are AAA and A, and A
+/// and AAA: the split leaves AA, where T3 has A, and the join takes AA, where T2 has A.
+const HAND_OVERS: &[Call] = &[
+    Call {
+        puts: &[(7, 500), (11, -470)],
+        cut: CutNumbers::Only(2, 0),
+        ..NO_PROPOSALS
+    },
+    Call {
+        shown: "round 1; left 3 3 3 3; first 300, kept 1270, last 1270; at 7:500 11:-470; picks 2 0 0 2; \
+            slacks 7:-1 8:1 10:-1 11:1; free from 4",
+        ..NO_PROPOSALS
+    },
+];
+
 /// Searches of that day.
 const ADVISED: &[Search] = &[
     Search {
@@ -467,6 +484,25 @@ const ADVISED_ELSEWHERE: &[Search] = &[
         rounds: 1,
         scripts: &[FIRST_ALONE],
         told: "bounded 300; only 0 0; empty; cost 300; asked 2",
+    },
+    // Of the picks of least value in each chain the first ones don't fit one another.
+    Search {
+        about: "multipliers of hand-overs raise the bound to the least cost",
+        texts: RING,
+        grant: 0,
+        rounds: 2,
+        scripts: &[HAND_OVERS],
+        told: "bounded 1270; cost 1270 7:500 11:-470; asked 2",
+    },
+    // Where T3 has A alone, the split is to leave that: with no multipliers the least is 1240, and under them, where T1
+    // and T2 have AAA and AA, it is that of a plan. Where T3 has AA at least, it is 1270 with no multipliers.
+    Search {
+        about: "inherited multipliers of hand-overs find a plan",
+        texts: RING,
+        grant: 1,
+        rounds: 2,
+        scripts: &[HAND_OVERS],
+        told: "optimal 1270 by 2 1 0 2; only 2 0; cost 1270 7:500 11:-470; cost 1270; asked 2",
     },
     // With A on T1 fewer units are at Y at the end than are wanted, whatever T2 has. The ray that is named first, 1:1,
     // is none there.
