@@ -1,6 +1,6 @@
 //! A relaxation in small: what `Relaxation` asks can be met.
 
-ghost use Rattle.std.specs.Prelude.{◌≡◌, ◌<◌, ◌≤◌, ◌≤ℤ◌, pos, [], ◌∷◌, length};
+ghost use Rattle.std.specs.Prelude.{◌≡◌, ◌<◌, ◌≤◌, ◌≤ℤ◌, ◌↔◌, pos, [], ◌∷◌, length, IsNone, IfSome};
 ghost use Rattle.branch_tree.specs.Entries.{DoFit};
 ghost use Rattle.branch_tree.specs.Meanings.{priced, weighted};
 ghost use Rattle.branch_tree.specs.Regions.{are_in};
@@ -22,7 +22,10 @@ pub struct LonePicks<'a> {
 
 impl<'a> LonePicks<'a> {
     /// The problem over a catalogue, or nothing where that has no composition.
-    pub fn over(catalogue: &'a Catalogue) -> Option<LonePicks<'a>> {
+    pub fn over(catalogue: &'a Catalogue) -> Option<LonePicks<'a>>
+        ensures none { IsNone result ↔ (length catalogue.now ≡ 0) }
+        ensures some { IfSome result (λ picks. picks.catalogue.now ≡ catalogue.now) }
+    {
         if catalogue.len() == 0 {
             return None;
         }
