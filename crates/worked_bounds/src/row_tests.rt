@@ -1,8 +1,8 @@
 //! Bounds, settling and slacks of small days, by hand.
 //!
 //! On the days of two trips with units of one type the indices are those of the departure minute of X, of that of Y, of
-//! the end of X and of the end of Y. On the ring, whose chains are T1 and T2, and T3 and T4, indices 6 to 8 are those
-//! of the split, and 9 to 11 those of the join.
+//! the end of X and of the end of Y. On the ring, whose chains are T1 and T2, and T3 and T4, indices 0 to 3 are those
+//! of the departure minutes, 4 to 6 those of the ends, 7 to 9 those of the split, and 10 to 12 those of the join.
 
 ghost use Rattle.transitions.specs.Edges.{AreGraphs};
 
