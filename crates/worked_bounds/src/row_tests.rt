@@ -8,7 +8,7 @@ ghost use Rattle.transitions.specs.Edges.{AreGraphs};
 
 use crate::asking::{bound_of, do_follow, multipliers_of, picks_of, settled, slacks_of};
 use crate::changed::bounds_under;
-use crate::exchange_days::EXCHANGE;
+use crate::exchange_days::{EARLY_EXCHANGE, EXCHANGE};
 use crate::telling::{write_picks, write_slacks};
 use branch_tree::{Cut, Region, Relaxation, Side, Weight};
 use price_bound::Change;
@@ -33,13 +33,6 @@ const EARLY_TRIP: Texts<'static> = Texts {
         T1,X,08:00,Y,09:00,10,150\nT2,Y,09:29,X,10:30,10,150\n",
     links: b"kind,arriving,arriving2,departing,departing2,reverse,uncouple,couple\n",
     ..TURN
-};
-
-/// The day of an exchange, where the second trip leaves and arrives a minute earlier.
-const EARLIER_EXCHANGE: Texts<'static> = Texts {
-    trips: b"trip,from,departure,to,arrival,km,demand\n\
-        T1,X,08:00,Y,09:00,10,300\nT2,Y,09:29,X,10:29,10,150\n",
-    ..EXCHANGE
 };
 
 /// A side of a cut, by the numbers in the cut.
@@ -352,7 +345,7 @@ const PICKS: &[Case] = &[
     },
     Case {
         about: "a unit that is not ready again",
-        texts: EARLIER_EXCHANGE,
+        texts: EARLY_EXCHANGE,
         change: None,
         asked: Asked::Settled(&[2, 3]),
         told: "Broken { index: 2, sign: 1 }",
