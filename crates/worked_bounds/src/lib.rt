@@ -27,8 +27,6 @@ mod duty_tests;
 #[cfg(test)]
 mod exchange_days;
 #[cfg(test)]
-mod hostile_tests;
-#[cfg(test)]
 mod ledger_tests;
 #[cfg(test)]
 mod link_rule;

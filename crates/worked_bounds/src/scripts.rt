@@ -6,7 +6,7 @@ ghost use Rattle.advisors.specs.Proposals.{DoesFit, IsOverSame};
 
 use crate::telling::write_look;
 use advisors::{Advisor, Look, Proposal, Word};
-use branch_tree::{Cut, PutRefusal};
+use branch_tree::Cut;
 use rail_base::{CompNo, NoMemory, TripNo, TypeNo};
 use std::alloc::{AllocError, Global};
 
@@ -28,8 +28,6 @@ pub(crate) struct Call {
     pub(crate) shown: &'static str,
     /// The indices and values of the multipliers that are put and taken.
     pub(crate) puts: &'static [(u32, i64)],
-    /// Those that are put and refused, and why.
-    pub(crate) refused: &'static [(u32, i64, PutRefusal)],
     /// The cut that is proposed.
     pub(crate) cut: CutNumbers,
     /// What is answered beside the proposal.
@@ -40,14 +38,13 @@ pub(crate) struct Call {
 pub(crate) const NO_PROPOSALS: Call = Call {
     shown: "",
     puts: &[],
-    refused: &[],
     cut: CutNumbers::None,
     word: Word::More,
 };
 
 /// An advisor that has a script of calls, of which the last stands for all later ones too. It quits where the proposal
-/// that it is given is not empty, where it is shown anything else than its script has, and where what it puts is not
-/// taken or refused as its script says.
+/// that it is given is not empty, where it is shown anything else than its script has, and where what it puts is
+/// refused.
 #[derive(Drop)]
 pub(crate) struct Scripted {
     alloc: Global,
@@ -148,19 +145,14 @@ fn is_shown(alloc: Global, wanted: &str, look: &Look<'_>) -> Result<bool, AllocE
     Ok(text.as_str() == wanted)
 }
 
-/// Proposes what a call has, and answers its word, or that it quits where what it puts is taken or refused otherwise.
+/// Proposes what a call has, and answers its word, or that it quits where what it puts is refused.
 fn propose(to: &mut Proposal, call: &Call) -> Word
     ensures over { IsOverSame to.old to.new }
     ensures fit { DoesFit to.new }
 {
     let are_taken = takes_all(to, call.puts);
-    let are_refused = refuses_all(to, call.refused);
     propose_cut(to, cut_of(call.cut));
-    if are_taken && are_refused {
-        call.word
-    } else {
-        Word::Quit
-    }
+    if are_taken { call.word } else { Word::Quit }
 }
 
 /// Puts multipliers, and tells whether they are all taken.
@@ -172,21 +164,6 @@ fn takes_all(to: &mut Proposal, puts: &[(u32, i64)]) -> bool
     for put in puts {
         let (index, value) = *put;
         if to.put(index, value).is_err() {
-            return false;
-        }
-    }
-    true
-}
-
-/// Puts multipliers, and tells whether each is refused for its reason.
-fn refuses_all(to: &mut Proposal, puts: &[(u32, i64, PutRefusal)]) -> bool
-    ensures over { IsOverSame to.old to.new }
-    ensures fit { DoesFit to.new }
-{
-    to.multipliers();
-    for put in puts {
-        let (index, value, refusal) = *put;
-        if to.put(index, value) != Err(refusal) {
             return false;
         }
     }
