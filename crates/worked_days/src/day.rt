@@ -340,7 +340,7 @@ pub(crate) fn run_on_disk<R: Files, P: Print>(
     run(alloc, words, folder, out)
 }
 
-/// A sink with room for so many bytes, whose writes never fail.
+/// A sink with room for so many bytes. Its writes fail only once that is full.
 pub(crate) fn ample_sink(alloc: Global, room: usize) -> Result<MemorySink, NoMemory> {
     MemorySink::new(alloc, room, 1000, Vec::new(alloc))
 }

@@ -14,8 +14,8 @@ use std::alloc::Global;
 use std::process::Abort;
 use std::test::Fail;
 
-/// A command over a day, the file that it reads after the six tables, how many reads it makes, and what it comes to
-/// where none of its calls fails.
+/// A command over a day, the file that it reads after the six tables, how many reads it makes where none is told to
+/// fail, and what it comes to then. The read of a file that is not there counts too, and fails anyhow.
 #[derive(Clone, Copy)]
 struct Case<'a> {
     words: &'a [&'a str],
@@ -98,6 +98,7 @@ fn without_plan_file() -> Case<'static> {
             plan: None,
             ..ring()
         },
+        reads: 13,
         status: 5,
         document: "cannot read plan.csv\n",
         ..simulated()
@@ -111,6 +112,7 @@ fn without_trips_file() -> Case<'static> {
             trips: None,
             ..base_day()
         },
+        reads: 7,
         status: 5,
         document: "cannot read trips.csv\n",
         ..planned()
@@ -436,20 +438,22 @@ fn table_of_one_name(alloc: Global, bytes: usize) -> Result<String, NoMemory> {
     Ok(table)
 }
 
-/// A plan of the day of a turn with another table of types, which is refused.
+/// A plan of the day of a turn with another table of types, of 4 MiB or a byte more, which is refused. Of 64 KiB at a
+/// read it takes 64 reads; one more finds its end, or the byte that is too much.
 fn refused_plan<'a>(types: &'a str, document: &'a str) -> Case<'a> {
     Case {
         day: Day {
             types: Some(types),
             ..base_day()
         },
+        reads: 65,
         status: 3,
         document,
         ..planned()
     }
 }
 
-/// Asserts how a run ends in which no call fails.
+/// Asserts how a run ends in which no call is told to fail.
 fn expect_case(rt: &impl Abort, alloc: Global, case: &Case) -> Result<(), NoMemory> {
     let document = case.document.as_bytes();
     expect_reads(rt, alloc, case, Vec::new(alloc), case.status, document)
