@@ -5,7 +5,7 @@ ghost use Rattle.std.specs.Prelude.{◌≡◌, ◌≤◌, ◌^◌, All};
 ghost use Rattle.advisors.specs.Quits.{quit_after};
 ghost use Rattle.advisors.specs.Proposals.{DoesFit, IsOverSame};
 
-use crate::day::{ample_sink, folder_of, one_stays, words_of};
+use crate::day::{AMPLE_ROOM, ample_sink, folder_of, one_stays, words_of};
 use advisors::{Advisor, Look, Proposal, Subgradient, Word};
 use branch_tree::{Cut, PutRefusal};
 use planner_app::railplan;
@@ -164,7 +164,7 @@ fn planned(
     requires asked { All (λ advisor. asked advisor ≤ 2 ^ 63) advisors.old.items }
 {
     let mut folder = folder_of(rt, alloc, &one_stays(), Vec::new(alloc))?;
-    let mut out = ample_sink(alloc, 1000)?;
+    let mut out = ample_sink(alloc, AMPLE_ROOM)?;
     let words = words_of(rt, alloc, words)?;
     let status = railplan(alloc, &words, &mut folder, &mut out, advisors);
     Ok(told(alloc, status, out.written(), advisors)?)

@@ -340,9 +340,17 @@ pub(crate) fn run_on_disk<R: Files, P: Print>(
     run(alloc, words, folder, out)
 }
 
+/// Room for a document of a small day, in bytes.
+pub(crate) const AMPLE_ROOM: usize = 1000;
+
 /// A sink with room for so many bytes. Its writes fail only once that is full.
 pub(crate) fn ample_sink(alloc: Global, room: usize) -> Result<MemorySink, NoMemory> {
     MemorySink::new(alloc, room, 1000, Vec::new(alloc))
+}
+
+/// A sink with ample room that takes one byte at a write, and whose writes fail at these numbers.
+pub(crate) fn bytewise_sink(alloc: Global, failing: Vec<u64>) -> Result<MemorySink, NoMemory> {
+    MemorySink::new(alloc, AMPLE_ROOM, 1, failing)
 }
 
 /// The status of a command line over a folder and a sink in memory, which both count their failed calls, so that
@@ -386,7 +394,7 @@ pub(crate) fn expect_ample(
     status: u8,
     document: &str,
 ) -> Result<(), NoMemory> {
-    let mut out = ample_sink(alloc, 1000)?;
+    let mut out = ample_sink(alloc, AMPLE_ROOM)?;
     expect_run(
         rt,
         alloc,

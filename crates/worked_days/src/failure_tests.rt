@@ -3,8 +3,8 @@
 //! disk a folder that is not there cannot be read.
 
 use crate::day::{
-    Day, base_day, expect_run, folder_of, one_stays, ring, run_on_disk, run_surely, sure_folder_of,
-    two_trips, words_of,
+    Day, base_day, bytewise_sink, expect_run, folder_of, one_stays, ring, run_on_disk, run_surely,
+    sure_folder_of, two_trips, words_of,
 };
 use crate::report_tests::{COSTS, DUTIES, FIRST_BOUND, ONE_RETURNS, WRONG_BOUND, YARDS};
 use crate::simulate_tests::USAGE;
@@ -245,7 +245,7 @@ fn expect_reads(
     status: u8,
     document: &[u8],
 ) -> Result<(), NoMemory> {
-    let mut out = MemorySink::new(alloc, 1000, 1, Vec::new(alloc))?;
+    let mut out = bytewise_sink(alloc, Vec::new(alloc))?;
     expect_ending(rt, alloc, case, reads, &mut out, status, document)
 }
 
@@ -259,7 +259,7 @@ fn expect_write(
     document: &[u8],
 ) -> Result<(), NoMemory> {
     let failing = vec![in alloc; write as u64]?;
-    let mut out = MemorySink::new(alloc, 1000, 1, failing)?;
+    let mut out = bytewise_sink(alloc, failing)?;
     expect_ending(rt, alloc, case, Vec::new(alloc), &mut out, status, document)
 }
 

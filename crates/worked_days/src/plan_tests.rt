@@ -1,8 +1,8 @@
 //! Planning a day: worked days and the answers to them, as the text that is written.
 
 use crate::day::{
-    Day, ample_sink, base_day, both_stay, cheap_shunting, folder_of, northport, one_stays,
-    ready_at_once, ring, status_of, two_trips, two_types,
+    AMPLE_ROOM, Day, ample_sink, base_day, both_stay, cheap_shunting, folder_of, northport,
+    one_stays, ready_at_once, ring, status_of, two_trips, two_types,
 };
 use rail_base::NoMemory;
 use rail_io::MemorySink;
@@ -209,7 +209,7 @@ fn the_dearest_day_is_planned(rt: HostRuntime) -> Result<(), Fail> {
 #[test]
 fn a_front_of_an_answer_is_written(rt: HostRuntime) -> Result<(), Fail> {
     let alloc = rt.alloc();
-    let mut out = MemorySink::new(alloc, 1000, 16, vec![in alloc; 2]?)?;
+    let mut out = MemorySink::new(alloc, AMPLE_ROOM, 16, vec![in alloc; 2]?)?;
     let usual = &["railplan", "plan", "day"];
     expect_status(&rt, alloc, &base_day(), usual, &mut out, 6)?;
     assert!(rt; out.written() == b"railplan answer 1\noptimal 120\nbr".as_slice());

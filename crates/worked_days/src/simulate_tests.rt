@@ -1,7 +1,8 @@
 //! Running a plan: worked days with their lines, refused files, and reads and writes that fail.
 
 use crate::day::{
-    Day, expect_ample, expect_document, expect_run, expect_simulated, folder_of, two_trips,
+    Day, bytewise_sink, expect_ample, expect_document, expect_run, expect_simulated, folder_of,
+    two_trips,
 };
 use rail_base::NoMemory;
 use rail_io::MemorySink;
@@ -182,7 +183,7 @@ fn a_sink_that_fails_keeps_a_front(rt: HostRuntime) -> Result<(), Fail> {
     let alloc = rt.alloc();
     let document = b"runs 60\n";
     for call in 0..8u64 {
-        let mut out = MemorySink::new(alloc, 1000, 1, vec![in alloc; call]?)?;
+        let mut out = bytewise_sink(alloc, vec![in alloc; call]?)?;
         expect_cut(&rt, alloc, &mut out, &document[..call as usize])?;
     }
     let mut out = MemorySink::new(alloc, 0, 100, Vec::new(alloc))?;

@@ -2,7 +2,7 @@
 //! where what they say is still true, and else they are refused or found wrong.
 
 use crate::day::{
-    Day, ample_sink, base_day, both_stay, cheap_shunting, expect_answered, folder_of,
+    AMPLE_ROOM, Day, ample_sink, base_day, both_stay, cheap_shunting, expect_answered, folder_of,
     folder_with_bytes, northport, one_stays, ring, status_of, two_trips, two_types,
 };
 use rail_base::NoMemory;
@@ -124,7 +124,7 @@ fn expect_nothing_false(
     answer: &[u8],
 ) -> Result<(), NoMemory> {
     let mut folder = folder_with_bytes(rt, alloc, &known.day, "day/answer.txt", answer)?;
-    let mut out = ample_sink(alloc, 1000)?;
+    let mut out = ample_sink(alloc, AMPLE_ROOM)?;
     let words = &["railplan", "check", "day"];
     let status = status_of(rt, alloc, words, &mut folder, &mut out)?;
     assert!(rt; says_nothing_false(known.costs, status, text_of(rt, out.written())));
