@@ -1,4 +1,4 @@
-//! The door: a folder read as a day and a plan of it, or the first file that is refused.
+//! Reading a folder: a day and a plan of it, or the first file that is refused.
 #![tactic(auto)]
 
 pub mod errors;

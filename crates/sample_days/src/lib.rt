@@ -1,5 +1,5 @@
 //! Days and plans of which tests are made, from the texts of their tables, and the texts of days that several crates of
-//! tests take; and whether picks may be asked of.
+//! tests take; and a test whether drawn picks meet what calls require of picks.
 #![tactic(auto)]
 
 mod picks;

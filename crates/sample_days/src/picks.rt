@@ -1,4 +1,4 @@
-//! Whether picks that are made anyhow may be asked of: what calls on picks require of them.
+//! Whether picks that are drawn meet what calls on picks require of them.
 
 ghost use Rattle.std.specs.Prelude.{◌<◌, length, IsTrue};
 ghost use Rattle.timetable.specs.Picks.{ArePicks};
