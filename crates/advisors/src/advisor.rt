@@ -63,9 +63,9 @@ pub trait Advisor: Drop {
     ghost has_answered: { Self → Look → Proposed → Result Word NoMemory → Proposed → Bool } = { λ _ _ _ _ _. true };
 
     /// Asks for a proposal, which it puts into `to`, and for a word. It has not quit, and it was asked fewer than
-    /// 2^64 - 1 times. The only refusal is want of memory, after which too the count of calls has risen by one, it has
-    /// the identity that it had, and `to` has the indices that it had and multipliers that fit them. An implementation
-    /// that leaves `to` as it is learns from `Proposal::multipliers` that they fit.
+    /// 2^64 - 1 times. The error is want of memory, after which too the count of calls has risen by one, it has the
+    /// identity that it had, and `to` has the indices that it had and multipliers that fit them. An implementation that
+    /// leaves `to` as it is learns from `Proposal::multipliers` that they fit.
     fn advise(&mut self, look: &Look<'_>, to: &mut Proposal) -> Result<Word, NoMemory>
         requires stays { has_quit self.old ≡ false }
         requires room { asked self.old + 1 < 2 ^ 64 }

@@ -26,7 +26,7 @@ pub struct GivenTexts<'a> {
     pub rounds: Option<&'a str>,
 }
 
-/// Takes apart words of the plain form. The only refusal is want of memory.
+/// Takes apart words of the plain form. The error is want of memory.
 pub fn take_apart<'a>(
     alloc: Global,
     form: Form,
@@ -45,7 +45,7 @@ pub fn take_apart<'a>(
     })
 }
 
-/// What `clap` finds in words of the plain form. The only refusal is want of memory.
+/// What `clap` finds in words of the plain form. The error is want of memory.
 fn matches<'a>(alloc: Global, form: Form, words: &'a [&'a str]) -> Result<ArgMatches<'a>, NoMemory>
     requires { fits form (parts_of (map (λ word. word.now) words.now)) ≡ true }
     ensures { IfOk result (λ found.

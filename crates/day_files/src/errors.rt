@@ -66,8 +66,8 @@ impl Refusal {
     }
 
     /// The text that says why the file is refused, without the name of the file. Rows are counted from 1, and a column
-    /// is named by its header word. It is empty where the cause is want of memory, which refuses no file. The only
-    /// refusal is want of memory.
+    /// is named by its header word. It is empty where the cause is want of memory, which refuses no file. The error is
+    /// want of memory.
     pub fn text(&self, alloc: Global) -> Result<String, NoMemory>
         ensures { IfOk result (λ text. string_bytes text ≡ refusal_text self.now) }
     {

@@ -55,7 +55,7 @@ impl Model for Name {
 }
 
 impl Name {
-    /// A name with this text, which is a name. The only refusal is want of memory.
+    /// A name with this text, which is a name. The error is want of memory.
     pub fn copy(alloc: Global, text: &str) -> Result<Name, NoMemory>
         requires { IsTrue (is_name text.now) }
         ensures { IfOk result (λ name. name ≡ text.now) }

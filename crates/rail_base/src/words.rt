@@ -27,7 +27,7 @@ impl Model for Words {
 }
 
 impl Words {
-    /// No words. The only refusal is want of memory.
+    /// No words. The error is want of memory.
     pub fn new(alloc: Global) -> Result<Words, NoMemory>
         ensures { IfOk result (λ words. words ≡ []) }
     {

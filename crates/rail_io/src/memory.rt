@@ -25,8 +25,8 @@ pub struct MemoryFile {
 }
 
 impl MemoryFile {
-    /// The file with a path, which is one that a name may be, and with bytes; both are copied. The only refusal is want
-    /// of memory.
+    /// The file with a path, which is one that a name may be, and with bytes; both are copied. The error is want of
+    /// memory.
     pub fn new(alloc: Global, path: &str, bytes: &[u8]) -> Result<MemoryFile, NoMemory>
         requires { IsTrue (is_name path.now) }
         ensures { IfOk result (λ file. file ≡ record { path = path.now; bytes = bytes.now }) }
@@ -39,7 +39,7 @@ impl MemoryFile {
 }
 
 /// A folder in memory. A read fails where its number, counted from 0, is among those that are to fail, and where no
-/// file has the path. The count of faults rises in these calls and in no other.
+/// file has the path. The count of faults rises in these calls, unless it stands at its last value, and in no other.
 #[derive(Drop)]
 pub struct MemoryFolder {
     files: Vec<MemoryFile>,
@@ -96,7 +96,7 @@ pub(crate) fn copy_from(file: &[u8], from: u64, into: &mut [u8]) -> usize
 
 impl MemoryFolder {
     /// The folder with these files, of which the first counts where two have one path, and the numbers of the reads
-    /// that fail, counted from 0. The only refusal is want of memory.
+    /// that fail, counted from 0. The error is want of memory.
     pub fn new(
         _alloc: Global,
         files: Vec<MemoryFile>,
@@ -175,7 +175,7 @@ impl Folder for MemoryFolder {
 
 /// A sink in memory. A write takes at most `most` bytes, and no more than there is room for. A write of a piece that
 /// is not empty fails where no room is left, and where its number, counted from 0, is among those that are to fail.
-/// The count of faults rises in these calls and in no other.
+/// The count of faults rises in these calls, unless it stands at its last value, and in no other.
 #[derive(Drop)]
 pub struct MemorySink {
     written: Vec<u8>,
@@ -206,7 +206,7 @@ impl Model for MemorySink {
 
 impl MemorySink {
     /// An empty sink: how many bytes it has room for, how many a write takes at most, and the numbers of the writes
-    /// that fail, counted from 0. The only refusal is want of memory.
+    /// that fail, counted from 0. The error is want of memory.
     pub fn new(
         alloc: Global,
         room: usize,

@@ -34,8 +34,7 @@ impl Model for SureFolder {
 }
 
 impl SureFolder {
-    /// The folder with these files, of which the first counts where two have one path. The only refusal is want of
-    /// memory.
+    /// The folder with these files, of which the first counts where two have one path. The error is want of memory.
     pub fn new(_alloc: Global, files: Vec<MemoryFile>) -> Result<SureFolder, NoMemory>
         ensures { IfOk result (λ folder. folder ≡ record { files = files_of files.items; taken = 0 }) }
     {
@@ -97,7 +96,7 @@ impl Model for SureSink {
 }
 
 impl SureSink {
-    /// An empty sink, and how many bytes it has room for. The only refusal is want of memory.
+    /// An empty sink, and how many bytes it has room for. The error is want of memory.
     pub fn new(alloc: Global, room: usize) -> Result<SureSink, NoMemory>
         ensures { IfOk result (λ sink. sink ≡ record { kept = []; room = room; has_lost = false }) }
     {

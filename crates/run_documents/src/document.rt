@@ -20,7 +20,7 @@ use rail_csv::Table;
 use std::alloc::Global;
 
 /// The document that a run writes for its outcome: the text of an answer, a report, how the program is used, or one
-/// line with its line feed. There is none for want of memory, which is the only refusal.
+/// line with its line feed. There is none for want of memory, which is the error.
 pub fn document(alloc: Global, outcome: &Outcome) -> Result<Vec<u8>, NoMemory>
     ensures { IfOk result (λ text. IsDocument outcome.now text.items) }
 {

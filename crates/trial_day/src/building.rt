@@ -13,7 +13,7 @@ use std::alloc::Global;
 use timetable::{Instance, InstanceRefusal, Rows, Tables};
 
 /// The tables of the trial day of a seed and a number of trips, which is even and from 2 to 400. They make a day. The
-/// only refusal is want of memory.
+/// error is want of memory.
 #[tactic(auto, unfolding(crate::specs::Trial::trial_tables_of))]
 pub fn trial_tables(alloc: Global, seed: u32, trips: u32) -> Result<Tables, NoMemory>
     requires size { IsTrialSize trips }
@@ -35,8 +35,8 @@ pub fn trial_tables(alloc: Global, seed: u32, trips: u32) -> Result<Tables, NoMe
     })
 }
 
-/// The trial day of a seed and a number of trips, which is even and from 2 to 400. No test refuses it: the only
-/// refusal is want of memory.
+/// The trial day of a seed and a number of trips, which is even and from 2 to 400. No test refuses it; the error is
+/// want of memory.
 pub fn trial_instance(alloc: Global, seed: u32, trips: u32) -> Result<Instance, NoMemory>
     requires size { IsTrialSize trips }
     ensures value { IfOk result (λ instance. day_of (trial_tables_of seed trips) ≡ Ok instance) }

@@ -68,7 +68,7 @@ impl Linked {
         self.departing[trip.place()]
     }
 
-    /// Adds a link at the end. The only refusal is want of memory, and nothing is added then.
+    /// Adds a link at the end. The error is want of memory, and nothing is added then.
     pub fn push(&mut self, link: &Link) -> Result<(), NoMemory>
         requires { NamesBelow self.old.trips link.now.kind }
         ensures added { OnOk result (self.new.links ≡ self.old.links ++ link.now ∷ []) }

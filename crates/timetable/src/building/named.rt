@@ -84,8 +84,7 @@ impl<T: HasName> Named<T> {
         self.names.get_index_of(name.as_str())
     }
 
-    /// Adds an entry at the end, whose name no entry has yet. The only refusal is want of memory, and nothing is added
-    /// then.
+    /// Adds an entry at the end, whose name no entry has yet. The error is want of memory, and nothing is added then.
     pub fn push(&mut self, alloc: Global, entry: T) -> Result<(), NoMemory>
         requires { has_name T.name_of self.old (T.name_of entry) ≡ false }
         ensures added { OnOk result (self.new ≡ self.old ++ entry ∷ []) }
