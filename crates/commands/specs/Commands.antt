@@ -33,14 +33,14 @@ nodes_of texts = option_number USUAL_NODES MOST_BRANCHINGS texts.nodes
 abbrev pub rounds_of : Texts → Option ℕ
 rounds_of texts = option_number USUAL_ROUNDS MOST_ROUNDS texts.rounds
 
--- the trips of a generated day: an even number from 2 to 400
+-- the trips of a trial day: an even number from 2 to 400
 abbrev pub even_trips : ℕ → Option ℕ
 even_trips trips = if nat_le 2 trips && (trips % 2 == 0) then Some trips else None
 
 abbrev pub trips_of : List ℕ → Option ℕ
 trips_of text = option_and_then even_trips (number_up_to MOST_TRIPS text)
 
--- what a generated day is made from, and its trips
+-- what a trial day is made from, and its trips
 abbrev pub numbers_of : List ℕ → List ℕ → Option (ℕ × ℕ)
 numbers_of seed trips =
     option_and_then (λ number. option_map (λ count. (number, count)) (trips_of trips)) (number_up_to MOST_SEED seed)

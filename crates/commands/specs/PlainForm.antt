@@ -34,7 +34,7 @@ IsInFolder dir positional nodes rounds = (positional ≡ dir ∷ []) × (nodes �
 abbrev pub IsSearch : ℕ → ℕ → WordList → WordList → Type 0
 IsSearch n k nodes rounds = IsOption USUAL_NODES MOST_BRANCHINGS nodes n × IsOption USUAL_ROUNDS MOST_ROUNDS rounds k
 
--- what a generated day is made from, and its trips, an even number that is not 0
+-- what a trial day is made from, and its trips, an even number that is not 0
 pub record IsTrial (positional : WordList) (seed trips : ℕ) : Type 0 where
   pub seed_text : List ℕ
   pub trips_text : List ℕ

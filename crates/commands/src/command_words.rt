@@ -187,7 +187,7 @@ fn rounds_of(taken: GivenTexts<'_>) -> Option<u8>
     }
 }
 
-/// What a generated day is made from, and its trips.
+/// What a trial day is made from, and its trips.
 fn day(taken: GivenTexts<'_>) -> Option<(u32, u32)>
     ensures { result ≡ day_of (texts_in taken.entry) }
 {
@@ -206,7 +206,7 @@ fn day(taken: GivenTexts<'_>) -> Option<(u32, u32)>
     Some((seed, trips))
 }
 
-/// The trips of a generated day: an even number from 2 to 400.
+/// The trips of a trial day: an even number from 2 to 400.
 fn trips_of(word: &str) -> Option<u32>
     ensures { result ≡ trips_of word.now }
 {
