@@ -22,9 +22,9 @@ use timetable::{Instance, NamedPlan, Picks};
 pub(crate) enum RunsRefusal {
     /// There are not as many as the day has trips.
     Differ {
-        /// The runs.
+        /// How many runs there are.
         said: u32,
-        /// The trips of the day.
+        /// How many trips the day has.
         found: u32,
     },
     /// The run of this trip, the first such, names a unit that the day does not have.

@@ -31,9 +31,9 @@ pub enum AnswerVerdict {
     Valid,
     /// It has a plan with another number of runs than the day has trips.
     RunsDiffer {
-        /// Its runs.
+        /// How many runs it has.
         said: u32,
-        /// The trips of the day.
+        /// How many trips the day has.
         found: u32,
     },
     /// The run of this trip, the first such, names a unit that the day does not have.
@@ -60,7 +60,7 @@ pub fn check_answer(
     ensures holds { IfOk result (λ verdict. verdict ≡ AnswerVerdict.Valid → IsTrueOf instance.now answer.now) }
     ensures can_come { IfOk result CanCome }
 {
-    // What these calls ensure of trips and links, and a catalogue within its limit, leave some verdicts out.
+    // Limits of trips, links and compositions, within which some verdicts never come.
     prove!(instance.trips() as usize <= MOST_TRIPS);
     prove!(instance.links() as usize <= MOST_LINKS);
     prove!(instance.catalogue().len() as usize <= MOST_COMPOSITIONS);

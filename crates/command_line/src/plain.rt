@@ -31,9 +31,9 @@ impl Model for Seen {
     } };
 }
 
-/// Whether the words after a command word are of the plain form: as many positional words as there are to be, which are
-/// not empty and don't begin with `-`, and in any mixture with them each option that there may be at most once, as one
-/// word (`--nodes=5`) or as two (`--nodes 5`), of which the second is not empty and doesn't begin with `-`.
+/// Whether the words after a command word are of the plain form: as many positional words as the form has, which are
+/// not empty and don't begin with `-`, and in any mixture with them each option of the form at most once, as one word
+/// (`--nodes=5`) or as two (`--nodes 5`), of which the second is not empty and doesn't begin with `-`.
 pub fn is_plain(form: Form, words: &[&str]) -> bool
     ensures { result ≡ fits form (parts_of (map (λ word. word.now) words.now)) }
 {

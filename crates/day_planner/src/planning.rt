@@ -34,8 +34,9 @@ use unit_duties::{DutyRefusal, name_units};
 
 /// Plans a day by a search of at most so many branchings, and answers it with a proof of what it says.
 ///
-/// `nodes` is how many branchings are granted, at most 4,000, and `rounds` in how many rounds the advisors are asked
-/// about a node, at most 100. Each advisor was asked at most 2^63 times.
+/// `nodes` is how many branchings are granted, at most 4,000, and `rounds` in how many rounds the advisors may be asked
+/// at a node, at most 100: in all, each is asked at most `rounds` times the nodes. Each advisor was asked at most 2^63
+/// times before.
 ///
 /// The answer is true whatever the advisors propose: its plan, where it has one, runs and costs what it says, what it
 /// says of all plans of named units is true of them, and its tree proves that, so that `check_answer` finds it valid.

@@ -17,10 +17,10 @@ use timetable::{Instance, Picks};
 /// The report of the yards of a day whose trips have picked compositions, as a table of comma-separated values with the
 /// columns `station,type,time,taken,ready,count`. The rows of a station come type by type: `start` tells the units that
 /// are at home there, then comes each minute at which trips leave the station, and `end` tells the units that are there
-/// when the day is over. A minute's `taken` counts the units that trips take then, its `ready` those that may be taken
-/// since then or since a time after the row before, and its `count` those that are left there. The `ready` of `end`
-/// counts those that may be taken only after all these minutes. The row `start` stands before every minute, so that
-/// none that becomes ready is left out.
+/// when the day is over. A minute's `taken` counts the units that trips take then, its `ready` those that become ready
+/// by then and after the minute of the row before, and its `count` those that are left there. The `ready` of `end`
+/// counts those that become ready after all these minutes. The row `start` stands before every minute, so that none
+/// that becomes ready is left out.
 ///
 /// There is one pick for each trip, and each is the number of a composition of the catalogue. No count is below zero
 /// where they are those of a plan that runs. The error is want of memory.

@@ -42,8 +42,8 @@ fn path_of(alloc: Global, dir: &str) -> Result<String, NoMemory>
 /// The answer that the file `answer.txt` of a folder is, or why there is none. The error is want of memory.
 ///
 /// - `CannotRead`: the count of faults rose or stands at its last value, and a read of that file may fail.
-/// - `TooLong`: more bytes were handed out than an answer may have, or their count had reached 2^63; the file is
-///   longer.
+/// - `TooLong`: more bytes were handed out than an answer may have, or their count had reached 2^63; where the folder
+///   tells what it holds, the file is longer.
 /// - `Refused`: the bytes are no answer, for the first wrong line. There are such bytes also where the folder doesn't
 ///   tell what it holds.
 ///

@@ -44,8 +44,8 @@ struct Search {
 /// are granted don't suffice.
 ///
 /// `root` is over the trips and the catalogue of the problem. `grant` is how many branchings may be made, at most
-/// 4,000, and `rounds` how often an advisor may be asked about one node, at most 100. Each advisor was asked at most
-/// 2^63 times.
+/// 4,000, and `rounds` in how many rounds the advisors may be asked at a node, at most 100. Each advisor was asked at
+/// most 2^63 times.
 ///
 /// The answer is proved by its tree, whatever the advisors propose. `Bounded` comes exactly where all branchings that
 /// are granted are made and a leaf is open: its bound is below the cost of the best solution, or there is none yet.
@@ -53,9 +53,9 @@ struct Search {
 ///
 /// Afterwards an advisor of the same identity stands at each place, whatever the answer is, and none was asked fewer
 /// times than before. One that had quit stays so and is not asked, and none is asked once it has quit, as its call
-/// wants. Each was asked at most `rounds` times for each node that was made, or, after the error, for each that may be
-/// made. Where there is no error and there are rounds, one that has not quit was asked at least as often as there are
-/// branchings and leaves that are open at the end.
+/// wants. Each was asked, in all, at most `rounds` times the nodes that were made, or, after the error, `rounds` times
+/// the nodes that may be made. Where there is no error and there are rounds, one that has not quit was asked, in all,
+/// at least as often as there are branchings and leaves that are open at the end.
 ///
 /// The error is want of memory alone, here or in an advisor. What the problem means is as before after any answer.
 pub fn solve<R: Relaxation>(
