@@ -48,8 +48,7 @@ impl Model for Catalogue {
 
 impl Catalogue {
     /// The catalogue of the compositions that are no longer than so many metres. It is refused as `TooMany` exactly
-    /// where more than 1,000 fit, and takes no more time then than for the first 1,001; the other refusal is want of
-    /// memory.
+    /// where more than 1,000 fit; the other refusal is want of memory.
     pub fn build(
         alloc: Global,
         types: &UnitTypes,

@@ -2,8 +2,9 @@
 //! the day.
 //!
 //! It is filled in two passes. The first notes each unit that is given or taken at the first minute at which it counts,
-//! the second adds these numbers up, from the units at the start. So the time grows with the units of all trains,
-//! the size of the table, and for each station and type the rows of the stock, among which its start is sought.
+//! the second adds these numbers up, from the units at the start. So the time, of which no clause speaks, grows with
+//! the units of all trains, the size of the table, and for each station and type the rows of the stock, among which its
+//! start is sought.
 
 ghost use Rattle.std.specs.Prelude.{ℕ, ◌≡◌, ◌<◌, ◌≤◌, ◌+◌, ◌^◌, [], map, length, get_or, take, drop, pos, OnOk, IfOk};
 ghost use Rattle.std.specs.List.{AllPairs};

@@ -61,8 +61,8 @@ impl<'a> Ledger<'a> {
 
     /// Loads the compositions that are picked for the trips, in place of those that were loaded before. There is one
     /// pick for each trip, a composition of the catalogue. Where the rule of a turn is broken, all of its two lists is
-    /// given and taken. It takes no memory, and time that grows with the units of all trains, the number of counts, and
-    /// for each station and type the rows of the stock.
+    /// given and taken. It takes no memory. Its time, of which no clause speaks, grows with the units of all trains,
+    /// the number of counts, and for each station and type the rows of the stock.
     pub fn load(&mut self, picks: &Picks)
         requires { ArePicks self.old.day picks.now }
         ensures { self.new ≡ record { day = self.old.day; lists = picked self.old.day picks.now } }

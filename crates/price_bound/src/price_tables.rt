@@ -3,8 +3,8 @@
 //! They are made once for each list of multipliers, so that a price is then looked up. Each multiplier of a station and
 //! type is put at its place among the departure minutes of the station, or after them, and these are added up from the
 //! last to the first: the sum at a minute is the price of a unit there. So no trip is looked at for each multiplier.
-//! The time grows with the multipliers, with the minutes and the trips times the types, and, since the tables are
-//! cleared first, with the trips and the links times the compositions.
+//! The time, of which no clause speaks, grows with the multipliers times the stations, with the minutes and the trips
+//! times the types, and, since the tables are cleared first, with the trips and the links times the compositions.
 
 ghost use Rattle.std.specs.Prelude.{◌≡◌, ◌<◌, length, fold, IfOk};
 ghost use Rattle.timetable.specs.Indices.{IsPlace, lambdas_of, places_of};

@@ -51,10 +51,12 @@ impl Model for Graphs {
 }
 
 impl Graphs {
-    /// The edges of all links of a day. For each link it looks at pairs of which one composition is the other or some
-    /// of its units, one or two for each unit of each composition, and not at all pairs. Where a turn may exchange
-    /// units it also looks at each composition that is some of another's units with one or two units more. An edge
-    /// takes 20 bytes, and the list of a link gives back the room that it does not need. The error is want of memory.
+    /// The edges of all links of a day. The error is want of memory.
+    ///
+    /// Of its way no clause speaks: for each link it looks at pairs of which one composition is the other or some of
+    /// its units, one or two for each unit of each composition, and not at all pairs. Where a turn may exchange units
+    /// it also looks at each composition that is some of another's units with one or two units more. An edge takes 20
+    /// bytes, and the list of a link gives back the room that it does not need.
     pub fn build(alloc: Global, instance: &Instance) -> Result<Graphs, NoMemory>
         ensures { IfOk result (λ graphs. AreGraphs instance.now graphs) }
     {

@@ -241,9 +241,9 @@ fn add_made(
     Ok(())
 }
 
-/// The pairs of compositions, each once and in order, between which the link may have an edge. It looks for each of the
-/// units of each composition once or twice in the catalogue, and where the link has exchange for what stays of each
-/// composition with each list of one or two units.
+/// The pairs of compositions, each once and in order, between which the link may have an edge. Of its way no clause
+/// speaks: it looks for each of the units of each composition once or twice in the catalogue, and where the link has
+/// exchange for what stays of each composition with each list of one or two units.
 pub(crate) fn pairs_of(
     alloc: Global,
     instance: &Instance,

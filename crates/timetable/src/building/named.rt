@@ -1,4 +1,4 @@
-//! Entries that have names: kept in order, and each found by its name in steps that do not grow with their number.
+//! Entries that have names: kept in order, and each found by the hash of its name.
 
 ghost use Rattle.std.specs.Prelude.{◌≡◌, ◌<◌, ◌++◌, ◌∷◌, [], List, ℕ, length, false, IfSome, OnOk, OnErr};
 ghost use Rattle.timetable.specs.NamedEntries.{has_name, find_name};
