@@ -1,9 +1,11 @@
-//! Days, plans and multipliers: days of two stations, and days of four trips with links; and what is refused.
+//! Days, plans and multipliers: days of two stations, and days of four trips with links; what turns keep; and what is
+//! refused.
 
 use crate::telling::told;
-use rail_base::{Name, NoMemory, StationNo, TripNo, TypeNo, UnitNo};
+use rail_base::limits::MOST_COMPOSITION;
+use rail_base::{LinkNo, Name, NoMemory, StationNo, TripNo, TypeNo, UnitNo};
 use rail_csv::{PlanRow, UnitList, plan};
-use sample_days::{RING, TURN, Texts, day_of, table};
+use sample_days::{RING, TURN, TWO_TYPES, Texts, day_of, table};
 use std::alloc::{AllocError, Global};
 use std::process::Abort;
 use std::test::Fail;
@@ -264,4 +266,104 @@ fn a_unit_past_every_day_is_refused(rt: HostRuntime) -> Result<(), Fail> {
     let text = told_past_every_day(rt.alloc())?;
     assert!(rt; text.as_str() == "UnknownUnit(1)", "{text}");
     Ok(())
+}
+
+/// A day of the types A and B with a turn that may exchange units at the rear.
+const EXCHANGE: Texts<'static> = Texts {
+    links: b"kind,arriving,arriving2,departing,departing2,reverse,uncouple,couple,exchange\n\
+        turn,T1,,T2,,yes,rear,rear,yes\n",
+    ..TWO_TYPES
+};
+
+/// The same day, where units go from the front and come to the rear.
+const ROUND_THE_TRAIN: Texts<'static> = Texts {
+    links: b"kind,arriving,arriving2,departing,departing2,reverse,uncouple,couple,exchange\n\
+        turn,T1,,T2,,yes,front,rear,yes\n",
+    ..TWO_TYPES
+};
+
+/// The number of the first type of that day.
+const A: u32 = 0;
+/// The number of the second one.
+const B: u32 = 1;
+
+/// How many units a turn keeps of an arriving list, as it stands after the reversal, where this list departs.
+struct Kept {
+    arriving: &'static [u32],
+    departing: &'static [u32],
+    kept: Option<u32>,
+}
+
+/// What stays is a front of both lists.
+const KEPT_IN_FRONT: &[Kept] = &[
+    // A train AB has turned round into BA. All of it stays, or B does.
+    Kept {
+        arriving: &[B, A],
+        departing: &[B, A],
+        kept: Some(2),
+    },
+    Kept {
+        arriving: &[B, A],
+        departing: &[B, B],
+        kept: Some(1),
+    },
+    // Nothing stays of a train AB that has turned round, where AB departs.
+    Kept {
+        arriving: &[B, A],
+        departing: &[A, B],
+        kept: None,
+    },
+    // A fits, and so does AA, which is longer. Three would go, more than an exchange may uncouple: that is not asked.
+    Kept {
+        arriving: &[A, A, B, B, B],
+        departing: &[A, A, A],
+        kept: Some(2),
+    },
+];
+
+/// What stays is the rear of what arrives, and the front of what departs.
+const KEPT_BETWEEN: &[Kept] = &[
+    Kept {
+        arriving: &[A, A],
+        departing: &[A, A],
+        kept: Some(2),
+    },
+    Kept {
+        arriving: &[A, B],
+        departing: &[B, A],
+        kept: Some(1),
+    },
+    Kept {
+        arriving: &[B, A],
+        departing: &[B, B],
+        kept: None,
+    },
+];
+
+/// The types of these numbers.
+fn types(alloc: Global, numbers: &[u32]) -> Result<Vec<TypeNo>, AllocError> {
+    let mut types = Vec::new(alloc);
+    for number in numbers {
+        types.push(TypeNo(*number))?;
+    }
+    Ok(types)
+}
+
+/// Asserts how many units the only link of a day keeps.
+fn are_kept(rt: &impl Abort, alloc: Global, texts: &Texts<'_>, rows: &[Kept]) -> Result<(), Fail> {
+    let day = day_of(alloc, texts)?;
+    assert!(rt; day.links() == 1);
+    for row in rows {
+        let (arriving, departing) = (types(alloc, row.arriving)?, types(alloc, row.departing)?);
+        assert!(rt; arriving.len() <= MOST_COMPOSITION && departing.len() <= MOST_COMPOSITION);
+        let kept = day.kept(LinkNo(0), arriving.as_slice(), departing.as_slice());
+        assert!(rt; kept == row.kept, "{kept:?}");
+    }
+    Ok(())
+}
+
+#[test]
+fn turns_keep_the_longest_list(rt: HostRuntime) -> Result<(), Fail> {
+    are_kept(&rt, rt.alloc(), &EXCHANGE, KEPT_IN_FRONT)?;
+    are_kept(&rt, rt.alloc(), &ROUND_THE_TRAIN, KEPT_BETWEEN)
 }
