@@ -176,14 +176,14 @@ IsRaisedAt problem region node = Unit {0}
 abbrev pub IsNoBetter : Meanings → Option Priced → List ℕ → Type 0
 IsNoBetter problem plan picks = problem.IsSolution picks → is_below (problem.cost picks) plan ≡ false
 
--- the choice of a cost leaf under its multipliers is no better than the plan
+-- the choice of a cost leaf under its multipliers is no solution, or there is a plan that costs no more
 abbrev pub IsSettledAt : Meanings → Option Priced → List (List Bool) → Node → Type 0
 IsSettledAt problem plan region (CostLeaf bound multipliers) =
     (picks : List ℕ) × IsChoice problem region multipliers Cost picks × IsNoBetter problem plan picks
 IsSettledAt problem plan region node = Unit {0}
 
--- A tree that does not end early: each cost leaf has at least the bound without multipliers, its choice is no better
--- than the plan, and no open leaf has an evident end.
+-- A tree that does not end early: each cost leaf has at least the bound without multipliers, its choice is no solution
+-- unless there is a plan that costs no more, and no open leaf has an evident end.
 pub record EndsInTime (problem : Meanings) (root : List (List Bool)) (plan : Option Priced)
     (nodes : List Node) : Type 0 where
   pub raised : Covers problem.catalogue (IsRaisedAt problem) root nodes

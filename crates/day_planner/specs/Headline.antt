@@ -39,8 +39,8 @@ pub record IsHeadline (day : Day) (grant : ℕ) (answer : Answer) : Type 0 where
   pub left_open : IsSome (bound_said answer.head) → HasOpenLeaf (plan_said answer valid.picks) answer.tree
   -- `bounded` never comes where as many branchings are granted as the trips have choices of compositions, less one
   pub enough : choices_of (root_of day) ≤ grant + 1 → bound_said answer.head ≡ None
-  -- no bound is below the one without multipliers, what a bound finds is no plan cheaper than that of the answer, and no
-  -- open leaf has an evident end
+  -- no bound is below the one without multipliers; what the bound of a leaf finds is a plan that runs only where the
+  -- answer has one that costs no more; and no open leaf has an evident end
   pub evident : EndsInTime (meanings_of day) (root_of day) (plan_said answer valid.picks) answer.tree
   -- its text can be read again
   pub within : IsWithin MOST_NODES answer

@@ -35,11 +35,12 @@ use unit_duties::{DutyRefusal, name_units};
 /// Plans a day by a search of at most so many branchings, and answers it with a proof of what it says.
 ///
 /// `nodes` is how many branchings are granted, at most 4,000, and `rounds` in how many rounds the advisors may be asked
-/// at a node, at most 100: in all, each is asked at most `rounds` times the nodes. Each advisor was asked at most 2^63
-/// times before.
+/// at a node, at most 100: in all, each is asked at most `rounds` times for each node of the tree, of which there are
+/// at most `2 * nodes + 1`. Each advisor was asked at most 2^63 times before.
 ///
 /// The answer is true whatever the advisors propose: its plan, where it has one, runs and costs what it says, what it
 /// says of all plans of named units is true of them, and its tree proves that, so that `check_answer` finds it valid.
+/// The units of its plan are named by the rule of `name_units`.
 /// It is `bounded` only where all branchings that are granted were made and a leaf is open.
 ///
 /// Afterwards an advisor of the same identity stands at each place, whatever the answer is, and they are asked as

@@ -29,8 +29,8 @@ is_enough More = false
 is_enough Enough = true
 is_enough Quit = false
 
--- what is shown of a node after so many rounds: how far its region is divided, what its first, its kept and its last evaluation
--- gave, and the slacks of its last picks
+-- what is shown of a node after so many rounds: how far its region is divided, what its first, its kept and its last
+-- evaluation gave, and the slacks of its last picks
 pub record IsLookAt (problem : Meanings) (rounds : ℕ) (work : Work) (look : Look) : Type 0 where
   pub round : look.round ≡ rounds
   pub sizes : look.sizes.now ≡ map size_of work.region

@@ -20,7 +20,8 @@ use Rattle.search.specs.Evaluations.{IsEnding, IsEvaluated, IsOutcome, leaf_of}
 
 -- What is known of a node in work: its kept and its last evaluation are of its region, its first value is the chain
 -- value with no multipliers, and its end, where it has one, is one of its region. The kept picks are no better than the
--- best solution. The kept value is at least the first one; and where that leaves room for a better solution, the end of the region is not evident.
+-- best solution. The kept value is at least the first one; and where that leaves room for a better solution, the end of
+-- the region is not evident.
 pub record IsWorkedOn (problem : Meanings) (best : Option Priced) (work : Work) : Type 0 where
   pub kept : IsEvaluated problem work.region work.kept
   pub last : IsEvaluated problem work.region work.last

@@ -68,8 +68,7 @@ pub record IsMade {A : Type 0} (has_quit : A → Bool)
       outcome node
 
 -- A leaf over a region is put at a place and entered in the frontier, as the others still are. Where it may be branched
--- its number is how many nodes there were before; where it is open, `Done` holds; and without rounds it is made of its
--- first evaluation and of what it inherits.
+-- its number is how many nodes there were before; `Made` holds of it; and where it is open, `Done` holds.
 pub record IsPut (problem : Meanings) (region : List (List Bool)) (place : ℕ) (before after : Search)
     (Made : SearchNode → Type 0) (Done : Type 0) : Type 0 where
   pub node : SearchNode

@@ -50,7 +50,7 @@ pub record IsHeard {A : Type 0} (has_quit : A → Bool)
   pub enough : after.enough ≡ set before.enough place (is_enough word)
   pub used : IsUsed (has_quit advisor) problem before.best after.best proposal before.work after.work
 
--- the advisor at a place was asked, where it is to be asked, and else passed over
+-- the advisor at a place was asked, where it is to be asked, and else nothing changed
 pub record IsPassed {A : Type 0} (has_quit : A → Bool)
     (has_answered : AnswerTest A) (problem : Meanings) (round place : ℕ)
     (before after : Advised A) : Type 0 where
@@ -58,7 +58,7 @@ pub record IsPassed {A : Type 0} (has_quit : A → Bool)
       IsHeard has_quit has_answered problem round place before after
   pub left : (IsToBeAsked has_quit place before → ⊥) → after ≡ before
 
--- the advisors at the first places were asked in a round, one after another
+-- the advisors at the first places had their turns in a round, one after another
 abbrev pub AreHeard : {A : Type 0} → (A → Bool) → AnswerTest A →
     Meanings → ℕ → ℕ → Advised A → Advised A → Type 0
 AreHeard has_quit has_answered problem round zero before after = after ≡ before
@@ -66,7 +66,7 @@ AreHeard {A} has_quit has_answered problem round (suc place) before after =
     (middle : Advised A) × AreHeard has_quit has_answered problem round place before middle ×
     IsPassed has_quit has_answered problem round place middle after
 
--- so many rounds were made, in each of which all advisors were asked, one after another
+-- so many rounds were made, in each of which all advisors had their turns, one after another
 abbrev pub AreRounds : {A : Type 0} → (A → Bool) → AnswerTest A →
     Meanings → ℕ → Advised A → Advised A → Type 0
 AreRounds has_quit has_answered problem zero before after = after ≡ before
