@@ -33,12 +33,12 @@ pub record Leads (day : Day) (a b : ℕ) : Type 0 where
   pub from : leads_from link.kind ≡ a
   pub to : leads_to link.kind ≡ b
 
--- no link leads to the first trip
+-- no link leads the chain to its first trip
 abbrev pub Begins : Day → List ℕ → Type 0
 Begins day [] = ⊥
 Begins day (t ∷ ts) = (a : ℕ) → ¬ Leads day a t
 
--- no link leads on from the last trip
+-- no link leads the chain on from its last trip
 abbrev pub Ends : Day → List ℕ → Type 0
 Ends day [] = ⊥
 Ends day (t ∷ []) = (b : ℕ) → ¬ Leads day t b

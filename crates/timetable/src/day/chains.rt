@@ -105,7 +105,7 @@ fn chain_from(
 }
 
 /// The chains, by the tables of the links that lead into trips and on from them: one for each trip that no link leads
-/// to, in the order of these trips.
+/// a chain to, in the order of these trips.
 fn chains_of(
     alloc: Global,
     links: &[Link],

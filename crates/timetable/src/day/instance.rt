@@ -281,9 +281,10 @@ impl Instance {
         self.chains.len() as u32
     }
 
-    /// The trips of the chain of this number, which is below `chains`, in the order in which they run. No link leads to
-    /// the first trip or on from the last, and one leads from each trip to the next. The numbers of chains rise with
-    /// those of their first trips.
+    /// The trips of the chain of this number, which is below `chains`, in the order in which they run. A link leads
+    /// from each trip to the next. No link leads the chain to its first trip or on from its last; the first may still
+    /// be the second trip of a split, and the last the second trip of a join. The numbers of chains rise with those of
+    /// their first trips.
     pub fn chain(&self, chain: u32) -> &[TripNo]
         requires { chain < length (chains_of self.now) }
         ensures value { slice_get (chains_of self.now) chain ≡ Some result.now }
