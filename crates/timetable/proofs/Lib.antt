@@ -53,3 +53,4 @@ pub mod Ends
 pub mod LinkKinds
 pub mod Accounts
 pub mod Linked
+pub mod OnePlace

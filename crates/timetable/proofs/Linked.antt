@@ -1,10 +1,10 @@
 -- A day with links: where each link's rule holds, trips hand over to one another as they should.
 use Rattle.std.proofs.Common.{◌≡◌, ℕ, ◌≤◌, List, [], true, Option, Some, None, ap, ◌∙◌, subst, arith, ◌≢◌, ⊎_elim, inl}
 use Rattle.std.proofs.Common.{inr}
-use Rattle.std.specs.Prelude.{slice_get, unwrap_or, option_map, option_and_then}
+use Rattle.std.specs.Prelude.{slice_get, unwrap_or, option_map, option_and_then, IsTrue}
 use Rattle.std.proofs.lemmas.Bool.{cases_eq, le-leb}
 use Rattle.timetable.specs.Day.{Day, leaves, arrives, type_of}
-use Rattle.timetable.specs.Lists.{count_of}
+use Rattle.timetable.specs.Lists.{count_of, has}
 use Rattle.timetable.specs.Accepted.{AreLinks}
 use Rattle.timetable.specs.declared.day.records.Link.{Link}
 use Rattle.timetable.specs.Links.{list_of, link_holds, kind_holds, arriving_in, departing_in, incoming, outgoing}
@@ -38,24 +38,43 @@ taken_at : (day : Day) (plan : List (List ℕ)) (t : ℕ) (o : Option Link) → 
 unfolding taken_with
 taken_at day plan t o e = ap (λ o. unwrap_or (option_map (λ link. taken_by (type_of day) link.kind link.reverse plan) o) (list_of plan t)) e
 
+-- the link by which units stay in the train from one trip to another
+pub record StaysBy (day : Day) (a b : ℕ) : Type 0 where
+  pub number : ℕ
+  pub link : Link
+  pub at : slice_get day.links number ≡ Some link
+  pub arriving : IsTrue (has a (arriving_in link.kind))
+  pub departing : IsTrue (has b (departing_in link.kind))
+
+pub stays_by : (day : Day) (plan : List (List ℕ)) (u a b : ℕ) → 1 ≤ count_of u (kept day plan a b) → StaysBy day a b
+unfolding outgoing
+stays_by day plan u a b c = ⊎_elim
+    (λ (h : (link : Link) × IsNamed arriving_in day.links a link).
+    let same = kept_at day plan a b (Some h.0) (out_is day a h.0 h.1) in
+    let c' : 1 ≤ count_of u (kept_by (type_of day) (h.0).kind (h.0).reverse plan a b) = subst (λ l. 1 ≤ count_of u l) same c in
+    let names = kept_names (type_of day) u (h.0).kind (h.0).reverse plan a b c' in
+    record {
+      number = (h.1).number;
+      link = h.0;
+      at = (h.1).at;
+      arriving = le-leb 1 (count_of a (arriving_in (h.0).kind)) names.arriving;
+      departing = le-leb 1 (count_of b (departing_in (h.0).kind)) names.departing;
+    })
+    (λ none.
+    let same : kept day plan a b ≡ [] = kept_at day plan a b None (ap (option_and_then (slice_get day.links)) none.0) in
+    let c' : 1 ≤ 0 = subst (λ l. 1 ≤ count_of u l) same c in
+    absurd (omega arith))
+    (named_or_not arriving_in day.links a)
+
 rule_of : (day : Day) (link : Link) (plan : List (List ℕ)) → link_holds (type_of day) link plan ≡ true → kind_holds (type_of day) link.kind link.reverse plan ≡ true
 unfolding link_holds
 rule_of day link plan h = h
 
 module _ (day : Day) (plan : List (List ℕ)) (links : AreLinks day) where
   kept_in_time : (u a b : ℕ) → 1 ≤ count_of u (kept day plan a b) → arrives day a ≤ leaves day b
-  unfolding outgoing
-  kept_in_time u a b c = ⊎_elim
-      (λ (h : (link : Link) × IsNamed arriving_in day.links a link).
-      let same = kept_at day plan a b (Some h.0) (out_is day a h.0 h.1) in
-      let c' : 1 ≤ count_of u (kept_by (type_of day) (h.0).kind (h.0).reverse plan a b) = subst (λ l. 1 ≤ count_of u l) same c in
-      let names = kept_names (type_of day) u (h.0).kind (h.0).reverse plan a b c' in
-      links.in_time (h.1).number a b h.0 (h.1).at (le-leb 1 (count_of a (arriving_in (h.0).kind)) names.arriving) (le-leb 1 (count_of b (departing_in (h.0).kind)) names.departing))
-      (λ none.
-      let same : kept day plan a b ≡ [] = kept_at day plan a b None (ap (option_and_then (slice_get day.links)) none.0) in
-      let c' : 1 ≤ 0 = subst (λ l. 1 ≤ count_of u l) same c in
-      absurd (omega arith))
-      (named_or_not arriving_in day.links a)
+  kept_in_time u a b c =
+      let by : StaysBy day a b = stays_by day plan u a b c in
+      links.in_time by.number a b by.link by.at by.arriving by.departing
 
   gives_of : LinksHold day plan → (a : ℕ) → Gives day plan a
   unfolding outgoing

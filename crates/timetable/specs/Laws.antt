@@ -1,21 +1,25 @@
 -- Which tables make a day and which rows make a plan, decided by tests in their order; how many units are at home at a
--- station, and how many are wanted there; that a day's chains are no others; what a turn keeps, gives and takes; and
--- what has a multiplier.
-use Rattle.std.specs.Prelude.{ℕ, ◌≤◌, ◌≡◌, ◌↔◌, ◌==◌, ◌&&◌, List, Bool, Result, Ok, Err, IsOk, Some, length, slice_get}
+-- station, and how many are wanted there; that each unit is in one place at a time; that a day's chains are no others;
+-- what a turn keeps, gives and takes; and what has a multiplier.
+use Rattle.std.specs.Prelude.{ℕ, ◌≤◌, ◌<◌, ◌≡◌, ◌↔◌, ◌==◌, ◌&&◌, List, Bool, Result, Ok, Err, IsOk, Some, length}
+use Rattle.std.specs.Prelude.{slice_get}
+use Rattle.std.specs.List.{AllPairs}
 use Rattle.rail_csv.specs.declared.rows.End.{End}
 use Rattle.rail_csv.specs.declared.rows.PlanRow.{PlanRow}
 use Rattle.timetable.specs.declared.building.tables.Tables.{Tables}
 use Rattle.timetable.specs.declared.day.records.LinkKind.{LinkKind}
 use Rattle.timetable.specs.declared.day.records.Stock.{Stock}
-use Rattle.timetable.specs.Accepted.{AreLinks, rows_of}
+use Rattle.timetable.specs.Accepted.{IsDay, AreLinks, DoMeet, rows_of}
 use Rattle.timetable.specs.Build.{day_of}
 use Rattle.timetable.specs.Chains.{AreChains}
-use Rattle.timetable.specs.Day.{Day, home_of, type_of, unit_count, wanted_of}
+use Rattle.timetable.specs.Day.{Day, leaves, arrives, from_of, to_of, home_of, type_of, unit_count, wanted_of}
+use Rattle.timetable.specs.Duties.{duty}
 use Rattle.timetable.specs.Indices.{HaveMultipliers, lambdas_of, places_of}
 use Rattle.timetable.specs.Lists.{count_below}
 use Rattle.timetable.specs.Meaning.{IsDayOf}
 use Rattle.timetable.specs.Plans.{plan_of, plan_tests, IsPlanOf}
 use Rattle.timetable.specs.Refusals.{day_tests}
+use Rattle.timetable.specs.Running.{Runs, EachFollows}
 use Rattle.timetable.specs.Starts.{start_of}
 use Rattle.timetable.specs.Tests.{Test, NoneFailed, IsFirstFailed}
 use Rattle.timetable.specs.Turns.{IsKept, kept_of, Parts, AreParts, turn_parts}
@@ -53,6 +57,22 @@ pub record RowsSayStock : Type 0 where
   pub row : (day : Day) (r : ℕ) (row : Stock) → slice_get day.stock r ≡ Some row
       → rows_of day.stock row.station row.unit_type ≤ 1 → HasStock day row.station row.unit_type row.start row.end
   pub no_row : (day : Day) (s m : ℕ) → rows_of day.stock s m ≡ 0 → HasStock day s m 0 0
+
+-- what runs on trip a can run on trip b after it: b leaves from the station where a arrives, and no earlier than that
+pub record GoesOnTo (day : Day) (a b : ℕ) : Type 0 where
+  pub time : arrives day a ≤ leaves day b
+  pub station : to_of day a ≡ from_of day b
+
+-- what runs on these trips is in one place at a time: each trip leaves from where the one before it arrives, and of any
+-- two the later one leaves no earlier than the earlier one arrives
+pub record AreInOnePlace (day : Day) (trips : List ℕ) : Type 0 where
+  pub follows : EachFollows (GoesOnTo day) trips
+  pub apart : AllPairs (λ a b. arrives day a ≤ leaves day b) trips
+
+-- so are the trips of each unit in a plan that runs
+abbrev pub UnitsAreInOnePlace : Type 0
+UnitsAreInOnePlace = (day : Day) (plan : List (List ℕ)) (u : ℕ) → IsDay day → AreLinks day → DoMeet day → Runs day plan
+    → u < unit_count day → AreInOnePlace day (duty day plan u)
 
 -- two lists that are the chains of a day are one
 abbrev pub ChainsAreOne : Type 0

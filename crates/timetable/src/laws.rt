@@ -3,7 +3,7 @@
 //! Each law is the contract of a function that does nothing.
 
 ghost use Rattle.timetable.specs.Laws.{DaysAreMade, PlansAreMade, ChainsAreOne, KeepTheLongest, HaveParts};
-ghost use Rattle.timetable.specs.Laws.{UnitsAreAtHome, RowsSayStock, PlacesHaveMultipliers};
+ghost use Rattle.timetable.specs.Laws.{UnitsAreAtHome, RowsSayStock, UnitsAreInOnePlace, PlacesHaveMultipliers};
 ghost use Rattle.timetable.specs.TurnsWithoutExchange.{IsPlainTurn};
 
 /// Tables make a day exactly where no test on them fails, and a refusal is that of the first test that fails. A day is
@@ -29,6 +29,14 @@ pub fn units_are_at_home()
 /// wanted.
 pub fn rows_say_stock()
     ensures law { RowsSayStock }
+{}
+
+/// In a plan that runs each unit is in one place at a time, where every trip takes time and the trips of each link meet
+/// at a station in time, as on every accepted day. Of two trips that follow one another in its duty the second leaves
+/// from the station where the first arrives, and no earlier than it arrives; and of any two trips of the duty the later
+/// one leaves no earlier than the earlier one arrives.
+pub fn units_are_in_one_place()
+    ensures law { UnitsAreInOnePlace }
 {}
 
 /// Where no trip arrives for two links or departs by two, and links keep time, as on every accepted day, no other lists

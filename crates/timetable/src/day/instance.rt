@@ -5,7 +5,7 @@ ghost use Rattle.std.specs.Prelude.{◌+◌, IfOk, IfErr, IfSome};
 ghost use Rattle.std.specs.List.{All};
 ghost use Rattle.rail_csv.specs.Rows.{AreTypeRows, AreStationRows, AreStockRows, AreTripRows, AreLinkRows};
 ghost use Rattle.rail_csv.specs.Rows.{IsWeightsRow};
-ghost use Rattle.timetable.specs.Accepted.{IsDay, AreLinks, IsStocked, HaveCompositions};
+ghost use Rattle.timetable.specs.Accepted.{IsDay, AreLinks, DoMeet, IsStocked, HaveCompositions};
 ghost use Rattle.timetable.specs.Admissible.{is_admissible};
 ghost use Rattle.timetable.specs.Compositions.{compositions_of, composition_at};
 ghost use Rattle.rail_base.specs.Answers.{Unless, Gives};
@@ -135,11 +135,13 @@ impl Instance {
         self.trips.len() as u32
     }
 
-    /// How many links there are.
+    /// How many links there are. No trip arrives for two or departs by two, and the trips of each meet at a station in
+    /// time.
     pub fn links(&self) -> u32
         ensures value { result ≡ length self.now.links }
         ensures few { result ≤ MOST_LINKS }
         ensures sound { AreLinks self.now }
+        ensures meet { DoMeet self.now }
     {
         self.links.len() as u32
     }

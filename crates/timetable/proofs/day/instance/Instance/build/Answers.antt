@@ -8,7 +8,7 @@ use Rattle.timetable.specs.InstanceParts.{AreInstanceParts}
 use Rattle.timetable.specs.LinkRows.{links_in}
 use Rattle.timetable.proofs.Days.{day_is_made, day_within_limits, few_links}
 use Rattle.timetable.proofs.Entries.{are_stations, are_trips}
-use Rattle.timetable.proofs.Linking.{are_links}
+use Rattle.timetable.proofs.Linking.{are_links, do_all_meet}
 use Rattle.timetable.proofs.Leading.{next_known}
 use Rattle.timetable.proofs.Said.{is_day_of}
 use Rattle.timetable.proofs.StockRows.{stocked}
@@ -53,6 +53,7 @@ invariant_of-result c =
       within = entries_within c.args.tables day c.requires.types c.requires.stations c.requires.trips c.requires.weights made;
       catalogue = c.in_ok-rows.ensures.catalogue;
       links = are_links day c.args.tables.links linked;
+      meet = do_all_meet day c.args.tables.links linked;
       stocked = stocked day c.args.tables.stock (is_day_of c.args.tables day made).stock_rows (is_day_of c.args.tables day made).stock c.requires.stock.each;
       served = (is_day_of c.args.tables day made).served;
       incoming = parts.incoming;
