@@ -46,6 +46,7 @@ pub mod Picking
 pub mod YardTypes
 pub mod StockRows
 pub mod AtHome
+pub mod NumberedUnits
 pub mod RowsOfStock
 pub mod Ones
 pub mod Sums

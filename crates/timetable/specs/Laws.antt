@@ -1,8 +1,8 @@
--- Which tables make a day and which rows make a plan, decided by tests in their order; how many units are at home at a
--- station, and how many are wanted there; that each unit is in one place at a time; that a day's chains are no others;
--- what a turn keeps, gives and takes; and what has a multiplier.
-use Rattle.std.specs.Prelude.{ℕ, ◌≤◌, ◌<◌, ◌≡◌, ◌↔◌, ◌==◌, ◌&&◌, List, Bool, Result, Ok, Err, IsOk, Some, length}
-use Rattle.std.specs.Prelude.{slice_get}
+-- Which tables make a day and which rows make a plan, decided by tests in their order; how units are numbered, how
+-- many are at home at a station, and how many are wanted there; that each unit is in one place at a time; that a day's
+-- chains are no others; what a turn keeps, gives and takes; and what has a multiplier.
+use Rattle.std.specs.Prelude.{ℕ, ◌+◌, ◌≤◌, ◌<◌, ◌≡◌, ◌↔◌, ◌==◌, ◌&&◌, List, Bool, Result, Ok, Err, IsOk, Some}
+use Rattle.std.specs.Prelude.{length, take, slice_get}
 use Rattle.std.specs.List.{AllPairs}
 use Rattle.rail_csv.specs.declared.rows.End.{End}
 use Rattle.rail_csv.specs.declared.rows.PlanRow.{PlanRow}
@@ -10,7 +10,7 @@ use Rattle.timetable.specs.declared.building.tables.Tables.{Tables}
 use Rattle.timetable.specs.declared.day.records.LinkKind.{LinkKind}
 use Rattle.timetable.specs.declared.day.records.Stock.{Stock}
 use Rattle.timetable.specs.Accepted.{IsDay, AreLinks, DoMeet, rows_of}
-use Rattle.timetable.specs.Build.{day_of}
+use Rattle.timetable.specs.Build.{day_of, starts_of}
 use Rattle.timetable.specs.Chains.{AreChains}
 use Rattle.timetable.specs.Day.{Day, leaves, arrives, from_of, to_of, home_of, type_of, unit_count, wanted_of}
 use Rattle.timetable.specs.Duties.{duty}
@@ -39,6 +39,22 @@ pub record PlansAreMade : Type 0 where
   pub decided : (day : Day) (rows : List PlanRow) → IsDecided (plan_of day rows) (plan_tests day rows)
   pub meaning : (day : Day) (rows : List PlanRow) (plan : List (List ℕ)) → (plan_of day rows ≡ Ok plan)
       ↔ IsPlanOf day rows plan
+
+-- the unit is one of the day, of the row's type and at home at the row's station
+pub record IsOfRow (day : Day) (row : Stock) (u : ℕ) : Type 0 where
+  pub known : u < unit_count day
+  pub unit_type : type_of day u ≡ row.unit_type
+  pub home : home_of day u ≡ row.station
+
+-- units are numbered by stock row and then within the row: those of a row have the numbers after those of the rows
+-- before it, and there are no others than those of rows
+pub record AreNumbered (day : Day) : Type 0 where
+  pub of_row : (r k : ℕ) (row : Stock) → slice_get day.stock r ≡ Some row → k < row.start
+      → IsOfRow day row (starts_of (take r day.stock) + k)
+  pub all : unit_count day ≡ starts_of day.stock
+
+abbrev pub UnitsAreNumbered : Type 0
+UnitsAreNumbered = (day : Day) → AreNumbered day
 
 -- where a station has at most one stock row of a type, as many numbered units of the type are at home there as the row
 -- says for the start of the day, and none where it has no such row

@@ -3,7 +3,8 @@
 //! Each law is the contract of a function that does nothing.
 
 ghost use Rattle.timetable.specs.Laws.{DaysAreMade, PlansAreMade, ChainsAreOne, KeepTheLongest, HaveParts};
-ghost use Rattle.timetable.specs.Laws.{UnitsAreAtHome, RowsSayStock, UnitsAreInOnePlace, PlacesHaveMultipliers};
+ghost use Rattle.timetable.specs.Laws.{UnitsAreNumbered, UnitsAreAtHome, RowsSayStock, UnitsAreInOnePlace};
+ghost use Rattle.timetable.specs.Laws.{PlacesHaveMultipliers};
 ghost use Rattle.timetable.specs.TurnsWithoutExchange.{IsPlainTurn};
 
 /// Tables make a day exactly where no test on them fails, and a refusal is that of the first test that fails. A day is
@@ -16,6 +17,13 @@ pub fn days_are_made()
 /// plan is the one that they make exactly where it is the plan of the rows in their own words.
 pub fn plans_are_made()
     ensures law { PlansAreMade }
+{}
+
+/// Units are numbered by stock row and then within the row: the unit whose number is k more than the starts of all
+/// rows before a row, where k is below the start of that row, is of the row's type and at home at the row's station.
+/// There are as many units as the starts of all rows together, and so no others.
+pub fn units_are_numbered()
+    ensures law { UnitsAreNumbered }
 {}
 
 /// Where a station has at most one stock row of a type, as many of the numbered units of the type are at home there as
