@@ -55,3 +55,4 @@ pub mod LinkKinds
 pub mod Accounts
 pub mod Linked
 pub mod OnePlace
+pub mod MissingSeats

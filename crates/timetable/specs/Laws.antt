@@ -1,9 +1,10 @@
 -- Which tables make a day and which rows make a plan, decided by tests in their order; how units are numbered, how
--- many are at home at a station, and how many are wanted there; that each unit is in one place at a time; that a day's
--- chains are no others; what a turn keeps, gives and takes; and what has a multiplier.
+-- many are at home at a station, and how many are wanted there; that each unit is in one place at a time; which seats
+-- are missing; that a day's chains are no others; what a turn keeps, gives and takes; and what has a multiplier.
 use Rattle.std.specs.Prelude.{ℕ, ◌+◌, ◌≤◌, ◌<◌, ◌≡◌, ◌↔◌, ◌==◌, ◌&&◌, List, Bool, Result, Ok, Err, IsOk, Some}
 use Rattle.std.specs.Prelude.{length, take, slice_get}
 use Rattle.std.specs.List.{AllPairs}
+use Rattle.compositions.specs.Composition.{seats_of, first_seats_of}
 use Rattle.rail_csv.specs.declared.rows.End.{End}
 use Rattle.rail_csv.specs.declared.rows.PlanRow.{PlanRow}
 use Rattle.timetable.specs.declared.building.tables.Tables.{Tables}
@@ -12,7 +13,9 @@ use Rattle.timetable.specs.declared.day.records.Stock.{Stock}
 use Rattle.timetable.specs.Accepted.{IsDay, AreLinks, DoMeet, rows_of}
 use Rattle.timetable.specs.Build.{day_of, starts_of}
 use Rattle.timetable.specs.Chains.{AreChains}
+use Rattle.timetable.specs.Cost.{missing_seats}
 use Rattle.timetable.specs.Day.{Day, leaves, arrives, from_of, to_of, home_of, type_of, unit_count, wanted_of}
+use Rattle.timetable.specs.Day.{demand_of, first_demand_of}
 use Rattle.timetable.specs.Duties.{duty}
 use Rattle.timetable.specs.Indices.{HaveMultipliers, lambdas_of, places_of}
 use Rattle.timetable.specs.Lists.{count_below}
@@ -89,6 +92,22 @@ pub record AreInOnePlace (day : Day) (trips : List ℕ) : Type 0 where
 abbrev pub UnitsAreInOnePlace : Type 0
 UnitsAreInOnePlace = (day : Day) (plan : List (List ℕ)) (u : ℕ) → IsDay day → AreLinks day → DoMeet day → Runs day plan
     → u < unit_count day → AreInOnePlace day (duty day plan u)
+
+-- so many seats of a class are missing: none where there are enough, and else those with which there would be
+pub record AreMissing (seats demand missing : ℕ) : Type 0 where
+  pub enough : demand ≤ seats → missing ≡ 0
+  pub short : seats < demand → seats + missing ≡ demand
+
+-- the seats that are missing on a trip with this composition are those of first class and those of second class
+pub record AreMissingByClass (day : Day) (t : ℕ) (types : List ℕ) : Type 0 where
+  pub first : ℕ
+  pub second : ℕ
+  pub of_first : AreMissing (first_seats_of day.types types) (first_demand_of day t) first
+  pub of_second : AreMissing (seats_of day.types types) (demand_of day t) second
+  pub together : missing_seats day t types ≡ first + second
+
+abbrev pub SeatsAreMissingByClass : Type 0
+SeatsAreMissingByClass = (day : Day) (t : ℕ) (types : List ℕ) → AreMissingByClass day t types
 
 -- two lists that are the chains of a day are one
 abbrev pub ChainsAreOne : Type 0

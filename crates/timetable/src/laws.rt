@@ -4,7 +4,7 @@
 
 ghost use Rattle.timetable.specs.Laws.{DaysAreMade, PlansAreMade, ChainsAreOne, KeepTheLongest, HaveParts};
 ghost use Rattle.timetable.specs.Laws.{UnitsAreNumbered, UnitsAreAtHome, RowsSayStock, UnitsAreInOnePlace};
-ghost use Rattle.timetable.specs.Laws.{PlacesHaveMultipliers};
+ghost use Rattle.timetable.specs.Laws.{SeatsAreMissingByClass, PlacesHaveMultipliers};
 ghost use Rattle.timetable.specs.TurnsWithoutExchange.{IsPlainTurn};
 
 /// Tables make a day exactly where no test on them fails, and a refusal is that of the first test that fails. A day is
@@ -45,6 +45,13 @@ pub fn rows_say_stock()
 /// one leaves no earlier than the earlier one arrives.
 pub fn units_are_in_one_place()
     ensures law { UnitsAreInOnePlace }
+{}
+
+/// The seats that are missing on a trip are those of first class and those of second class. Of each class none is
+/// missing where there are as many seats as are wanted, or more; and where there are fewer, the seats and the missing
+/// ones are as many as are wanted.
+pub fn seats_are_missing_by_class()
+    ensures law { SeatsAreMissingByClass }
 {}
 
 /// Where no trip arrives for two links or departs by two, and links keep time, as on every accepted day, no other lists
