@@ -51,14 +51,13 @@ pub record IsEmptyFor (problem : Meanings) (proposal : Proposed) : Type 0 where
 
 -- a test of an advisor: whether its last call may have been one with this look, this proposal given, this answer and
 -- this proposal left
-abbrev pub AnswerTest : Type 0 → Type 0
-AnswerTest A = A → Look → Proposed → Result Word NoMemory → Proposed → Bool
+abbrev pub CallTest : Type 0 → Type 0
+CallTest A = A → Look → Proposed → Result Word NoMemory → Proposed → Bool
 
 -- an advisor was shown a node in a round and given a proposal that is empty, and then it answered this and left this
 -- proposal
-pub record IsAnswered {A : Type 0} (has_answered : AnswerTest A)
-    (problem : Meanings) (round : ℕ) (work : Work) (advisor : A) (answer : Result Word NoMemory)
-    (proposal : Proposed) : Type 0 where
+pub record IsAnswered {A : Type 0} (has_answered : CallTest A) (problem : Meanings) (round : ℕ) (work : Work)
+    (advisor : A) (answer : Result Word NoMemory) (proposal : Proposed) : Type 0 where
   pub look : Look
   pub given : Proposed
   pub shown : IsLookAt problem round work look

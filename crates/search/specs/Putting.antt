@@ -15,7 +15,7 @@ use Rattle.search.specs.declared.evaluation.Outcome.TheVariants.{Ended, Open}
 use Rattle.search.specs.declared.work.Work.{Work}
 use Rattle.search.specs.Evaluations.{IsOutcome, leaf_of}
 use Rattle.search.specs.Nodes.{IsDivisionAt, IsLeafOf, branched, tree_node}
-use Rattle.search.specs.NodeAdvice.{AnswerTest}
+use Rattle.search.specs.NodeAdvice.{CallTest}
 use Rattle.search.specs.NodesInWork.{HasInherited, begun, node_from}
 use Rattle.search.specs.Offers.{IsOffered}
 use Rattle.search.specs.Rounds.{AreRounds}
@@ -27,38 +27,35 @@ IsNumbered number (Pending node) = node.number ≡ number
 
 -- A node in work was evaluated under what it inherits, and then so many rounds of advice were made, before which no
 -- advisor had enough.
-pub record IsWorkedOut {A : Type 0} (has_quit : A → Bool)
-    (has_answered : AnswerTest A) (problem : Meanings) (rounds : ℕ)
-    (inherited : List Entry) (advisors later : List A) (earlier best : Option Priced) (before after : Work) :
-    Type 0 where
+pub record IsInheritedAndAdvised {A : Type 0} (has_quit : A → Bool) (has_answered : CallTest A) (problem : Meanings)
+    (rounds : ℕ) (inherited : List Entry) (advisors later : List A) (earlier best : Option Priced)
+    (before after : Work) : Type 0 where
   pub middle : Option Priced
-  pub begun : Work
-  pub first : HasInherited problem earlier middle inherited before begun
+  pub with_inherited : Work
+  pub first : HasInherited problem earlier middle inherited before with_inherited
   pub enough : List Bool
   pub asked : AreRounds has_quit has_answered problem rounds
       (record {
         advisors = advisors;
         enough = replicate (length advisors) false;
         best = middle;
-        work = begun;
+        work = with_inherited;
       })
       (record { advisors = later; enough = enough; best = best; work = after })
 
 -- what a node is made of after the first evaluation of its region: the end that this shows, about which no advisor is
 -- asked; or what it inherits and the rounds of advice
-abbrev pub IsMadeAfter : {A : Type 0} → (A → Bool) → AnswerTest A →
-    Meanings → ℕ → List A → List A → Option Priced → Option Priced → List (List Bool) → List Entry → ℕ → Outcome →
-    SearchNode → Type 0
-IsMadeAfter has_quit has_answered problem rounds advisors later middle best region inherited number (Ended ending) node =
-    (node ≡ Fixed (leaf_of ending)) × (best ≡ middle) × (later ≡ advisors)
+abbrev pub IsMadeAfter : {A : Type 0} → (A → Bool) → CallTest A → Meanings → ℕ → List A → List A → Option Priced →
+    Option Priced → List (List Bool) → List Entry → ℕ → Outcome → SearchNode → Type 0
+IsMadeAfter has_quit has_answered problem rounds advisors later middle best region inherited number (Ended ending)
+    node = (node ≡ Fixed (leaf_of ending)) × (best ≡ middle) × (later ≡ advisors)
 IsMadeAfter has_quit has_answered problem rounds advisors later middle best region inherited number (Open evaluation)
-    node = (work : Work) × IsWorkedOut has_quit has_answered problem rounds inherited advisors later middle best
-    (begun region evaluation) work × (node ≡ node_from number best work)
+    node = (work : Work) × IsInheritedAndAdvised has_quit has_answered problem rounds inherited advisors later middle
+    best (begun region evaluation) work × (node ≡ node_from number best work)
 
 -- a node was made of a region: it was evaluated with no multipliers, and then, where that leaves it open, under those
 -- that it inherits and as the advisors propose
-pub record IsMade {A : Type 0} (has_quit : A → Bool)
-    (has_answered : AnswerTest A) (problem : Meanings) (rounds : ℕ)
+pub record IsMade {A : Type 0} (has_quit : A → Bool) (has_answered : CallTest A) (problem : Meanings) (rounds : ℕ)
     (advisors later : List A) (best : Option Priced) (region : List (List Bool)) (inherited : List Entry) (number : ℕ)
     (node : SearchNode) : Type 0 where
   pub middle : Option Priced
@@ -85,8 +82,7 @@ pub record IsPut (problem : Meanings) (region : List (List Bool)) (place : ℕ) 
 -- branched they have the next two numbers, the first one the lower. The best solution is that of the first side, and
 -- then of the second. The nodes are made of the sides of the division, which inherit its multipliers: that of the first
 -- side before that of the second.
-pub record IsBranchedAt {A : Type 0} (has_quit : A → Bool)
-    (has_answered : AnswerTest A) (problem : Meanings) (rounds : ℕ)
+pub record IsBranchedAt {A : Type 0} (has_quit : A → Bool) (has_answered : CallTest A) (problem : Meanings) (rounds : ℕ)
     (advisors later : List A) (best best' : Option Priced) (before after : List SearchNode) (place : ℕ) : Type 0 where
   pub division : Division
   pub left : SearchNode

@@ -6,18 +6,18 @@ use Rattle.advisors.specs.declared.advisor.Word.{Word}
 use Rattle.advisors.specs.Proposed.{Proposed}
 use Rattle.search.specs.declared.rounds.NodeAdvice.{NodeAdvice}
 use Rattle.search.specs.declared.work.Work.{Work}
-use Rattle.search.specs.NodeAdvice.{AnswerTest, IsAnswered, is_enough}
+use Rattle.search.specs.NodeAdvice.{CallTest, IsAnswered, is_enough}
 use Rattle.search.specs.NodesInWork.{IsTakenUp, is_left_open}
 
 -- how far the advice on a node has come: the advisors, which of them have enough, the best solution, and the node
-pub record Advised (A : Type 0) : Type 0 where
+pub record AdviceState (A : Type 0) : Type 0 where
   pub advisors : List A
   pub enough : List Bool
   pub best : Option Priced
   pub work : Work
 
-abbrev pub advised : {A : Type 0} → List A → NodeAdvice → Option Priced → Work → Advised A
-advised advisors advice best work = record {
+abbrev pub advice_state : {A : Type 0} → List A → NodeAdvice → Option Priced → Work → AdviceState A
+advice_state advisors advice best work = record {
   advisors = advisors;
   enough = advice.has_enough.items;
   best = best;
@@ -25,7 +25,7 @@ advised advisors advice best work = record {
 }
 
 -- the advisor at a place is to be asked: the node is open, and it has not said `Enough` for this node and has not quit
-pub record IsToBeAsked {A : Type 0} (has_quit : A → Bool) (place : ℕ) (state : Advised A) : Type 0 where
+pub record IsToBeAsked {A : Type 0} (has_quit : A → Bool) (place : ℕ) (state : AdviceState A) : Type 0 where
   pub left_open : is_left_open state.best state.work ≡ true
   pub more : get_or state.enough place false ≡ false
   pub stays : (none : A) → has_quit (get_or state.advisors place none) ≡ false
@@ -39,9 +39,8 @@ pub record IsUsed (has_quit : Bool) (problem : Meanings) (earlier best : Option 
 
 -- The advisor at a place was asked: it answered when it was shown the node, whether it has enough was noted, and what
 -- it proposed was used.
-pub record IsHeard {A : Type 0} (has_quit : A → Bool)
-    (has_answered : AnswerTest A) (problem : Meanings) (round place : ℕ)
-    (before after : Advised A) : Type 0 where
+pub record WasAsked {A : Type 0} (has_quit : A → Bool) (has_answered : CallTest A) (problem : Meanings)
+    (round place : ℕ) (before after : AdviceState A) : Type 0 where
   pub advisor : A
   pub word : Word
   pub proposal : Proposed
@@ -51,25 +50,22 @@ pub record IsHeard {A : Type 0} (has_quit : A → Bool)
   pub used : IsUsed (has_quit advisor) problem before.best after.best proposal before.work after.work
 
 -- the advisor at a place was asked, where it is to be asked, and else nothing changed
-pub record IsPassed {A : Type 0} (has_quit : A → Bool)
-    (has_answered : AnswerTest A) (problem : Meanings) (round place : ℕ)
-    (before after : Advised A) : Type 0 where
-  pub asked : IsToBeAsked has_quit place before →
-      IsHeard has_quit has_answered problem round place before after
+pub record HadItsTurn {A : Type 0} (has_quit : A → Bool) (has_answered : CallTest A) (problem : Meanings)
+    (round place : ℕ) (before after : AdviceState A) : Type 0 where
+  pub asked : IsToBeAsked has_quit place before → WasAsked has_quit has_answered problem round place before after
   pub left : (IsToBeAsked has_quit place before → ⊥) → after ≡ before
 
 -- the advisors at the first places had their turns in a round, one after another
-abbrev pub AreHeard : {A : Type 0} → (A → Bool) → AnswerTest A →
-    Meanings → ℕ → ℕ → Advised A → Advised A → Type 0
-AreHeard has_quit has_answered problem round zero before after = after ≡ before
-AreHeard {A} has_quit has_answered problem round (suc place) before after =
-    (middle : Advised A) × AreHeard has_quit has_answered problem round place before middle ×
-    IsPassed has_quit has_answered problem round place middle after
+abbrev pub HadTheirTurns : {A : Type 0} → (A → Bool) → CallTest A → Meanings → ℕ → ℕ → AdviceState A → AdviceState A →
+    Type 0
+HadTheirTurns has_quit has_answered problem round zero before after = after ≡ before
+HadTheirTurns {A} has_quit has_answered problem round (suc place) before after =
+    (middle : AdviceState A) × HadTheirTurns has_quit has_answered problem round place before middle ×
+    HadItsTurn has_quit has_answered problem round place middle after
 
 -- so many rounds were made, in each of which all advisors had their turns, one after another
-abbrev pub AreRounds : {A : Type 0} → (A → Bool) → AnswerTest A →
-    Meanings → ℕ → Advised A → Advised A → Type 0
+abbrev pub AreRounds : {A : Type 0} → (A → Bool) → CallTest A → Meanings → ℕ → AdviceState A → AdviceState A → Type 0
 AreRounds has_quit has_answered problem zero before after = after ≡ before
 AreRounds {A} has_quit has_answered problem (suc round) before after =
-    (middle : Advised A) × AreRounds has_quit has_answered problem round before middle ×
-    AreHeard has_quit has_answered problem round (length middle.advisors) middle after
+    (middle : AdviceState A) × AreRounds has_quit has_answered problem round before middle ×
+    HadTheirTurns has_quit has_answered problem round (length middle.advisors) middle after

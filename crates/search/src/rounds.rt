@@ -13,7 +13,7 @@ ghost use Rattle.search.specs.NodeAdvice.{AreStillNoted, IsAdviceFor, IsAnswered
 ghost use Rattle.search.specs.Offers.{IsOffered};
 ghost use Rattle.search.specs.Conclusions.{plan_in};
 ghost use Rattle.search.specs.NodesInWork.{IsWorkedOn, is_left_open};
-ghost use Rattle.search.specs.Rounds.{AreHeard, AreRounds, IsHeard, advised};
+ghost use Rattle.search.specs.Rounds.{AreRounds, HadTheirTurns, WasAsked, advice_state};
 
 use crate::found::Best;
 use crate::work::{Shown, Work};
@@ -68,8 +68,8 @@ pub(crate) fn make_rounds<R: Relaxation>(
     // The rounds: where their count stands, where the node is left open; and what they make of it.
     ensures rounds { OnOk result (is_left_open (plan_in best.new) work.new ≡ true → advice.new.shown.rounds ≡ rounds) }
     ensures made { OnOk result (AreRounds has_quit has_answered (R.meanings (R.problem problem.old)) rounds
-        (advised advisors.old.items advice.old (plan_in best.old) work.old)
-        (advised advisors.new.items advice.new (plan_in best.new) work.new)) }
+        (advice_state advisors.old.items advice.old (plan_in best.old) work.old)
+        (advice_state advisors.new.items advice.new (plan_in best.new) work.new)) }
 {
     for _round in 0..rounds {
         if !work.is_open(best) {
@@ -115,10 +115,10 @@ fn make_round<R: Relaxation>(
         AreAsked advisors.old.items advisors.new.items asked has_quit (once advice.old.has_enough.items) 1) }
 
     // What the round makes of the node.
-    ensures heard { OnOk result (AreHeard has_quit has_answered (R.meanings (R.problem problem.old))
+    ensures heard { OnOk result (HadTheirTurns has_quit has_answered (R.meanings (R.problem problem.old))
         advice.old.shown.rounds (length advisors.old.items)
-        (advised advisors.old.items advice.old (plan_in best.old) work.old)
-        (advised advisors.new.items advice.new (plan_in best.new) work.new)) }
+        (advice_state advisors.old.items advice.old (plan_in best.old) work.old)
+        (advice_state advisors.new.items advice.new (plan_in best.new) work.new)) }
 
     // Those that have enough, and the others.
     ensures noted { OnOk result (AreStillNoted advice.old.has_enough.items advice.new.has_enough.items) }
@@ -176,9 +176,9 @@ fn take_advice<R: Relaxation>(
     ensures enough { IfOk result (λ word. advice.new.has_enough.items ≡
         set advice.old.has_enough.items place (is_enough word)) }
     ensures rounds { OnOk result (advice.new.shown.rounds ≡ advice.old.shown.rounds) }
-    ensures heard { OnOk result (IsHeard has_quit has_answered (R.meanings (R.problem problem.old))
-        advice.old.shown.rounds place (advised advisors.old.items advice.old (plan_in best.old) work.old)
-        (advised advisors.new.items advice.new (plan_in best.new) work.new)) }
+    ensures heard { OnOk result (WasAsked has_quit has_answered (R.meanings (R.problem problem.old))
+        advice.old.shown.rounds place (advice_state advisors.old.items advice.old (plan_in best.old) work.old)
+        (advice_state advisors.new.items advice.new (plan_in best.new) work.new)) }
     ensures advisors { AreTheSame advisors.old.items advisors.new.items identity }
     ensures asked { IsAskedAt advisors.old.items advisors.new.items asked has_quit place }
 {

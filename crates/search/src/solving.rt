@@ -12,7 +12,7 @@ ghost use Rattle.search.specs.declared.nodes.SearchNode.{SearchNode};
 ghost use Rattle.search.specs.Questions.{AreAsked, AreTheSame, MayBeAsked, in_rounds};
 ghost use Rattle.search.specs.Ends.{HasEnded, HaveKeptUp, found_by, least_of, lesser, made_or_open};
 ghost use Rattle.search.specs.Frontiers.{HasLeastRank, IsEntered, IsOpenAt};
-ghost use Rattle.search.specs.Putting.{IsBranchedAt, IsMade, IsNumbered, IsPut, IsWorkedOut};
+ghost use Rattle.search.specs.Putting.{IsBranchedAt, IsInheritedAndAdvised, IsMade, IsNumbered, IsPut};
 ghost use Rattle.search.specs.Nodes.{IsDivisionAt, IsLeafOf, IsSearched, tree_node, tree_nodes};
 ghost use Rattle.search.specs.Offers.{IsOffered};
 ghost use Rattle.search.specs.Conclusions.{IsSolved, nodes_found, plan_found, plan_in};
@@ -426,8 +426,9 @@ fn work_on<R: Relaxation>(
         AreAsked advisors.old.items advisors.new.items asked has_quit (in_rounds rounds 1) rounds) }
 
     // What is inherited and the rounds make of the node.
-    ensures worked_out { OnOk result (IsWorkedOut has_quit has_answered (R.meanings (R.problem problem.old)) rounds
-        inherited.now advisors.old.items advisors.new.items (plan_in best.old) (plan_in best.new) work.old work.new) }
+    ensures worked_out { OnOk result (IsInheritedAndAdvised has_quit has_answered (R.meanings (R.problem problem.old))
+        rounds inherited.now advisors.old.items advisors.new.items (plan_in best.old) (plan_in best.new) work.old
+        work.new) }
 {
     work.inherit(alloc, problem, inherited, best)?;
     if !work.is_open(best) {

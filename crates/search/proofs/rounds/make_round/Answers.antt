@@ -7,7 +7,7 @@ use Rattle.search.specs.NodeAdvice.{IsAdviceFor, is_enough}
 use Rattle.search.specs.Offers.{IsOffered}
 use Rattle.search.specs.Conclusions.{plan_in}
 use Rattle.search.specs.NodesInWork.{IsWorkedOn}
-use Rattle.search.specs.Rounds.{AreHeard, IsHeard, advised}
+use Rattle.search.specs.Rounds.{HadTheirTurns, WasAsked, advice_state}
 use Rattle.search.proofs.Asking.{asked_all, asked_so_far, can_ask, length-up_to, once_most, once_read, pass_over}
 use Rattle.search.proofs.Asking.{not_yet, noted_but, noted_still, pass_unclaimed, read_at, still_alone, then_asked, then_asked_once}
 use Rattle.search.proofs.Asking.{then_passed, up_to_next}
@@ -92,7 +92,7 @@ loop-place-preserved-then-index g c =
           c.loop-place.invariant.each;
       advisors = c.loop-place.invariant.advisors;
       heard = heard_next (λ b. (goal.Advisor-dyn g (b.vtable, b.value)).has_quit b.value) (λ b. (goal.Advisor-dyn g (b.vtable, b.value)).has_answered b.value) (g.R.Relaxation.meanings (g.R.Relaxation.problem c.args.problem.now)) c.args.advice.now.shown.rounds c.loop-place.place
-          (advised c.args.advisors.now.items c.args.advice.now (plan_in c.args.best.now) c.args.work.now) (advised c.loop-place.advisors.items c.loop-place.advice (plan_in c.loop-place.best) c.loop-place.work) (advised c.loop-place.advisors.items c.loop-place.advice (plan_in c.loop-place.best) c.loop-place.work) c.loop-place.invariant.heard
+          (advice_state c.args.advisors.now.items c.args.advice.now (plan_in c.args.best.now) c.args.work.now) (advice_state c.loop-place.advisors.items c.loop-place.advice (plan_in c.loop-place.best) c.loop-place.work) (advice_state c.loop-place.advisors.items c.loop-place.advice (plan_in c.loop-place.best) c.loop-place.work) c.loop-place.invariant.heard
           (passed _ _ _ _ _ _ (λ is. both_ways (get_or c.loop-place.advice.has_enough.items c.loop-place.place false) is.more
           (sym (get_or_default c.loop-place.advice.has_enough.items c.loop-place.place c.index.result.now false within_flags) ∙ (sym c.index.ensures ∙ c.if-index.true))));
       asked = up_to_next _ _ (once c.args.advice.now.has_enough.items) c.loop-place.place c.args.advisors.now.items c.loop-place.advisors.items
@@ -118,7 +118,7 @@ loop-place-preserved-then-did_quit g c =
           (omega (arith, c.loop-place-test.true, c.len-place-end.ensures)) c.index-in-loop-place.ensures)) ∙ stays)))) c.loop-place.invariant.each;
       advisors = c.loop-place.invariant.advisors;
       heard = heard_next (λ b. (goal.Advisor-dyn g (b.vtable, b.value)).has_quit b.value) (λ b. (goal.Advisor-dyn g (b.vtable, b.value)).has_answered b.value) (g.R.Relaxation.meanings (g.R.Relaxation.problem c.args.problem.now)) c.args.advice.now.shown.rounds c.loop-place.place
-          (advised c.args.advisors.now.items c.args.advice.now (plan_in c.args.best.now) c.args.work.now) (advised c.loop-place.advisors.items c.loop-place.advice (plan_in c.loop-place.best) c.loop-place.work) (advised c.loop-place.advisors.items c.loop-place.advice (plan_in c.loop-place.best) c.loop-place.work) c.loop-place.invariant.heard
+          (advice_state c.args.advisors.now.items c.args.advice.now (plan_in c.args.best.now) c.args.work.now) (advice_state c.loop-place.advisors.items c.loop-place.advice (plan_in c.loop-place.best) c.loop-place.work) (advice_state c.loop-place.advisors.items c.loop-place.advice (plan_in c.loop-place.best) c.loop-place.work) c.loop-place.invariant.heard
           (passed _ _ _ _ _ _ (λ is. true≢false (sym c.if-did_quit.true ∙ (c.did_quit.ensures ∙
           (ap (λ b. (goal.Advisor-dyn g (b.vtable, b.value)).has_quit b.value) c.index-in-loop-place.ensures ∙ is.stays c.index-in-loop-place.result.now)))));
       asked = up_to_next _ _ (once c.args.advice.now.has_enough.items) c.loop-place.place c.args.advisors.now.items c.loop-place.advisors.items
@@ -160,14 +160,14 @@ loop-place-preserved g c =
           c.take_advice.ensures.asked c.loop-place.invariant.each;
       advisors = c.take_advice.ensures.advisors ∙ c.loop-place.invariant.advisors;
       heard = heard_next (λ b. (goal.Advisor-dyn g (b.vtable, b.value)).has_quit b.value) (λ b. (goal.Advisor-dyn g (b.vtable, b.value)).has_answered b.value) (g.R.Relaxation.meanings (g.R.Relaxation.problem c.args.problem.now)) c.args.advice.now.shown.rounds c.loop-place.place
-          (advised c.args.advisors.now.items c.args.advice.now (plan_in c.args.best.now) c.args.work.now) (advised c.loop-place.advisors.items c.loop-place.advice (plan_in c.loop-place.best) c.loop-place.work) (advised c.take_advice.new.advisors.items c.take_advice.new.advice (plan_in c.take_advice.new.best) c.take_advice.new.work) c.loop-place.invariant.heard
+          (advice_state c.args.advisors.now.items c.args.advice.now (plan_in c.args.best.now) c.args.work.now) (advice_state c.loop-place.advisors.items c.loop-place.advice (plan_in c.loop-place.best) c.loop-place.work) (advice_state c.take_advice.new.advisors.items c.take_advice.new.advice (plan_in c.take_advice.new.best) c.take_advice.new.work) c.loop-place.invariant.heard
           (heard _ _ _ _ _ _ _ (record {
             left_open = sym c.is_open.ensures ∙ c.if-not-is_open.false;
             more = has_not;
             stays = λ none. (can_ask _ _ (once c.args.advice.now.has_enough.items) c.loop-place.place c.args.advisors.now.items c.loop-place.advisors.items c.index-in-loop-place.result.now c.requires.room c.loop-place.invariant.asked
                 (omega (arith, c.loop-place-test.true, c.len-place-end.ensures, same)) c.index-in-loop-place.ensures (sym c.did_quit.ensures ∙ c.if-did_quit.false)).stays none;
-          }) (subst (λ (round : ℕ). IsHeard (λ b. (goal.Advisor-dyn g (b.vtable, b.value)).has_quit b.value) (λ b. (goal.Advisor-dyn g (b.vtable, b.value)).has_answered b.value) (g.R.Relaxation.meanings (g.R.Relaxation.problem c.args.problem.now)) round c.loop-place.place (advised c.loop-place.advisors.items c.loop-place.advice (plan_in c.loop-place.best) c.loop-place.work) (advised c.take_advice.new.advisors.items c.take_advice.new.advice (plan_in c.take_advice.new.best) c.take_advice.new.work)) c.loop-place.invariant.rounds
-          (subst (λ p. IsHeard (λ b. (goal.Advisor-dyn g (b.vtable, b.value)).has_quit b.value) (λ b. (goal.Advisor-dyn g (b.vtable, b.value)).has_answered b.value) (g.R.Relaxation.meanings p) c.loop-place.advice.shown.rounds c.loop-place.place (advised c.loop-place.advisors.items c.loop-place.advice (plan_in c.loop-place.best) c.loop-place.work) (advised c.take_advice.new.advisors.items c.take_advice.new.advice (plan_in c.take_advice.new.best) c.take_advice.new.work)) c.loop-place.invariant.same c.in_ok-take_advice.ensures.heard)));
+          }) (subst (λ (round : ℕ). WasAsked (λ b. (goal.Advisor-dyn g (b.vtable, b.value)).has_quit b.value) (λ b. (goal.Advisor-dyn g (b.vtable, b.value)).has_answered b.value) (g.R.Relaxation.meanings (g.R.Relaxation.problem c.args.problem.now)) round c.loop-place.place (advice_state c.loop-place.advisors.items c.loop-place.advice (plan_in c.loop-place.best) c.loop-place.work) (advice_state c.take_advice.new.advisors.items c.take_advice.new.advice (plan_in c.take_advice.new.best) c.take_advice.new.work)) c.loop-place.invariant.rounds
+          (subst (λ p. WasAsked (λ b. (goal.Advisor-dyn g (b.vtable, b.value)).has_quit b.value) (λ b. (goal.Advisor-dyn g (b.vtable, b.value)).has_answered b.value) (g.R.Relaxation.meanings p) c.loop-place.advice.shown.rounds c.loop-place.place (advice_state c.loop-place.advisors.items c.loop-place.advice (plan_in c.loop-place.best) c.loop-place.work) (advice_state c.take_advice.new.advisors.items c.take_advice.new.advice (plan_in c.take_advice.new.best) c.take_advice.new.work)) c.loop-place.invariant.same c.in_ok-take_advice.ensures.heard)));
       asked = up_to_next _ _ (once c.args.advice.now.has_enough.items) c.loop-place.place c.args.advisors.now.items c.take_advice.new.advisors.items
           (then_asked _ _ (once c.args.advice.now.has_enough.items) c.loop-place.place c.args.advisors.now.items c.loop-place.advisors.items c.take_advice.new.advisors.items (once_most c.args.advice.now.has_enough.items) c.loop-place.invariant.asked c.take_advice.ensures.asked);
     }
@@ -199,10 +199,10 @@ returns-in_err-take_advice-clause-alone g c =
 
 pub returns-then-not-is_open-clause-heard : goal.returns-then-not-is_open-clause-heard
 returns-then-not-is_open-clause-heard g c =
-    heard_to (λ b. (goal.Advisor-dyn g (b.vtable, b.value)).has_quit b.value) (λ b. (goal.Advisor-dyn g (b.vtable, b.value)).has_answered b.value) (g.R.Relaxation.meanings (g.R.Relaxation.problem c.args.problem.now)) c.args.advice.now.shown.rounds c.loop-place.place (length c.args.advisors.now.items) (advised c.args.advisors.now.items c.args.advice.now (plan_in c.args.best.now) c.args.work.now) (advised c.loop-place.advisors.items c.loop-place.advice (plan_in c.loop-place.best) c.loop-place.work)
+    heard_to (λ b. (goal.Advisor-dyn g (b.vtable, b.value)).has_quit b.value) (λ b. (goal.Advisor-dyn g (b.vtable, b.value)).has_answered b.value) (g.R.Relaxation.meanings (g.R.Relaxation.problem c.args.problem.now)) c.args.advice.now.shown.rounds c.loop-place.place (length c.args.advisors.now.items) (advice_state c.args.advisors.now.items c.args.advice.now (plan_in c.args.best.now) c.args.work.now) (advice_state c.loop-place.advisors.items c.loop-place.advice (plan_in c.loop-place.best) c.loop-place.work)
     (omega (arith, c.loop-place-test.true, c.len-place-end.ensures)) (sym c.is_open.ensures ∙ c.if-not-is_open.true) c.loop-place.invariant.heard
 
 pub returns-clause-heard : goal.returns-clause-heard
 returns-clause-heard g c =
     let all : c.loop-place.place ≡ length c.args.advisors.now.items = omega (arith, c.len-place-end.ensures, c.loop-place-test.false, c.loop-place.auto.place-end) in
-    subst (λ (places : ℕ). AreHeard (λ b. (goal.Advisor-dyn g (b.vtable, b.value)).has_quit b.value) (λ b. (goal.Advisor-dyn g (b.vtable, b.value)).has_answered b.value) (g.R.Relaxation.meanings (g.R.Relaxation.problem c.args.problem.now)) c.args.advice.now.shown.rounds places (advised c.args.advisors.now.items c.args.advice.now (plan_in c.args.best.now) c.args.work.now) (advised c.loop-place.advisors.items c.loop-place.advice (plan_in c.loop-place.best) c.loop-place.work)) all c.loop-place.invariant.heard
+    subst (λ (places : ℕ). HadTheirTurns (λ b. (goal.Advisor-dyn g (b.vtable, b.value)).has_quit b.value) (λ b. (goal.Advisor-dyn g (b.vtable, b.value)).has_answered b.value) (g.R.Relaxation.meanings (g.R.Relaxation.problem c.args.problem.now)) c.args.advice.now.shown.rounds places (advice_state c.args.advisors.now.items c.args.advice.now (plan_in c.args.best.now) c.args.work.now) (advice_state c.loop-place.advisors.items c.loop-place.advice (plan_in c.loop-place.best) c.loop-place.work)) all c.loop-place.invariant.heard

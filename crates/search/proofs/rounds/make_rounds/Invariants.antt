@@ -4,7 +4,7 @@ use Rattle.search.specs.NodeAdvice.{IsAdviceFor}
 use Rattle.search.specs.Offers.{IsOffered}
 use Rattle.search.specs.Conclusions.{plan_in}
 use Rattle.search.specs.NodesInWork.{IsWorkedOn, is_left_open}
-use Rattle.search.specs.Rounds.{AreRounds, advised}
+use Rattle.search.specs.Rounds.{AreRounds, advice_state}
 use Rattle.search.proofs.rounds.make_rounds.Given as goal
 
 abbrev pub invariant-loop-round : goal.invariant-loop-round
@@ -16,7 +16,7 @@ invariant-loop-round g l = record {
   advice : IsAdviceFor (g.R.Relaxation.meanings (g.R.Relaxation.problem l.fn.problem)) l.fn.work.region (length l.advisors.items) l.advice;
   made : AreRounds (λ b. (goal.Advisor-dyn g (b.vtable, b.value)).has_quit b.value) (λ b. (goal.Advisor-dyn g (b.vtable, b.value)).has_answered b.value)
       (g.R.Relaxation.meanings (g.R.Relaxation.problem l.fn.problem)) l._round
-      (advised l.fn.advisors.items l.fn.advice (plan_in l.fn.best) l.fn.work) (advised l.advisors.items l.advice (plan_in l.best) l.work);
+      (advice_state l.fn.advisors.items l.fn.advice (plan_in l.fn.best) l.fn.work) (advice_state l.advisors.items l.advice (plan_in l.best) l.work);
   advisors : AreTheSame l.fn.advisors.items l.advisors.items (λ b. (goal.Advisor-dyn g (b.vtable, b.value)).identity b.value);
   asked : AreAsked l.fn.advisors.items l.advisors.items (λ b. (goal.Advisor-dyn g (b.vtable, b.value)).asked b.value)
       (λ b. (goal.Advisor-dyn g (b.vtable, b.value)).has_quit b.value) 0 l._round;

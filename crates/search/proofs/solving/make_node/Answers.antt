@@ -10,9 +10,9 @@ use Rattle.search.specs.Questions.{AreAsked, in_rounds}
 use Rattle.search.specs.Offers.{IsOffered}
 use Rattle.search.specs.Conclusions.{plan_in}
 use Rattle.search.specs.NodesInWork.{IsWorkedOn}
+use Rattle.search.specs.Putting.{IsInheritedAndAdvised, IsMade, IsNumbered}
 use Rattle.search.proofs.Asking.{are_unasked}
 use Rattle.search.proofs.Evaluating.{is_ending, offered_again}
-use Rattle.search.specs.Putting.{IsMade, IsNumbered, IsWorkedOut}
 use Rattle.search.proofs.Placing.{begun, ended_leaf, ended_not_open, leaf_made_from, left_open_made, numbered_from}
 use Rattle.search.proofs.Returning.{if_ok_and, on_ok_and, on_ok_both, on_ok_known}
 use Rattle.search.proofs.solving.make_node.Goals as goal
@@ -123,8 +123,8 @@ returns-in_ok-work-in-Open-clause-made g c =
           (subst (λ outcome. IsOutcome problem c.args.region c.in_ok-none.none best outcome) c.in-Open.is c.in_ok-outcome.ensures.outcome);
       after = (
         c.work_on-worked.new.work,
-        subst (λ work. IsWorkedOut (λ b. (goal.Advisor-dyn g (b.vtable, b.value)).has_quit b.value) (λ b. (goal.Advisor-dyn g (b.vtable, b.value)).has_answered b.value) problem c.args.rounds inherited first last best after work c.work_on-worked.new.work) c.in_ok-work-in-Open.ensures
-            (subst (λ p. IsWorkedOut (λ b. (goal.Advisor-dyn g (b.vtable, b.value)).has_quit b.value) (λ b. (goal.Advisor-dyn g (b.vtable, b.value)).has_answered b.value) (g.R.Relaxation.meanings p) c.args.rounds inherited first last best after c.in_ok-work-in-Open.work c.work_on-worked.new.work)
+        subst (λ work. IsInheritedAndAdvised (λ b. (goal.Advisor-dyn g (b.vtable, b.value)).has_quit b.value) (λ b. (goal.Advisor-dyn g (b.vtable, b.value)).has_answered b.value) problem c.args.rounds inherited first last best after work c.work_on-worked.new.work) c.in_ok-work-in-Open.ensures
+            (subst (λ p. IsInheritedAndAdvised (λ b. (goal.Advisor-dyn g (b.vtable, b.value)).has_quit b.value) (λ b. (goal.Advisor-dyn g (b.vtable, b.value)).has_answered b.value) (g.R.Relaxation.meanings p) c.args.rounds inherited first last best after c.in_ok-work-in-Open.work c.work_on-worked.new.work)
             c.evaluate.ensures.same given),
         c.into_node.ensures,
       );

@@ -5,7 +5,7 @@ use Rattle.search.specs.NodeAdvice.{IsAdviceFor}
 use Rattle.search.specs.Offers.{IsOffered}
 use Rattle.search.specs.Conclusions.{plan_in}
 use Rattle.search.specs.NodesInWork.{IsWorkedOn}
-use Rattle.search.specs.Rounds.{AreRounds, advised}
+use Rattle.search.specs.Rounds.{AreRounds, advice_state}
 use Rattle.search.proofs.Asking.{are_unasked}
 use Rattle.search.proofs.Evaluating.{offered_again}
 use Rattle.search.proofs.Hearing.{rounds_unasked}
@@ -37,11 +37,11 @@ pub returns-clause-worked_out : goal.returns-clause-worked_out
 returns-clause-worked_out g c =
     let problem = g.R.Relaxation.meanings (g.R.Relaxation.problem c.args.problem.now) in
     let middle = plan_in c.inherit.new.best in
-    let last = advised c.make_rounds.new.advisors.items c.make_rounds.new.advice (plan_in c.make_rounds.new.best) c.make_rounds.new.work in
+    let last = advice_state c.make_rounds.new.advisors.items c.make_rounds.new.advice (plan_in c.make_rounds.new.best) c.make_rounds.new.work in
     let count : c.len.result ≡ length c.args.advisors.now.items = omega (arith, c.len.ensures) in
     on_ok_weaker c.make_rounds.result (λ made. record {
       middle = middle;
-      begun = c.inherit.new.self;
+      with_inherited = c.inherit.new.self;
       first = c.in_ok-inherit.ensures.inherited;
       enough = c.make_rounds.new.advice.has_enough.items;
       asked = subst (λ p. AreRounds (λ b. (goal.Advisor-dyn g (b.vtable, b.value)).has_quit b.value) (λ b. (goal.Advisor-dyn g (b.vtable, b.value)).has_answered b.value) (g.R.Relaxation.meanings p) c.args.rounds (record {
@@ -61,7 +61,7 @@ returns-clause-worked_out g c =
 pub returns-then-not-is_open-clause-worked_out : goal.returns-then-not-is_open-clause-worked_out
 returns-then-not-is_open-clause-worked_out g c = record {
   middle = plan_in c.inherit.new.best;
-  begun = c.inherit.new.self;
+  with_inherited = c.inherit.new.self;
   first = c.in_ok-inherit.ensures.inherited;
   enough = replicate (length c.args.advisors.now.items) false;
   asked = rounds_unasked (λ b. (goal.Advisor-dyn g (b.vtable, b.value)).has_quit b.value) (λ b. (goal.Advisor-dyn g (b.vtable, b.value)).has_answered b.value) (g.R.Relaxation.meanings (g.R.Relaxation.problem c.args.problem.now)) c.args.rounds
