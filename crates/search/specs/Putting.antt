@@ -25,14 +25,15 @@ abbrev pub IsNumbered : ℕ → SearchNode → Type 0
 IsNumbered number (Fixed node) = Unit {0}
 IsNumbered number (Pending node) = node.number ≡ number
 
--- A node in work was evaluated under what it inherits, and then so many rounds of advice were made, before which no
--- advisor had enough.
+-- A node in work was evaluated under what it inherits, after which the best solution is the one before or a cheaper one
+-- of its region; and then so many rounds of advice were made, before which no advisor had enough.
 pub record IsInheritedAndAdvised {A : Type 0} (has_quit : A → Bool) (has_answered : CallTest A) (problem : Meanings)
     (rounds : ℕ) (inherited : List Entry) (advisors later : List A) (earlier best : Option Priced)
     (before after : Work) : Type 0 where
   pub middle : Option Priced
   pub with_inherited : Work
   pub first : HasInherited problem earlier middle inherited before with_inherited
+  pub offered : IsOffered problem before.region earlier middle
   pub enough : List Bool
   pub asked : AreRounds has_quit has_answered problem rounds
       (record {
@@ -53,14 +54,16 @@ IsMadeAfter has_quit has_answered problem rounds advisors later middle best regi
     node = (work : Work) × IsInheritedAndAdvised has_quit has_answered problem rounds inherited advisors later middle
     best (begun region evaluation) work × (node ≡ node_from number best work)
 
--- a node was made of a region: it was evaluated with no multipliers, and then, where that leaves it open, under those
--- that it inherits and as the advisors propose
+-- A node was made of a region: it was evaluated with no multipliers, after which the best solution is the one before or
+-- a cheaper one of the region; and then, where that leaves it open, under those that it inherits and as the advisors
+-- propose.
 pub record IsMade {A : Type 0} (has_quit : A → Bool) (has_answered : CallTest A) (problem : Meanings) (rounds : ℕ)
-    (advisors later : List A) (best : Option Priced) (region : List (List Bool)) (inherited : List Entry) (number : ℕ)
-    (node : SearchNode) : Type 0 where
+    (advisors later : List A) (earlier best : Option Priced) (region : List (List Bool)) (inherited : List Entry)
+    (number : ℕ) (node : SearchNode) : Type 0 where
   pub middle : Option Priced
   pub outcome : Outcome
   pub first : IsOutcome problem region [] middle outcome
+  pub offered : IsOffered problem region earlier middle
   pub after : IsMadeAfter has_quit has_answered problem rounds advisors later middle best region inherited number
       outcome node
 
@@ -95,7 +98,7 @@ pub record IsBranchedAt {A : Type 0} (has_quit : A → Bool) (has_answered : Cal
   pub first : IsOffered problem division.left best middle
   pub second : IsOffered problem division.right middle best'
   pub between : List A
-  pub left_made : IsMade has_quit has_answered problem rounds advisors between middle division.left division.multipliers
-      (length before) left
-  pub right_made : IsMade has_quit has_answered problem rounds between later best' division.right division.multipliers
-      (length before + 1) right
+  pub left_made : IsMade has_quit has_answered problem rounds advisors between best middle division.left
+      division.multipliers (length before) left
+  pub right_made : IsMade has_quit has_answered problem rounds between later middle best' division.right
+      division.multipliers (length before + 1) right

@@ -8,6 +8,7 @@ use Rattle.search.specs.declared.rounds.NodeAdvice.{NodeAdvice}
 use Rattle.search.specs.declared.work.Work.{Work}
 use Rattle.search.specs.NodeAdvice.{CallTest, IsAnswered, is_enough}
 use Rattle.search.specs.NodesInWork.{IsTakenUp, is_left_open}
+use Rattle.search.specs.Offers.{IsOffered}
 
 -- how far the advice on a node has come: the advisors, which of them have enough, the best solution, and the node
 pub record AdviceState (A : Type 0) : Type 0 where
@@ -38,7 +39,7 @@ pub record IsUsed (has_quit : Bool) (problem : Meanings) (earlier best : Option 
   pub left : has_quit ≡ true → (after ≡ before) × (best ≡ earlier)
 
 -- The advisor at a place was asked: it answered when it was shown the node, whether it has enough was noted, and what
--- it proposed was used.
+-- it proposed was used. The best solution is the one before, or a cheaper one of the node's region.
 pub record WasAsked {A : Type 0} (has_quit : A → Bool) (has_answered : CallTest A) (problem : Meanings)
     (round place : ℕ) (before after : AdviceState A) : Type 0 where
   pub advisor : A
@@ -48,6 +49,7 @@ pub record WasAsked {A : Type 0} (has_quit : A → Bool) (has_answered : CallTes
   pub advisors : after.advisors ≡ set before.advisors place advisor
   pub enough : after.enough ≡ set before.enough place (is_enough word)
   pub used : IsUsed (has_quit advisor) problem before.best after.best proposal before.work after.work
+  pub offered : IsOffered problem before.work.region before.best after.best
 
 -- the advisor at a place was asked, where it is to be asked, and else nothing changed
 pub record HadItsTurn {A : Type 0} (has_quit : A → Bool) (has_answered : CallTest A) (problem : Meanings)

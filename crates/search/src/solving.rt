@@ -2,7 +2,7 @@
 //! tells what its tree proves.
 
 ghost use Rattle.std.specs.Prelude.{ℕ, List, [], ◌∷◌, Bool, Option, ◌≡◌, ◌+◌, ◌*◌, ◌<◌, ◌≤◌, ◌^◌, true, length, All};
-ghost use Rattle.std.specs.Prelude.{IfOk, OnOk};
+ghost use Rattle.std.specs.Prelude.{IfOk, None, OnOk};
 ghost use Rattle.rail_base.specs.declared.limits.TheConstants.{MOST_BRANCHINGS, MOST_NODES, MOST_ROUNDS};
 ghost use Rattle.branch_tree.specs.Claims.{Priced, is_open, open_leaves_of};
 ghost use Rattle.branch_tree.specs.Meanings.{DoFitFor};
@@ -146,7 +146,7 @@ impl Search {
         ensures none { IfOk result (λ search. branchings_of (tree_nodes search.nodes.items) ≡ 0) }
         ensures made { IfOk result (λ search. (node : SearchNode) × (search.nodes.items ≡ node ∷ []) ×
             IsMade has_quit has_answered (R.meanings (R.problem problem.old)) rounds advisors.old.items
-            advisors.new.items (plan_in search.best) root.now [] 0 node) }
+            advisors.new.items None (plan_in search.best) root.now [] 0 node) }
 
         // The advisors: that one of the same identity stands at each place, and how often it was asked.
         ensures advisors { AreTheSame advisors.old.items advisors.new.items identity }
@@ -254,7 +254,8 @@ impl Search {
         ensures accepted { OnOk result (R.IsAccepted (R.problem problem.old)) }
         ensures put { OnOk result (IsPut (R.meanings (R.problem problem.old)) region place self.old self.new
             (IsMade has_quit has_answered (R.meanings (R.problem problem.old)) rounds advisors.old.items
-            advisors.new.items (plan_in self.new.best) region inherited.now (length self.old.nodes.items))
+            advisors.new.items (plan_in self.old.best) (plan_in self.new.best) region inherited.now
+            (length self.old.nodes.items))
             (AreAsked advisors.old.items advisors.new.items asked has_quit (in_rounds rounds 1) rounds)) }
         ensures advisors { AreTheSame advisors.old.items advisors.new.items identity }
         ensures asked { AreAsked advisors.old.items advisors.new.items asked has_quit 0 rounds }
@@ -376,7 +377,7 @@ fn make_node<R: Relaxation>(
     ensures node { IfOk result (IsLeafOf (R.meanings (R.problem problem.old)) (plan_in best.new) region) }
     ensures number { IfOk result (IsNumbered number) }
     ensures made { IfOk result (IsMade has_quit has_answered (R.meanings (R.problem problem.old)) rounds
-        advisors.old.items advisors.new.items (plan_in best.new) region inherited.now number) }
+        advisors.old.items advisors.new.items (plan_in best.old) (plan_in best.new) region inherited.now number) }
 
     // The advisors: that one of the same identity stands at each place, and how often it was asked.
     ensures advisors { AreTheSame advisors.old.items advisors.new.items identity }

@@ -2,7 +2,9 @@ use Rattle.std.proofs.Common.{◌≡◌, ◌<◌, ◌+◌, ◌^◌, false, lengt
 use Rattle.std.proofs.lemmas.Bool.{true≢false}
 use Rattle.search.specs.Conclusions.{plan_in}
 use Rattle.search.specs.NodesInWork.{IsTakenUp}
+use Rattle.search.specs.Offers.{IsOffered}
 use Rattle.search.proofs.Asking.{asked_here, asked_one, same_but_asked}
+use Rattle.search.proofs.Evaluating.{not_offered}
 use Rattle.search.proofs.Hearing.{stays_on}
 use Rattle.search.proofs.rounds.take_advice.Goals as goal
 
@@ -65,6 +67,7 @@ returns-in_ok-take_up-clause-heard g c = record {
     taken_up = λ stays. subst (λ p. IsTakenUp (g.R.Relaxation.meanings p) (plan_in c.args.best.now) (plan_in c.take_up.new.best) c.ask.new.advice.proposal c.args.work.now c.take_up.new.self) c.ask.ensures.same c.in_ok-take_up.ensures.taken_up;
     left = λ quit. absurd (true≢false (sym quit ∙ (c.in_ok-word.ensures.quit ∙ stays_on c.in_ok-word.word (sym c.ne.ensures ∙ c.if-ne.true))));
   };
+  offered = subst (λ p. IsOffered (g.R.Relaxation.meanings p) c.args.work.now.region (plan_in c.args.best.now) (plan_in c.take_up.new.best)) c.ask.ensures.same c.in_ok-take_up.ensures.offered;
 }
 
 pub returns-else-ne-clause-heard : goal.returns-else-ne-clause-heard
@@ -79,4 +82,5 @@ returns-else-ne-clause-heard g c = record {
     taken_up = λ stays. search rules;
     left = λ quit. (refl, refl);
   };
+  offered = not_offered (g.R.Relaxation.meanings (g.R.Relaxation.problem c.args.problem.now)) c.args.work.now.region (plan_in c.args.best.now);
 }

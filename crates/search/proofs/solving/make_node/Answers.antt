@@ -102,6 +102,7 @@ returns-in-Ended-clause-made g c =
       outcome = Ended c.in-Ended.ending;
       first = subst (λ entries. IsOutcome problem c.args.region entries best (Ended c.in-Ended.ending)) c.in_ok-none.ensures
           (subst (λ outcome. IsOutcome problem c.args.region c.in_ok-none.none best outcome) c.in-Ended.is c.in_ok-outcome.ensures.outcome);
+      offered = c.in_ok-outcome.ensures.offered;
       after = (ap Fixed c.into_leaf.ensures, refl, refl);
     }
 
@@ -113,7 +114,7 @@ returns-in_ok-work-in-Open-clause-made g c =
     let best = plan_in c.evaluate.new.best in
     let after = plan_in c.work_on-worked.new.best in
     let inherited = c.args.inherited.now in
-    let Made = IsMade (λ b. (goal.Advisor-dyn g (b.vtable, b.value)).has_quit b.value) (λ b. (goal.Advisor-dyn g (b.vtable, b.value)).has_answered b.value) problem c.args.rounds first last after c.args.region inherited c.args.number in
+    let Made = IsMade (λ b. (goal.Advisor-dyn g (b.vtable, b.value)).has_quit b.value) (λ b. (goal.Advisor-dyn g (b.vtable, b.value)).has_answered b.value) problem c.args.rounds first last (plan_in c.args.best.now) after c.args.region inherited c.args.number in
     subst (λ result. IfOk result Made) (sym c.and.ensures)
     (if_ok_and Made c.work_on-worked.result c.into_node.result
     (on_ok_weaker c.work_on-worked.result (λ given. record {
@@ -121,6 +122,7 @@ returns-in_ok-work-in-Open-clause-made g c =
       outcome = Open c.in-Open.evaluation;
       first = subst (λ entries. IsOutcome problem c.args.region entries best (Open c.in-Open.evaluation)) c.in_ok-none.ensures
           (subst (λ outcome. IsOutcome problem c.args.region c.in_ok-none.none best outcome) c.in-Open.is c.in_ok-outcome.ensures.outcome);
+      offered = c.in_ok-outcome.ensures.offered;
       after = (
         c.work_on-worked.new.work,
         subst (λ work. IsInheritedAndAdvised (λ b. (goal.Advisor-dyn g (b.vtable, b.value)).has_quit b.value) (λ b. (goal.Advisor-dyn g (b.vtable, b.value)).has_answered b.value) problem c.args.rounds inherited first last best after work c.work_on-worked.new.work) c.in_ok-work-in-Open.ensures

@@ -43,6 +43,7 @@ returns-clause-worked_out g c =
       middle = middle;
       with_inherited = c.inherit.new.self;
       first = c.in_ok-inherit.ensures.inherited;
+      offered = c.in_ok-inherit.ensures.offered;
       enough = c.make_rounds.new.advice.has_enough.items;
       asked = subst (λ p. AreRounds (λ b. (goal.Advisor-dyn g (b.vtable, b.value)).has_quit b.value) (λ b. (goal.Advisor-dyn g (b.vtable, b.value)).has_answered b.value) (g.R.Relaxation.meanings p) c.args.rounds (record {
         advisors = c.args.advisors.now.items;
@@ -63,6 +64,7 @@ returns-then-not-is_open-clause-worked_out g c = record {
   middle = plan_in c.inherit.new.best;
   with_inherited = c.inherit.new.self;
   first = c.in_ok-inherit.ensures.inherited;
+  offered = c.in_ok-inherit.ensures.offered;
   enough = replicate (length c.args.advisors.now.items) false;
   asked = rounds_unasked (λ b. (goal.Advisor-dyn g (b.vtable, b.value)).has_quit b.value) (λ b. (goal.Advisor-dyn g (b.vtable, b.value)).has_answered b.value) (g.R.Relaxation.meanings (g.R.Relaxation.problem c.args.problem.now)) c.args.rounds
       c.args.advisors.now.items (replicate (length c.args.advisors.now.items) false) (plan_in c.inherit.new.best) c.inherit.new.self (sym c.is_open.ensures ∙ c.if-not-is_open.true);

@@ -64,7 +64,7 @@ returns-clause-made g c =
     let best = plan_in c.put_node.new.self.best in
     let put = c.in_ok-put_node.ensures.put in
     let items : c.put_node.new.self.nodes.items ≡ put.node ∷ [] = put.nodes ∙ ap (λ before. insert before 0 put.node) c.new-2.ensures.items in
-    let Made = IsMade (λ b. (goal.Advisor-dyn g (b.vtable, b.value)).has_quit b.value) (λ b. (goal.Advisor-dyn g (b.vtable, b.value)).has_answered b.value) problem c.args.rounds c.args.advisors.now.items c.put_node.new.advisors.items best in (
+    let Made = IsMade (λ b. (goal.Advisor-dyn g (b.vtable, b.value)).has_quit b.value) (λ b. (goal.Advisor-dyn g (b.vtable, b.value)).has_answered b.value) problem c.args.rounds c.args.advisors.now.items c.put_node.new.advisors.items None best in (
       put.node,
       items,
       subst (λ (number : ℕ). Made c.args.root.now [] number put.node) (ap length c.new-2.ensures.items)

@@ -153,10 +153,10 @@ returns-clause-branched g c =
       first = c.in_ok-put_node.ensures.offered;
       second = subst (λ p. IsOffered (g.R.Relaxation.meanings p) c.in_ok-division.division.right (plan_in c.put_node.new.self.best) (plan_in c.put_node-2.new.self.best)) c.put_node.ensures.same second;
       between = c.put_node.new.advisors.items;
-      left_made = subst (λ (n : ℕ). IsMade (λ b. (goal.Advisor-dyn g (b.vtable, b.value)).has_quit b.value) (λ b. (goal.Advisor-dyn g (b.vtable, b.value)).has_answered b.value) problem c.args.rounds c.args.advisors.now.items c.put_node.new.advisors.items (plan_in c.put_node.new.self.best)
+      left_made = subst (λ (n : ℕ). IsMade (λ b. (goal.Advisor-dyn g (b.vtable, b.value)).has_quit b.value) (λ b. (goal.Advisor-dyn g (b.vtable, b.value)).has_answered b.value) problem c.args.rounds c.args.advisors.now.items c.put_node.new.advisors.items (plan_in c.args.self.now.best) (plan_in c.put_node.new.self.best)
           c.in_ok-division.division.left c.in_ok-division.division.multipliers n one.node) same one.made;
-      right_made = subst (λ (n : ℕ). IsMade (λ b. (goal.Advisor-dyn g (b.vtable, b.value)).has_quit b.value) (λ b. (goal.Advisor-dyn g (b.vtable, b.value)).has_answered b.value) problem c.args.rounds c.put_node.new.advisors.items c.put_node-2.new.advisors.items (plan_in c.put_node-2.new.self.best)
+      right_made = subst (λ (n : ℕ). IsMade (λ b. (goal.Advisor-dyn g (b.vtable, b.value)).has_quit b.value) (λ b. (goal.Advisor-dyn g (b.vtable, b.value)).has_answered b.value) problem c.args.rounds c.put_node.new.advisors.items c.put_node-2.new.advisors.items (plan_in c.put_node.new.self.best) (plan_in c.put_node-2.new.self.best)
           c.in_ok-division.division.right c.in_ok-division.division.multipliers n other.node) longer
-          (subst (λ p. IsMade (λ b. (goal.Advisor-dyn g (b.vtable, b.value)).has_quit b.value) (λ b. (goal.Advisor-dyn g (b.vtable, b.value)).has_answered b.value) (g.R.Relaxation.meanings p) c.args.rounds c.put_node.new.advisors.items c.put_node-2.new.advisors.items (plan_in c.put_node-2.new.self.best)
+          (subst (λ p. IsMade (λ b. (goal.Advisor-dyn g (b.vtable, b.value)).has_quit b.value) (λ b. (goal.Advisor-dyn g (b.vtable, b.value)).has_answered b.value) (g.R.Relaxation.meanings p) c.args.rounds c.put_node.new.advisors.items c.put_node-2.new.advisors.items (plan_in c.put_node.new.self.best) (plan_in c.put_node-2.new.self.best)
           c.in_ok-division.division.right c.in_ok-division.division.multipliers (length c.put_node.new.self.nodes.items) other.node) c.put_node.ensures.same other.made);
     })
