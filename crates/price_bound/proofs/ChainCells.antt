@@ -1,9 +1,9 @@
 -- The rows of a chain while they are made, from its last trip to its first, and the path along them.
 use Rattle.std.proofs.Common.{◌≡◌, ◌≢◌, ℕ, zero, suc, ◌+◌, ◌++◌, ◌*◌, ◌<◌, ◌≤◌, List, [], ◌∷◌, length, get_or, set}
 use Rattle.std.proofs.Common.{replicate, map, take}
-use Rattle.std.proofs.Common.{drop, Option, Some, None, refl, sym, ap, ◌∙◌, subst, arith, pos, inl, inr, slice_get}
+use Rattle.std.proofs.Common.{drop, Option, Some, None, refl, sym, ap, ◌∙◌, subst, arith, ℤ, ◌+ℤ◌, pos, inl, inr, slice_get}
 use Rattle.std.proofs.Common.{length-set, Bool, true, false, cond, Contains}
-use Rattle.std.specs.Prelude.{fold, int_lt, IfSome}
+use Rattle.std.specs.Prelude.{fold, int_lt, is_none, option_map, IfSome}
 use Rattle.std.proofs.Math.Seq.{drop-cons}
 use Rattle.std.proofs.lemmas.Bool.{cases_eq, cases_lt}
 use Rattle.std.proofs.lemmas.List.{append-nil, drop_all, get_or-append-add, get_or-replicate, get_or_append_left}
@@ -17,13 +17,14 @@ use Rattle.timetable.specs.declared.day.records.LinkKind.TheVariants.{Turn, Join
 use Rattle.timetable.specs.Compositions.{compositions_of}
 use Rattle.timetable.specs.Day.{Day}
 use Rattle.price_bound.specs.declared.cells.Cell.{Cell}
+use Rattle.price_bound.specs.declared.worths.Amount.{Amount}
 use Rattle.price_bound.specs.CellRows.{HaveRoom, edges_offered, lower_at, put_along}
-use Rattle.price_bound.specs.CellSizes.{AreSmallCells, IsSmall, IsSmallStep}
+use Rattle.price_bound.specs.CellSizes.{AreSmallCells, IsSmall, IsSmallStep, most_worth}
 use Rattle.price_bound.specs.ChainStages.{Priced, edges_of, price_of, stage_of, stages_of}
 use Rattle.price_bound.specs.Paths.{Stage, last_row, lower_cell, next_of, offer_by, row_before, row_by, rows_of}
 use Rattle.price_bound.specs.Paths.{path_from, with_worth, with_worths}
 use Rattle.price_bound.specs.Pricing.{IsListed}
-use Rattle.price_bound.proofs.Adding.{small_more, small_zero}
+use Rattle.price_bound.proofs.Adding.{small_more, small_total, small_zero}
 use Rattle.price_bound.proofs.Offers.{cell_is}
 use Rattle.price_bound.proofs.Rows.{length-row}
 
@@ -121,11 +122,18 @@ cell_more a b (Some it) le small = small_more a b it.value le small
 -- ---- a row that is weighed cell by cell
 
 -- the cells so far have their worth, and the others are as they were
-pub record AreWeighed (stage : Stage) (old : List (Option Cell)) (comp : ℕ) (row : List (Option Cell)) : Type 0 where
+pub record AreWeighed (stage : Stage) (most : ℕ) (old : List (Option Cell)) (comp : ℕ) (row : List (Option Cell)) : Type 0 where
   pub cells : take comp row ++ with_worths stage comp (drop comp row) ≡ with_worths stage 0 old
   pub long : length row ≡ length old
   pub rest : (k : ℕ) → comp ≤ k → get_or row k None ≡ get_or old k None
-  pub small : IsSmallStep 20000000000000000 old row
+  pub small : IsSmallStep most old row
+
+with_worth_small : (bound most : ℕ) (worth : Option ℤ) (cell : Option Cell) → IfSome worth (IsSmall most)
+    → IfSome cell (λ it. IsSmall bound it.value) → IfSome (with_worth worth cell) (λ it. IsSmall (bound + most) it.value)
+with_worth_small bound most None cell few small = tt
+with_worth_small bound most (Some worth) None few small = tt
+with_worth_small bound most (Some worth) (Some it) few small =
+    small_total most bound (bound + most) worth it.value (worth +ℤ it.value) (omega arith) refl few small
 
 one_cell : (F : List (Option Cell) → List (Option Cell)) (comp : ℕ) (row : List (Option Cell)) (cell : Option Cell)
     → comp < length row → take (suc comp) (set row comp cell) ++ F (drop (suc comp) (set row comp cell))
@@ -135,10 +143,10 @@ one_cell F zero (c ∷ row) cell below = refl
 one_cell F (suc comp) (c ∷ row) cell below =
     ap (λ (cs : List (Option Cell)). c ∷ cs) (one_cell F comp row cell (omega (arith, below)))
 
-module _ (stage : Stage) (old : List (Option Cell)) (comp : ℕ) (row new : List (Option Cell)) (done : AreWeighed stage old comp row)
+module _ (stage : Stage) (most : ℕ) (old : List (Option Cell)) (comp : ℕ) (row new : List (Option Cell))
+    (done : AreWeighed stage most old comp row)
     (below : comp < length row) (is : new ≡ set row comp (with_worth (stage.worth comp) (get_or row comp None)))
-    (small : (bound : ℕ) → IfSome (get_or row comp None) (λ it. IsSmall bound it.value)
-    → IfSome (get_or new comp None) (λ it. IsSmall (bound + 20000000000000000) it.value)) where
+    (small : IfSome (stage.worth comp) (IsSmall most)) where
   abbrev cell : Option Cell
   cell = with_worth (stage.worth comp) (get_or row comp None)
 
@@ -156,14 +164,16 @@ module _ (stage : Stage) (old : List (Option Cell)) (comp : ℕ) (row new : List
   here_small bound each = subst (λ (o : Option Cell). IfSome o (λ it. IsSmall bound it.value)) (sym (done.rest comp (omega arith)))
       (cell_small bound old comp each)
 
-  weighed_small : IsSmallStep 20000000000000000 old new
+  weighed_small : IsSmallStep most old new
   weighed_small bound each k it at = elim (cases_eq k comp) [
-    | inl same ↦ some_small (bound + 20000000000000000) (get_or new comp None) it (small bound (here_small bound each))
-        (subst (λ (i : ℕ). get_or new i None ≡ Some it) same at)
+    | inl same ↦ some_small (bound + most) cell it
+        (with_worth_small bound most (stage.worth comp) (get_or row comp None) small (here_small bound each))
+        (sym (get_or-set_same row comp cell None below)
+        ∙ sym (ap (λ (cs : List (Option Cell)). get_or cs comp None) is) ∙ subst (λ (i : ℕ). get_or new i None ≡ Some it) same at)
     | inr differ ↦ done.small bound each k it (sym (others k differ) ∙ at)
   ]
 
-  pub weighed_more : AreWeighed stage old (suc comp) new
+  pub weighed_more : AreWeighed stage most old (suc comp) new
   weighed_more = record {
     cells = weighed_cells;
     long = ap length is ∙ length-set row comp cell ∙ done.long;
@@ -171,23 +181,29 @@ module _ (stage : Stage) (old : List (Option Cell)) (comp : ℕ) (row new : List
     small = weighed_small;
   }
 
-pub weighed_none : (stage : Stage) (old : List (Option Cell)) → AreWeighed stage old 0 old
-weighed_none stage old = record {
+pub weighed_none : (stage : Stage) (most : ℕ) (old : List (Option Cell)) → AreWeighed stage most old 0 old
+weighed_none stage most old = record {
   cells = refl;
   long = refl;
   rest = λ k le. refl;
-  small = λ bound each. cells_more bound (bound + 20000000000000000) old (omega arith) each;
+  small = λ bound each. cells_more bound (bound + most) old (omega arith) each;
 }
 
-pub weighed_all : (stage : Stage) (old : List (Option Cell)) (comp : ℕ) (row : List (Option Cell)) → AreWeighed stage old comp row
+pub weighed_all : (stage : Stage) (most : ℕ) (old : List (Option Cell)) (comp : ℕ) (row : List (Option Cell))
+    → AreWeighed stage most old comp row
     → length row ≤ comp → row ≡ with_worths stage 0 old
-weighed_all stage old comp row done past =
+weighed_all stage most old comp row done past =
     sym (append-nil row)
     ∙ ap (λ (cs : List (Option Cell)). cs ++ []) (sym (take_all comp row past))
     ∙ ap (λ (cs : List (Option Cell)). take comp row ++ with_worths stage comp cs) (sym (drop_all comp row past))
     ∙ done.cells
 
 -- ---- edges that offer one after another
+
+-- nothing is offered where there is no cell ahead
+pub nothing_ahead : (to : ℕ) (price : Option ℤ) (ahead : Option Cell) → ahead ≡ None → None ≡ offer_by to price ahead
+nothing_ahead to None ahead none = refl
+nothing_ahead to (Some price) ahead none = sym (ap (offer_by to (Some price)) none)
 
 fold_more : {A B : Type 0} (f : B → A → B) (z : B) (xs : List A) (i : ℕ) (d : A) → i < length xs
     → fold f z (take (suc i) xs) ≡ f (fold f z (take i xs)) (get_or xs i d)
@@ -204,14 +220,14 @@ pub record HaveOffered (priced : Priced) (link : Option ℕ) (edges : List Edge)
     (row : List (Option Cell)) : Type 0 where
   pub cells : row ≡ fold (offered_at priced link ahead) old (take i edges)
   pub long : length row ≡ length old
-  pub small : (bound : ℕ) → AreSmallCells bound ahead → AreSmallCells (bound + 30000000000000000) old
-      → AreSmallCells (bound + 30000000000000000) row
+  pub small : (bound : ℕ) → AreSmallCells bound ahead → AreSmallCells (bound + 13000000000000000) old
+      → AreSmallCells (bound + 13000000000000000) row
 
 module _ (priced : Priced) (link : Option ℕ) (edges : List Edge) (ahead old : List (Option Cell)) (i : ℕ) (row : List (Option Cell))
     (done : HaveOffered priced link edges ahead old i row) (below : i < length edges) (edge : Edge)
     (there : edge ≡ get_or edges i edge) (offer : Option Cell)
     (offered : offer ≡ offer_by edge.to (price_of priced link edge) (get_or ahead edge.to None))
-    (offer_small : (bound : ℕ) → AreSmallCells bound ahead → IfSome offer (λ it. IsSmall (bound + 30000000000000000) it.value))
+    (offer_small : (bound : ℕ) → AreSmallCells bound ahead → IfSome offer (λ it. IsSmall (bound + 13000000000000000) it.value))
     (new : List (Option Cell)) (is : new ≡ lower_at edge.from offer row) where
   offered_cells : new ≡ fold (offered_at priced link ahead) old (take (suc i) edges)
   offered_cells =
@@ -224,8 +240,8 @@ module _ (priced : Priced) (link : Option ℕ) (edges : List Edge) (ahead old : 
   offered_more = record {
     cells = offered_cells;
     long = ap length is ∙ length-set row edge.from (lower_cell (get_or row edge.from None) offer) ∙ done.long;
-    small = λ bound first each. subst (AreSmallCells (bound + 30000000000000000)) (sym is)
-        (offered_small (bound + 30000000000000000) row edge.from offer (done.small bound first each) (offer_small bound first));
+    small = λ bound first each. subst (AreSmallCells (bound + 13000000000000000)) (sym is)
+        (offered_small (bound + 13000000000000000) row edge.from offer (done.small bound first each) (offer_small bound first));
   }
 
 pub length-offered : (priced : Priced) (link : Option ℕ) (ahead row : List (Option Cell))
@@ -236,6 +252,36 @@ length-offered priced link ahead row = each (edges_of priced link) row
         → length (fold (offered_at priced link ahead) cells edges) ≡ length cells
     each [] cells = refl
     each (edge ∷ edges) cells = each edges (offered_at priced link ahead cells edge) ∙ length-set cells edge.from _
+
+-- ---- how much a row differs from the row ahead
+
+pub worth_few : (ends : Bool) → most_worth ends ≤ 21000000000000000
+worth_few true = omega arith
+worth_few false = omega arith
+
+pub worth_in_step : (ends : Bool) (o : Option Amount) → IfSome o (λ it. IsSmall (most_worth ends) it.0)
+    → IfSome o (λ it. IsSmall 21000000000000000 it.0)
+worth_in_step ends None small = tt
+worth_in_step ends (Some worth) small = small_more (most_worth ends) 21000000000000000 worth.0 (worth_few ends) small
+
+pub worth_at : (most : ℕ) (o : Option Amount) (worth : Option ℤ) → option_map (λ it. it.0) o ≡ worth → IfSome o (λ it. IsSmall most it.0)
+    → IfSome worth (IsSmall most)
+worth_at most o worth is small = subst (λ (w : Option ℤ). IfSome w (IsSmall most)) is (by o small)
+  where
+    by : (x : Option Amount) → IfSome x (λ it. IsSmall most it.0) → IfSome (option_map (λ it. it.0) x) (IsSmall most)
+    by None few = tt
+    by (Some it) few = few
+
+-- where no link leads on, no cell is offered
+pub step_small : (priced : Priced) (link : Option ℕ) (ahead clear row new : List (Option Cell)) (n bound : ℕ) → clear ≡ replicate n None
+    → row ≡ edges_offered priced link ahead clear → AreSmallCells (bound + 13000000000000000) row
+    → IsSmallStep (most_worth (is_none link)) row new → AreSmallCells (bound + 21000000000000000) new
+step_small priced None ahead clear row new n bound none offered small weighed =
+    cells_more (0 + 14000000000000000) (bound + 21000000000000000) new (omega arith)
+    (weighed 0 (subst (AreSmallCells 0) (sym (offered ∙ none)) (none_small 0 n)))
+step_small priced (Some l) ahead clear row new n bound none offered small weighed =
+    cells_more (bound + 13000000000000000 + 8000000000000000) (bound + 21000000000000000) new (omega arith)
+    (weighed (bound + 13000000000000000) small)
 
 -- ---- the rows of a chain, so far as they are made
 
@@ -257,7 +303,7 @@ module _ (n : ℕ) (stage after : Stage) (stages : List Stage) where
 pub record AreRowsFrom (priced : Priced) (chain : List ℕ) (place : ℕ) (table : List (List (Option Cell))) : Type 0 where
   pub rows : take (length (drop place chain)) (drop place table)
       ≡ rows_of (length (compositions_of priced.day)) (stages_of priced (drop place chain))
-  pub small : AreSmallCells (length (drop place chain) * 50000000000000000) (get_or table place [])
+  pub small : AreSmallCells (length (drop place chain) * 21000000000000000) (get_or table place [])
 
 length-stages : (priced : Priced) (chain : List ℕ) → length (stages_of priced chain) ≡ length chain
 length-stages priced [] = refl
@@ -283,7 +329,7 @@ module _ (priced : Priced) (chain : List ℕ) (table : List (List (Option Cell))
       → (new : List (List (Option Cell)))
       → new ≡ set table place (row_before comps (stage_of priced (get_or chain place 0)) (get_or table (suc place) []))
       → ((bound : ℕ) → AreSmallCells bound (get_or table (suc place) [])
-      → AreSmallCells (bound + 50000000000000000) (get_or new place []))
+      → AreSmallCells (bound + 21000000000000000) (get_or new place []))
       → AreRowsFrom priced chain place new
   rows_more place below done new is small =
       let here : drop place chain ≡ get_or chain place 0 ∷ drop (suc place) chain = drop-cons chain place 0 (omega (arith, below)) in
@@ -297,10 +343,10 @@ module _ (priced : Priced) (chain : List ℕ) (table : List (List (Option Cell))
             (more_rows (get_or chain place 0) (get_or chain (suc place) 0) (drop (suc (suc place)) chain) place
             (subst (λ (ts : List ℕ). take (length ts) (drop (suc place) table) ≡ rows_of comps (stages_of priced ts)) next done.rows)));
         small = subst (λ (k : ℕ). AreSmallCells k (get_or new place [])) (size (length (drop (suc place) chain)) (length (drop place chain)) (ap length here))
-            (small (length (drop (suc place) chain) * 50000000000000000) done.small);
+            (small (length (drop (suc place) chain) * 21000000000000000) done.small);
       }
     where
-      size : (a b : ℕ) → b ≡ suc a → a * 50000000000000000 + 50000000000000000 ≡ b * 50000000000000000
+      size : (a b : ℕ) → b ≡ suc a → a * 21000000000000000 + 21000000000000000 ≡ b * 21000000000000000
       size a b e = omega (arith, e)
 
   -- the row of the last trip
@@ -314,7 +360,7 @@ module _ (priced : Priced) (chain : List ℕ) (table : List (List (Option Cell))
 
   pub rows_last : (place : ℕ) → suc place ≡ length chain → place < length table → (new : List (List (Option Cell)))
       → new ≡ set table place (last_row comps (stage_of priced (get_or chain place 0)))
-      → AreSmallCells 50000000000000000 (get_or new place []) → AreRowsFrom priced chain place new
+      → AreSmallCells 21000000000000000 (get_or new place []) → AreRowsFrom priced chain place new
   rows_last place last below new is small =
       let here : drop place chain ≡ get_or chain place 0 ∷ drop (suc place) chain = drop-cons chain place 0 (omega (arith, last)) in
       let none : drop (suc place) chain ≡ [] = drop_all (suc place) chain (omega (arith, last)) in
@@ -326,7 +372,7 @@ module _ (priced : Priced) (chain : List ℕ) (table : List (List (Option Cell))
         small = subst (λ (k : ℕ). AreSmallCells k (get_or new place [])) (size (length (drop place chain)) (ap length both)) small;
       }
     where
-      size : (a : ℕ) → a ≡ 1 → 50000000000000000 ≡ a * 50000000000000000
+      size : (a : ℕ) → a ≡ 1 → 21000000000000000 ≡ a * 21000000000000000
       size a e = omega (arith, e)
 
 -- ---- the path

@@ -77,7 +77,7 @@ begin_small bound (row ∷ table) begin found small = some_is bound (least_from 
 
 -- the values of so many chains
 pub value_small : (i chain trips : ℕ) (value here : ℤ) → IsSmall (i * 20000000000000000000) value → chain ≤ trips → trips ≤ 400
-    → IsSmall (chain * 50000000000000000) here → IsSmall ((i + 1) * 20000000000000000000) (value +ℤ here)
+    → IsSmall (chain * 21000000000000000) here → IsSmall ((i + 1) * 20000000000000000000) (value +ℤ here)
 value_small i chain trips value here all few most small =
-    small_more (i * 20000000000000000000 + chain * 50000000000000000) ((i + 1) * 20000000000000000000) (value +ℤ here) (omega (arith, few, most))
-    (small_sum (i * 20000000000000000000) (chain * 50000000000000000) value here all small)
+    small_more (i * 20000000000000000000 + chain * 21000000000000000) ((i + 1) * 20000000000000000000) (value +ℤ here) (omega (arith, few, most))
+    (small_sum (i * 20000000000000000000) (chain * 21000000000000000) value here all small)

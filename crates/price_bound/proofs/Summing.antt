@@ -1,5 +1,5 @@
 -- Sums over the units of a list, read off the tables of prices.
-use Rattle.std.proofs.Common.{◌≡◌, ℕ, ◌-◌, ◌*◌, ◌<◌, ◌≤◌, List, [], ◌∷◌, length, get_or, true, refl, sym, ap, ◌∙◌, subst}
+use Rattle.std.proofs.Common.{◌≡◌, ℕ, ◌+◌, ◌-◌, ◌*◌, ◌<◌, ◌≤◌, List, [], ◌∷◌, length, get_or, true, refl, sym, ap, ◌∙◌, subst}
 use Rattle.std.proofs.Common.{arith, ℤ, pos, ◌+ℤ◌, ◌-ℤ◌, take, drop, length-take, length-drop}
 use Rattle.std.specs.Prelude.{nat_lt}
 use Rattle.std.specs.List.{All}
@@ -18,8 +18,9 @@ use Rattle.branch_tree.specs.IntSums.{int_sum}
 use Rattle.price_bound.specs.declared.price_tables.PriceTables.{PriceTables}
 use Rattle.price_bound.specs.EdgeValues.{came, stayed}
 use Rattle.price_bound.specs.PriceTables.{ArePrices}
-use Rattle.price_bound.specs.CellSizes.{IsSmall, most_price, most_units_price}
+use Rattle.price_bound.specs.CellSizes.{IsSmall, most_cost, most_price, most_units_price}
 use Rattle.price_bound.specs.YardPrices.{giving, taking, yard_price}
+use Rattle.price_bound.proofs.Adding.{sum_small}
 use Rattle.price_bound.proofs.Filling.{are_few, yard_small}
 use Rattle.price_bound.proofs.IntLaws.{sum_append}
 
@@ -63,6 +64,16 @@ parted f at.Front units ms =
     exchanged : (a b : ℤ) → a +ℤ b ≡ b +ℤ a
     exchanged a b = omega (arith, ints)
 
+-- and no more units than depart
+pub parted_long : (end : End) (units : ℕ) (ms : List ℕ) → length (stayed end units ms) + length (came end units ms) ≤ length ms
+parted_long at.None units ms = omega arith
+parted_long at.Rear units ms = omega (arith, length-take (length ms - units) ms, length-drop (length ms - units) ms)
+parted_long at.Front units ms = omega (arith, length-take units ms, length-drop units ms)
+
+-- the price of units is small, where that of one is
+pub units_small : (f : ℕ → ℤ) → ((m : ℕ) → IsSmall most_price (f m)) → (ms : List ℕ) → IsSmall (length ms * most_price) (int_sum f ms)
+units_small f each ms = sum_small f most_price ms (λ k d lt. each (get_or ms k d))
+
 sums_on : (f g : ℕ → ℤ) (n : ℕ) (ms : List ℕ) → ((m : ℕ) → m < n → f m ≡ g m) → All (λ m. m < n) ms → int_sum f ms ≡ int_sum g ms
 sums_on f g n [] each known = refl
 sums_on f g n (m ∷ ms) each known =
@@ -97,11 +108,12 @@ pub turn_is : (cost takes stay_takes came_takes from_gives gives stay_gives came
 turn_is cost takes stay_takes came_takes from_gives gives stay_gives came_gives paid before after coupled credits cost_left whole
     e f g h i j k l m = omega (arith, ints, e, f, g, h, i, j, k, l, m)
 
--- and it is small, as they are
-pub turn_small : (cost before after coupled credits cost_left whole : ℤ) → IsSmall 1000000000000 cost → IsSmall most_units_price before
-    → IsSmall most_units_price after → IsSmall (2 * most_units_price) coupled → credits ≡ before -ℤ after → cost_left ≡ cost -ℤ credits
-    → whole ≡ cost_left +ℤ coupled → IsSmall 30000000000000000 whole
-turn_small cost before after coupled credits cost_left whole p q r s e f g = record {
-  above = omega (arith, ints, p.above, q.below, r.above, s.above, e, f, g);
-  below = omega (arith, ints, p.below, q.above, r.below, s.below, e, f, g);
+-- and it is small: the units of the composition that departs either stayed or came
+pub turn_small : (cost before after coupled stay_gives came_gives came_takes credits cost_left whole : ℤ) (a b : ℕ)
+    → a + b ≤ most_units_price → IsSmall most_cost cost → IsSmall most_units_price before → IsSmall a stay_gives
+    → IsSmall b came_takes → after ≡ stay_gives +ℤ came_gives → coupled ≡ came_takes -ℤ came_gives → credits ≡ before -ℤ after
+    → cost_left ≡ cost -ℤ credits → whole ≡ cost_left +ℤ coupled → IsSmall 13000000000000000 whole
+turn_small cost before after coupled stay_gives came_gives came_takes credits cost_left whole a b few p q r s e f g h i = record {
+  above = omega (arith, ints, few, p.above, q.below, r.above, s.above, e, f, g, h, i);
+  below = omega (arith, ints, few, p.below, q.above, r.below, s.below, e, f, g, h, i);
 }

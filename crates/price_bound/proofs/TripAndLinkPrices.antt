@@ -107,10 +107,10 @@ module _ (pricing : Pricing) (is : ArePriced pricing) (l : ℕ) (known : l < len
       ap (λ (amounts : List ℤ). get_or amounts part (pos 0)) at ∙ is.prices.parts l part known below
 
   pub part_at_small : (part : ℕ) → part < length (compositions_of pricing.instance.now)
-      → IsSmall 30000000000000000 (get_or row part (pos 0))
+      → IsSmall 13000000000000000 (get_or row part (pos 0))
   part_at_small part below =
-      subst (IsSmall 30000000000000000) (sym (part_at part below))
-      (small_more most_price 30000000000000000
+      subst (IsSmall 13000000000000000) (sym (part_at part below))
+      (small_more most_price 13000000000000000
       (part_multiplier pricing.instance.now pricing.multipliers.now l part) (omega arith)
       (part_small pricing.instance.now pricing.multipliers.now l part
       (are_few pricing.instance.now pricing.multipliers.now is.multipliers_are)))

@@ -1,5 +1,6 @@
 -- How large amounts are.
-use Rattle.std.specs.Prelude.{ℕ, ◌+◌, ◌*◌, ◌^◌, List, get_or, Option, Some, None, ◌≡◌, ℤ, pos, neg_ℤ, ◌≤ℤ◌}
+use Rattle.std.specs.Prelude.{ℕ, ◌+◌, ◌*◌, ◌^◌, List, get_or, Bool, true, false, Option, Some, None, ◌≡◌, ℤ, pos, neg_ℤ}
+use Rattle.std.specs.Prelude.{◌≤ℤ◌}
 use Rattle.rail_base.specs.declared.limits.TheConstants.{MOST_COMPOSITION, MOST_ENTRIES, MOST_MULTIPLIER}
 use Rattle.price_bound.specs.declared.cells.Cell.{Cell}
 
@@ -24,34 +25,37 @@ most_number = 2 ^ 32
 abbrev pub most_cost : ℕ
 most_cost = 1000000000000
 
--- the most that a composition is worth on a trip, rounded up: its cost, the price of its units where they are taken and
--- where they are given, and its multipliers at hand-overs
-abbrev pub most_worth : ℕ
-most_worth = 20000000000000000
+-- the most that a composition is worth on a trip, rounded up: its cost, the price of its units where they are taken,
+-- its multipliers at hand-overs, and, where no link leads on from the trip, the price of its units where they are given
+abbrev pub most_worth : Bool → ℕ
+most_worth true = 14000000000000000
+most_worth false = 8000000000000000
 
--- the most that an edge is priced, rounded up: what a shunt costs, and four times the price of a composition's units
+-- the most that an edge is priced, rounded up: what a shunt costs, the price of the units of the composition that
+-- arrives, and that of the units of the one that departs, each of which either stayed or came
 abbrev pub most_edge_price : ℕ
-most_edge_price = 30000000000000000
+most_edge_price = 13000000000000000
 
--- the most by which the cells of a trip differ from those ahead: a worth and the price of an edge
+-- the most by which the cells of a trip differ from those ahead: the price of an edge, and a worth on a trip from which
+-- a link leads on
 abbrev pub most_step : ℕ
-most_step = 50000000000000000
+most_step = 21000000000000000
 
 -- the most that the first paths come to, rounded up: so many steps as the day may have trips, for as many chains
 abbrev pub most_found : ℕ
 most_found = 10000000000000000000000
 
 -- Amounts are added where they are no larger than the first of these, so that the sum has 64 bits; values where they
--- are no larger than the last, so that it has 128. The cells ahead of a trip, and those that are offered to it, keep
--- below that by more than a step.
+-- are no larger than the last, so that it has 128. The cells ahead of a trip, and those that are offered to it, are so
+-- small that 64 bits hold them and a step more.
 abbrev pub most_amount : ℕ
 most_amount = 1000000000000000000
 
 abbrev pub most_ahead : ℕ
-most_ahead = 1000000000000000000000000000
+most_ahead = 8500000000000000000
 
 abbrev pub most_offered : ℕ
-most_offered = 10000000000000000000000000000
+most_offered = 9000000000000000000
 
 abbrev pub most_value : ℕ
 most_value = 1000000000000000000000000000000

@@ -5,9 +5,9 @@ ghost use Rattle.std.specs.Prelude.{ℕ, ◌≡◌, ◌<◌, ◌+◌, map, lengt
 ghost use Rattle.std.specs.Prelude.{None, if◌then◌else◌, option_map, ◌+ℤ◌};
 ghost use Rattle.price_bound.specs.CellRows.{lower_at};
 ghost use Rattle.price_bound.specs.Paths.{entered, least_from, lower_cell, offer_by, with_worth};
-ghost use Rattle.price_bound.specs.CellSizes.{AreSmallCells, IsSmall, most_edge_price, most_value, most_worth};
+ghost use Rattle.price_bound.specs.CellSizes.{AreSmallCells, IsSmall, most_edge_price, most_offered, most_step};
 
-use crate::worths::{Amount, wide};
+use crate::worths::Amount;
 use rail_base::{CompNo, NoMemory};
 use std::alloc::Global;
 use std::marker::Model;
@@ -15,8 +15,8 @@ use std::marker::Model;
 /// The first path of least value from a composition of a trip to the end of its chain.
 #[derive(Clone, Copy)]
 pub(crate) struct Cell {
-    /// Its value.
-    pub value: i128,
+    /// Its value. However long the chain, 64 bits hold it.
+    pub value: i64,
     /// The composition of the next trip on it; 0 at the chain's last trip.
     pub next: CompNo,
 }
@@ -97,12 +97,10 @@ impl CellRow {
     pub(crate) fn add(&mut self, comp: CompNo, worth: Option<Amount>)
         requires comp { comp < length self.old }
         requires small { IfSome (get_or self.old comp None)
-            (λ cell. IsSmall most_value cell.value) }
-        requires worth { IfSome worth (λ worth. IsSmall most_worth worth.0) }
-        ensures value { self.new ≡ set self.old comp
+            (λ cell. IsSmall most_offered cell.value) }
+        requires worth { IfSome worth (λ worth. IsSmall most_step worth.0) }
+        ensures { self.new ≡ set self.old comp
             (with_worth (option_map (λ worth. worth.0) worth) (get_or self.old comp None)) }
-        ensures small { (bound : ℕ) → IfSome (get_or self.old comp None) (λ cell. IsSmall bound cell.value)
-            → IfSome (get_or self.new comp None) (λ cell. IsSmall (bound + most_worth) cell.value) }
     {
         let place = comp.place();
         self.cells[place] = with_worth(worth, self.cells[place]);
@@ -144,25 +142,22 @@ fn is_lower(cell: &Option<Cell>, other: &Option<Cell>) -> bool
 }
 
 /// The cell of an edge to a composition: what is ahead there, at the edge's price.
-pub(crate) fn offer_by(to: CompNo, price: Option<Amount>, ahead: Option<Cell>) -> Option<Cell>
+pub(crate) fn offer_by(to: CompNo, price: Option<Amount>, ahead: Cell) -> Option<Cell>
     requires price { IfSome price (λ price. IsSmall most_edge_price price.0) }
-    requires ahead { IfSome ahead (λ cell. IsSmall most_value cell.value) }
-    ensures value { result ≡ offer_by to (option_map (λ price. price.0) price) ahead }
-    ensures small { (bound : ℕ) → IfSome ahead (λ cell. IsSmall bound cell.value)
+    requires ahead { IsSmall most_offered ahead.value }
+    ensures value { result ≡ offer_by to (option_map (λ price. price.0) price) (Some ahead) }
+    ensures small { (bound : ℕ) → IsSmall bound ahead.value
         → IfSome result (λ cell. IsSmall (bound + most_edge_price) cell.value) }
 {
     let price = price?;
-    let ahead = ahead?;
     Some(with_amount(ahead, price, to))
 }
 
 /// A cell with the worth of its composition.
 fn with_worth(worth: Option<Amount>, cell: Option<Cell>) -> Option<Cell>
-    requires worth { IfSome worth (λ worth. IsSmall most_worth worth.0) }
-    requires cell { IfSome cell (λ cell. IsSmall most_value cell.value) }
-    ensures value { result ≡ with_worth (option_map (λ worth. worth.0) worth) cell }
-    ensures small { (bound : ℕ) → IfSome cell (λ cell. IsSmall bound cell.value)
-        → IfSome result (λ cell. IsSmall (bound + most_worth) cell.value) }
+    requires worth { IfSome worth (λ worth. IsSmall most_step worth.0) }
+    requires cell { IfSome cell (λ cell. IsSmall most_offered cell.value) }
+    ensures { result ≡ with_worth (option_map (λ worth. worth.0) worth) cell }
 {
     let worth = worth?;
     let cell = cell?;
@@ -171,12 +166,12 @@ fn with_worth(worth: Option<Amount>, cell: Option<Cell>) -> Option<Cell>
 
 /// A cell that leads to a composition, with the value of another cell and an amount together.
 fn with_amount(cell: Cell, by: Amount, next: CompNo) -> Cell
-    requires cell { IsSmall most_value cell.value }
-    requires by { IsSmall most_edge_price by.0 }
+    requires cell { IsSmall most_offered cell.value }
+    requires by { IsSmall most_step by.0 }
     ensures { result ≡ record { value = by.0 +ℤ cell.value; next = next } }
 {
     Cell {
-        value: wide(by).0 + cell.value,
+        value: by.0 + cell.value,
         next,
     }
 }

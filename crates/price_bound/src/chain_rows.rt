@@ -2,15 +2,17 @@
 //! the first trip on.
 
 ghost use Rattle.std.specs.Prelude.{ℕ, ◌≡◌, ◌<◌, ◌≤◌, ◌+◌, ◌*◌, [], length, get_or, set, take, All, IfOk, Some, None};
+ghost use Rattle.std.specs.Prelude.{IfSome, is_none};
 ghost use Rattle.timetable.specs.Compositions.{compositions_of};
+ghost use Rattle.timetable.specs.Links.{outgoing};
 ghost use Rattle.price_bound.specs.TripAndLinkPrices.{IsForParts, IsForTurn};
 ghost use Rattle.price_bound.specs.CellRows.{HaveRoom, HaveRoomFor, chain_rows, comps_of, edges_offered, last_row_on};
 ghost use Rattle.price_bound.specs.CellRows.{offered_on, put_along, row_on};
-ghost use Rattle.price_bound.specs.CellSizes.{AreSmallCells, AreSmallOffers, IsSmallStep, most_ahead, most_edge_price};
-ghost use Rattle.price_bound.specs.CellSizes.{most_offered, most_step, most_worth};
-ghost use Rattle.price_bound.specs.ChainStages.{stage_of};
-ghost use Rattle.price_bound.specs.Paths.{begin_of, next_of, path_from, with_worths};
-ghost use Rattle.price_bound.specs.Pricing.{ArePriced, priced_by};
+ghost use Rattle.price_bound.specs.CellSizes.{AreSmallCells, AreSmallOffers, IsSmall, IsSmallStep, most_ahead};
+ghost use Rattle.price_bound.specs.CellSizes.{most_edge_price, most_offered, most_step, most_worth};
+ghost use Rattle.price_bound.specs.ChainStages.{price_of, stage_of};
+ghost use Rattle.price_bound.specs.Paths.{begin_of, next_of, offer_by, path_from, with_worths};
+ghost use Rattle.price_bound.specs.Pricing.{ArePriced, IsListed, priced_by};
 
 use crate::cells::{Cell, CellRow, offer_by};
 use crate::part_prices::PartPrices;
@@ -22,6 +24,7 @@ use rail_base::{CompNo, LinkNo, NoMemory, TripNo};
 use std::alloc::Global;
 use std::marker::Model;
 use timetable::{Instance, LinkKind, Picks};
+use transitions::Edge;
 
 /// Room for the rows of any chain of a day. A contract sees a list of cells for each row.
 #[derive(Drop)]
@@ -229,10 +232,28 @@ fn offer_turned(prices: &TurnPrices<'_>, row: &mut CellRow, ahead: &CellRow)
     let edges = prices.pricing.graphs.edges(prices.link);
     for place in 0..edges.len() {
         let edge = &edges[place];
-        let price = prices.price(edge);
-        let offer = offer_by(edge.to, Some(price), ahead.get(edge.to));
+        let offer = turned(prices, edge, ahead);
         row.offer(edge.from, offer);
     }
+}
+
+/// The cell that an edge of a turn offers, which is priced only where there is a cell ahead of it.
+fn turned(prices: &TurnPrices<'_>, edge: &Edge, ahead: &CellRow) -> Option<Cell>
+    requires prices { IsForTurn prices.now }
+    requires edge { IsListed (comps_of (priced_by prices.now.pricing.now)) edge.now }
+    requires ahead { length ahead.now ≡ comps_of (priced_by prices.now.pricing.now) }
+    requires small { AreSmallCells most_ahead ahead.now }
+    ensures value { result ≡ offer_by edge.now.to
+        (price_of (priced_by prices.now.pricing.now) (Some prices.now.link) edge.now)
+        (get_or ahead.now edge.now.to None) }
+    ensures small { (bound : ℕ) → AreSmallCells bound ahead.now
+        → IfSome result (λ cell. IsSmall (bound + most_edge_price) cell.value) }
+{
+    let Some(cell) = ahead.get(edge.to) else {
+        return None;
+    };
+    let price = prices.price(edge);
+    offer_by(edge.to, Some(price), cell)
 }
 
 /// Offers the cells of the edges of a join or a split.
@@ -247,10 +268,28 @@ fn offer_handed_over(prices: &PartPrices<'_>, row: &mut CellRow, ahead: &CellRow
     let edges = prices.pricing.graphs.edges(prices.link);
     for place in 0..edges.len() {
         let edge = &edges[place];
-        let price = prices.price(edge);
-        let offer = offer_by(edge.to, price, ahead.get(edge.to));
+        let offer = handed_over(prices, edge, ahead);
         row.offer(edge.from, offer);
     }
+}
+
+/// The cell that an edge of a join or a split offers, which is priced only where there is a cell ahead of it.
+fn handed_over(prices: &PartPrices<'_>, edge: &Edge, ahead: &CellRow) -> Option<Cell>
+    requires prices { IsForParts prices.now }
+    requires edge { IsListed (comps_of (priced_by prices.now.pricing.now)) edge.now }
+    requires ahead { length ahead.now ≡ comps_of (priced_by prices.now.pricing.now) }
+    requires small { AreSmallCells most_ahead ahead.now }
+    ensures value { result ≡ offer_by edge.now.to
+        (price_of (priced_by prices.now.pricing.now) (Some prices.now.link) edge.now)
+        (get_or ahead.now edge.now.to None) }
+    ensures small { (bound : ℕ) → AreSmallCells bound ahead.now
+        → IfSome result (λ cell. IsSmall (bound + most_edge_price) cell.value) }
+{
+    let Some(cell) = ahead.get(edge.to) else {
+        return None;
+    };
+    let price = prices.price(edge);
+    offer_by(edge.to, price, cell)
 }
 
 /// Adds to each cell what its composition is worth.
@@ -260,7 +299,7 @@ fn weigh(pricing: &Pricing<'_>, trip: TripNo, row: &mut CellRow)
     requires row { length row.old ≡ comps_of (priced_by pricing.now) }
     requires small { AreSmallCells most_offered row.old }
     ensures row { row.new ≡ with_worths (stage_of (priced_by pricing.now) trip) 0 row.old }
-    ensures small { IsSmallStep most_worth row.old row.new }
+    ensures small { IsSmallStep (most_worth (is_none (outgoing pricing.now.instance.now trip))) row.old row.new }
 {
     let worths = TripWorths::new(&*pricing, trip);
     for comp in 0..pricing.instance.catalogue().len() {

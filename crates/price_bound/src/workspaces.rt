@@ -155,7 +155,7 @@ fn with_begin(value: Money, begin: Cell) -> Money
     requires begin { IsSmall most_value begin.value }
     ensures { result.0 ≡ value.0 +ℤ begin.value }
 {
-    Money(value.0 + begin.value)
+    Money(value.0 + i128::from(begin.value))
 }
 
 /// Copies picks over others of as many trips.

@@ -84,7 +84,8 @@ impl<'a> TripWorths<'a> {
         requires comp { comp < length (compositions_of self.now.pricing.now.instance.now) }
         ensures value { option_map (λ worth. worth.0) result
             ≡ worth_of (priced_by self.now.pricing.now) self.now.trip comp }
-        ensures small { IfSome result (λ worth. IsSmall most_worth worth.0) }
+        ensures small { IfSome result (λ worth. IsSmall
+            (most_worth (is_none (outgoing self.now.pricing.now.instance.now self.now.trip))) worth.0) }
     {
         prove!(self.pricing.instance.catalogue().len() as usize <= MOST_COMPOSITIONS);
         if !self.set.has(comp) {
@@ -115,7 +116,8 @@ impl<'a> TripWorths<'a> {
         ensures value { result.0 ≡ trip_value self.now.pricing.now.instance.now
             (cost_on (priced_by self.now.pricing.now)) self.now.pricing.now.multipliers.now
             self.now.pricing.now.weight self.now.trip comp }
-        ensures small { IsSmall most_worth result.0 }
+        ensures small { IsSmall
+            (most_worth (is_none (outgoing self.now.pricing.now.instance.now self.now.trip))) result.0 }
     {
         let taken_price = self.taken_at_begin(comp);
         let given_price = self.given_at_end(comp);
@@ -251,13 +253,6 @@ pub(crate) fn minus(amount: Amount, other: Amount) -> Amount
     ensures { result.0 ≡ amount.0 -ℤ other.0 }
 {
     Amount(amount.0 - other.0)
-}
-
-/// The amount, as a value of 128 bits.
-pub(crate) fn wide(amount: Amount) -> Money
-    ensures { result.0 ≡ amount.0 }
-{
-    Money(i128::from(amount.0))
 }
 
 /// Two values together.

@@ -8,7 +8,7 @@ use Rattle.price_bound.specs.CellSizes.{AreSmallCells}
 use Rattle.price_bound.specs.ChainStages.{stage_of}
 use Rattle.price_bound.specs.Paths.{with_worths}
 use Rattle.price_bound.specs.Pricing.{priced_by}
-use Rattle.price_bound.proofs.ChainCells.{cells_more, const_row, length-offered, none_small}
+use Rattle.price_bound.proofs.ChainCells.{cells_more, const_row, length-offered, none_small, step_small}
 use Rattle.price_bound.proofs.chain_rows.fill_before.Goals as goal
 
 pub weigh-requires-clause-row : goal.weigh-requires-clause-row
@@ -22,11 +22,11 @@ weigh-requires-clause-row c =
 pub weigh-requires-clause-small : goal.weigh-requires-clause-small
 weigh-requires-clause-small c =
     let none : Option Cell = None in
-    let clear : AreSmallCells (1000000000000000000000000000 + 30000000000000000) c.clear.new.self =
-    subst (AreSmallCells (1000000000000000000000000000 + 30000000000000000)) (sym (c.clear.ensures ∙ const_row none c.args.row.now))
-    (none_small (1000000000000000000000000000 + 30000000000000000) (length c.args.row.now)) in
-    cells_more (1000000000000000000000000000 + 30000000000000000) 10000000000000000000000000000 c.offer_all.new.row (omega arith)
-    (c.offer_all.ensures.small 1000000000000000000000000000 c.requires.small clear)
+    let clear : AreSmallCells (8500000000000000000 + 13000000000000000) c.clear.new.self =
+    subst (AreSmallCells (8500000000000000000 + 13000000000000000)) (sym (c.clear.ensures ∙ const_row none c.args.row.now))
+    (none_small (8500000000000000000 + 13000000000000000) (length c.args.row.now)) in
+    cells_more (8500000000000000000 + 13000000000000000) 9000000000000000000 c.offer_all.new.row (omega arith)
+    (c.offer_all.ensures.small 8500000000000000000 c.requires.small clear)
 
 pub returns-clause-row : goal.returns-clause-row
 returns-clause-row c =
@@ -38,8 +38,9 @@ returns-clause-row c =
 pub returns-clause-small : goal.returns-clause-small
 returns-clause-small c bound small =
     let none : Option Cell = None in
-    let clear : AreSmallCells (bound + 30000000000000000) c.clear.new.self =
-    subst (AreSmallCells (bound + 30000000000000000)) (sym (c.clear.ensures ∙ const_row none c.args.row.now))
-    (none_small (bound + 30000000000000000) (length c.args.row.now)) in
-    cells_more (bound + 30000000000000000 + 20000000000000000) (bound + 50000000000000000) c.weigh.new.row (omega arith)
-    (c.weigh.ensures.small (bound + 30000000000000000) (c.offer_all.ensures.small bound small clear))
+    let clear : AreSmallCells (bound + 13000000000000000) c.clear.new.self =
+    subst (AreSmallCells (bound + 13000000000000000)) (sym (c.clear.ensures ∙ const_row none c.args.row.now))
+    (none_small (bound + 13000000000000000) (length c.args.row.now)) in
+    step_small (priced_by c.args.pricing.now) (outgoing c.args.pricing.now.instance.now c.args.trip) c.args.ahead.now c.clear.new.self
+    c.offer_all.new.row c.weigh.new.row (length c.args.row.now) bound (c.clear.ensures ∙ const_row none c.args.row.now)
+    c.offer_all.ensures.row (c.offer_all.ensures.small bound small clear) c.weigh.ensures.small

@@ -26,7 +26,7 @@ fill_before-requires-clause-ahead c =
 pub fill_before-requires-clause-small : goal.fill_before-requires-clause-small
 fill_before-requires-clause-small c =
     let below : c.args.place + 1 < length c.args.rows.now = omega (arith, c.requires.place, c.requires.room.height) in
-    subst (AreSmallCells 1000000000000000000000000000)
+    subst (AreSmallCells 8500000000000000000)
     (sym (row_in_back c.args.rows.now c.split_at_mut-front.result.0.now c.split_at_mut-front.result.1.now c.args.place
     c.split_at_mut-front.ensures.value c.split_at_mut-front.ensures.front_len below c.index-back-0.result)) c.requires.ahead
 
@@ -62,7 +62,7 @@ returns-clause-small c bound small =
     c.args.place [] ≡ c.fill_before.new.row =
     ap (λ (rows : List (List (Option Cell))). get_or rows c.args.place []) put
     ∙ get_or-set_same c.args.rows.now c.args.place c.fill_before.new.row [] (omega (arith, below)) in
-    subst (AreSmallCells (bound + 50000000000000000)) (sym here)
+    subst (AreSmallCells (bound + 21000000000000000)) (sym here)
     (c.fill_before.ensures.small bound (subst (AreSmallCells bound)
     (sym (row_in_back c.args.rows.now c.split_at_mut-front.result.0.now c.split_at_mut-front.result.1.now c.args.place
     c.split_at_mut-front.ensures.value c.split_at_mut-front.ensures.front_len below c.index-back-0.result)) small))

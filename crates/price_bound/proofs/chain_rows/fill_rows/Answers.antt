@@ -27,7 +27,7 @@ loop-place-init c =
           c.fill_last.new.row c.args.rows.now long c.requires.room;
       rows = rows_last (priced_by c.args.pricing.now) chain c.args.rows.now place (omega (arith, c.requires.some)) below
           (set c.args.rows.now place c.fill_last.new.row) (ap (set c.args.rows.now place) row)
-          (subst (AreSmallCells 50000000000000000) (sym (get_or-set_same c.args.rows.now place c.fill_last.new.row [] below))
+          (subst (AreSmallCells 21000000000000000) (sym (get_or-set_same c.args.rows.now place c.fill_last.new.row [] below))
           c.fill_last.ensures.small);
     }
 
@@ -36,8 +36,8 @@ fill_place-requires-clause-ahead c =
     let same : c.loop-place.place ≡ c.loop-place.place - 1 + 1 = omega (arith, c.loop-place-test.true) in
     let few : length (drop c.loop-place.place c.args.chain.now) ≤ 400 =
     omega (arith, length-drop c.loop-place.place c.args.chain.now, c.requires.few, c.trips.ensures.value, c.trips.ensures.few) in
-    subst (λ (k : ℕ). AreSmallCells 1000000000000000000000000000 (get_or c.loop-place.rows k [])) same
-    (cells_more (length (drop c.loop-place.place c.args.chain.now) * 50000000000000000) 1000000000000000000000000000
+    subst (λ (k : ℕ). AreSmallCells 8500000000000000000 (get_or c.loop-place.rows k [])) same
+    (cells_more (length (drop c.loop-place.place c.args.chain.now) * 21000000000000000) 8500000000000000000
     (get_or c.loop-place.rows c.loop-place.place []) (omega (arith, few)) c.loop-place.invariant.rows.small)
 
 pub loop-place-preserved : goal.loop-place-preserved

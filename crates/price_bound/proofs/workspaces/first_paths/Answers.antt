@@ -52,8 +52,8 @@ with_begin-value-requires-clause-begin c =
       c.trips.ensures.value,
       c.trips.ensures.few,
     ) in
-    small_more (length chain * 50000000000000000) 1000000000000000000000000000000 c.in-Some.begin.value (omega (arith, few))
-    (begin_small (length chain * 50000000000000000) c.fill.new.self c.in-Some.begin (sym c.begin.ensures ∙ c.in-Some.is)
+    small_more (length chain * 21000000000000000) 1000000000000000000000000000000 c.in-Some.begin.value (omega (arith, few))
+    (begin_small (length chain * 21000000000000000) c.fill.new.self c.in-Some.begin (sym c.begin.ensures ∙ c.in-Some.is)
     c.fill.ensures.small)
 
 pub loop-chain-preserved : goal.loop-chain-preserved
@@ -91,5 +91,5 @@ loop-chain-preserved c =
       small = subst (IsSmall ((i + 1) * 20000000000000000000)) (sym c.with_begin-value.ensures)
           (value_small i (length chain) (length c.args.pricing.now.instance.now.trips) c.loop-chain.value.0 begin.value
           c.loop-chain.invariant.small few most
-          (begin_small (length chain * 50000000000000000) c.fill.new.self begin there c.fill.ensures.small));
+          (begin_small (length chain * 21000000000000000) c.fill.new.self begin there c.fill.ensures.small));
     }

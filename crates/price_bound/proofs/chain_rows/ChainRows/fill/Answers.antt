@@ -9,6 +9,6 @@ pub returns-clause-small : goal.returns-clause-small
 returns-clause-small c =
     let long : length c.fill_rows.new.rows ≡ c.self.inside.rows.len =
     omega (arith, c.fill_rows.ensures.room.height, c.requires.room.height, ap length c.self.view_is, c.deref_mut.ensures.len) in
-    subst (λ (rows : List (List (Option Cell))). AreSmallCells (length c.args.chain.now * 50000000000000000) (get_or rows 0 []))
+    subst (λ (rows : List (List (Option Cell))). AreSmallCells (length c.args.chain.now * 21000000000000000) (get_or rows 0 []))
     (sym (take_at c.fill_rows.new.rows (drop (length c.fill_rows.new.rows) c.self.inside.rows.items) c.self.inside.rows.len long))
     c.fill_rows.ensures.small

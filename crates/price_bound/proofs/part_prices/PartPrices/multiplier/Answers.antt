@@ -19,6 +19,6 @@ returns-clause-value c =
 
 pub returns-clause-small : goal.returns-clause-small
 returns-clause-small c =
-    subst (IsSmall 30000000000000000) (sym c.amount_for.ensures)
+    subst (IsSmall 13000000000000000) (sym c.amount_for.ensures)
     (part_at_small c.args.self.now.pricing.now c.requires.is.priced c.args.self.now.link c.requires.is.known
     c.args.self.now.multipliers.now c.requires.is.multipliers c.args.part c.requires.part)
