@@ -2,6 +2,7 @@ pub mod Rests
 pub mod Numbers
 pub mod Listed
 pub mod Shunting
+pub mod Counting
 pub mod PartsFit
 pub mod Pairing
 pub mod Stepping

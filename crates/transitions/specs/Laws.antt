@@ -1,5 +1,7 @@
--- A plan that runs follows an edge of each link; each edge is found; and edges are there by the rules of links.
-use Rattle.std.specs.Prelude.{ℕ, ◌≡◌, ◌↔◌, IsTrue, List, Bool, Some, option_map, slice_get}
+-- A plan that runs follows an edge of each link; each edge is found; edges are there by the rules of links; and what is
+-- done at a turn tells how many units the turn gives and takes.
+use Rattle.std.specs.Prelude.{ℕ, ◌≡◌, ◌≤◌, ◌↔◌, IsTrue, List, length, Bool, Some, option_map, slice_get}
+use Rattle.rail_csv.specs.declared.rows.End.{End}
 use Rattle.timetable.specs.declared.day.records.Link.{Link}
 use Rattle.timetable.specs.declared.day.records.LinkKind.{LinkKind}
 use Rattle.timetable.specs.declared.day.records.LinkKind.TheVariants.{Turn, Join, Split}
@@ -10,11 +12,12 @@ use Rattle.timetable.specs.Day.{Day, type_of, types_of}
 use Rattle.timetable.specs.Handovers.{second_of}
 use Rattle.timetable.specs.Links.{list_of, itself, turned, turn_of, link_holds}
 use Rattle.timetable.specs.Running.{Runs}
+use Rattle.timetable.specs.Turns.{Parts, AreParts}
 use Rattle.transitions.specs.declared.edge.Edge.{Edge}
 use Rattle.transitions.specs.declared.edge.Shunt.{Shunt}
-use Rattle.transitions.specs.declared.edge.Shunt.TheVariants.{Keep}
+use Rattle.transitions.specs.declared.edge.Shunt.TheVariants.{Keep, Uncouple, Couple, Exchange}
 use Rattle.transitions.specs.Edges.{MayRun, IsEdge, AreGraphs, IsFound}
-use Rattle.transitions.specs.Turns.{shunt_of}
+use Rattle.transitions.specs.Turns.{shunt_of, turn_shunt}
 
 -- what is done to the train: a turn uncouples the units that the plan gives there, and couples those that it takes
 abbrev pub shunt_by : Day → LinkKind → Bool → List (List ℕ) → Shunt
@@ -66,3 +69,27 @@ EdgesByRule =
     → AreOn day lists link edge
     → (MayRunAll day link edge × IsTrue (link_holds itself link lists))
     ↔ ((shunt : Shunt) × IsEdge day l (record edge { shunt = shunt }))
+
+-- what is done tells how many units are given to the yard and how many are taken from it: none, some on one side, or
+-- some on both
+abbrev pub TellsUnits : Shunt → ℕ → ℕ → Type 0
+TellsUnits Keep given taken = (given ≡ 0) × (taken ≡ 0)
+TellsUnits (Uncouple units) given taken = (1 ≤ units) × (given ≡ units) × (taken ≡ 0)
+TellsUnits (Couple units) given taken = (1 ≤ units) × (given ≡ 0) × (taken ≡ units)
+TellsUnits (Exchange uncouple couple) given taken =
+    (1 ≤ uncouple) × (1 ≤ couple) × (given ≡ uncouple) × (taken ≡ couple)
+
+-- a turn from an arriving list of types, after a reversal, to a departing one has parts, and what is done tells how
+-- many units they give and take
+pub record IsShuntOfParts (uncouple couple : End) (exchange : Bool) (arriving departing : List ℕ) (shunt : Shunt)
+    : Type 0 where
+  pub parts : Parts
+  pub are : AreParts itself uncouple couple exchange arriving departing parts
+  pub units : TellsUnits shunt (length parts.given) (length parts.taken)
+
+-- The shunt that a turn has is that of its parts, and it has none where no parts are.
+abbrev pub ShuntsCountUnits : Type 0
+ShuntsCountUnits =
+    (uncouple couple : End) (exchange : Bool) (arriving departing : List ℕ) (shunt : Shunt)
+    → (turn_shunt uncouple couple exchange arriving departing ≡ Some shunt)
+    ↔ IsShuntOfParts uncouple couple exchange arriving departing shunt

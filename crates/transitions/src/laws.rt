@@ -2,7 +2,7 @@
 //!
 //! Each law is the contract of a function that does nothing.
 
-ghost use Rattle.transitions.specs.Laws.{TypesFollow, EdgesFound, EdgesByRule};
+ghost use Rattle.transitions.specs.Laws.{TypesFollow, EdgesFound, EdgesByRule, ShuntsCountUnits};
 
 /// At each link the types of a plan that runs follow an edge that the link allows, with the shunt that the plan does
 /// there and the second train's composition as its part.
@@ -19,4 +19,10 @@ pub fn edges_are_found()
 /// types.
 pub fn edges_are_by_rule()
     ensures law { EdgesByRule }
+{}
+
+/// A turn has a shunt exactly where it has parts. The shunt uncouples as many units as the parts give, and couples as
+/// many as they take; it is `Keep` where they give and take none.
+pub fn shunts_count_units()
+    ensures law { ShuntsCountUnits }
 {}
