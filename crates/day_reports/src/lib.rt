@@ -3,6 +3,7 @@
 
 pub mod costs_report;
 pub mod duties_report;
+pub mod laws;
 mod names;
 mod report;
 mod yard;
