@@ -96,7 +96,7 @@ fn read_row<T: TableRow>(
     T::read(alloc, row, &fields)
 }
 
-/// The records of a table, in turn, after a byte order mark at its front was dropped once.
+/// The records of a table, one by one, after a byte order mark at its front was dropped once.
 fn records_in(alloc: Global, bytes: &[u8]) -> ByteRecordsIntoIter<&[u8]>
     requires { length bytes.now ≤ MOST_TABLE_BYTES }
     ensures reads { ReadsOn result }
@@ -109,14 +109,14 @@ fn records_in(alloc: Global, bytes: &[u8]) -> ByteRecordsIntoIter<&[u8]>
         .into_byte_records()
 }
 
-/// The record of a turn, which did not fail for its number of fields. Bytes in memory leave csv only want of memory to
-/// fail for, so each error is told as that.
-fn taken(turn: Result<ByteRecord, Error>) -> Result<ByteRecord, TableRefusal>
-    requires { IfErr turn (λ e. NotLengths (error_kind e)) }
-    ensures ok { IfOk result (λ found. turn ≡ Ok found) }
+/// The record that csv read, which did not fail for its number of fields. Bytes in memory leave csv only want of memory
+/// to fail for, so each error is told as that.
+fn record_of(read: Result<ByteRecord, Error>) -> Result<ByteRecord, TableRefusal>
+    requires { IfErr read (λ e. NotLengths (error_kind e)) }
+    ensures ok { IfOk result (λ found. read ≡ Ok found) }
     ensures err { IfErr result (λ e. e ≡ NoMemory) }
 {
-    match turn {
+    match read {
         Ok(found) => Ok(found),
         Err(_) => Err(TableRefusal::NoMemory),
     }
@@ -125,14 +125,14 @@ fn taken(turn: Result<ByteRecord, Error>) -> Result<ByteRecord, TableRefusal>
 /// The next record; none where all are read.
 fn next_record(records: &mut ByteRecordsIntoIter<&[u8]>) -> Result<Option<ByteRecord>, TableRefusal>
     requires { ReadsOn records.old }
-    ensures ok { IfOk result (λ turn. MatchOption turn (records_left records.old ≡ [])
+    ensures ok { IfOk result (λ next. MatchOption next (records_left records.old ≡ [])
         (λ found. Took records.old records.new (fields_of found))) }
     ensures err { IfErr result (λ e. e ≡ NoMemory) }
 {
-    let Some(turn) = records.next() else {
+    let Some(read) = records.next() else {
         return Ok(None);
     };
-    let found = taken(turn)?;
+    let found = record_of(read)?;
     Ok(Some(found))
 }
 

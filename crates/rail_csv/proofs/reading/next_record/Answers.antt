@@ -14,8 +14,8 @@ returns-clause-ok c =
     let flexible = rw (c.in-Some.is, c.in_ok-found.ensures.ok) at (c.next.ensures.steps r.turns r.trim).3 in
     took c.args.records.now c.next.new.self c.in_ok-found.found r step flexible
 
-pub taken-requires : goal.taken-requires
-taken-requires c =
+pub record_of-requires : goal.record_of-requires
+record_of-requires c =
     let r = c.requires in
     let step = rw c.in-Some.is at ((c.next.ensures.steps r.turns r.trim).0 r.ready) in
-    no_lengths c.args.records.now c.next.new.self c.in-Some.turn r step
+    no_lengths c.args.records.now c.next.new.self c.in-Some.read r step
