@@ -17,7 +17,7 @@ use Rattle.command_line.specs.Texts.{said, texts_of}
 use Rattle.command_line.proofs.PlainForms.{Made, cases, clean, made, parts_are}
 use Rattle.commands.specs.declared.command.Command.{Command}
 use Rattle.commands.specs.declared.command.Command.TheVariants.{Plan, Simulate, Check, Duties, Yards, Costs, Trial}
-use Rattle.commands.specs.declared.command.TheConstants.{MOST_DIGITS, MOST_SEED, USUAL_NODES, USUAL_ROUNDS}
+use Rattle.commands.specs.declared.command.TheConstants.{MOST_SEED, MOST_WORD_DIGITS, USUAL_NODES, USUAL_ROUNDS}
 use Rattle.commands.specs.Commands.{command_of, day_of, even_trips, form_of, in_folder, named, named_plain}
 use Rattle.commands.specs.Commands.{nodes_of, number_up_to, numbers_of, option_number, plan_of, rounds_of}
 use Rattle.commands.specs.Commands.{trial_of, trips_of}
@@ -40,7 +40,7 @@ number_forth : (most : ℕ) (text : List ℕ) (number : ℕ) → IsNumber most t
     → number_up_to most text ≡ Some number
 number_forth most text number is =
     let least : nat_le 1 (length text) ≡ true = le_true 1 (length text) is.not_empty in
-    let longest : nat_le (length text) MOST_DIGITS ≡ true = le_true (length text) MOST_DIGITS is.not_long in
+    let longest : nat_le (length text) MOST_WORD_DIGITS ≡ true = le_true (length text) MOST_WORD_DIGITS is.not_long in
     let fits : nat_le (number_of text) most ≡ true =
     le_true (number_of text) most (omega (arith, is.spelled, is.limit)) in
     rw (least, longest, is.digits, fits) (ap (λ (n : ℕ). Some n) is.spelled)
@@ -50,16 +50,16 @@ number_back : (most : ℕ) (text : List ℕ) (number : ℕ) → number_up_to mos
 number_back most text number e =
     let found =
     if_some (nat_le 1 (length text) &&
-    (nat_le (length text) MOST_DIGITS && (are_digits text && nat_le (number_of text) most))) (number_of text) number e in
+    (nat_le (length text) MOST_WORD_DIGITS && (are_digits text && nat_le (number_of text) most))) (number_of text) number e in
     let first =
     and_parts (nat_le 1 (length text))
-    (nat_le (length text) MOST_DIGITS && (are_digits text && nat_le (number_of text) most)) found.0 in
-    let second = and_parts (nat_le (length text) MOST_DIGITS) (are_digits text && nat_le (number_of text) most) first.1 in
+    (nat_le (length text) MOST_WORD_DIGITS && (are_digits text && nat_le (number_of text) most)) found.0 in
+    let second = and_parts (nat_le (length text) MOST_WORD_DIGITS) (are_digits text && nat_le (number_of text) most) first.1 in
     let third = and_parts (are_digits text) (nat_le (number_of text) most) second.1 in
     let fits : number_of text ≤ most = le_of (number_of text) most third.1 in
     record {
       not_empty = le_of 1 (length text) first.0;
-      not_long = le_of (length text) MOST_DIGITS second.0;
+      not_long = le_of (length text) MOST_WORD_DIGITS second.0;
       digits = third.0;
       spelled = found.1;
       limit = omega (arith, fits, found.1);

@@ -11,7 +11,7 @@ use Rattle.command_line.specs.Parts.{Parts, fits, parts_of}
 use Rattle.command_line.specs.Texts.{Texts, texts_of}
 use Rattle.commands.specs.declared.command.Command.{Command}
 use Rattle.commands.specs.declared.command.Command.TheVariants.{Plan, Simulate, Check, Duties, Yards, Costs, Trial}
-use Rattle.commands.specs.declared.command.TheConstants.{MOST_DIGITS, MOST_SEED, USUAL_NODES, USUAL_ROUNDS}
+use Rattle.commands.specs.declared.command.TheConstants.{MOST_SEED, MOST_WORD_DIGITS, USUAL_NODES, USUAL_ROUNDS}
 use Rattle.commands.specs.declared.command_words.WordsRefusal.{WordsRefusal}
 use Rattle.commands.specs.declared.command_words.WordsRefusal.TheVariants.{NotUnderstood, NoMemory}
 
@@ -19,7 +19,7 @@ use Rattle.commands.specs.declared.command_words.WordsRefusal.TheVariants.{NotUn
 
 -- a number: at least one digit, no more than a number may have, and at most so much
 abbrev pub number_up_to : ℕ → List ℕ → Option ℕ
-number_up_to most text = if nat_le 1 (length text) && (nat_le (length text) MOST_DIGITS && (are_digits text
+number_up_to most text = if nat_le 1 (length text) && (nat_le (length text) MOST_WORD_DIGITS && (are_digits text
     && nat_le (number_of text) most)) then Some (number_of text) else None
 
 -- the number of an option, which has its usual number where it is not given

@@ -1,7 +1,7 @@
 -- The numbers that words are held to, each as it is. Clauses call them by their names.
 use Rattle.std.specs.Prelude.{◌≡◌}
 use Rattle.rail_base.specs.declared.limits.TheConstants.{MOST_BRANCHINGS, MOST_ROUNDS, MOST_TRIPS, MOST_WORDS}
-use Rattle.commands.specs.declared.command.TheConstants.{MOST_DIGITS, MOST_SEED, USUAL_NODES, USUAL_ROUNDS}
+use Rattle.commands.specs.declared.command.TheConstants.{MOST_SEED, MOST_WORD_DIGITS, USUAL_NODES, USUAL_ROUNDS}
 
 -- words, the numbers in them, options that are not given, and the most trips of a trial
 pub record AreWordLimits : Type 0 where
@@ -10,6 +10,6 @@ pub record AreWordLimits : Type 0 where
   pub usual_rounds : USUAL_ROUNDS ≡ 20
   pub branchings : MOST_BRANCHINGS ≡ 4000
   pub rounds : MOST_ROUNDS ≡ 100
-  pub digits : MOST_DIGITS ≡ 10
+  pub digits : MOST_WORD_DIGITS ≡ 10
   pub seed : MOST_SEED ≡ 4294967295
   pub trips : MOST_TRIPS ≡ 400

@@ -6,7 +6,7 @@ use Rattle.command_line.specs.declared.form.OptionName.TheVariants.{Nodes, Round
 use Rattle.command_line.specs.Items.{HaveTheirForm, Item, WordList, positional_in, values_in, words_of}
 use Rattle.commands.specs.declared.command.Command.{Command}
 use Rattle.commands.specs.declared.command.Command.TheVariants.{Plan, Simulate, Check, Duties, Yards, Costs, Trial}
-use Rattle.commands.specs.declared.command.TheConstants.{MOST_DIGITS, MOST_SEED, USUAL_NODES, USUAL_ROUNDS}
+use Rattle.commands.specs.declared.command.TheConstants.{MOST_SEED, MOST_WORD_DIGITS, USUAL_NODES, USUAL_ROUNDS}
 use Rattle.commands.specs.declared.command_words.WordsRefusal.{WordsRefusal}
 use Rattle.commands.specs.declared.command_words.WordsRefusal.TheVariants.{NotUnderstood, NoMemory}
 
@@ -15,7 +15,7 @@ use Rattle.commands.specs.declared.command_words.WordsRefusal.TheVariants.{NotUn
 -- a number is at least one digit, no more than a number may have, and at most so much
 pub record IsNumber (most : ℕ) (text : List ℕ) (number : ℕ) : Type 0 where
   pub not_empty : 1 ≤ length text
-  pub not_long : length text ≤ MOST_DIGITS
+  pub not_long : length text ≤ MOST_WORD_DIGITS
   pub digits : are_digits text ≡ true
   pub spelled : number_of text ≡ number
   pub limit : number ≤ most

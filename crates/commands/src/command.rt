@@ -96,7 +96,7 @@ pub enum Command {
 }
 
 /// The most digits that a number on the command line may have.
-pub const MOST_DIGITS: usize = 10;
+pub const MOST_WORD_DIGITS: usize = 10;
 /// The greatest number that a trial day may be made from.
 pub const MOST_SEED: u32 = 4_294_967_295;
 /// Branchings that are granted where the words say nothing of them.
