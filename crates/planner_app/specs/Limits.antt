@@ -10,10 +10,11 @@ use Rattle.rail_base.specs.declared.limits.TheConstants.{MOST_REALLOCATION, MOST
 use Rattle.rail_base.specs.declared.limits.TheConstants.{MOST_DEMAND, MOST_FIRST_DEMAND, MOST_KM, MOST_MINUTES}
 use Rattle.rail_base.specs.declared.limits.TheConstants.{MOST_WEIGHT}
 use Rattle.rail_base.specs.declared.limits.TheConstants.{MOST_COMPOSITION, MOST_COMPOSITIONS, MOST_EXCHANGED}
+use Rattle.rail_base.specs.declared.limits.TheConstants.{MOST_HANDOVERS}
 use Rattle.rail_base.specs.declared.limits.TheConstants.{MOST_UNITS}
 use Rattle.rail_base.specs.declared.limits.TheConstants.{MOST_ENTRIES, MOST_MULTIPLIER, MOST_NODES}
 use Rattle.rail_csv.specs.declared.limits.TheConstants.{LAST_HOUR, LAST_MINUTE_OF_AN_HOUR, MINUTES_OF_AN_HOUR}
-use Rattle.rail_csv.specs.declared.limits.TheConstants.{MOST_NUMBER_DIGITS}
+use Rattle.rail_csv.specs.declared.limits.TheConstants.{MOST_NUMBER_DIGITS, MOST_VALUE_BYTES}
 use Rattle.rail_csv.specs.declared.limits.TheConstants.{FEWEST_TYPE_COLUMNS, FEWEST_STATION_COLUMNS}
 use Rattle.rail_csv.specs.declared.limits.TheConstants.{FEWEST_STOCK_COLUMNS, FEWEST_TRIP_COLUMNS, FEWEST_LINK_COLUMNS}
 use Rattle.rail_csv.specs.declared.limits.TheConstants.{FEWEST_WEIGHT_COLUMNS, FEWEST_PLAN_COLUMNS}
@@ -40,9 +41,10 @@ pub record AreHeaderLimits : Type 0 where
   pub weights : FEWEST_WEIGHT_COLUMNS ≡ 3
   pub plan : FEWEST_PLAN_COLUMNS ≡ 2
 
--- the digits of a number, and the hours and minutes of a time
+-- the digits of a number, the bytes of a text whose digits are summed up, and the hours and minutes of a time
 pub record AreFieldLimits : Type 0 where
   pub digits : MOST_NUMBER_DIGITS ≡ 9
+  pub value_bytes : MOST_VALUE_BYTES ≡ 10
   pub hour : LAST_HOUR ≡ 47
   pub minute : LAST_MINUTE_OF_AN_HOUR ≡ 59
   pub hour_minutes : MINUTES_OF_AN_HOUR ≡ 60
@@ -69,6 +71,7 @@ pub record AreDayLimits : Type 0 where
   pub compositions : MOST_COMPOSITIONS ≡ 1000
   pub composition : MOST_COMPOSITION ≡ 6
   pub exchanged : MOST_EXCHANGED ≡ 2
+  pub handovers : MOST_HANDOVERS ≡ 266
 
 -- files, answers, and what bounds are asked for
 pub record AreRunLimits : Type 0 where
