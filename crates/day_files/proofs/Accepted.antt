@@ -8,16 +8,20 @@ use Rattle.rail_io.specs.Folders.{Files}
 use Rattle.rail_csv.specs.declared.rows.Table.{Table}
 use Rattle.rail_csv.specs.declared.rows.Table.TheVariants as table
 use Rattle.rail_csv.specs.declared.refusal.TableRefusal.{TableRefusal}
+use Rattle.rail_csv.proofs.Accepted.{types_within, stations_within, stock_within, trips_within, links_within, weights_within}
 use Rattle.timetable.specs.declared.building.tables.Tables.{Tables}
 use Rattle.timetable.specs.Day.{Day}
 use Rattle.timetable.specs.declared.building.refusal.InstanceRefusal.{InstanceRefusal}
 use Rattle.timetable.specs.declared.building.refusal.PlanRefusal.{PlanRefusal}
 use Rattle.timetable.specs.Build.{day_of}
 use Rattle.timetable.specs.Plans.{plan_of}
+use Rattle.timetable.proofs.Days.{day_within_limits}
+use Rattle.timetable.proofs.Said.{is_day_of}
+use Rattle.timetable.proofs.StockRows.{stocked}
 use Rattle.day_files.specs.declared.errors.Refusal.{Refusal}
 use Rattle.day_files.specs.declared.inputs.Inputs.{Inputs}
 use Rattle.day_files.specs.Tables.{RowsOf, reading, bytes_of, bytes_in, as_table, read_by, table_in}
-use Rattle.day_files.specs.Tables.{AreTables, IsMadeDay, IsFileOf, AreFilesOf, AreAcceptedAsDay}
+use Rattle.day_files.specs.Tables.{AreTables, IsMadeDay, IsFileOf, AreFilesOf, AreAcceptedAsDay, IsSoundDay}
 use Rattle.day_files.specs.Inputs.{as_day, as_plan, tables_in, day_in, inputs_in}
 use Rattle.day_files.specs.Acceptance.{AreAccepted}
 
@@ -134,3 +138,36 @@ if_accepted files dir inputs a =
     let day = day_if_accepted files dir inputs.instance (record { tables = a.tables; table_files = a.table_files; made = a.day }) in
     let rows = file_is files dir table.Plan a.rows a.plan_file in
     rw (day, rows, a.plan) refl
+
+-- ---- what is known of an accepted day
+
+-- a day as which the files of a folder are accepted is made of tables whose rows keep within the ranges of their columns
+pub made_of_files : (files : Files) (dir : List ℕ) (day : Day) → day_in files dir ≡ Ok day → IsMadeDay day
+made_of_files files dir day e =
+    let accepted = day_accepted_if files dir day e in
+    let each = accepted.table_files in
+    record {
+      tables = accepted.tables;
+      rows = record {
+        types = types_within (bytes_of files dir table.Types) accepted.tables.types each.types.read;
+        stations = stations_within (bytes_of files dir table.Stations) accepted.tables.stations each.stations.read;
+        stock = stock_within (bytes_of files dir table.Stock) accepted.tables.stock each.stock.read;
+        trips = trips_within (bytes_of files dir table.Trips) accepted.tables.trips each.trips.read;
+        links = links_within (bytes_of files dir table.Links) accepted.tables.links each.links.read;
+        weights = weights_within (bytes_of files dir table.Weights) accepted.tables.weights each.weights.read;
+      };
+      made = accepted.made;
+    }
+
+-- a day that is made of such tables is as the laws on days ask for it
+pub sound_of : (day : Day) → IsMadeDay day → IsSoundDay day
+sound_of day made =
+    let meant = is_day_of made.tables day made.made in
+    record {
+      limits = day_within_limits made.tables day made.rows.types made.rows.stations made.rows.trips made.rows.links made.rows.weights made.made;
+      links = meant.linked;
+      meet = meant.meet;
+      stock = stocked day made.tables.stock meant.stock_rows meant.stock made.rows.stock.each;
+      served = meant.served;
+      compositions = meant.compositions;
+    }

@@ -6,7 +6,7 @@ ghost use Rattle.day_files.specs.declared.errors.Refusal.{Refusal};
 ghost use Rattle.timetable.specs.Day.{Day};
 ghost use Rattle.day_files.specs.declared.inputs.Inputs.{Inputs};
 ghost use Rattle.day_files.specs.Inputs.{day_in, inputs_in};
-ghost use Rattle.day_files.specs.Tables.{AreAcceptedAsDay};
+ghost use Rattle.day_files.specs.Tables.{AreAcceptedAsDay, IsMadeDay, IsSoundDay};
 ghost use Rattle.day_files.specs.Acceptance.{AreAccepted, IsFirstRefused, IsOfPlan};
 
 /// For every folder: its six files are accepted as a day exactly where each of them is a table of its rows, and the
@@ -29,4 +29,12 @@ pub fn what_is_accepted()
         → (inputs_in files dir ≡ Ok inputs) ↔ AreAccepted files dir inputs }
     ensures refused { (files : Files) (dir : List ℕ) (why : Refusal)
         → (inputs_in files dir ≡ Err why) ↔ IsFirstRefused files dir why }
+{}
+
+/// A day as which the files of a folder are accepted is one that tables make whose rows keep within the ranges of their
+/// columns, and every such day is sound: of it holds what the laws on days ask for, those on plans that run, on yards,
+/// on the day's machine and on bounds.
+pub fn accepted_days_are_sound()
+    ensures made { (files : Files) (dir : List ℕ) (day : Day) → day_in files dir ≡ Ok day → IsMadeDay day }
+    ensures sound { (day : Day) → IsMadeDay day → IsSoundDay day }
 {}

@@ -245,39 +245,57 @@ accepted IsRow limit (Err e) read meets given = tt
 
 -- each reader's rows are within the ranges of its columns
 
-pub types_are : (result : Result (Vec TypeRow) TableRefusal) (bytes : List ℕ) → GivesRows is_memory result (types_of bytes) → IfOk result (λ v. AreRows MOST_TYPES IsTypeRow v.items)
+pub types_within : (bytes : List ℕ) (rows : List TypeRow) → types_of bytes ≡ Ok rows → AreRows MOST_TYPES IsTypeRow rows
 unfolding types_of table_of
-types_are result bytes given = accepted IsTypeRow MOST_TYPES result (types_of bytes) (λ rows e. table_read IsTypeRow type_header FEWEST_TYPE_COLUMNS MOST_TYPES type_columns type_meets (records_of bytes) rows e) given
+types_within bytes rows e = table_read IsTypeRow type_header FEWEST_TYPE_COLUMNS MOST_TYPES type_columns type_meets (records_of bytes) rows e
+
+pub types_are : (result : Result (Vec TypeRow) TableRefusal) (bytes : List ℕ) → GivesRows is_memory result (types_of bytes) → IfOk result (λ v. AreRows MOST_TYPES IsTypeRow v.items)
+types_are result bytes given = accepted IsTypeRow MOST_TYPES result (types_of bytes) (types_within bytes) given
+
+pub stations_within : (bytes : List ℕ) (rows : List StationRow) → stations_of bytes ≡ Ok rows → AreRows MOST_STATIONS IsStationRow rows
+unfolding stations_of table_of
+stations_within bytes rows e = table_read IsStationRow station_header FEWEST_STATION_COLUMNS MOST_STATIONS station_columns station_meets (records_of bytes) rows e
 
 pub stations_are : (result : Result (Vec StationRow) TableRefusal) (bytes : List ℕ) → GivesRows is_memory result (stations_of bytes) → IfOk result (λ v. AreRows MOST_STATIONS IsStationRow v.items)
-unfolding stations_of table_of
-stations_are result bytes given = accepted IsStationRow MOST_STATIONS result (stations_of bytes) (λ rows e. table_read IsStationRow station_header FEWEST_STATION_COLUMNS MOST_STATIONS station_columns station_meets (records_of bytes) rows e) given
+stations_are result bytes given = accepted IsStationRow MOST_STATIONS result (stations_of bytes) (stations_within bytes) given
+
+pub stock_within : (bytes : List ℕ) (rows : List StockRow) → stock_of bytes ≡ Ok rows → AreRows MOST_STOCK_ROWS IsStockRow rows
+unfolding stock_of table_of
+stock_within bytes rows e = table_read IsStockRow stock_header FEWEST_STOCK_COLUMNS MOST_STOCK_ROWS stock_columns stock_meets (records_of bytes) rows e
 
 pub stock_are : (result : Result (Vec StockRow) TableRefusal) (bytes : List ℕ) → GivesRows is_memory result (stock_of bytes) → IfOk result (λ v. AreRows MOST_STOCK_ROWS IsStockRow v.items)
-unfolding stock_of table_of
-stock_are result bytes given = accepted IsStockRow MOST_STOCK_ROWS result (stock_of bytes) (λ rows e. table_read IsStockRow stock_header FEWEST_STOCK_COLUMNS MOST_STOCK_ROWS stock_columns stock_meets (records_of bytes) rows e) given
+stock_are result bytes given = accepted IsStockRow MOST_STOCK_ROWS result (stock_of bytes) (stock_within bytes) given
+
+pub trips_within : (bytes : List ℕ) (rows : List TripRow) → trips_of bytes ≡ Ok rows → AreRows MOST_TRIPS IsTripRow rows
+unfolding trips_of table_of
+trips_within bytes rows e = table_read IsTripRow trip_header FEWEST_TRIP_COLUMNS MOST_TRIPS trip_columns trip_meets (records_of bytes) rows e
 
 pub trips_are : (result : Result (Vec TripRow) TableRefusal) (bytes : List ℕ) → GivesRows is_memory result (trips_of bytes) → IfOk result (λ v. AreRows MOST_TRIPS IsTripRow v.items)
-unfolding trips_of table_of
-trips_are result bytes given = accepted IsTripRow MOST_TRIPS result (trips_of bytes) (λ rows e. table_read IsTripRow trip_header FEWEST_TRIP_COLUMNS MOST_TRIPS trip_columns trip_meets (records_of bytes) rows e) given
+trips_are result bytes given = accepted IsTripRow MOST_TRIPS result (trips_of bytes) (trips_within bytes) given
+
+pub links_within : (bytes : List ℕ) (rows : List LinkRow) → links_of bytes ≡ Ok rows → AreRows MOST_LINKS IsLinkRow rows
+unfolding links_of table_of
+links_within bytes rows e = table_read IsLinkRow link_header FEWEST_LINK_COLUMNS MOST_LINKS link_columns link_meets (records_of bytes) rows e
 
 pub links_are : (result : Result (Vec LinkRow) TableRefusal) (bytes : List ℕ) → GivesRows is_memory result (links_of bytes) → IfOk result (λ v. AreRows MOST_LINKS IsLinkRow v.items)
-unfolding links_of table_of
-links_are result bytes given = accepted IsLinkRow MOST_LINKS result (links_of bytes) (λ rows e. table_read IsLinkRow link_header FEWEST_LINK_COLUMNS MOST_LINKS link_columns link_meets (records_of bytes) rows e) given
+links_are result bytes given = accepted IsLinkRow MOST_LINKS result (links_of bytes) (links_within bytes) given
+
+pub plan_within : (bytes : List ℕ) (rows : List PlanRow) → plan_of bytes ≡ Ok rows → AreRows MOST_PLAN_ROWS IsPlanRow rows
+unfolding plan_of table_of
+plan_within bytes rows e = table_read IsPlanRow plan_header FEWEST_PLAN_COLUMNS MOST_PLAN_ROWS plan_columns plan_meets (records_of bytes) rows e
 
 pub plan_are : (result : Result (Vec PlanRow) TableRefusal) (bytes : List ℕ) → GivesRows is_memory result (plan_of bytes) → IfOk result (λ v. AreRows MOST_PLAN_ROWS IsPlanRow v.items)
-unfolding plan_of table_of
-plan_are result bytes given = accepted IsPlanRow MOST_PLAN_ROWS result (plan_of bytes) (λ rows e. table_read IsPlanRow plan_header FEWEST_PLAN_COLUMNS MOST_PLAN_ROWS plan_columns plan_meets (records_of bytes) rows e) given
+plan_are result bytes given = accepted IsPlanRow MOST_PLAN_ROWS result (plan_of bytes) (plan_within bytes) given
 
 the_row_meets : (rows : List WeightsRow) (row : WeightsRow) → AllByRecursion IsWeightsRow rows → the_row rows ≡ Ok row → IsWeightsRow row
 the_row_meets [] row each e = absurd cc
 the_row_meets (first ∷ others) row each e = subst IsWeightsRow (same first row e) each.0
 
-weights_read : (bytes : List ℕ) (row : WeightsRow) → weights_of bytes ≡ Ok row → IsWeightsRow row
+pub weights_within : (bytes : List ℕ) (row : WeightsRow) → weights_of bytes ≡ Ok row → IsWeightsRow row
 unfolding weights_of table_of
-weights_read bytes row e =
+weights_within bytes row e =
     step e (λ rows. AllByRecursion IsWeightsRow rows) (λ rows read. table_rows IsWeightsRow weight_header FEWEST_WEIGHT_COLUMNS MOST_WEIGHT_ROWS weight_columns weight_meets (records_of bytes) rows read) (λ rows each e1. the_row_meets rows row each e1)
 
 pub weights_are : (result : Result WeightsRow TableRefusal) (bytes : List ℕ) → Gives is_memory result (weights_of bytes) → IfOk result (λ row. IsWeightsRow row)
-weights_are (Ok row) bytes given = weights_read bytes row given
+weights_are (Ok row) bytes given = weights_within bytes row given
 weights_are (Err e) bytes given = tt
