@@ -8,6 +8,8 @@ use Rattle.rail_io.specs.Folders.{Files}
 use Rattle.rail_csv.specs.declared.rows.Table.{Table}
 use Rattle.rail_csv.specs.declared.rows.Table.TheVariants as table
 use Rattle.rail_csv.specs.declared.refusal.TableRefusal.{TableRefusal}
+use Rattle.rail_csv.specs.declared.rows.PlanRow.{PlanRow}
+use Rattle.rail_csv.specs.Rows.{ArePlanRows}
 use Rattle.rail_csv.proofs.Accepted.{types_within, stations_within, stock_within, trips_within, links_within, weights_within}
 use Rattle.timetable.specs.declared.building.tables.Tables.{Tables}
 use Rattle.timetable.specs.Day.{Day}
@@ -21,7 +23,7 @@ use Rattle.timetable.proofs.StockRows.{stocked}
 use Rattle.day_files.specs.declared.errors.Refusal.{Refusal}
 use Rattle.day_files.specs.declared.inputs.Inputs.{Inputs}
 use Rattle.day_files.specs.Tables.{RowsOf, reading, bytes_of, bytes_in, as_table, read_by, table_in}
-use Rattle.day_files.specs.Tables.{AreTables, IsMadeDay, IsFileOf, AreFilesOf, AreAcceptedAsDay, IsSoundDay}
+use Rattle.day_files.specs.Tables.{AreTables, IsMadeDay, IsFileOf, AreFilesOf, AreAcceptedAsDay, IsMadePlan, IsSoundDay}
 use Rattle.day_files.specs.Inputs.{as_day, as_plan, tables_in, day_in, inputs_in}
 use Rattle.day_files.specs.Acceptance.{AreAccepted}
 
@@ -51,6 +53,10 @@ day_made (Err why) day e = absurd cc
 -- a day that was made of these tables
 pub made_of : (tables : Tables) (day : Day) → AreTables tables → day_of tables ≡ Ok day → IsMadeDay day
 made_of tables day within made = record { tables = tables; rows = within; made = made }
+
+-- a plan that was made of these rows
+pub made_plan : (day : Day) (rows : List PlanRow) (plan : List (List ℕ)) → ArePlanRows rows → plan_of day rows ≡ Ok plan → IsMadePlan day plan
+made_plan day rows plan within made = record { rows = rows; within = within; made = made }
 
 plan_made : {A : Type 0} (made : Result A PlanRefusal) (plan : A) → as_plan made ≡ Ok plan → made ≡ Ok plan
 plan_made (Ok x) plan e = ap (λ a. Ok a) (same x plan e)

@@ -15,11 +15,13 @@ use Rattle.rail_csv.specs.declared.rows.PlanRow.{PlanRow}
 use Rattle.rail_csv.specs.declared.refusal.TableRefusal.{TableRefusal}
 use Rattle.rail_csv.specs.Tables.{types_of, stations_of, stock_of, trips_of, links_of, weights_of, plan_of}
 use Rattle.rail_csv.specs.Rows.{AreTypeRows, AreStationRows, AreStockRows, AreTripRows, AreLinkRows, IsWeightsRow}
+use Rattle.rail_csv.specs.Rows.{ArePlanRows}
 use Rattle.timetable.specs.declared.building.tables.Tables.{Tables}
 use Rattle.timetable.specs.Accepted.{AreLinks, DoMeet, HaveCompositions, IsDay, IsStocked}
 use Rattle.timetable.specs.Compositions.{compositions_of}
 use Rattle.timetable.specs.Day.{Day}
 use Rattle.timetable.specs.Build.{day_of}
+use Rattle.timetable.specs.Plans as plan_rows
 use Rattle.day_files.specs.declared.errors.Refusal.{Refusal}
 use Rattle.day_files.specs.declared.errors.Refusal.TheVariants.{TooLong, WrongTable}
 use Rattle.day_files.specs.Names.{path_of}
@@ -58,6 +60,12 @@ pub record IsMadeDay (day : Day) : Type 0 where
   pub tables : Tables
   pub rows : AreTables tables
   pub made : day_of tables ≡ Ok day
+
+-- a plan of a day that rows make which keep within the ranges of their columns
+pub record IsMadePlan (day : Day) (plan : List (List ℕ)) : Type 0 where
+  pub rows : List PlanRow
+  pub within : ArePlanRows rows
+  pub made : plan_rows.plan_of day rows ≡ Ok plan
 
 -- a day as the laws on days ask for it: no number is over its limit, links name each trip once on a side and lead from
 -- trip to trip in time and at one station, no station has two stock rows of a type, and some composition may run on

@@ -7,7 +7,7 @@ ghost use Rattle.rail_csv.specs.Rows.{ArePlanRows};
 ghost use Rattle.timetable.specs.Build.{day_of};
 ghost use Rattle.timetable.specs.Plans.{plan_of};
 ghost use Rattle.timetable.specs.Running.{IsPlan};
-ghost use Rattle.day_files.specs.Tables.{AreTables, IsMadeDay};
+ghost use Rattle.day_files.specs.Tables.{AreTables, IsMadeDay, IsMadePlan};
 ghost use Rattle.day_files.specs.UnitTables.{AreUnitTables, AreUnitTablesIn};
 ghost use Rattle.day_files.specs.Inputs.{as_day, as_plan, day_in, inputs_in, tables_in};
 ghost use Rattle.day_files.specs.Order.{Reaches};
@@ -110,7 +110,8 @@ fn day_of(alloc: Global, tables: Tables) -> Result<Instance, ReadError>
     }
 }
 
-/// The plan of a day that rows make.
+/// The plan of a day that rows make, which keep within the ranges of their columns.
+#[tactic(auto, using(crate::proofs::Accepted::made_plan))]
 fn plan_of(alloc: Global, instance: &Instance, rows: &[PlanRow]) -> Result<NamedPlan, ReadError>
     requires made { IsMadeDay instance.now }
     requires rows { ArePlanRows rows.now }
@@ -118,6 +119,7 @@ fn plan_of(alloc: Global, instance: &Instance, rows: &[PlanRow]) -> Result<Named
     ensures ended { IfErr result IsMade }
     ensures says { IfErr result (IsErrorOf (λ table. table ≡ Plan)) }
     ensures is_plan { IfOk result (λ plan. IsPlan instance.now plan) }
+    ensures made { IfOk result (IsMadePlan instance.now) }
 {
     match NamedPlan::build(alloc, instance, rows) {
         Ok(plan) => Ok(plan),
@@ -156,7 +158,8 @@ pub fn day_in<F: Folder>(alloc: Global, folder: &mut F, dir: &str) -> Result<Ins
 
 /// The day and the plan of a folder: the day of its six tables, and then the plan of it that `plan.csv` makes. The
 /// first file that is refused or cannot be read ends the reading. The day is one that tables make whose rows keep
-/// within the ranges of their columns, also where the folder doesn't tell what it holds.
+/// within the ranges of their columns, and the plan one that such rows make of it, also where the folder doesn't tell
+/// what it holds.
 ///
 /// - `CannotRead`: the count of faults rose or stands at its last value, and a read of that file may fail.
 /// - `Refused`: a file is refused, the tables make no day, or the rows of the plan no plan of it. It is never want of
@@ -174,6 +177,7 @@ pub fn inputs_in<F: Folder>(alloc: Global, folder: &mut F, dir: &str) -> Result<
         → Reads (Reaches files dir.now) result (inputs_in files dir.now) }
     ensures made { IfOk result (λ inputs. IsMadeDay inputs.instance) }
     ensures is_plan { IfOk result (λ inputs. IsPlan inputs.instance inputs.plan) }
+    ensures made_plan { IfOk result (λ inputs. IsMadePlan inputs.instance inputs.plan) }
 
     // What an error says, and what stays.
     ensures says { IfErr result (IsErrorOf (λ _. ⊤)) }

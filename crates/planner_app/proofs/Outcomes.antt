@@ -8,7 +8,6 @@ use Rattle.rail_base.specs.declared.numbers.Money.{Money}
 use Rattle.timetable.specs.Cost.{plan_cost}
 use Rattle.timetable.specs.Build.{day_of}
 use Rattle.timetable.specs.Day.{Day}
-use Rattle.timetable.specs.Running.{IsPlan}
 use Rattle.trial_day.specs.Trial.{trial_tables_of}
 use Rattle.answer_text.specs.Limits.{IsWithin, has_plan}
 use Rattle.day_files.specs.declared.errors.ReadError.{ReadError}
@@ -16,7 +15,7 @@ use Rattle.day_files.specs.declared.errors.ReadError.TheVariants as read_error
 use Rattle.day_files.specs.declared.inputs.Inputs.{Inputs}
 use Rattle.day_files.specs.Inputs.{day_in, inputs_in}
 use Rattle.day_files.specs.Order.{Reaches}
-use Rattle.day_files.specs.Tables.{IsMadeDay}
+use Rattle.day_files.specs.Tables.{IsMadeDay, IsMadePlan}
 use Rattle.day_files.specs.Answers.{Reads, IsCaused, IsErrorOf}
 use Rattle.day_files.proofs.ErrorTables.{of_more}
 use Rattle.day_simulator.specs.declared.events.StepFault.{StepFault}
@@ -235,22 +234,23 @@ module _ {F : Type 0} (holds : F → Option Files) (may_fail : F → List ℕ �
   }
 
   pub plan_runs : (inputs : Inputs) (money : Money) → AskToSimulate words dir → IsMadeDay inputs.instance
+      → IsMadePlan inputs.instance inputs.plan
       → ((files : Files) → holds before ≡ Some files → inputs_in files dir ≡ Ok inputs)
       → PlanRuns inputs → IsCost (plan_cost inputs.instance inputs.plan) money → Comes (Runs money)
-  plan_runs inputs money asked made told runs cost = record {
+  plan_runs inputs money asked made made_plan told runs cost = record {
     told = λ files tells. (inputs, record { dir = dir; asked = asked; accepted = told files tells }, runs, cost);
-    sound = (dir, asked, inputs, made, runs, cost);
+    sound = (dir, asked, inputs, made, made_plan, runs, cost);
     usage = λ e. absurd cc;
     understood = λ vain. absurd (vain (command.Simulate dir) asked);
     caused = tt;
   }
 
   pub plan_stops : (inputs : Inputs) (fault : StepFault) → AskToSimulate words dir → IsMadeDay inputs.instance
-      → IsPlan inputs.instance inputs.plan → ((files : Files) → holds before ≡ Some files → inputs_in files dir ≡ Ok inputs)
+      → IsMadePlan inputs.instance inputs.plan → ((files : Files) → holds before ≡ Some files → inputs_in files dir ≡ Ok inputs)
       → ¬ (PlanRuns inputs) → simulation inputs.instance inputs.plan ≡ Err fault → IsInTurn fault → Comes (Stops fault)
-  plan_stops inputs fault asked made is_plan told stops is in_turn = record {
+  plan_stops inputs fault asked made made_plan told stops is in_turn = record {
     told = λ files tells. (inputs, record { dir = dir; asked = asked; accepted = told files tells }, stops, is, in_turn);
-    sound = (dir, asked, inputs, made, is_plan, stops, is, in_turn);
+    sound = (dir, asked, inputs, made, made_plan, stops, is, in_turn);
     usage = λ e. absurd cc;
     understood = λ vain. absurd (vain (command.Simulate dir) asked);
     caused = tt;

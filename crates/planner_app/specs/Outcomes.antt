@@ -14,7 +14,7 @@ use Rattle.day_files.specs.declared.errors.ReadError.TheVariants as read_error
 use Rattle.day_files.specs.declared.inputs.Inputs.{Inputs}
 use Rattle.day_files.specs.Inputs.{day_in, inputs_in}
 use Rattle.day_files.specs.Order.{Reaches}
-use Rattle.day_files.specs.Tables.{IsMadeDay}
+use Rattle.day_files.specs.Tables.{IsMadeDay, IsMadePlan}
 use Rattle.day_files.specs.Answers.{IsCaused, IsErrorOf}
 use Rattle.day_simulator.specs.Calls.{IsCost}
 use Rattle.day_simulator.specs.Finish.{simulation}
@@ -235,19 +235,19 @@ Says words files NoMemory = ⊤
 
 -- What an outcome says whatever the files are: an answer, a run, a verdict and a report are of the command that is
 -- asked for; an answer meets the headline for some day that tables make, or for the trial day that is asked for; a plan
--- of some day that tables make runs at this cost, or stops with this fault; a verdict is that on an answer to some such
--- day, an answer within the limits of a document, and is told by a check alone where the answer is valid; and a report,
--- or that there is none, is of such an answer that is valid. Words that are not understood, and files that are not read
--- or refused, say nothing here: what they are caused by is said below.
+-- that rows make of some day that tables make runs at this cost, or stops with this fault; a verdict is that on an
+-- answer to some such day, an answer within the limits of a document, and is told by a check alone where the answer is
+-- valid; and a report, or that there is none, is of such an answer that is valid. Words that are not understood, and
+-- files that are not read or refused, say nothing here: what they are caused by is said below.
 abbrev pub IsSound : List (List ℕ) → Outcome → Type 0
 IsSound words (Planned answer) = (day : Day) × IsMadeDay day × IsPlanned words day answer
 IsSound words (Tried seed trips answer) = IsTried words seed trips answer
 IsSound words (Runs money) = (dir : List ℕ) × AskToSimulate words dir
-    × (inputs : Inputs) × IsMadeDay inputs.instance × PlanRuns inputs
+    × (inputs : Inputs) × IsMadeDay inputs.instance × IsMadePlan inputs.instance inputs.plan × PlanRuns inputs
     × IsCost (plan_cost inputs.instance inputs.plan) money
 IsSound words (Stops fault) = (dir : List ℕ) × AskToSimulate words dir
-    × (inputs : Inputs) × IsMadeDay inputs.instance × running.IsPlan inputs.instance inputs.plan
-    × ¬ (PlanRuns inputs) × (simulation inputs.instance inputs.plan ≡ Err fault) × IsInTurn fault
+    × (inputs : Inputs) × IsMadeDay inputs.instance × IsMadePlan inputs.instance inputs.plan × ¬ (PlanRuns inputs)
+    × (simulation inputs.instance inputs.plan ≡ Err fault) × IsInTurn fault
 IsSound words (Checked head verdict) = (dir : List ℕ) × (about : AskAbout words dir) × (reads_answer about.named ≡ true)
     × (verdict ≡ Valid → AskToCheck words dir) × (day : Day) × IsMadeDay day
     × (answer : Answer) × IsWithin MOST_NODES answer × IsVerdictOn day answer head verdict

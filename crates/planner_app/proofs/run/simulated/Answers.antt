@@ -9,10 +9,10 @@ returns-in-Err-clause-outcome g c words asked =
 
 pub returns-in-Err-Stops-clause-outcome : goal.returns-in-Err-Stops-clause-outcome
 returns-in-Err-Stops-clause-outcome g c words asked =
-    plan_stops _ _ _ _ words _ _ c.args.dir.now c.in-Ok.inputs c.in-Err-Stops.fault asked c.in-Ok.ensures.made c.in-Ok.ensures.is_plan (search rules) (search rules) (search rules)
+    plan_stops _ _ _ _ words _ _ c.args.dir.now c.in-Ok.inputs c.in-Err-Stops.fault asked c.in-Ok.ensures.made c.in-Ok.ensures.made_plan (search rules) (search rules) (search rules)
     (c.in-Err-Stops.ensures.in_turn c.in-Err-Stops.fault (search rules))
 
 pub returns-in-Ok-simulate-clause-outcome : goal.returns-in-Ok-simulate-clause-outcome
 returns-in-Ok-simulate-clause-outcome g c words asked =
-    plan_runs _ _ _ _ words _ _ c.args.dir.now c.in-Ok.inputs c.in-Ok-simulate.ran.cost asked c.in-Ok.ensures.made (search rules) (search rules)
+    plan_runs _ _ _ _ words _ _ c.args.dir.now c.in-Ok.inputs c.in-Ok-simulate.ran.cost asked c.in-Ok.ensures.made c.in-Ok.ensures.made_plan (search rules) (search rules)
     (search rules)
