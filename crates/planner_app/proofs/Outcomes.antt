@@ -1,6 +1,7 @@
 -- Outcomes of errors, by what a call that reads the folder answers.
 use Rattle.std.proofs.Common.{◌≡◌, ℕ, inl, inr, Bool, List, Option, Some, Ok, Err, refl, sym, subst}
 use Rattle.std.specs.Prelude.{◌≢◌, true, false, ⊤}
+use Rattle.std.proofs.lemmas.Bool.{false≢true}
 use Rattle.rail_io.specs.Folders.{Files}
 use Rattle.rail_csv.specs.declared.rows.Table.TheVariants as table
 use Rattle.rail_base.specs.declared.limits.TheConstants.{MOST_NODES}
@@ -35,6 +36,7 @@ use Rattle.run_documents.specs.declared.outcome.Outcome.TheVariants.{NoPlan, Usa
 use Rattle.run_documents.specs.declared.outcome.Outcome.TheVariants.{NoAnswer, NoMemory}
 use Rattle.run_documents.specs.AnswerFiles.{IsAnswerCaused, IsWrongAnswer}
 use Rattle.run_documents.specs.Errors.{outcome_of_error}
+use Rattle.commands.specs.declared.command.Command.{Command}
 use Rattle.commands.specs.declared.command.Command.TheVariants as command
 use Rattle.planner_app.specs.declared.reports.ReportKind.{ReportKind}
 use Rattle.planner_app.specs.declared.reports.ReportKind.TheVariants as report
@@ -54,7 +56,7 @@ about_planned words dir nodes rounds asked =
 abbrev about_simulated : (words : List (List ℕ)) (dir : List ℕ) → AskToSimulate words dir → AskAbout words dir
 about_simulated words dir asked = record { named = command.Simulate dir; asked = asked; folder = refl }
 
-abbrev about_checked : (words : List (List ℕ)) (dir : List ℕ) → AskToCheck words dir → AskAbout words dir
+abbrev pub about_checked : (words : List (List ℕ)) (dir : List ℕ) → AskToCheck words dir → AskAbout words dir
 about_checked words dir asked = record { named = command.Check dir; asked = asked; folder = refl }
 
 pub report_folder : (kind : ReportKind) (dir : List ℕ) → folder_of (command_for kind dir) ≡ Some dir
@@ -62,17 +64,12 @@ report_folder report.Duties dir = refl
 report_folder report.Yards dir = refl
 report_folder report.Costs dir = refl
 
-report_plain : (kind : ReportKind) (dir : List ℕ) → reads_plan (command_for kind dir) ≡ false
-report_plain report.Duties dir = refl
-report_plain report.Yards dir = refl
-report_plain report.Costs dir = refl
-
 pub report_reads : (kind : ReportKind) (dir : List ℕ) → reads_answer (command_for kind dir) ≡ true
 report_reads report.Duties dir = refl
 report_reads report.Yards dir = refl
 report_reads report.Costs dir = refl
 
-abbrev about_reported : (words : List (List ℕ)) (dir : List ℕ) (kind : ReportKind) → AskToReport words kind dir → AskAbout words dir
+abbrev pub about_reported : (words : List (List ℕ)) (dir : List ℕ) (kind : ReportKind) → AskToReport words kind dir → AskAbout words dir
 about_reported words dir kind asked =
     record { named = command_for kind dir; asked = asked; folder = report_folder kind dir }
 
@@ -161,14 +158,6 @@ module _ {F : Type 0} (holds : F → Option Files) (may_fail : F → List ℕ �
       → IsErrorOf (λ read. read ≢ table.Plan) error → Caused error → Comes (outcome_of_error error)
   day_not_planned nodes rounds error asked = no_day (about_planned words dir nodes rounds asked) refl error
 
-  pub day_not_checked : (error : ReadError) → AskToCheck words dir → Given error
-      → IsErrorOf (λ read. read ≢ table.Plan) error → Caused error → Comes (outcome_of_error error)
-  day_not_checked error asked = no_day (about_checked words dir asked) refl error
-
-  pub day_not_reported : (kind : ReportKind) (error : ReadError) → AskToReport words kind dir → Given error
-      → IsErrorOf (λ read. read ≢ table.Plan) error → Caused error → Comes (outcome_of_error error)
-  day_not_reported kind error asked = no_day (about_reported words dir kind asked) (report_plain kind dir) error
-
   pub planned : (nodes rounds : ℕ) (day : Day) (answer : Answer) → AskToPlan words dir nodes rounds → IsMadeDay day
       → ((files : Files) → holds before ≡ Some files → day_in files dir ≡ Ok day)
       → IsHeadline day nodes answer → Comes (Planned answer)
@@ -182,11 +171,29 @@ module _ {F : Type 0} (holds : F → Option Files) (may_fail : F → List ℕ �
         caused = tt;
       }
 
+  -- a command that reads an answer reads no plan
+  reads_no_plan : (about : AskAbout words dir) → reads_answer about.named ≡ true → reads_plan about.named ≡ false
+  reads_no_plan about reads = none about.named reads
+    where
+      none : (named : Command) → reads_answer named ≡ true → reads_plan named ≡ false
+      none (command.Plan dir nodes rounds) is = refl
+      none (command.Simulate dir) is = absurd (false≢true is)
+      none (command.Check dir) is = refl
+      none (command.Duties dir) is = refl
+      none (command.Yards dir) is = refl
+      none (command.Costs dir) is = refl
+      none (command.Trial seed trips nodes rounds) is = refl
+
+  -- the day of a command that reads an answer is not read
+  pub day_not_answered : (error : ReadError) (about : AskAbout words dir) → reads_answer about.named ≡ true → Given error
+      → IsErrorOf (λ read. read ≢ table.Plan) error → Caused error → Comes (outcome_of_error error)
+  day_not_answered error about reads = no_day about (reads_no_plan about reads) error
+
   -- the answer of a command that reads it is not read
-  answer_not_read : (about : AskAbout words dir) → reads_answer about.named ≡ true → (error : AnswerError) (day : Day)
+  pub no_answer : (about : AskAbout words dir) → reads_answer about.named ≡ true → (error : AnswerError) (day : Day)
       → ((files : Files) → holds before ≡ Some files → (day_in files dir ≡ Ok day) × IsWrongAnswer files dir error)
       → IsAnswerCaused may_fail faults taken dir before after error → Comes (NoAnswer error)
-  answer_not_read about reads error day told caused = record {
+  no_answer about reads error day told caused = record {
     told = λ files tells. record {
       dir = dir;
       asked = about;
@@ -200,17 +207,6 @@ module _ {F : Type 0} (holds : F → Option Files) (may_fail : F → List ℕ �
     understood = λ vain. absurd (vain about.named about.asked);
     caused = (dir, about, reads, caused);
   }
-
-  pub no_answer : (error : AnswerError) (day : Day) → AskToCheck words dir
-      → ((files : Files) → holds before ≡ Some files → (day_in files dir ≡ Ok day) × IsWrongAnswer files dir error)
-      → IsAnswerCaused may_fail faults taken dir before after error → Comes (NoAnswer error)
-  no_answer error day asked = answer_not_read (about_checked words dir asked) refl error day
-
-  pub answer_not_reported : (kind : ReportKind) (error : AnswerError) (day : Day) → AskToReport words kind dir
-      → ((files : Files) → holds before ≡ Some files → (day_in files dir ≡ Ok day) × IsWrongAnswer files dir error)
-      → IsAnswerCaused may_fail faults taken dir before after error → Comes (NoAnswer error)
-  answer_not_reported kind error day asked =
-      answer_not_read (about_reported words dir kind asked) (report_reads kind dir) error day
 
   pub checked : (head : Head) (verdict : AnswerVerdict) (day : Day) (answer : Answer) → AskToCheck words dir
       → IsMadeDay day → IsWithin MOST_NODES answer

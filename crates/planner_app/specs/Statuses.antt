@@ -1,5 +1,6 @@
 -- The status that a run ends with, what it wrote, and how many calls failed.
-use Rattle.std.specs.Prelude.{ℕ, ◌≡◌, ◌≢◌, ◌⊎◌, ◌≤◌, ◌<◌, ◌↔◌, List, length, Option, Ok, Err, Bool, true, false, IsTrue}
+use Rattle.std.specs.Prelude.{ℕ, ◌≡◌, ◌≢◌, ◌⊎◌, ◌≤◌, ◌<◌, ◌↔◌, List, length, Option, Bool, true, false, IsTrue}
+use Rattle.std.specs.Prelude.{Result, Ok, Err}
 use Rattle.rail_base.specs.declared.limits.TheConstants.{MOST_FILE_BYTES}
 use Rattle.rail_io.specs.Folders.{Files, Rose, counted}
 use Rattle.rail_io.specs.Sinks.{Appends, AppendsPart}
@@ -148,6 +149,11 @@ abbrev pub tells_unread : Outcome → Bool
 tells_unread (CannotRead table) = true
 tells_unread (NoAnswer answer_error.CannotRead) = true
 tells_unread other = false
+
+-- whether a reading ends with the outcome that a file could not be read
+abbrev pub leaves_unread : {A : Type 0} → Result A Outcome → Bool
+leaves_unread (Ok read) = false
+leaves_unread (Err outcome) = tells_unread outcome
 
 -- What was written of an outcome, and the status that says so: its whole document; or a front of it, where a write
 -- failed; or nothing, where memory ran out.

@@ -2,6 +2,7 @@
 //! reports on the plan of an answer; or it makes a trial day and plans it.
 #![tactic(auto)]
 
+mod answered;
 pub mod laws;
 pub mod reports;
 mod run;

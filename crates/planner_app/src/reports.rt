@@ -10,13 +10,13 @@ ghost use Rattle.planner_app.specs.ReportOutcomes.{IsReportOutcome};
 ghost use Rattle.planner_app.specs.ReportTexts.{report_text};
 ghost use Rattle.planner_app.specs.Statuses.{tells_unread};
 
+use crate::answered::{Answered, answered_in};
 use answer_check::{AnswerVerdict, copy_of, picks_of_plan, verdict_on};
 use answer_text::Answer;
-use day_files::day_in;
 use day_reports::{costs_table, duties_table, yards_table};
 use rail_base::{Bytes, NoMemory};
 use rail_io::Folder;
-use run_documents::{Outcome, answer_in};
+use run_documents::Outcome;
 use std::alloc::Global;
 use timetable::{Instance, NamedPlan};
 
@@ -44,14 +44,9 @@ pub(crate) fn reported<F: Folder>(
     ensures fault_counted { F.counts_failed ≡ true
         → F.faults folder.new ≡ faults_after (tells_unread result) (F.faults folder.old) }
 {
-    let instance = match day_in(alloc, folder, dir) {
-        Ok(instance) => instance,
-        Err(error) => return Outcome::from(error),
-    };
-    let answer = match answer_in(alloc, folder, dir) {
-        Ok(Ok(answer)) => answer,
-        Ok(Err(error)) => return Outcome::NoAnswer(error),
-        Err(NoMemory) => return Outcome::NoMemory,
+    let Answered { instance, answer } = match answered_in(alloc, folder, dir) {
+        Ok(answered) => answered,
+        Err(outcome) => return outcome,
     };
     match report_on(alloc, &instance, &answer, kind) {
         Ok(outcome) => outcome,

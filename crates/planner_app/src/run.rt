@@ -10,6 +10,7 @@ ghost use Rattle.planner_app.specs.Outcomes.{AskAbout, AskToCheck, AskToPlan, As
 ghost use Rattle.planner_app.specs.ReportOutcomes.{IsTrialOutcome};
 ghost use Rattle.planner_app.specs.Statuses.{tells_unread};
 
+use crate::answered::{Answered, answered_in};
 use crate::reports::{ReportKind, reported};
 use advisors::Advisor;
 use answer_check::verdict_on;
@@ -19,7 +20,7 @@ use day_planner::answer_for;
 use day_simulator::{SimulateRefusal, simulate};
 use rail_base::{NoMemory, Words};
 use rail_io::Folder;
-use run_documents::{Outcome, answer_in};
+use run_documents::Outcome;
 use std::alloc::Global;
 use trial_day::trial_instance;
 
@@ -174,14 +175,9 @@ fn checked<F: Folder>(alloc: Global, folder: &mut F, dir: &str) -> Outcome
     ensures fault_counted { F.counts_failed ≡ true
         → F.faults folder.new ≡ faults_after (tells_unread result) (F.faults folder.old) }
 {
-    let instance = match day_in(alloc, folder, dir) {
-        Ok(instance) => instance,
-        Err(error) => return Outcome::from(error),
-    };
-    let answer = match answer_in(alloc, folder, dir) {
-        Ok(Ok(answer)) => answer,
-        Ok(Err(error)) => return Outcome::NoAnswer(error),
-        Err(NoMemory) => return Outcome::NoMemory,
+    let Answered { instance, answer } = match answered_in(alloc, folder, dir) {
+        Ok(answered) => answered,
+        Err(outcome) => return outcome,
     };
     match verdict_on(alloc, &instance, &answer) {
         Ok(verdict) => Outcome::Checked {

@@ -1,0 +1,58 @@
+//! The day and the answer of a folder, for the commands that read both.
+
+ghost use Rattle.std.specs.Prelude.{ℕ, true, List, ◌≡◌, Some, IfOk, IfErr};
+ghost use Rattle.rail_base.specs.declared.limits.TheConstants.{MOST_NODES};
+ghost use Rattle.rail_io.specs.Folders.{Files, OnlyReads, faults_after};
+ghost use Rattle.day_files.specs.Tables.{IsMadeDay};
+ghost use Rattle.answer_text.specs.Limits.{IsWithin};
+ghost use Rattle.planner_app.specs.Outcomes.{AreAnswered, AskAbout, IsOutcome, reads_answer};
+ghost use Rattle.planner_app.specs.Statuses.{leaves_unread};
+
+use answer_text::Answer;
+use day_files::day_in;
+use rail_base::NoMemory;
+use rail_io::Folder;
+use run_documents::{Outcome, answer_in};
+use std::alloc::Global;
+use timetable::Instance;
+
+/// A day and an answer to it.
+#[derive(Drop)]
+pub(crate) struct Answered {
+    /// The day.
+    pub(crate) instance: Instance,
+    /// The answer.
+    pub(crate) answer: Answer,
+}
+
+/// The day of a folder's tables and the answer of its file, read in this order. The error is what the run comes to,
+/// where a file is refused or could not be read, or memory ran out.
+pub(crate) fn answered_in<F: Folder>(
+    alloc: Global,
+    folder: &mut F,
+    dir: &str,
+) -> Result<Answered, Outcome>
+    // What the files come to.
+    ensures told { (files : Files) → F.holds folder.old ≡ Some files
+        → IfOk result (λ read. AreAnswered files dir.now read.instance read.answer) }
+    ensures made { IfOk result (λ read. IsMadeDay read.instance) }
+    ensures within { IfOk result (λ read. IsWithin MOST_NODES read.answer) }
+
+    // What an error says, and what stays.
+    ensures error { IfErr result (λ outcome. (words : List (List ℕ)) (about : AskAbout words dir.now)
+        → reads_answer about.named ≡ true
+        → IsOutcome F.holds F.may_fail F.faults F.taken words folder.old folder.new outcome) }
+    ensures fault_counted { F.counts_failed ≡ true
+        → F.faults folder.new ≡ faults_after (leaves_unread result) (F.faults folder.old) }
+    ensures only_reads { OnlyReads F.holds F.may_fail F.faults F.taken folder.old folder.new }
+{
+    let instance = match day_in(alloc, folder, dir) {
+        Ok(instance) => instance,
+        Err(error) => return Err(Outcome::from(error)),
+    };
+    match answer_in(alloc, folder, dir) {
+        Ok(Ok(answer)) => Ok(Answered { instance, answer }),
+        Ok(Err(error)) => Err(Outcome::NoAnswer(error)),
+        Err(NoMemory) => Err(Outcome::NoMemory),
+    }
+}
