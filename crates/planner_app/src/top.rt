@@ -10,9 +10,10 @@ ghost use Rattle.planner_app.specs.Outcomes.{AskAbout, AskInVain, AskToCheck, As
 ghost use Rattle.planner_app.specs.Outcomes.{AskToTry, Grants, IsOutcome};
 ghost use Rattle.planner_app.specs.Statuses.{EndsCheck, EndsPlanning, EndsReport, EndsSimulation, EndsTrial};
 ghost use Rattle.planner_app.specs.Statuses.{CountsFailedReads, CountsFailedWrites, IsStatus, IsUndisturbed, Wrote};
-ghost use Rattle.planner_app.specs.Statuses.{status_of, status_said, tells_unread};
+ghost use Rattle.planner_app.specs.Statuses.{status_of, status_of_verdict, status_said, tells_unread};
 
 use crate::run::outcome_of;
+use crate::status::{BOUNDED, NO, NO_MEMORY, REFUSED, UNREAD, UNWRITTEN, USAGE, YES};
 use advisors::Advisor;
 use answer_check::AnswerVerdict;
 use answer_text::Head;
@@ -27,9 +28,19 @@ fn status_said(head: Head) -> u8
     ensures { result ≡ status_said head }
 {
     match head {
-        Head::Optimal { .. } => 0,
-        Head::Infeasible => 1,
-        Head::Bounded { .. } | Head::BoundedPlan { .. } => 4,
+        Head::Optimal { .. } => YES,
+        Head::Infeasible => NO,
+        Head::Bounded { .. } | Head::BoundedPlan { .. } => BOUNDED,
+    }
+}
+
+/// The status that goes with a verdict.
+fn status_of_verdict(verdict: &AnswerVerdict) -> u8
+    ensures { result ≡ status_of_verdict verdict.now }
+{
+    match verdict {
+        AnswerVerdict::Valid => YES,
+        _ => NO,
     }
 }
 
@@ -39,15 +50,15 @@ fn status_of(outcome: &Outcome) -> u8
 {
     match outcome {
         Outcome::Planned(answer) | Outcome::Tried { answer, .. } => status_said(answer.head),
-        Outcome::Runs(_) => 0,
-        Outcome::Stops(_) => 1,
-        Outcome::Checked { verdict, .. } => u8::from(*verdict != AnswerVerdict::Valid),
-        Outcome::Reported(_) => 0,
-        Outcome::NoPlan => 1,
-        Outcome::Usage => 2,
-        Outcome::CannotRead(_) | Outcome::NoAnswer(AnswerError::CannotRead) => 5,
-        Outcome::Refused(_) | Outcome::NoAnswer(_) => 3,
-        Outcome::NoMemory => 7,
+        Outcome::Runs(_) => YES,
+        Outcome::Stops(_) => NO,
+        Outcome::Checked { verdict, .. } => status_of_verdict(verdict),
+        Outcome::Reported(_) => YES,
+        Outcome::NoPlan => NO,
+        Outcome::Usage => USAGE,
+        Outcome::CannotRead(_) | Outcome::NoAnswer(AnswerError::CannotRead) => UNREAD,
+        Outcome::Refused(_) | Outcome::NoAnswer(_) => REFUSED,
+        Outcome::NoMemory => NO_MEMORY,
     }
 }
 
@@ -59,11 +70,11 @@ fn write_outcome<K: Sink>(alloc: Global, outcome: &Outcome, out: &mut K) -> u8
     ensures failed_writes { K.counts_failed ≡ true → CountsFailedWrites result (K.faults out.old) (K.faults out.new) }
 {
     let Ok(text) = document(alloc, outcome) else {
-        return 7;
+        return NO_MEMORY;
     };
     match write_all(out, text.as_slice()) {
         Ok(()) => status_of(outcome),
-        Err(_) => 6,
+        Err(_) => UNWRITTEN,
     }
 }
 

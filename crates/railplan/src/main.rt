@@ -3,6 +3,7 @@
 
 use advisors::{Advisor, Diver, Subgradient};
 use planner_app::railplan;
+use planner_app::status::NO_MEMORY;
 use rail_base::limits::MOST_WORDS;
 use rail_base::{NoMemory, Words};
 use rail_io::{DiskFolder, Folder, Sink, StdoutSink};
@@ -52,12 +53,12 @@ fn main(rt: HostRuntime) -> ExitCode {
         Err(_) => name_alone(alloc),
     };
     let Ok(words) = words else {
-        return ExitCode::from(7);
+        return ExitCode::from(NO_MEMORY);
     };
     let mut folder = DiskFolder::new(&rt);
     let mut out = StdoutSink::new(&rt);
     match run(alloc, &words, &mut folder, &mut out) {
         Ok(status) => ExitCode::from(status),
-        Err(NoMemory) => ExitCode::from(7),
+        Err(NoMemory) => ExitCode::from(NO_MEMORY),
     }
 }
