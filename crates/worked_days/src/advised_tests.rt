@@ -9,7 +9,7 @@ use crate::day::{AMPLE_ROOM, ample_sink, folder_of, one_stays, words_of};
 use advisors::{Advisor, Look, Proposal, Subgradient, Word};
 use branch_tree::{Cut, PutRefusal};
 use planner_app::railplan;
-use rail_base::{CompNo, NoMemory, TripNo};
+use rail_base::{CompNo, NoMemory, TripNo, TypeNo};
 use std::alloc::{AllocError, Global};
 use std::process::Abort;
 use std::test::Fail;
@@ -37,6 +37,8 @@ enum Advice {
     RefusedMultipliers,
     /// The cut that leaves a trip one composition alone on the left side.
     Only { trip: u32, comp: u32 },
+    /// The cut that leaves a trip so many units of type 0 at most on the left side.
+    AtMost { trip: u32, count: u32 },
 }
 
 /// What an advisor answers.
@@ -141,6 +143,14 @@ fn propose(to: &mut Proposal, advice: Advice) -> bool
             });
             true
         }
+        Advice::AtMost { trip, count } => {
+            to.cut(Cut::AtMost {
+                trip: TripNo(trip),
+                unit_type: TypeNo(0),
+                count,
+            });
+            true
+        }
     }
 }
 
@@ -233,6 +243,13 @@ const ROWS: &[Row] = &[
     },
     Row {
         advice: Advice::Only { trip: 0, comp: 5 },
+        ..NO_PROPOSALS
+    },
+    // With one unit on the first trip no unit can stay; with two the cut is no longer proper.
+    Row {
+        advice: Advice::AtMost { trip: 0, count: 1 },
+        document: "railplan answer 1\noptimal 190\nbranchings 2\nrun 0 0 1\nrun 1 1\ntree\n\
+            most 0 0 1\nray 1 2:-1\nonly 1 1\nray 1 2:-1\ncost 190 0\nend\n",
         ..NO_PROPOSALS
     },
     Row {

@@ -3,6 +3,8 @@
 
 use crate::day::{Day, base_day, both_stay, expect_answered, one_stays, ring};
 use rail_base::NoMemory;
+use run_documents::document::document;
+use run_documents::{AnswerError, Outcome};
 use std::alloc::Global;
 use std::process::Abort;
 use std::test::Fail;
@@ -93,13 +95,53 @@ fn answers_that_say_that_no_plan_runs(rt: HostRuntime) -> Result<(), Fail> {
     Ok(())
 }
 
+/// Asserts the status and the line for an answer to the day of the ring, by what follows the title line.
+fn expect_on_ring(
+    rt: &impl Abort,
+    alloc: Global,
+    rest: &str,
+    status: u8,
+    line: &str,
+) -> Result<(), NoMemory> {
+    let answer = format!(in alloc; "railplan answer 1\n{rest}")?;
+    expect_check(rt, alloc, &ring(), answer.as_str(), status, line)
+}
+
 #[test]
-fn an_answer_to_a_day_of_joins_and_splits(rt: HostRuntime) -> Result<(), Fail> {
-    let alloc = rt.alloc();
-    let answer =
-        "railplan answer 1\noptimal 1270\nbranchings 0\nrun 0 0 1 2\nrun 1 0 1\nrun 2 2\nrun 3 2 0 1\ntree\n\
-            cost 1270 2 7:500 11:-470\nend\n";
-    expect_check(&rt, alloc, &ring(), answer, 0, "valid optimal 1270\n")?;
+fn answers_to_a_day_of_joins_and_splits(rt: HostRuntime) -> Result<(), Fail> {
+    let cases = &[
+        (
+            "optimal 1270\nbranchings 0\nrun 0 0 1 2\nrun 1 0 1\nrun 2 2\nrun 3 2 0 1\ntree\n\
+                cost 1270 2 7:500 11:-470\nend\n",
+            0,
+            "valid optimal 1270\n",
+        ),
+        // With one unit at most on the third trip the chains take 150 and 1090 at least, with more 1120 and 150.
+        (
+            "bounded 1240\nbranchings 1\ntree\nmost 2 0 1\ncost 1240 0\ncost 1270 0\nend\n",
+            0,
+            "valid bounded 1240\n",
+        ),
+        (
+            "bounded 1240\nbranchings 1\ntree\nmost 2 0 3\ncost 1240 0\ncost 1270 0\nend\n",
+            1,
+            "invalid: node 0 cuts nothing\n",
+        ),
+        // One unit can't be split, so that nothing is near the left side.
+        (
+            "bounded 5\nbranchings 1\ntree\nonly 0 0\ncost 5 0\nempty\nend\n",
+            1,
+            "invalid: node 1 says 5, found nothing\n",
+        ),
+        (
+            "infeasible\nbranchings 1\ntree\nonly 0 0\nray 1 7:1\nempty\nend\n",
+            1,
+            "invalid: ray of node 1 is nothing\n",
+        ),
+    ];
+    for &(rest, status, line) in cases {
+        expect_on_ring(&rt, rt.alloc(), rest, status, line)?;
+    }
     Ok(())
 }
 
@@ -117,6 +159,10 @@ fn plans_that_are_wrong(rt: HostRuntime) -> Result<(), Fail> {
         (
             "optimal 190\nbranchings 0\nrun 0 0 1\nrun 1 2\ntree\ncost 190 1 3:70\nend\n",
             "invalid: run 1 names an unknown unit\n",
+        ),
+        (
+            "optimal 190\nbranchings 0\nrun 0\nrun 1 1\ntree\ncost 190 1 3:70\nend\n",
+            "invalid: trip 0 has no units\n",
         ),
         (
             "optimal 190\nbranchings 0\nrun 0 0 1\nrun 1 0\ntree\ncost 190 1 3:70\nend\n",
@@ -290,5 +336,13 @@ fn files_that_are_refused(rt: HostRuntime) -> Result<(), Fail> {
         3,
         "refused types.csv: wrong header\n",
     )?;
+    Ok(())
+}
+
+#[test]
+fn an_answer_that_is_too_long(rt: HostRuntime) -> Result<(), Fail> {
+    let outcome = Outcome::NoAnswer(AnswerError::TooLong);
+    let line = document(rt.alloc(), &outcome)?;
+    assert!(rt; line.as_slice() == b"refused answer.txt: too long\n".as_slice());
     Ok(())
 }

@@ -26,6 +26,15 @@ const FOUR_TRIPS: Texts<'static> = Texts {
         turn,103,,104,,no,none,rear\n",
 };
 
+/// One unit goes out and comes back, without a link. It is ready at the very minute at which the trip back leaves.
+const READY_AT_DEPARTURE: Texts<'static> = Texts {
+    stock: b"station,type,start,end\nX,A,1,1\n",
+    trips: b"trip,from,departure,to,arrival,km,demand\n\
+        T1,X,08:00,Y,09:00,10,150\nT2,Y,09:30,X,10:30,10,150\n",
+    links: b"kind,arriving,arriving2,departing,departing2,reverse,uncouple,couple\n",
+    ..ONE_LEFT
+};
+
 const ONE_LEFT_DUTIES: &[u8] = b"unit,type,home,trip,from,departure,to,arrival,position\n\
     0,A,X,T1,X,08:00,Y,09:00,0\n\
     1,A,X,T1,X,08:00,Y,09:00,1\n\
@@ -38,6 +47,14 @@ const ONE_LEFT_YARDS: &[u8] = b"station,type,time,taken,ready,count\n\
     Y,A,start,0,0,0\n\
     Y,A,09:10,0,0,0\n\
     Y,A,end,0,1,1\n";
+
+const READY_AT_DEPARTURE_YARDS: &[u8] = b"station,type,time,taken,ready,count\n\
+    X,A,start,0,0,1\n\
+    X,A,08:00,1,0,0\n\
+    X,A,end,0,1,1\n\
+    Y,A,start,0,0,0\n\
+    Y,A,09:30,1,1,0\n\
+    Y,A,end,0,0,0\n";
 
 const ONE_LEFT_COSTS: &[u8] = b"part,amount\ncarriage,90\nshortage,0\nshunting,100\ntotal,190\n";
 
@@ -86,6 +103,7 @@ const DUTIES: &[(Texts<'static>, &[u8], &[u8])] = &[
 const YARDS: &[(Texts<'static>, &[u32], &[u8])] = &[
     (ONE_LEFT, &[1, 0], ONE_LEFT_YARDS),
     (FOUR_TRIPS, &[2, 0, 0, 2], FOUR_TRIPS_YARDS),
+    (READY_AT_DEPARTURE, &[0, 0], READY_AT_DEPARTURE_YARDS),
 ];
 
 /// Days, the compositions that are picked for their trips, and the tables of what these cost.
