@@ -60,7 +60,7 @@ pub record RunsByPicks (day : Day) (plan : List (List ℕ)) (picks : List ℕ) :
   pub are_picks : ArePicks day picks
   pub types : picked day picks ≡ map (types_of day) plan
 
--- where the answer has a plan, it runs, and these are its compositions
+-- where the answer has a plan, it runs, and these are its compositions; where it has none, nothing is said of them
 abbrev pub HasPicks : Day → Answer → List ℕ → Type 0
 HasPicks day answer picks = IsTrue (has_plan answer.head) → RunsByPicks day answer.runs picks
 

@@ -16,7 +16,7 @@ use Rattle.answer_check.specs.Validity.{IsTrueOf, IsValid, bound_said, conclusio
 abbrev pub plan_said : Answer → List ℕ → Option Priced
 plan_said answer picks = plan_of (conclusion_of answer.head picks)
 
--- how many leaves of the tree of an answer are open, by the cost that it says
+-- how many leaves of the tree of an answer are open, by the cost that it says: no picks have a part in that
 abbrev pub open_leaves : Answer → ℕ
 open_leaves answer = open_leaves_of (plan_said answer []) answer.tree
 
