@@ -115,10 +115,6 @@ offered_small bound row comp cell small new = set_small bound row comp (lower_ce
 pub cells_more : (a b : ℕ) (row : List (Option Cell)) → a ≤ b → AreSmallCells a row → AreSmallCells b row
 cells_more a b row le small comp cell at = small_more a b cell.value le (small comp cell at)
 
-pub cell_more : (a b : ℕ) (o : Option Cell) → a ≤ b → IfSome o (λ it. IsSmall a it.value) → IfSome o (λ it. IsSmall b it.value)
-cell_more a b None le small = tt
-cell_more a b (Some it) le small = small_more a b it.value le small
-
 -- ---- a row that is weighed cell by cell
 
 -- the cells so far have their worth, and the others are as they were

@@ -1,6 +1,6 @@
 -- The types of a plan that runs are the compositions of picks, and these are a solution in the region of the day.
 use Rattle.std.proofs.Common.{◌≡◌, ℕ, zero, suc, ◌<◌, List, [], ◌∷◌, map, length, get_or, true, refl, sym, ◌∙◌, ap}
-use Rattle.std.proofs.Common.{subst, arith, ℤ, pos, ◌≤ℤ◌}
+use Rattle.std.proofs.Common.{subst, arith, pos, ◌≤ℤ◌}
 use Rattle.std.specs.Prelude.{All}
 use Rattle.std.proofs.lemmas.List.{get_or-map, length-map}
 use Rattle.timetable.specs.Admissible.{is_admissible}

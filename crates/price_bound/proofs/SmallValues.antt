@@ -1,6 +1,6 @@
 -- The slacks and the priced values of picks that follow are small.
 use Rattle.std.proofs.Common.{◌≤◌, ◌+◌, ◌*◌, ℕ, List, [], ◌∷◌, length, get_or, Bool, true, false, Option, Some, None}
-use Rattle.std.proofs.Common.{slice_get, unwrap_or, arith, ℤ, pos, neg_ℤ, ◌-ℤ◌, ◌*ℤ◌}
+use Rattle.std.proofs.Common.{slice_get, unwrap_or, arith, pos, neg_ℤ, ◌-ℤ◌, ◌*ℤ◌}
 use Rattle.std.specs.Prelude.{All, option_map, unsigned_abs, ◌==◌, if◌then◌else◌}
 use Rattle.std.proofs.Math.Nat.{suc-mul}
 use Rattle.std.proofs.lemmas.Int.{ints}

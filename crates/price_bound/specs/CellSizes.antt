@@ -26,13 +26,15 @@ abbrev pub most_cost : ℕ
 most_cost = 1000000000000
 
 -- the most that a composition is worth on a trip, rounded up: its cost, the price of its units where they are taken,
--- its multipliers at hand-overs, and, where no link leads on from the trip, the price of its units where they are given
+-- its multipliers at hand-overs, and, where no link leads on from the trip, which is told, the price of its units where
+-- they are given
 abbrev pub most_worth : Bool → ℕ
 most_worth true = 14000000000000000
 most_worth false = 8000000000000000
 
--- the most that an edge is priced, rounded up: what a shunt costs, the price of the units of the composition that
--- arrives, and that of the units of the one that departs, each of which either stayed or came
+-- the most that an edge is priced, rounded up: at a turn what a shunt costs, the price of the units of the composition
+-- that arrives, and that of the units of the one that departs, each of which has stayed or has come; at a join or a
+-- split a multiplier of its hand-over
 abbrev pub most_edge_price : ℕ
 most_edge_price = 13000000000000000
 

@@ -15,7 +15,7 @@ use std::marker::Model;
 /// The first path of least value from a composition of a trip to the end of its chain.
 #[derive(Clone, Copy)]
 pub(crate) struct Cell {
-    /// Its value. However long the chain, 64 bits hold it.
+    /// Its value. 64 bits hold that of a chain of as many trips as a day may have.
     pub value: i64,
     /// The composition of the next trip on it; 0 at the chain's last trip.
     pub next: CompNo,

@@ -232,13 +232,13 @@ fn offer_turned(prices: &TurnPrices<'_>, row: &mut CellRow, ahead: &CellRow)
     let edges = prices.pricing.graphs.edges(prices.link);
     for place in 0..edges.len() {
         let edge = &edges[place];
-        let offer = turned(prices, edge, ahead);
+        let offer = offer_at_turn(prices, edge, ahead);
         row.offer(edge.from, offer);
     }
 }
 
 /// The cell that an edge of a turn offers, which is priced only where there is a cell ahead of it.
-fn turned(prices: &TurnPrices<'_>, edge: &Edge, ahead: &CellRow) -> Option<Cell>
+fn offer_at_turn(prices: &TurnPrices<'_>, edge: &Edge, ahead: &CellRow) -> Option<Cell>
     requires prices { IsForTurn prices.now }
     requires edge { IsListed (comps_of (priced_by prices.now.pricing.now)) edge.now }
     requires ahead { length ahead.now ≡ comps_of (priced_by prices.now.pricing.now) }
@@ -268,13 +268,13 @@ fn offer_handed_over(prices: &PartPrices<'_>, row: &mut CellRow, ahead: &CellRow
     let edges = prices.pricing.graphs.edges(prices.link);
     for place in 0..edges.len() {
         let edge = &edges[place];
-        let offer = handed_over(prices, edge, ahead);
+        let offer = offer_at_handover(prices, edge, ahead);
         row.offer(edge.from, offer);
     }
 }
 
 /// The cell that an edge of a join or a split offers, which is priced only where there is a cell ahead of it.
-fn handed_over(prices: &PartPrices<'_>, edge: &Edge, ahead: &CellRow) -> Option<Cell>
+fn offer_at_handover(prices: &PartPrices<'_>, edge: &Edge, ahead: &CellRow) -> Option<Cell>
     requires prices { IsForParts prices.now }
     requires edge { IsListed (comps_of (priced_by prices.now.pricing.now)) edge.now }
     requires ahead { length ahead.now ≡ comps_of (priced_by prices.now.pricing.now) }

@@ -5,8 +5,8 @@ use Rattle.price_bound.specs.Pricing.{IsListed, priced_by}
 use Rattle.price_bound.proofs.ChainCells.{HaveOffered, edge_at_listed, offered_more}
 use Rattle.price_bound.proofs.chain_rows.offer_turned.Goals as goal
 
-pub turned-offer-requires-clause-edge : goal.turned-offer-requires-clause-edge
-turned-offer-requires-clause-edge c =
+pub offer_at_turn-offer-requires-clause-edge : goal.offer_at_turn-offer-requires-clause-edge
+offer_at_turn-offer-requires-clause-edge c =
     edge_at_listed c.args.prices.now.pricing.now.instance.now c.args.prices.now.pricing.now.graphs.now c.args.prices.now.link c.edges-edges.result.now
     c.index-edges-place.result c.requires.prices.priced.graphs_are c.edges-edges.ensures.value
     (c.loop-place.place, c.loop-place-test.true, sym c.index-edges-place.is)
@@ -28,4 +28,4 @@ loop-place-preserved c =
     c.args.row.now k c.offer.new.self) next
     (offered_more (priced_by c.args.prices.now.pricing.now) (Some c.args.prices.now.link) c.edges-edges.result.now c.args.ahead.now c.args.row.now
     c.loop-place.place c.loop-place.row c.loop-place.invariant c.loop-place-test.true c.index-edges-place.result there
-    c.turned-offer.result c.turned-offer.ensures.value c.turned-offer.ensures.small c.offer.new.self c.offer.ensures)
+    c.offer_at_turn-offer.result c.offer_at_turn-offer.ensures.value c.offer_at_turn-offer.ensures.small c.offer.new.self c.offer.ensures)

@@ -5,7 +5,7 @@ use Rattle.price_bound.specs.Paths.{offer_by}
 use Rattle.price_bound.specs.Pricing.{priced_by}
 use Rattle.price_bound.proofs.Adding.{small_more}
 use Rattle.price_bound.proofs.ChainCells.{nothing_ahead}
-use Rattle.price_bound.proofs.chain_rows.handed_over.Goals as goal
+use Rattle.price_bound.proofs.chain_rows.offer_at_turn.Goals as goal
 
 pub get-requires : goal.get-requires
 get-requires c = omega (arith, c.requires.edge.to, c.requires.ahead)
