@@ -12,7 +12,7 @@ use Rattle.advisors.specs.Quits.{quit_after}
 use Rattle.search.specs.declared.work.Work.{Work}
 use Rattle.search.specs.NodeAdvice.{CallTest}
 use Rattle.search.specs.NodesInWork.{is_left_open}
-use Rattle.search.specs.Rounds.{AdviceState, AreRounds, HadItsTurn, HadTheirTurns, IsToBeAsked, WasAsked}
+use Rattle.search.specs.Rounds.{AdviceState, AreRounds, IsToBeAsked, WasAsked, WasAskedIfDue, WereAskedInOrder}
 
 -- an advisor that answers another word than `Quit` has not quit
 pub stays_on : (word : Word) → not (sameb the_type word Quit) ≡ true → quit_after (Ok word) ≡ false
@@ -31,22 +31,22 @@ at_most (suc few) (suc many) below = elim (at_most few many (omega (arith, below
 
 module _ {A : Type 0} (has_quit : A → Bool) (has_answered : CallTest A) (problem : Meanings) where
   -- an advisor that is not to be asked is passed over
-  pub passed : (round place : ℕ) (state : AdviceState A) → (IsToBeAsked has_quit place state → ⊥) → HadItsTurn has_quit has_answered problem round place state state
+  pub passed : (round place : ℕ) (state : AdviceState A) → (IsToBeAsked has_quit place state → ⊥) → WasAskedIfDue has_quit has_answered problem round place state state
   passed round place state not = record { asked = λ is. absurd (not is); left = λ is_not. refl }
 
   -- one that is to be asked was asked
   pub heard : (round place : ℕ) (before after : AdviceState A) → IsToBeAsked has_quit place before → WasAsked has_quit has_answered problem round place before after →
-      HadItsTurn has_quit has_answered problem round place before after
+      WasAskedIfDue has_quit has_answered problem round place before after
   heard round place before after is was = record { asked = λ again. was; left = λ is_not. absurd (is_not is) }
 
   -- the advisors at the places up to the next one, as a loop counts them
-  pub heard_next : (round place : ℕ) (before middle after : AdviceState A) → HadTheirTurns has_quit has_answered problem round place before middle → HadItsTurn has_quit has_answered problem round place middle after →
-      HadTheirTurns has_quit has_answered problem round (place + 1) before after
-  heard_next round place before middle after so_far next = subst (λ (n : ℕ). HadTheirTurns has_quit has_answered problem round n before after) (sym (add-one place)) (middle, so_far, next)
+  pub heard_next : (round place : ℕ) (before middle after : AdviceState A) → WereAskedInOrder has_quit has_answered problem round place before middle → WasAskedIfDue has_quit has_answered problem round place middle after →
+      WereAskedInOrder has_quit has_answered problem round (place + 1) before after
+  heard_next round place before middle after so_far next = subst (λ (n : ℕ). WereAskedInOrder has_quit has_answered problem round n before after) (sym (add-one place)) (middle, so_far, next)
 
   -- the rounds up to the next one
   pub rounds_next : (round : ℕ) (before middle after : AdviceState A) → AreRounds has_quit has_answered problem round before middle →
-      HadTheirTurns has_quit has_answered problem round (length middle.advisors) middle after → AreRounds has_quit has_answered problem (round + 1) before after
+      WereAskedInOrder has_quit has_answered problem round (length middle.advisors) middle after → AreRounds has_quit has_answered problem (round + 1) before after
   rounds_next round before middle after so_far next = subst (λ (n : ℕ). AreRounds has_quit has_answered problem n before after) (sym (add-one round)) (middle, so_far, next)
 
   -- no advisor is to be asked about a node that is not open
@@ -54,13 +54,13 @@ module _ {A : Type 0} (has_quit : A → Bool) (has_answered : CallTest A) (probl
   closed place state shut is = both_ways (is_left_open state.best state.work) shut is.left_open
 
   -- a node that is not open stays as it is to the end of a round
-  pub heard_to : (round few many : ℕ) (before after : AdviceState A) → few ≤ many → is_left_open after.best after.work ≡ false → HadTheirTurns has_quit has_answered problem round few before after →
-      HadTheirTurns has_quit has_answered problem round many before after
+  pub heard_to : (round few many : ℕ) (before after : AdviceState A) → few ≤ many → is_left_open after.best after.work ≡ false → WereAskedInOrder has_quit has_answered problem round few before after →
+      WereAskedInOrder has_quit has_answered problem round many before after
   heard_to round few zero before after less shut so_far =
-      let none : few ≡ 0 = omega (arith, less) in subst (λ (n : ℕ). HadTheirTurns has_quit has_answered problem round n before after) none so_far
-  heard_to round few (suc many) before after less shut so_far = elim (at_most few many less) as (λ _. HadTheirTurns has_quit has_answered problem round (suc many) before after) [
+      let none : few ≡ 0 = omega (arith, less) in subst (λ (n : ℕ). WereAskedInOrder has_quit has_answered problem round n before after) none so_far
+  heard_to round few (suc many) before after less shut so_far = elim (at_most few many less) as (λ _. WereAskedInOrder has_quit has_answered problem round (suc many) before after) [
     | inl less ↦ (after, heard_to round few many before after less shut so_far, passed round many after (closed many after shut))
-    | inr same ↦ subst (λ (n : ℕ). HadTheirTurns has_quit has_answered problem round n before after) same so_far
+    | inr same ↦ subst (λ (n : ℕ). WereAskedInOrder has_quit has_answered problem round n before after) same so_far
   ]
 
   -- and to the end of the rounds

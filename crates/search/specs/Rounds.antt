@@ -52,22 +52,22 @@ pub record WasAsked {A : Type 0} (has_quit : A → Bool) (has_answered : CallTes
   pub offered : IsOffered problem before.work.region before.best after.best
 
 -- the advisor at a place was asked, where it is to be asked, and else nothing changed
-pub record HadItsTurn {A : Type 0} (has_quit : A → Bool) (has_answered : CallTest A) (problem : Meanings)
+pub record WasAskedIfDue {A : Type 0} (has_quit : A → Bool) (has_answered : CallTest A) (problem : Meanings)
     (round place : ℕ) (before after : AdviceState A) : Type 0 where
   pub asked : IsToBeAsked has_quit place before → WasAsked has_quit has_answered problem round place before after
   pub left : (IsToBeAsked has_quit place before → ⊥) → after ≡ before
 
--- the advisors at the first places had their turns in a round, one after another
-abbrev pub HadTheirTurns : {A : Type 0} → (A → Bool) → CallTest A → Meanings → ℕ → ℕ → AdviceState A → AdviceState A →
-    Type 0
-HadTheirTurns has_quit has_answered problem round zero before after = after ≡ before
-HadTheirTurns {A} has_quit has_answered problem round (suc place) before after =
-    (middle : AdviceState A) × HadTheirTurns has_quit has_answered problem round place before middle ×
-    HadItsTurn has_quit has_answered problem round place middle after
+-- the advisors at the first places were asked in a round where it was due, one after another
+abbrev pub WereAskedInOrder : {A : Type 0} → (A → Bool) → CallTest A → Meanings → ℕ → ℕ → AdviceState A →
+    AdviceState A → Type 0
+WereAskedInOrder has_quit has_answered problem round zero before after = after ≡ before
+WereAskedInOrder {A} has_quit has_answered problem round (suc place) before after =
+    (middle : AdviceState A) × WereAskedInOrder has_quit has_answered problem round place before middle ×
+    WasAskedIfDue has_quit has_answered problem round place middle after
 
--- so many rounds were made, in each of which all advisors had their turns, one after another
+-- so many rounds were made, in each of which all advisors were asked where it was due, one after another
 abbrev pub AreRounds : {A : Type 0} → (A → Bool) → CallTest A → Meanings → ℕ → AdviceState A → AdviceState A → Type 0
 AreRounds has_quit has_answered problem zero before after = after ≡ before
 AreRounds {A} has_quit has_answered problem (suc round) before after =
     (middle : AdviceState A) × AreRounds has_quit has_answered problem round before middle ×
-    HadTheirTurns has_quit has_answered problem round (length middle.advisors) middle after
+    WereAskedInOrder has_quit has_answered problem round (length middle.advisors) middle after

@@ -13,7 +13,7 @@ ghost use Rattle.search.specs.NodeAdvice.{AreStillNoted, IsAdviceFor, IsAnswered
 ghost use Rattle.search.specs.Offers.{IsOffered};
 ghost use Rattle.search.specs.Conclusions.{plan_in};
 ghost use Rattle.search.specs.NodesInWork.{IsWorkedOn, is_left_open};
-ghost use Rattle.search.specs.Rounds.{AreRounds, HadTheirTurns, WasAsked, advice_state};
+ghost use Rattle.search.specs.Rounds.{AreRounds, WasAsked, WereAskedInOrder, advice_state};
 
 use crate::found::Best;
 use crate::work::{Shown, Work};
@@ -115,7 +115,7 @@ fn make_round<R: Relaxation>(
         AreAsked advisors.old.items advisors.new.items asked has_quit (once advice.old.has_enough.items) 1) }
 
     // What the round makes of the node.
-    ensures heard { OnOk result (HadTheirTurns has_quit has_answered (R.meanings (R.problem problem.old))
+    ensures heard { OnOk result (WereAskedInOrder has_quit has_answered (R.meanings (R.problem problem.old))
         advice.old.shown.rounds (length advisors.old.items)
         (advice_state advisors.old.items advice.old (plan_in best.old) work.old)
         (advice_state advisors.new.items advice.new (plan_in best.new) work.new)) }

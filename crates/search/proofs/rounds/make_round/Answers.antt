@@ -7,7 +7,7 @@ use Rattle.search.specs.NodeAdvice.{IsAdviceFor, is_enough}
 use Rattle.search.specs.Offers.{IsOffered}
 use Rattle.search.specs.Conclusions.{plan_in}
 use Rattle.search.specs.NodesInWork.{IsWorkedOn}
-use Rattle.search.specs.Rounds.{HadTheirTurns, WasAsked, advice_state}
+use Rattle.search.specs.Rounds.{WasAsked, WereAskedInOrder, advice_state}
 use Rattle.search.proofs.Asking.{asked_all, asked_so_far, can_ask, length-up_to, once_most, once_read, pass_over}
 use Rattle.search.proofs.Asking.{not_yet, noted_but, noted_still, pass_unclaimed, read_at, still_alone, then_asked, then_asked_once}
 use Rattle.search.proofs.Asking.{then_passed, up_to_next}
@@ -205,4 +205,4 @@ returns-then-not-is_open-clause-heard g c =
 pub returns-clause-heard : goal.returns-clause-heard
 returns-clause-heard g c =
     let all : c.loop-place.place ≡ length c.args.advisors.now.items = omega (arith, c.len-place-end.ensures, c.loop-place-test.false, c.loop-place.auto.place-end) in
-    subst (λ (places : ℕ). HadTheirTurns (λ b. (goal.Advisor-dyn g (b.vtable, b.value)).has_quit b.value) (λ b. (goal.Advisor-dyn g (b.vtable, b.value)).has_answered b.value) (g.R.Relaxation.meanings (g.R.Relaxation.problem c.args.problem.now)) c.args.advice.now.shown.rounds places (advice_state c.args.advisors.now.items c.args.advice.now (plan_in c.args.best.now) c.args.work.now) (advice_state c.loop-place.advisors.items c.loop-place.advice (plan_in c.loop-place.best) c.loop-place.work)) all c.loop-place.invariant.heard
+    subst (λ (places : ℕ). WereAskedInOrder (λ b. (goal.Advisor-dyn g (b.vtable, b.value)).has_quit b.value) (λ b. (goal.Advisor-dyn g (b.vtable, b.value)).has_answered b.value) (g.R.Relaxation.meanings (g.R.Relaxation.problem c.args.problem.now)) c.args.advice.now.shown.rounds places (advice_state c.args.advisors.now.items c.args.advice.now (plan_in c.args.best.now) c.args.work.now) (advice_state c.loop-place.advisors.items c.loop-place.advice (plan_in c.loop-place.best) c.loop-place.work)) all c.loop-place.invariant.heard
