@@ -2,7 +2,7 @@
 
 /// Size of a bound and of a cost, whatever its sign.
 pub const MOST_AMOUNT: u128 = 100_000_000_000_000_000_000;
-/// Digits of the greatest bound or cost.
-pub const MOST_AMOUNT_DIGITS: usize = 21;
+/// The most digits of a number in an answer: those of the greatest bound or cost.
+pub const MOST_ANSWER_DIGITS: usize = 21;
 /// The greatest index of an entry.
 pub const MOST_INDEX: u32 = 999_999;

@@ -7,7 +7,7 @@ ghost use Rattle.answer_text.specs.Pieces.{words_after};
 ghost use Rattle.answer_text.specs.Numbers.{has_leading_zero, next_number, next_signed, nonzero_in, number_in};
 ghost use Rattle.answer_text.specs.Numbers.{signed_in, signed_of};
 
-use crate::limits::{MOST_AMOUNT, MOST_AMOUNT_DIGITS};
+use crate::limits::{MOST_AMOUNT, MOST_ANSWER_DIGITS};
 use crate::pieces::next_piece;
 use rail_base::Money;
 use rail_base::limits::MOST_MULTIPLIER;
@@ -109,7 +109,7 @@ pub(crate) fn number_in(word: &[u8], most: u128) -> Option<u128>
     if word.is_empty() {
         return None;
     }
-    if word.len() > MOST_AMOUNT_DIGITS {
+    if word.len() > MOST_ANSWER_DIGITS {
         return None;
     }
     if has_leading_zero(word) {
@@ -132,7 +132,7 @@ fn has_leading_zero(word: &[u8]) -> bool
 
 /// The number that a word of at most 21 digits spells, where it has digits alone.
 fn digits_value(word: &[u8]) -> Option<u128>
-    requires { length word.now ≤ MOST_AMOUNT_DIGITS }
+    requires { length word.now ≤ MOST_ANSWER_DIGITS }
     ensures { result ≡ if all_ascii_digits word.now then Some (digits_value 10 word.now) else None }
 {
     let mut value = 0u128;

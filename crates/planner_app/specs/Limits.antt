@@ -19,7 +19,7 @@ use Rattle.rail_csv.specs.declared.limits.TheConstants.{FEWEST_TYPE_COLUMNS, FEW
 use Rattle.rail_csv.specs.declared.limits.TheConstants.{FEWEST_STOCK_COLUMNS, FEWEST_TRIP_COLUMNS, FEWEST_LINK_COLUMNS}
 use Rattle.rail_csv.specs.declared.limits.TheConstants.{FEWEST_WEIGHT_COLUMNS, FEWEST_PLAN_COLUMNS}
 use Rattle.price_bound.specs.declared.sizes.TheConstants.{MOST_VALUE}
-use Rattle.answer_text.specs.declared.limits.TheConstants.{MOST_AMOUNT, MOST_AMOUNT_DIGITS, MOST_INDEX}
+use Rattle.answer_text.specs.declared.limits.TheConstants.{MOST_AMOUNT, MOST_ANSWER_DIGITS, MOST_INDEX}
 
 -- the rows of each table
 pub record AreRowLimits : Type 0 where
@@ -82,7 +82,7 @@ pub record AreRunLimits : Type 0 where
   pub multiplier : MOST_MULTIPLIER ≡ 1000000000000
   pub slacks : MOST_SLACKS ≡ 4000
   pub change : MOST_CHANGE ≡ 1000000
-  pub amount_digits : MOST_AMOUNT_DIGITS ≡ 21
+  pub answer_digits : MOST_ANSWER_DIGITS ≡ 21
   pub index : MOST_INDEX ≡ 999999
   pub amount : MOST_AMOUNT ≡ 100000000000000000000
   pub value : MOST_VALUE ≡ 100000000000000000000
