@@ -1,9 +1,9 @@
 //! The statuses that a run ends with.
 
 /// The answer found is optimal, the plan runs, the answer is valid, or the report on its plan is written.
-pub const YES: u8 = 0;
+pub const SUCCESS: u8 = 0;
 /// The answer found is infeasible, the plan doesn't run, the answer is not valid, or it has no plan to report on.
-pub const NO: u8 = 1;
+pub const FAILURE: u8 = 1;
 /// The words are none of the commands.
 pub const USAGE: u8 = 2;
 /// A file is refused.

@@ -13,7 +13,7 @@ ghost use Rattle.planner_app.specs.Statuses.{CountsFailedReads, CountsFailedWrit
 ghost use Rattle.planner_app.specs.Statuses.{status_of, status_of_verdict, status_said, tells_unread};
 
 use crate::run::outcome_of;
-use crate::status::{BOUNDED, NO, NO_MEMORY, REFUSED, UNREAD, UNWRITTEN, USAGE, YES};
+use crate::status::{BOUNDED, FAILURE, NO_MEMORY, REFUSED, SUCCESS, UNREAD, UNWRITTEN, USAGE};
 use advisors::Advisor;
 use answer_check::AnswerVerdict;
 use answer_text::Head;
@@ -28,8 +28,8 @@ fn status_said(head: Head) -> u8
     ensures { result ≡ status_said head }
 {
     match head {
-        Head::Optimal { .. } => YES,
-        Head::Infeasible => NO,
+        Head::Optimal { .. } => SUCCESS,
+        Head::Infeasible => FAILURE,
         Head::Bounded { .. } | Head::BoundedPlan { .. } => BOUNDED,
     }
 }
@@ -39,8 +39,8 @@ fn status_of_verdict(verdict: &AnswerVerdict) -> u8
     ensures { result ≡ status_of_verdict verdict.now }
 {
     match verdict {
-        AnswerVerdict::Valid => YES,
-        _ => NO,
+        AnswerVerdict::Valid => SUCCESS,
+        _ => FAILURE,
     }
 }
 
@@ -50,11 +50,11 @@ fn status_of(outcome: &Outcome) -> u8
 {
     match outcome {
         Outcome::Planned(answer) | Outcome::Tried { answer, .. } => status_said(answer.head),
-        Outcome::Runs(_) => YES,
-        Outcome::Stops(_) => NO,
+        Outcome::Runs(_) => SUCCESS,
+        Outcome::Stops(_) => FAILURE,
         Outcome::Checked { verdict, .. } => status_of_verdict(verdict),
-        Outcome::Reported(_) => YES,
-        Outcome::NoPlan => NO,
+        Outcome::Reported(_) => SUCCESS,
+        Outcome::NoPlan => FAILURE,
         Outcome::Usage => USAGE,
         Outcome::CannotRead(_) | Outcome::NoAnswer(AnswerError::CannotRead) => UNREAD,
         Outcome::Refused(_) | Outcome::NoAnswer(_) => REFUSED,
