@@ -340,7 +340,7 @@ fn files_that_are_refused(rt: HostRuntime) -> Result<(), Fail> {
 }
 
 #[test]
-fn an_answer_that_is_too_long(rt: HostRuntime) -> Result<(), Fail> {
+fn the_line_of_an_answer_that_is_too_long(rt: HostRuntime) -> Result<(), Fail> {
     let outcome = Outcome::NoAnswer(AnswerError::TooLong);
     let line = document(rt.alloc(), &outcome)?;
     assert!(rt; line.as_slice() == b"refused answer.txt: too long\n".as_slice());
