@@ -10,7 +10,7 @@ ghost use Rattle.inventory.specs.StockFaults.{IsFirstFault};
 
 use crate::count_table::CountTable;
 use crate::faults::StockFault;
-use rail_base::{NoMemory, StationNo, TripNo, TypeNo};
+use rail_base::{NoMemory, StationNo, TypeNo};
 use std::alloc::Global;
 use std::marker::Model;
 use timetable::{Instance, Picks};
@@ -67,7 +67,7 @@ impl<'a> Ledger<'a> {
         requires { ArePicks self.old.day picks.now }
         ensures { self.new ≡ record { day = self.old.day; lists = picked self.old.day picks.now } }
     {
-        copy_picks(&mut self.picks, picks);
+        self.picks.copy_from(picks);
         self.is_loaded = true;
         self.counts.fill(self.instance, picks);
     }
@@ -193,15 +193,5 @@ impl<'a> Ledger<'a> {
             unit_type,
             count,
         })
-    }
-}
-
-/// Copies picks over others of as many trips.
-fn copy_picks(to: &mut Picks, from: &Picks)
-    requires { length to.old ≡ length from.now }
-    ensures { to.new ≡ from.now }
-{
-    for trip in 0..from.len() {
-        to.set(TripNo(trip), from.get(TripNo(trip)));
     }
 }

@@ -26,7 +26,7 @@ use crate::priced::Pricing;
 use crate::worths::added;
 use branch_tree::{BoundAnswer, Entry, Multipliers, Region, Weight};
 use rail_base::limits::{MOST_ENTRIES, MOST_LINKS, MOST_MULTIPLIER, MOST_TRIPS};
-use rail_base::{Money, NoMemory, TripNo};
+use rail_base::{Money, NoMemory};
 use std::alloc::Global;
 use timetable::{Instance, Picks, Place};
 use transitions::Graphs;
@@ -116,7 +116,7 @@ impl Workspace {
         };
         match first_paths(&pricing, &mut self.rows, &mut self.choice) {
             Some(value) => {
-                copy_picks(best, &self.choice);
+                best.copy_from(&self.choice);
                 BoundAnswer::Value(added(constant(instance, multipliers), value))
             }
             None => BoundAnswer::Empty,
@@ -156,16 +156,6 @@ fn with_begin(value: Money, begin: Cell) -> Money
     ensures { result.0 ≡ value.0 +ℤ begin.value }
 {
     Money(value.0 + i128::from(begin.value))
-}
-
-/// Copies picks over others of as many trips.
-fn copy_picks(to: &mut Picks, from: &Picks)
-    requires { length to.old ≡ length from.now }
-    ensures { to.new ≡ from.now }
-{
-    for trip in 0..from.len() {
-        to.set(TripNo(trip), from.get(TripNo(trip)));
-    }
 }
 
 /// What multipliers add whatever the picks.

@@ -1,12 +1,9 @@
 -- What evaluations of a region show, and what an offer leaves.
 use Rattle.std.proofs.Common.{◌≡◌, List, [], ◌∷◌, ℕ, Bool, true, false, Option, Some, None, ◌⊎◌, inl}
-use Rattle.std.proofs.Common.{inr, refl, sym, ◌∙◌, subst, arith, ℤ, pos, negsuc, int_lt, w8, w64, to_z, of_z, ap}
+use Rattle.std.proofs.Common.{inr, refl, sym, ◌∙◌, subst, ℤ, pos, negsuc, int_lt, w8, w64, to_z, of_z, ap}
 use Rattle.std.proofs.Common.{Result, Ok, Err, OnOk, is_ok, is_none}
-use Rattle.std.proofs.Common.{◌+◌, ◌<◌, length, get_or, set, slice_get}
 use Rattle.std.specs.Result.{result_err}
-use Rattle.std.proofs.lemmas.List.{get_or-set_same, get_or-set_other}
-use Rattle.std.proofs.lemmas.Option.{get_or_from_slice_get}
-use Rattle.std.proofs.lemmas.Bool.{false≢true, cases_eq}
+use Rattle.std.proofs.lemmas.Bool.{false≢true}
 use Rattle.rail_base.specs.declared.numbers.Money.{Money}
 use Rattle.branch_tree.specs.declared.multipliers.Entry.{Entry}
 use Rattle.branch_tree.specs.declared.relaxation.BoundAnswer.{BoundAnswer}
@@ -184,12 +181,3 @@ right_by (Err e) none = ap is_none none
 pub held_where_right : {X E P : Type 0} (result : Result X E) → is_ok result ≡ true → OnOk result P → P
 held_where_right (Ok x) right is = is
 held_where_right (Err e) right is = absurd (false≢true right)
-
--- picks that are copied one by one
-pub copied_more : (copy picks : List ℕ) (trip pick : ℕ) → trip < length copy → slice_get picks trip ≡ Some pick →
-    ((k : ℕ) → k < trip → get_or copy k 0 ≡ get_or picks k 0) → (k : ℕ) → k < trip + 1 → get_or (set copy trip pick) k 0 ≡ get_or picks k 0
-copied_more copy picks trip pick within read copied k below = elim (cases_eq k trip) as (λ _. get_or (set copy trip pick) k 0 ≡ get_or picks k 0) [
-  | inl same ↦ subst (λ (j : ℕ). get_or (set copy trip pick) j 0 ≡ get_or picks j 0) (sym same)
-      (get_or-set_same copy trip pick 0 within ∙ sym (get_or_from_slice_get picks trip pick 0 read))
-  | inr other ↦ get_or-set_other copy trip k pick 0 other ∙ copied k (grind arith)
-]

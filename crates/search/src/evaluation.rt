@@ -10,7 +10,7 @@ ghost use Rattle.search.specs.Conclusions.{plan_in};
 
 use crate::found::Best;
 use branch_tree::{BoundAnswer, Multipliers, Node, Region, Relaxation, Settled, Weight};
-use rail_base::{Money, NoMemory, TripNo};
+use rail_base::{Money, NoMemory};
 use std::alloc::Global;
 use timetable::Picks;
 
@@ -63,7 +63,7 @@ impl Evaluation {
         Ok(Evaluation {
             value: self.value,
             multipliers: self.multipliers.copy(alloc)?,
-            picks: copy_of(alloc, &self.picks)?,
+            picks: self.picks.copy(alloc)?,
         })
     }
 }
@@ -184,7 +184,7 @@ fn offer(alloc: Global, best: &mut Option<Best>, picks: &Picks, cost: Money) -> 
 {
     if is_below(cost, best) {
         *best = Some(Best {
-            picks: copy_of(alloc, picks)?,
+            picks: picks.copy(alloc)?,
             cost,
         });
     }
@@ -199,15 +199,4 @@ pub(crate) fn is_below(bound: Money, best: &Option<Best>) -> bool
         Some(best) => bound.0 < best.cost.0,
         None => true,
     }
-}
-
-/// The same picks again. The error is want of memory.
-fn copy_of(alloc: Global, picks: &Picks) -> Result<Picks, NoMemory>
-    ensures { IfOk result (λ copy. copy ≡ picks.now) }
-{
-    let mut copy = Picks::new(alloc, picks.len())?;
-    for trip in 0..picks.len() {
-        copy.set(TripNo(trip), picks.get(TripNo(trip)));
-    }
-    Ok(copy)
 }

@@ -32,6 +32,23 @@ impl Picks {
         })
     }
 
+    /// The same compositions again; they are refused only for want of memory.
+    pub fn copy(&self, alloc: Global) -> Result<Picks, NoMemory>
+        ensures { IfOk result (λ picks. picks ≡ self.now) }
+    {
+        let mut compositions = Vec::new(alloc);
+        compositions.extend_from_slice(&self.compositions)?;
+        Ok(Picks { compositions })
+    }
+
+    /// Takes over the compositions of other picks, for as many trips.
+    pub fn copy_from(&mut self, other: &Picks)
+        requires { length self.old ≡ length other.now }
+        ensures { self.new ≡ other.now }
+    {
+        self.compositions.copy_from_slice(&other.compositions);
+    }
+
     /// For how many trips there is a composition.
     pub fn len(&self) -> u32
         ensures { result ≡ length self.now }

@@ -36,13 +36,13 @@ returns-in-Some-clause-bound c =
       weight = c.args.weight;
       region = c.args.region.now;
     } in
-    let found : AreFound priced (Some c.in-Some.value) c.copy_picks.new.to =
-    subst (AreFound priced (Some c.in-Some.value)) (sym c.copy_picks.ensures)
+    let found : AreFound priced (Some c.in-Some.value) c.copy_from.new.self =
+    subst (AreFound priced (Some c.in-Some.value)) (sym c.copy_from.ensures)
     (subst (λ (o : Option Money). AreFound priced o c.first_paths.new.choice) c.in-Some.is c.first_paths.ensures.found) in
     found_bound (changed_meanings (changed_day c.args.instance.now c.args.changes.now)) priced
     (day_priced priced c.links.ensures.sound c.requires.changes) c.links.ensures.sound c.requires.graphs
-    c.chains.ensures.whole c.requires.region c.copy_picks.new.to c.args.best.now c.in-Some.value c.added.result
-    (ap length c.copy_picks.ensures ∙ c.first_paths.ensures.choice) found
+    c.chains.ensures.whole c.requires.region c.copy_from.new.self c.args.best.now c.in-Some.value c.added.result
+    (ap length c.copy_from.ensures ∙ c.first_paths.ensures.choice) found
     (c.added.ensures ∙ ap (λ (z : ℤ). z +ℤ c.in-Some.value.0) c.constant.ensures.value)
 
 pub returns-in-None-clause-bound : goal.returns-in-None-clause-bound
