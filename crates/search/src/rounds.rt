@@ -115,7 +115,7 @@ fn make_round<R: Relaxation>(
         AreAsked advisors.old.items advisors.new.items asked has_quit (once advice.old.has_enough.items) 1) }
 
     // What the round makes of the node.
-    ensures heard { OnOk result (WereAskedInOrder has_quit has_answered (R.meanings (R.problem problem.old))
+    ensures in_order { OnOk result (WereAskedInOrder has_quit has_answered (R.meanings (R.problem problem.old))
         advice.old.shown.rounds (length advisors.old.items)
         (advice_state advisors.old.items advice.old (plan_in best.old) work.old)
         (advice_state advisors.new.items advice.new (plan_in best.new) work.new)) }
@@ -176,7 +176,7 @@ fn take_advice<R: Relaxation>(
     ensures enough { IfOk result (λ word. advice.new.has_enough.items ≡
         set advice.old.has_enough.items place (is_enough word)) }
     ensures rounds { OnOk result (advice.new.shown.rounds ≡ advice.old.shown.rounds) }
-    ensures heard { OnOk result (WasAsked has_quit has_answered (R.meanings (R.problem problem.old))
+    ensures was_asked { OnOk result (WasAsked has_quit has_answered (R.meanings (R.problem problem.old))
         advice.old.shown.rounds place (advice_state advisors.old.items advice.old (plan_in best.old) work.old)
         (advice_state advisors.new.items advice.new (plan_in best.new) work.new)) }
     ensures advisors { AreTheSame advisors.old.items advisors.new.items identity }

@@ -427,7 +427,7 @@ fn work_on<R: Relaxation>(
         AreAsked advisors.old.items advisors.new.items asked has_quit (in_rounds rounds 1) rounds) }
 
     // What is inherited and the rounds make of the node.
-    ensures worked_out { OnOk result (IsInheritedAndAdvised has_quit has_answered (R.meanings (R.problem problem.old))
+    ensures advised { OnOk result (IsInheritedAndAdvised has_quit has_answered (R.meanings (R.problem problem.old))
         rounds inherited.now advisors.old.items advisors.new.items (plan_in best.old) (plan_in best.new) work.old
         work.new) }
 {

@@ -21,7 +21,7 @@ invariant-loop-place g l = record {
   each : AreAskedOnce l.fn.advisors.items l.advisors.items (λ b. (goal.Advisor-dyn g (b.vtable, b.value)).asked b.value)
       (λ b. (goal.Advisor-dyn g (b.vtable, b.value)).has_quit b.value) l.fn.advice.has_enough.items l.place;
   advisors : AreTheSame l.fn.advisors.items l.advisors.items (λ b. (goal.Advisor-dyn g (b.vtable, b.value)).identity b.value);
-  heard : WereAskedInOrder (λ b. (goal.Advisor-dyn g (b.vtable, b.value)).has_quit b.value) (λ b. (goal.Advisor-dyn g (b.vtable, b.value)).has_answered b.value)
+  in_order : WereAskedInOrder (λ b. (goal.Advisor-dyn g (b.vtable, b.value)).has_quit b.value) (λ b. (goal.Advisor-dyn g (b.vtable, b.value)).has_answered b.value)
       (g.R.Relaxation.meanings (g.R.Relaxation.problem l.fn.problem)) l.fn.advice.shown.rounds l.place
       (advice_state l.fn.advisors.items l.fn.advice (plan_in l.fn.best) l.fn.work) (advice_state l.advisors.items l.advice (plan_in l.best) l.work);
   asked : AreAskedUpTo l.fn.advisors.items l.advisors.items (λ b. (goal.Advisor-dyn g (b.vtable, b.value)).asked b.value)

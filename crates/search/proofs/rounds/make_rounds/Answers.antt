@@ -8,7 +8,7 @@ use Rattle.search.specs.Rounds.{AreRounds, WereAskedInOrder, advice_state}
 use Rattle.search.proofs.Asking.{are_asked_again, are_asked_within, are_unasked, asked_in_all, asked_once, length-asked}
 use Rattle.search.proofs.Asking.{may_be_asked_yet}
 use Rattle.search.proofs.Evaluating.{not_offered, offered_again}
-use Rattle.search.proofs.Hearing.{rounds_next, rounds_to}
+use Rattle.search.proofs.Advising.{rounds_next, rounds_to}
 use Rattle.search.proofs.rounds.make_rounds.Goals as goal
 
 pub loop-round-init : goal.loop-round-init
@@ -67,7 +67,7 @@ loop-round-preserved g c =
       made = let so_far : c.loop-round.advice.shown.rounds ≡ c.loop-round._round = c.loop-round.invariant.counted (sym c.is_open.ensures ∙ c.if-not-is_open.false) in
           rounds_next (λ b. (goal.Advisor-dyn g (b.vtable, b.value)).has_quit b.value) (λ b. (goal.Advisor-dyn g (b.vtable, b.value)).has_answered b.value) (g.R.Relaxation.meanings (g.R.Relaxation.problem c.args.problem.now)) c.loop-round._round (advice_state c.args.advisors.now.items c.args.advice.now (plan_in c.args.best.now) c.args.work.now) (advice_state c.loop-round.advisors.items c.loop-round.advice (plan_in c.loop-round.best) c.loop-round.work) (advice_state c.make_round.new.advisors.items c.make_round.new.advice (plan_in c.make_round.new.best) c.make_round.new.work) c.loop-round.invariant.made
           (subst (λ (round : ℕ). WereAskedInOrder (λ b. (goal.Advisor-dyn g (b.vtable, b.value)).has_quit b.value) (λ b. (goal.Advisor-dyn g (b.vtable, b.value)).has_answered b.value) (g.R.Relaxation.meanings (g.R.Relaxation.problem c.args.problem.now)) round (length c.loop-round.advisors.items) (advice_state c.loop-round.advisors.items c.loop-round.advice (plan_in c.loop-round.best) c.loop-round.work) (advice_state c.make_round.new.advisors.items c.make_round.new.advice (plan_in c.make_round.new.best) c.make_round.new.work)) so_far
-          (subst (λ p. WereAskedInOrder (λ b. (goal.Advisor-dyn g (b.vtable, b.value)).has_quit b.value) (λ b. (goal.Advisor-dyn g (b.vtable, b.value)).has_answered b.value) (g.R.Relaxation.meanings p) c.loop-round.advice.shown.rounds (length c.loop-round.advisors.items) (advice_state c.loop-round.advisors.items c.loop-round.advice (plan_in c.loop-round.best) c.loop-round.work) (advice_state c.make_round.new.advisors.items c.make_round.new.advice (plan_in c.make_round.new.best) c.make_round.new.work)) c.loop-round.invariant.same c.in_ok-make_round.ensures.heard));
+          (subst (λ p. WereAskedInOrder (λ b. (goal.Advisor-dyn g (b.vtable, b.value)).has_quit b.value) (λ b. (goal.Advisor-dyn g (b.vtable, b.value)).has_answered b.value) (g.R.Relaxation.meanings p) c.loop-round.advice.shown.rounds (length c.loop-round.advisors.items) (advice_state c.loop-round.advisors.items c.loop-round.advice (plan_in c.loop-round.best) c.loop-round.work) (advice_state c.make_round.new.advisors.items c.make_round.new.advice (plan_in c.make_round.new.best) c.make_round.new.work)) c.loop-round.invariant.same c.in_ok-make_round.ensures.in_order));
       first = λ none. absurd (omega (arith, none));
       least = λ some left. asked_once _ _ c.loop-round._round (once c.loop-round.advice.has_enough.items) c.args.advisors.now.items c.loop-round.advisors.items c.make_round.new.advisors.items c.loop-round.invariant.first c.loop-round.invariant.asked
           (λ more. c.loop-round.invariant.least more (sym c.is_open.ensures ∙ c.if-not-is_open.false)) (c.in_ok-make_round.ensures.least left) c.make_round.ensures.asked;

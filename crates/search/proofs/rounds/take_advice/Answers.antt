@@ -5,7 +5,7 @@ use Rattle.search.specs.NodesInWork.{IsTakenUp}
 use Rattle.search.specs.Offers.{IsOffered}
 use Rattle.search.proofs.Asking.{asked_here, asked_one, same_but_asked}
 use Rattle.search.proofs.Evaluating.{not_offered}
-use Rattle.search.proofs.Hearing.{stays_on}
+use Rattle.search.proofs.Advising.{stays_on}
 use Rattle.search.proofs.rounds.take_advice.Goals as goal
 
 pub ask-requires-clause-stays : goal.ask-requires-clause-stays
@@ -55,8 +55,8 @@ returns-else-ne-clause-asked g c =
     asked_here _ _ c.args.advisors.now.items c.args.place c.index_mut.result.now c.ask.new.advisor c.requires.ask.within c.index_mut.ensures.value
     (asked_one 1 _ _ _ _ (omega arith) c.ask.ensures.asked (subst (λ b. (goal.Advisor-dyn g (b.vtable, b.value)).has_quit b.value ≡ false) (sym c.index_mut.ensures.value) (c.requires.ask.stays c.index_mut.result.now)))
 
-pub returns-in_ok-take_up-clause-heard : goal.returns-in_ok-take_up-clause-heard
-returns-in_ok-take_up-clause-heard g c = record {
+pub returns-in_ok-take_up-clause-was_asked : goal.returns-in_ok-take_up-clause-was_asked
+returns-in_ok-take_up-clause-was_asked g c = record {
   advisor = c.ask.new.advisor;
   word = c.in_ok-word.word;
   proposal = c.ask.new.advice.proposal;
@@ -70,8 +70,8 @@ returns-in_ok-take_up-clause-heard g c = record {
   offered = subst (λ p. IsOffered (g.R.Relaxation.meanings p) c.args.work.now.region (plan_in c.args.best.now) (plan_in c.take_up.new.best)) c.ask.ensures.same c.in_ok-take_up.ensures.offered;
 }
 
-pub returns-else-ne-clause-heard : goal.returns-else-ne-clause-heard
-returns-else-ne-clause-heard g c = record {
+pub returns-else-ne-clause-was_asked : goal.returns-else-ne-clause-was_asked
+returns-else-ne-clause-was_asked g c = record {
   advisor = c.ask.new.advisor;
   word = c.in_ok-word.word;
   proposal = c.ask.new.advice.proposal;

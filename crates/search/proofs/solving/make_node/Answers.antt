@@ -130,4 +130,4 @@ returns-in_ok-work-in-Open-clause-made g c =
             c.evaluate.ensures.same given),
         c.into_node.ensures,
       );
-    }) c.work_on-worked.ensures.worked_out))
+    }) c.work_on-worked.ensures.advised))

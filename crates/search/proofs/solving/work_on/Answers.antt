@@ -8,7 +8,7 @@ use Rattle.search.specs.NodesInWork.{IsWorkedOn}
 use Rattle.search.specs.Rounds.{AreRounds, advice_state}
 use Rattle.search.proofs.Asking.{are_unasked}
 use Rattle.search.proofs.Evaluating.{offered_again}
-use Rattle.search.proofs.Hearing.{rounds_unasked}
+use Rattle.search.proofs.Advising.{rounds_unasked}
 use Rattle.search.proofs.solving.work_on.Goals as goal
 
 pub returns-in_err-inherit-clause-asked : goal.returns-in_err-inherit-clause-asked
@@ -33,8 +33,8 @@ returns-clause-offered g c =
 pub returns-clause-least : goal.returns-clause-least
 returns-clause-least g c = c.make_rounds.ensures.least
 
-pub returns-clause-worked_out : goal.returns-clause-worked_out
-returns-clause-worked_out g c =
+pub returns-clause-advised : goal.returns-clause-advised
+returns-clause-advised g c =
     let problem = g.R.Relaxation.meanings (g.R.Relaxation.problem c.args.problem.now) in
     let middle = plan_in c.inherit.new.best in
     let last = advice_state c.make_rounds.new.advisors.items c.make_rounds.new.advice (plan_in c.make_rounds.new.best) c.make_rounds.new.work in
@@ -59,8 +59,8 @@ returns-clause-worked_out g c =
           }) last) (c.in_ok-advice.ensures.none ∙ ap (λ (n : ℕ). replicate n false) count) made);
     }) c.make_rounds.ensures.made
 
-pub returns-then-not-is_open-clause-worked_out : goal.returns-then-not-is_open-clause-worked_out
-returns-then-not-is_open-clause-worked_out g c = record {
+pub returns-then-not-is_open-clause-advised : goal.returns-then-not-is_open-clause-advised
+returns-then-not-is_open-clause-advised g c = record {
   middle = plan_in c.inherit.new.best;
   with_inherited = c.inherit.new.self;
   first = c.in_ok-inherit.ensures.inherited;

@@ -35,14 +35,14 @@ module _ {A : Type 0} (has_quit : A → Bool) (has_answered : CallTest A) (probl
   passed round place state not = record { asked = λ is. absurd (not is); left = λ is_not. refl }
 
   -- one that is to be asked was asked
-  pub heard : (round place : ℕ) (before after : AdviceState A) → IsToBeAsked has_quit place before → WasAsked has_quit has_answered problem round place before after →
+  pub asked_if_due : (round place : ℕ) (before after : AdviceState A) → IsToBeAsked has_quit place before → WasAsked has_quit has_answered problem round place before after →
       WasAskedIfDue has_quit has_answered problem round place before after
-  heard round place before after is was = record { asked = λ again. was; left = λ is_not. absurd (is_not is) }
+  asked_if_due round place before after is was = record { asked = λ again. was; left = λ is_not. absurd (is_not is) }
 
   -- the advisors at the places up to the next one, as a loop counts them
-  pub heard_next : (round place : ℕ) (before middle after : AdviceState A) → WereAskedInOrder has_quit has_answered problem round place before middle → WasAskedIfDue has_quit has_answered problem round place middle after →
+  pub asked_next : (round place : ℕ) (before middle after : AdviceState A) → WereAskedInOrder has_quit has_answered problem round place before middle → WasAskedIfDue has_quit has_answered problem round place middle after →
       WereAskedInOrder has_quit has_answered problem round (place + 1) before after
-  heard_next round place before middle after so_far next = subst (λ (n : ℕ). WereAskedInOrder has_quit has_answered problem round n before after) (sym (add-one place)) (middle, so_far, next)
+  asked_next round place before middle after so_far next = subst (λ (n : ℕ). WereAskedInOrder has_quit has_answered problem round n before after) (sym (add-one place)) (middle, so_far, next)
 
   -- the rounds up to the next one
   pub rounds_next : (round : ℕ) (before middle after : AdviceState A) → AreRounds has_quit has_answered problem round before middle →
@@ -54,12 +54,12 @@ module _ {A : Type 0} (has_quit : A → Bool) (has_answered : CallTest A) (probl
   closed place state shut is = both_ways (is_left_open state.best state.work) shut is.left_open
 
   -- a node that is not open stays as it is to the end of a round
-  pub heard_to : (round few many : ℕ) (before after : AdviceState A) → few ≤ many → is_left_open after.best after.work ≡ false → WereAskedInOrder has_quit has_answered problem round few before after →
+  pub asked_to : (round few many : ℕ) (before after : AdviceState A) → few ≤ many → is_left_open after.best after.work ≡ false → WereAskedInOrder has_quit has_answered problem round few before after →
       WereAskedInOrder has_quit has_answered problem round many before after
-  heard_to round few zero before after less shut so_far =
+  asked_to round few zero before after less shut so_far =
       let none : few ≡ 0 = omega (arith, less) in subst (λ (n : ℕ). WereAskedInOrder has_quit has_answered problem round n before after) none so_far
-  heard_to round few (suc many) before after less shut so_far = elim (at_most few many less) as (λ _. WereAskedInOrder has_quit has_answered problem round (suc many) before after) [
-    | inl less ↦ (after, heard_to round few many before after less shut so_far, passed round many after (closed many after shut))
+  asked_to round few (suc many) before after less shut so_far = elim (at_most few many less) as (λ _. WereAskedInOrder has_quit has_answered problem round (suc many) before after) [
+    | inl less ↦ (after, asked_to round few many before after less shut so_far, passed round many after (closed many after shut))
     | inr same ↦ subst (λ (n : ℕ). WereAskedInOrder has_quit has_answered problem round n before after) same so_far
   ]
 
@@ -69,7 +69,7 @@ module _ {A : Type 0} (has_quit : A → Bool) (has_answered : CallTest A) (probl
   rounds_to few zero before after less shut so_far =
       let none : few ≡ 0 = omega (arith, less) in subst (λ (n : ℕ). AreRounds has_quit has_answered problem n before after) none so_far
   rounds_to few (suc many) before after less shut so_far = elim (at_most few many less) as (λ _. AreRounds has_quit has_answered problem (suc many) before after) [
-    | inl less ↦ (after, rounds_to few many before after less shut so_far, heard_to many 0 (length after.advisors) after after (omega arith) shut refl)
+    | inl less ↦ (after, rounds_to few many before after less shut so_far, asked_to many 0 (length after.advisors) after after (omega arith) shut refl)
     | inr same ↦ subst (λ (n : ℕ). AreRounds has_quit has_answered problem n before after) same so_far
   ]
 
