@@ -1,6 +1,6 @@
 -- The columns of a yard add up, row by row: between two departure minutes of a station no trip leaves it.
 use Rattle.std.proofs.Common.{◌≡◌, ℕ, zero, suc, ◌+◌, ◌<◌, ◌≤◌, List, [], ◌∷◌, length, Option, Some, None, pos}
-use Rattle.std.proofs.Common.{◌+ℤ◌, ◌-ℤ◌, ◌⊎◌, inl, inr, refl, sym, subst, ◌∙◌, arith}
+use Rattle.std.proofs.Common.{ℤ, ◌+ℤ◌, ◌-ℤ◌, ◌⊎◌, inl, inr, refl, sym, subst, ap, ◌∙◌, arith}
 use Rattle.std.specs.Prelude.{⊤, if◌then◌else◌, ◌==◌, ◌&&◌, nat_le, nat_lt, true}
 use Rattle.std.specs.List.{AllPairs, Contains}
 use Rattle.std.proofs.lemmas.Bool.Decides.{nat_tests}
@@ -11,10 +11,11 @@ use Rattle.timetable.specs.Minutes.{AreMinutes, minutes_of}
 use Rattle.timetable.specs.Starts.{start_of}
 use Rattle.timetable.proofs.Minutes.{are_minutes}
 use Rattle.timetable.proofs.Sums.{sum_same, sum_add, sum_zero}
-use Rattle.inventory.specs.Counts.{takes_of, gives_of, taken_until, ready_until, all_taken, all_given}
-use Rattle.day_reports.specs.YardRows.{YardOf, takes_at, taken_at, gives_between, ready_between}
-use Rattle.day_reports.specs.Laws.{taken_so_far, ready_so_far, count_of_row, AddsUpAt, AddsUpAtEnd, AddUpFrom}
-use Rattle.day_reports.specs.Laws.{CountsFollow}
+use Rattle.inventory.specs.Counts.{takes_of, gives_of, taken_until, ready_until, all_taken, all_given, count_at}
+use Rattle.inventory.specs.Counts.{last_of}
+use Rattle.day_reports.specs.YardRows.{YardOf, YardRow, takes_at, taken_at, gives_between, ready_between}
+use Rattle.day_reports.specs.YardRows.{start_row, minute_row, end_row, rows_after}
+use Rattle.day_reports.specs.Laws.{Totals, with_row, IsOfMinute, IsOfEnd, AddUpAfter, CountsFollow}
 
 -- ---- of one trip
 
@@ -56,6 +57,9 @@ two_sums f g h n each = sym (sum_add f g n) ∙ sum_same (λ k. f k + g k) h n e
 
 from_none : (n m : ℕ) → n ≡ m → 0 + n ≡ m
 from_none n m e = omega (arith, e)
+
+no_more : (n : ℕ) → n + 0 ≡ n
+no_more n = omega arith
 
 -- ---- counts
 
@@ -102,6 +106,21 @@ IsPast (Some before) minute = minute ≤ before
 past_later : (before : Option ℕ) (minute leave : ℕ) → IsBefore before minute → IsPast before leave → leave ≤ minute
 past_later None minute leave rise past = absurd past
 past_later (Some before) minute leave rise past = omega arith
+
+-- units that were taken by the minute of a row: none by the start
+abbrev taken_so_far : YardOf → Option ℕ → ℕ
+taken_so_far yard None = 0
+taken_so_far yard (Some minute) = taken_until yard.day yard.lists yard.station yard.unit_type minute
+
+-- units that were given and are ready by the minute of a row: none by the start
+abbrev ready_so_far : YardOf → Option ℕ → ℕ
+ready_so_far yard None = 0
+ready_so_far yard (Some minute) = ready_until yard.day yard.lists yard.station yard.unit_type minute
+
+-- the count of the row of a departure minute, or of the row of the start
+abbrev count_of_row : YardOf → Option ℕ → ℤ
+count_of_row yard None = pos (start_of yard.day yard.station yard.unit_type)
+count_of_row yard (Some minute) = count_at yard.day yard.lists yard.station yard.unit_type minute
 
 module _ (yard : YardOf) where
   abbrev trips : ℕ
@@ -167,30 +186,44 @@ module _ (yard : YardOf) where
       count_later (start_of yard.day yard.station yard.unit_type) (ready_so_far yard (Some before)) (taken_so_far yard (Some before)) (taken_at yard minute) (ready_between yard (Some before) (Some minute))
       (ready_so_far yard (Some minute)) (taken_so_far yard (Some minute)) taken ready
 
-  at_minute : (before : Option ℕ) (minute : ℕ) → IsBefore before minute → AreApart before minute → AddsUpAt yard before minute
-  at_minute before minute rise apart =
+  -- these are the row of a minute or of the start, and the totals up to it
+  record IsUpTo (before : Option ℕ) (totals : Totals) (row : YardRow) : Type 0 where
+    taken : totals.taken ≡ taken_so_far yard before
+    ready : totals.ready ≡ ready_so_far yard before
+    count : row.count ≡ count_of_row yard before
+
+  at_minute : (before : Option ℕ) (minute : ℕ) (totals : Totals) (row : YardRow) → IsBefore before minute → AreApart before minute → IsUpTo before totals row
+      → IsOfMinute yard minute (with_row totals (minute_row yard before minute)) row (minute_row yard before minute)
+  at_minute before minute totals row rise apart up =
       let taken = takes before minute rise apart in
       let ready = gives before minute rise in
-      record { taken = taken; ready = ready; count = counts before minute taken ready }
-
-  at_end : (before : Option ℕ) → ArePast before → AddsUpAtEnd yard before
-  at_end None past =
-      let taken = takes_end None past in
-      let ready = gives_end None in
       record {
-        taken = taken;
-        ready = ready;
-        count = count_only (start_of yard.day yard.station yard.unit_type) (ready_between yard None None) (all_given yard.day yard.lists yard.station yard.unit_type)
-            (all_taken yard.day yard.lists yard.station yard.unit_type) taken ready;
+        time = refl;
+        taken = ap (λ n. n + taken_at yard minute) up.taken ∙ taken;
+        ready = ap (λ n. n + ready_between yard before (Some minute)) up.ready ∙ ready;
+        count = counts before minute taken ready ∙ ap (λ c. c +ℤ pos (ready_between yard before (Some minute))) (sym up.count);
       }
-  at_end (Some before) past =
-      let taken = takes_end (Some before) past in
-      let ready = gives_end (Some before) in
+
+  last_count : (before : Option ℕ) → taken_so_far yard before ≡ all_taken yard.day yard.lists yard.station yard.unit_type
+      → ready_so_far yard before + ready_between yard before None ≡ all_given yard.day yard.lists yard.station yard.unit_type
+      → last_of yard.day yard.lists yard.station yard.unit_type ≡ count_of_row yard before +ℤ pos (ready_between yard before None)
+  last_count None taken ready =
+      count_only (start_of yard.day yard.station yard.unit_type) (ready_between yard None None) (all_given yard.day yard.lists yard.station yard.unit_type)
+      (all_taken yard.day yard.lists yard.station yard.unit_type) taken ready
+  last_count (Some before) taken ready =
+      count_last (start_of yard.day yard.station yard.unit_type) (ready_so_far yard (Some before)) (taken_so_far yard (Some before)) (ready_between yard (Some before) None)
+      (all_given yard.day yard.lists yard.station yard.unit_type) (all_taken yard.day yard.lists yard.station yard.unit_type) taken ready
+
+  at_end : (before : Option ℕ) (totals : Totals) (row : YardRow) → ArePast before → IsUpTo before totals row → IsOfEnd yard (with_row totals (end_row yard before)) row (end_row yard before)
+  at_end before totals row past up =
+      let taken = takes_end before past in
+      let ready = gives_end before in
       record {
-        taken = taken;
-        ready = ready;
-        count = count_last (start_of yard.day yard.station yard.unit_type) (ready_so_far yard (Some before)) (taken_so_far yard (Some before)) (ready_between yard (Some before) None)
-            (all_given yard.day yard.lists yard.station yard.unit_type) (all_taken yard.day yard.lists yard.station yard.unit_type) taken ready;
+        time = refl;
+        none = refl;
+        taken = no_more totals.taken ∙ up.taken ∙ taken;
+        ready = ap (λ n. n + ready_between yard before None) up.ready ∙ ready;
+        count = last_count before taken ready ∙ ap (λ c. c +ℤ pos (ready_between yard before None)) (sym up.count);
       }
 
   -- these are the departure minutes behind a row
@@ -231,18 +264,21 @@ module _ (yard : YardOf) where
     | inr there ↦ absurd (in_none (leaves yard.day t) there)
   ]
 
-  add_up : (before : Option ℕ) (minutes : List ℕ) → Remain before minutes → AddUpFrom yard before minutes
-  add_up before [] remain = at_end before (past_all before remain)
-  add_up before (minute ∷ minutes) remain = (
-    at_minute before minute (remain.later minute (is_first minute minutes)) (apart_from before minute minutes remain),
-    add_up (Some minute) minutes (remain_next before minute minutes remain),
-  )
+  add_up : (before : Option ℕ) (minutes : List ℕ) (totals : Totals) (row : YardRow) → Remain before minutes → IsUpTo before totals row
+      → AddUpAfter yard minutes totals row (rows_after yard before minutes)
+  add_up before [] totals row remain up = at_end before totals row (past_all before remain) up
+  add_up before (minute ∷ minutes) totals row remain up =
+      let next = minute_row yard before minute in
+      let at = at_minute before minute totals row (remain.later minute (is_first minute minutes)) (apart_from before minute minutes remain) up in
+      (at, add_up (Some minute) minutes (with_row totals next) next (remain_next before minute minutes remain) (record { taken = at.taken; ready = at.ready; count = refl }))
 
 pub counts_follow : CountsFollow
 counts_follow yard =
-    let are : AreMinutes yard.day yard.station (minutes_of yard.day yard.station) = are_minutes yard.day yard.station in
-    add_up yard None (minutes_of yard.day yard.station) (record {
-      rise = are.rise;
-      later = λ minute there. tt;
-      all = λ t lt is. inr (are.all (leaves yard.day t) (record { trip = t; known = lt; station = is; minute = refl }));
-    })
+    let are : AreMinutes yard.day yard.station (minutes_of yard.day yard.station) = are_minutes yard.day yard.station in (
+      record { time = refl; taken = refl; ready = refl; count = refl },
+      add_up yard None (minutes_of yard.day yard.station) (record { taken = 0; ready = 0 }) (start_row yard) (record {
+        rise = are.rise;
+        later = λ minute there. tt;
+        all = λ t lt is. inr (are.all (leaves yard.day t) (record { trip = t; known = lt; station = is; minute = refl }));
+      }) (record { taken = refl; ready = refl; count = refl }),
+    )

@@ -1,49 +1,61 @@
--- The columns of the report of yards, row by row: what is taken and what became ready adds up to what was taken and
--- given, and the counts follow from the two.
-use Rattle.std.specs.Prelude.{ℕ, ◌+◌, ◌≡◌, List, [], ◌∷◌, Option, Some, None, ℤ, pos, ◌+ℤ◌}
+-- The rows of the report of yards: what is taken and what became ready adds up, row by row, to what was taken and given,
+-- and each count follows from that of the row before.
+use Rattle.std.specs.Prelude.{ℕ, ◌+◌, ◌≡◌, List, [], ◌∷◌, codes, pos, ◌+ℤ◌}
+use Rattle.rail_base.specs.Times.{clock_text}
 use Rattle.timetable.specs.Minutes.{minutes_of}
 use Rattle.timetable.specs.Starts.{start_of}
-use Rattle.inventory.specs.Counts.{taken_until, ready_until, all_taken, all_given, count_at, last_of}
-use Rattle.day_reports.specs.YardRows.{YardOf, taken_at, ready_between}
+use Rattle.inventory.specs.Counts.{taken_until, ready_until, all_taken, all_given}
+use Rattle.day_reports.specs.YardRows.{YardOf, YardRow, yard_rows}
 
--- units that were taken by the minute of a row: none by the start
-abbrev pub taken_so_far : YardOf → Option ℕ → ℕ
-taken_so_far yard None = 0
-taken_so_far yard (Some minute) = taken_until yard.day yard.lists yard.station yard.unit_type minute
+-- units that are taken, and that become ready, in all rows up to one
+pub record Totals : Type 0 where
+  pub taken : ℕ
+  pub ready : ℕ
 
--- units that were given and are ready by the minute of a row: none by the start
-abbrev pub ready_so_far : YardOf → Option ℕ → ℕ
-ready_so_far yard None = 0
-ready_so_far yard (Some minute) = ready_until yard.day yard.lists yard.station yard.unit_type minute
+abbrev pub with_row : Totals → YardRow → Totals
+with_row totals row = record { taken = totals.taken + row.taken; ready = totals.ready + row.ready }
 
--- the count of the row of a departure minute, or of the row of the start
-abbrev pub count_of_row : YardOf → Option ℕ → ℤ
-count_of_row yard None = pos (start_of yard.day yard.station yard.unit_type)
-count_of_row yard (Some minute) = count_at yard.day yard.lists yard.station yard.unit_type minute
+-- The row of the start: the units that are at home there stand there.
+pub record IsOfStart (yard : YardOf) (row : YardRow) : Type 0 where
+  pub time : row.time ≡ codes "start"
+  pub taken : row.taken ≡ 0
+  pub ready : row.ready ≡ 0
+  pub count : row.count ≡ pos (start_of yard.day yard.station yard.unit_type)
 
--- The row of a departure minute, behind a row of a minute or of the start: what is taken and what is ready by it is
--- what was so by the row before and what the row tells; and its count, with what it takes, is the count of the row
--- before with what became ready.
-pub record AddsUpAt (yard : YardOf) (before : Option ℕ) (minute : ℕ) : Type 0 where
-  pub taken : taken_so_far yard before + taken_at yard minute ≡ taken_so_far yard (Some minute)
-  pub ready : ready_so_far yard before + ready_between yard before (Some minute) ≡ ready_so_far yard (Some minute)
-  pub count : count_of_row yard (Some minute) +ℤ pos (taken_at yard minute)
-      ≡ count_of_row yard before +ℤ pos (ready_between yard before (Some minute))
+-- The row of a departure minute, behind another row: the totals up to it are what was taken and what was ready by its
+-- minute; and its count, with what it takes, is the count of the row before with what became ready.
+pub record IsOfMinute (yard : YardOf) (minute : ℕ) (totals : Totals) (before row : YardRow) : Type 0 where
+  pub time : row.time ≡ clock_text minute
+  pub taken : totals.taken ≡ taken_until yard.day yard.lists yard.station yard.unit_type minute
+  pub ready : totals.ready ≡ ready_until yard.day yard.lists yard.station yard.unit_type minute
+  pub count : row.count +ℤ pos row.taken ≡ before.count +ℤ pos row.ready
 
--- The row of the end, behind such a row: all was taken by the row before; all that is given is what was ready by it and
--- what became ready after it; and the count is that of the row before with what became ready.
-pub record AddsUpAtEnd (yard : YardOf) (before : Option ℕ) : Type 0 where
-  pub taken : taken_so_far yard before ≡ all_taken yard.day yard.lists yard.station yard.unit_type
-  pub ready : ready_so_far yard before + ready_between yard before None
-      ≡ all_given yard.day yard.lists yard.station yard.unit_type
-  pub count : last_of yard.day yard.lists yard.station yard.unit_type
-      ≡ count_of_row yard before +ℤ pos (ready_between yard before None)
+-- The row of the end, behind another row: it takes none; the totals up to it are all that is taken and all that is
+-- given; and its count is that of the row before with what became ready.
+pub record IsOfEnd (yard : YardOf) (totals : Totals) (before row : YardRow) : Type 0 where
+  pub time : row.time ≡ codes "end"
+  pub none : row.taken ≡ 0
+  pub taken : totals.taken ≡ all_taken yard.day yard.lists yard.station yard.unit_type
+  pub ready : totals.ready ≡ all_given yard.day yard.lists yard.station yard.unit_type
+  pub count : row.count ≡ before.count +ℤ pos row.ready
 
--- the rows of these minutes and of the end, behind a row of a minute or of the start
-abbrev pub AddUpFrom : YardOf → Option ℕ → List ℕ → Type 0
-AddUpFrom yard before [] = AddsUpAtEnd yard before
-AddUpFrom yard before (minute ∷ minutes) = AddsUpAt yard before minute × AddUpFrom yard (Some minute) minutes
+-- one row for each of these departure minutes, and one for the end, behind a row up to which there are these totals
+abbrev pub AddUpAfter : YardOf → List ℕ → Totals → YardRow → List YardRow → Type 0
+AddUpAfter yard [] totals before [] = ⊥
+AddUpAfter yard [] totals before (row ∷ []) = IsOfEnd yard (with_row totals row) before row
+AddUpAfter yard [] totals before (row ∷ next ∷ rows) = ⊥
+AddUpAfter yard (minute ∷ minutes) totals before [] = ⊥
+AddUpAfter yard (minute ∷ minutes) totals before (row ∷ rows) =
+    IsOfMinute yard minute (with_row totals row) before row
+    × AddUpAfter yard minutes (with_row totals row) row rows
+
+-- one row for the start, and such rows behind it
+abbrev pub AddUp : YardOf → List YardRow → Type 0
+AddUp yard [] = ⊥
+AddUp yard (start ∷ rows) =
+    IsOfStart yard start
+    × AddUpAfter yard (minutes_of yard.day yard.station) (record { taken = 0; ready = 0 }) start rows
 
 -- all rows of every yard
 abbrev pub CountsFollow : Type 0
-CountsFollow = (yard : YardOf) → AddUpFrom yard None (minutes_of yard.day yard.station)
+CountsFollow = (yard : YardOf) → AddUp yard (yard_rows yard)

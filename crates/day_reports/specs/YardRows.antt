@@ -1,7 +1,7 @@
 -- The report of yards: for each station and each type, what is taken, what becomes ready, and how many units stand
 -- there.
 use Rattle.std.specs.Prelude.{ℕ, List, [], ◌∷◌, length, Bool, true, ◌==◌, ◌&&◌, if◌then◌else◌, nat_lt, nat_le, codes}
-use Rattle.std.specs.Prelude.{Option, Some, None, ℤ, pos}
+use Rattle.std.specs.Prelude.{Option, Some, None, ℤ, pos, map}
 use Rattle.std.specs.Fmt.{decimal, signed_decimal}
 use Rattle.rail_base.specs.Times.{clock_text}
 use Rattle.timetable.specs.Day.{Day, leaves, from_of, to_of, ready_at}
@@ -57,46 +57,71 @@ ready_between yard after by = sum_below (gives_between yard after by) (length ya
 
 -- ---- the rows of a yard
 
-abbrev pub yard_row : YardOf → List ℕ → ℕ → ℕ → ℤ → List (List ℕ)
-yard_row yard time taken ready count =
-    station_name yard.day yard.station
-    ∷ type_name yard.day yard.unit_type
-    ∷ time
-    ∷ decimal taken
-    ∷ decimal ready
-    ∷ signed_decimal count
-    ∷ []
+-- what a row tells: its time, the units that are taken, those that became ready, and those that stand there
+pub record YardRow : Type 0 where
+  pub time : List ℕ
+  pub taken : ℕ
+  pub ready : ℕ
+  pub count : ℤ
 
 -- how many stand there at the start
-abbrev pub start_row : YardOf → List (List ℕ)
-start_row yard = yard_row yard (codes "start") 0 0 (pos (start_of yard.day yard.station yard.unit_type))
+abbrev pub start_row : YardOf → YardRow
+start_row yard = record {
+  time = codes "start";
+  taken = 0;
+  ready = 0;
+  count = pos (start_of yard.day yard.station yard.unit_type);
+}
 
 -- what is taken at a departure minute, what became ready since the minute of the row before, and how many stand there
 -- after the takes
-abbrev pub minute_row : YardOf → Option ℕ → ℕ → List (List ℕ)
-minute_row yard before minute =
-    yard_row yard (clock_text minute) (taken_at yard minute) (ready_between yard before (Some minute))
-    (count_at yard.day yard.lists yard.station yard.unit_type minute)
+abbrev pub minute_row : YardOf → Option ℕ → ℕ → YardRow
+minute_row yard before minute = record {
+  time = clock_text minute;
+  taken = taken_at yard minute;
+  ready = ready_between yard before (Some minute);
+  count = count_at yard.day yard.lists yard.station yard.unit_type minute;
+}
 
 -- what becomes ready after the last departure minute, and how many stand there at the end
-abbrev pub end_row : YardOf → Option ℕ → List (List ℕ)
-end_row yard before =
-    yard_row yard (codes "end") 0 (ready_between yard before None)
-    (last_of yard.day yard.lists yard.station yard.unit_type)
+abbrev pub end_row : YardOf → Option ℕ → YardRow
+end_row yard before = record {
+  time = codes "end";
+  taken = 0;
+  ready = ready_between yard before None;
+  count = last_of yard.day yard.lists yard.station yard.unit_type;
+}
 
 -- the rows of departure minutes and of the end, behind a row of a minute, or behind the row of the start, which has
 -- none
-abbrev pub rows_after : YardOf → Option ℕ → List ℕ → List (List (List ℕ))
+abbrev pub rows_after : YardOf → Option ℕ → List ℕ → List YardRow
 rows_after yard before [] = end_row yard before ∷ []
 rows_after yard before (minute ∷ minutes) = minute_row yard before minute ∷ rows_after yard (Some minute) minutes
 
-abbrev pub yard_rows : YardOf → List (List (List ℕ))
+abbrev pub yard_rows : YardOf → List YardRow
 yard_rows yard = start_row yard ∷ rows_after yard None (minutes_of yard.day yard.station)
+
+-- ---- the text
+
+-- the fields of a row
+abbrev pub yard_fields : YardOf → YardRow → List (List ℕ)
+yard_fields yard row =
+    station_name yard.day yard.station
+    ∷ type_name yard.day yard.unit_type
+    ∷ row.time
+    ∷ decimal row.taken
+    ∷ decimal row.ready
+    ∷ signed_decimal row.count
+    ∷ []
+
+-- of all rows of a yard
+abbrev pub fields_of_rows : YardOf → List (List (List ℕ))
+fields_of_rows yard = map (yard_fields yard) (yard_rows yard)
 
 -- of all types at a station
 abbrev pub station_rows : Day → List (List ℕ) → ℕ → List (List (List ℕ))
 station_rows day lists s =
-    joined (λ m. yard_rows (record { day = day; lists = lists; station = s; unit_type = m })) (length day.types)
+    joined (λ m. fields_of_rows (record { day = day; lists = lists; station = s; unit_type = m })) (length day.types)
 
 -- of all stations, where the trips have these lists of types
 unfoldable pub yards_text : Day → List (List ℕ) → List ℕ

@@ -3,7 +3,7 @@
 ghost use Rattle.std.specs.Prelude.{◌≡◌, ◌<◌, ◌++◌, ◌∷◌, [], length, get_or, IfOk, OnOk};
 ghost use Rattle.timetable.specs.Minutes.{minutes_of};
 ghost use Rattle.timetable.specs.Picks.{ArePicks, picked};
-ghost use Rattle.day_reports.specs.YardRows.{end_row, minute_row, start_row, station_rows, yard_row, yard_rows};
+ghost use Rattle.day_reports.specs.YardRows.{end_row, fields_of_rows, minute_row, start_row, station_rows, yard_fields};
 ghost use Rattle.day_reports.specs.YardRows.{yards_text};
 
 use crate::names::{station_name, type_name};
@@ -76,7 +76,7 @@ fn push_station<'day, 'picks, 'ledger>(
 
 /// Adds the rows of a type at a station.
 fn push_yard(alloc: Global, report: &mut Report, yard: &Yard<'_, '_, '_>) -> Result<(), NoMemory>
-    ensures { OnOk result (report.new ≡ report.old ++ yard_rows yard.now) }
+    ensures { OnOk result (report.new ≡ report.old ++ fields_of_rows yard.now) }
 {
     push_start(alloc, report, yard)?;
     let mut before = None;
@@ -90,7 +90,7 @@ fn push_yard(alloc: Global, report: &mut Report, yard: &Yard<'_, '_, '_>) -> Res
 
 /// Adds the row of the start.
 fn push_start(alloc: Global, report: &mut Report, yard: &Yard<'_, '_, '_>) -> Result<(), NoMemory>
-    ensures { OnOk result (report.new ≡ report.old ++ start_row yard.now ∷ []) }
+    ensures { OnOk result (report.new ≡ report.old ++ yard_fields yard.now (start_row yard.now) ∷ []) }
 {
     let start = yard.instance.start(yard.station, yard.unit_type);
     let counts = RowCounts {
@@ -111,7 +111,8 @@ fn push_minute(
 ) -> Result<(), NoMemory>
     requires { place < length (minutes_of yard.now.day yard.now.station) }
     ensures { OnOk result (report.new ≡ report.old ++
-        minute_row yard.now before (get_or (minutes_of yard.now.day yard.now.station) place 0) ∷ []) }
+        yard_fields yard.now (minute_row yard.now before (get_or (minutes_of yard.now.day yard.now.station) place 0))
+        ∷ []) }
 {
     let minute = yard.instance.minutes(yard.station)[place as usize];
     let standing = yard.ledger.count_after(yard.station, yard.unit_type, place);
@@ -134,7 +135,7 @@ fn push_end(
     yard: &Yard<'_, '_, '_>,
     before: Option<Minute>,
 ) -> Result<(), NoMemory>
-    ensures { OnOk result (report.new ≡ report.old ++ end_row yard.now before ∷ []) }
+    ensures { OnOk result (report.new ≡ report.old ++ yard_fields yard.now (end_row yard.now before) ∷ []) }
 {
     let span = Span {
         after: before,
@@ -157,7 +158,12 @@ fn push_row(
     counts: RowCounts,
 ) -> Result<(), NoMemory>
     ensures { OnOk result (report.new ≡ report.old ++
-        yard_row yard.now time.now counts.taken counts.ready counts.standing ∷ []) }
+        yard_fields yard.now (record {
+          time = time.now;
+          taken = counts.taken;
+          ready = counts.ready;
+          count = counts.standing;
+        }) ∷ []) }
 {
     let taken = digits_of(alloc, counts.taken)?;
     let ready = digits_of(alloc, counts.ready)?;
