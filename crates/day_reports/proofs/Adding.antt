@@ -15,7 +15,7 @@ use Rattle.inventory.specs.Counts.{takes_of, gives_of, taken_until, ready_until,
 use Rattle.inventory.specs.Counts.{last_of}
 use Rattle.day_reports.specs.YardRows.{YardOf, YardRow, takes_at, taken_at, gives_between, ready_between}
 use Rattle.day_reports.specs.YardRows.{start_row, minute_row, end_row, rows_after}
-use Rattle.day_reports.specs.Laws.{Totals, with_row, IsOfMinute, IsOfEnd, AddUpAfter, CountsFollow}
+use Rattle.day_reports.specs.Laws.{Totals, with_row, IsOfMinute, IsOfEnd, AddUpAfter, YardsAddUp}
 
 -- ---- of one trip
 
@@ -199,8 +199,8 @@ module _ (yard : YardOf) where
       let ready = gives before minute rise in
       record {
         time = refl;
-        taken = ap (λ n. n + taken_at yard minute) up.taken ∙ taken;
-        ready = ap (λ n. n + ready_between yard before (Some minute)) up.ready ∙ ready;
+        total_taken = ap (λ n. n + taken_at yard minute) up.taken ∙ taken;
+        total_ready = ap (λ n. n + ready_between yard before (Some minute)) up.ready ∙ ready;
         count = counts before minute taken ready ∙ ap (λ c. c +ℤ pos (ready_between yard before (Some minute))) (sym up.count);
       }
 
@@ -220,9 +220,9 @@ module _ (yard : YardOf) where
       let ready = gives_end before in
       record {
         time = refl;
-        none = refl;
-        taken = no_more totals.taken ∙ up.taken ∙ taken;
-        ready = ap (λ n. n + ready_between yard before None) up.ready ∙ ready;
+        taken = refl;
+        total_taken = no_more totals.taken ∙ up.taken ∙ taken;
+        total_ready = ap (λ n. n + ready_between yard before None) up.ready ∙ ready;
         count = last_count before taken ready ∙ ap (λ c. c +ℤ pos (ready_between yard before None)) (sym up.count);
       }
 
@@ -270,10 +270,10 @@ module _ (yard : YardOf) where
   add_up before (minute ∷ minutes) totals row remain up =
       let next = minute_row yard before minute in
       let at = at_minute before minute totals row (remain.later minute (is_first minute minutes)) (apart_from before minute minutes remain) up in
-      (at, add_up (Some minute) minutes (with_row totals next) next (remain_next before minute minutes remain) (record { taken = at.taken; ready = at.ready; count = refl }))
+      (at, add_up (Some minute) minutes (with_row totals next) next (remain_next before minute minutes remain) (record { taken = at.total_taken; ready = at.total_ready; count = refl }))
 
-pub counts_follow : CountsFollow
-counts_follow yard =
+pub yards_add_up : YardsAddUp
+yards_add_up yard =
     let are : AreMinutes yard.day yard.station (minutes_of yard.day yard.station) = are_minutes yard.day yard.station in (
       record { time = refl; taken = refl; ready = refl; count = refl },
       add_up yard None (minutes_of yard.day yard.station) (record { taken = 0; ready = 0 }) (start_row yard) (record {

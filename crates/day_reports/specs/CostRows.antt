@@ -14,7 +14,7 @@ cost_header = codes "part" ∷ codes "amount" ∷ []
 abbrev pub amount_row : List ℕ → ℤ → List (List ℕ)
 amount_row name amount = name ∷ signed_decimal amount ∷ []
 
--- the rows of three parts and of their sum
+-- the rows of three parts and of a total
 abbrev pub amount_rows : CostParts → ℤ → List (List (List ℕ))
 amount_rows parts total =
     amount_row (codes "carriage") parts.carriage.0
@@ -23,7 +23,7 @@ amount_rows parts total =
     ∷ amount_row (codes "total") total
     ∷ []
 
--- the parts of what a day costs whose trips have these lists of types
+-- the three parts of the cost of a day whose trips have these lists of types
 abbrev pub cost_parts : Day → List (List ℕ) → CostParts
 cost_parts day lists = record {
   carriage = record { 0 = pos (carriage_of day lists) };

@@ -7,15 +7,16 @@ use Rattle.timetable.specs.Starts.{start_of}
 use Rattle.inventory.specs.Counts.{taken_until, ready_until, all_taken, all_given}
 use Rattle.day_reports.specs.YardRows.{YardOf, YardRow, yard_rows}
 
--- units that are taken, and that become ready, in all rows up to one
+-- how many units are taken, and how many become ready, in the rows up to some row, that row among them
 pub record Totals : Type 0 where
   pub taken : ℕ
   pub ready : ℕ
 
+-- with those of one row more
 abbrev pub with_row : Totals → YardRow → Totals
 with_row totals row = record { taken = totals.taken + row.taken; ready = totals.ready + row.ready }
 
--- The row of the start: the units that are at home there stand there.
+-- The row of the start: nothing is taken or ready, and the units of the start stand there.
 pub record IsOfStart (yard : YardOf) (row : YardRow) : Type 0 where
   pub time : row.time ≡ codes "start"
   pub taken : row.taken ≡ 0
@@ -26,17 +27,17 @@ pub record IsOfStart (yard : YardOf) (row : YardRow) : Type 0 where
 -- minute; and its count, with what it takes, is the count of the row before with what became ready.
 pub record IsOfMinute (yard : YardOf) (minute : ℕ) (totals : Totals) (before row : YardRow) : Type 0 where
   pub time : row.time ≡ clock_text minute
-  pub taken : totals.taken ≡ taken_until yard.day yard.lists yard.station yard.unit_type minute
-  pub ready : totals.ready ≡ ready_until yard.day yard.lists yard.station yard.unit_type minute
+  pub total_taken : totals.taken ≡ taken_until yard.day yard.lists yard.station yard.unit_type minute
+  pub total_ready : totals.ready ≡ ready_until yard.day yard.lists yard.station yard.unit_type minute
   pub count : row.count +ℤ pos row.taken ≡ before.count +ℤ pos row.ready
 
--- The row of the end, behind another row: it takes none; the totals up to it are all that is taken and all that is
+-- The row of the end, behind another row: nothing is taken; the totals up to it are all that is taken and all that is
 -- given; and its count is that of the row before with what became ready.
 pub record IsOfEnd (yard : YardOf) (totals : Totals) (before row : YardRow) : Type 0 where
   pub time : row.time ≡ codes "end"
-  pub none : row.taken ≡ 0
-  pub taken : totals.taken ≡ all_taken yard.day yard.lists yard.station yard.unit_type
-  pub ready : totals.ready ≡ all_given yard.day yard.lists yard.station yard.unit_type
+  pub taken : row.taken ≡ 0
+  pub total_taken : totals.taken ≡ all_taken yard.day yard.lists yard.station yard.unit_type
+  pub total_ready : totals.ready ≡ all_given yard.day yard.lists yard.station yard.unit_type
   pub count : row.count ≡ before.count +ℤ pos row.ready
 
 -- one row for each of these departure minutes, and one for the end, behind a row up to which there are these totals
@@ -49,13 +50,13 @@ AddUpAfter yard (minute ∷ minutes) totals before (row ∷ rows) =
     IsOfMinute yard minute (with_row totals row) before row
     × AddUpAfter yard minutes (with_row totals row) row rows
 
--- one row for the start, and such rows behind it
+-- one row for the start, then one for each departure minute of the station, in their order, and one for the end
 abbrev pub AddUp : YardOf → List YardRow → Type 0
 AddUp yard [] = ⊥
 AddUp yard (start ∷ rows) =
     IsOfStart yard start
     × AddUpAfter yard (minutes_of yard.day yard.station) (record { taken = 0; ready = 0 }) start rows
 
--- all rows of every yard
-abbrev pub CountsFollow : Type 0
-CountsFollow = (yard : YardOf) → AddUp yard (yard_rows yard)
+-- the rows of every type at every station
+abbrev pub YardsAddUp : Type 0
+YardsAddUp = (yard : YardOf) → AddUp yard (yard_rows yard)

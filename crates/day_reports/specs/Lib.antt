@@ -6,7 +6,7 @@ pub mod Named
 pub mod DutyRows
 pub mod YardRows
 pub mod CostRows
--- that the columns of the report of yards add up
+-- that the rows of the report of yards add up
 pub mod Laws
 -- the inside of the report of yards
-pub mod YardsTold
+pub mod LoadedYards

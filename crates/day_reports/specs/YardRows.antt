@@ -15,7 +15,7 @@ use Rattle.day_reports.specs.Text.{rows_text}
 abbrev pub yard_header : List (List ℕ)
 yard_header = codes "station" ∷ codes "type" ∷ codes "time" ∷ codes "taken" ∷ codes "ready" ∷ codes "count" ∷ []
 
--- the yard of a type at a station of a day, whose trips have these lists of types
+-- the units of one type in the yard of a station, on a day whose trips have these lists of types
 pub record YardOf : Type 0 where
   pub day : Day
   pub lists : List (List ℕ)
@@ -34,12 +34,12 @@ takes_at yard minute t =
 unfoldable pub taken_at : YardOf → ℕ → ℕ
 taken_at yard minute = sum_below (takes_at yard minute) (length yard.day.trips)
 
--- later than a minute, or at any minute where none is told
+-- later than a minute, or at any minute where no minute is given
 abbrev pub is_later : Option ℕ → ℕ → Bool
 is_later None ready = true
 is_later (Some minute) ready = nat_lt minute ready
 
--- at a minute or earlier, or at any minute where none is told
+-- at a minute or earlier, or at any minute where no minute is given
 abbrev pub is_no_later : Option ℕ → ℕ → Bool
 is_no_later None ready = true
 is_no_later (Some minute) ready = nat_le ready minute
@@ -76,27 +76,27 @@ start_row yard = record {
 -- what is taken at a departure minute, what became ready since the minute of the row before, and how many stand there
 -- after the takes
 abbrev pub minute_row : YardOf → Option ℕ → ℕ → YardRow
-minute_row yard before minute = record {
+minute_row yard since minute = record {
   time = clock_text minute;
   taken = taken_at yard minute;
-  ready = ready_between yard before (Some minute);
+  ready = ready_between yard since (Some minute);
   count = count_at yard.day yard.lists yard.station yard.unit_type minute;
 }
 
 -- what becomes ready after the last departure minute, and how many stand there at the end
 abbrev pub end_row : YardOf → Option ℕ → YardRow
-end_row yard before = record {
+end_row yard since = record {
   time = codes "end";
   taken = 0;
-  ready = ready_between yard before None;
+  ready = ready_between yard since None;
   count = last_of yard.day yard.lists yard.station yard.unit_type;
 }
 
 -- the rows of departure minutes and of the end, behind a row of a minute, or behind the row of the start, which has
 -- none
 abbrev pub rows_after : YardOf → Option ℕ → List ℕ → List YardRow
-rows_after yard before [] = end_row yard before ∷ []
-rows_after yard before (minute ∷ minutes) = minute_row yard before minute ∷ rows_after yard (Some minute) minutes
+rows_after yard since [] = end_row yard since ∷ []
+rows_after yard since (minute ∷ minutes) = minute_row yard since minute ∷ rows_after yard (Some minute) minutes
 
 abbrev pub yard_rows : YardOf → List YardRow
 yard_rows yard = start_row yard ∷ rows_after yard None (minutes_of yard.day yard.station)
@@ -114,15 +114,15 @@ yard_fields yard row =
     ∷ signed_decimal row.count
     ∷ []
 
--- of all rows of a yard
-abbrev pub fields_of_rows : YardOf → List (List (List ℕ))
-fields_of_rows yard = map (yard_fields yard) (yard_rows yard)
+-- those of all rows of a type at a station
+abbrev pub fields_of_yard : YardOf → List (List (List ℕ))
+fields_of_yard yard = map (yard_fields yard) (yard_rows yard)
 
--- of all types at a station
-abbrev pub station_rows : Day → List (List ℕ) → ℕ → List (List (List ℕ))
-station_rows day lists s =
-    joined (λ m. fields_of_rows (record { day = day; lists = lists; station = s; unit_type = m })) (length day.types)
+-- those of all rows of a station, type by type
+abbrev pub fields_of_station : Day → List (List ℕ) → ℕ → List (List (List ℕ))
+fields_of_station day lists s =
+    joined (λ m. fields_of_yard (record { day = day; lists = lists; station = s; unit_type = m })) (length day.types)
 
--- of all stations, where the trips have these lists of types
+-- the header, and all rows, station by station, where the trips have these lists of types
 unfoldable pub yards_text : Day → List (List ℕ) → List ℕ
-yards_text day lists = rows_text (yard_header ∷ joined (station_rows day lists) (length day.stations))
+yards_text day lists = rows_text (yard_header ∷ joined (fields_of_station day lists) (length day.stations))

@@ -30,7 +30,7 @@ pub fn costs_table(alloc: Global, instance: &Instance, picks: &Picks) -> Result<
     report.text()
 }
 
-/// Adds the rows of the parts and of their sum.
+/// Adds the rows of the parts and of a total.
 fn push_parts(
     alloc: Global,
     report: &mut Report,

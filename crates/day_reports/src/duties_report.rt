@@ -19,8 +19,8 @@ use unit_duties::{Stop, duties};
 /// The report of the duties of a plan, as a table of comma-separated values with the columns
 /// `unit,type,home,trip,from,departure,to,arrival,position`. The rows of a unit are those of the trips of its duty, in
 /// the order in which they leave, and of one minute by trip number; where it has none, there is one row that tells its
-/// type and home alone. Units come by number. The position in the train is 0 at its front. The plan is one of this day,
-/// and need not run. The error is want of memory.
+/// type and home alone. Units come by number. The position in the train is 0 at its front; of a unit that a trip has
+/// twice it is that of the first. The plan is one of this day, and need not run. The error is want of memory.
 #[tactic(auto, unfolding(crate::specs::DutyRows::duties_text))]
 pub fn duties_table(
     alloc: Global,

@@ -29,7 +29,7 @@ pub(crate) struct Yard<'day, 'picks, 'ledger> {
 impl<'day, 'picks, 'ledger> Model for Yard<'day, 'picks, 'ledger> {
     ghost use Rattle.timetable.specs.Picks.{picked};
     ghost use Rattle.day_reports.specs.YardRows.{YardOf};
-    ghost use Rattle.day_reports.specs.YardsTold.{IsToldOf};
+    ghost use Rattle.day_reports.specs.LoadedYards.{IsLoadedYard};
 
     ghost Value = { YardOf };
 
@@ -40,7 +40,7 @@ impl<'day, 'picks, 'ledger> Model for Yard<'day, 'picks, 'ledger> {
       unit_type = a.unit_type;
     } };
 
-    ghost invariant = { λ a. IsToldOf a.instance.now a.picks.now a.ledger.now a.station a.unit_type };
+    ghost invariant = { λ a. IsLoadedYard a.instance.now a.picks.now a.ledger.now a.station a.unit_type };
 }
 
 /// The minutes after one minute, where one is told, and up to another, where one is told.
@@ -52,7 +52,7 @@ pub(crate) struct Span {
     pub(crate) by: Option<Minute>,
 }
 
-/// What a row of the report tells of a yard.
+/// The three numbers of a row of the report.
 #[derive(Clone, Copy)]
 pub(crate) struct RowCounts {
     /// Units that are taken.
@@ -60,7 +60,7 @@ pub(crate) struct RowCounts {
     /// Units that became ready.
     pub(crate) ready: u32,
     /// Units that stand there, below zero where more were taken than there were.
-    pub(crate) standing: i64,
+    pub(crate) count: i64,
 }
 
 /// How many times a type is in a list of at most six.

@@ -3,7 +3,7 @@
 ghost use Rattle.std.specs.Prelude.{◌≡◌, ◌<◌, ◌++◌, ◌∷◌, [], length, get_or, IfOk, OnOk};
 ghost use Rattle.timetable.specs.Minutes.{minutes_of};
 ghost use Rattle.timetable.specs.Picks.{ArePicks, picked};
-ghost use Rattle.day_reports.specs.YardRows.{end_row, fields_of_rows, minute_row, start_row, station_rows, yard_fields};
+ghost use Rattle.day_reports.specs.YardRows.{end_row, fields_of_yard, minute_row, start_row, fields_of_station, yard_fields};
 ghost use Rattle.day_reports.specs.YardRows.{yards_text};
 
 use crate::names::{station_name, type_name};
@@ -18,9 +18,10 @@ use timetable::{Instance, Picks};
 /// columns `station,type,time,taken,ready,count`. The rows of a station come type by type: `start` tells the units that
 /// are at home there, then comes each minute at which trips leave the station, and `end` tells the units that are there
 /// when the day is over. A minute's `taken` counts the units that trips take then, its `ready` those that become ready
-/// by then and after the minute of the row before, and its `count` those that are left there. The `ready` of `end`
-/// counts those that become ready after all these minutes. The row `start` stands before every minute, so that none
-/// that becomes ready is left out.
+/// by then and after the minute of the row before, or all that are ready by then where that row is `start`; and its
+/// `count` those that are left there. The `ready` of `end` counts those that become ready after all these minutes. In
+/// `start` nothing is taken or ready, and `end` takes none. Where the rule of a turn is broken, all units of its two
+/// trains count as given and taken.
 ///
 /// There is one pick for each trip, and each is the number of a composition of the catalogue. No count is below zero
 /// where they are those of a plan that runs. The error is want of memory.
@@ -59,7 +60,7 @@ fn push_station<'day, 'picks, 'ledger>(
     requires counts { ledger.now ≡ record { day = instance.now; lists = picked instance.now picks.now } }
     requires station { station < length instance.now.stations }
     ensures { OnOk result (report.new ≡ report.old ++
-        station_rows instance.now (picked instance.now picks.now) station) }
+        fields_of_station instance.now (picked instance.now picks.now) station) }
 {
     for number in 0..instance.types().len() {
         let yard = Yard {
@@ -76,16 +77,16 @@ fn push_station<'day, 'picks, 'ledger>(
 
 /// Adds the rows of a type at a station.
 fn push_yard(alloc: Global, report: &mut Report, yard: &Yard<'_, '_, '_>) -> Result<(), NoMemory>
-    ensures { OnOk result (report.new ≡ report.old ++ fields_of_rows yard.now) }
+    ensures { OnOk result (report.new ≡ report.old ++ fields_of_yard yard.now) }
 {
     push_start(alloc, report, yard)?;
-    let mut before = None;
+    let mut since = None;
     let minutes = yard.instance.minutes(yard.station);
     for place in 0..minutes.len() {
-        push_minute(alloc, report, yard, before, place as u32)?;
-        before = Some(minutes[place]);
+        push_minute(alloc, report, yard, since, place as u32)?;
+        since = Some(minutes[place]);
     }
-    push_end(alloc, report, yard, before)
+    push_end(alloc, report, yard, since)
 }
 
 /// Adds the row of the start.
@@ -96,7 +97,7 @@ fn push_start(alloc: Global, report: &mut Report, yard: &Yard<'_, '_, '_>) -> Re
     let counts = RowCounts {
         taken: 0,
         ready: 0,
-        standing: i64::from(start),
+        count: i64::from(start),
     };
     push_row(alloc, report, yard, b"start", counts)
 }
@@ -106,24 +107,24 @@ fn push_minute(
     alloc: Global,
     report: &mut Report,
     yard: &Yard<'_, '_, '_>,
-    before: Option<Minute>,
+    since: Option<Minute>,
     place: u32,
 ) -> Result<(), NoMemory>
     requires { place < length (minutes_of yard.now.day yard.now.station) }
     ensures { OnOk result (report.new ≡ report.old ++
-        yard_fields yard.now (minute_row yard.now before (get_or (minutes_of yard.now.day yard.now.station) place 0))
+        yard_fields yard.now (minute_row yard.now since (get_or (minutes_of yard.now.day yard.now.station) place 0))
         ∷ []) }
 {
     let minute = yard.instance.minutes(yard.station)[place as usize];
-    let standing = yard.ledger.count_after(yard.station, yard.unit_type, place);
+    let count = yard.ledger.count_after(yard.station, yard.unit_type, place);
     let span = Span {
-        after: before,
+        after: since,
         by: Some(minute),
     };
     let counts = RowCounts {
         taken: yard.taken_at(minute),
         ready: yard.ready_between(&span),
-        standing,
+        count,
     };
     push_row(alloc, report, yard, &clock(minute), counts)
 }
@@ -133,18 +134,18 @@ fn push_end(
     alloc: Global,
     report: &mut Report,
     yard: &Yard<'_, '_, '_>,
-    before: Option<Minute>,
+    since: Option<Minute>,
 ) -> Result<(), NoMemory>
-    ensures { OnOk result (report.new ≡ report.old ++ yard_fields yard.now (end_row yard.now before) ∷ []) }
+    ensures { OnOk result (report.new ≡ report.old ++ yard_fields yard.now (end_row yard.now since) ∷ []) }
 {
     let span = Span {
-        after: before,
+        after: since,
         by: None,
     };
     let counts = RowCounts {
         taken: 0,
         ready: yard.ready_between(&span),
-        standing: yard.ledger.end(yard.station, yard.unit_type),
+        count: yard.ledger.end(yard.station, yard.unit_type),
     };
     push_row(alloc, report, yard, b"end", counts)
 }
@@ -162,18 +163,18 @@ fn push_row(
           time = time.now;
           taken = counts.taken;
           ready = counts.ready;
-          count = counts.standing;
+          count = counts.count;
         }) ∷ []) }
 {
     let taken = digits_of(alloc, counts.taken)?;
     let ready = digits_of(alloc, counts.ready)?;
-    let standing = format!(in alloc; "{}", counts.standing)?;
+    let count = format!(in alloc; "{}", counts.count)?;
     report.push(&[
         station_name(yard.instance, yard.station),
         type_name(yard.instance, yard.unit_type),
         time,
         taken.as_bytes(),
         ready.as_bytes(),
-        standing.as_bytes(),
+        count.as_bytes(),
     ])
 }
