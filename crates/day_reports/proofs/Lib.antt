@@ -1,3 +1,4 @@
 pub mod Stopping
 pub mod Filling
 pub mod Adding
+pub mod ReadTimes

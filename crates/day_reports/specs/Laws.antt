@@ -1,11 +1,15 @@
 -- The rows of the report of yards: what is taken and what became ready adds up, row by row, to what was taken and given,
--- and each count follows from that of the row before.
-use Rattle.std.specs.Prelude.{ℕ, ◌+◌, ◌≡◌, List, [], ◌∷◌, codes, pos, ◌+ℤ◌}
+-- and each count follows from that of the row before. And the times that reports print.
+use Rattle.std.specs.Prelude.{ℕ, ◌+◌, ◌≡◌, ◌<◌, List, [], ◌∷◌, true, codes, pos, ◌+ℤ◌}
 use Rattle.rail_base.specs.Times.{clock_text}
+use Rattle.rail_base.specs.declared.limits.TheConstants.{MOST_MINUTES}
+use Rattle.rail_csv.specs.Fields.{is_time, time_of}
 use Rattle.timetable.specs.Minutes.{minutes_of}
 use Rattle.timetable.specs.Starts.{start_of}
 use Rattle.inventory.specs.Counts.{taken_until, ready_until, all_taken, all_given}
 use Rattle.day_reports.specs.YardRows.{YardOf, YardRow, yard_rows}
+
+-- ---- the rows of yards
 
 -- how many units are taken, and how many become ready, in the rows up to some row, that row among them
 pub record Totals : Type 0 where
@@ -60,3 +64,13 @@ AddUp yard (start ∷ rows) =
 -- the rows of every type at every station
 abbrev pub YardsAddUp : Type 0
 YardsAddUp = (yard : YardOf) → AddUp yard (yard_rows yard)
+
+-- ---- times
+
+-- The text of a minute is that of a time which a table may have, and is read as the same minute.
+pub record IsReadAgain (minute : ℕ) : Type 0 where
+  pub accepted : is_time (clock_text minute) ≡ true
+  pub same : time_of (clock_text minute) ≡ minute
+
+abbrev pub TimesAreReadAgain : Type 0
+TimesAreReadAgain = (minute : ℕ) → minute < MOST_MINUTES → IsReadAgain minute

@@ -6,7 +6,7 @@ pub mod Named
 pub mod DutyRows
 pub mod YardRows
 pub mod CostRows
--- that the rows of the report of yards add up
+-- that the rows of the report of yards add up, and that times are read again
 pub mod Laws
 -- the inside of the report of yards
 pub mod LoadedYards
