@@ -35,10 +35,24 @@ const READY_AT_DEPARTURE: Texts<'static> = Texts {
     ..ONE_LEFT
 };
 
+/// A unit at home at X goes to Y, and comes back after midnight with one that is at home at Y.
+const AFTER_MIDNIGHT: Texts<'static> = Texts {
+    stock: b"station,type,start,end\nX,A,1,2\nY,A,1,0\n",
+    trips: b"trip,from,departure,to,arrival,km,demand\n\
+        T1,X,08:00,Y,09:00,10,150\nT2,Y,24:10,X,25:10,10,150\n",
+    ..READY_AT_DEPARTURE
+};
+
 const ONE_LEFT_DUTIES: &[u8] = b"unit,type,home,trip,from,departure,to,arrival,position\n\
     0,A,X,T1,X,08:00,Y,09:00,0\n\
     1,A,X,T1,X,08:00,Y,09:00,1\n\
     1,A,X,T2,Y,09:10,X,10:10,0\n";
+
+/// Of the unit that T2 has twice the first place is told.
+const AFTER_MIDNIGHT_DUTIES: &[u8] = b"unit,type,home,trip,from,departure,to,arrival,position\n\
+    0,A,X,T1,X,08:00,Y,09:00,0\n\
+    0,A,X,T2,Y,24:10,X,25:10,1\n\
+    1,A,Y,T2,Y,24:10,X,25:10,0\n";
 
 const ONE_LEFT_YARDS: &[u8] = b"station,type,time,taken,ready,count\n\
     X,A,start,0,0,2\n\
@@ -55,6 +69,15 @@ const READY_AT_DEPARTURE_YARDS: &[u8] = b"station,type,time,taken,ready,count\n\
     Y,A,start,0,0,0\n\
     Y,A,09:30,1,1,0\n\
     Y,A,end,0,0,0\n";
+
+/// T1 takes one unit more than there is.
+const ONE_SHORT_YARDS: &[u8] = b"station,type,time,taken,ready,count\n\
+    X,A,start,0,0,1\n\
+    X,A,08:00,2,0,-1\n\
+    X,A,end,0,1,0\n\
+    Y,A,start,0,0,0\n\
+    Y,A,09:30,1,2,1\n\
+    Y,A,end,0,0,1\n";
 
 const ONE_LEFT_COSTS: &[u8] = b"part,amount\ncarriage,90\nshortage,0\nshunting,100\ntotal,190\n";
 
@@ -97,6 +120,11 @@ const DUTIES: &[(Texts<'static>, &[u8], &[u8])] = &[
         b"trip,units\n101,0 1\n102,0\n103,0\n104,0 1\n",
         FOUR_TRIPS_DUTIES,
     ),
+    (
+        AFTER_MIDNIGHT,
+        b"trip,units\nT1,0\nT2,1 0 1\n",
+        AFTER_MIDNIGHT_DUTIES,
+    ),
 ];
 
 /// Days, the compositions that are picked for their trips, and the tables of the yards.
@@ -104,6 +132,7 @@ const YARDS: &[(Texts<'static>, &[u32], &[u8])] = &[
     (ONE_LEFT, &[1, 0], ONE_LEFT_YARDS),
     (FOUR_TRIPS, &[2, 0, 0, 2], FOUR_TRIPS_YARDS),
     (READY_AT_DEPARTURE, &[0, 0], READY_AT_DEPARTURE_YARDS),
+    (READY_AT_DEPARTURE, &[1, 0], ONE_SHORT_YARDS),
 ];
 
 /// Days, the compositions that are picked for their trips, and the tables of what these cost.
