@@ -21,16 +21,17 @@ fn expect_check(
     expect_answered(rt, alloc, "check", day, answer, status, line)
 }
 
-/// Asserts the status and the line for an answer to the day on which one unit stays, by what follows the title line.
-fn expect_there(
+/// Asserts the status and the line for an answer to a day, by what follows its title line.
+fn expect_rest(
     rt: &impl Abort,
     alloc: Global,
+    day: &Day,
     rest: &str,
     status: u8,
     line: &str,
 ) -> Result<(), NoMemory> {
     let answer = format!(in alloc; "railplan answer 1\n{rest}")?;
-    expect_check(rt, alloc, &one_stays(), answer.as_str(), status, line)
+    expect_check(rt, alloc, day, answer.as_str(), status, line)
 }
 
 /// Asserts the status for answers to the day on which one unit stays, by what follows their title lines; each has its
@@ -42,7 +43,7 @@ fn expect_each(
     status: u8,
 ) -> Result<(), NoMemory> {
     for (rest, line) in cases {
-        expect_there(rt, alloc, rest, status, line)?;
+        expect_rest(rt, alloc, &one_stays(), rest, status, line)?;
     }
     Ok(())
 }
@@ -95,18 +96,6 @@ fn answers_that_say_that_no_plan_runs(rt: HostRuntime) -> Result<(), Fail> {
     Ok(())
 }
 
-/// Asserts the status and the line for an answer to the day of the ring, by what follows the title line.
-fn expect_on_ring(
-    rt: &impl Abort,
-    alloc: Global,
-    rest: &str,
-    status: u8,
-    line: &str,
-) -> Result<(), NoMemory> {
-    let answer = format!(in alloc; "railplan answer 1\n{rest}")?;
-    expect_check(rt, alloc, &ring(), answer.as_str(), status, line)
-}
-
 #[test]
 fn answers_to_a_day_of_joins_and_splits(rt: HostRuntime) -> Result<(), Fail> {
     let cases = &[
@@ -140,7 +129,7 @@ fn answers_to_a_day_of_joins_and_splits(rt: HostRuntime) -> Result<(), Fail> {
         ),
     ];
     for &(rest, status, line) in cases {
-        expect_on_ring(&rt, rt.alloc(), rest, status, line)?;
+        expect_rest(&rt, rt.alloc(), &ring(), rest, status, line)?;
     }
     Ok(())
 }
@@ -243,7 +232,7 @@ fn expect_alike(
     line: &str,
 ) -> Result<(), NoMemory> {
     let rest = cut_alike(alloc, branchings, 4000, leaves)?;
-    expect_there(rt, alloc, rest.as_str(), status, line)
+    expect_rest(rt, alloc, &one_stays(), rest.as_str(), status, line)
 }
 
 #[test]
