@@ -205,6 +205,29 @@ const RAY: &[Call] = &[Call {
     ..NO_PROPOSALS
 }];
 
+/// Proposes a cut at the root and a multiplier at its left side, and then nothing.
+const LEFT_RAISED: &[Call] = &[
+    Call {
+        cut: CutNumbers::Only(0, 1),
+        ..NO_PROPOSALS
+    },
+    Call {
+        puts: &[(3, 1)],
+        ..NO_PROPOSALS
+    },
+    NO_PROPOSALS,
+];
+
+/// Proposes a multiplier and a cut at the root, and then nothing.
+const FIRST_AT_100: &[Call] = &[
+    Call {
+        puts: &[(3, 100)],
+        cut: CutNumbers::Only(0, 0),
+        ..NO_PROPOSALS
+    },
+    NO_PROPOSALS,
+];
+
 /// Proposes a multiplier at its first call and has enough of that node, and proposes no more.
 const ONCE: &[Call] = &[
     Call {
@@ -475,6 +498,24 @@ const ADVISED_ELSEWHERE: &[Search] = &[
         rounds: 1,
         scripts: &[SIDES],
         told: "bounded 150; only 0 0; cost 150; cost 150; asked 3",
+    },
+    // Each side inherits what the root keeps, which is nothing.
+    Search {
+        about: "the right side doesn't inherit from the left one",
+        texts: LEVEL,
+        grant: 1,
+        rounds: 1,
+        scripts: &[LEFT_RAISED],
+        told: "bounded 90; only 0 1; cost 121 3:1; cost 90; asked 3",
+    },
+    // Under 3:100 the least value of the left side is that of (A, A), and 2:-1 is worth one unit of T2 there.
+    Search {
+        about: "the ray of an inherited evaluation closes a node",
+        texts: LEVEL,
+        grant: 1,
+        rounds: 1,
+        scripts: &[FIRST_AT_100],
+        told: "bounded 120; only 0 0; ray 2:-1; cost 120; asked 2",
     },
     // T1 with A alone can't be split.
     Search {

@@ -9,6 +9,9 @@ const TYPES: &str = "type,carriages,seats,metres,family,first\nA,3,200,80,region
 const TRIPS: &str =
     "trip,from,departure,to,arrival,km,demand,first\nT1,X,08:00,Y,09:00,10,300,90\nT2,Y,09:10,X,10:10,10,150,10\n";
 
+/// Weights of which no two are the same.
+const OTHER_WEIGHTS: &str = "carriage,shortage,shunting\n2,3,100\n";
+
 /// The day of a turn with two classes, which takes 90 and 10 passengers in first class.
 fn two_classes() -> Day<'static> {
     base_day().with_types(TYPES).with_trips(TRIPS)
@@ -31,8 +34,13 @@ fn each_class_has_its_own_shortage(rt: HostRuntime) -> Result<(), Fail> {
         types: base_day().types,
         ..two_classes()
     };
+    let weighed = Day {
+        weights: Some(OTHER_WEIGHTS),
+        ..two_classes()
+    };
     let cases = [
         (two_classes(), "runs 220\n"),
+        (weighed, "runs 540\n"),
         (one_back, "runs 290\n"),
         (types_alone, "runs 120\n"),
         (trips_alone, "runs 1120\n"),
@@ -52,6 +60,14 @@ fn costs_tell_the_shortages_of_both_classes(rt: HostRuntime) -> Result<(), Fail>
         "railplan answer 1\noptimal 220\nbranchings 0\nrun 0 0 1\nrun 1 1 0\ntree\ncost 220 0\nend\n";
     let costs = "part,amount\ncarriage,120\nshortage,100\nshunting,0\ntotal,220\n";
     expect_answered(&rt, rt.alloc(), "costs", &two_classes(), answer, 0, costs)?;
+    let weighed = Day {
+        weights: Some(OTHER_WEIGHTS),
+        ..two_classes()
+    };
+    let answer =
+        "railplan answer 1\noptimal 540\nbranchings 0\nrun 0 0 1\nrun 1 1 0\ntree\ncost 540 0\nend\n";
+    let costs = "part,amount\ncarriage,240\nshortage,300\nshunting,0\ntotal,540\n";
+    expect_answered(&rt, rt.alloc(), "costs", &weighed, answer, 0, costs)?;
     Ok(())
 }
 

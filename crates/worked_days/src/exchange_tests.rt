@@ -51,6 +51,35 @@ fn a_turn_exchanges_units(rt: HostRuntime) -> Result<(), Fail> {
     Ok(())
 }
 
+/// The day of such a turn between platforms for four units, with this stock and plan.
+fn at_long_platforms(stock: &'static str, plan: &'static str) -> Day<'static> {
+    Day {
+        stations: Some("station,platform,reallocation\nX,320,30\nY,320,30\n"),
+        stock: Some(stock),
+        trips: Some(
+            "trip,from,departure,to,arrival,km,demand\nT1,X,08:00,Y,09:00,10,150\nT2,Y,09:10,X,10:10,10,150\n",
+        ),
+        plan: Some(plan),
+        ..exchange_at_the_rear()
+    }
+}
+
+#[test]
+fn three_units_are_coupled_only_alone(rt: HostRuntime) -> Result<(), Fail> {
+    let alone = at_long_platforms(
+        "station,type,start,end\nX,A,1,4\nY,A,3,0\n",
+        "trip,units\nT1,0\nT2,0 1 2 3\n",
+    );
+    expect_document(&rt, rt.alloc(), &alone, 0, "runs 250\n")?;
+    let beside_another = at_long_platforms(
+        "station,type,start,end\nX,A,1,0\nX,B,1,4\nY,A,0,1\nY,B,3,0\n",
+        "trip,units\nT1,0 1\nT2,1 2 3 4\n",
+    );
+    let stops = "stops: link 0 is broken\n";
+    expect_document(&rt, rt.alloc(), &beside_another, 1, stops)?;
+    Ok(())
+}
+
 #[test]
 fn a_unit_is_given_and_taken_again(rt: HostRuntime) -> Result<(), Fail> {
     let alloc = rt.alloc();

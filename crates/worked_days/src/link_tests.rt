@@ -3,11 +3,28 @@
 use crate::day::{
     Day, base_day, expect_document, northport, ready_at_once, ring, two_trips, two_types,
 };
+use rail_base::NoMemory;
+use std::alloc::Global;
+use std::process::Abort;
 use std::test::Fail;
 
 /// The base day with another plan.
 fn with_plan(plan: &str) -> Day {
     base_day().with_plan(plan)
+}
+
+/// Asserts where a day stops that has one trip more.
+fn expect_stop(
+    rt: &impl Abort,
+    alloc: Global,
+    day: &Day,
+    trip: &str,
+    plan: &str,
+    stops: &str,
+) -> Result<(), NoMemory> {
+    let trips = format!(in alloc; "{}{trip}\n", day.trips.unwrap_or(""))?;
+    let longer = day.with_trips(trips.as_str()).with_plan(plan);
+    expect_document(rt, alloc, &longer, 1, stops)
 }
 
 #[test]
@@ -57,6 +74,43 @@ fn trains_are_split_and_joined(rt: HostRuntime) -> Result<(), Fail> {
     expect_document(&rt, alloc, &ring(), 0, "runs 1270\n")?;
     let other_order = ring().with_plan("trip,units\nT1,0 1 2\nT2,0 1\nT3,2\nT4,0 1 2\n");
     expect_document(&rt, alloc, &other_order, 1, "stops: link 1 is broken\n")?;
+    // No part of a split is empty.
+    let first_alone = ring().with_plan("trip,units\nT1,0 1 2\nT2,0 1 2\nT3,\nT4,0 1 2\n");
+    expect_document(&rt, alloc, &first_alone, 1, "stops: link 0 is broken\n")?;
+    let second_alone = ring().with_plan("trip,units\nT1,0 1 2\nT2,\nT3,0 1 2\nT4,0 1 2\n");
+    expect_document(&rt, alloc, &second_alone, 1, "stops: link 0 is broken\n")?;
+    // A train that is too long is told before the link into it.
+    let long = ring().with_plan("trip,units\nT1,0 1 2\nT2,0 1\nT3,2\nT4,0 1 2 0\n");
+    let stops = "stops: trip 3 has no admissible composition\n";
+    expect_document(&rt, alloc, &long, 1, stops)?;
+    Ok(())
+}
+
+#[test]
+fn turns_and_splits_are_tested_at_the_arrival(rt: HostRuntime) -> Result<(), Fail> {
+    let alloc = rt.alloc();
+    let trip = "T3,X,09:05,Y,10:05,10,0";
+    let plan = "trip,units\nT1,0 1\nT2,0 1\nT3,\n";
+    expect_stop(
+        &rt,
+        alloc,
+        &base_day(),
+        trip,
+        plan,
+        "stops: link 0 is broken\n",
+    )?;
+    let trip = "T5,X,09:05,Y,10:05,10,0";
+    let plan = "trip,units\nT1,0 1 2\nT2,0 2\nT3,1\nT4,1 0 2\nT5,\n";
+    expect_stop(&rt, alloc, &ring(), trip, plan, "stops: link 0 is broken\n")?;
+    Ok(())
+}
+
+#[test]
+fn joins_are_tested_at_the_departure(rt: HostRuntime) -> Result<(), Fail> {
+    let trip = "T5,X,10:20,Y,11:20,10,0";
+    let plan = "trip,units\nT1,0 1 2\nT2,0 1\nT3,2\nT4,0 1 2\nT5,\n";
+    let stops = "stops: trip 4 has no units\n";
+    expect_stop(&rt, rt.alloc(), &ring(), trip, plan, stops)?;
     Ok(())
 }
 

@@ -92,12 +92,18 @@ fn plans_that_are_optimal(rt: HostRuntime) -> Result<(), Fail> {
     let usual = &["railplan", "plan", "day"];
     let both_return = "optimal 120\nbranchings 0\nrun 0 0 1\nrun 1 1 0\ntree\ncost 120 0\nend\n";
     let one_unit = "optimal 60\nbranchings 0\nrun 0 0\nrun 1 0\ntree\ncost 60 0\nend\n";
+    let longest_ready = "optimal 60\nbranchings 0\nrun 0 0\nrun 1 1\ntree\ncost 60 0\nend\n";
     let waiting =
         "optimal 13360\nbranchings 0\nrun 0 0 1\nrun 1 0\nrun 2 0\nrun 3 0 1\ntree\ncost 13360 0\nend\n";
     let cases = [
         (base_day(), both_return),
         (two_trips(), one_unit),
         (ready_at_once(), one_unit),
+        // The unit that stands at Y is ready before the one that arrives there.
+        (
+            two_trips().with_stock("station,type,start,end\nX,A,1,1\nY,A,1,1\n"),
+            longest_ready,
+        ),
         (northport(), waiting),
     ];
     for (day, rest) in &cases {
@@ -137,6 +143,16 @@ fn branchings_and_rounds_are_granted(rt: HostRuntime) -> Result<(), Fail> {
         4,
         plan_and_bound,
     )?;
+    // After the multipliers of the first round the cut of T1 to A is proposed, and none in the second round.
+    let apart = two_trips()
+        .with_stations("station,platform,reallocation\nX,240,30\nY,240,30\n")
+        .with_stock("station,type,start,end\nX,A,2,1\nY,A,0,1\n")
+        .with_trips(
+            "trip,from,departure,to,arrival,km,demand\nT1,X,08:00,Y,09:00,10,150\nT2,Y,09:40,X,10:40,10,150\n",
+        );
+    let advised =
+        "optimal 90\nbranchings 1\nrun 0 0 1\nrun 1 0\ntree\nonly 0 0\nray 1 2:-1\ncost 90 0\nend\n";
+    expect_answer(&rt, alloc, &apart, &granted("1", "2"), 0, advised)?;
     Ok(())
 }
 

@@ -170,6 +170,39 @@ fn day_of_wrong_rows() -> Day<'static> {
     }
 }
 
+/// A table, a line of it that may stand once, how many rows the table may have, and what is refused of so many.
+const MOST_ROWS: &[(File, &str, usize, &str)] = &[
+    (TYPES, "A,3,200,80,r", 6, "row 2: repeated name"),
+    (STATIONS, "X,200,30", 60, "row 2: repeated name"),
+    (STOCK, "X,A,0,0", 360, "row 2: repeated station and type"),
+    (
+        TRIPS,
+        "T1,X,08:00,Y,09:00,10,150",
+        400,
+        "row 2: repeated name",
+    ),
+    (
+        LINKS,
+        "turn,T1,,T2,,no,none,none",
+        400,
+        "row 2: trip used twice",
+    ),
+    (PLAN, "T1,0", 400, "row 2: wrong trip"),
+];
+
+#[test]
+fn a_table_has_so_many_rows(rt: HostRuntime) -> Result<(), Fail> {
+    for &(file, line, most, text) in MOST_ROWS {
+        let row = format!(in rt.alloc(); "{line}\n")?;
+        let rows = row.as_str().repeat(rt.alloc(), most)?;
+        let full = format!(in rt.alloc(); " => {text}")?;
+        let one_more = format!(in rt.alloc(); "{line} => too many rows")?;
+        let cases = &[full.as_str(), one_more.as_str()];
+        expect_rows_refused(&rt, rt.alloc(), file, rows.as_str(), "", cases)?;
+    }
+    Ok(())
+}
+
 #[test]
 fn a_header_has_its_words_in_order(rt: HostRuntime) -> Result<(), Fail> {
     for table in &[
@@ -289,6 +322,16 @@ fn wrong_trips_are_refused(rt: HostRuntime) -> Result<(), Fail> {
         "",
         second,
     )?;
+    // No composition fits the platforms, which is tested after the times.
+    let short = two_trips()
+        .with_stations("station,platform,reallocation\nX,79,30\nY,79,30\n")
+        .with_trips("trip,from,departure,to,arrival,km,demand\nT1,X,09:00,Y,09:00,10,300\n");
+    expect_refused(
+        &rt,
+        rt.alloc(),
+        &short,
+        "trips.csv: row 1: arrival is not after departure",
+    )?;
     Ok(())
 }
 
@@ -384,6 +427,7 @@ fn a_plan_has_the_row_of_each_trip(rt: HostRuntime) -> Result<(), Fail> {
         "T2,1\nT2,0 => row 1: wrong trip",
         "T1,0 1\nT1,0 => row 1: unknown unit",
         "T1,1999 => row 1: unknown unit",
+        "T1,0 1 2 3 4 5 => row 1: unknown unit",
         " => trip missing after row 0",
     ];
     expect_rows_refused(&rt, rt.alloc(), PLAN, "", "", rows)?;
@@ -440,6 +484,7 @@ fn names_have_1_to_64_bytes(rt: HostRuntime) -> Result<(), Fail> {
         "X  => row 1, column station: not a name",
         "\" X\" => row 1, column station: not a name",
         "X\t0 => row 1, column station: not a name",
+        "X\u{1f}0 => row 1, column station: not a name",
         "\"X\n0\" => row 1, column station: not a name",
         "X\u{7f} => row 1, column station: not a name",
     ];
@@ -463,6 +508,8 @@ fn numbers_have_1_to_9_digits(rt: HostRuntime) -> Result<(), Fail> {
         "10  => row 1, column km: not a number",
         "10.0 => row 1, column km: not a number",
         "1e1 => row 1, column km: not a number",
+        "1/0 => row 1, column km: not a number",
+        "1:0 => row 1, column km: not a number",
         "\u{661}\u{660} => row 1, column km: not a number",
         "000000000 => row 1, column km: out of range",
         "999999999 => row 1, column km: out of range",

@@ -56,6 +56,14 @@ fn valid_answers_are_reported(rt: HostRuntime) -> Result<(), Fail> {
         1,
         "invalid: node 0 says 191, found 190\n",
     )?;
+    expect_report(
+        &rt,
+        alloc,
+        "costs",
+        "railplan answer 1\nbounded 121\nbranchings 0\ntree\ncost 121 0\nend\n",
+        1,
+        "invalid: node 0 says 121, found 120\n",
+    )?;
     let endless = "railplan answer 1\n";
     expect_report(
         &rt,
@@ -68,12 +76,34 @@ fn valid_answers_are_reported(rt: HostRuntime) -> Result<(), Fail> {
     Ok(())
 }
 
-/// Asserts what comes of a trial day of two trips.
-fn expect_short_trial(rt: &impl Abort, alloc: Global) -> Result<(), NoMemory> {
-    let mut folder = folder_of(rt, alloc, &two_trips(), Vec::new(alloc))?;
-    let words = &["railplan", "trial", "07", "2", "--nodes", "224"];
-    let document = "trial 7 2\noptimal 640\n";
-    expect_ample(rt, alloc, words, &mut folder, 0, document)
+/// Words that plan a trial day of two trips, the status, and what is written: the second line of the answer, or all of
+/// it where it says that the search was bounded.
+const SHORT_TRIALS: &[(&[&str], u8, &str)] = &[
+    (
+        &["railplan", "trial", "07", "2", "--nodes", "224"],
+        0,
+        "trial 7 2\noptimal 640\n",
+    ),
+    (
+        &["railplan", "trial", "7", "2", "--nodes=0", "--rounds=0"],
+        4,
+        "trial 7 2\nrailplan answer 1\nbounded 580\nbranchings 0\ntree\ncost 580 0\nend\n",
+    ),
+    (
+        &["railplan", "trial", "7", "2", "--nodes=2", "--rounds=0"],
+        4,
+        "trial 7 2\nrailplan answer 1\nbounded 580 plan 640\nbranchings 2\nrun 0 0 1 2\nrun 1 2 1 0\ntree\n\
+            only 0 7\nonly 1 4\nray 1 4:1\ncost 640 0\ncost 580 0\nend\n",
+    ),
+];
+
+/// Asserts what comes of trial days of two trips.
+fn expect_short_trials(rt: &impl Abort, alloc: Global) -> Result<(), NoMemory> {
+    for &(words, status, document) in SHORT_TRIALS {
+        let mut folder = folder_of(rt, alloc, &two_trips(), Vec::new(alloc))?;
+        expect_ample(rt, alloc, words, &mut folder, status, document)?;
+    }
+    Ok(())
 }
 
 /// The status of a trial day of forty trips, whose document goes to a sink.
@@ -97,7 +127,7 @@ fn expect_long_trial(rt: &impl Abort, alloc: Global) -> Result<(), NoMemory> {
 
 #[test]
 fn trial_days_are_planned(rt: HostRuntime) -> Result<(), Fail> {
-    expect_short_trial(&rt, rt.alloc())?;
+    expect_short_trials(&rt, rt.alloc())?;
     expect_long_trial(&rt, rt.alloc())?;
     Ok(())
 }

@@ -2,7 +2,7 @@
 
 use crate::day::{
     Day, bytewise_sink, expect_ample, expect_document, expect_run, expect_simulated, folder_of,
-    two_trips,
+    two_trips, two_types,
 };
 use rail_base::NoMemory;
 use rail_io::MemorySink;
@@ -29,6 +29,12 @@ fn a_unit_that_is_ready_in_time_runs(rt: HostRuntime) -> Result<(), Fail> {
     );
     let stops = "stops: unit 0 is not ready for trip 1\n";
     expect_document(&rt, alloc, &day, 1, stops)?;
+    // Of two that are not ready the one in front is told.
+    let both = day
+        .with_stock("station,type,start,end\nX,A,2,2\n")
+        .with_plan("trip,units\nT1,0 1\nT2,1 0\n");
+    let stops = "stops: unit 1 is not ready for trip 1\n";
+    expect_document(&rt, alloc, &both, 1, stops)?;
     Ok(())
 }
 
@@ -46,6 +52,14 @@ fn a_trip_has_units_and_each_once(rt: HostRuntime) -> Result<(), Fail> {
     let long = both.with_stations("station,platform,reallocation\nX,159,30\nY,200,30\n");
     let stops = "stops: trip 0 has no admissible composition\n";
     expect_document(&rt, alloc, &long, 1, stops)?;
+    let long_and_twice = long.with_plan("trip,units\nT1,1 1\nT2,1\n");
+    expect_document(&rt, alloc, &long_and_twice, 1, stops)?;
+    let two_families = two_trips()
+        .with_types("type,carriages,seats,metres,family\nA,3,200,80,regional\nB,2,100,60,diesel\n")
+        .with_stations("station,platform,reallocation\nX,240,30\nY,240,30\n")
+        .with_stock("station,type,start,end\nX,A,2,2\nX,B,1,1\n")
+        .with_plan("trip,units\nT1,0 2 1\nT2,0 2 1\n");
+    expect_document(&rt, alloc, &two_families, 1, stops)?;
     Ok(())
 }
 
@@ -55,6 +69,21 @@ fn stations_end_at_their_balance(rt: HostRuntime) -> Result<(), Fail> {
     let day = two_trips().with_stock("station,type,start,end\nX,A,1,0\nY,A,0,1\n");
     let stops = "stops: station 0 has 1 units of type 0, 0 wanted\n";
     expect_document(&rt, alloc, &day, 1, stops)?;
+    let day = two_types().with_stock("station,type,start,end\nX,A,1,0\nX,B,2,3\nY,A,0,1\n");
+    let stops = "stops: station 0 has 2 units of type 1, 3 wanted\n";
+    expect_document(&rt, alloc, &day, 1, stops)?;
+    // The first station comes before the first type.
+    let no_trips = Day {
+        types: Some(
+            "type,carriages,seats,metres,family\nA,3,200,80,r\nB,3,200,80,r\nC,3,200,80,r\n",
+        ),
+        stations: Some("station,platform,reallocation\nX,200,30\nY,200,30\nZ,200,30\n"),
+        stock: Some("station,type,start,end\nY,C,4,3\nZ,A,1,0\n"),
+        plan: Some("trip,units\n"),
+        ..with_trips("trip,from,departure,to,arrival,km,demand\n")
+    };
+    let stops = "stops: station 1 has 4 units of type 2, 3 wanted\n";
+    expect_document(&rt, alloc, &no_trips, 1, stops)?;
     Ok(())
 }
 
@@ -214,6 +243,14 @@ const OTHER_WORDS: &[&[&str]] = &[
     &["railplan", "plan", "day", "--nodes"],
     &["railplan", "plan", "day", "--nodes="],
     &["railplan", "plan", "day", "--nodes", "4001"],
+    &["railplan", "plan", "day", "--rounds", "101"],
+    &["railplan", "plan", "day", "--nodes=1", "--nodes=1"],
+    &["railplan", "simulate", "day", "--nodes=1"],
+    &["railplan", "check", "day", "--rounds=1"],
+    &["railplan", "trial", "7", "3"],
+    &["railplan", "trial", "7", "0"],
+    &["railplan", "trial", "7", "402"],
+    &["railplan", "trial", "4294967296", "2"],
     &["railplan", "--help"],
 ];
 
