@@ -145,100 +145,104 @@ fn answers_to_a_day_of_joins_and_splits(rt: HostRuntime) -> Result<(), Fail> {
     Ok(())
 }
 
+/// Answers whose plan is wrong, without their title, and the line for each.
+const WRONG_PLANS: &[(&str, &str)] = &[
+    (
+        "optimal 190\nbranchings 0\nrun 0 0 1\ntree\ncost 190 1 3:70\nend\n",
+        "invalid: 1 runs for 2 trips\n",
+    ),
+    (
+        "optimal 190\nbranchings 0\nrun 0 0 1\nrun 1 1\nrun 2\ntree\ncost 190 1 3:70\nend\n",
+        "invalid: 3 runs for 2 trips\n",
+    ),
+    (
+        "optimal 190\nbranchings 0\nrun 0 0 1\nrun 1 2\ntree\ncost 190 1 3:70\nend\n",
+        "invalid: run 1 names an unknown unit\n",
+    ),
+    // The number of runs comes before their units, the first of these before others, and the plan before the tree.
+    (
+        "optimal 190\nbranchings 0\nrun 0 2\ntree\ncost 190 1 3:70\nend\n",
+        "invalid: 1 runs for 2 trips\n",
+    ),
+    (
+        "optimal 190\nbranchings 0\nrun 0 2\nrun 1 2\ntree\ncost 190 1 3:70\nend\n",
+        "invalid: run 0 names an unknown unit\n",
+    ),
+    (
+        "optimal 190\nbranchings 1\nrun 0 0 1\nrun 1 0\ntree\ncost 190 1 3:70\nend\n",
+        "invalid: link 0 is broken\n",
+    ),
+    (
+        "optimal 190\nbranchings 0\nrun 0\nrun 1 1\ntree\ncost 190 1 3:70\nend\n",
+        "invalid: trip 0 has no units\n",
+    ),
+    (
+        "optimal 190\nbranchings 0\nrun 0 0 1\nrun 1 0\ntree\ncost 190 1 3:70\nend\n",
+        "invalid: link 0 is broken\n",
+    ),
+    (
+        "optimal 191\nbranchings 0\nrun 0 0 1\nrun 1 1\ntree\ncost 190 1 3:70\nend\n",
+        "invalid: cost 191 said, 190 found\n",
+    ),
+    (
+        "optimal -190\nbranchings 0\nrun 0 0 1\nrun 1 1\ntree\ncost 190 1 3:70\nend\n",
+        "invalid: cost -190 said, 190 found\n",
+    ),
+];
+
 #[test]
 fn plans_that_are_wrong(rt: HostRuntime) -> Result<(), Fail> {
-    let cases = &[
-        (
-            "optimal 190\nbranchings 0\nrun 0 0 1\ntree\ncost 190 1 3:70\nend\n",
-            "invalid: 1 runs for 2 trips\n",
-        ),
-        (
-            "optimal 190\nbranchings 0\nrun 0 0 1\nrun 1 1\nrun 2\ntree\ncost 190 1 3:70\nend\n",
-            "invalid: 3 runs for 2 trips\n",
-        ),
-        (
-            "optimal 190\nbranchings 0\nrun 0 0 1\nrun 1 2\ntree\ncost 190 1 3:70\nend\n",
-            "invalid: run 1 names an unknown unit\n",
-        ),
-        // The number of runs comes before their units, the first of these before others, and the plan before the tree.
-        (
-            "optimal 190\nbranchings 0\nrun 0 2\ntree\ncost 190 1 3:70\nend\n",
-            "invalid: 1 runs for 2 trips\n",
-        ),
-        (
-            "optimal 190\nbranchings 0\nrun 0 2\nrun 1 2\ntree\ncost 190 1 3:70\nend\n",
-            "invalid: run 0 names an unknown unit\n",
-        ),
-        (
-            "optimal 190\nbranchings 1\nrun 0 0 1\nrun 1 0\ntree\ncost 190 1 3:70\nend\n",
-            "invalid: link 0 is broken\n",
-        ),
-        (
-            "optimal 190\nbranchings 0\nrun 0\nrun 1 1\ntree\ncost 190 1 3:70\nend\n",
-            "invalid: trip 0 has no units\n",
-        ),
-        (
-            "optimal 190\nbranchings 0\nrun 0 0 1\nrun 1 0\ntree\ncost 190 1 3:70\nend\n",
-            "invalid: link 0 is broken\n",
-        ),
-        (
-            "optimal 191\nbranchings 0\nrun 0 0 1\nrun 1 1\ntree\ncost 190 1 3:70\nend\n",
-            "invalid: cost 191 said, 190 found\n",
-        ),
-        (
-            "optimal -190\nbranchings 0\nrun 0 0 1\nrun 1 1\ntree\ncost 190 1 3:70\nend\n",
-            "invalid: cost -190 said, 190 found\n",
-        ),
-    ];
-    expect_each(&rt, rt.alloc(), cases, 1)?;
+    expect_each(&rt, rt.alloc(), WRONG_PLANS, 1)?;
     Ok(())
 }
 
+/// Answers whose tree is wrong, without their title, and the line for each.
+const WRONG_TREES: &[(&str, &str)] = &[
+    (
+        "bounded 120\nbranchings 1\ntree\nonly 0 1\ncost 120 0\nend\n",
+        "invalid: tree breaks at node 2\n",
+    ),
+    (
+        "bounded 120\nbranchings 0\ntree\ncost 120 0\nempty\nend\n",
+        "invalid: tree breaks at node 1\n",
+    ),
+    (
+        "bounded 120\nbranchings 1\ntree\ncost 120 0\nend\n",
+        "invalid: 1 branchings said, 0 found\n",
+    ),
+    (
+        "bounded 120\nbranchings 1\ntree\nonly 0 2\ncost 120 0\ncost 120 0\nend\n",
+        "invalid: node 0 cuts nothing\n",
+    ),
+    (
+        "bounded 120\nbranchings 0\ntree\ncost 120 1 4:1\nend\n",
+        "invalid: node 0 has a wrong multiplier\n",
+    ),
+    (
+        "bounded 120\nbranchings 0\ntree\ncost 120 1 0:-1\nend\n",
+        "invalid: node 0 has a wrong multiplier\n",
+    ),
+    (
+        "optimal 190\nbranchings 0\nrun 0 0 1\nrun 1 1\ntree\ncost 191 2 2:-45 3:45\nend\n",
+        "invalid: node 0 says 191, found 190\n",
+    ),
+    (
+        "bounded 120\nbranchings 0\ntree\ncost 120 1 3:-200\nend\n",
+        "invalid: node 0 says 120, found -80\n",
+    ),
+    (
+        "bounded 120\nbranchings 0\ntree\ncost -80 0\nend\n",
+        "invalid: node 0 says -80, found 120\n",
+    ),
+    (
+        "infeasible\nbranchings 0\ntree\nempty\nend\n",
+        "invalid: node 0 is not empty\n",
+    ),
+];
+
 #[test]
 fn trees_that_are_wrong(rt: HostRuntime) -> Result<(), Fail> {
-    let cases = &[
-        (
-            "bounded 120\nbranchings 1\ntree\nonly 0 1\ncost 120 0\nend\n",
-            "invalid: tree breaks at node 2\n",
-        ),
-        (
-            "bounded 120\nbranchings 0\ntree\ncost 120 0\nempty\nend\n",
-            "invalid: tree breaks at node 1\n",
-        ),
-        (
-            "bounded 120\nbranchings 1\ntree\ncost 120 0\nend\n",
-            "invalid: 1 branchings said, 0 found\n",
-        ),
-        (
-            "bounded 120\nbranchings 1\ntree\nonly 0 2\ncost 120 0\ncost 120 0\nend\n",
-            "invalid: node 0 cuts nothing\n",
-        ),
-        (
-            "bounded 120\nbranchings 0\ntree\ncost 120 1 4:1\nend\n",
-            "invalid: node 0 has a wrong multiplier\n",
-        ),
-        (
-            "bounded 120\nbranchings 0\ntree\ncost 120 1 0:-1\nend\n",
-            "invalid: node 0 has a wrong multiplier\n",
-        ),
-        (
-            "optimal 190\nbranchings 0\nrun 0 0 1\nrun 1 1\ntree\ncost 191 2 2:-45 3:45\nend\n",
-            "invalid: node 0 says 191, found 190\n",
-        ),
-        (
-            "bounded 120\nbranchings 0\ntree\ncost 120 1 3:-200\nend\n",
-            "invalid: node 0 says 120, found -80\n",
-        ),
-        (
-            "bounded 120\nbranchings 0\ntree\ncost -80 0\nend\n",
-            "invalid: node 0 says -80, found 120\n",
-        ),
-        (
-            "infeasible\nbranchings 0\ntree\nempty\nend\n",
-            "invalid: node 0 is not empty\n",
-        ),
-    ];
-    expect_each(&rt, rt.alloc(), cases, 1)?;
+    expect_each(&rt, rt.alloc(), WRONG_TREES, 1)?;
     Ok(())
 }
 
@@ -386,32 +390,34 @@ fn heads_that_are_wrong(rt: HostRuntime) -> Result<(), Fail> {
     Ok(())
 }
 
+/// Answers that break off or go on after their end, without their title, and the line for each.
+const WRONG_ENDS: &[(&str, &str)] = &[
+    (
+        "optimal 190\nbranchings 0\nrun 0 0 1\nrun 1 1\ntree\ncost 190 2 2:-45 3:45\n",
+        "refused answer.txt: no end line\n",
+    ),
+    (
+        "optimal 190\nbranchings 0\nrun 0 0 1\nrun 1 1\ntree\ncost 190 2 2:-45 3:45\nend\nend\n",
+        "refused answer.txt: line 9 after the end\n",
+    ),
+    (
+        "optimal 190\nbranchings 0\nrun 0 0 1\nrun 1 1\ntree\ncost 190 2 2:-45 3:45\nend\nx",
+        "refused answer.txt: line 9 after the end\n",
+    ),
+    (
+        "optimal 190\nbranchings 0\nrun 0 0 1\nrun 1 1\ntree\ncost 190 2 2:-45 3:45\nend",
+        "refused answer.txt: line 8\n",
+    ),
+    (
+        "optimal 190\nbranchings 0\nrun 0 0 1\nrun 1 1\ntree\ncost 190 2 2:-45 3:45",
+        "refused answer.txt: line 7\n",
+    ),
+];
+
 #[test]
 fn files_that_are_refused(rt: HostRuntime) -> Result<(), Fail> {
     let alloc = rt.alloc();
-    let cases = &[
-        (
-            "optimal 190\nbranchings 0\nrun 0 0 1\nrun 1 1\ntree\ncost 190 2 2:-45 3:45\n",
-            "refused answer.txt: no end line\n",
-        ),
-        (
-            "optimal 190\nbranchings 0\nrun 0 0 1\nrun 1 1\ntree\ncost 190 2 2:-45 3:45\nend\nend\n",
-            "refused answer.txt: line 9 after the end\n",
-        ),
-        (
-            "optimal 190\nbranchings 0\nrun 0 0 1\nrun 1 1\ntree\ncost 190 2 2:-45 3:45\nend\nx",
-            "refused answer.txt: line 9 after the end\n",
-        ),
-        (
-            "optimal 190\nbranchings 0\nrun 0 0 1\nrun 1 1\ntree\ncost 190 2 2:-45 3:45\nend",
-            "refused answer.txt: line 8\n",
-        ),
-        (
-            "optimal 190\nbranchings 0\nrun 0 0 1\nrun 1 1\ntree\ncost 190 2 2:-45 3:45",
-            "refused answer.txt: line 7\n",
-        ),
-    ];
-    expect_each(&rt, alloc, cases, 3)?;
+    expect_each(&rt, alloc, WRONG_ENDS, 3)?;
     expect_check(
         &rt,
         alloc,
