@@ -3,7 +3,9 @@ pub mod Pieces
 pub mod Records
 pub mod Headers
 pub mod Turns
+pub mod RowFaults
+pub mod Steps
+pub mod Spelling
 pub mod Accepted
 pub mod Whole
 pub mod OneRow
-pub mod RowFaults

@@ -26,7 +26,7 @@ use Rattle.rail_csv.specs.Tables.{stations_of, stock_header, stock_columns, stoc
 use Rattle.rail_csv.specs.Tables.{trips_of, link_header, link_columns, links_of, weight_header, weight_columns}
 use Rattle.rail_csv.specs.Tables.{weights_of, plan_header, plan_columns, plan_of}
 use Rattle.rail_csv.specs.Laws.{IsFirstWrong, IsWeightsTable, NoOtherTableWantsARow}
-use Rattle.rail_csv.proofs.Accepted.{step}
+use Rattle.rail_csv.proofs.Steps.{step}
 use Rattle.rail_csv.proofs.Whole.{is_table, table_is, is_first_wrong, first_wrong_is}
 
 -- ---- steps that don't end for want of a row

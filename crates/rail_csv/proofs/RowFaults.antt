@@ -26,10 +26,10 @@ use Rattle.rail_csv.specs.RowFaults.{trip_faults, link_faults, weight_faults, pl
 
 -- ---- fields that are UTF-8
 
-all_text : (fields : List (List ℕ)) → list_all is_utf8 fields ≡ true → All (λ text. IsUtf8 text) fields
+pub all_text : (fields : List (List ℕ)) → list_all is_utf8 fields ≡ true → All (λ text. IsUtf8 text) fields
 all_text fields e = All-weaker (λ text. is_utf8 text ≡ true) (λ text. IsUtf8 text) IsUtf8-from_is_utf8 fields (AllPass-from_list_all is_utf8 fields e)
 
-text_all : (fields : List (List ℕ)) → All (λ text. IsUtf8 text) fields → list_all is_utf8 fields ≡ true
+pub text_all : (fields : List (List ℕ)) → All (λ text. IsUtf8 text) fields → list_all is_utf8 fields ≡ true
 text_all fields all = list_all-from_AllPass is_utf8 fields (All-weaker (λ text. IsUtf8 text) (λ text. is_utf8 text ≡ true) is_utf8-from_IsUtf8 fields all)
 
 some_other : (fields : List (List ℕ)) → list_all is_utf8 fields ≡ false → Any (λ text. ¬ (IsUtf8 text)) fields

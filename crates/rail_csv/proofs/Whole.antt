@@ -10,7 +10,7 @@ use Rattle.rail_base.specs.Answers.{◌>>=◌}
 use Rattle.rail_csv.specs.Tables.{Columns, is_header, row_of, rows_from, rows_under}
 use Rattle.rail_csv.specs.Laws.{row_at, IsTable, AreRightBefore, IsFirstWrong, IsFirstWrongUnder}
 use Rattle.rail_csv.proofs.Headers.{has_header, header_is, no_header, refuted}
-use Rattle.rail_csv.proofs.Accepted.{step, same, went_on}
+use Rattle.rail_csv.proofs.Steps.{step, same, went_on}
 
 -- ---- rows that are read
 

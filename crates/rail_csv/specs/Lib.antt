@@ -6,3 +6,4 @@ pub mod ReadRows
 pub mod Rows
 pub mod Laws
 pub mod RowFaults
+pub mod Spelling

@@ -3,6 +3,7 @@
 ghost use Rattle.std.specs.Prelude.{◌≡◌, ◌↔◌, ℕ, List, Ok, Err};
 ghost use Rattle.rail_csv.specs.Laws.{IsFirstWrong, IsTable, WeightsAreOneRow};
 ghost use Rattle.rail_csv.specs.RowFaults.{EachRefusesLeftmost, IsWrongRow};
+ghost use Rattle.rail_csv.specs.Spelling.{EachReadsWhatIsSpelled, IsRightRow};
 ghost use Rattle.rail_csv.specs.Tables.{Columns, row_of, rows_under};
 ghost use Rattle.rail_csv.specs.declared.refusal.TableRefusal.{TableRefusal};
 
@@ -27,6 +28,19 @@ pub fn what_is_read<T: Drop>()
 /// table, nor a plan, is ever refused for want of a row.
 pub fn what_weights_are()
     ensures weights { WeightsAreOneRow }
+{}
+
+/// For every table, whatever its columns: a record is read as a row exactly where it has as many fields as its version
+/// has columns, all of them are UTF-8, and its columns read them so. And of the seven tables, one of them the plan: the
+/// columns read fields as a row exactly where in each column the field spells what the row has there, as a number, a
+/// time, a name, a word or a list of units, and the row is within the ranges of its columns. Where the first version
+/// lacks the last column of types, trips and links, a row that is read in it has 0 there, or no.
+pub fn what_is_read_as_a_row<T: Drop>()
+    // The number of fields, UTF-8 and the columns.
+    ensures rows { (width : ℕ) (columns : Columns T) (number : ℕ) (fields : List (List ℕ)) (row : T)
+        → (row_of width columns number fields ≡ Ok row) ↔ IsRightRow width columns number fields row }
+    // Of the columns, what each field spells, and the ranges.
+    ensures columns { EachReadsWhatIsSpelled }
 {}
 
 /// For every table, whatever its columns: a row is refused for exactly the first wrong thing in it. That is its number
