@@ -5,14 +5,22 @@ use Rattle.timetable.specs.Cost.{cost_of}
 use Rattle.timetable.specs.Day.{Day}
 use Rattle.cost_model.specs.declared.costs.CostParts.{CostParts}
 use Rattle.cost_model.specs.Sums.{carriage_of, shortage_of, shunting_of}
-use Rattle.day_reports.specs.Text.{rows_text}
+use Rattle.day_reports.specs.Text.{Column, header_of, row_fields, rows_text}
 
-abbrev pub cost_header : List (List ℕ)
-cost_header = codes "part" ∷ codes "amount" ∷ []
+-- what a row tells: a part of the cost, and its amount
+pub record CostRow : Type 0 where
+  pub part : List ℕ
+  pub amount : ℤ
 
--- the row of an amount
+abbrev pub cost_columns : List (Column CostRow)
+cost_columns =
+    record { word = codes "part"; field = λ row. row.part }
+    ∷ record { word = codes "amount"; field = λ row. signed_decimal row.amount }
+    ∷ []
+
+-- the fields of the row of an amount
 abbrev pub amount_row : List ℕ → ℤ → List (List ℕ)
-amount_row name amount = name ∷ signed_decimal amount ∷ []
+amount_row part amount = row_fields cost_columns (record { part = part; amount = amount })
 
 -- the rows of three parts and of a total
 abbrev pub amount_rows : CostParts → ℤ → List (List (List ℕ))
@@ -32,4 +40,5 @@ cost_parts day lists = record {
 }
 
 unfoldable pub costs_text : Day → List (List ℕ) → List ℕ
-costs_text day lists = rows_text (cost_header ∷ amount_rows (cost_parts day lists) (pos (cost_of day lists)))
+costs_text day lists =
+    rows_text (header_of cost_columns ∷ amount_rows (cost_parts day lists) (pos (cost_of day lists)))

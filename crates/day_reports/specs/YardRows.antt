@@ -10,10 +10,7 @@ use Rattle.timetable.specs.Minutes.{minutes_of}
 use Rattle.timetable.specs.Starts.{start_of}
 use Rattle.inventory.specs.Counts.{takes_of, gives_of, count_at, last_of}
 use Rattle.day_reports.specs.Named.{type_name, station_name}
-use Rattle.day_reports.specs.Text.{rows_text}
-
-abbrev pub yard_header : List (List ℕ)
-yard_header = codes "station" ∷ codes "type" ∷ codes "time" ∷ codes "taken" ∷ codes "ready" ∷ codes "count" ∷ []
+use Rattle.day_reports.specs.Text.{Column, header_of, row_fields, rows_text}
 
 -- the units of one type in the yard of a station, on a day whose trips have these lists of types
 pub record YardOf : Type 0 where
@@ -103,16 +100,24 @@ yard_rows yard = start_row yard ∷ rows_after yard None (minutes_of yard.day ya
 
 -- ---- the text
 
--- the fields of a row
-abbrev pub yard_fields : YardOf → YardRow → List (List ℕ)
-yard_fields yard row =
-    station_name yard.day yard.station
-    ∷ type_name yard.day yard.unit_type
-    ∷ row.time
-    ∷ decimal row.taken
-    ∷ decimal row.ready
-    ∷ signed_decimal row.count
+-- a row of a yard
+pub record RowOfYard : Type 0 where
+  pub yard : YardOf
+  pub row : YardRow
+
+abbrev pub yard_columns : List (Column RowOfYard)
+yard_columns =
+    record { word = codes "station"; field = λ it. station_name it.yard.day it.yard.station }
+    ∷ record { word = codes "type"; field = λ it. type_name it.yard.day it.yard.unit_type }
+    ∷ record { word = codes "time"; field = λ it. it.row.time }
+    ∷ record { word = codes "taken"; field = λ it. decimal it.row.taken }
+    ∷ record { word = codes "ready"; field = λ it. decimal it.row.ready }
+    ∷ record { word = codes "count"; field = λ it. signed_decimal it.row.count }
     ∷ []
+
+-- the fields of a row of a yard
+abbrev pub yard_fields : YardOf → YardRow → List (List ℕ)
+yard_fields yard row = row_fields yard_columns (record { yard = yard; row = row })
 
 -- those of all rows of a type at a station
 abbrev pub fields_of_yard : YardOf → List (List (List ℕ))
@@ -125,4 +130,5 @@ fields_of_station day lists s =
 
 -- the header, and all rows, station by station, where the trips have these lists of types
 unfoldable pub yards_text : Day → List (List ℕ) → List ℕ
-yards_text day lists = rows_text (yard_header ∷ joined (fields_of_station day lists) (length day.stations))
+yards_text day lists =
+    rows_text (header_of yard_columns ∷ joined (fields_of_station day lists) (length day.stations))

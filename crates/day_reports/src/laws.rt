@@ -1,8 +1,30 @@
-//! What holds of the reports of every day, whatever the compositions of its trips are.
+//! What holds of the reports of every day, whatever the plan or the compositions of its trips are.
 //!
 //! A law is the contract of a function that does nothing.
 
 ghost use Rattle.day_reports.specs.Laws.{TimesAreReadAgain, YardsAddUp};
+ghost use Rattle.day_reports.specs.Layouts.{CostsAreByPart, DutiesAreByUnit, YardsAreByStation};
+
+/// The report of duties is the line `unit,type,home,trip,from,departure,to,arrival,position`, and then a block for each
+/// unit, by its number, with the rows of its duty. Read by the rule of the tables of a day it is again the words of
+/// that line and these rows, field by field.
+pub fn duties_are_by_unit()
+    ensures law { DutiesAreByUnit }
+{}
+
+/// The report of yards is the line `station,type,time,taken,ready,count`, and then a block for each station and type,
+/// with the rows of that type there. Of n types the block of type m at station s has s n + m blocks before it: those of
+/// all types at the stations before, and those of the types before at its own. Read by the rule of the tables of a day
+/// the report is again the words of that line and these rows, field by field.
+pub fn yards_are_by_station()
+    ensures law { YardsAreByStation }
+{}
+
+/// The report of costs, byte for byte: the line `part,amount`, and then a line each for `carriage`, `shortage`,
+/// `shunting` and `total`, with a comma and the amount in decimal digits.
+pub fn costs_are_by_part()
+    ensures law { CostsAreByPart }
+{}
 
 /// The rows of a type at a station: one of the start, in which nothing is taken or ready, with the units that stand
 /// there at the start of the day; one of each departure minute of the station, in their order, with that minute as its
