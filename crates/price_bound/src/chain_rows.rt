@@ -2,10 +2,10 @@
 //! the first trip on.
 
 ghost use Rattle.std.specs.Prelude.{ℕ, ◌≡◌, ◌<◌, ◌≤◌, ◌+◌, ◌*◌, [], length, get_or, set, take, All, IfOk, Some, None};
-ghost use Rattle.std.specs.Prelude.{IfSome, is_none};
+ghost use Rattle.std.specs.Prelude.{IfSome, is_none, slice_get};
 ghost use Rattle.timetable.specs.Compositions.{compositions_of};
 ghost use Rattle.timetable.specs.Links.{outgoing};
-ghost use Rattle.price_bound.specs.TripAndLinkPrices.{IsForParts, IsForTurn};
+ghost use Rattle.transitions.specs.Edges.{AreGraphs};
 ghost use Rattle.price_bound.specs.CellRows.{HaveRoom, HaveRoomFor, chain_rows, comps_of, edges_offered, last_row_on};
 ghost use Rattle.price_bound.specs.CellRows.{offered_on, put_along, row_on};
 ghost use Rattle.price_bound.specs.CellSizes.{AreSmallCells, AreSmallOffers, IsSmall, IsSmallStep, most_ahead};
@@ -15,6 +15,7 @@ ghost use Rattle.price_bound.specs.Paths.{begin_of, next_of, offer_by, path_from
 ghost use Rattle.price_bound.specs.Pricing.{ArePriced, IsListed, priced_by};
 
 use crate::cells::{Cell, CellRow, offer_by};
+use crate::edge_prices::EdgePrices;
 use crate::part_prices::PartPrices;
 use crate::priced::Pricing;
 use crate::turn_prices::{TurnPrices, TurnTrips};
@@ -200,6 +201,7 @@ fn offer_edges(pricing: &Pricing<'_>, link: LinkNo, row: &mut CellRow, ahead: &C
     ensures row { row.new ≡ edges_offered (priced_by pricing.now) (Some link) ahead.now row.old }
     ensures small { AreSmallOffers most_edge_price ahead.now row.old row.new }
 {
+    let edges = pricing.graphs.edges(link);
     match pricing.instance.link(link).kind {
         LinkKind::Turn {
             arriving,
@@ -212,75 +214,40 @@ fn offer_edges(pricing: &Pricing<'_>, link: LinkNo, row: &mut CellRow, ahead: &C
                 departing,
                 couple,
             };
-            offer_turned(&TurnPrices::new(pricing, link, turn), row, ahead);
+            offer_edges_at(&TurnPrices::new(pricing, link, turn), edges, row, ahead);
         }
         LinkKind::Join { second, .. } | LinkKind::Split { second, .. } => {
-            offer_handed_over(&PartPrices::new(pricing, link, second), row, ahead);
+            offer_edges_at(&PartPrices::new(pricing, link, second), edges, row, ahead);
         }
     }
 }
 
-/// Offers the cells of the edges of a turn.
-fn offer_turned(prices: &TurnPrices<'_>, row: &mut CellRow, ahead: &CellRow)
-    requires prices { IsForTurn prices.now }
-    requires row { length row.old ≡ comps_of (priced_by prices.now.pricing.now) }
-    requires ahead { length ahead.now ≡ comps_of (priced_by prices.now.pricing.now) }
+/// Offers the cells of the edges of a link, at their prices.
+fn offer_edges_at<P: EdgePrices>(prices: &P, edges: &[Edge], row: &mut CellRow, ahead: &CellRow)
+    requires prices { P.are_of_link prices.now }
+    requires graphs { AreGraphs (P.priced prices.now).day (P.priced prices.now).graphs }
+    requires edges { slice_get (P.priced prices.now).graphs (P.link prices.now) ≡ Some edges.now }
+    requires row { length row.old ≡ comps_of (P.priced prices.now) }
+    requires ahead { length ahead.now ≡ comps_of (P.priced prices.now) }
     requires small { AreSmallCells most_ahead ahead.now }
-    ensures row { row.new ≡ edges_offered (priced_by prices.now.pricing.now) (Some prices.now.link) ahead.now row.old }
+    ensures row { row.new ≡ edges_offered (P.priced prices.now) (Some (P.link prices.now)) ahead.now row.old }
     ensures small { AreSmallOffers most_edge_price ahead.now row.old row.new }
 {
-    let edges = prices.pricing.graphs.edges(prices.link);
     for place in 0..edges.len() {
         let edge = &edges[place];
-        let offer = offer_at_turn(prices, edge, ahead);
+        let offer = offer_at(prices, edge, ahead);
         row.offer(edge.from, offer);
     }
 }
 
-/// The cell that an edge of a turn offers, which is priced only where there is a cell ahead of it.
-fn offer_at_turn(prices: &TurnPrices<'_>, edge: &Edge, ahead: &CellRow) -> Option<Cell>
-    requires prices { IsForTurn prices.now }
-    requires edge { IsListed (comps_of (priced_by prices.now.pricing.now)) edge.now }
-    requires ahead { length ahead.now ≡ comps_of (priced_by prices.now.pricing.now) }
+/// The cell that an edge of a link offers at its price, which is found only where there is a cell ahead of it.
+fn offer_at<P: EdgePrices>(prices: &P, edge: &Edge, ahead: &CellRow) -> Option<Cell>
+    requires prices { P.are_of_link prices.now }
+    requires edge { IsListed (comps_of (P.priced prices.now)) edge.now }
+    requires ahead { length ahead.now ≡ comps_of (P.priced prices.now) }
     requires small { AreSmallCells most_ahead ahead.now }
     ensures value { result ≡ offer_by edge.now.to
-        (price_of (priced_by prices.now.pricing.now) (Some prices.now.link) edge.now)
-        (get_or ahead.now edge.now.to None) }
-    ensures small { (bound : ℕ) → AreSmallCells bound ahead.now
-        → IfSome result (λ cell. IsSmall (bound + most_edge_price) cell.value) }
-{
-    let Some(cell) = ahead.get(edge.to) else {
-        return None;
-    };
-    let price = prices.price(edge);
-    offer_by(edge.to, Some(price), cell)
-}
-
-/// Offers the cells of the edges of a join or a split.
-fn offer_handed_over(prices: &PartPrices<'_>, row: &mut CellRow, ahead: &CellRow)
-    requires prices { IsForParts prices.now }
-    requires row { length row.old ≡ comps_of (priced_by prices.now.pricing.now) }
-    requires ahead { length ahead.now ≡ comps_of (priced_by prices.now.pricing.now) }
-    requires small { AreSmallCells most_ahead ahead.now }
-    ensures row { row.new ≡ edges_offered (priced_by prices.now.pricing.now) (Some prices.now.link) ahead.now row.old }
-    ensures small { AreSmallOffers most_edge_price ahead.now row.old row.new }
-{
-    let edges = prices.pricing.graphs.edges(prices.link);
-    for place in 0..edges.len() {
-        let edge = &edges[place];
-        let offer = offer_at_handover(prices, edge, ahead);
-        row.offer(edge.from, offer);
-    }
-}
-
-/// The cell that an edge of a join or a split offers, which is priced only where there is a cell ahead of it.
-fn offer_at_handover(prices: &PartPrices<'_>, edge: &Edge, ahead: &CellRow) -> Option<Cell>
-    requires prices { IsForParts prices.now }
-    requires edge { IsListed (comps_of (priced_by prices.now.pricing.now)) edge.now }
-    requires ahead { length ahead.now ≡ comps_of (priced_by prices.now.pricing.now) }
-    requires small { AreSmallCells most_ahead ahead.now }
-    ensures value { result ≡ offer_by edge.now.to
-        (price_of (priced_by prices.now.pricing.now) (Some prices.now.link) edge.now)
+        (price_of (P.priced prices.now) (Some (P.link prices.now)) edge.now)
         (get_or ahead.now edge.now.to None) }
     ensures small { (bound : ℕ) → AreSmallCells bound ahead.now
         → IfSome result (λ cell. IsSmall (bound + most_edge_price) cell.value) }

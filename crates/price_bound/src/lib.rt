@@ -8,6 +8,7 @@ pub mod changes;
 mod costs;
 mod credits;
 pub mod day_bounds;
+mod edge_prices;
 mod following;
 pub mod laws;
 mod part_prices;

@@ -1,13 +1,13 @@
 //! What the edges of joins and splits are priced: the multiplier of the second train at the hand-over.
 
-ghost use Rattle.std.specs.Prelude.{ℕ, ◌≡◌, ◌<◌, length, pos, IfSome, Some, option_map, slice_get};
+ghost use Rattle.std.specs.Prelude.{ℕ, ◌≡◌, ◌<◌, length, pos, slice_get};
 ghost use Rattle.timetable.specs.Compositions.{compositions_of};
 ghost use Rattle.price_bound.specs.TripAndLinkPrices.{IsForParts, IsSecondOf};
 ghost use Rattle.price_bound.specs.CellSizes.{IsSmall, most_edge_price};
-ghost use Rattle.price_bound.specs.ChainStages.{price_of};
 ghost use Rattle.price_bound.specs.EdgeValues.{part_multiplier};
-ghost use Rattle.price_bound.specs.Pricing.{ArePriced, IsListed, priced_by};
+ghost use Rattle.price_bound.specs.Pricing.{ArePriced, priced_by};
 
+use crate::edge_prices::EdgePrices;
 use crate::priced::Pricing;
 use crate::worths::{Amount, amount_for};
 use branch_tree::CompositionSet;
@@ -46,24 +46,6 @@ impl<'a> PartPrices<'a> {
         }
     }
 
-    /// What an edge of the link is priced, or nothing where it has a part that is not in the region.
-    pub(crate) fn price(&self, edge: &Edge) -> Option<Amount>
-        requires is { IsForParts self.now }
-        requires edge { IsListed (length (compositions_of self.now.pricing.now.instance.now)) edge.now }
-        ensures value { option_map (λ price. price.0) result
-            ≡ price_of (priced_by self.now.pricing.now) (Some self.now.link) edge.now }
-        ensures small { IfSome result (λ price. IsSmall most_edge_price price.0) }
-    {
-        prove!(self.pricing.instance.catalogue().len() as usize <= MOST_COMPOSITIONS);
-        let Some(part) = edge.part else {
-            return Some(Amount(0));
-        };
-        if !self.set.has(part) {
-            return None;
-        }
-        Some(self.multiplier(part))
-    }
-
     /// The multiplier of a part at the hand-over of the link.
     fn multiplier(&self, part: CompNo) -> Amount
         requires is { IsForParts self.now }
@@ -73,5 +55,25 @@ impl<'a> PartPrices<'a> {
         ensures small { IsSmall most_edge_price result.0 }
     {
         amount_for(self.multipliers, part)
+    }
+}
+
+impl<'a> EdgePrices for PartPrices<'a> {
+    ghost priced = { λ prices. priced_by prices.pricing.now };
+
+    ghost link = { λ prices. prices.link };
+
+    ghost are_of_link = { λ prices. IsForParts prices };
+
+    /// What an edge of the link is priced: the multiplier of its part, if it has one.
+    fn price(&self, edge: &Edge) -> Option<Amount> {
+        prove!(self.pricing.instance.catalogue().len() as usize <= MOST_COMPOSITIONS);
+        let Some(part) = edge.part else {
+            return Some(Amount(0));
+        };
+        if !self.set.has(part) {
+            return None;
+        }
+        Some(self.multiplier(part))
     }
 }

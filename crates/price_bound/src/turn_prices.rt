@@ -6,12 +6,12 @@ ghost use Rattle.timetable.specs.declared.day.records.LinkKind.TheVariants.{Turn
 ghost use Rattle.timetable.specs.Compositions.{compositions_of, composition_at};
 ghost use Rattle.branch_tree.specs.Meanings.{weighted};
 ghost use Rattle.price_bound.specs.TripAndLinkPrices.{IsForTurn, IsTurnOf, coupled_price_of};
-ghost use Rattle.price_bound.specs.CellSizes.{IsSmall, most_units_price, most_cost, most_edge_price};
-ghost use Rattle.price_bound.specs.ChainStages.{price_of};
+ghost use Rattle.price_bound.specs.CellSizes.{IsSmall, most_units_price, most_cost};
 ghost use Rattle.price_bound.specs.EdgeValues.{came, coupled, shunt_cost, turn_value};
 ghost use Rattle.price_bound.specs.Pricing.{ArePriced, IsListed, priced_by};
 ghost use Rattle.price_bound.specs.YardPrices.{giving, taking};
 
+use crate::edge_prices::EdgePrices;
 use crate::priced::Pricing;
 use crate::worths::{Amount, amount_for, minus, plus, sum_in, types_of, weighted};
 use rail_base::limits::MOST_COMPOSITION;
@@ -72,23 +72,6 @@ impl<'a> TurnPrices<'a> {
         }
     }
 
-    /// What an edge of the turn is priced: the cost of shunting, and the price of the units that are taken less that of
-    /// the units that are given.
-    pub(crate) fn price(&self, edge: &Edge) -> Amount
-        requires is { IsForTurn self.now }
-        requires edge { IsListed (length (compositions_of self.now.pricing.now.instance.now)) edge.now }
-        ensures value { Some result.0 ≡ price_of (priced_by self.now.pricing.now) (Some self.now.link) edge.now }
-        ensures small { IsSmall most_edge_price result.0 }
-    {
-        let cost = self.shunt_cost(edge.shunt);
-        let before = self.credit(edge.from);
-        let after = self.credit(edge.to);
-        let coupled_price = self.coupled_price(edge);
-        let credit_difference = minus(before, after);
-        let cost_less_credits = minus(cost, credit_difference);
-        plus(cost_less_credits, coupled_price)
-    }
-
     /// What a shunt costs, under the weight.
     fn shunt_cost(&self, shunt: Shunt) -> Amount
         requires is { IsForTurn self.now }
@@ -135,6 +118,26 @@ impl<'a> TurnPrices<'a> {
             types_of(self.pricing.instance, edge.to),
         );
         minus(sum_in(self.takes, came), sum_in(self.gives, came))
+    }
+}
+
+impl<'a> EdgePrices for TurnPrices<'a> {
+    ghost priced = { λ prices. priced_by prices.pricing.now };
+
+    ghost link = { λ prices. prices.link };
+
+    ghost are_of_link = { λ prices. IsForTurn prices };
+
+    /// What an edge of the turn is priced: the cost of shunting, and the price of the units that are taken less that of
+    /// the units that are given.
+    fn price(&self, edge: &Edge) -> Option<Amount> {
+        let cost = self.shunt_cost(edge.shunt);
+        let before = self.credit(edge.from);
+        let after = self.credit(edge.to);
+        let coupled_price = self.coupled_price(edge);
+        let credit_difference = minus(before, after);
+        let cost_less_credits = minus(cost, credit_difference);
+        Some(plus(cost_less_credits, coupled_price))
     }
 }
 

@@ -13,7 +13,7 @@ use Rattle.price_bound.proofs.Adding.{small_difference, small_more}
 use Rattle.price_bound.proofs.TripAndLinkPrices.{turn_priced}
 use Rattle.price_bound.proofs.Filling.{are_few, yard_small}
 use Rattle.price_bound.proofs.Summing.{parted, parted_long, turn_is, turn_small, units_small}
-use Rattle.price_bound.proofs.turn_prices.TurnPrices.price.Goals as goal
+use Rattle.price_bound.proofs.turn_prices.TurnPricesEdgePrices.price.Goals as goal
 
 pub credit-before-requires-clause-comp : goal.credit-before-requires-clause-comp
 credit-before-requires-clause-comp c = c.requires.edge.from
