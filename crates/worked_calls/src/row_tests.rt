@@ -65,6 +65,41 @@ const FIELDS: &[File] = &[
     },
 ];
 
+/// The least and the greatest number that each column takes.
+const ENDS: &[File] = &[
+    File {
+        table: Table::Types,
+        bytes: b"type,carriages,seats,metres,family,first\nA,1,1,1,r,0\nB,20,2000,500,r,2000\n",
+        told: "A 1 1 1 r 0\nB 20 2000 500 r 2000\n",
+    },
+    File {
+        table: Table::Stations,
+        bytes: b"station,platform,reallocation\nX,1,0\nY,1000,600\n",
+        told: "X 1 0\nY 1000 600\n",
+    },
+    File {
+        table: Table::Stock,
+        bytes: b"station,type,start,end\nX,A,0,0\nY,A,2000,2000\n",
+        told: "X A 0 0\nY A 2000 2000\n",
+    },
+    File {
+        table: Table::Trips,
+        bytes: b"trip,from,departure,to,arrival,km,demand,first\n\
+            T,X,0:00,Y,47:59,1,0,0\nS,X,0:00,Y,47:59,1000,10000,10000\n",
+        told: "T X 0 Y 2879 1 0 0\nS X 0 Y 2879 1000 10000 10000\n",
+    },
+    File {
+        table: Table::Weights,
+        bytes: b"carriage,shortage,shunting\n0,0,0\n",
+        told: "0 0 0\n",
+    },
+    File {
+        table: Table::Weights,
+        bytes: b"carriage,shortage,shunting\n10000,10000,10000\n",
+        told: "10000 10000 10000\n",
+    },
+];
+
 /// Lists of units.
 const UNITS: &[File] = &[
     File {
@@ -391,7 +426,7 @@ fn are_told(rt: &impl Abort, alloc: Global, files: &[File]) -> Result<(), Fail> 
 
 #[test]
 fn files_are_read_or_refused(rt: HostRuntime) -> Result<(), Fail> {
-    for files in [FIELDS, UNITS, VERSIONS, FIRST_WRONG] {
+    for files in [FIELDS, ENDS, UNITS, VERSIONS, FIRST_WRONG] {
         are_told(&rt, rt.alloc(), files)?;
     }
     Ok(())

@@ -140,5 +140,11 @@ fn a_catalogue_has_at_most_1000_compositions(rt: HostRuntime) -> Result<(), Fail
     expect_document(&rt, alloc, &long, 3, refused)?;
     let shorter = day.with_stations("station,platform,reallocation\nX,299,30\nY,299,30\n");
     expect_document(&rt, alloc, &shorter, 0, "runs 60\n")?;
+    // As another program counts them, 1,000 lists of these are no longer than the platforms.
+    let six_types = long.with_types(
+        "type,carriages,seats,metres,family\nA,3,200,56,regional\nB,3,100,70,regional\nC,3,100,71,regional\n\
+            D,3,100,74,regional\nE,3,100,79,regional\nF,3,100,99,regional\n",
+    );
+    expect_document(&rt, alloc, &six_types, 0, "runs 60\n")?;
     Ok(())
 }
