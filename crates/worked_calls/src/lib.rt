@@ -15,6 +15,8 @@ mod machine_tests;
 #[cfg(test)]
 mod row_tests;
 #[cfg(test)]
+mod system_tests;
+#[cfg(test)]
 mod telling;
 #[cfg(test)]
 mod timetable_tests;
