@@ -306,16 +306,54 @@ fn cuts_of_the_narrowest_trip(rt: HostRuntime) -> Result<(), Fail> {
     Ok(())
 }
 
-/// Values that are put at indices of a proposal, one after another.
-const PUTS: &[(u32, i64)] = &[
-    (4, -1),
-    (1, -1_000_000_000_001),
-    (2, -1_000_000_000_001),
-    (3, 70),
-];
+/// Values that are put at indices of a proposal, one after another, and what is told of them: what each put answers,
+/// and the values at some indices in the end.
+struct Puts {
+    /// For how many indices it proposes, and the first at which a multiplier may be negative.
+    indices: u32,
+    free_from: u32,
+    /// How many of its first indices have the value 1 before.
+    filled: u32,
+    puts: &'static [(u32, i64)],
+    /// The indices whose values are told.
+    at: &'static [u32],
+    told: &'static str,
+}
 
-/// What each put answers, and the values at the indices in the end.
-const PUTS_TOLD: &str = "Err(NoIndex)\nErr(Negative)\nErr(TooLarge)\nOk(())\n 0 0 0 70\n";
+/// Puts into proposals.
+const PUTS: &[Puts] = &[
+    Puts {
+        indices: 4,
+        free_from: 2,
+        filled: 0,
+        puts: &[
+            (4, -1),
+            (1, -1_000_000_000_001),
+            (2, -1_000_000_000_001),
+            (3, 70),
+        ],
+        at: &[0, 1, 2, 3],
+        told: "Err(NoIndex)\nErr(Negative)\nErr(TooLarge)\nOk(())\n 0 0 0 70\n",
+    },
+    // No index, and not negative either.
+    Puts {
+        indices: 2,
+        free_from: 4,
+        filled: 0,
+        puts: &[(3, -1), (1, -1)],
+        at: &[1],
+        told: "Err(NoIndex)\nErr(Negative)\n 0\n",
+    },
+    // With as many as there may be.
+    Puts {
+        indices: 1_001,
+        free_from: 2,
+        filled: 1_000,
+        puts: &[(1_000, 1_000_000_000_001), (1_000, 1), (1_000, 0), (999, 7)],
+        at: &[998, 999, 1_000],
+        told: "Err(TooLarge)\nErr(Full)\nOk(())\nOk(())\n 1 7 0\n",
+    },
+];
 
 /// Puts these values, and writes what each put answers.
 fn write_puts(
@@ -329,18 +367,29 @@ fn write_puts(
     Ok(())
 }
 
+/// The proposal of a row before its puts.
+fn filled_proposal(alloc: Global, row: &Puts) -> Result<Proposal, Fail> {
+    let mut proposal = Proposal::new(alloc, row.indices, row.free_from)?;
+    for index in 0..row.filled {
+        proposal.put(index, 1)?;
+    }
+    Ok(proposal)
+}
+
 /// What is told of the puts.
-fn puts_told(alloc: Global) -> Result<String, Fail> {
+fn puts_told(alloc: Global, row: &Puts) -> Result<String, Fail> {
     let mut text = String::new(alloc);
-    let mut proposal = Proposal::new(alloc, 4, 2)?;
-    write_puts(&mut text, &mut proposal, PUTS)?;
-    write_values(&mut text, proposal.multipliers(), &[0, 1, 2, 3])?;
+    let mut proposal = filled_proposal(alloc, row)?;
+    write_puts(&mut text, &mut proposal, row.puts)?;
+    write_values(&mut text, proposal.multipliers(), row.at)?;
     Ok(text)
 }
 
 #[test]
 fn refusals_of_a_proposal(rt: HostRuntime) -> Result<(), Fail> {
-    let text = puts_told(rt.alloc())?;
-    assert!(rt; text.as_str() == PUTS_TOLD, "{text}");
+    for row in PUTS {
+        let text = puts_told(rt.alloc(), row)?;
+        assert!(rt; text.as_str() == row.told, "{text}");
+    }
     Ok(())
 }
