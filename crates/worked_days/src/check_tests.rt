@@ -390,6 +390,44 @@ fn heads_that_are_wrong(rt: HostRuntime) -> Result<(), Fail> {
     Ok(())
 }
 
+/// Answers with the greatest numbers that their lines may have, without their title, and the line for each.
+const GREATEST_NUMBERS: &[(&str, &str)] = &[
+    (
+        "bounded 100000000000000000000\nbranchings 0\ntree\ncost 120 0\nend\n",
+        "invalid: bound 100000000000000000000 said, 120 found\n",
+    ),
+    (
+        "bounded -100000000000000000000\nbranchings 0\ntree\ncost 120 0\nend\n",
+        "invalid: bound -100000000000000000000 said, 120 found\n",
+    ),
+    (
+        "optimal 100000000000000000000\nbranchings 0\nrun 0 0 1\nrun 1 1\ntree\ncost 190 1 3:70\nend\n",
+        "invalid: cost 100000000000000000000 said, 190 found\n",
+    ),
+    (
+        "optimal 190\nbranchings 0\nrun 0 0 1\nrun 1 1999\ntree\ncost 190 1 3:70\nend\n",
+        "invalid: run 1 names an unknown unit\n",
+    ),
+    (
+        "bounded 120\nbranchings 0\ntree\ncost 100000000000000000000 0\nend\n",
+        "invalid: node 0 says 100000000000000000000, found 120\n",
+    ),
+    (
+        "bounded 120\nbranchings 0\ntree\ncost 120 1 999999:1000000000000\nend\n",
+        "invalid: node 0 has a wrong multiplier\n",
+    ),
+    (
+        "bounded 120\nbranchings 1\ntree\nonly 399 999\ncost 120 0\ncost 120 0\nend\n",
+        "invalid: node 0 cuts nothing\n",
+    ),
+];
+
+#[test]
+fn the_greatest_numbers_are_read(rt: HostRuntime) -> Result<(), Fail> {
+    expect_each(&rt, rt.alloc(), GREATEST_NUMBERS, 1)?;
+    Ok(())
+}
+
 /// Answers that break off or go on after their end, without their title, and the line for each.
 const WRONG_ENDS: &[(&str, &str)] = &[
     (
