@@ -79,6 +79,38 @@ pub(crate) fn expect_impossible(rt: &impl Abort, alloc: Global, day: &Day) -> Re
     expect_front(rt, alloc, day, 1, "infeasible\n")
 }
 
+/// Words of the plain form of `plan`, in each order, with the most branchings and rounds, with and without zeros in
+/// front, and with any word in the first place.
+const PLAIN_WORDS: &[&[&str]] = &[
+    &[
+        "railplan", "plan", "day", "--nodes", "4000", "--rounds", "100",
+    ],
+    &["railplan", "plan", "day", "--rounds=100", "--nodes=4000"],
+    &["railplan", "plan", "--nodes=4000", "day", "--rounds=100"],
+    &[
+        "railplan", "plan", "--rounds", "100", "day", "--nodes", "4000",
+    ],
+    &["railplan", "plan", "--nodes=4000", "--rounds=100", "day"],
+    &[
+        "planner",
+        "plan",
+        "--rounds",
+        "0000000100",
+        "--nodes",
+        "0000004000",
+        "day",
+    ],
+];
+
+#[test]
+fn words_in_every_order_plan_a_day(rt: HostRuntime) -> Result<(), Fail> {
+    for words in PLAIN_WORDS {
+        let rest = "optimal 120\nbranchings 0\nrun 0 0 1\nrun 1 1 0\ntree\ncost 120 0\nend\n";
+        expect_answer(&rt, rt.alloc(), &base_day(), *words, 0, rest)?;
+    }
+    Ok(())
+}
+
 /// The words that grant so many branchings and so many rounds.
 fn granted<'a>(nodes: &'a str, rounds: &'a str) -> [&'a str; 7] {
     [

@@ -85,6 +85,19 @@ const SHORT_TRIALS: &[(&[&str], u8, &str)] = &[
         "trial 7 2\noptimal 640\n",
     ),
     (
+        &[
+            "",
+            "trial",
+            "--nodes=224",
+            "0000000007",
+            "--rounds",
+            "20",
+            "2",
+        ],
+        0,
+        "trial 7 2\noptimal 640\n",
+    ),
+    (
         &["railplan", "trial", "7", "2", "--nodes=0", "--rounds=0"],
         4,
         "trial 7 2\nrailplan answer 1\nbounded 580\nbranchings 0\ntree\ncost 580 0\nend\n",
@@ -106,21 +119,26 @@ fn expect_short_trials(rt: &impl Abort, alloc: Global) -> Result<(), NoMemory> {
     Ok(())
 }
 
-/// The status of a trial day of forty trips, whose document goes to a sink.
-fn long_trial(rt: &impl Abort, alloc: Global, out: &mut MemorySink) -> Result<u8, NoMemory> {
+/// The status of a trial day by these words, whose document goes to a sink.
+fn trial_status(
+    rt: &impl Abort,
+    alloc: Global,
+    words: &[&str],
+    out: &mut MemorySink,
+) -> Result<u8, NoMemory> {
     let mut folder = folder_of(rt, alloc, &two_trips(), Vec::new(alloc))?;
-    let words = &["railplan", "trial", "7", "40", "--nodes=60"];
     status_of(rt, alloc, words, &mut folder, out)
 }
 
-/// Asserts that a trial day of forty trips comes to a plan, and to the same when it is planned again.
+/// Asserts that a trial day of forty trips comes to a plan or a bound, and to the same when it is planned again.
 fn expect_long_trial(rt: &impl Abort, alloc: Global) -> Result<(), NoMemory> {
+    let words = &["railplan", "trial", "7", "40", "--nodes=60"];
     let mut first = ample_sink(alloc, 10_000_000)?;
     let mut second = ample_sink(alloc, 10_000_000)?;
-    let status = long_trial(rt, alloc, &mut first)?;
+    let status = trial_status(rt, alloc, words, &mut first)?;
     assert!(rt; status == 0 || status == 4);
     assert!(rt; first.written().starts_with(b"trial 7 40\n"));
-    assert!(rt; long_trial(rt, alloc, &mut second)? == status);
+    assert!(rt; trial_status(rt, alloc, words, &mut second)? == status);
     assert!(rt; second.written() == first.written());
     Ok(())
 }
@@ -129,5 +147,25 @@ fn expect_long_trial(rt: &impl Abort, alloc: Global) -> Result<(), NoMemory> {
 fn trial_days_are_planned(rt: HostRuntime) -> Result<(), Fail> {
     expect_short_trials(&rt, rt.alloc())?;
     expect_long_trial(&rt, rt.alloc())?;
+    Ok(())
+}
+
+/// The greatest seed and the most trips, with options before and between them.
+const LONGEST_TRIAL: &[&str] = &[
+    "railplan",
+    "trial",
+    "--rounds",
+    "0",
+    "4294967295",
+    "--nodes=0",
+    "400",
+];
+
+#[test]
+fn the_longest_trial_day_is_planned(rt: HostRuntime) -> Result<(), Fail> {
+    let mut out = ample_sink(rt.alloc(), 10_000_000)?;
+    let status = trial_status(&rt, rt.alloc(), LONGEST_TRIAL, &mut out)?;
+    assert!(rt; status == 0 || status == 4);
+    assert!(rt; out.written().starts_with(b"trial 4294967295 400\n"));
     Ok(())
 }
