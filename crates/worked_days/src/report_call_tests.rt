@@ -8,18 +8,19 @@ use std::process::Abort;
 use std::test::Fail;
 use timetable::{Instance, Picks};
 
-/// Two units leave a station whose name has a comma, one of them goes on alone and back, and both come home together. A
-/// third unit, of another type, stays.
+/// Two units leave a station whose name has a comma and quotes, one of them goes on alone and back, and both come home
+/// together. A third unit, of another type, stays.
 const FOUR_TRIPS: Texts<'static> = Texts {
     types: b"type,carriages,seats,metres,family\nIC-3,3,192,81,inter\nIC-4,4,254,108,inter\n",
     stations: b"station,platform,reallocation\n\
-        \"Northport, Central\",340,20\nMidford,340,20\nSouthhaven,270,20\n",
-    stock: b"station,type,start,end\n\"Northport, Central\",IC-3,2,2\n\"Northport, Central\",IC-4,1,1\n",
+        \"Northport, \"\"Central\"\"\",340,20\nMidford,340,20\nSouthhaven,270,20\n",
+    stock: b"station,type,start,end\n\
+        \"Northport, \"\"Central\"\"\",IC-3,2,2\n\"Northport, \"\"Central\"\"\",IC-4,1,1\n",
     trips: b"trip,from,departure,to,arrival,km,demand\n\
-        101,\"Northport, Central\",06:02,Midford,06:58,74,310\n\
+        101,\"Northport, \"\"Central\"\"\",06:02,Midford,06:58,74,310\n\
         102,Midford,07:05,Southhaven,07:50,58,180\n\
         103,Southhaven,08:10,Midford,08:55,58,170\n\
-        104,Midford,09:02,\"Northport, Central\",09:58,74,290\n",
+        104,Midford,09:02,\"Northport, \"\"Central\"\"\",09:58,74,290\n",
     links: b"kind,arriving,arriving2,departing,departing2,reverse,uncouple,couple\n\
         turn,101,,102,,no,rear,none\n\
         turn,102,,103,,yes,none,none\n\
@@ -82,21 +83,21 @@ const ONE_SHORT_YARDS: &[u8] = b"station,type,time,taken,ready,count\n\
 const ONE_LEFT_COSTS: &[u8] = b"part,amount\ncarriage,90\nshortage,0\nshunting,100\ntotal,190\n";
 
 const FOUR_TRIPS_DUTIES: &[u8] = b"unit,type,home,trip,from,departure,to,arrival,position\n\
-    0,IC-3,\"Northport, Central\",101,\"Northport, Central\",06:02,Midford,06:58,0\n\
-    0,IC-3,\"Northport, Central\",102,Midford,07:05,Southhaven,07:50,0\n\
-    0,IC-3,\"Northport, Central\",103,Southhaven,08:10,Midford,08:55,0\n\
-    0,IC-3,\"Northport, Central\",104,Midford,09:02,\"Northport, Central\",09:58,0\n\
-    1,IC-3,\"Northport, Central\",101,\"Northport, Central\",06:02,Midford,06:58,1\n\
-    1,IC-3,\"Northport, Central\",104,Midford,09:02,\"Northport, Central\",09:58,1\n\
-    2,IC-4,\"Northport, Central\",,,,,,\n";
+    0,IC-3,\"Northport, \"\"Central\"\"\",101,\"Northport, \"\"Central\"\"\",06:02,Midford,06:58,0\n\
+    0,IC-3,\"Northport, \"\"Central\"\"\",102,Midford,07:05,Southhaven,07:50,0\n\
+    0,IC-3,\"Northport, \"\"Central\"\"\",103,Southhaven,08:10,Midford,08:55,0\n\
+    0,IC-3,\"Northport, \"\"Central\"\"\",104,Midford,09:02,\"Northport, \"\"Central\"\"\",09:58,0\n\
+    1,IC-3,\"Northport, \"\"Central\"\"\",101,\"Northport, \"\"Central\"\"\",06:02,Midford,06:58,1\n\
+    1,IC-3,\"Northport, \"\"Central\"\"\",104,Midford,09:02,\"Northport, \"\"Central\"\"\",09:58,1\n\
+    2,IC-4,\"Northport, \"\"Central\"\"\",,,,,,\n";
 
 const FOUR_TRIPS_YARDS: &[u8] = b"station,type,time,taken,ready,count\n\
-    \"Northport, Central\",IC-3,start,0,0,2\n\
-    \"Northport, Central\",IC-3,06:02,2,0,0\n\
-    \"Northport, Central\",IC-3,end,0,2,2\n\
-    \"Northport, Central\",IC-4,start,0,0,1\n\
-    \"Northport, Central\",IC-4,06:02,0,0,1\n\
-    \"Northport, Central\",IC-4,end,0,0,1\n\
+    \"Northport, \"\"Central\"\"\",IC-3,start,0,0,2\n\
+    \"Northport, \"\"Central\"\"\",IC-3,06:02,2,0,0\n\
+    \"Northport, \"\"Central\"\"\",IC-3,end,0,2,2\n\
+    \"Northport, \"\"Central\"\"\",IC-4,start,0,0,1\n\
+    \"Northport, \"\"Central\"\"\",IC-4,06:02,0,0,1\n\
+    \"Northport, \"\"Central\"\"\",IC-4,end,0,0,1\n\
     Midford,IC-3,start,0,0,0\n\
     Midford,IC-3,07:05,0,0,0\n\
     Midford,IC-3,09:02,1,1,0\n\
