@@ -61,14 +61,16 @@ pub(crate) fn accept(alloc: Global, tables: Tables) -> Result<AcceptedRows, Inst
         stock,
     } = yards_of(alloc, types, stations, stock)?;
     let types = UnitTypes::new(types.into_entries());
+    let trips_and_links = trips_and_links_of(alloc, &types, &stations, trips, links.items());
+    let stations = stations.into_entries();
     let TripsAndLinks {
         catalogue,
         trips,
         links,
-    } = trips_and_links_of(alloc, &types, &stations, trips, links.items())?;
+    } = trips_and_links?;
     Ok(AcceptedRows {
         types,
-        stations: stations.into_entries(),
+        stations,
         stock,
         catalogue,
         trips,
@@ -162,11 +164,12 @@ fn trips_and_links_of(
 {
     let catalogue = catalogue_of(alloc, types, stations.entries())?;
     let trips = trips_of(alloc, stations, types.items(), trips)?;
-    let links = links_of(alloc, &trips, links)?;
+    let links = links_of(alloc, &trips, links);
+    let trips = trips.into_entries();
     Ok(TripsAndLinks {
         catalogue,
-        trips: trips.into_entries(),
-        links,
+        trips,
+        links: links?,
     })
 }
 

@@ -1,11 +1,13 @@
 //! The tests on the rows of the links table.
 
-ghost use Rattle.std.specs.Prelude.{◌≡◌, ◌<◌, ◌≤◌, ◌&&◌, ◌||◌, length, IfOk, IfSome};
-ghost use Rattle.rail_base.specs.Answers.{GivesRows};
+ghost use Rattle.std.specs.Prelude.{◌≡◌, ◌+◌, ◌<◌, ◌≤◌, ◌&&◌, ◌||◌, length, Ok, IfOk, IfSome};
+ghost use Rattle.std.specs.Result.{result_and};
+ghost use Rattle.rail_base.specs.Answers.{Gives, GivesRows};
 ghost use Rattle.timetable.specs.Build.{is_memory};
 ghost use Rattle.timetable.specs.LinkRows.{trip_named, is_an_end, lacks_an_end, does_shunt, turn_in, join_in, split_in};
 ghost use Rattle.timetable.specs.LinkRows.{kind_of, NamesBelow, names_again, do_meet, is_in_time, each_pair};
 ghost use Rattle.timetable.specs.LinkRows.{accept_trips, accept_link, links_in};
+ghost use Rattle.timetable.specs.Rowwise.{accept_each};
 
 use crate::building::entries::row_after;
 use crate::building::linked::Linked;
@@ -289,6 +291,28 @@ fn accept_link(trips: &Named<Trip>, before: &Linked, row: &LinkRow) -> Result<Li
     accept_trips(trips.entries(), before, number, link)
 }
 
+/// Adds the links of the rows to those of the rows before them. An error is that of the first row that is refused, or
+/// want of memory, and the links of the rows before it are added.
+fn add_links(
+    trips: &Named<Trip>,
+    links: &mut Linked,
+    rows: &[LinkRow],
+) -> Result<(), InstanceRefusal>
+    requires trips { length trips.now ≤ MOST_TRIPS }
+    requires same_trips { links.old.trips ≡ length trips.now }
+    requires rows { length links.old.links + length rows.now ≤ MOST_LINKS }
+    ensures { Gives is_memory (result_and result (Ok links.new.links))
+        (accept_each (accept_link trips.now) links.old.links rows.now) }
+{
+    for row in rows {
+        // Taken apart and made anew: for a whole link that is kept here, rattle's borrow checker makes a plan that it
+        // cannot build.
+        let Link { kind, reverse } = accept_link(trips, links, row)?;
+        links.push(&Link { kind, reverse })?;
+    }
+    Ok(())
+}
+
 /// The links of the rows.
 #[tactic(auto, unfolding(crate::specs::LinkRows::links_in))]
 pub fn links_of(
@@ -301,11 +325,6 @@ pub fn links_of(
     ensures { GivesRows is_memory result (links_in trips.now rows.now) }
 {
     let mut links = Linked::new(alloc, trips.len() as u32)?;
-    for row in rows {
-        // Taken apart and made anew: for a whole link that is kept here, rattle's borrow checker makes a plan that it
-        // cannot build.
-        let Link { kind, reverse } = accept_link(trips, &links, row)?;
-        links.push(&Link { kind, reverse })?;
-    }
-    Ok(links.into_links())
+    let added = add_links(trips, &mut links, rows);
+    added.and(Ok(links.into_links()))
 }

@@ -29,8 +29,8 @@ pub new-types-requires-clause-limits : goal.new-types-requires-clause-limits
 new-types-requires-clause-limits c =
     ap (list_all is_within_limits) c.into_entries.ensures ∙ types_within_limits c.args.tables.types _ c.requires.types (yard_types _ _ _ _ _ _ c.in_ok-types.ensures)
 
-pub trips_and_links_of-requires-clause-stations : goal.trips_and_links_of-requires-clause-stations
-trips_and_links_of-requires-clause-stations c = (are_stations c.args.tables.stations _ c.requires.stations (yard_stations _ _ _ _ _ _ c.in_ok-types.ensures)).few
+pub trips_and_links_of-trips_and_links-requires-clause-stations : goal.trips_and_links_of-trips_and_links-requires-clause-stations
+trips_and_links_of-trips_and_links-requires-clause-stations c = (are_stations c.args.tables.stations _ c.requires.stations (yard_stations _ _ _ _ _ _ c.in_ok-types.ensures)).few
 
 pub returns-in_err-catalogue-clause-exact : goal.returns-in_err-catalogue-clause-exact
 returns-in_err-catalogue-clause-exact c =
@@ -45,8 +45,8 @@ returns-clause-exact c =
     let tables : Tables = c.args.tables in
     let yards : Yards = c.in_ok-types.field-0 in
     let types : c.new-types.result ≡ yards.types = c.new-types.ensures ∙ c.into_entries.ensures in
-    let stations : c.into_entries-2.result.items ≡ yards.stations = c.into_entries-2.ensures in
-    let made : yards_in tables.types tables.stations tables.stock ≡ Ok (c.new-types.result, c.into_entries-2.result.items, yards.stock.items) =
+    let stations : c.into_entries-stations.result.items ≡ yards.stations = c.into_entries-stations.ensures in
+    let made : yards_in tables.types tables.stations tables.stock ≡ Ok (c.new-types.result, c.into_entries-stations.result.items, yards.stock.items) =
     c.in_ok-types.ensures
     ∙ ap (λ (types : List UnitType). Ok (types, yards.stations, yards.stock.items)) (sym types)
     ∙ ap (λ (stations : List Station). Ok (c.new-types.result, stations, yards.stock.items)) (sym stations) in

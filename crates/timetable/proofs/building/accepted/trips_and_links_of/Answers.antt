@@ -11,8 +11,8 @@ use Rattle.timetable.proofs.Entries.{are_trips}
 use Rattle.timetable.proofs.InParts.{catalogue_refuses, trips_refuse, links_refuse, trips_and_links_said}
 use Rattle.timetable.proofs.building.accepted.trips_and_links_of.Goals as goal
 
-pub links_of-requires-clause-trips : goal.links_of-requires-clause-trips
-links_of-requires-clause-trips c =
+pub links_of-links-requires-clause-trips : goal.links_of-links-requires-clause-trips
+links_of-links-requires-clause-trips c =
     let trips : AreTrips (length c.args.stations.now) c.in_ok-trips.trips = are_trips c.args.stations.now c.items.result.now c.args.trips c.in_ok-trips.trips c.requires.trips c.in_ok-trips.ensures in
     trips.few
 
@@ -43,4 +43,4 @@ returns-clause-exact c =
     (ap (catalogue_in c.args.types.now) (sym c.entries.ensures) ∙ c.in_ok-catalogue.ensures.exact)
     (ap (λ (types : List UnitType). trips_in c.args.stations.now types c.args.trips) (sym c.items.ensures) ∙ c.in_ok-trips.ensures)
     c.in_ok-links.ensures
-    ∙ ap (λ (trips : List Trip). Ok (trips, c.in_ok-links.links.items)) (sym c.into_entries.ensures)
+    ∙ ap (λ (trips : List Trip). Ok (trips, c.in_ok-links.field-0.items)) (sym c.into_entries-trips.ensures)

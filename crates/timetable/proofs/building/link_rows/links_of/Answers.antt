@@ -1,25 +1,23 @@
--- The link of a row is added, and what refuses the row refuses the links.
-use Rattle.std.proofs.Common.{◌∙◌, ◌+◌, ℕ, ap, sym, length}
-use Rattle.std.proofs.lemmas.List.{length_push}
-use Rattle.std.proofs.lemmas.Result.{err_from_is_err_and}
+-- The links that were added are kept.
+use Rattle.std.proofs.Common.{◌≡◌, ◌∙◌, List, Result, Ok, Err, ap, sym, subst}
+use Rattle.std.specs.Global.{Vec}
+use Rattle.std.specs.Result.{result_and}
+use Rattle.rail_base.specs.Answers.{Gives, GivesRows}
 use Rattle.timetable.specs.Build.{is_memory}
 use Rattle.timetable.specs.LinkRows.{accept_link, links_in}
-use Rattle.rail_base.proofs.Answers.{Unless-from}
-use Rattle.timetable.proofs.EachRow.{one_more, one_refused}
+use Rattle.timetable.specs.Rowwise.{accept_each}
+use Rattle.timetable.specs.declared.building.refusal.InstanceRefusal.{InstanceRefusal}
+use Rattle.timetable.specs.declared.day.records.Link.{Link}
 use Rattle.timetable.proofs.building.link_rows.links_of.Goals as goal
 
-pub loop-row-preserved : goal.loop-row-preserved
-loop-row-preserved c = (
-  one_more (accept_link c.args.trips.now) c.loop-row.links.links c.push.new.self.links c.args.rows.now c.loop-row.row-index c.row-item.result c.in_ok-kind.field-0 _
-      c.loop-row-test.true c.row-item.is (sym c.in_ok-kind.ensures.value) c.in_ok-push.ensures.added c.loop-row.invariant.0,
-  ap length c.in_ok-push.ensures.added ∙ length_push c.loop-row.links.links c.in_ok-kind.field-0 ∙ ap (λ (n : ℕ). n + 1) c.loop-row.invariant.1,
-  c.in_ok-push.ensures.trips ∙ c.loop-row.invariant.2,
-)
+kept_links : {A : Type 0} (added : Result A InstanceRefusal) (kept : Vec Link) (links : List Link) (said : Result (List Link) InstanceRefusal) → kept.items ≡ links
+    → Gives is_memory (result_and added (Ok links)) said → GivesRows is_memory (result_and added (Ok kept)) said
+kept_links (Ok done) kept links said same gives = gives ∙ ap Ok (sym same)
+kept_links (Err refusal) kept links said same gives = gives
 
-pub returns-in_err-kind : goal.returns-in_err-kind
+pub returns : goal.returns
 unfolding links_in
-returns-in_err-kind c =
-    let p = err_from_is_err_and c.from_residual-in_err-kind.result c.from_residual-in_err-kind.ensures.1 in
-    rw (p.1, p.2) (Unless-from (is_memory c.in_err-kind.field-0.0)
-    (one_refused (accept_link c.args.trips.now) c.loop-row.links.links c.args.rows.now c.loop-row.row-index c.row-item.result c.in_err-kind.field-0.0 _
-    c.loop-row-test.true c.row-item.is (sym c.in_err-kind.ensures.value) c.loop-row.invariant.0))
+returns c =
+    let gives : Gives is_memory (result_and c.add_links-added.result (Ok c.add_links-added.new.links.links)) (links_in c.args.trips.now c.args.rows.now) =
+    subst (λ (before : List Link). Gives is_memory (result_and c.add_links-added.result (Ok c.add_links-added.new.links.links)) (accept_each (accept_link c.args.trips.now) before c.args.rows.now)) c.in_ok-links.ensures.links c.add_links-added.ensures in
+    rw c.and.ensures (kept_links c.add_links-added.result c.into_links.result _ _ c.into_links.ensures gives)
