@@ -46,7 +46,8 @@ use Rattle.planner_app.specs.Outcomes.{AskToTry, HasCause, IsOutcome, IsReadBy, 
 use Rattle.planner_app.specs.Outcomes.{IsTried, IsVerdictOn}
 use Rattle.planner_app.specs.Outcomes.{OfDay, OfDayAndPlan, PlanRuns, Says, command_for, folder_of, reads_answer}
 use Rattle.planner_app.specs.Outcomes.{reads_plan}
-use Rattle.planner_app.specs.ReportOutcomes.{IsReportOutcome, IsTrialOutcome}
+use Rattle.planner_app.specs.ReportOutcomes.{IsCheckOutcome, IsPlanOutcome, IsReportOutcome, IsRunOutcome}
+use Rattle.planner_app.specs.ReportOutcomes.{IsTrialOutcome}
 
 -- commands are about their folders
 abbrev about_planned : (words : List (List ℕ)) (dir : List ℕ) (nodes rounds : ℕ) → AskToPlan words dir nodes rounds → AskAbout words dir
@@ -158,7 +159,7 @@ module _ {F : Type 0} (holds : F → Option Files) (may_fail : F → List ℕ �
       → IsErrorOf (λ read. read ≢ table.Plan) error → Caused error → Comes (outcome_of_error error)
   day_not_planned nodes rounds error asked = no_day (about_planned words dir nodes rounds asked) refl error
 
-  pub planned : (nodes rounds : ℕ) (day : Day) (answer : Answer) → AskToPlan words dir nodes rounds → IsMadeDay day
+  planned : (nodes rounds : ℕ) (day : Day) (answer : Answer) → AskToPlan words dir nodes rounds → IsMadeDay day
       → ((files : Files) → holds before ≡ Some files → day_in files dir ≡ Ok day)
       → IsHeadline day nodes answer → Comes (Planned answer)
   planned nodes rounds day answer asked made told headline =
@@ -170,6 +171,22 @@ module _ {F : Type 0} (holds : F → Option Files) (may_fail : F → List ℕ �
         understood = λ vain. absurd (vain (command.Plan dir nodes rounds) asked);
         caused = tt;
       }
+
+  pub plan_comes : (nodes rounds : ℕ) (it : Outcome) (day : Day) → AskToPlan words dir nodes rounds → IsMadeDay day
+      → ((files : Files) → holds before ≡ Some files → day_in files dir ≡ Ok day)
+      → IsPlanOutcome day nodes it → Comes it
+  plan_comes nodes rounds (Planned answer) day asked made told is = planned nodes rounds day answer asked made told is
+  plan_comes nodes rounds NoMemory day asked made told is = no_memory
+  plan_comes nodes rounds (Tried seed trips tried) day asked made told is = absurd is
+  plan_comes nodes rounds (Runs money) day asked made told is = absurd is
+  plan_comes nodes rounds (Stops fault) day asked made told is = absurd is
+  plan_comes nodes rounds (Checked head verdict) day asked made told is = absurd is
+  plan_comes nodes rounds (Reported text) day asked made told is = absurd is
+  plan_comes nodes rounds NoPlan day asked made told is = absurd is
+  plan_comes nodes rounds Usage day asked made told is = absurd is
+  plan_comes nodes rounds (Refused why) day asked made told is = absurd is
+  plan_comes nodes rounds (CannotRead read) day asked made told is = absurd is
+  plan_comes nodes rounds (NoAnswer error) day asked made told is = absurd is
 
   -- a command that reads an answer reads no plan
   reads_no_plan : (about : AskAbout words dir) → reads_answer about.named ≡ true → reads_plan about.named ≡ false
@@ -208,7 +225,7 @@ module _ {F : Type 0} (holds : F → Option Files) (may_fail : F → List ℕ �
     caused = (dir, about, reads, caused);
   }
 
-  pub checked : (head : Head) (verdict : AnswerVerdict) (day : Day) (answer : Answer) → AskToCheck words dir
+  checked : (head : Head) (verdict : AnswerVerdict) (day : Day) (answer : Answer) → AskToCheck words dir
       → IsMadeDay day → IsWithin MOST_NODES answer
       → ((files : Files) → holds before ≡ Some files → AreAnswered files dir day answer)
       → IsVerdictOn day answer head verdict → Comes (Checked head verdict)
@@ -229,7 +246,25 @@ module _ {F : Type 0} (holds : F → Option Files) (may_fail : F → List ℕ �
     caused = tt;
   }
 
-  pub plan_runs : (inputs : Inputs) (money : Money) → AskToSimulate words dir → IsMadeDay inputs.instance
+  pub check_comes : (it : Outcome) (day : Day) (answer : Answer) → AskToCheck words dir
+      → IsMadeDay day → IsWithin MOST_NODES answer
+      → ((files : Files) → holds before ≡ Some files → AreAnswered files dir day answer)
+      → IsCheckOutcome day answer it → Comes it
+  check_comes (Checked head verdict) day answer asked made within told is =
+      checked head verdict day answer asked made within told is
+  check_comes NoMemory day answer asked made within told is = no_memory
+  check_comes (Planned planned) day answer asked made within told is = absurd is
+  check_comes (Tried seed trips tried) day answer asked made within told is = absurd is
+  check_comes (Runs money) day answer asked made within told is = absurd is
+  check_comes (Stops fault) day answer asked made within told is = absurd is
+  check_comes (Reported text) day answer asked made within told is = absurd is
+  check_comes NoPlan day answer asked made within told is = absurd is
+  check_comes Usage day answer asked made within told is = absurd is
+  check_comes (Refused why) day answer asked made within told is = absurd is
+  check_comes (CannotRead read) day answer asked made within told is = absurd is
+  check_comes (NoAnswer error) day answer asked made within told is = absurd is
+
+  plan_runs : (inputs : Inputs) (money : Money) → AskToSimulate words dir → IsMadeDay inputs.instance
       → IsMadePlan inputs.instance inputs.plan
       → ((files : Files) → holds before ≡ Some files → inputs_in files dir ≡ Ok inputs)
       → PlanRuns inputs → IsCost (plan_cost inputs.instance inputs.plan) money → Comes (Runs money)
@@ -241,7 +276,7 @@ module _ {F : Type 0} (holds : F → Option Files) (may_fail : F → List ℕ �
     caused = tt;
   }
 
-  pub plan_stops : (inputs : Inputs) (fault : StepFault) → AskToSimulate words dir → IsMadeDay inputs.instance
+  plan_stops : (inputs : Inputs) (fault : StepFault) → AskToSimulate words dir → IsMadeDay inputs.instance
       → IsMadePlan inputs.instance inputs.plan → ((files : Files) → holds before ≡ Some files → inputs_in files dir ≡ Ok inputs)
       → ¬ (PlanRuns inputs) → simulation inputs.instance inputs.plan ≡ Err fault → IsInTurn fault → Comes (Stops fault)
   plan_stops inputs fault asked made made_plan told stops is in_turn = record {
@@ -251,6 +286,25 @@ module _ {F : Type 0} (holds : F → Option Files) (may_fail : F → List ℕ �
     understood = λ vain. absurd (vain (command.Simulate dir) asked);
     caused = tt;
   }
+
+  pub run_comes : (inputs : Inputs) (it : Outcome) → AskToSimulate words dir → IsMadeDay inputs.instance
+      → IsMadePlan inputs.instance inputs.plan
+      → ((files : Files) → holds before ≡ Some files → inputs_in files dir ≡ Ok inputs)
+      → IsRunOutcome inputs.instance inputs.plan it → Comes it
+  run_comes inputs (Runs money) asked made made_plan told is =
+      plan_runs inputs money asked made made_plan told is.0 is.1
+  run_comes inputs (Stops fault) asked made made_plan told is =
+      plan_stops inputs fault asked made made_plan told is.0 is.1 is.2
+  run_comes inputs NoMemory asked made made_plan told is = no_memory
+  run_comes inputs (Planned planned) asked made made_plan told is = absurd is
+  run_comes inputs (Tried seed trips tried) asked made made_plan told is = absurd is
+  run_comes inputs (Checked head verdict) asked made made_plan told is = absurd is
+  run_comes inputs (Reported text) asked made made_plan told is = absurd is
+  run_comes inputs NoPlan asked made made_plan told is = absurd is
+  run_comes inputs Usage asked made made_plan told is = absurd is
+  run_comes inputs (Refused why) asked made made_plan told is = absurd is
+  run_comes inputs (CannotRead read) asked made made_plan told is = absurd is
+  run_comes inputs (NoAnswer error) asked made made_plan told is = absurd is
 
   -- ---- a report
 

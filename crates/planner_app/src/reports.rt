@@ -92,13 +92,25 @@ fn table_of(
     let plan = NamedPlan::of(copy_of(alloc, answer.runs.items())?);
     match kind {
         ReportKind::Duties => duties_table(alloc, instance, &plan),
-        ReportKind::Yards => {
-            let picks = picks_of_plan(alloc, instance, &plan)?;
-            yards_table(alloc, instance, &picks)
-        }
-        ReportKind::Costs => {
-            let picks = picks_of_plan(alloc, instance, &plan)?;
-            costs_table(alloc, instance, &picks)
-        }
+        ReportKind::Yards => yards_table_of(alloc, instance, &plan),
+        ReportKind::Costs => costs_table_of(alloc, instance, &plan),
     }
+}
+
+/// The report on the yards under a plan that runs.
+fn yards_table_of(alloc: Global, instance: &Instance, plan: &NamedPlan) -> Result<Vec<u8>, NoMemory>
+    requires { running.Runs instance.now plan.now }
+    ensures { IfOk result (λ text. text.items ≡ report_text ReportKind.Yards instance.now plan.now) }
+{
+    let picks = picks_of_plan(alloc, instance, plan)?;
+    yards_table(alloc, instance, &picks)
+}
+
+/// The report on the costs of a plan that runs.
+fn costs_table_of(alloc: Global, instance: &Instance, plan: &NamedPlan) -> Result<Vec<u8>, NoMemory>
+    requires { running.Runs instance.now plan.now }
+    ensures { IfOk result (λ text. text.items ≡ report_text ReportKind.Costs instance.now plan.now) }
+{
+    let picks = picks_of_plan(alloc, instance, plan)?;
+    costs_table(alloc, instance, &picks)
 }

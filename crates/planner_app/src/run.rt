@@ -1,19 +1,21 @@
 //! From the words to the outcome: what each command does with the files of its folder.
 
-ghost use Rattle.std.specs.Prelude.{ℕ, true, List, ◌≡◌, ◌≤◌, ◌+◌, ◌*◌, ◌^◌, All};
-ghost use Rattle.rail_base.specs.declared.limits.TheConstants.{MOST_BRANCHINGS, MOST_ROUNDS};
+ghost use Rattle.std.specs.Prelude.{ℕ, true, false, List, ◌≡◌, ◌≤◌, ◌+◌, ◌*◌, ◌^◌, All, length};
+ghost use Rattle.rail_base.specs.declared.limits.TheConstants.{MOST_BRANCHINGS, MOST_ROUNDS, MOST_TRIPS};
 ghost use Rattle.rail_io.specs.Folders.{OnlyReads, faults_after};
+ghost use Rattle.timetable.specs.Running.{IsPlan};
 ghost use Rattle.search.specs.Questions.{AreAsked, AreTheSame};
 ghost use Rattle.trial_day.specs.Trial.{IsTrialSize};
 ghost use Rattle.planner_app.specs.Advice.{AreAskedFor};
 ghost use Rattle.planner_app.specs.Outcomes.{AskAbout, AskToCheck, AskToPlan, AskToSimulate, Grants, IsOutcome};
-ghost use Rattle.planner_app.specs.ReportOutcomes.{IsTrialOutcome};
+ghost use Rattle.planner_app.specs.ReportOutcomes.{IsCheckOutcome, IsPlanOutcome, IsRunOutcome, IsTrialOutcome};
 ghost use Rattle.planner_app.specs.Statuses.{tells_unread};
 
-use crate::answered::{Answered, answered_in};
+use crate::answered::answered_in;
 use crate::reports::{ReportKind, reported};
 use advisors::Advisor;
 use answer_check::verdict_on;
+use answer_text::Answer;
 use commands::{Command, WordsRefusal, read_words};
 use day_files::{day_in, inputs_in};
 use day_planner::answer_for;
@@ -22,6 +24,7 @@ use rail_base::{NoMemory, Words};
 use rail_io::Folder;
 use run_documents::Outcome;
 use std::alloc::Global;
+use timetable::{Instance, NamedPlan};
 use trial_day::trial_instance;
 
 /// What the words and the folder come to.
@@ -102,11 +105,35 @@ fn planned<F: Folder>(
     ensures asked { AreAsked advisors.old.items advisors.new.items asked has_quit 0 (rounds * (2 * nodes + 1)) }
     ensures asked_for { AreAskedFor rounds result advisors.old.items advisors.new.items asked has_quit }
 {
-    let instance = match day_in(alloc, folder, dir) {
-        Ok(instance) => instance,
-        Err(error) => return Outcome::from(error),
-    };
-    match answer_for(alloc, &instance, nodes, rounds, advisors) {
+    match day_in(alloc, folder, dir) {
+        Ok(instance) => planned_day(alloc, &instance, nodes, rounds, advisors),
+        Err(error) => Outcome::from(error),
+    }
+}
+
+/// Plans a day.
+fn planned_day(
+    alloc: Global,
+    instance: &Instance,
+    nodes: u32,
+    rounds: u8,
+    advisors: &mut Vec<Box<dyn Advisor>>,
+) -> Outcome
+    // The grants, and the advisors before.
+    requires nodes { nodes ≤ MOST_BRANCHINGS }
+    requires rounds { rounds ≤ MOST_ROUNDS }
+    requires asked { All (λ advisor. asked advisor ≤ 2 ^ 63) advisors.old.items }
+
+    // What it comes to.
+    ensures outcome { IsPlanOutcome instance.now nodes result }
+    ensures read { tells_unread result ≡ false }
+
+    // The advisors.
+    ensures advisors { AreTheSame advisors.old.items advisors.new.items identity }
+    ensures asked { AreAsked advisors.old.items advisors.new.items asked has_quit 0 (rounds * (2 * nodes + 1)) }
+    ensures asked_for { AreAskedFor rounds result advisors.old.items advisors.new.items asked has_quit }
+{
+    match answer_for(alloc, instance, nodes, rounds, advisors) {
         Ok(answer) => Outcome::Planned(answer),
         Err(NoMemory) => Outcome::NoMemory,
     }
@@ -156,11 +183,19 @@ fn simulated<F: Folder>(alloc: Global, folder: &mut F, dir: &str) -> Outcome
     ensures fault_counted { F.counts_failed ≡ true
         → F.faults folder.new ≡ faults_after (tells_unread result) (F.faults folder.old) }
 {
-    let inputs = match inputs_in(alloc, folder, dir) {
-        Ok(inputs) => inputs,
-        Err(error) => return Outcome::from(error),
-    };
-    match simulate(alloc, &inputs.instance, &inputs.plan) {
+    match inputs_in(alloc, folder, dir) {
+        Ok(inputs) => simulated_plan(alloc, &inputs.instance, &inputs.plan),
+        Err(error) => Outcome::from(error),
+    }
+}
+
+/// Runs a plan of a day.
+fn simulated_plan(alloc: Global, instance: &Instance, plan: &NamedPlan) -> Outcome
+    requires { IsPlan instance.now plan.now }
+    ensures outcome { IsRunOutcome instance.now plan.now result }
+    ensures read { tells_unread result ≡ false }
+{
+    match simulate(alloc, instance, plan) {
         Ok(ran) => Outcome::Runs(ran.cost),
         Err(SimulateRefusal::Stops(fault)) => Outcome::Stops(fault),
         Err(SimulateRefusal::NoMemory) => Outcome::NoMemory,
@@ -175,11 +210,19 @@ fn checked<F: Folder>(alloc: Global, folder: &mut F, dir: &str) -> Outcome
     ensures fault_counted { F.counts_failed ≡ true
         → F.faults folder.new ≡ faults_after (tells_unread result) (F.faults folder.old) }
 {
-    let Answered { instance, answer } = match answered_in(alloc, folder, dir) {
-        Ok(answered) => answered,
-        Err(outcome) => return outcome,
-    };
-    match verdict_on(alloc, &instance, &answer) {
+    match answered_in(alloc, folder, dir) {
+        Ok(answered) => checked_answer(alloc, &answered.instance, &answered.answer),
+        Err(outcome) => outcome,
+    }
+}
+
+/// Checks an answer to a day.
+fn checked_answer(alloc: Global, instance: &Instance, answer: &Answer) -> Outcome
+    requires { length answer.now.runs ≤ MOST_TRIPS }
+    ensures outcome { IsCheckOutcome instance.now answer.now result }
+    ensures read { tells_unread result ≡ false }
+{
+    match verdict_on(alloc, instance, answer) {
         Ok(verdict) => Outcome::Checked {
             head: answer.head,
             verdict,

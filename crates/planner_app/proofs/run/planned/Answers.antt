@@ -1,7 +1,7 @@
 use Rattle.std.proofs.Common.{◌+◌, ◌*◌, rules}
 use Rattle.search.proofs.Asking.{are_unasked}
 use Rattle.planner_app.proofs.Asking.{none_asked_for}
-use Rattle.planner_app.proofs.Outcomes.{day_not_planned, made_into, planned}
+use Rattle.planner_app.proofs.Outcomes.{day_not_planned, made_into, plan_comes}
 use Rattle.planner_app.proofs.run.planned.Goals as goal
 
 pub returns-in-Err-clause-outcome : goal.returns-in-Err-clause-outcome
@@ -17,7 +17,7 @@ pub returns-in-Err-clause-asked : goal.returns-in-Err-clause-asked
 returns-in-Err-clause-asked g c =
     are_unasked _ _ (c.args.rounds * (2 * c.args.nodes + 1)) c.args.advisors.now.items
 
-pub returns-in-Ok-answer_for-clause-outcome : goal.returns-in-Ok-answer_for-clause-outcome
-returns-in-Ok-answer_for-clause-outcome g c words asked =
-    planned _ _ _ _ words _ _ c.args.dir.now c.args.nodes c.args.rounds c.in-Ok.instance c.in-Ok-answer_for.answer asked
-    c.in-Ok.ensures.made c.in-Ok.ensures.told c.in-Ok-answer_for.ensures.headline
+pub returns-in-Ok-clause-outcome : goal.returns-in-Ok-clause-outcome
+returns-in-Ok-clause-outcome g c words asked =
+    plan_comes _ _ _ _ words _ _ c.args.dir.now c.args.nodes c.args.rounds c.planned_day.result c.in-Ok.instance asked
+    c.in-Ok.ensures.made c.in-Ok.ensures.told c.planned_day.ensures.outcome
