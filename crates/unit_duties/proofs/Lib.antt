@@ -10,3 +10,4 @@ pub mod ByEdges
 pub mod Refusing
 pub mod DutyOrder
 pub mod Taking
+pub mod Kept

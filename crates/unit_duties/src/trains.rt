@@ -39,24 +39,16 @@ fn kept_count(instance: &Instance, picks: &Picks, link: &Link) -> usize
     link.kind.kept(arriving.as_slice(), departing).unwrap_or(0)
 }
 
-/// What stays of a list at a turn that keeps so many.
-fn staying_of<T: Copy + Default + Drop>(
-    end: End,
-    whole: &[T],
-    kept: usize,
-) -> ArrayVec<T, MOST_COMPOSITION>
+/// What stays of the units of a train at a turn that keeps so many.
+fn staying_of(end: End, whole: &[UnitNo], kept: usize) -> ArrayVec<UnitNo, MOST_COMPOSITION>
     requires { length whole.now ≤ MOST_COMPOSITION }
     ensures { result.items ≡ staying end whole.now kept }
 {
     copy_of(staying(end, whole, kept.min(whole.len())))
 }
 
-/// What goes of a list at a turn that keeps so many.
-fn beyond_of<T: Copy + Default + Drop>(
-    end: End,
-    whole: &[T],
-    kept: usize,
-) -> ArrayVec<T, MOST_COMPOSITION>
+/// What goes of the units of a train at a turn that keeps so many.
+fn beyond_of(end: End, whole: &[UnitNo], kept: usize) -> ArrayVec<UnitNo, MOST_COMPOSITION>
     requires { length whole.now ≤ MOST_COMPOSITION }
     ensures { result.items ≡ beyond end whole.now kept }
 {
