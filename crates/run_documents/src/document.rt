@@ -44,18 +44,21 @@ pub fn document(alloc: Global, outcome: &Outcome) -> Result<Vec<u8>, NoMemory>
     }
 }
 
+/// The commands, one a line.
+const USAGE: &str = "usage: railplan plan DIR [--nodes N] [--rounds K]
+       railplan simulate DIR
+       railplan check DIR
+       railplan duties DIR
+       railplan yards DIR
+       railplan costs DIR
+       railplan trial SEED TRIPS [--nodes N] [--rounds K]
+";
+
 /// How the program is used.
 fn usage_text(alloc: Global) -> Result<String, NoMemory>
     ensures { IfOk result (λ text. string_bytes text ≡ usage_text) }
 {
-    let mut text = String::from_str(alloc, "usage: railplan plan DIR [--nodes N] [--rounds K]\n")?;
-    text.push_str("       railplan simulate DIR\n")?;
-    text.push_str("       railplan check DIR\n")?;
-    text.push_str("       railplan duties DIR\n")?;
-    text.push_str("       railplan yards DIR\n")?;
-    text.push_str("       railplan costs DIR\n")?;
-    text.push_str("       railplan trial SEED TRIPS [--nodes N] [--rounds K]\n")?;
-    Ok(text)
+    Ok(String::from_str(alloc, USAGE)?)
 }
 
 /// The text of a trial day that was planned: which day it is, and what the answer says where that is all, else the
@@ -189,9 +192,7 @@ pub(crate) fn fault_text(alloc: Global, fault: &StepFault) -> Result<String, NoM
 fn not_ready_text(alloc: Global, unit: UnitNo, trip: TripNo) -> Result<String, NoMemory>
     ensures { IfOk result (λ text. string_bytes text ≡ not_ready_text unit trip) }
 {
-    let unit = unit.0;
-    let trip = trip.0;
-    Ok(format!(in alloc; "unit {unit} is not ready for trip {trip}")?)
+    Ok(format!(in alloc; "unit {} is not ready for trip {}", unit.0, trip.0)?)
 }
 
 /// A station has another number of units of a type at the end than is wanted.
