@@ -1,6 +1,7 @@
-use Rattle.std.proofs.Common.{◌≡◌, ℕ, suc, ◌≤◌, ◌<◌, length, get_or, false, map, refl, sym, ap, subst, ◌∙◌, arith}
+use Rattle.std.proofs.Common.{◌≡◌, ℕ, suc, ◌+◌, ◌≤◌, ◌<◌, length, get_or, false, map, refl, sym, ap, subst, ◌∙◌, arith}
 use Rattle.std.proofs.lemmas.Bool.{both_ways, false≢true, true≢false}
 use Rattle.std.proofs.lemmas.List.{get_or_default}
+use Rattle.std.proofs.lemmas.Result.{IfOk-from_err}
 use Rattle.branch_tree.specs.Sets.{size_of}
 use Rattle.search.specs.Questions.{once}
 use Rattle.search.specs.NodeAdvice.{IsAdviceFor, is_enough}
@@ -206,3 +207,43 @@ pub returns-clause-in_order : goal.returns-clause-in_order
 returns-clause-in_order g c =
     let all : c.loop-place.place ≡ length c.args.advisors.now.items = omega (arith, c.len-place-end.ensures, c.loop-place-test.false, c.loop-place.auto.place-end) in
     subst (λ (places : ℕ). WereAskedInOrder (λ b. (goal.Advisor-dyn g (b.vtable, b.value)).has_quit b.value) (λ b. (goal.Advisor-dyn g (b.vtable, b.value)).has_answered b.value) (g.R.Relaxation.meanings (g.R.Relaxation.problem c.args.problem.now)) c.args.advice.now.shown.rounds places (advice_state c.args.advisors.now.items c.args.advice.now (plan_in c.args.best.now) c.args.work.now) (advice_state c.loop-place.advisors.items c.loop-place.advice (plan_in c.loop-place.best) c.loop-place.work)) all c.loop-place.invariant.in_order
+
+pub returns-in_err-take_advice-clause-region : goal.returns-in_err-take_advice-clause-region
+returns-in_err-take_advice-clause-region g c = IfOk-from_err c.from_residual.result _ c.from_residual.ensures.0
+
+pub returns-in_err-take_advice-clause-offered : goal.returns-in_err-take_advice-clause-offered
+returns-in_err-take_advice-clause-offered g c = IfOk-from_err c.from_residual.result _ c.from_residual.ensures.0
+
+pub returns-in_err-take_advice-clause-worked : goal.returns-in_err-take_advice-clause-worked
+returns-in_err-take_advice-clause-worked g c = IfOk-from_err c.from_residual.result _ c.from_residual.ensures.0
+
+pub returns-in_err-take_advice-clause-advice : goal.returns-in_err-take_advice-clause-advice
+returns-in_err-take_advice-clause-advice g c = IfOk-from_err c.from_residual.result _ c.from_residual.ensures.0
+
+pub returns-in_err-take_advice-clause-rounds : goal.returns-in_err-take_advice-clause-rounds
+returns-in_err-take_advice-clause-rounds g c = IfOk-from_err c.from_residual.result _ c.from_residual.ensures.0
+
+pub returns-in_err-take_advice-clause-least : goal.returns-in_err-take_advice-clause-least
+returns-in_err-take_advice-clause-least g c = IfOk-from_err c.from_residual.result _ c.from_residual.ensures.0
+
+pub returns-in_err-take_advice-clause-in_order : goal.returns-in_err-take_advice-clause-in_order
+returns-in_err-take_advice-clause-in_order g c = IfOk-from_err c.from_residual.result _ c.from_residual.ensures.0
+
+pub returns-in_err-take_advice-clause-noted : goal.returns-in_err-take_advice-clause-noted
+returns-in_err-take_advice-clause-noted g c = IfOk-from_err c.from_residual.result _ c.from_residual.ensures.0
+
+pub returns-in_err-take_advice-clause-each : goal.returns-in_err-take_advice-clause-each
+returns-in_err-take_advice-clause-each g c = IfOk-from_err c.from_residual.result _ c.from_residual.ensures.0
+
+pub take_advice-requires-clause-worked : goal.take_advice-requires-clause-worked
+take_advice-requires-clause-worked g c =
+    subst (λ p. IsWorkedOn (g.R.Relaxation.meanings p) (plan_in c.loop-place.best) c.loop-place.work) (sym c.loop-place.invariant.same) c.loop-place.invariant.worked
+
+pub returns-then-not-is_open-clause-rounds : goal.returns-then-not-is_open-clause-rounds
+returns-then-not-is_open-clause-rounds g c = λ left. absurd (false≢true (sym c.if-not-is_open.true ∙ (c.is_open.ensures ∙ left)))
+
+pub returns-then-not-is_open-clause-each : goal.returns-then-not-is_open-clause-each
+returns-then-not-is_open-clause-each g c = λ left. absurd (false≢true (sym c.if-not-is_open.true ∙ (c.is_open.ensures ∙ left)))
+
+pub returns-clause-rounds : goal.returns-clause-rounds
+returns-clause-rounds g c = λ left. ap (λ (rounds : ℕ). rounds + 1) c.loop-place.invariant.rounds

@@ -1,4 +1,6 @@
 use Rattle.std.proofs.Common.{◌≡◌, ℕ, ◌+◌, ◌≤◌, length, refl, sym, subst, ◌∙◌, arith}
+use Rattle.std.proofs.lemmas.Bool.{false≢true}
+use Rattle.std.proofs.lemmas.Result.{IfOk-from_err}
 use Rattle.search.specs.Questions.{once}
 use Rattle.search.specs.NodeAdvice.{IsAdviceFor}
 use Rattle.search.specs.Offers.{IsOffered}
@@ -94,3 +96,31 @@ pub returns-after-loop-round-clause-made : goal.returns-after-loop-round-clause-
 returns-after-loop-round-clause-made g c =
     let all : c.loop-round._round ≡ c.args.rounds = omega (arith, c.loop-round-test.false, c.loop-round.auto._round-end) in
     subst (λ (rounds : ℕ). AreRounds (λ b. (goal.Advisor-dyn g (b.vtable, b.value)).has_quit b.value) (λ b. (goal.Advisor-dyn g (b.vtable, b.value)).has_answered b.value) (g.R.Relaxation.meanings (g.R.Relaxation.problem c.args.problem.now)) rounds (advice_state c.args.advisors.now.items c.args.advice.now (plan_in c.args.best.now) c.args.work.now) (advice_state c.loop-round.advisors.items c.loop-round.advice (plan_in c.loop-round.best) c.loop-round.work)) all c.loop-round.invariant.made
+
+pub returns-in_err-make_round-clause-region : goal.returns-in_err-make_round-clause-region
+returns-in_err-make_round-clause-region g c = IfOk-from_err c.from_residual.result _ c.from_residual.ensures.0
+
+pub returns-in_err-make_round-clause-offered : goal.returns-in_err-make_round-clause-offered
+returns-in_err-make_round-clause-offered g c = IfOk-from_err c.from_residual.result _ c.from_residual.ensures.0
+
+pub returns-in_err-make_round-clause-worked : goal.returns-in_err-make_round-clause-worked
+returns-in_err-make_round-clause-worked g c = IfOk-from_err c.from_residual.result _ c.from_residual.ensures.0
+
+pub returns-in_err-make_round-clause-rounds : goal.returns-in_err-make_round-clause-rounds
+returns-in_err-make_round-clause-rounds g c = IfOk-from_err c.from_residual.result _ c.from_residual.ensures.0
+
+pub returns-in_err-make_round-clause-least : goal.returns-in_err-make_round-clause-least
+returns-in_err-make_round-clause-least g c = IfOk-from_err c.from_residual.result _ c.from_residual.ensures.0
+
+pub returns-in_err-make_round-clause-made : goal.returns-in_err-make_round-clause-made
+returns-in_err-make_round-clause-made g c = IfOk-from_err c.from_residual.result _ c.from_residual.ensures.0
+
+pub make_round-requires-clause-worked : goal.make_round-requires-clause-worked
+make_round-requires-clause-worked g c =
+    subst (λ p. IsWorkedOn (g.R.Relaxation.meanings p) (plan_in c.loop-round.best) c.loop-round.work) (sym c.loop-round.invariant.same) c.loop-round.invariant.worked
+
+pub returns-then-not-is_open-clause-least : goal.returns-then-not-is_open-clause-least
+returns-then-not-is_open-clause-least g c = λ left. absurd (false≢true (sym c.if-not-is_open.true ∙ (c.is_open.ensures ∙ left)))
+
+pub returns-then-not-is_open-clause-rounds : goal.returns-then-not-is_open-clause-rounds
+returns-then-not-is_open-clause-rounds g c = λ left. absurd (false≢true (sym c.if-not-is_open.true ∙ (c.is_open.ensures ∙ left)))

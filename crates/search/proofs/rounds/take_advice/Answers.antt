@@ -1,7 +1,8 @@
 use Rattle.std.proofs.Common.{◌≡◌, ◌<◌, ◌+◌, ◌^◌, false, length, refl, subst, sym, ◌∙◌, arith, rules}
 use Rattle.std.proofs.lemmas.Bool.{true≢false}
+use Rattle.std.proofs.lemmas.Result.{IfOk-from_err}
 use Rattle.search.specs.Conclusions.{plan_in}
-use Rattle.search.specs.NodesInWork.{IsTakenUp}
+use Rattle.search.specs.NodesInWork.{IsTakenUp, IsWorkedOn}
 use Rattle.search.specs.Offers.{IsOffered}
 use Rattle.search.proofs.Asking.{asked_here, asked_one, same_but_asked}
 use Rattle.search.proofs.Evaluating.{not_offered}
@@ -84,3 +85,60 @@ returns-else-ne-clause-was_asked g c = record {
   };
   offered = not_offered (g.R.Relaxation.meanings (g.R.Relaxation.problem c.args.problem.now)) c.args.work.now.region (plan_in c.args.best.now);
 }
+
+pub returns-in_err-word-clause-region : goal.returns-in_err-word-clause-region
+returns-in_err-word-clause-region g c = IfOk-from_err c.from_residual.result _ c.from_residual.ensures.0
+
+pub returns-in_err-word-clause-offered : goal.returns-in_err-word-clause-offered
+returns-in_err-word-clause-offered g c = IfOk-from_err c.from_residual.result _ c.from_residual.ensures.0
+
+pub returns-in_err-word-clause-worked : goal.returns-in_err-word-clause-worked
+returns-in_err-word-clause-worked g c = IfOk-from_err c.from_residual.result _ c.from_residual.ensures.0
+
+pub returns-in_err-word-clause-advice : goal.returns-in_err-word-clause-advice
+returns-in_err-word-clause-advice g c = IfOk-from_err c.from_residual.result _ c.from_residual.ensures.0
+
+pub returns-in_err-word-clause-enough : goal.returns-in_err-word-clause-enough
+returns-in_err-word-clause-enough g c = IfOk-from_err c.from_residual.result _ c.from_residual.ensures.0
+
+pub returns-in_err-word-clause-rounds : goal.returns-in_err-word-clause-rounds
+returns-in_err-word-clause-rounds g c = IfOk-from_err c.from_residual.result _ c.from_residual.ensures.0
+
+pub returns-in_err-word-clause-was_asked : goal.returns-in_err-word-clause-was_asked
+returns-in_err-word-clause-was_asked g c = IfOk-from_err c.from_residual.result _ c.from_residual.ensures.0
+
+pub returns-in_err-take_up-clause-region : goal.returns-in_err-take_up-clause-region
+returns-in_err-take_up-clause-region g c = IfOk-from_err c.from_residual-in_err-take_up.result _ c.from_residual-in_err-take_up.ensures.0
+
+pub returns-in_err-take_up-clause-offered : goal.returns-in_err-take_up-clause-offered
+returns-in_err-take_up-clause-offered g c = IfOk-from_err c.from_residual-in_err-take_up.result _ c.from_residual-in_err-take_up.ensures.0
+
+pub returns-in_err-take_up-clause-worked : goal.returns-in_err-take_up-clause-worked
+returns-in_err-take_up-clause-worked g c = IfOk-from_err c.from_residual-in_err-take_up.result _ c.from_residual-in_err-take_up.ensures.0
+
+pub returns-in_err-take_up-clause-advice : goal.returns-in_err-take_up-clause-advice
+returns-in_err-take_up-clause-advice g c = IfOk-from_err c.from_residual-in_err-take_up.result _ c.from_residual-in_err-take_up.ensures.0
+
+pub returns-in_err-take_up-clause-enough : goal.returns-in_err-take_up-clause-enough
+returns-in_err-take_up-clause-enough g c = IfOk-from_err c.from_residual-in_err-take_up.result _ c.from_residual-in_err-take_up.ensures.0
+
+pub returns-in_err-take_up-clause-rounds : goal.returns-in_err-take_up-clause-rounds
+returns-in_err-take_up-clause-rounds g c = IfOk-from_err c.from_residual-in_err-take_up.result _ c.from_residual-in_err-take_up.ensures.0
+
+pub returns-in_err-take_up-clause-was_asked : goal.returns-in_err-take_up-clause-was_asked
+returns-in_err-take_up-clause-was_asked g c = IfOk-from_err c.from_residual-in_err-take_up.result _ c.from_residual-in_err-take_up.ensures.0
+
+pub take_up-requires-clause-worked : goal.take_up-requires-clause-worked
+take_up-requires-clause-worked g c =
+    subst (λ p. IsWorkedOn (g.R.Relaxation.meanings p) (plan_in c.args.best.now) c.args.work.now) (sym c.ask.ensures.same) c.requires.worked
+
+pub returns-in_ok-take_up-clause-offered : goal.returns-in_ok-take_up-clause-offered
+returns-in_ok-take_up-clause-offered g c =
+    subst (λ p. IsOffered (g.R.Relaxation.meanings p) c.args.work.now.region (plan_in c.args.best.now) (plan_in c.take_up.new.best)) c.ask.ensures.same c.in_ok-take_up.ensures.offered
+
+pub returns-in_ok-take_up-clause-worked : goal.returns-in_ok-take_up-clause-worked
+returns-in_ok-take_up-clause-worked g c =
+    subst (λ p. IsWorkedOn (g.R.Relaxation.meanings p) (plan_in c.take_up.new.best) c.take_up.new.self) c.ask.ensures.same c.in_ok-take_up.ensures.worked
+
+pub returns-else-ne-clause-offered : goal.returns-else-ne-clause-offered
+returns-else-ne-clause-offered g c = not_offered _ _ _
