@@ -123,7 +123,6 @@ fn write_outcome<K: Sink>(alloc: Global, outcome: &Outcome, out: &mut K) -> u8
 /// times for the root and for both sides of each branching; and one that has not quit at the end was asked B + L times
 /// at least, unless K is 0. Where no day is read, other than for want of memory, none was asked. Other commands leave
 /// the list as it is. Words that ask for no command on a folder leave the folder as it is, those of `trial` among them.
-#[tactic(auto, using(crate::proofs::Statuses::unread_rose))]
 pub fn railplan<F: Folder, K: Sink>(
     alloc: Global,
     words: &Words,
