@@ -57,7 +57,7 @@ def write_wide_day(folder, rows, links):
 
 
 def write_largest(folder):
-    """The longest document with a whole tree, which is read whole and is invalid at once, and how many bytes it has."""
+    """An answer with the most leaves and entries, read whole and invalid at once, and how many bytes it has."""
     entries = "".join(f" {999_000 + place}:-1000000000000" for place in range(MOST_ENTRIES))
     leaf = f"cost -100000000000000000000 {MOST_ENTRIES}{entries}\n"
     path = os.path.join(folder, "answer.txt")
@@ -146,7 +146,7 @@ def try_wide_days(program):
 
 
 def try_answers(program):
-    """The longest answer that can be read whole, one as long as a file may be, and one byte longer."""
+    """An answer with the most leaves and entries, one as long as a file may be, and one byte longer."""
     with tempfile.TemporaryDirectory() as folder:
         write_day(folder, TRIPS)
         path = os.path.join(folder, "answer.txt")
