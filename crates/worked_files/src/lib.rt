@@ -1,0 +1,12 @@
+//! Worked files: examples of the public calls on files, the disk, the standard output, rows of tables and compositions,
+//! as tests.
+#![tactic(auto)]
+
+#[cfg(test)]
+mod composition_tests;
+#[cfg(test)]
+mod file_tests;
+#[cfg(test)]
+mod row_tests;
+#[cfg(test)]
+mod system_tests;
