@@ -16,3 +16,6 @@ pub returns-in-Invalid-clause-verdict : goal.returns-in-Invalid-clause-verdict
 returns-in-Invalid-clause-verdict c =
     says_refuted c.args.instance.now c.args.answer.now c.args.picks.now c.claim_of-claim.result c.requires.picks
     c.claim_of-claim.ensures.head c.claim_of-claim.ensures.branchings c.claim_of-claim.ensures.tree c.in-Invalid.reason (search rules)
+
+pub returns-in-Invalid-clause-holds : goal.returns-in-Invalid-clause-holds
+returns-in-Invalid-clause-holds c = search rules

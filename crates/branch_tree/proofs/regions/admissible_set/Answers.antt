@@ -1,4 +1,4 @@
-use Rattle.std.proofs.Common.{◌≤◌, false, length, sym, ◌∙◌, ap, arith, ⊎_elim}
+use Rattle.std.proofs.Common.{◌≤◌, false, length, sym, ◌∙◌, ap, arith, ⊎_elim, rules}
 use Rattle.std.proofs.lemmas.Bool.{cases_lt}
 use Rattle.rail_base.specs.declared.limits.TheConstants.{MOST_COMPOSITIONS}
 use Rattle.timetable.specs.Admissible.{is_admissible}
@@ -23,3 +23,6 @@ returns c =
     (λ comp _. ⊎_elim (λ below. c.loop-comp.invariant.asked comp below)
     (λ past. c.loop-comp.invariant.others comp past ∙ sym (none_past day c.args.trip comp (omega (arith, end, past))))
     (cases_lt comp c.loop-comp.comp))
+
+pub loop-comp-preserved : goal.loop-comp-preserved
+loop-comp-preserved c = search rules

@@ -42,3 +42,6 @@ returns-clause-counted g c =
     (λ b. (goal.Advisor-dyn g (b.vtable, b.value)).has_quit b.value)
     (in_rounds c.args.rounds (branchings_of (nodes_found found) + n))
     (c.args.rounds * (2 * branchings_of (nodes_found found) + 1))) leaves c.in_ok-found.ensures.counted)
+
+pub returns-clause-asked : goal.returns-clause-asked
+returns-clause-asked g c = c.find.ensures.asked

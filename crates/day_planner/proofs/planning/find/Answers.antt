@@ -22,3 +22,9 @@ returns-clause-solved g c =
     at_day c.args.instance.now c.in_ok-bounds.bounds c.in_ok-root.root
     (λ problem region. IfOk c.solve.result (IsSolved problem region c.args.nodes))
     c.in_ok-bounds.ensures c.in_ok-root.ensures c.solve.ensures.solved
+
+pub returns-clause-asked : goal.returns-clause-asked
+returns-clause-asked g c = c.solve.ensures.asked
+
+pub returns-clause-counted : goal.returns-clause-counted
+returns-clause-counted g c = c.solve.ensures.counted

@@ -1,4 +1,4 @@
-use Rattle.std.proofs.Common.{◌∙◌, List, [], ◌∷◌, ◌++◌, ap}
+use Rattle.std.proofs.Common.{◌∙◌, List, [], ◌∷◌, ◌++◌, ap, rules}
 use Rattle.rail_csv.specs.declared.rows.TripRow.{TripRow}
 use Rattle.trial_day.proofs.Drawing.{state_more, trips_more}
 use Rattle.trial_day.proofs.rows.trips.Goals as goal
@@ -14,3 +14,6 @@ loop-pair-preserved c =
           (◌∙◌ {A = List TripRow} c.in_ok-push-2.ensures.items (ap (λ (rows : List TripRow). rows ++ c.in_ok-back_row.field-0 ∷ []) c.in_ok-push.ensures.items)),
       state_more c.args.seed c.loop-pair.pair c.loop-pair.draws one.new.draws two.new.draws at one.ensures.state two.ensures.state,
     )
+
+pub loop-pair-init : goal.loop-pair-init
+loop-pair-init c = search rules

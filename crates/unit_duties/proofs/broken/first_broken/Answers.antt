@@ -1,4 +1,4 @@
-use Rattle.std.proofs.Common.{◌∙◌, ◌<◌, ℕ, sym, subst}
+use Rattle.std.proofs.Common.{◌∙◌, ◌<◌, ℕ, sym, subst, rules}
 use Rattle.unit_duties.proofs.ByEdges.{link_at}
 use Rattle.unit_duties.proofs.broken.first_broken.Goals as goal
 
@@ -12,3 +12,6 @@ returns-then-not-holds-clause-some c =
       broken = sym (c.holds.ensures found.0 found.1) ∙ c.if-not-holds.true;
       before = c.loop-number.invariant;
     }
+
+pub loop-number-init : goal.loop-number-init
+loop-number-init c = search rules

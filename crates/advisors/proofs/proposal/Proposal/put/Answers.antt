@@ -1,4 +1,4 @@
-use Rattle.std.proofs.Common.{◌≡◌, ◌<◌, pos, ◌≤ℤ◌, arith, sym, subst, w64}
+use Rattle.std.proofs.Common.{◌≡◌, ◌<◌, pos, ◌≤ℤ◌, arith, sym, subst, w64, rules}
 use Rattle.std.proofs.lemmas.Int.{ints}
 use mir.Val.{to_z, of_z}
 use Rattle.advisors.proofs.Fitting.{still-fits}
@@ -22,3 +22,6 @@ invariant_of-self c = still-fits c.put.result _ c.put.new.self c.args.index (to_
 
 pub returns-clause-fit : goal.returns-clause-fit
 returns-clause-fit c = invariant_of-self c
+
+pub returns-clause-refusal : goal.returns-clause-refusal
+returns-clause-refusal c = search rules

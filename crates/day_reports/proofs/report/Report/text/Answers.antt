@@ -1,4 +1,4 @@
-use Rattle.std.proofs.Common.{◌≡◌, ◌∙◌, [], ap, map, take, unwrap_or}
+use Rattle.std.proofs.Common.{◌≡◌, ◌∙◌, [], ap, map, take, unwrap_or, rules}
 use Rattle.std.specs.List.{flat_map}
 use Rattle.std.proofs.lemmas.List.{take_all}
 use Rattle.csv.specs.Records.{fields_of}
@@ -15,3 +15,6 @@ returns-in-Ok c =
     let written : c.in-Ok.text.items ≡ flat_map line_of (map fields_of (take c.loop-row.row-index items)) = c.in-Ok.ensures.ok ∙ ap (λ text. unwrap_or text []) c.loop-row.invariant.text in
     let rows : map fields_of items ≡ c.args.self.now = ap (map fields_of) c.deref-row-items.ensures.value ∙ c.self.view_is in
     written ∙ lines ∙ ap (flat_map line_of) rows
+
+pub loop-row-init : goal.loop-row-init
+loop-row-init c = search rules
