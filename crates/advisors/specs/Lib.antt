@@ -6,3 +6,7 @@ pub mod Quits
 -- the advisors that are there
 pub mod Dives
 pub mod MultiplierSteps
+pub mod SteppedProposals
+-- parts of a list of entries, and entries put one after another
+pub mod EntriesByIndex
+pub mod Puts

@@ -1,9 +1,13 @@
 //! The subgradient: the last multipliers, moved along the slacks that the picks have under them.
 
-ghost use Rattle.std.specs.Prelude.{◌≡◌, ◌+◌, ◌<◌, ◌≤◌, ◌^◌, [], pos, unsigned_abs, false, Ok};
+ghost use Rattle.std.specs.Prelude.{◌≡◌, ◌≢◌, ◌+◌, ◌<◌, ◌≤◌, ◌^◌, [], ◌∷◌, ◌++◌, pos, unsigned_abs, false, Ok};
 ghost use Rattle.rail_base.specs.declared.limits.TheConstants.{MOST_MULTIPLIER};
+ghost use Rattle.branch_tree.specs.Entries.{AreRising};
+ghost use Rattle.advisors.specs.EntriesByIndex.{below, from_on};
 ghost use Rattle.advisors.specs.Proposals.{DoesFit, IsOverSame};
 ghost use Rattle.advisors.specs.MultiplierSteps.{moved, step_of, word_for};
+ghost use Rattle.advisors.specs.Puts.{AreDividedAt, moved_entry, with_entries, with_entry};
+ghost use Rattle.advisors.specs.SteppedProposals.{IsStepped};
 
 use crate::advisor::{Advisor, Look, Word};
 use crate::proposal::Proposal;
@@ -45,16 +49,16 @@ impl Advisor for Subgradient {
     ghost identity = { λ _. 1 };
 
     /// Proposes the last multipliers, moved by the step times the slack at each index that has one, kept within 10^12
-    /// in size, and at 0 where they may not be negative and would be. They are put by rising index, and one for which
-    /// there is no room is left out. It answers `More`; without slacks it proposes nothing and answers `Enough`. It was
-    /// asked fewer than 2^64 - 1 times, and takes no memory.
+    /// in size, and at 0 where they may not be negative and would be. They are put by rising index, and one that the
+    /// proposal refuses, as it does where there is no room for it, is left out. It answers `More`; without slacks it
+    /// proposes nothing and answers `Enough`. It was asked fewer than 2^64 - 1 times, and takes no memory.
     fn advise(&mut self, look: &Look<'_>, to: &mut Proposal) -> Result<Word, NoMemory>
         requires room { self.old + 1 < 2 ^ 64 }
         ensures asked { self.new ≡ self.old + 1 }
         ensures answer { result ≡ Ok (word_for look.now.slacks.now) }
-        ensures over { IsOverSame to.old to.new }
         ensures nothing { look.now.slacks.now ≡ [] → to.new ≡ to.old }
-        ensures cut { to.new.cut ≡ to.old.cut }
+        ensures stepped { look.now.slacks.now ≢ [] → IsStepped look.now to.old to.new }
+        ensures over { IsOverSame to.old to.new }
         ensures fit { DoesFit to.new }
     {
         self.asked += 1;
@@ -75,55 +79,83 @@ impl Advisor for Subgradient {
     }
 }
 
-/// Proposes the last multipliers, moved at each index that has a slack.
+/// Proposes the last multipliers, moved at each index that has a slack, by rising index.
 fn propose(look: &Look<'_>, to: &mut Proposal)
-    requires { DoesFit to.old }
+    ensures stepped { IsStepped look.now to.old to.new }
     ensures over { IsOverSame to.old to.new }
-    ensures cut { to.new.cut ≡ to.old.cut }
-    ensures fit { DoesFit to.new }
-{
-    let step = step_of(look.first, look.round);
-    let entries = look.multipliers.entries();
-    let mut from = 0;
-    for place in 0..look.slacks.len() {
-        let slack = look.slacks.at(place);
-        // A multiplier at the index of the slack is put as it is and then moved, which takes no second room.
-        from = put_through(to, entries, from, slack.index);
-        let value = look.multipliers.value(slack.index);
-        let may_be_negative = slack.index >= look.free_from;
-        put_if_room(
-            to,
-            slack.index,
-            moved(value, step, slack.value, may_be_negative),
-        );
-    }
-    put_through(to, entries, from, u32::MAX);
-}
-
-/// Puts the entries from a place on whose indices are not above this one, and answers the place of the next one.
-fn put_through(to: &mut Proposal, entries: &[Entry], from: usize, through: u32) -> usize
-    ensures over { IsOverSame to.old to.new }
-    ensures cut { to.new.cut ≡ to.old.cut }
     ensures fit { DoesFit to.new }
 {
     to.multipliers();
-    for place in from..entries.len() {
-        let entry = entries[place];
-        if entry.index > through {
+    let mut entries = look.multipliers.entries();
+    for place in 0..look.slacks.len() {
+        entries = put_through(to, look, look.slacks.at(place), entries);
+    }
+    put_all(to, entries);
+}
+
+/// Puts the multipliers of the indices below that of a slack, and then the one that is moved along it. Answers those of
+/// the indices above.
+fn put_through<'a>(
+    to: &mut Proposal,
+    look: &Look<'_>,
+    slack: Entry,
+    entries: &'a [Entry],
+) -> &'a [Entry]
+    requires { AreRising entries.now }
+    ensures put { to.new ≡ with_entries to.old (below slack.index entries.now ++ moved_entry look.now slack ∷ []) }
+    ensures rest { result.now ≡ from_on (slack.index + 1) entries.now }
+    ensures fit { DoesFit to.new }
+{
+    let index = u64::from(slack.index);
+    put_all(to, &entries[..count_below(entries, index)]);
+    put_if_room(to, moved_entry(look, slack));
+    &entries[count_below(entries, index + 1)..]
+}
+
+/// Puts entries one after another, and leaves out those that are refused.
+fn put_all(to: &mut Proposal, entries: &[Entry])
+    ensures put { to.new ≡ with_entries to.old entries.now }
+    ensures fit { DoesFit to.new }
+{
+    to.multipliers();
+    for place in 0..entries.len() {
+        put_if_room(to, entries[place]);
+    }
+}
+
+/// Puts an entry, or leaves it out where it is refused.
+fn put_if_room(to: &mut Proposal, entry: Entry)
+    ensures put { to.new ≡ with_entry to.old entry }
+    ensures fit { DoesFit to.new }
+{
+    let _is_put = to.put(entry.index, entry.value).is_ok();
+}
+
+/// How many entries, by rising index, are of indices below this one.
+fn count_below(entries: &[Entry], index: u64) -> usize
+    requires { AreRising entries.now }
+    ensures { AreDividedAt entries.now index result }
+{
+    for place in 0..entries.len() {
+        if u64::from(entries[place].index) >= index {
             return place;
         }
-        put_if_room(to, entry.index, entry.value);
     }
     entries.len()
 }
 
-/// Puts a value at an index, or leaves it out where it is refused.
-fn put_if_room(to: &mut Proposal, index: u32, value: i64)
-    ensures over { IsOverSame to.old to.new }
-    ensures cut { to.new.cut ≡ to.old.cut }
-    ensures fit { DoesFit to.new }
+/// The last multiplier of the index of a slack, moved along the slack.
+fn moved_entry(look: &Look<'_>, slack: Entry) -> Entry
+    ensures { result ≡ moved_entry look.now slack }
 {
-    let _is_put = to.put(index, value).is_ok();
+    look.multipliers.entries();
+    let step = step_of(look.first, look.round);
+    let value = look.multipliers.value(slack.index);
+    let may_be_negative = slack.index >= look.free_from;
+    Entry {
+        index: slack.index,
+        value: moved(value, step, slack.value, may_be_negative),
+    }
 }
 
 /// A quarter of the size of the bound with no multipliers, divided by the number of the round counted from 1, both

@@ -1,10 +1,12 @@
-use Rattle.std.proofs.Common.{◌≡◌}
-use Rattle.advisors.specs.Proposals.{DoesFit, IsOverSame}
+use Rattle.std.proofs.Common.{◌≡◌, drop}
+use Rattle.branch_tree.specs.Entries.{AreRising}
+use Rattle.advisors.specs.Proposals.{DoesFit}
+use Rattle.advisors.specs.Puts.{merged, with_entries}
 use Rattle.advisors.proofs.subgradient.propose.Given as goal
 
 abbrev pub invariant-loop-place : goal.invariant-loop-place
 invariant-loop-place l = record {
-  over : IsOverSame l.fn.to l.to;
-  cut : l.to.cut ≡ l.fn.to.cut;
+  put : with_entries l.to (merged l.look l.entries (drop l.place l.look.slacks.now)) ≡ with_entries l.fn.to (merged l.look l.look.multipliers.now l.look.slacks.now);
+  rising : AreRising l.entries;
   fit : DoesFit l.to;
 }
