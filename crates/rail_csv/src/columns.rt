@@ -10,6 +10,7 @@ ghost use Rattle.rail_csv.specs.Columns.{number_column, time_column, name_column
 ghost use Rattle.rail_csv.specs.Columns.{answer_column, end_column, units_column, field, field_or};
 ghost use Rattle.rail_csv.specs.Tables.{is_memory};
 ghost use Rattle.rail_base.specs.Answers.{Gives};
+ghost use Rattle.rail_base.specs.Names.{is_name};
 
 use crate::limits::{
     LAST_HOUR, LAST_MINUTE_OF_AN_HOUR, MINUTES_OF_AN_HOUR, MOST_NUMBER_DIGITS, MOST_VALUE_BYTES,
@@ -39,7 +40,7 @@ pub fn digits_value(text: &[u8]) -> Option<u64>
 }
 
 /// The number that a text spells, where it is a number: 1 to `MOST_NUMBER_DIGITS` digits.
-fn number_of(text: &[u8]) -> Option<u32>
+pub fn number_of(text: &[u8]) -> Option<u32>
     ensures { result ≡ if is_number text.now then Some (number_of text.now) else None }
 {
     if text.is_empty() {
@@ -94,8 +95,9 @@ pub fn number_or(
     Ok(value)
 }
 
-/// The minutes of a time since the first midnight, where a text is a time.
-fn minutes_of(text: &[u8]) -> Option<u16>
+/// The time that a text spells, as the minutes since the first midnight, where it is a time: one or two digits of the
+/// hour 0 to 47, a colon, and two digits of the minute 0 to 59.
+pub fn time_of(text: &[u8]) -> Option<Minute>
     ensures { result ≡ if is_time text.now then Some (time_of text.now) else None }
 {
     if text.len() < 4 {
@@ -115,20 +117,30 @@ fn minutes_of(text: &[u8]) -> Option<u16>
     if minute > LAST_MINUTE_OF_AN_HOUR {
         return None;
     }
-    Some((MINUTES_OF_AN_HOUR * hour + minute) as u16)
+    Some(Minute((MINUTES_OF_AN_HOUR * hour + minute) as u16))
 }
 
-/// A time, as the minutes since the first midnight: one or two digits of the hour 0 to 47, a colon, and two digits of
-/// the minute 0 to 59. Another text is `BadTime`.
+/// A time, as the minutes since the first midnight. Another text is `BadTime`.
 #[tactic(auto, unfolding(crate::specs::Columns::time_column))]
 pub fn time(fields: &StringRecord, row: u32, column: u32) -> Result<Minute, TableRefusal>
     ensures { Gives is_memory result (time_column row column (field (fields_of fields.now) column)) }
 {
     let text = field(fields, column as usize);
-    let Some(minutes) = minutes_of(text.as_bytes()) else {
+    let Some(time) = time_of(text.as_bytes()) else {
         return Err(TableRefusal::BadTime { row, column });
     };
-    Ok(Minute(minutes))
+    Ok(time)
+}
+
+/// The name that a text is, where it is one: 1 to 64 bytes, no byte below 32, no byte 127, and no space at either end.
+/// The error is want of memory.
+pub fn name_of(alloc: Global, text: &str) -> Result<Option<Name>, NoMemory>
+    ensures { IfOk result (λ name. name ≡ if is_name text.now then Some text.now else None) }
+{
+    if !is_name(text.as_bytes()) {
+        return Ok(None);
+    }
+    Ok(Some(Name::copy(alloc, text)?))
 }
 
 /// A name. Another text is `BadName`, and `NoMemory` is want of memory.
@@ -142,10 +154,10 @@ pub fn name(
     ensures { Gives is_memory result (name_column row column (field (fields_of fields.now) column)) }
 {
     let text = field(fields, column as usize);
-    if !is_name(text.as_bytes()) {
+    let Some(name) = name_of(alloc, text)? else {
         return Err(TableRefusal::BadName { row, column });
-    }
-    Ok(Name::copy(alloc, text)?)
+    };
+    Ok(name)
 }
 
 /// A name, or nothing where the field is empty. It is refused as by `name`.

@@ -9,10 +9,10 @@ ghost use Rattle.rail_csv.specs.Tables.{Columns, is_header, is_memory, records_o
 ghost use Rattle.rail_csv.specs.Tables.{table_of};
 ghost use Rattle.rail_csv.specs.Records.{ReadsOn, Took, records_left};
 ghost use Rattle.rail_csv.specs.ReadRows.{GoesOn, HasOneMore, HasRead, all_rows, row_within, width_of};
-ghost use Rattle.rail_csv.specs.declared.refusal.TableRefusal.TheVariants.{NoMemory};
 
 use crate::refusal::TableRefusal;
 use csv::{ByteRecord, ByteRecordsIntoIter, Error, ReaderBuilder, StringRecord};
+use rail_base::NoMemory;
 use rail_base::limits::MOST_TABLE_BYTES;
 use std::alloc::Global;
 
@@ -43,8 +43,8 @@ pub fn field(fields: &StringRecord, column: usize) -> &str
     field_or("", fields, column)
 }
 
-/// The bytes of a field; none where there is no such column.
-fn field_bytes(found: &ByteRecord, column: usize) -> &[u8]
+/// The bytes of a record's field, by its column, counted from 0; none where there is no such column.
+pub fn field_bytes(found: &ByteRecord, column: usize) -> &[u8]
     ensures { result.now ≡ field (fields_of found.now) column }
 {
     match found.get(column) {
@@ -53,8 +53,9 @@ fn field_bytes(found: &ByteRecord, column: usize) -> &[u8]
     }
 }
 
-/// Whether a record is the header of a version: a front of the words of all columns, with `fewest` of them at least.
-fn is_header(words: &[&str], fewest: usize, found: &ByteRecord) -> bool
+/// Whether a record is the header of a version: a front of the words of all columns, with `fewest` of them at least. A
+/// table that has one version alone has as many words as `fewest`.
+pub fn is_header(words: &[&str], fewest: usize, found: &ByteRecord) -> bool
     ensures { result ≡ is_header (map (λ word. word.now) words.now) fewest (fields_of found.now) }
 {
     let width = found.len();
@@ -96,8 +97,9 @@ fn read_row<T: TableRow>(
     T::read(alloc, row, &fields)
 }
 
-/// The records of a table, one by one, after a byte order mark at its front was dropped once.
-fn records_in(alloc: Global, bytes: &[u8]) -> ByteRecordsIntoIter<&[u8]>
+/// The records of a table, to be read one by one by `next_record`. A byte order mark at the front is dropped once, and
+/// empty lines are no records. The bytes are at most `MOST_TABLE_BYTES`.
+pub fn records_in(alloc: Global, bytes: &[u8]) -> ByteRecordsIntoIter<&[u8]>
     requires { length bytes.now ≤ MOST_TABLE_BYTES }
     ensures reads { ReadsOn result }
     ensures all { records_left result ≡ records_of bytes.now }
@@ -111,23 +113,22 @@ fn records_in(alloc: Global, bytes: &[u8]) -> ByteRecordsIntoIter<&[u8]>
 
 /// The record that csv read, which did not fail for its number of fields. Bytes in memory leave csv only want of memory
 /// to fail for, so each error is told as that.
-fn record_of(read: Result<ByteRecord, Error>) -> Result<ByteRecord, TableRefusal>
+fn record_of(read: Result<ByteRecord, Error>) -> Result<ByteRecord, NoMemory>
     requires { IfErr read (λ e. NotLengths (error_kind e)) }
-    ensures ok { IfOk result (λ found. read ≡ Ok found) }
-    ensures err { IfErr result (λ e. e ≡ NoMemory) }
+    ensures { IfOk result (λ found. read ≡ Ok found) }
 {
     match read {
         Ok(found) => Ok(found),
-        Err(_) => Err(TableRefusal::NoMemory),
+        Err(_) => Err(NoMemory),
     }
 }
 
-/// The next record; none where all are read.
-fn next_record(records: &mut ByteRecordsIntoIter<&[u8]>) -> Result<Option<ByteRecord>, TableRefusal>
+/// The next of the records that are left; none where all are read, and then there is nothing more to be read. The error
+/// is want of memory, and ends the reading too.
+pub fn next_record(records: &mut ByteRecordsIntoIter<&[u8]>) -> Result<Option<ByteRecord>, NoMemory>
     requires { ReadsOn records.old }
-    ensures ok { IfOk result (λ next. MatchOption next (records_left records.old ≡ [])
+    ensures { IfOk result (λ next. MatchOption next (records_left records.old ≡ [])
         (λ found. Took records.old records.new (fields_of found))) }
-    ensures err { IfErr result (λ e. e ≡ NoMemory) }
 {
     let Some(read) = records.next() else {
         return Ok(None);
