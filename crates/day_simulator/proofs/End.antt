@@ -5,8 +5,8 @@ use Rattle.std.specs.Prelude.{if◌then◌else◌, ◌==◌, ◌&&◌, not}
 use Rattle.std.proofs.lemmas.Bool.{cases_eq, cases_lt, cond-true, cond-false, cases_Bool, eqb-true, eq-eqb}
 use Rattle.timetable.specs.Day.{Day, type_of, unit_count, wanted_of}
 use Rattle.timetable.specs.Lists.{count_of, below}
-use Rattle.timetable.specs.Duties.{last_place}
-use Rattle.timetable.specs.Running.{ending}
+use Rattle.timetable.specs.Duties.{last_place, last_place_of}
+use Rattle.timetable.specs.Running.{ending, ending_of}
 use Rattle.day_simulator.specs.declared.events.DayEvent.{DayEvent}
 use Rattle.day_simulator.specs.declared.events.DayEvent.TheVariants.{Depart, Arrive}
 use Rattle.day_simulator.specs.declared.events.Place.TheVariants.{Yard}
@@ -80,7 +80,7 @@ none_from_balance day state h = stations_none day state (below (length day.stati
 
 -- where each unit is in the yard at the end of its duty, a yard's count is how many units end there
 pub same_count : (day : Day) (plan : List (List ℕ)) (state : State) → ((u : ℕ) → u < unit_count day → (r : ℕ) × (place_of state.places u ≡ Yard (last_place day plan u) r)) → (s m : ℕ) → yard_count day state s m ≡ ending day plan s m
-unfolding yard_count ending
+unfolding yard_count ending_of
 same_count day plan state h s m =
     sum_same (λ u. if is_in_yard s (place_of state.places u) && (type_of day u == m) then 1 else 0) (λ u. if (last_place day plan u == s) && (type_of day u == m) then 1 else 0) (unit_count day)
     (λ u lt. ap (λ p. if is_in_yard s p && (type_of day u == m) then 1 else 0) (h u lt).1)

@@ -8,7 +8,7 @@ use Rattle.timetable.specs.Lists.{count_of, below}
 use Rattle.timetable.specs.Accepted.{IsDay, AreLinks}
 use Rattle.timetable.specs.Links.{list_of, link_holds, kept, taken}
 use Rattle.timetable.specs.declared.day.records.Link.{Link}
-use Rattle.timetable.specs.Duties.{duty, last_place}
+use Rattle.timetable.specs.Duties.{duty, last_place, last_place_of}
 use Rattle.timetable.specs.Running.{IsPlan, Runs, MayFollow, EachFollows, BeginsAt}
 use Rattle.timetable.specs.Cost.{plan_cost}
 use Rattle.day_simulator.specs.declared.events.DayEvent.{DayEvent}
@@ -135,7 +135,7 @@ module _ (day : Day) (plan : List (List ℕ)) (is_day : IsDay day) (is_plan : Is
         (subst (λ p. BoardsAll day plan u p (to_board plan u es)) (start_place day u lt) (good.boardings u lt)))
 
     yards_end : (final : State) → Ran day plan (start_of day) es final → (u : ℕ) → u < unit_count day → place_of final.places u ≡ Yard (last_place day plan u) (last_ready day plan u)
-    unfolding last_place last_ready
+    unfolding last_place_of last_ready
     yards_end final ran u lt =
         ran.ended.yards u lt
         ∙ ap (λ p. end_of day p (to_board plan u es)) (start_place day u lt)

@@ -11,8 +11,7 @@ use Rattle.timetable.specs.Day.{Day}
 use Rattle.timetable.specs.Lists.{sum_below}
 use Rattle.timetable.specs.Starts.{start_of}
 use Rattle.inventory.specs.CountTable.{plus, earlier, sums_from, sums_for, all_sums}
-use Rattle.inventory.proofs.Serving.{sum_swap}
-use Rattle.inventory.proofs.Sums.{sum_first, sum_same, sum_zero}
+use Rattle.inventory.proofs.Sums.{sum_first, sum_same, sum_zero, sum_swap}
 use Rattle.inventory.proofs.Tables.{plus_is, at_place}
 
 -- ---- numbers added up

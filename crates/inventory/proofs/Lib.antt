@@ -15,6 +15,7 @@ pub mod Righting
 pub mod Named
 pub mod Running
 pub mod Laws
+pub mod OtherUnits
 pub mod OneMore
 pub mod Solutions
 pub mod Earlier

@@ -8,7 +8,7 @@ use Rattle.std.proofs.lemmas.Bool.{eqb-true, eq-eqb, leb-true, le-leb}
 use Rattle.std.proofs.lemmas.Option.{slice_get_past}
 use Rattle.timetable.specs.Accepted.{IsDay, AreLinks}
 use Rattle.timetable.specs.Day.{Day, leaves, from_of, to_of, home_of, type_of, types_of, unit_count, ready_at}
-use Rattle.timetable.specs.Duties.{is_before, duty, ends_at, last_place}
+use Rattle.timetable.specs.Duties.{is_before, duty, ends_at, last_place, last_place_of}
 use Rattle.timetable.specs.Links.{list_of, kept, given, taken}
 use Rattle.timetable.specs.Lists.{count_of, has, below, sum_below}
 use Rattle.timetable.specs.Running.{Runs, MayFollow, GoesByYard, EachFollows, BeginsAt}
@@ -326,7 +326,7 @@ module _ (day : Day) (plan : List (List ℕ)) (is_day : IsDay day) (links : AreL
 
   here_duty : (s u : ℕ) → u < unit_count day
       → at_home s u + list_sum (gives_here s u) (duty day plan u) ≡ (if last_place day plan u == s then 1 else 0) + list_sum (takes_here s u) (duty day plan u)
-  unfolding list_sum last_place
+  unfolding list_sum last_place_of
   here_duty s u lt = on (duty day plan u) refl (runs.homes u lt) (runs.follows u lt)
     where
       on : (ts : List ℕ) → duty day plan u ≡ ts → BeginsAt day (home_of day u) ts → EachFollows (MayFollow day plan u) ts

@@ -10,10 +10,10 @@ use Rattle.rail_base.specs.declared.limits.TheConstants.{MOST_MINUTES, MOST_REAL
 use Rattle.timetable.specs.Accepted.{IsDay, AreLinks, IsStocked}
 use Rattle.timetable.specs.Admissible.{is_admissible}
 use Rattle.timetable.specs.Day.{Day, leaves, from_of, to_of, home_of, type_of, types_of, unit_count, ready_at}
-use Rattle.timetable.specs.Duties.{is_before, in_order, duty, ends_at, last_place}
+use Rattle.timetable.specs.Duties.{is_before, in_order, duty, ends_at, last_place, last_place_of}
 use Rattle.timetable.specs.Links.{list_of, kept, given, taken}
 use Rattle.timetable.specs.Lists.{count_of, has, below}
-use Rattle.timetable.specs.Running.{MayFollow, EachFollows, BeginsAt, ending, Runs}
+use Rattle.timetable.specs.Running.{MayFollow, EachFollows, BeginsAt, ending, ending_of, Runs}
 use Rattle.timetable.proofs.ListedUnits.{list_of-types}
 use Rattle.inventory.specs.Counts.{AreServed}
 use Rattle.inventory.specs.NamedUnits.{after_trip, standing, may_be_taken, latest_first}
@@ -240,7 +240,7 @@ module _ (day : Day) (types plan : List (List ℕ)) (links : AreLinks day) (is_d
 
   -- it stands where its duty ends
   ends_there : (u s : ℕ) → may_be_taken s (MOST_MINUTES + MOST_REALLOCATION) (standing day types (list_of plan) (latest_first day) u) ≡ (last_place day plan u == s)
-  unfolding last_place runs_on
+  unfolding last_place_of runs_on
   ends_there u s = on (latest day types (list_of plan) (latest_first day) u) refl
     where
       ends : (o : Option ℕ) → latest day types (list_of plan) (latest_first day) u ≡ o → last_place day plan u ≡ unwrap_or (option_map (to_of day) o) (home_of day u)
@@ -260,7 +260,7 @@ module _ (day : Day) (types plan : List (List ℕ)) (links : AreLinks day) (is_d
           ∙ ap (λ (k : ℕ). k == s) (sym (ends (Some a) is))
 
   ending_is : (s m : ℕ) → ending day plan s m ≡ yard_count day types (list_of plan) links is_day (latest_first day) s m (MOST_MINUTES + MOST_REALLOCATION)
-  unfolding ending yard_count tally
+  unfolding ending_of yard_count tally
   ending_is s m =
       sum_same (λ u. if (last_place day plan u == s) && (type_of day u == m) then 1 else 0)
       (λ u. if type_of day u == m then (if may_be_taken s (MOST_MINUTES + MOST_REALLOCATION) (standing day types (list_of plan) (latest_first day) u) then 1 else 0) else 0) (unit_count day)

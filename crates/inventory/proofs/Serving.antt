@@ -1,5 +1,5 @@
 -- The counts of the yards in a plan that runs are those of its units, one by one.
-use Rattle.std.proofs.Common.{◌≡◌, ℕ, zero, suc, ◌+◌, ◌<◌, ◌≤◌, List, length, map, Bool, true, false, cond, refl, sym}
+use Rattle.std.proofs.Common.{◌≡◌, ℕ, ◌+◌, ◌<◌, ◌≤◌, List, length, map, Bool, true, false, cond, refl, sym}
 use Rattle.std.proofs.Common.{ap, ◌∙◌, arith}
 use Rattle.std.specs.Prelude.{if◌then◌else◌, ◌==◌, ◌&&◌, nat_le}
 use Rattle.std.proofs.lemmas.List.{length-map}
@@ -9,23 +9,19 @@ use Rattle.timetable.specs.Day.{Day, leaves, from_of, to_of, home_of, type_of, t
 use Rattle.timetable.specs.Duties.{last_place}
 use Rattle.timetable.specs.Links.{list_of, itself, given, taken, given_with, taken_with}
 use Rattle.timetable.specs.Lists.{count_of, sum_below}
-use Rattle.timetable.specs.Running.{Runs, ending}
+use Rattle.timetable.specs.Running.{Runs, ending, ending_of}
 use Rattle.timetable.specs.Starts.{start_of}
 use Rattle.timetable.proofs.ListedUnits.{list_of-types}
 use Rattle.timetable.proofs.TypeRule.{link-map, given-map, taken-map}
 use Rattle.timetable.proofs.AtHome.{at_home}
 use Rattle.inventory.specs.Counts.{AreServed, taken_until, ready_until, all_taken, all_given}
-use Rattle.inventory.proofs.Sums.{sum_same, sum_add, sum_le, sum_zero, sum_of_type}
+use Rattle.inventory.proofs.Sums.{sum_same, sum_add, sum_le, sum_zero, sum_swap, sum_of_type}
 use Rattle.inventory.proofs.Standing.{le_has}
 use Rattle.inventory.proofs.Yards.{sum_if, both_if}
 use Rattle.inventory.proofs.OnDuty.{takes_until, gives_until, takes_here, gives_here, taken_less, given_less}
 use Rattle.inventory.proofs.OnDuty.{until_unit, here_unit}
 
 -- ---- sums over trips, and over units
-
-pub sum_swap : (f : ℕ → ℕ → ℕ) (n k : ℕ) → sum_below (λ i. sum_below (λ j. f i j) k) n ≡ sum_below (λ j. sum_below (λ i. f i j) n) k
-sum_swap f zero k = sym (sum_zero (λ j. 0) k (λ j lt. refl))
-sum_swap f (suc n) k = let rest = sum_swap f n k in let both = sum_add (λ j. sum_below (λ i. f i j) n) (λ j. f n j) k in omega arith
 
 pub sum_when : (b : Bool) (f : ℕ → ℕ) (n : ℕ) → sum_below (λ t. if b then f t else 0) n ≡ cond {A = ℕ} b (sum_below f n) 0
 sum_when true f n = refl
@@ -102,7 +98,7 @@ module _ (day : Day) (plan : List (List ℕ)) (is_day : IsDay day) (links : AreL
   both_tests false false = refl
 
   at_end : (s m : ℕ) → start_of day s m + all_given day types s m ≡ ending day plan s m + all_taken day types s m
-  unfolding all_given all_taken ending
+  unfolding all_given all_taken ending_of
   at_end s m =
       let here : ℕ → ℕ = λ u. if home_of day u == s then 1 else 0 in
       let last : ℕ → ℕ = λ u. if last_place day plan u == s then 1 else 0 in

@@ -3,6 +3,7 @@
 //! Each law is the contract of a function that does nothing.
 
 ghost use Rattle.inventory.specs.NamingLaws.{NamedPlansRun, RunningPlansAreNamed, ServedPlansRun, UnitsAreTakenInTurn};
+ghost use Rattle.inventory.specs.NamingLaws.{ServedPlansRunWithUnits};
 
 /// Compositions that the links and the yards allow are the types of a plan that runs: the one that is named by the
 /// rule.
@@ -10,7 +11,14 @@ pub fn served_plans_run()
     ensures law { ServedPlansRun }
 {}
 
-/// The same from any minute on: where the trips that depart before the minute are named as the rules demand it, naming
+/// They are the types of a plan that runs with any units too, where as many of them, of each type, stand at each station
+/// as the stock rows say for the start of the day: the one that is named by the rule, in which the k-th unit of the stock,
+/// of a type at a station, is the k-th of these.
+pub fn served_plans_run_with_units()
+    ensures law { ServedPlansRunWithUnits }
+{}
+
+/// From any minute on: where the trips that depart before the minute are named as the rules demand it, naming
 /// the others by the rule gives a plan that runs, and leaves those as they are.
 pub fn named_plans_run()
     ensures law { NamedPlansRun }

@@ -2,13 +2,19 @@
 //!
 //! Each law is the contract of a function that does nothing.
 
-ghost use Rattle.inventory.specs.ServingLaws.{PlansAreServed, DeparturesAreEnough};
+ghost use Rattle.inventory.specs.ServingLaws.{PlansAreServed, PlansOfUnitsAreServed, DeparturesAreEnough};
 
 /// A plan that runs is served by the yards: its compositions may run on their trips, the rule of each link holds over
 /// their types, no yard is ever short of a unit, and at the end of the day each station has as many units of each type
 /// as are wanted.
 pub fn plans_are_served()
     ensures law { PlansAreServed }
+{}
+
+/// So is a plan that runs with any units, where as many of them, of each type, stand at each station as the stock rows say
+/// for the start of the day.
+pub fn plans_of_units_are_served()
+    ensures law { PlansOfUnitsAreServed }
 {}
 
 /// A yard that is not short of units of a type at the minutes at which trips leave its station is short of them at no

@@ -55,4 +55,7 @@ pub mod LinkKinds
 pub mod Accounts
 pub mod Linked
 pub mod OnePlace
+pub mod Reindexing
+pub mod Renumbered
+pub mod KthUnits
 pub mod MissingSeats

@@ -28,6 +28,10 @@ pub sum_zero : (f : ℕ → ℕ) (n : ℕ) → ((k : ℕ) → k < n → f k ≡ 
 sum_zero f zero h = refl
 sum_zero f (suc n) h = let rest = sum_zero f n (λ k lt. h k (omega arith)) in let last = h n (omega arith) in omega arith
 
+pub sum_swap : (f : ℕ → ℕ → ℕ) (n k : ℕ) → sum_below (λ i. sum_below (λ j. f i j) k) n ≡ sum_below (λ j. sum_below (λ i. f i j) n) k
+sum_swap f zero k = let none = sum_zero (λ j. 0) k (λ j lt. refl) in omega arith
+sum_swap f (suc n) k = let rest = sum_swap f n k in let both = sum_add (λ j. sum_below (λ i. f i j) n) (λ j. f n j) k in omega arith
+
 -- one number more at one place
 pub sum_one_more : (f g : ℕ → ℕ) (x v n : ℕ) → x < n → f x ≡ g x + v → ((k : ℕ) → k ≢ x → f k ≡ g k) → sum_below f n ≡ sum_below g n + v
 sum_one_more f g x v zero lt here other = absurd (omega arith)

@@ -215,27 +215,35 @@ beyond-map f at.Front xs n = ap (λ (k : ℕ). take (k - n) (map f xs)) (length-
 abbrev pub map_parts : (ℕ → ℕ) → Parts → Parts
 map_parts f parts = record { kept = map f parts.kept; given = map f parts.given; taken = map f parts.taken }
 
--- the parts of a turn of units are, by types, those of the turn of their types
-pub turn_parts-map : (f : ℕ → ℕ) (uncouple couple : End) (exchange : Bool) (arriving departing : List ℕ) (parts : Parts)
-    → turn_parts f uncouple couple exchange arriving departing ≡ Some parts
-    → turn_parts (λ (m : ℕ). m) uncouple couple exchange (map f arriving) (map f departing) ≡ Some (map_parts f parts)
-turn_parts-map f uncouple couple exchange arriving departing parts e =
-    let of = turn_parts-some f uncouple couple exchange arriving departing parts e in
-    let n = of.number in
-    let kept : kept_length uncouple couple (map (λ (m : ℕ). m) (map f arriving)) (map (λ (m : ℕ). m) (map f departing)) ≡ Some of.number =
-    ap (λ (xs : List ℕ). kept_length uncouple couple xs (map (λ (m : ℕ). m) (map f departing))) (map-id (map f arriving))
-    ∙ ap (λ (xs : List ℕ). kept_length uncouple couple (map f arriving) xs) (map-id (map f departing)) ∙ of.kept in
+-- the parts of a turn of units are, under other numbers, those of the turn of the units that have these, where the types
+-- are the same
+pub turn_parts-renumbered : (f type_of other_type : ℕ → ℕ) (uncouple couple : End) (exchange : Bool) (arriving departing : List ℕ) (parts : Parts)
+    → map other_type (map f arriving) ≡ map type_of arriving → map other_type (map f departing) ≡ map type_of departing
+    → turn_parts type_of uncouple couple exchange arriving departing ≡ Some parts
+    → turn_parts other_type uncouple couple exchange (map f arriving) (map f departing) ≡ Some (map_parts f parts)
+turn_parts-renumbered f type_of other_type uncouple couple exchange arriving departing parts arrive depart e =
+    let of = turn_parts-some type_of uncouple couple exchange arriving departing parts e in
+    let kept : kept_length uncouple couple (map other_type (map f arriving)) (map other_type (map f departing)) ≡ Some of.number =
+    ap (λ (xs : List ℕ). kept_length uncouple couple xs (map other_type (map f departing))) arrive
+    ∙ ap (λ (xs : List ℕ). kept_length uncouple couple (map type_of arriving) xs) depart ∙ of.kept in
     let one : staying uncouple (map f arriving) of.number ≡ staying couple (map f departing) of.number =
     staying-map f uncouple arriving of.number ∙ ap (map f) of.parts_at.one ∙ sym (staying-map f couple departing of.number) in
     let few : may_shunt exchange (length (map f arriving) - of.number) (length (map f departing) - of.number) ≡ true =
     subst (λ (k : ℕ). may_shunt exchange (k - of.number) (length (map f departing) - of.number) ≡ true) (sym (length-map arriving f))
     (subst (λ (k : ℕ). may_shunt exchange (length arriving - of.number) (k - of.number) ≡ true) (sym (length-map departing f)) of.parts_at.few) in
-    turn_parts-is (λ (m : ℕ). m) uncouple couple exchange (map f arriving) (map f departing) of.number kept
+    turn_parts-is other_type uncouple couple exchange (map f arriving) (map f departing) of.number kept
     ∙ parts_at-is uncouple couple exchange (map f arriving) (map f departing) of.number one few
     ∙ ap (λ (us : List ℕ). Some (record { kept = us; given = beyond uncouple (map f arriving) of.number; taken = beyond couple (map f departing) of.number })) (staying-map f uncouple arriving of.number)
     ∙ ap (λ (us : List ℕ). Some (record { kept = map f (staying uncouple arriving of.number); given = us; taken = beyond couple (map f departing) of.number })) (beyond-map f uncouple arriving of.number)
     ∙ ap (λ (us : List ℕ). Some (record { kept = map f (staying uncouple arriving of.number); given = map f (beyond uncouple arriving of.number); taken = us })) (beyond-map f couple departing of.number)
     ∙ ap (λ (p : Parts). Some (map_parts f p)) (sym of.parts_at.are)
+
+-- they are, by types, those of the turn of their types
+pub turn_parts-map : (f : ℕ → ℕ) (uncouple couple : End) (exchange : Bool) (arriving departing : List ℕ) (parts : Parts)
+    → turn_parts f uncouple couple exchange arriving departing ≡ Some parts
+    → turn_parts (λ (m : ℕ). m) uncouple couple exchange (map f arriving) (map f departing) ≡ Some (map_parts f parts)
+turn_parts-map f uncouple couple exchange arriving departing parts e =
+    turn_parts-renumbered f f (λ (m : ℕ). m) uncouple couple exchange arriving departing parts (map-id (map f arriving)) (map-id (map f departing)) e
 
 -- ---- counts
 

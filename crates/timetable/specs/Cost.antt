@@ -5,7 +5,7 @@ use Rattle.rail_csv.specs.declared.rows.End.{End}
 use Rattle.compositions.specs.Composition.{carriages_of, seats_of, first_seats_of}
 use Rattle.timetable.specs.declared.day.records.LinkKind.{LinkKind}
 use Rattle.timetable.specs.declared.day.records.LinkKind.TheVariants.{Turn, Join, Split}
-use Rattle.timetable.specs.Day.{Day, km_of, demand_of, first_demand_of, types_of}
+use Rattle.timetable.specs.Day.{Day, Units, km_of, demand_of, first_demand_of, stock_units}
 use Rattle.timetable.specs.Links.{list_of, turned}
 use Rattle.timetable.specs.Lists.{sum_below}
 use Rattle.timetable.specs.Turns.{kept_count}
@@ -46,6 +46,10 @@ cost_of day lists =
     sum_below (λ t. trip_cost day t (list_of lists t)) (length day.trips)
     + sum_below (λ l. link_cost day l lists) (length day.links)
 
--- the cost of a plan
+-- the cost of a plan of these units
+abbrev pub plan_cost_of : Units → Day → List (List ℕ) → ℕ
+plan_cost_of units day plan = cost_of day (map (map units.unit_type) plan)
+
+-- the cost of a plan of the stock's units
 abbrev pub plan_cost : Day → List (List ℕ) → ℕ
-plan_cost day plan = cost_of day (map (types_of day) plan)
+plan_cost day plan = plan_cost_of (stock_units day) day plan

@@ -71,6 +71,17 @@ type_of day u = of_entry (λ u. u.unit_type) (units_of day) u 0
 unfoldable pub home_of : Day → ℕ → ℕ
 home_of day u = of_entry (λ u. u.home) (units_of day) u 0
 
+-- Units that run on a day: how many there are, numbered from 0, the type of each, and the station where each stands at
+-- the start of the day.
+pub record Units : Type 0 where
+  pub count : ℕ
+  pub unit_type : ℕ → ℕ
+  pub home : ℕ → ℕ
+
+-- the units of the stock
+abbrev pub stock_units : Day → Units
+stock_units day = record { count = unit_count day; unit_type = type_of day; home = home_of day }
+
 -- how many units of a type are wanted at a station at the end of the day: none where no stock row says it
 abbrev pub wanted_in : List Stock → ℕ → ℕ → ℕ
 wanted_in [] s m = 0

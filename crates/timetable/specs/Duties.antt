@@ -1,6 +1,6 @@
 -- The duty of a unit: the trips that it runs on, one after another.
 use Rattle.std.specs.Prelude.{ℕ, List, [], ◌∷◌, Bool, ◌==◌, ◌&&◌, ◌||◌, if◌then◌else◌, nat_lt, filter, length}
-use Rattle.timetable.specs.Day.{Day, leaves, to_of, home_of}
+use Rattle.timetable.specs.Day.{Day, Units, leaves, to_of, stock_units}
 use Rattle.timetable.specs.Links.{list_of}
 use Rattle.timetable.specs.Lists.{has, below}
 
@@ -26,6 +26,11 @@ abbrev pub ends_at : Day → ℕ → List ℕ → ℕ
 ends_at day station [] = station
 ends_at day station (t ∷ ts) = ends_at day (to_of day t) ts
 
--- where a unit is at the end of the day: at the end of its duty's last trip, or at home where its duty is empty
-unfoldable pub last_place : Day → List (List ℕ) → ℕ → ℕ
-last_place day plan u = ends_at day (home_of day u) (duty day plan u)
+-- where a unit is at the end of the day: at the end of its duty's last trip, or where it stood at the start where its
+-- duty is empty
+unfoldable pub last_place_of : Units → Day → List (List ℕ) → ℕ → ℕ
+last_place_of units day plan u = ends_at day (units.home u) (duty day plan u)
+
+-- the same of a unit of the stock
+abbrev pub last_place : Day → List (List ℕ) → ℕ → ℕ
+last_place day plan u = last_place_of (stock_units day) day plan u

@@ -11,6 +11,7 @@ pub mod Links
 pub mod Duties
 pub mod Running
 pub mod Cost
+pub mod Renumbering
 pub mod Picks
 -- its chains and hand-overs
 pub mod Chains

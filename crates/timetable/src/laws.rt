@@ -5,6 +5,7 @@
 ghost use Rattle.timetable.specs.Laws.{DaysAreMade, PlansAreMade, ChainsAreOne, KeepTheLongest, HaveParts};
 ghost use Rattle.timetable.specs.Laws.{UnitsAreNumbered, UnitsAreAtHome, RowsSayStock, UnitsAreInOnePlace};
 ghost use Rattle.timetable.specs.Laws.{SeatsAreMissingByClass, PlacesHaveMultipliers};
+ghost use Rattle.timetable.specs.Renumbering.{RenumberedPlansRun, UnitsAreRenumberedBack, KthUnitsAreRenumbered};
 ghost use Rattle.timetable.specs.TurnsWithoutExchange.{IsPlainTurn};
 
 /// Tables make a day exactly where no test on them fails, and a refusal is that of the first test that fails. A day is
@@ -45,6 +46,24 @@ pub fn rows_say_stock()
 /// one leaves no earlier than the earlier one arrives.
 pub fn units_are_in_one_place()
     ensures law { UnitsAreInOnePlace }
+{}
+
+/// Where units are given the numbers of other units, one to one, each that of a unit of its type that stands at the same
+/// station, a plan runs exactly where it runs with the new numbers. Its trips have the same types then, so it costs the
+/// same, and each unit has the same duty.
+pub fn renumbered_plans_run()
+    ensures law { RenumberedPlansRun }
+{}
+
+/// Such numbers lead back: there are numbers of the one kind for the others, and each undoes the other.
+pub fn units_are_renumbered_back()
+    ensures law { UnitsAreRenumberedBack }
+{}
+
+/// Where as many units of each type stand at each station, the k-th unit of a type at a station may be given the number
+/// of the k-th of the others of this type there.
+pub fn kth_units_are_renumbered()
+    ensures law { KthUnitsAreRenumbered }
 {}
 
 /// The seats that are missing on a trip are those of first class and those of second class. Of each class none is
