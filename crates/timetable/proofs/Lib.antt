@@ -58,4 +58,5 @@ pub mod OnePlace
 pub mod Reindexing
 pub mod Renumbered
 pub mod KthUnits
+pub mod LinkCounts
 pub mod MissingSeats

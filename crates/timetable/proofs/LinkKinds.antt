@@ -12,7 +12,7 @@ use Rattle.timetable.specs.Links.{taken_by}
 use Rattle.timetable.proofs.Ones.{one_same, one_other}
 use Rattle.timetable.proofs.Shares.{turn_shares, join_counts, split_counts, count_of-turned}
 
-same_alone : (x y : ℕ) → 1 ≤ count_of x (y ∷ []) → y ≡ x
+pub same_alone : (x y : ℕ) → 1 ≤ count_of x (y ∷ []) → y ≡ x
 same_alone x y c = ⊎_elim (λ (e : y ≡ x). e) (λ (ne : y ≢ x). let o = one_other y x ne in absurd (omega arith)) (cases_eq y x)
 
 alone : (x y : ℕ) → x ≡ y → 1 ≤ count_of x (y ∷ [])

@@ -12,6 +12,7 @@ pub mod Duties
 pub mod Running
 pub mod Cost
 pub mod Renumbering
+pub mod LinkCounts
 pub mod Picks
 -- its chains and hand-overs
 pub mod Chains

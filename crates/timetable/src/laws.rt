@@ -5,6 +5,7 @@
 ghost use Rattle.timetable.specs.Laws.{DaysAreMade, PlansAreMade, ChainsAreOne, KeepTheLongest, HaveParts};
 ghost use Rattle.timetable.specs.Laws.{UnitsAreNumbered, UnitsAreAtHome, RowsSayStock, UnitsAreInOnePlace};
 ghost use Rattle.timetable.specs.Laws.{SeatsAreMissingByClass, PlacesHaveMultipliers};
+ghost use Rattle.timetable.specs.LinkCounts.{LinksCount, TripsCount};
 ghost use Rattle.timetable.specs.Renumbering.{RenumberedPlansRun, UnitsAreRenumberedBack, KthUnitsAreRenumbered};
 ghost use Rattle.timetable.specs.TurnsWithoutExchange.{IsPlainTurn};
 
@@ -46,6 +47,20 @@ pub fn rows_say_stock()
 /// one leaves no earlier than the earlier one arrives.
 pub fn units_are_in_one_place()
     ensures law { UnitsAreInOnePlace }
+{}
+
+/// Where the rule of a link holds, the list of each arriving trip has a unit as often as what the link gives to the yard
+/// of it, and what it keeps of it for its departing trips, have it together. The list of each departing trip has it as
+/// often as what the link takes from the yard for it, and what it kept of its arriving trips. The lists may be of types.
+pub fn links_count()
+    ensures law { LinksCount }
+{}
+
+/// In a plan that runs, where no trip arrives for two links or departs by two, the list of each trip has a unit as often
+/// as what the trip gives to the yard, and what is kept of it for the trips of the day, have it together; and as often as
+/// what it takes from the yard, and what was kept for it.
+pub fn trips_count()
+    ensures law { TripsCount }
 {}
 
 /// Where units are given the numbers of other units, one to one, each that of a unit of its type that stands at the same
