@@ -15,6 +15,7 @@ use Rattle.timetable.specs.declared.building.tables.Tables.{Tables}
 use Rattle.timetable.specs.Day.{Day}
 use Rattle.timetable.specs.declared.building.refusal.InstanceRefusal.{InstanceRefusal}
 use Rattle.timetable.specs.declared.building.refusal.PlanRefusal.{PlanRefusal}
+use Rattle.timetable.specs.Accepted.{IsSoundDay}
 use Rattle.timetable.specs.Build.{day_of}
 use Rattle.timetable.specs.Plans.{plan_of}
 use Rattle.timetable.proofs.Days.{day_within_limits}
@@ -23,7 +24,7 @@ use Rattle.timetable.proofs.StockRows.{stocked}
 use Rattle.day_files.specs.declared.errors.Refusal.{Refusal}
 use Rattle.day_files.specs.declared.inputs.Inputs.{Inputs}
 use Rattle.day_files.specs.Tables.{RowsOf, reading, bytes_of, bytes_in, as_table, read_by, table_in}
-use Rattle.day_files.specs.Tables.{AreTables, IsMadeDay, IsFileOf, AreFilesOf, AreAcceptedAsDay, IsMadePlan, IsSoundDay}
+use Rattle.day_files.specs.Tables.{AreTables, IsMadeDay, IsFileOf, AreFilesOf, AreAcceptedAsDay, IsMadePlan}
 use Rattle.day_files.specs.Inputs.{as_day, as_plan, tables_in, day_in, inputs_in}
 use Rattle.day_files.specs.Acceptance.{AreAccepted}
 

@@ -1,7 +1,7 @@
 -- The tables of a day: the rows that each of them has, what its bytes are read as, and what is known of accepted rows.
 use Rattle.std.specs.Prelude.{ℕ, ◌≡◌, ◌≤◌, List, length, nat_lt, if◌then◌else◌, Result, Ok, Err}
 use Rattle.rail_base.specs.Answers.{◌>>=◌}
-use Rattle.rail_base.specs.declared.limits.TheConstants.{MOST_COMPOSITIONS, MOST_TABLE_BYTES}
+use Rattle.rail_base.specs.declared.limits.TheConstants.{MOST_TABLE_BYTES}
 use Rattle.rail_io.specs.Folders.{Files, file_at}
 use Rattle.rail_csv.specs.declared.rows.Table.{Table}
 use Rattle.rail_csv.specs.declared.rows.Table.TheVariants as table
@@ -17,8 +17,6 @@ use Rattle.rail_csv.specs.Tables.{types_of, stations_of, stock_of, trips_of, lin
 use Rattle.rail_csv.specs.Rows.{AreTypeRows, AreStationRows, AreStockRows, AreTripRows, AreLinkRows, IsWeightsRow}
 use Rattle.rail_csv.specs.Rows.{ArePlanRows}
 use Rattle.timetable.specs.declared.building.tables.Tables.{Tables}
-use Rattle.timetable.specs.Accepted.{AreLinks, DoMeet, HaveCompositions, IsDay, IsStocked}
-use Rattle.timetable.specs.Compositions.{compositions_of}
 use Rattle.timetable.specs.Day.{Day}
 use Rattle.timetable.specs.Build.{day_of}
 use Rattle.timetable.specs.Plans as plan_rows
@@ -66,17 +64,6 @@ pub record IsMadePlan (day : Day) (plan : List (List ℕ)) : Type 0 where
   pub rows : List PlanRow
   pub within : ArePlanRows rows
   pub made : plan_rows.plan_of day rows ≡ Ok plan
-
--- a day as the laws on days ask for it: no number is over its limit, links name each trip once on a side and lead from
--- trip to trip in time and at one station, no station has two stock rows of a type, and some composition may run on
--- each trip, of compositions that are not too many
-pub record IsSoundDay (day : Day) : Type 0 where
-  pub limits : IsDay day
-  pub links : AreLinks day
-  pub meet : DoMeet day
-  pub stock : IsStocked day
-  pub served : HaveCompositions day
-  pub compositions : length (compositions_of day) ≤ MOST_COMPOSITIONS
 
 -- ---- in a folder
 

@@ -6,7 +6,8 @@ ghost use Rattle.day_files.specs.declared.errors.Refusal.{Refusal};
 ghost use Rattle.timetable.specs.Day.{Day};
 ghost use Rattle.day_files.specs.declared.inputs.Inputs.{Inputs};
 ghost use Rattle.day_files.specs.Inputs.{day_in, inputs_in};
-ghost use Rattle.day_files.specs.Tables.{AreAcceptedAsDay, IsMadeDay, IsSoundDay};
+ghost use Rattle.day_files.specs.Tables.{AreAcceptedAsDay, IsMadeDay};
+ghost use Rattle.timetable.specs.Accepted.{IsSoundDay};
 ghost use Rattle.day_files.specs.Acceptance.{AreAccepted, IsFirstRefused, IsOfPlan};
 
 /// For every folder: its six files are accepted as a day exactly where each of them is a table of its rows, and the

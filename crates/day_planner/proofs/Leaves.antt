@@ -78,7 +78,7 @@ module _ (day : Day) (accepted : IsAccepted day) (comps : length (compositions_o
   node_within : (region : List (List Bool)) (node : Node) → IsLong (length day.trips) region
       → IsProvedAt (meanings_of day) region node → AreMultipliers (multipliers_of node) → IsNode node
   node_within region (Branch cut) long proved keeps =
-      cut_within (compositions_of day) region cut (omega (arith, long, accepted.sound.trip_count)) comps proved.proper
+      cut_within (compositions_of day) region cut (omega (arith, long, accepted.sound.timetable.trip_count)) comps proved.proper
   node_within region (CostLeaf bound entries) long proved keeps =
       (value_within region entries bound.0 keeps proved.bound, entries_within entries keeps proved.fitting)
   node_within region (RayLeaf entries) long proved keeps = entries_within entries keeps proved.fitting

@@ -48,7 +48,7 @@ module _ (day : Day) (sound : IsDay day) (plan : List (List ℕ)) (runs : Runs d
       record {
         few = omega (arith, few.few, length-map (list_of plan trip) (type_of day));
         numbers = each_unit MOST_UNITS (list_of plan trip)
-            (λ u here. omega (arith, runs.is_plan.units trip u here, sound.units));
+            (λ u here. omega (arith, runs.is_plan.units trip u here, sound.units.few));
       }
 
   -- the runs of a plan that runs are within the limits
@@ -56,7 +56,7 @@ module _ (day : Day) (sound : IsDay day) (plan : List (List ℕ)) (runs : Runs d
   runs_within k d below = subst IsRun (list_read plan k below ∙ get_or_default plan k [] d below) (run_within k below)
 
   pub few_runs : length plan ≤ MOST_TRIPS
-  few_runs = omega (arith, runs.is_plan.trips, sound.trip_count)
+  few_runs = omega (arith, runs.is_plan.trips, sound.timetable.trip_count)
 
 -- each pick of a solution may run on its trip
 pub picks_may_run : (day : Day) (picks : List ℕ) → IsSolution day picks → AreAdmissible day picks

@@ -83,7 +83,7 @@ left_arrive day t es is_day h =
     let d = h.departs_too t in
     let a = h.once t in
     let trip = trip_of day t (Arrive t ∷ es) h (omega arith) in
-    let time = is_day.time t trip in
+    let time = is_day.timetable.time t trip in
     let gone : departures t es ≡ 0 =
     ⊎_elim (λ (lt : 0 < departures t es). let late = from_departure day (2 * arrives day t) t es h.never_falls.0 (omega arith) in absurd (omega arith))
     (λ (ge : departures t es ≤ 0). omega arith) (cases_lt 0 (departures t es)) in

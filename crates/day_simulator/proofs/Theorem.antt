@@ -70,7 +70,7 @@ module _ (day : Day) (plan : List (List ℕ)) (is_day : IsDay day) (is_plan : Is
       let le = kept_arrives day plan accounted.accounts u k.0 t in
       let mine : 1 ≤ count_of u (list_of plan k.0) = omega arith in
       let trip = is_trip day plan u k.0 is_plan mine in
-      let time = is_day.time k.0 trip in
+      let time = is_day.timetable.time k.0 trip in
       let before = accounted.accounts.time u k.0 t k.1 in
       let once = (fixed_is_order day).departs_once k.0 trip in
       let later = first.1 k.0 (le-leb 1 (count_of u (list_of plan k.0)) mine) (omega arith) in
@@ -89,8 +89,8 @@ module _ (day : Day) (plan : List (List ℕ)) (is_day : IsDay day) (is_plan : Is
       rises_more day a b ts (on h.0) (boards_all_rises u b ts (trips b (omega arith)) (λ t c. trips t (omega arith)) h.1)
     where
       on : MayFollow day plan u a b → leaves day a < leaves day b
-      on (inl k) = let time = is_day.time a trip in let before = accounted.accounts.time u a b (leb-true 1 (count_of u (kept day plan a b)) k) in omega arith
-      on (inr y) = let time = is_day.time a trip in let ready = y.ready in omega arith
+      on (inl k) = let time = is_day.timetable.time a trip in let before = accounted.accounts.time u a b (leb-true 1 (count_of u (kept day plan a b)) k) in omega arith
+      on (inr y) = let time = is_day.timetable.time a trip in let ready = y.ready in omega arith
 
   start_rises : (u s : ℕ) (ts : List ℕ) → ((t : ℕ) → 1 ≤ count_of t ts → t < length day.trips) → BoardsAll day plan u (Yard s 0) ts → Rises day ts
   start_rises u s [] trips h = tt

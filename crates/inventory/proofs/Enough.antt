@@ -77,7 +77,7 @@ module _ (day : Day) (types : List (List ℕ)) (lists : ℕ → List ℕ) (links
       omega arith
     where
       gave : (b : ℕ) (before : List ℕ) → AreInTurn day (b ∷ before) → (t : ℕ) → t < length day.trips → ready_at day t ≤ leaves day b → 1 ≤ count_of t before
-      gave b before turns t lt ready = let travels = is_day.time t lt in turns.0.all t lt (leaves_before day t b (omega arith))
+      gave b before turns t lt ready = let travels = is_day.timetable.time t lt in turns.0.all t lt (leaves_before day t b (omega arith))
 
   takes_here : (b : ℕ) (before : List ℕ) (m : ℕ)
       → list_sum (takes_at day types lists links is_day (from_of day b) m) (b ∷ before) ≡ count_of m (taken_with itself day types b) + list_sum (takes_at day types lists links is_day (from_of day b) m) before
@@ -135,5 +135,5 @@ module _ (day : Day) (types : List (List ℕ)) (lists : ℕ → List ℕ) (links
       let gives = all_gives s m minute late in
       let ends = served.ends s m station unit_type in
       let all = yards day types lists links is_day (all_hold day types served) stocked (latest_first day) (latest_in_turn day) rights s m minute
-      (λ t c. let lt = is_trip day t c in let travels = is_day.time t lt in let ready = late t lt in omega arith) in
+      (λ t c. let lt = is_trip day t c in let travels = is_day.timetable.time t lt in let ready = late t lt in omega arith) in
       omega arith

@@ -120,7 +120,7 @@ start_few (row ∷ rows) s m =
 -- a yard has few units at the start
 pub few_start : (day : Day) → IsDay day → (s m : ℕ) → start_of day s m ≤ 2000
 unfolding start_of units_of
-few_start day is_day s m = let few = start_few day.stock s m in let units = is_day.units in omega arith
+few_start day is_day s m = let few = start_few day.stock s m in let units = is_day.units.few in omega arith
 
 -- ---- the counts
 
@@ -146,7 +146,7 @@ module _ (day : Day) (is_day : IsDay day) (lists : List (List ℕ)) (T : List (L
 
   noted_are : (s m k : ℕ) → s < length day.stations → m < length day.types → k ≤ length (minutes_of day s)
       → (number_at noted s m k ≡ pos (given_in s m k) -ℤ pos (taken_in s m k)) × HasPlaces day noted × (given_in s m k ≤ 6 * length day.trips) × (taken_in s m k ≤ 6 * length day.trips)
-  noted_are s m k lt lt' le = trips_are day s m k lt lt' le lists (length day.trips) (cleared T) few (let n = is_day.trip_count in omega arith) (cleared_places day T places) (cleared_zero T s m k)
+  noted_are s m k lt lt' le = trips_are day s m k lt lt' le lists (length day.trips) (cleared T) few (let n = is_day.timetable.trip_count in omega arith) (cleared_places day T places) (cleared_zero T s m k)
 
   no_more : (f : ℕ → ℕ) (bound n : ℕ) → ((j : ℕ) → j < n → f j ≤ bound) → sum_below f n ≤ bound * n
   no_more f bound zero le = omega arith
@@ -157,7 +157,7 @@ module _ (day : Day) (is_day : IsDay day) (lists : List (List ℕ)) (T : List (L
   summed s m k lt lt' le =
       let there : HasPlaces day noted = (noted_are s m k lt lt' le).1 in
       let long : length (counts_of noted s m) ≡ length (minutes_of day s) + 1 = there.minutes s m lt lt' in
-      let few_trips = is_day.trip_count in
+      let few_trips = is_day.timetable.trip_count in
       let few_minutes = few_minutes_of day s in
       let start = few_start day is_day s m in
       let given : sum_below (given_in s m) (suc k) ≤ 2400 * suc k = no_more (given_in s m) 2400 (suc k) (λ j less. let small = (noted_are s m j lt lt' (omega arith)).2 in omega arith) in

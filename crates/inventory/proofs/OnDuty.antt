@@ -257,7 +257,7 @@ module _ (day : Day) (plan : List (List ℕ)) (is_day : IsDay day) (links : AreL
             let earlier = on_duty u from.0 leads.from (omega arith) in
             let on_it = ap (count_of from.0) is in
             let in_time = leads.in_time in
-            let time = is_day.time from.0 leads.from in
+            let time = is_day.timetable.time from.0 leads.from in
             let before = leaves_before day from.0 b (omega arith) in
             absurd (elim (in_list from.0 b ts (omega arith)) [
               | inl e ↦ let same = ap (leaves day) e in omega arith
@@ -297,7 +297,7 @@ module _ (day : Day) (plan : List (List ℕ)) (is_day : IsDay day) (links : AreL
           let on_it = ap (count_of c) is in
           let line : InLine day (a ∷ ts) = subst (InLine day) is (duty_in_line day plan u) in
           let in_time = leads.in_time in
-          let time = is_day.time (last_of a ts) leads.from in
+          let time = is_day.timetable.time (last_of a ts) leads.from in
           false≢true (sym (last_is_latest day a ts line c (omega arith)) ∙ leaves_before day (last_of a ts) c (omega arith))
 
   -- ---- a whole duty

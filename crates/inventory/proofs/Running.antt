@@ -226,7 +226,7 @@ module _ (day : Day) (types plan : List (List ℕ)) (links : AreLinks day) (is_d
         | inl some ↦
             let into = going_leads_into day types links u a b (list_of plan a) (omega arith) in
             let leads = leads_into day types links a b into in
-            let travels = is_day.time a leads.from in
+            let travels = is_day.timetable.time a leads.from in
             let in_time = leads.in_time in
             let comes = coming_has day types (list_of plan) u a b into in
             let shares = places_share day types b u (list_of plan b) in
@@ -236,7 +236,7 @@ module _ (day : Day) (types plan : List (List ℕ)) (links : AreLinks day) (is_d
       ]
 
   all_ready : (t : ℕ) → t < length day.trips → ready_at day t ≤ MOST_MINUTES + MOST_REALLOCATION
-  all_ready t lt = let a = is_day.late t lt in let r = is_day.reallocation (to_of day t) in omega arith
+  all_ready t lt = let a = is_day.timetable.late t lt in let r = is_day.timetable.reallocation (to_of day t) in omega arith
 
   -- it stands where its duty ends
   ends_there : (u s : ℕ) → may_be_taken s (MOST_MINUTES + MOST_REALLOCATION) (standing day types (list_of plan) (latest_first day) u) ≡ (last_place day plan u == s)

@@ -70,7 +70,7 @@ module _ (day : Day) (lists : List (List ℕ)) (is_day : IsDay day) (links : Are
   never_short s m minute = elim (cases_lt s (length day.stations)) [
     | inr past ↦
         let no : taken_until day lists s m minute ≡ 0 = sum_zero (λ t. if (from_of day t == s) && nat_le (leaves day t) minute then takes_of day lists m t else 0) (length day.trips)
-        (λ t lt. let there = is_day.origin t lt in
+        (λ t lt. let there = is_day.timetable.origin t lt in
         ap (λ (b : Bool). cond {A = ℕ} (b && nat_le (leaves day t) minute) (takes_of day lists m t) 0) (ne_eqb (from_of day t) s (λ e. absurd (omega arith)))) in
         omega arith
     | inl there ↦ elim (cases_lt m (length day.types)) [

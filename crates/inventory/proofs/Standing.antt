@@ -153,7 +153,7 @@ module _ (day : Day) (types : List (List ℕ)) (lists : ℕ → List ℕ) where
     leads_before a b before turn c =
         let leads = leads_into day types links a b c in
         let from = leads.from in
-        let travels = is_day.time a leads.from in
+        let travels = is_day.timetable.time a leads.from in
         let in_time = leads.in_time in
         turn.all a leads.from (leaves_before day a b (omega arith))
 

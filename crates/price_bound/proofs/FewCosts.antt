@@ -42,16 +42,16 @@ module _ (day : Day) (is_day : IsDay day) where
   trip_costs : (t : ℕ) (types : List ℕ) → t < length day.trips → length types ≤ 6 → trip_cost day t types ≤ 201200000000
   unfolding trip_cost missing_seats
   trip_costs t types below few =
-      let carriages : carriages_of day.types types ≤ 120 = let most = carriages_le day.types types is_day.unit_types in omega arith in
+      let carriages : carriages_of day.types types ≤ 120 = let most = carriages_le day.types types is_day.timetable.unit_types in omega arith in
       let seats : missing_seats day t types ≤ 20000 =
-      missing (first_demand_of day t) (first_seats_of day.types types) (demand_of day t) (seats_of day.types types) (is_day.first_demand t below) (is_day.demand t below) in
-      let carried = product day.weights.carriage (carriages_of day.types types) (km_of day t) 120 is_day.carriage carriages (is_day.km t below) in
-      let missed = product day.weights.shortage (missing_seats day t types) (km_of day t) 20000 is_day.shortage seats (is_day.km t below) in
+      missing (first_demand_of day t) (first_seats_of day.types types) (demand_of day t) (seats_of day.types types) (is_day.timetable.first_demand t below) (is_day.timetable.demand t below) in
+      let carried = product day.weights.carriage (carriages_of day.types types) (km_of day t) 120 is_day.timetable.carriage carriages (is_day.timetable.km t below) in
+      let missed = product day.weights.shortage (missing_seats day t types) (km_of day t) 20000 is_day.timetable.shortage seats (is_day.timetable.km t below) in
       omega arith
 
   kind_costs : (kind : LinkKind) (r : Bool) (lists : List (List ℕ)) → kind_cost day kind r lists ≤ 10000
   kind_costs (Turn a b uncouple couple exchange) r lists =
-      when (is_shunted uncouple couple (turned r (list_of lists a)) (list_of lists b)) day.weights.shunting 10000 is_day.shunting
+      when (is_shunted uncouple couple (turned r (list_of lists a)) (list_of lists b)) day.weights.shunting 10000 is_day.timetable.shunting
   kind_costs (Join a1 a2 b) r lists = omega arith
   kind_costs (Split a b1 b2) r lists = omega arith
 
@@ -69,6 +69,6 @@ module _ (day : Day) (is_day : IsDay day) where
       let trips = summed (λ t. trip_cost day t (list_of (picked day picks) t)) 201200000000 (length day.trips)
       (λ t below. trip_costs t (list_of (picked day picks) t) below (few_listed day picks is_day are_picks t)) in
       let links = summed (λ l. link_cost day l (picked day picks)) 10000 (length day.links) (λ l below. link_costs l (picked day picks)) in
-      let few_trips = is_day.trip_count in
-      let few_links = is_day.link_count in
+      let few_trips = is_day.timetable.trip_count in
+      let few_links = is_day.timetable.link_count in
       omega arith

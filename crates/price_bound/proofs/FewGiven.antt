@@ -59,7 +59,7 @@ module _ (day : Day) (picks : List ℕ) (is_day : IsDay day) (are_picks : ArePic
   few_ready s m minute =
       let few = few_summed (λ t. if (to_of day t == s) && nat_le (ready_at day t) minute then gives_of day (picked day picks) m t else 0) (length day.trips)
       (λ t. chosen ((to_of day t == s) && nat_le (ready_at day t) minute) (gives_of day (picked day picks) m t) (few_gives m t)) in
-      let trips = is_day.trip_count in
+      let trips = is_day.timetable.trip_count in
       omega arith
 
   pub few_all_given : (s m : ℕ) → all_given day (picked day picks) s m ≤ 2400
@@ -67,5 +67,5 @@ module _ (day : Day) (picks : List ℕ) (is_day : IsDay day) (are_picks : ArePic
   few_all_given s m =
       let few = few_summed (λ t. if to_of day t == s then gives_of day (picked day picks) m t else 0) (length day.trips)
       (λ t. chosen (to_of day t == s) (gives_of day (picked day picks) m t) (few_gives m t)) in
-      let trips = is_day.trip_count in
+      let trips = is_day.timetable.trip_count in
       omega arith

@@ -105,7 +105,7 @@ module _ (day : Day) (picks : List ℕ) (is_day : IsDay day) (are_picks : ArePic
   few_taken s m minute =
       let few = few_summed (λ t. if (from_of day t == s) && nat_le (leaves day t) minute then takes_of day (picked day picks) m t else 0) (length day.trips)
       (λ t. chosen ((from_of day t == s) && nat_le (leaves day t) minute) (takes_of day (picked day picks) m t) (few_takes m t)) in
-      let trips = is_day.trip_count in
+      let trips = is_day.timetable.trip_count in
       omega arith
 
   pub few_all_taken : (s m : ℕ) → all_taken day (picked day picks) s m ≤ 2400
@@ -113,7 +113,7 @@ module _ (day : Day) (picks : List ℕ) (is_day : IsDay day) (are_picks : ArePic
   few_all_taken s m =
       let few = few_summed (λ t. if from_of day t == s then takes_of day (picked day picks) m t else 0) (length day.trips)
       (λ t. chosen (from_of day t == s) (takes_of day (picked day picks) m t) (few_takes m t)) in
-      let trips = is_day.trip_count in
+      let trips = is_day.timetable.trip_count in
       omega arith
 
   -- so no count is far below zero

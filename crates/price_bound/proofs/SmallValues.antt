@@ -139,7 +139,7 @@ module _ (day : Day) (changes : List Change) (picks : List ℕ) (accepted : IsAc
       let sum : sum_below (λ t. change_cost changes t (pick_of picks t)) (length day.trips) ≤ length day.trips * MOST_CHANGE =
       summed (λ t. change_cost changes t (pick_of picks t)) MOST_CHANGE (length day.trips) (λ t below. few_changes changes t (pick_of picks t) are.costs) in
       let same = added_by_trips changes picks (length day.trips) are.rising are.trips in
-      let few = accepted.sound.trip_count in
+      let few = accepted.sound.timetable.trip_count in
       omega (arith, sum, same, few)
 
   small_changed_cost : (weight : Weight) → unsigned_abs (weighted weight (pos (cost_of day (picked day picks) + added_cost changes picks))) ≤ MOST_DAY_COST + MOST_TRIPS * MOST_CHANGE

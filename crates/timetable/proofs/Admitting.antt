@@ -15,12 +15,12 @@ use Rattle.timetable.proofs.Days.{entry_is}
 pub from_within : (day : Day) (t : ℕ) (trip : Trip) → IsDay day → slice_get day.trips t ≡ Some trip → trip.from < length day.stations
 unfolding from_of
 from_within day t trip is at =
-    subst (λ (s : ℕ). s < length day.stations) (entry_is (λ trip. trip.from) day.trips t 0 trip at) (is.origin t (slice_get_within day.trips t trip at))
+    subst (λ (s : ℕ). s < length day.stations) (entry_is (λ trip. trip.from) day.trips t 0 trip at) (is.timetable.origin t (slice_get_within day.trips t trip at))
 
 pub to_within : (day : Day) (t : ℕ) (trip : Trip) → IsDay day → slice_get day.trips t ≡ Some trip → trip.to < length day.stations
 unfolding to_of
 to_within day t trip is at =
-    subst (λ (s : ℕ). s < length day.stations) (entry_is (λ trip. trip.to) day.trips t 0 trip at) (is.goal t (slice_get_within day.trips t trip at))
+    subst (λ (s : ℕ). s < length day.stations) (entry_is (λ trip. trip.to) day.trips t 0 trip at) (is.timetable.goal t (slice_get_within day.trips t trip at))
 
 -- the composition fits both platforms of the trip
 pub fits_is_admissible : (day : Day) (t comp : ℕ) (trip : Trip) (types : List ℕ) → slice_get day.trips t ≡ Some trip → slice_get (compositions_of day) comp ≡ Some types

@@ -73,28 +73,32 @@ is_day day types stations stock few trips links weights =
     let trip_at = λ (t : ℕ) (below : t < length day.trips). entry_at (IsTripAt (length day.stations)) day.trips t below trips.each in
     let unit_at = λ (u : ℕ) (below : u < length (units_in day.stock)). entry_at (IsUnitAt (length day.stations) (length day.types)) (units_in day.stock) u below (units_within (length day.stations) (length day.types) day.stock stock) in
     record {
-      time = λ t below.
-          let (trip, is, at) = trip_at t below in
-          rw (entry_is (λ trip. trip.departure) day.trips t 0 trip is, entry_is (λ trip. trip.arrival) day.trips t 1 trip is) at.time;
-      late = λ t below. let (trip, is, at) = trip_at t below in rw (entry_is (λ trip. trip.arrival) day.trips t 1 trip is) at.late;
-      origin = λ t below. let (trip, is, at) = trip_at t below in rw (entry_is (λ trip. trip.from) day.trips t 0 trip is) at.origin;
-      goal = λ t below. let (trip, is, at) = trip_at t below in rw (entry_is (λ trip. trip.to) day.trips t 0 trip is) at.goal;
-      km = λ t below. let (trip, is, at) = trip_at t below in rw (entry_is (λ trip. trip.km) day.trips t 0 trip is) at.km;
-      first_demand = λ t below. let (trip, is, at) = trip_at t below in rw (entry_is (λ trip. trip.first) day.trips t 0 trip is) at.first;
-      demand = λ t below. let (trip, is, at) = trip_at t below in rw (entry_is (λ trip. trip.demand) day.trips t 0 trip is) at.demand;
-      home = λ u below. let (found, is, at) = unit_at u below in rw (entry_is (λ (u : unit.Unit). u.home) (units_in day.stock) u 0 found is) at.home;
-      unit_type = λ u below. let (found, is, at) = unit_at u below in rw (entry_is (λ (u : unit.Unit). u.unit_type) (units_in day.stock) u 0 found is) at.unit_type;
-      platform = λ s. entry_within (λ station. station.platform) 1000 day.stations s 0 (omega arith) (All-weaker IsStation (λ station. station.platform ≤ 1000) (λ station is. is.platform) day.stations stations.each);
-      reallocation = λ s. entry_within (λ station. station.reallocation) 600 day.stations s 0 (omega arith) (All-weaker IsStation (λ station. station.reallocation ≤ 600) (λ station is. is.reallocation) day.stations stations.each);
-      unit_types = types.each;
-      type_count = types.few;
-      station_count = stations.few;
-      trip_count = trips.few;
-      link_count = links;
-      units = omega (arith, length-units_in day.stock);
-      carriage = weights.carriage;
-      shortage = weights.shortage;
-      shunting = weights.shunting;
+      timetable = record {
+        time = λ t below.
+            let (trip, is, at) = trip_at t below in
+            rw (entry_is (λ trip. trip.departure) day.trips t 0 trip is, entry_is (λ trip. trip.arrival) day.trips t 1 trip is) at.time;
+        late = λ t below. let (trip, is, at) = trip_at t below in rw (entry_is (λ trip. trip.arrival) day.trips t 1 trip is) at.late;
+        origin = λ t below. let (trip, is, at) = trip_at t below in rw (entry_is (λ trip. trip.from) day.trips t 0 trip is) at.origin;
+        goal = λ t below. let (trip, is, at) = trip_at t below in rw (entry_is (λ trip. trip.to) day.trips t 0 trip is) at.goal;
+        km = λ t below. let (trip, is, at) = trip_at t below in rw (entry_is (λ trip. trip.km) day.trips t 0 trip is) at.km;
+        first_demand = λ t below. let (trip, is, at) = trip_at t below in rw (entry_is (λ trip. trip.first) day.trips t 0 trip is) at.first;
+        demand = λ t below. let (trip, is, at) = trip_at t below in rw (entry_is (λ trip. trip.demand) day.trips t 0 trip is) at.demand;
+        platform = λ s. entry_within (λ station. station.platform) 1000 day.stations s 0 (omega arith) (All-weaker IsStation (λ station. station.platform ≤ 1000) (λ station is. is.platform) day.stations stations.each);
+        reallocation = λ s. entry_within (λ station. station.reallocation) 600 day.stations s 0 (omega arith) (All-weaker IsStation (λ station. station.reallocation ≤ 600) (λ station is. is.reallocation) day.stations stations.each);
+        unit_types = types.each;
+        type_count = types.few;
+        station_count = stations.few;
+        trip_count = trips.few;
+        link_count = links;
+        carriage = weights.carriage;
+        shortage = weights.shortage;
+        shunting = weights.shunting;
+      };
+      units = record {
+        home = λ u below. let (found, is, at) = unit_at u below in rw (entry_is (λ (u : unit.Unit). u.home) (units_in day.stock) u 0 found is) at.home;
+        unit_type = λ u below. let (found, is, at) = unit_at u below in rw (entry_is (λ (u : unit.Unit). u.unit_type) (units_in day.stock) u 0 found is) at.unit_type;
+        few = omega (arith, length-units_in day.stock);
+      };
     }
 
 -- what each table gave

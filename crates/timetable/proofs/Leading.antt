@@ -100,7 +100,7 @@ module _ (day : Day) (links : AreLinks day) where
   pub leads_later : IsDay day → (a b : ℕ) → Leads day a b → leaves day a < leaves day b
   leads_later limits a b l =
       let in_time = links.in_time l.number a b l.link l.at (le-leb 1 (count_of a (arriving_in l.link.kind)) (arrives_here a b l)) (le-leb 1 (count_of b (departing_in l.link.kind)) (departs_here a b l)) in
-      omega (arith, limits.time a (leads_below a b l))
+      omega (arith, limits.timetable.time a (leads_below a b l))
 
 -- a trip that follows in the chain of a trip of accepted links is there
 pub next_known : (trips : List Trip) (rows : List LinkRow) (links read : List Link) → links_in trips rows ≡ Ok links → read ≡ links → (t b : ℕ) → next_in read t ≡ Some b → b < length trips

@@ -257,8 +257,8 @@ pub minutes_within : (day : Day) (s : ℕ) → IsDay day → All (λ m. m < MOST
 minutes_within day s sound = λ k d below.
     let minutes : List ℕ = minutes_of day s in
     let at : LeavesAt day s (get_or minutes k d) = (are_minutes day s).left (get_or minutes k d) (Contains-get_or minutes k d below) in
-    let time : leaves day at.trip < arrives day at.trip = sound.time at.trip at.known in
-    let late : arrives day at.trip < MOST_MINUTES = sound.late at.trip at.known in
+    let time : leaves day at.trip < arrives day at.trip = sound.timetable.time at.trip at.known in
+    let late : arrives day at.trip < MOST_MINUTES = sound.timetable.late at.trip at.known in
     let is : leaves day at.trip ≡ get_or minutes k d = at.minute in
     omega arith
 

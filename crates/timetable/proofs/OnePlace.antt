@@ -20,7 +20,7 @@ use Rattle.timetable.proofs.Linked.{StaysBy, stays_by}
 takes_time : (day : Day) → IsDay day → (t : ℕ) → leaves day t < arrives day t
 unfolding leaves arrives
 takes_time day is_day t = elim (cases_lt t (length day.trips)) [
-  | inl below ↦ is_day.time t below
+  | inl below ↦ is_day.timetable.time t below
   | inr past ↦
       let less : 0 < 1 = omega arith in
       subst (λ (o : Option Trip). unwrap_or (option_map (λ trip. trip.departure) o) 0 < unwrap_or (option_map (λ trip. trip.arrival) o) 1)

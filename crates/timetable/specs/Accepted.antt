@@ -4,11 +4,13 @@ use Rattle.std.specs.Prelude.{IsTrue, Some, slice_get}
 use Rattle.rail_base.specs.declared.limits.TheConstants.{MOST_CARRIAGES, MOST_SEATS, MOST_FIRST_SEATS, MOST_METRES}
 use Rattle.rail_base.specs.declared.limits.TheConstants.{MOST_MINUTES, MOST_KM, MOST_DEMAND, MOST_FIRST_DEMAND}
 use Rattle.rail_base.specs.declared.limits.TheConstants.{MOST_PLATFORM, MOST_REALLOCATION, MOST_STOCK, MOST_TYPES}
+use Rattle.rail_base.specs.declared.limits.TheConstants.{MOST_COMPOSITIONS}
 use Rattle.rail_base.specs.declared.limits.TheConstants.{MOST_STATIONS, MOST_TRIPS, MOST_LINKS, MOST_UNITS, MOST_WEIGHT}
 use Rattle.compositions.specs.declared.types.UnitType.{UnitType}
 use Rattle.timetable.specs.Admissible.{is_admissible}
-use Rattle.timetable.specs.Day.{Day, leaves, arrives, from_of, to_of, km_of, demand_of, first_demand_of, home_of}
-use Rattle.timetable.specs.Day.{type_of, unit_count, platform_of, reallocation_of, wanted_of}
+use Rattle.timetable.specs.Compositions.{compositions_of}
+use Rattle.timetable.specs.Day.{Day, Units, leaves, arrives, from_of, to_of, km_of, demand_of, first_demand_of}
+use Rattle.timetable.specs.Day.{platform_of, reallocation_of, wanted_of, stock_units}
 use Rattle.timetable.specs.Links.{arriving_in, departing_in}
 use Rattle.timetable.specs.Lists.{count_of, has}
 use Rattle.timetable.specs.declared.day.records.Link.{Link}
@@ -22,9 +24,9 @@ pub record IsUnitType (t : UnitType) : Type 0 where
   pub metres : t.metres ≤ MOST_METRES
   pub first : t.first ≤ MOST_FIRST_SEATS
 
--- every trip arrives after it leaves and on the second day at the latest, what it names is there, and no number is over
--- its limit
-pub record IsDay (day : Day) : Type 0 where
+-- the timetable: every trip arrives after it leaves and on the second day at the latest, what it names is there, and no
+-- number of a trip, a station, a type or a weight is over its limit
+pub record IsTimetable (day : Day) : Type 0 where
   pub time : (t : ℕ) → t < length day.trips → leaves day t < arrives day t
   pub late : (t : ℕ) → t < length day.trips → arrives day t < MOST_MINUTES
   pub origin : (t : ℕ) → t < length day.trips → from_of day t < length day.stations
@@ -32,8 +34,6 @@ pub record IsDay (day : Day) : Type 0 where
   pub km : (t : ℕ) → t < length day.trips → km_of day t ≤ MOST_KM
   pub demand : (t : ℕ) → t < length day.trips → demand_of day t ≤ MOST_DEMAND
   pub first_demand : (t : ℕ) → t < length day.trips → first_demand_of day t ≤ MOST_FIRST_DEMAND
-  pub home : (u : ℕ) → u < unit_count day → home_of day u < length day.stations
-  pub unit_type : (u : ℕ) → u < unit_count day → type_of day u < length day.types
   pub platform : (s : ℕ) → platform_of day s ≤ MOST_PLATFORM
   pub reallocation : (s : ℕ) → reallocation_of day s ≤ MOST_REALLOCATION
   pub unit_types : All IsUnitType day.types
@@ -41,10 +41,20 @@ pub record IsDay (day : Day) : Type 0 where
   pub station_count : length day.stations ≤ MOST_STATIONS
   pub trip_count : length day.trips ≤ MOST_TRIPS
   pub link_count : length day.links ≤ MOST_LINKS
-  pub units : unit_count day ≤ MOST_UNITS
   pub carriage : day.weights.carriage ≤ MOST_WEIGHT
   pub shortage : day.weights.shortage ≤ MOST_WEIGHT
   pub shunting : day.weights.shunting ≤ MOST_WEIGHT
+
+-- the units: each stands at a station of the day and is of a type of it, and they are not too many
+pub record AreUnitsOf (units : Units) (day : Day) : Type 0 where
+  pub home : (u : ℕ) → u < units.count → units.home u < length day.stations
+  pub unit_type : (u : ℕ) → u < units.count → units.unit_type u < length day.types
+  pub few : units.count ≤ MOST_UNITS
+
+-- both, with the units of the stock
+pub record IsDay (day : Day) : Type 0 where
+  pub timetable : IsTimetable day
+  pub units : AreUnitsOf (stock_units day) day
 
 -- some composition may run on each trip
 abbrev pub HaveCompositions : Day → Type 0
@@ -82,3 +92,14 @@ rows_of (row ∷ rows) s m = (if (row.station == s) && (row.unit_type == m) then
 pub record IsStocked (day : Day) : Type 0 where
   pub once : (s m : ℕ) → rows_of day.stock s m ≤ 1
   pub few : (s m : ℕ) → wanted_of day s m ≤ MOST_STOCK
+
+-- All that is known of a day that was accepted: it is within the limits, each trip has one link on each side at most, the
+-- trips of a link meet in time and at one station, no station has two stock rows of a type, and some composition may run
+-- on each trip, of compositions that are not too many.
+pub record IsSoundDay (day : Day) : Type 0 where
+  pub limits : IsDay day
+  pub links : AreLinks day
+  pub meet : DoMeet day
+  pub stock : IsStocked day
+  pub served : HaveCompositions day
+  pub compositions : length (compositions_of day) ≤ MOST_COMPOSITIONS

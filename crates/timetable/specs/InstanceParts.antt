@@ -1,6 +1,7 @@
 -- What an instance holds: the parts of a day, its units as one list, its catalogue, the links by trip, its chains
 -- and hand-overs, and the departure minutes by station.
-use Rattle.std.specs.Prelude.{◌≡◌, length}
+use Rattle.std.specs.Prelude.{◌≡◌, ◌≤◌, length}
+use Rattle.rail_base.specs.declared.limits.TheConstants.{MOST_COMPOSITIONS}
 use Rattle.compositions.specs.Catalogue.{catalogue_of}
 use Rattle.timetable.specs.declared.building.accepted.AcceptedRows.{AcceptedRows}
 use Rattle.timetable.specs.declared.day.instance.Instance.TheInside.{Inside}
@@ -40,6 +41,7 @@ pub record Holds (a : Inside) : Type 0 where
   pub incoming : a.incoming.items ≡ link_table departing_in a.links.items (length a.trips.items)
   pub outgoing : a.outgoing.items ≡ link_table arriving_in a.links.items (length a.trips.items)
   pub catalogue : a.catalogue ≡ catalogue_of a.types (greatest_in a.stations.items)
+  pub few_compositions : length a.catalogue ≤ MOST_COMPOSITIONS
   pub chains : a.chains.items ≡ chains_of (day_in a)
   pub handovers : a.handovers.items ≡ handovers_of (day_in a)
   pub minutes : a.minutes.items ≡ listed (minutes_of (day_in a)) (length a.stations.items)

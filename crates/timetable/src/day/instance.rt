@@ -5,7 +5,7 @@ ghost use Rattle.std.specs.Prelude.{◌+◌, IfOk, IfErr, IfSome};
 ghost use Rattle.std.specs.List.{All};
 ghost use Rattle.rail_csv.specs.Rows.{AreTypeRows, AreStationRows, AreStockRows, AreTripRows, AreLinkRows};
 ghost use Rattle.rail_csv.specs.Rows.{IsWeightsRow};
-ghost use Rattle.timetable.specs.Accepted.{IsDay, AreLinks, DoMeet, IsStocked, HaveCompositions};
+ghost use Rattle.timetable.specs.Accepted.{IsDay, AreLinks, DoMeet, IsStocked, HaveCompositions, IsSoundDay};
 ghost use Rattle.timetable.specs.Admissible.{is_admissible};
 ghost use Rattle.timetable.specs.Compositions.{compositions_of, composition_at};
 ghost use Rattle.rail_base.specs.Answers.{Unless, Gives};
@@ -115,6 +115,15 @@ impl Instance {
             handovers: parts.linking.handovers,
             minutes: parts.minutes,
         })
+    }
+
+    /// What is known of every instance: its day is one that was accepted, with all that the laws on days ask for. It does
+    /// nothing.
+    pub fn is_sound(&self)
+        ensures { IsSoundDay self.now }
+    {
+        // A look inside, which says what holds of every instance.
+        let _ = self.trips.len();
     }
 
     /// How many stations there are.

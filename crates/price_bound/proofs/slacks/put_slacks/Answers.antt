@@ -21,8 +21,8 @@ invariant_of-counted c =
     let few_lambdas = c.free_from.ensures.few in
     let handovers = c.handovers.ensures.value in
     let ends = c.handovers.ensures.ends in
-    let trips = sound.trip_count in
-    let few_mus = mul-le (length c.args.instance.now.stations) (length c.args.instance.now.types) 60 6 sound.station_count sound.type_count in
+    let trips = sound.timetable.trip_count in
+    let few_mus = mul-le (length c.args.instance.now.stations) (length c.args.instance.now.types) 60 6 sound.timetable.station_count sound.timetable.type_count in
     let mus = length-mus c.args.instance.now in
     record {
       accepted = c.requires.accepted;

@@ -1,5 +1,5 @@
 -- The day is that of the accepted rows, and keeps within the limits.
-use Rattle.std.proofs.Common.{◌≡◌, refl, rules, Ok}
+use Rattle.std.proofs.Common.{◌≡◌, ◌≤◌, ℕ, List, length, refl, sym, subst, rules, Ok}
 use Rattle.timetable.specs.declared.building.accepted.AcceptedRows.{AcceptedRows}
 use Rattle.timetable.specs.AcceptedRows.{day_with}
 use Rattle.timetable.specs.Build.{day_of}
@@ -52,6 +52,7 @@ invariant_of-result c =
       day = day_within_limits c.args.tables day c.requires.types c.requires.stations c.requires.trips c.requires.links c.requires.weights made;
       within = entries_within c.args.tables day c.requires.types c.requires.stations c.requires.trips c.requires.weights made;
       catalogue = c.in_ok-rows.ensures.catalogue;
+      few_compositions = subst (λ (cs : List (List ℕ)). length cs ≤ 1000) (sym c.in_ok-rows.ensures.catalogue) (day_is_made c.args.tables day made).compositions;
       links = are_links day c.args.tables.links linked;
       meet = do_all_meet day c.args.tables.links linked;
       stocked = stocked day c.args.tables.stock (is_day_of c.args.tables day made).stock_rows (is_day_of c.args.tables day made).stock c.requires.stock.each;

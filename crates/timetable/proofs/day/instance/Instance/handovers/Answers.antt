@@ -15,12 +15,12 @@ thirds day count handovers is of_day links = omega (arith, ap length of_day, few
 pub overflow_cast-result : goal.overflow_cast-result
 overflow_cast-result c =
     let ends : 3 * c.len.result ≤ 2 * length (day_in c.self.inside).trips = thirds (day_in c.self.inside) c.len.result c.self.inside.handovers.items (omega (arith, c.self.inside.handovers.ok, c.len.ensures)) c.self.invariant.handovers c.self.invariant.links in
-    omega (arith, c.self.invariant.day.trip_count)
+    omega (arith, c.self.invariant.day.timetable.trip_count)
 
 pub returns-clause-few : goal.returns-clause-few
 returns-clause-few c =
     let ends : 3 * c.len.result ≤ 2 * length (day_in c.self.inside).trips = thirds (day_in c.self.inside) c.len.result c.self.inside.handovers.items (omega (arith, c.self.inside.handovers.ok, c.len.ensures)) c.self.invariant.handovers c.self.invariant.links in
-    omega (arith, c.self.invariant.day.trip_count)
+    omega (arith, c.self.invariant.day.timetable.trip_count)
 
 pub returns-clause-ends : goal.returns-clause-ends
 returns-clause-ends c =

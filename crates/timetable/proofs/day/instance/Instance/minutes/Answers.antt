@@ -36,7 +36,7 @@ returns-clause-few c =
     let day : Day = day_in c.self.inside in
     let is : c.items.result.now ≡ minutes_of day c.args.station = is_entry day c.args.self.now c.self.inside.minutes.items c.args.station c.place.result c.items.result.now c.index.result.now
     c.self.invariant.minutes c.self.view_is c.requires c.place.ensures.number c.items.ensures c.index.ensures in
-    omega (arith, ap (λ (minutes : List ℕ). length minutes) is, few_minutes_of day c.args.station, c.self.invariant.day.trip_count)
+    omega (arith, ap (λ (minutes : List ℕ). length minutes) is, few_minutes_of day c.args.station, c.self.invariant.day.timetable.trip_count)
 
 pub returns-clause-within : goal.returns-clause-within
 returns-clause-within c =
@@ -45,4 +45,4 @@ returns-clause-within c =
     c.self.invariant.minutes c.self.view_is c.requires c.place.ensures.number c.items.ensures c.index.ensures)) (minutes_within day c.args.station c.self.invariant.day)
 
 pub returns-clause-together : goal.returns-clause-together
-returns-clause-together c = rw (← c.self.view_is) (λ stations. omega (arith, few_minutes_before (day_in c.self.inside) stations, c.self.invariant.day.trip_count))
+returns-clause-together c = rw (← c.self.view_is) (λ stations. omega (arith, few_minutes_before (day_in c.self.inside) stations, c.self.invariant.day.timetable.trip_count))
