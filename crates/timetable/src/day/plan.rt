@@ -73,6 +73,26 @@ impl NamedPlan {
         NamedPlan { lists }
     }
 
+    /// The plan of the same lists again, one a trip in the order of the trips: at most 400. There is no condition on the
+    /// units. The error is want of memory.
+    pub fn copied(alloc: Global, lists: &[UnitList]) -> Result<NamedPlan, NoMemory>
+        requires { length lists.now ≤ MOST_TRIPS }
+        ensures { IfOk result (λ plan. plan ≡ lists.now) }
+    {
+        let mut copy = Vec::new(alloc);
+        for list in lists {
+            copy.push(copy_of(alloc, list)?)?;
+        }
+        Ok(NamedPlan::of(copy))
+    }
+
+    /// The lists of the units, one a trip. It takes no memory.
+    pub fn into_lists(self) -> Vec<UnitList>
+        ensures { result.items ≡ self }
+    {
+        self.lists
+    }
+
     /// The units of this trip, front to rear: at most six. The trip is below `trips`.
     #[tactic(auto, unfolding(crate::specs::Links::list_of))]
     pub fn units(&self, trip: TripNo) -> &[UnitNo]
