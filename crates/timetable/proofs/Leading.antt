@@ -15,10 +15,21 @@ use Rattle.timetable.specs.Chains.{leads_from, leads_to, Leads, next_by, next_in
 use Rattle.timetable.specs.Day.{Day, leaves}
 use Rattle.timetable.specs.Links.{arriving_in, departing_in}
 use Rattle.timetable.specs.LinkTables.{link_naming}
-use Rattle.timetable.specs.LinkRows.{links_in}
+use Rattle.timetable.specs.LinkRows.{links_in, NamesBelow}
 use Rattle.timetable.specs.Lists.{count_of}
 use Rattle.timetable.proofs.Linking.{are_links}
 use Rattle.timetable.proofs.NamedTrips.{place_is}
+
+-- the trips that a link leads from and to are trips that it names
+pub from_below : (n : ℕ) (kind : LinkKind) → NamesBelow n kind → leads_from kind < n
+from_below n (Turn a b uncouple couple exchange) names = names.0
+from_below n (Join a1 a2 b) names = names.0
+from_below n (Split a b1 b2) names = names.0
+
+pub to_below : (n : ℕ) (kind : LinkKind) → NamesBelow n kind → leads_to kind < n
+to_below n (Turn a b uncouple couple exchange) names = names.1
+to_below n (Join a1 a2 b) names = names.2
+to_below n (Split a b1 b2) names = names.1
 
 -- a link leads from an arriving trip of its own to a departing one
 from_arrives : (kind : LinkKind) → 1 ≤ count_of (leads_from kind) (arriving_in kind)

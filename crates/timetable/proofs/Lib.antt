@@ -34,7 +34,6 @@ pub mod Turning
 pub mod PlainTurns
 pub mod WholeTurns
 pub mod ListedUnits
-pub mod TurnOn
 pub mod Minutes
 pub mod Listing
 pub mod InParts
@@ -43,7 +42,7 @@ pub mod Sorting
 pub mod Numbered
 pub mod AdmittedTypes
 pub mod Picking
-pub mod YardTypes
+pub mod Beside
 pub mod StockRows
 pub mod AtHome
 pub mod NumberedUnits

@@ -202,12 +202,12 @@ turn_parts-is type_of uncouple couple exchange arriving departing n e = ap (opti
 
 -- ---- the rule on units is the rule on their types
 
-pub staying-map : (f : ℕ → ℕ) (end : End) (xs : List ℕ) (n : ℕ) → staying end (map f xs) n ≡ map f (staying end xs n)
+pub staying-map : {X : Type 0} (f : X → ℕ) (end : End) (xs : List X) (n : ℕ) → staying end (map f xs) n ≡ map f (staying end xs n)
 staying-map f at.None xs n = refl
 staying-map f at.Rear xs n = take-map f n xs
 staying-map f at.Front xs n = ap (λ (k : ℕ). drop (k - n) (map f xs)) (length-map xs f) ∙ drop-map f (length xs - n) xs
 
-pub beyond-map : (f : ℕ → ℕ) (end : End) (xs : List ℕ) (n : ℕ) → beyond end (map f xs) n ≡ map f (beyond end xs n)
+pub beyond-map : {X : Type 0} (f : X → ℕ) (end : End) (xs : List X) (n : ℕ) → beyond end (map f xs) n ≡ map f (beyond end xs n)
 beyond-map f at.None xs n = refl
 beyond-map f at.Rear xs n = drop-map f n xs
 beyond-map f at.Front xs n = ap (λ (k : ℕ). take (k - n) (map f xs)) (length-map xs f) ∙ take-map f (length xs - n) xs

@@ -19,6 +19,17 @@ use Rattle.timetable.specs.Day.{Day}
 use Rattle.timetable.specs.Turns.{Parts, same, turn_parts}
 use Rattle.timetable.proofs.Turning.{map_parts, turn_parts-renumbered}
 
+-- a list that turned round
+pub reverse-map : {X : Type 0} (f : X → ℕ) (xs : List X) → reverse (map f xs) ≡ map f (reverse xs)
+reverse-map f [] = refl
+reverse-map f (x ∷ xs) =
+    reverse-append (f x ∷ []) (map f xs) ∙ ap (λ (ys : List ℕ). ys ++ f x ∷ []) (reverse-map f xs)
+    ∙ sym (ap (map f) (reverse-append (x ∷ []) xs) ∙ map-append f (reverse xs) (x ∷ []))
+
+pub turned-map : {X : Type 0} (f : X → ℕ) (reversed : Bool) (xs : List X) → turned reversed (map f xs) ≡ map f (turned reversed xs)
+turned-map f true xs = reverse-map f xs
+turned-map f false xs = refl
+
 module _ (f : ℕ → ℕ) where
   same-map : (xs ys : List ℕ) → same xs ys ≡ true → same (map f xs) (map f ys) ≡ true
   same-map xs ys e = (bytes_eq-Decides (map f xs) (map f ys)).1 (ap (map f) ((bytes_eq-Decides xs ys).0 e))
@@ -34,16 +45,6 @@ module _ (f : ℕ → ℕ) where
       let outer = and_parts (same arriving (first ++ second) && nat_le 1 (length first)) (nat_le 1 (length second)) e in
       let inner = and_parts (same arriving (first ++ second)) (nat_le 1 (length first)) outer.0 in
       rw (← map-append f first second, length-map first f, length-map second f) (and_from _ _ (and_from _ _ (same-map arriving (first ++ second) inner.0) inner.1) outer.1)
-
-  pub reverse-map : (xs : List ℕ) → reverse (map f xs) ≡ map f (reverse xs)
-  reverse-map [] = refl
-  reverse-map (x ∷ xs) =
-      reverse-append (f x ∷ []) (map f xs) ∙ ap (λ (ys : List ℕ). ys ++ f x ∷ []) (reverse-map xs)
-      ∙ sym (ap (map f) (reverse-append (x ∷ []) xs) ∙ map-append f (reverse xs) (x ∷ []))
-
-  pub turned-map : (reversed : Bool) (xs : List ℕ) → turned reversed (map f xs) ≡ map f (turned reversed xs)
-  turned-map true xs = reverse-map xs
-  turned-map false xs = refl
 
   -- the list of a trip
   pub list_of-map : (plan : List (List ℕ)) (t : ℕ) → list_of (map (map f) plan) t ≡ map f (list_of plan t)

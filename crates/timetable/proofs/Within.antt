@@ -83,7 +83,7 @@ chains_within day chains are i d below k e inside =
     ]
 
 -- the second trip of a link is there
-second_below : (n : ℕ) (kind : LinkKind) (t : ℕ) → NamesBelow n kind → second_of kind ≡ Some t → t < n
+pub second_below : (n : ℕ) (kind : LinkKind) (t : ℕ) → NamesBelow n kind → second_of kind ≡ Some t → t < n
 second_below n (Turn a b uncouple couple exchange) t within is = absurd cc
 second_below n (Join a1 a2 b) t within is = subst (λ (k : ℕ). k < n) (same_Some a2 t is) within.1
 second_below n (Split a b1 b2) t within is = subst (λ (k : ℕ). k < n) (same_Some b2 t is) within.2

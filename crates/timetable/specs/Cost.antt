@@ -1,5 +1,5 @@
 -- What a plan costs. It depends on the types of its lists alone.
-use Rattle.std.specs.Prelude.{ℕ, ◌+◌, ◌-◌, ◌*◌, List, map, length, Bool, not, ◌&&◌, ◌==◌, if◌then◌else◌, option_map}
+use Rattle.std.specs.Prelude.{ℕ, ◌+◌, ◌-◌, ◌*◌, List, map, length, Bool, false, not, ◌&&◌, ◌==◌, if◌then◌else◌, option_map}
 use Rattle.std.specs.Prelude.{unwrap_or, slice_get}
 use Rattle.rail_csv.specs.declared.rows.End.{End}
 use Rattle.compositions.specs.Composition.{carriages_of, seats_of, first_seats_of}
@@ -28,6 +28,13 @@ abbrev pub is_shunted : End → End → List ℕ → List ℕ → Bool
 is_shunted uncouple couple arriving departing =
     not ((kept_count uncouple couple arriving departing == length arriving)
     && (kept_count uncouple couple arriving departing == length departing))
+
+-- the same of a link, by the types of the first train that arrives, after a reversal, and of the first that departs; no
+-- join or split is shunted
+abbrev pub shunts : LinkKind → List ℕ → List ℕ → Bool
+shunts (Turn a b uncouple couple exchange) arriving departing = is_shunted uncouple couple arriving departing
+shunts (Join a1 a2 b) arriving departing = false
+shunts (Split a b1 b2) arriving departing = false
 
 -- a turn that takes units off or puts units on costs the weight of shunting once
 abbrev pub kind_cost : Day → LinkKind → Bool → List (List ℕ) → ℕ

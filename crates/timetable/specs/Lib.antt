@@ -42,4 +42,5 @@ pub mod LinkTables
 pub mod InstanceParts
 pub mod Flags
 pub mod Flagged
+pub mod Beside
 pub use Rattle.compositions.specs.Composition

@@ -1,7 +1,7 @@
 -- What the rows of the links make: the links, or the first test that fails. Each row is tested by what the rows before
 -- it gave.
 use Rattle.std.specs.Prelude.{ℕ, List, [], Bool, true, false, not, ◌&&◌, ◌||◌, ◌==◌, nat_le, ◌<◌, if◌then◌else◌, Option}
-use Rattle.std.specs.Prelude.{Some, None, Result, Ok, Err}
+use Rattle.std.specs.Prelude.{Some, None, IfSome, Result, Ok, Err}
 use Rattle.std.specs.List.{list_any}
 use Rattle.rail_base.specs.Answers.{◌>>=◌}
 use Rattle.rail_csv.specs.declared.rows.End.{End}
@@ -13,6 +13,7 @@ use Rattle.rail_csv.specs.declared.rows.Table.TheVariants as tables
 use Rattle.timetable.specs.declared.day.records.Link.{Link}
 use Rattle.timetable.specs.declared.day.records.LinkKind.{LinkKind}
 use Rattle.timetable.specs.declared.day.records.LinkKind.TheVariants.{Turn, Join, Split}
+use Rattle.timetable.specs.declared.day.records.LinkTrips.{LinkTrips}
 use Rattle.timetable.specs.declared.day.records.Trip.{Trip}
 use Rattle.timetable.specs.declared.building.refusal.InstanceRefusal.{InstanceRefusal}
 use Rattle.timetable.specs.declared.building.refusal.InstanceRefusal.TheVariants.{UnknownName, TripUsedTwice}
@@ -83,6 +84,10 @@ abbrev pub NamesBelow : ℕ → LinkKind → Type 0
 NamesBelow bound (Turn a b uncouple couple exchange) = (a < bound) × (b < bound)
 NamesBelow bound (Join a1 a2 b) = (a1 < bound) × (a2 < bound) × (b < bound)
 NamesBelow bound (Split a b1 b2) = (a < bound) × (b1 < bound) × (b2 < bound)
+
+-- these trips of a link are below a bound
+abbrev pub AreBelow : ℕ → LinkTrips → Type 0
+AreBelow bound trips = (trips.first < bound) × IfSome trips.second (λ t. t < bound)
 
 -- ---- the trips of a kind
 

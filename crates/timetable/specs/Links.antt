@@ -1,11 +1,12 @@
 -- The rule of a link, over lists of units with their types or over lists of types, and which of the units stay in the
 -- train. A function tells the type of each entry of a list: of units, their types; of types, the types themselves.
 use Rattle.std.specs.Prelude.{ℕ, List, [], ◌∷◌, ◌++◌, length, reverse, Bool, ◌&&◌, ◌==◌, if◌then◌else◌, nat_le, Option}
-use Rattle.std.specs.Prelude.{is_some, option_map, unwrap_or, option_and_then, slice_get, position}
+use Rattle.std.specs.Prelude.{is_some, option_map, option_to_list, unwrap_or, option_and_then, slice_get, position}
 use Rattle.rail_csv.specs.declared.rows.End.{End}
 use Rattle.timetable.specs.declared.day.records.Link.{Link}
 use Rattle.timetable.specs.declared.day.records.LinkKind.{LinkKind}
 use Rattle.timetable.specs.declared.day.records.LinkKind.TheVariants.{Turn, Join, Split}
+use Rattle.timetable.specs.declared.day.records.LinkTrips.{LinkTrips}
 use Rattle.timetable.specs.Day.{Day, type_of}
 use Rattle.timetable.specs.Lists.{has}
 use Rattle.timetable.specs.Turns.{same, Parts, turn_parts}
@@ -57,6 +58,10 @@ abbrev pub departing_in : LinkKind → List ℕ
 departing_in (Turn a b uncouple couple exchange) = b ∷ []
 departing_in (Join a1 a2 b) = b ∷ []
 departing_in (Split a b1 b2) = b1 ∷ b2 ∷ []
+
+-- one or two of them as a list
+abbrev pub listed : LinkTrips → List ℕ
+listed trips = trips.first ∷ option_to_list trips.second
 
 -- the number of the link that leads on from a trip, and of the one that leads into it
 unfoldable pub outgoing : Day → ℕ → Option ℕ

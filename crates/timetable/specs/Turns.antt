@@ -82,6 +82,18 @@ kept_of (Turn a b uncouple couple exchange) arriving departing = kept_length unc
 kept_of (Join a1 a2 b) arriving departing = None
 kept_of (Split a b1 b2) arriving departing = None
 
+-- the end of the arriving train at which a link uncouples units, and that of the departing train at which it couples
+-- units: the ends of a turn, and no end of a join or a split
+abbrev pub uncoupling_end : LinkKind → End
+uncoupling_end (Turn a b uncouple couple exchange) = uncouple
+uncoupling_end (Join a1 a2 b) = at.None
+uncoupling_end (Split a b1 b2) = at.None
+
+abbrev pub coupling_end : LinkKind → End
+coupling_end (Turn a b uncouple couple exchange) = couple
+coupling_end (Join a1 a2 b) = at.None
+coupling_end (Split a b1 b2) = at.None
+
 -- so many are kept: as long is the kept list, or nothing where no list fits
 abbrev pub IsKeptCount : End → End → List ℕ → List ℕ → Option ℕ → Type 0
 IsKeptCount uncouple couple arriving departing kept =

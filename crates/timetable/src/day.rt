@@ -9,5 +9,6 @@ pub mod picks;
 pub mod plan;
 pub mod records;
 pub mod rule;
+pub mod trip_entry;
 pub mod turns;
 mod yard_types;

@@ -11,6 +11,7 @@ pub use day::indices::Place;
 pub use day::instance::Instance;
 pub use day::picks::Picks;
 pub use day::plan::NamedPlan;
-pub use day::records::{Handover, Link, LinkKind, Station, Stock, Trip, Unit, Weights};
+pub use day::records::{Handover, Link, LinkKind, LinkTrips, Station, Stock, Trip, Unit, Weights};
 pub use day::rule::{copy_of, turned};
+pub use day::trip_entry::TripEntry;
 pub use day::turns::{beyond, staying, staying_units};

@@ -94,19 +94,10 @@ fn mark_named(flags: &mut Vec<bool>, kind: &LinkKind, side: Side)
     requires { NamesBelow (length flags.old.items) kind.now }
     ensures { flags.new.items ≡ marked (trips_on side kind.now) flags.old.items }
 {
-    match (side, *kind) {
-        (Side::Arriving, LinkKind::Turn { arriving, .. }) => mark(flags, arriving),
-        (Side::Arriving, LinkKind::Join { first, second, .. }) => {
-            mark(flags, first);
-            mark(flags, second);
-        }
-        (Side::Arriving, LinkKind::Split { arriving, .. }) => mark(flags, arriving),
-        (Side::Departing, LinkKind::Turn { departing, .. }) => mark(flags, departing),
-        (Side::Departing, LinkKind::Join { departing, .. }) => mark(flags, departing),
-        (Side::Departing, LinkKind::Split { first, second, .. }) => {
-            mark(flags, first);
-            mark(flags, second);
-        }
+    let trips = side.trips_of(*kind);
+    mark(flags, trips.first);
+    if let Some(second) = trips.second {
+        mark(flags, second);
     }
 }
 

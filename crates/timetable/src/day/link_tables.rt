@@ -1,9 +1,11 @@
 //! Which link names a trip, for each trip.
 
-ghost use Rattle.std.specs.Prelude.{◌≡◌, ◌≤◌, Some, length, set, IfOk};
+ghost use Rattle.std.specs.Prelude.{ℕ, ◌≡◌, ◌≤◌, Some, length, set, IfOk};
+ghost use Rattle.timetable.specs.LinkRows.{AreBelow, NamesBelow};
+ghost use Rattle.timetable.specs.Links.{listed};
 ghost use Rattle.timetable.specs.LinkTables.{trips_on, noted, link_table};
 
-use crate::day::records::{Link, LinkKind};
+use crate::day::records::{Link, LinkKind, LinkTrips};
 use rail_base::limits::MOST_LINKS;
 use rail_base::{LinkNo, NoMemory, TripNo};
 use std::alloc::Global;
@@ -15,6 +17,19 @@ pub enum Side {
     Arriving,
     /// The trips that these trains go on as.
     Departing,
+}
+
+impl Side {
+    /// The trips that a link names on this side.
+    pub fn trips_of(self, kind: LinkKind) -> LinkTrips
+        ensures trips { listed result ≡ trips_on self kind }
+        ensures below { (bound : ℕ) → NamesBelow bound kind → AreBelow bound result }
+    {
+        match self {
+            Side::Arriving => kind.arriving(),
+            Side::Departing => kind.departing(),
+        }
+    }
 }
 
 /// Notes a link at a trip, where the table has an entry for the trip.
@@ -30,19 +45,10 @@ fn note_at(table: &mut Vec<Option<LinkNo>>, trip: TripNo, link: LinkNo)
 fn note_link(table: &mut Vec<Option<LinkNo>>, kind: LinkKind, side: Side, link: LinkNo)
     ensures { table.new.items ≡ noted (Some link) (trips_on side kind) table.old.items }
 {
-    match (side, kind) {
-        (Side::Arriving, LinkKind::Turn { arriving, .. }) => note_at(table, arriving, link),
-        (Side::Arriving, LinkKind::Join { first, second, .. }) => {
-            note_at(table, first, link);
-            note_at(table, second, link);
-        }
-        (Side::Arriving, LinkKind::Split { arriving, .. }) => note_at(table, arriving, link),
-        (Side::Departing, LinkKind::Turn { departing, .. }) => note_at(table, departing, link),
-        (Side::Departing, LinkKind::Join { departing, .. }) => note_at(table, departing, link),
-        (Side::Departing, LinkKind::Split { first, second, .. }) => {
-            note_at(table, first, link);
-            note_at(table, second, link);
-        }
+    let trips = side.trips_of(kind);
+    note_at(table, trips.first, link);
+    if let Some(second) = trips.second {
+        note_at(table, second, link);
     }
 }
 

@@ -94,6 +94,16 @@ pub enum LinkKind {
     },
 }
 
+/// The trips that a link names on one side, the train in front first: two that arrive for a join or depart by a split,
+/// and else one.
+#[derive(Clone, Copy)]
+pub struct LinkTrips {
+    /// The first of them.
+    pub first: TripNo,
+    /// The second, where there are two.
+    pub second: Option<TripNo>,
+}
+
 /// A train unit.
 #[derive(Clone, Copy)]
 pub struct Unit {

@@ -1,47 +1,86 @@
 //! The rule of a link: which trips it leads on from and to, which compositions or units may go on by it, and which
 //! units stay in the train, go to the yard and come from it.
 
-ghost use Rattle.std.specs.Prelude.{◌≡◌, ◌<◌, ◌≤◌, ◌++◌, length, IfSome, IsTrue, option_and_then};
+ghost use Rattle.std.specs.Prelude.{ℕ, ◌≡◌, ◌<◌, ◌≤◌, ◌++◌, length, map, IfSome, IsTrue, unwrap_or, option_map};
 ghost use Rattle.compositions.specs.Composition.{are_types};
+ghost use Rattle.timetable.specs.Cost.{shunts};
 ghost use Rattle.timetable.specs.Day.{type_of, types_of};
 ghost use Rattle.timetable.specs.Chains.{leads_from, leads_to};
 ghost use Rattle.timetable.specs.Handovers.{second_of};
-ghost use Rattle.timetable.specs.LinkRows.{NamesBelow};
-ghost use Rattle.timetable.specs.Links.{list_of, turned, link_holds, split_holds, given_by, taken_by, link_out};
-ghost use Rattle.timetable.specs.Links.{link_into, given, taken};
+ghost use Rattle.timetable.specs.LinkRows.{AreBelow, NamesBelow};
+ghost use Rattle.timetable.specs.Links.{list_of, turned, link_holds, split_holds, arriving_in, departing_in, listed};
+ghost use Rattle.timetable.specs.Links.{link_out, link_into, given, taken, given_by, taken_by, given_with, taken_with};
 ghost use Rattle.timetable.specs.Running.{IsPlan, AreUnits};
-ghost use Rattle.timetable.specs.Turns.{same, kept_of, IsKept, parts_at};
+ghost use Rattle.timetable.specs.Turns.{same, beyond, kept_of, IsKept, uncoupling_end, coupling_end};
+ghost use Rattle.timetable.specs.Beside.{AreBeside};
 
 use crate::day::instance::Instance;
 use crate::day::plan::NamedPlan;
-use crate::day::records::{Link, LinkKind};
-use crate::day::turns::{Parts, kept_length, parts_at};
+use crate::day::records::{Link, LinkKind, LinkTrips};
+use crate::day::trip_entry::TripEntry;
+use crate::day::turns::{beyond, kept_length, staying_at};
 use arrayvec::ArrayVec;
 use rail_base::limits::MOST_COMPOSITION;
 use rail_base::{TripNo, TypeNo, UnitNo};
 use rail_csv::End;
 
 impl LinkKind {
+    /// The trips that arrive for the link, the train in front first.
+    pub fn arriving(&self) -> LinkTrips
+        ensures trips { listed result ≡ arriving_in self.now }
+        ensures first { result.first ≡ leads_from self.now }
+        ensures below { (bound : ℕ) → NamesBelow bound self.now → AreBelow bound result }
+    {
+        match *self {
+            LinkKind::Turn { arriving, .. } => LinkTrips {
+                first: arriving,
+                second: None,
+            },
+            LinkKind::Join { first, second, .. } => LinkTrips {
+                first,
+                second: Some(second),
+            },
+            LinkKind::Split { arriving, .. } => LinkTrips {
+                first: arriving,
+                second: None,
+            },
+        }
+    }
+
+    /// The trips that leave by the link, the train in front first.
+    pub fn departing(&self) -> LinkTrips
+        ensures trips { listed result ≡ departing_in self.now }
+        ensures first { result.first ≡ leads_to self.now }
+        ensures below { (bound : ℕ) → NamesBelow bound self.now → AreBelow bound result }
+    {
+        match *self {
+            LinkKind::Turn { departing, .. } => LinkTrips {
+                first: departing,
+                second: None,
+            },
+            LinkKind::Join { departing, .. } => LinkTrips {
+                first: departing,
+                second: None,
+            },
+            LinkKind::Split { first, second, .. } => LinkTrips {
+                first,
+                second: Some(second),
+            },
+        }
+    }
+
     /// The trip that a link leads a chain from: its first arriving trip, the train in front.
     pub fn leads_from(&self) -> TripNo
         ensures { result ≡ leads_from self.now }
     {
-        match *self {
-            LinkKind::Turn { arriving, .. } => arriving,
-            LinkKind::Join { first, .. } => first,
-            LinkKind::Split { arriving, .. } => arriving,
-        }
+        self.arriving().first
     }
 
     /// The trip that a link leads a chain to: its first departing trip, the train in front.
     pub fn leads_to(&self) -> TripNo
         ensures { result ≡ leads_to self.now }
     {
-        match *self {
-            LinkKind::Turn { departing, .. } => departing,
-            LinkKind::Join { departing, .. } => departing,
-            LinkKind::Split { first, .. } => first,
-        }
+        self.departing().first
     }
 
     /// The second arriving trip of a join or the second departing trip of a split; a turn has none.
@@ -52,6 +91,26 @@ impl LinkKind {
             LinkKind::Turn { .. } => None,
             LinkKind::Join { second, .. } => Some(second),
             LinkKind::Split { second, .. } => Some(second),
+        }
+    }
+
+    /// The end of the arriving train, after a reversal, at which a turn uncouples units; none at a join or a split.
+    pub fn uncoupling_end(&self) -> End
+        ensures { result ≡ uncoupling_end self.now }
+    {
+        match *self {
+            LinkKind::Turn { uncouple, .. } => uncouple,
+            LinkKind::Join { .. } | LinkKind::Split { .. } => End::None,
+        }
+    }
+
+    /// The end of the departing train at which a turn couples units; none at a join or a split.
+    pub fn coupling_end(&self) -> End
+        ensures { result ≡ coupling_end self.now }
+    {
+        match *self {
+            LinkKind::Turn { couple, .. } => couple,
+            LinkKind::Join { .. } | LinkKind::Split { .. } => End::None,
         }
     }
 
@@ -99,6 +158,22 @@ pub fn turned<T: Copy + Default + Drop>(reversed: bool, list: &[T]) -> ArrayVec<
     list
 }
 
+/// What goes of a list at this end when so many stay, and all of it where none do.
+fn going<T: Copy + Default + Drop>(
+    end: End,
+    whole: &[T],
+    staying: Option<usize>,
+) -> ArrayVec<T, MOST_COMPOSITION>
+    requires few { length whole.now ≤ MOST_COMPOSITION }
+    requires staying { IfSome staying (λ n. n ≤ length whole.now) }
+    ensures { result.items ≡ unwrap_or (option_map (beyond end whole.now) staying) whole.now }
+{
+    match staying {
+        Some(stay) => copy_of(beyond(end, whole, stay)),
+        None => copy_of(whole),
+    }
+}
+
 /// Whether the whole is the first list and then the second.
 fn is_joined(first: &[UnitNo], second: &[UnitNo], whole: &[UnitNo]) -> bool
     ensures { result ≡ same (first.now ++ second.now) whole.now }
@@ -117,53 +192,63 @@ fn is_split(first: &[UnitNo], second: &[UnitNo], whole: &[UnitNo]) -> bool
     is_joined(first, second, whole) && !first.is_empty() && !second.is_empty()
 }
 
-/// The units that a link does not keep in the train.
-#[derive(Drop)]
-struct YardUnits {
-    /// The units that the arriving trip gives to the yard.
-    given: ArrayVec<UnitNo, MOST_COMPOSITION>,
-    /// The units that the departing trip takes from the yard, front to rear.
-    taken: ArrayVec<UnitNo, MOST_COMPOSITION>,
-}
-
-/// What becomes of units at a turn that keeps this many by their types, or nothing where its rule is broken.
-fn turn_parts<'a>(
-    uncouple: End,
-    couple: End,
-    exchange: bool,
-    kept: Option<usize>,
-    arriving: &'a [UnitNo],
-    departing: &'a [UnitNo],
-) -> Option<Parts<'a>>
-    requires arriving { IfSome kept (λ n. n ≤ length arriving.now) }
-    requires departing { IfSome kept (λ n. n ≤ length departing.now) }
-    ensures parts { result ≡ option_and_then (parts_at uncouple couple exchange arriving.now departing.now) kept }
-    ensures few_given { IfSome result (λ parts. length parts.given ≤ length arriving.now) }
-    ensures few_taken { IfSome result (λ parts. length parts.taken ≤ length departing.now) }
-{
-    let stay = kept?;
-    parts_at(uncouple, couple, exchange, arriving, departing, stay)
-}
-
+// The link's trips are trips of the day of which the plan or the lists are. What a link gives and takes is coded once,
+// for units and for types.
 impl Link {
-    /// How many units a plan keeps in the train at a turn, by their types. The link's trips are trips of the plan's
-    /// day.
-    fn kept_on(&self, instance: &Instance, plan: &NamedPlan) -> Option<usize>
+    /// How many units a turn keeps in the train, by their types.
+    fn kept_on<E: TripEntry>(&self, instance: &Instance, lists: &E::Lists) -> Option<usize>
         requires trips { NamesBelow (length instance.now.trips) self.now.kind }
-        requires plan { IsPlan instance.now plan.now }
+        requires lists { E.AreOf instance.now lists.now }
         ensures number { result ≡ kept_of self.now.kind
-            (types_of instance.now (turned self.now.reverse (list_of plan.now (leads_from self.now.kind))))
-            (types_of instance.now (list_of plan.now (leads_to self.now.kind))) }
-        ensures arriving { IfSome result (λ n. n ≤ length (list_of plan.now (leads_from self.now.kind))) }
-        ensures departing { IfSome result (λ n. n ≤ length (list_of plan.now (leads_to self.now.kind))) }
+            (map (E.type_of instance.now)
+            (turned self.now.reverse (list_of (E.lists_of instance.now lists.now) (leads_from self.now.kind))))
+            (map (E.type_of instance.now) (list_of (E.lists_of instance.now lists.now) (leads_to self.now.kind))) }
+        ensures arriving { IfSome result
+            (λ n. n ≤ length (list_of (E.lists_of instance.now lists.now) (leads_from self.now.kind))) }
+        ensures departing { IfSome result
+            (λ n. n ≤ length (list_of (E.lists_of instance.now lists.now) (leads_to self.now.kind))) }
     {
-        let arriving = plan.types(instance, self.kind.leads_from());
+        let arriving = E::list_types(lists, instance, self.kind.leads_from());
         let arriving = turned(self.reverse, arriving.as_slice());
-        let departing = plan.types(instance, self.kind.leads_to());
+        let departing = E::list_types(lists, instance, self.kind.leads_to());
         self.kind.kept(arriving.as_slice(), departing.as_slice())
     }
 
-    /// Whether a plan keeps the link's rule. The link's trips are trips of the plan's day.
+    /// How many entries of the arriving list, after a reversal, stay in the train at a turn: nothing where its rule is
+    /// broken, and at a join or a split.
+    fn staying<E: TripEntry>(
+        &self,
+        instance: &Instance,
+        lists: &E::Lists,
+        arriving: &[E],
+    ) -> Option<usize>
+        requires trips { NamesBelow (length instance.now.trips) self.now.kind }
+        requires lists { E.AreOf instance.now lists.now }
+        requires arriving { map E.number arriving.now
+            ≡ turned self.now.reverse (list_of (E.lists_of instance.now lists.now) (leads_from self.now.kind)) }
+        ensures parts { AreBeside (E.type_of instance.now) self.now.kind self.now.reverse
+            (E.lists_of instance.now lists.now) result }
+        ensures arriving { IfSome result
+            (λ n. n ≤ length (list_of (E.lists_of instance.now lists.now) (leads_from self.now.kind))) }
+        ensures departing { IfSome result
+            (λ n. n ≤ length (list_of (E.lists_of instance.now lists.now) (leads_to self.now.kind))) }
+    {
+        let LinkKind::Turn {
+            departing,
+            uncouple,
+            couple,
+            exchange,
+            ..
+        } = self.kind
+        else {
+            return None;
+        };
+        let kept = self.kept_on::<E>(instance, lists);
+        let departing = E::list(lists, instance, departing);
+        staying_at::<E>(uncouple, couple, exchange, kept, arriving, departing)
+    }
+
+    /// Whether a plan keeps the link's rule.
     #[tactic(auto, unfolding(crate::specs::Links::link_holds, crate::specs::Links::join_holds))]
     pub fn holds(&self, instance: &Instance, plan: &NamedPlan) -> bool
         requires trips { NamesBelow (length instance.now.trips) self.now.kind }
@@ -171,25 +256,10 @@ impl Link {
         ensures { result ≡ link_holds (type_of instance.now) self.now plan.now }
     {
         match self.kind {
-            LinkKind::Turn {
-                arriving,
-                departing,
-                uncouple,
-                couple,
-                exchange,
-            } => {
-                let kept = self.kept_on(instance, plan);
+            LinkKind::Turn { arriving, .. } => {
                 let arriving = turned(self.reverse, plan.units(arriving));
-                let departing = plan.units(departing);
-                turn_parts(
-                    uncouple,
-                    couple,
-                    exchange,
-                    kept,
-                    arriving.as_slice(),
-                    departing,
-                )
-                .is_some()
+                let staying = self.staying::<UnitNo>(instance, plan, arriving.as_slice());
+                staying.is_some()
             }
             LinkKind::Join {
                 first,
@@ -211,48 +281,69 @@ impl Link {
         }
     }
 
-    /// What the link gives to the yard and takes from it: nothing at a join or a split, and all where the rule of a
-    /// turn is broken.
-    fn yard_units(&self, instance: &Instance, plan: &NamedPlan) -> YardUnits
+    /// What the link gives to the yard, front to rear after a reversal: what a turn uncouples, all that arrives where
+    /// the rule of the turn is broken, and nothing at a join or a split.
+    pub fn given<E: TripEntry>(
+        &self,
+        instance: &Instance,
+        lists: &E::Lists,
+    ) -> ArrayVec<E, MOST_COMPOSITION>
         requires trips { NamesBelow (length instance.now.trips) self.now.kind }
-        requires plan { IsPlan instance.now plan.now }
-        ensures given { result.given.items ≡ given_by (type_of instance.now) self.now.kind self.now.reverse plan.now }
-        ensures taken { result.taken.items ≡ taken_by (type_of instance.now) self.now.kind self.now.reverse plan.now }
+        requires lists { E.AreOf instance.now lists.now }
+        ensures { map E.number result.items
+            ≡ given_by (E.type_of instance.now) self.now.kind self.now.reverse (E.lists_of instance.now lists.now) }
     {
-        match self.kind {
-            LinkKind::Turn {
-                arriving,
-                departing,
-                uncouple,
-                couple,
-                exchange,
-            } => {
-                let kept = self.kept_on(instance, plan);
-                let arriving = turned(self.reverse, plan.units(arriving));
-                let departing = plan.units(departing);
-                match turn_parts(
-                    uncouple,
-                    couple,
-                    exchange,
-                    kept,
-                    arriving.as_slice(),
-                    departing,
-                ) {
-                    Some(parts) => YardUnits {
-                        given: copy_of(parts.given),
-                        taken: copy_of(parts.taken),
-                    },
-                    None => YardUnits {
-                        given: copy_of(arriving.as_slice()),
-                        taken: copy_of(departing),
-                    },
-                }
-            }
-            LinkKind::Join { .. } | LinkKind::Split { .. } => YardUnits {
-                given: ArrayVec::new(),
-                taken: ArrayVec::new(),
-            },
+        let LinkKind::Turn {
+            arriving,
+            uncouple,
+            ..
+        } = self.kind
+        else {
+            return ArrayVec::new();
+        };
+        let arriving = turned(self.reverse, E::list(lists, instance, arriving));
+        let staying = self.staying::<E>(instance, lists, arriving.as_slice());
+        going(uncouple, arriving.as_slice(), staying)
+    }
+
+    /// What the link takes from the yard, front to rear: what a turn couples, all that departs where the rule of the
+    /// turn is broken, and nothing at a join or a split.
+    pub fn taken<E: TripEntry>(
+        &self,
+        instance: &Instance,
+        lists: &E::Lists,
+    ) -> ArrayVec<E, MOST_COMPOSITION>
+        requires trips { NamesBelow (length instance.now.trips) self.now.kind }
+        requires lists { E.AreOf instance.now lists.now }
+        ensures { map E.number result.items
+            ≡ taken_by (E.type_of instance.now) self.now.kind self.now.reverse (E.lists_of instance.now lists.now) }
+    {
+        let LinkKind::Turn {
+            arriving,
+            departing,
+            couple,
+            ..
+        } = self.kind
+        else {
+            return ArrayVec::new();
+        };
+        let arriving = turned(self.reverse, E::list(lists, instance, arriving));
+        let staying = self.staying::<E>(instance, lists, arriving.as_slice());
+        going(couple, E::list(lists, instance, departing), staying)
+    }
+
+    /// Whether the link is shunted between a train of units of these types, which arrives, and one of those: whether a
+    /// turn does not keep all units of both. No join or split is shunted.
+    pub fn is_shunted(&self, arriving: &[TypeNo], departing: &[TypeNo]) -> bool
+        requires { length arriving.now ≤ MOST_COMPOSITION }
+        ensures { result ≡ shunts self.now.kind (turned self.now.reverse arriving.now) departing.now }
+    {
+        if self.kind.second().is_some() {
+            return false;
         }
+        let arriving = turned(self.reverse, arriving);
+        let kept = self.kind.kept(arriving.as_slice(), departing).unwrap_or(0);
+        !(kept == arriving.len() && kept == departing.len())
     }
 }
 
@@ -290,6 +381,46 @@ impl Instance {
         let number = self.incoming(trip)?;
         Some(*self.link(number))
     }
+
+    /// What a trip gives to the yard where it arrives, front to rear after a reversal: what a turn uncouples, all of its
+    /// list where no link leads on or the rule of the turn is broken, and nothing at a join or a split. The trip is
+    /// below `trips`.
+    #[tactic(auto, unfolding(crate::specs::Links::given_with))]
+    pub fn given<E: TripEntry>(
+        &self,
+        lists: &E::Lists,
+        trip: TripNo,
+    ) -> ArrayVec<E, MOST_COMPOSITION>
+        requires trip { trip < length self.now.trips }
+        requires lists { E.AreOf self.now lists.now }
+        ensures { map E.number result.items
+            ≡ given_with (E.type_of self.now) self.now (E.lists_of self.now lists.now) trip }
+    {
+        match self.link_out(trip) {
+            Some(link) => link.given::<E>(self, lists),
+            None => copy_of(E::list(lists, self, trip)),
+        }
+    }
+
+    /// What a trip takes from the yard where it leaves, front to rear: what a turn couples, all of its list where no
+    /// link leads into it or the rule of the turn is broken, and nothing at a join or a split. The trip is below
+    /// `trips`.
+    #[tactic(auto, unfolding(crate::specs::Links::taken_with))]
+    pub fn taken<E: TripEntry>(
+        &self,
+        lists: &E::Lists,
+        trip: TripNo,
+    ) -> ArrayVec<E, MOST_COMPOSITION>
+        requires trip { trip < length self.now.trips }
+        requires lists { E.AreOf self.now lists.now }
+        ensures { map E.number result.items
+            ≡ taken_with (E.type_of self.now) self.now (E.lists_of self.now lists.now) trip }
+    {
+        match self.link_into(trip) {
+            Some(link) => link.taken::<E>(self, lists),
+            None => copy_of(E::list(lists, self, trip)),
+        }
+    }
 }
 
 impl NamedPlan {
@@ -306,30 +437,22 @@ impl NamedPlan {
     /// The units that a trip of the plan's day gives to the yard where it arrives, front to rear after a reversal:
     /// those that a turn uncouples, all of them where no link leads on or the rule of the turn is broken, and none at a
     /// join or a split.
-    #[tactic(auto, unfolding(crate::specs::Links::given_with))]
     pub fn given(&self, instance: &Instance, trip: TripNo) -> ArrayVec<UnitNo, MOST_COMPOSITION>
         requires trip { trip < length instance.now.trips }
         requires plan { IsPlan instance.now self.now }
         ensures { result.items ≡ given instance.now self.now trip }
     {
-        match instance.link_out(trip) {
-            Some(link) => link.yard_units(instance, self).given,
-            None => copy_of(self.units(trip)),
-        }
+        instance.given::<UnitNo>(self, trip)
     }
 
     /// The units that a trip of the plan's day takes from the yard where it leaves, front to rear: those that a turn
     /// couples, all of them where no link leads into it or the rule of the turn is broken, and none at a join or a
     /// split.
-    #[tactic(auto, unfolding(crate::specs::Links::taken_with))]
     pub fn taken(&self, instance: &Instance, trip: TripNo) -> ArrayVec<UnitNo, MOST_COMPOSITION>
         requires trip { trip < length instance.now.trips }
         requires plan { IsPlan instance.now self.now }
         ensures { result.items ≡ taken instance.now self.now trip }
     {
-        match instance.link_into(trip) {
-            Some(link) => link.yard_units(instance, self).taken,
-            None => copy_of(self.units(trip)),
-        }
+        instance.taken::<UnitNo>(self, trip)
     }
 }

@@ -1,15 +1,15 @@
 //! What a turn keeps of an arriving train, by the types of its units, and which units it gives to the yard and takes
 //! from it.
 
-ghost use Rattle.std.specs.Prelude.{◌≡◌, ◌≤◌, ◌-◌, length, map, IfSome, IsTrue, option_map, unwrap_or};
-ghost use Rattle.timetable.specs.Links.{itself, turn_of};
+ghost use Rattle.std.specs.Prelude.{◌≡◌, ◌≤◌, ◌-◌, length, map, Some, IfSome, IsTrue, option_map, option_and_then};
+ghost use Rattle.timetable.specs.Links.{itself};
 ghost use Rattle.timetable.specs.Turns.{may_stay, staying, beyond, fits_at, greatest, kept_length, may_shunt, parts_at};
 ghost use Rattle.timetable.specs.Turns.{parts_beside, turn_parts};
 
+use crate::day::trip_entry::TripEntry;
+use rail_base::TypeNo;
 use rail_base::limits::MOST_EXCHANGED;
-use rail_base::{TypeNo, UnitNo};
 use rail_csv::End;
-use std::marker::Model;
 
 /// How many units a turn keeps, by the types of the arriving list after a reversal and of the departing list: the
 /// length of the longest list of types that is left of the arriving list after none or more were uncoupled at the
@@ -99,6 +99,39 @@ fn may_shunt(exchange: bool, off: usize, on: usize) -> bool
     off == 0 || on == 0 || (exchange && off <= MOST_EXCHANGED && on <= MOST_EXCHANGED)
 }
 
+/// How many entries stay at a turn that keeps so many by their types, or nothing where other units stand at the kept
+/// places or more are shunted than may be. The arriving list is the one after a reversal.
+pub(crate) fn staying_at<E: TripEntry>(
+    uncouple: End,
+    couple: End,
+    exchange: bool,
+    kept: Option<usize>,
+    arriving: &[E],
+    departing: &[E],
+) -> Option<usize>
+    requires arriving { IfSome kept (λ n. n ≤ length arriving.now) }
+    requires departing { IfSome kept (λ n. n ≤ length departing.now) }
+    // What stays, goes and comes then are the parts of the turn.
+    ensures parts { option_map (parts_beside uncouple couple (map E.number arriving.now) (map E.number departing.now))
+        result
+        ≡ option_and_then (parts_at uncouple couple exchange (map E.number arriving.now) (map E.number departing.now))
+        kept }
+    // As many stay as are kept.
+    ensures kept { IfSome result (λ n. kept ≡ Some n) }
+{
+    let stay = kept?;
+    if !E::are_same(
+        staying(uncouple, arriving, stay),
+        staying(couple, departing, stay),
+    ) {
+        return None;
+    }
+    if !may_shunt(exchange, arriving.len() - stay, departing.len() - stay) {
+        return None;
+    }
+    Some(stay)
+}
+
 /// How many units stay at a turn between lists of types, or nothing where its rule is broken: where no list of types
 /// fits it, or where more units would be uncoupled and coupled than may be. The arriving list is the one after a
 /// reversal.
@@ -116,68 +149,10 @@ pub fn staying_units(
     // What stays, goes and comes then are the parts of the turn, of types.
     ensures parts { option_map (parts_beside uncouple couple arriving.now departing.now) result
         ≡ turn_parts itself uncouple couple exchange arriving.now departing.now }
-    ensures given { unwrap_or (option_map (beyond uncouple arriving.now) result) arriving.now
-        ≡ (turn_of itself uncouple couple exchange arriving.now departing.now).given }
-    ensures taken { unwrap_or (option_map (beyond couple departing.now) result) departing.now
-        ≡ (turn_of itself uncouple couple exchange arriving.now departing.now).taken }
     // They are no more than stand in either list.
     ensures arriving { IfSome result (λ n. n ≤ length arriving.now) }
     ensures departing { IfSome result (λ n. n ≤ length departing.now) }
 {
-    let Some(stay) = kept_length(uncouple, couple, arriving, departing) else {
-        return None;
-    };
-    if !may_shunt(exchange, arriving.len() - stay, departing.len() - stay) {
-        return None;
-    }
-    Some(stay)
-}
-
-/// What becomes of the units of an arriving and a departing list. A contract sees the three lists.
-#[derive(Drop)]
-pub(crate) struct Parts<'a> {
-    /// The units that stay in the train.
-    pub(crate) kept: &'a [UnitNo],
-    /// The units that are given to the yard.
-    pub(crate) given: &'a [UnitNo],
-    /// The units that are taken from the yard, front to rear.
-    pub(crate) taken: &'a [UnitNo],
-}
-
-impl<'a> Model for Parts<'a> {
-    ghost use Rattle.timetable.specs.Turns.{Parts};
-
-    ghost Value = { Parts };
-
-    ghost view = { λ a. record { kept = a.kept.now; given = a.given.now; taken = a.taken.now } };
-}
-
-/// What becomes of units at a turn that keeps so many, or nothing where other units stand at the kept places or where
-/// more are shunted than may be. The arriving list is the one after a reversal.
-pub(crate) fn parts_at<'a>(
-    uncouple: End,
-    couple: End,
-    exchange: bool,
-    arriving: &'a [UnitNo],
-    departing: &'a [UnitNo],
-    stay: usize,
-) -> Option<Parts<'a>>
-    requires arriving { stay ≤ length arriving.now }
-    requires departing { stay ≤ length departing.now }
-    ensures parts { result ≡ parts_at uncouple couple exchange arriving.now departing.now stay }
-    ensures few_given { IfSome result (λ parts. length parts.given ≤ length arriving.now) }
-    ensures few_taken { IfSome result (λ parts. length parts.taken ≤ length departing.now) }
-{
-    let kept = staying(uncouple, arriving, stay);
-    if kept != staying(couple, departing, stay) {
-        return None;
-    }
-    if !may_shunt(exchange, arriving.len() - stay, departing.len() - stay) {
-        return None;
-    }
-    Some(Parts {
-        kept,
-        given: beyond(uncouple, arriving, stay),
-        taken: beyond(couple, departing, stay),
-    })
+    let kept = kept_length(uncouple, couple, arriving, departing);
+    staying_at::<TypeNo>(uncouple, couple, exchange, kept, arriving, departing)
 }
