@@ -1,6 +1,5 @@
 -- What a call that reads a folder answers.
 use Rattle.std.specs.Prelude.{ℕ, ◌≡◌, ◌≤◌, List, length, Bool, true, false, IsTrue, if◌then◌else◌, Result, Ok, Err, ⊤}
-use Rattle.rail_base.specs.Answers.{Fails}
 use Rattle.rail_base.specs.declared.limits.TheConstants.{MOST_TABLE_BYTES}
 use Rattle.rail_io.specs.Folders.{Rose, RosePast}
 use Rattle.rail_csv.specs.declared.rows.PlanRow.{PlanRow}
@@ -9,6 +8,7 @@ use Rattle.rail_csv.specs.declared.rows.Table.TheVariants.{Plan}
 use Rattle.timetable.specs.declared.building.tables.Tables.{Tables}
 use Rattle.timetable.specs.Day.{Day}
 use Rattle.timetable.specs.Build as build
+pub use Rattle.timetable.specs.DayTables.{IsWrong}
 use Rattle.timetable.specs.Build.{day_of}
 use Rattle.timetable.specs.Plans as plans
 use Rattle.timetable.specs.Plans.{plan_of}
@@ -46,10 +46,6 @@ tells_unread (Ok y) = false
 tells_unread (Err (CannotRead table)) = true
 tells_unread (Err (Refused why)) = false
 tells_unread (Err NoMemory) = false
-
--- the reader of a table gives this refusal of these bytes, unless it is want of memory
-abbrev pub IsWrong : Table → List ℕ → TableRefusal → Type 0
-IsWrong table bytes why = Fails is_memory why (reading table bytes)
 
 -- bytes that are no longer than a table may be, and of which the reader of the table gives this refusal
 pub record AreRefused (table : Table) (bytes : List ℕ) (why : TableRefusal) : Type 0 where

@@ -1,57 +1,21 @@
--- The tables of a day: the rows that each of them has, what its bytes are read as, and what is known of accepted rows.
+-- The tables of a folder: what its files are read as, and what is known of accepted rows, days and plans.
 use Rattle.std.specs.Prelude.{ℕ, ◌≡◌, ◌≤◌, List, length, nat_lt, if◌then◌else◌, Result, Ok, Err}
 use Rattle.rail_base.specs.Answers.{◌>>=◌}
 use Rattle.rail_base.specs.declared.limits.TheConstants.{MOST_TABLE_BYTES}
 use Rattle.rail_io.specs.Folders.{Files, file_at}
 use Rattle.rail_csv.specs.declared.rows.Table.{Table}
 use Rattle.rail_csv.specs.declared.rows.Table.TheVariants as table
-use Rattle.rail_csv.specs.declared.rows.TypeRow.{TypeRow}
-use Rattle.rail_csv.specs.declared.rows.StationRow.{StationRow}
-use Rattle.rail_csv.specs.declared.rows.StockRow.{StockRow}
-use Rattle.rail_csv.specs.declared.rows.TripRow.{TripRow}
-use Rattle.rail_csv.specs.declared.rows.LinkRow.{LinkRow}
-use Rattle.rail_csv.specs.declared.rows.WeightsRow.{WeightsRow}
 use Rattle.rail_csv.specs.declared.rows.PlanRow.{PlanRow}
 use Rattle.rail_csv.specs.declared.refusal.TableRefusal.{TableRefusal}
-use Rattle.rail_csv.specs.Tables.{types_of, stations_of, stock_of, trips_of, links_of, weights_of, plan_of}
-use Rattle.rail_csv.specs.Rows.{AreTypeRows, AreStationRows, AreStockRows, AreTripRows, AreLinkRows, IsWeightsRow}
 use Rattle.rail_csv.specs.Rows.{ArePlanRows}
 use Rattle.timetable.specs.declared.building.tables.Tables.{Tables}
 use Rattle.timetable.specs.Day.{Day}
 use Rattle.timetable.specs.Build.{day_of}
+pub use Rattle.timetable.specs.DayTables.{AreTables, RowsOf, reading}
 use Rattle.timetable.specs.Plans as plan_rows
 use Rattle.day_files.specs.declared.errors.Refusal.{Refusal}
 use Rattle.day_files.specs.declared.errors.Refusal.TheVariants.{TooLong, WrongTable}
 use Rattle.day_files.specs.Names.{path_of}
-
--- what an accepted table is: its rows, and of the weights the one row
-abbrev pub RowsOf : Table → Type 0
-RowsOf table.Types = List TypeRow
-RowsOf table.Stations = List StationRow
-RowsOf table.Stock = List StockRow
-RowsOf table.Trips = List TripRow
-RowsOf table.Links = List LinkRow
-RowsOf table.Weights = WeightsRow
-RowsOf table.Plan = List PlanRow
-
--- what bytes are read as: an accepted table, or the first thing that is wrong
-abbrev pub reading : (table : Table) → List ℕ → Result (RowsOf table) TableRefusal
-reading table.Types = types_of
-reading table.Stations = stations_of
-reading table.Stock = stock_of
-reading table.Trips = trips_of
-reading table.Links = links_of
-reading table.Weights = weights_of
-reading table.Plan = plan_of
-
--- tables whose rows keep within the ranges of their columns
-pub record AreTables (tables : Tables) : Type 0 where
-  pub types : AreTypeRows tables.types
-  pub stations : AreStationRows tables.stations
-  pub stock : AreStockRows tables.stock
-  pub trips : AreTripRows tables.trips
-  pub links : AreLinkRows tables.links
-  pub weights : IsWeightsRow tables.weights
 
 -- a day that tables make whose rows keep within the ranges of their columns
 pub record IsMadeDay (day : Day) : Type 0 where

@@ -1,4 +1,5 @@
 pub mod Accepting
+pub mod ReadTables
 pub mod EachRow
 pub mod Passing
 pub mod Tests

@@ -28,6 +28,7 @@ pub mod Tests
 pub mod NamedEntries
 pub mod LinkRows
 pub mod Build
+pub mod DayTables
 pub mod Plans
 pub mod Meaning
 pub mod Refusals

@@ -1,6 +1,7 @@
 //! The building of a day from its tables: the entries that rows make, their numbers by name, and refusals.
 
 pub(crate) mod accepted;
+pub mod day_tables;
 pub(crate) mod entries;
 pub(crate) mod link_rows;
 pub(crate) mod linked;

@@ -5,6 +5,7 @@ pub mod building;
 pub mod day;
 pub mod laws;
 
+pub use building::day_tables::{DayTable, WrongTable, tables_of};
 pub use building::refusal::{InstanceRefusal, PlanRefusal};
 pub use building::tables::{Rows, Tables};
 pub use day::indices::Place;

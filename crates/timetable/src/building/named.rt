@@ -100,6 +100,16 @@ impl<T: HasName> Named<T> {
     }
 }
 
+/// The place of the first entry with the name; nothing where no entry has it.
+pub fn find_name<T: HasName>(entries: &[T], name: &str) -> Option<usize>
+    ensures value { result ≡ find_name T.name_of entries.now name.now }
+    ensures within { IfSome result (λ place. place < length entries.now) }
+{
+    entries
+        .iter()
+        .position(|entry| entry.name().as_str() == name)
+}
+
 impl HasName for UnitType {
     ghost name_of = { λ t. t.name };
 

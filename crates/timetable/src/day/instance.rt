@@ -18,6 +18,7 @@ ghost use Rattle.timetable.specs.InstanceParts.{AreInstanceParts};
 ghost use Rattle.timetable.specs.Lists.{sum_below};
 ghost use Rattle.timetable.specs.Meaning.{IsDayOf};
 ghost use Rattle.timetable.specs.Minutes.{minutes_of, AreMinutes};
+ghost use Rattle.timetable.specs.NamedEntries.{find_name};
 ghost use Rattle.timetable.specs.Refusals.{day_tests};
 ghost use Rattle.timetable.specs.Starts.{start_in, start_of};
 ghost use Rattle.timetable.specs.Tests.{NoneFailed, IsFirstFailed};
@@ -26,6 +27,7 @@ ghost use Rattle.timetable.specs.Within.{AreTypes, IsStation, IsUnitAt, IsTripAt
 
 use crate::building::accepted::{AcceptedRows, accept};
 use crate::building::entries::longest_between;
+use crate::building::named::find_name;
 use crate::building::refusal::InstanceRefusal;
 use crate::building::tables::Tables;
 use crate::day::chains::{Chain, Linking, linking_of};
@@ -221,6 +223,28 @@ impl Instance {
         ensures within { IsTripAt (length self.now.stations) result.now }
     {
         &self.trips[trip.place()]
+    }
+
+    /// The number of the station with this name, the first that has it; nothing where no station has it.
+    pub fn find_station(&self, name: &str) -> Option<StationNo>
+        ensures value { result ≡ find_name (λ s. s.name) self.now.stations name.now }
+        ensures within { IfSome result (λ s. s < length self.now.stations) }
+    {
+        let Some(place) = find_name(&self.stations, name) else {
+            return None;
+        };
+        Some(StationNo(place as u32))
+    }
+
+    /// The number of the trip with this name, the first that has it; nothing where no trip has it.
+    pub fn find_trip(&self, name: &str) -> Option<TripNo>
+        ensures value { result ≡ find_name (λ t. t.name) self.now.trips name.now }
+        ensures within { IfSome result (λ t. t < length self.now.trips) }
+    {
+        let Some(place) = find_name(&self.trips, name) else {
+            return None;
+        };
+        Some(TripNo(place as u32))
     }
 
     /// The minute from which a unit that this trip gives to the yard where it arrives may be taken there: the trip's
