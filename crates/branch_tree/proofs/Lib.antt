@@ -10,6 +10,7 @@ pub mod Dividing
 pub mod Duality
 pub mod Covering
 pub mod Walking
+pub mod Least
 pub mod Concluding
 pub mod Settling
 pub mod Over

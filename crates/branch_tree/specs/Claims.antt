@@ -1,6 +1,6 @@
 -- What is concluded of all solutions in a region, and what proves it: a tree of cuts with a bound at each leaf.
 use Rattle.std.specs.Prelude.{ℕ, ◌≡◌, ◌+◌, ◌<◌, List, [], ◌∷◌, Bool, true, false, IsTrue, if◌then◌else◌, ℤ, pos, ◌≤ℤ◌}
-use Rattle.std.specs.Prelude.{◌<ℤ◌, int_lt, All, Contains, Option, Some, None, MatchOption}
+use Rattle.std.specs.Prelude.{◌<ℤ◌, int_lt, All, Option, Some, None, MatchOption}
 use Rattle.branch_tree.specs.declared.claims.Claim.{Claim}
 use Rattle.branch_tree.specs.declared.claims.ClaimHead.{ClaimHead}
 use Rattle.branch_tree.specs.declared.claims.ClaimHead.TheVariants.{Optimal, Infeasible, Bounded, BoundedPlan}
@@ -12,7 +12,7 @@ use Rattle.branch_tree.specs.Bounds.{IsEmpty, IsChoice, IsChainValue}
 use Rattle.branch_tree.specs.Entries.{DoFit}
 use Rattle.branch_tree.specs.Meanings.{Meanings}
 use Rattle.branch_tree.specs.Regions.{are_in}
-use Rattle.branch_tree.specs.Trees.{Covers, IsWhole, IsProperAt, branchings_of, bounds_of}
+use Rattle.branch_tree.specs.Trees.{Covers, IsLeast, IsWhole, IsProperAt, branchings_of, bounds_of}
 
 -- picks with a cost that is said
 pub record Priced : Type 0 where
@@ -94,11 +94,6 @@ pub record IsProvedAt (problem : Meanings) (region : List (List Bool)) (node : N
   pub bound : IsBoundAt problem region node
   pub ray : IsRayAt problem region node
   pub empty : IsEmptyAt problem region node
-
--- a number is the least of some
-pub record IsLeast (numbers : List ℤ) (least : ℤ) : Type 0 where
-  pub one : Contains numbers least
-  pub all : All (λ number. least ≤ℤ number) numbers
 
 -- the bounds of the cost leaves prove the conclusion
 abbrev pub DoBound : List ℤ → Conclusion → Type 0

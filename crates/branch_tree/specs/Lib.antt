@@ -12,6 +12,8 @@ pub mod Entries
 pub mod Places
 -- trees of cuts
 pub mod Trees
+-- the inside of the least bound of a tree
+pub mod LeastBounds
 -- relaxations, their bounds, and what a tree proves
 pub mod Meanings
 pub mod Bounds

@@ -1,7 +1,8 @@
 -- A tree of cuts as a list in preorder: after a branch comes its left subtree, and then its right one.
 -- What is a node is left open: it has a cut where it is a branch, and none where it is a leaf.
 use Rattle.std.specs.Prelude.{ℕ, ◌+◌, ◌≡◌, List, [], ◌∷◌, ◌++◌, is_some, is_none, filter, if◌then◌else◌, All, Bool, ℤ}
-use Rattle.std.specs.Prelude.{Option, Some, None, MatchOption}
+use Rattle.std.specs.Prelude.{Option, Some, None, MatchOption, Contains, ◌≤ℤ◌}
+use Rattle.rail_base.specs.declared.numbers.Money.{Money}
 use Rattle.branch_tree.specs.declared.cuts.Cut.{Cut}
 use Rattle.branch_tree.specs.declared.cuts.Side.TheVariants.{Left, Right}
 use Rattle.branch_tree.specs.declared.multipliers.Entry.{Entry}
@@ -93,3 +94,18 @@ abbrev pub bounds_of : List Node → List ℤ
 bounds_of [] = []
 bounds_of (CostLeaf bound multipliers ∷ nodes) = bound.0 ∷ bounds_of nodes
 bounds_of (node ∷ nodes) = bounds_of nodes
+
+-- the bound of a cost leaf, and none at another node
+abbrev pub bound_of : Node → Option Money
+bound_of (CostLeaf bound multipliers) = Some bound
+bound_of node = None
+
+-- a number is the least of some
+pub record IsLeast (numbers : List ℤ) (least : ℤ) : Type 0 where
+  pub one : Contains numbers least
+  pub all : All (λ number. least ≤ℤ number) numbers
+
+-- the least of some bounds, or none where there is no bound
+abbrev pub IsLeastOf : List ℤ → Option Money → Type 0
+IsLeastOf bounds None = bounds ≡ []
+IsLeastOf bounds (Some least) = IsLeast bounds least.0

@@ -15,7 +15,7 @@ pub use claims::{Claim, ClaimHead};
 pub use cuts::{Cut, Mark, Side};
 pub use multipliers::{Entry, Multipliers, PutRefusal};
 pub use regions::Region;
-pub use relaxation::{BoundAnswer, Relaxation, Settled, Weight};
+pub use relaxation::{BoundAnswer, Relaxation, Settled, Weight, is_positive};
 pub use sets::CompositionSet;
 pub use slacks::Slacks;
 pub use tree::{Node, Tree};

@@ -1,6 +1,6 @@
 //! Relaxations: problems over picks whose least priced values bound the cost of every solution.
 
-ghost use Rattle.std.specs.Prelude.{◌≡◌, ◌↔◌, IsTrue, length};
+ghost use Rattle.std.specs.Prelude.{◌≡◌, ◌↔◌, ◌<ℤ◌, IsTrue, MatchOption, length, pos};
 ghost use Rattle.branch_tree.specs.Bounds.{AreSlacks, IsBound, IsSettled};
 ghost use Rattle.branch_tree.specs.Meanings.{DoFitFor, IsRelaxation, Meanings};
 
@@ -27,6 +27,16 @@ pub enum BoundAnswer {
     Empty,
     /// The least priced value.
     Value(Money),
+}
+
+/// Whether a least priced value was found, and is positive.
+pub fn is_positive(found: Option<Money>) -> bool
+    ensures { IsTrue result ↔ MatchOption found ⊥ (λ value. pos 0 <ℤ value.0) }
+{
+    match found {
+        Some(value) => value.0 > 0,
+        None => false,
+    }
 }
 
 /// Whether picks that follow are a solution.

@@ -2,7 +2,9 @@
 
 ghost use Rattle.std.specs.Prelude.{◌≡◌, ◌<◌, ◌≤◌, ◌++◌, [], ◌∷◌, length, slice_get, Some, IfOk, OnOk, OnErr};
 ghost use Rattle.branch_tree.specs.Entries.{AreMultipliers};
-ghost use Rattle.branch_tree.specs.Trees.{KeepLimits, branchings_of, cut_of, multipliers_of};
+ghost use Rattle.branch_tree.specs.LeastBounds.{least_of, lower_of};
+ghost use Rattle.branch_tree.specs.Trees.{IsLeastOf, KeepLimits, bound_of, bounds_of, branchings_of, cut_of};
+ghost use Rattle.branch_tree.specs.Trees.{multipliers_of};
 
 use crate::cuts::Cut;
 use crate::multipliers::Multipliers;
@@ -39,6 +41,16 @@ impl Node {
     {
         match self {
             Node::Branch(cut) => Some(*cut),
+            _ => None,
+        }
+    }
+
+    /// The bound of a cost leaf, or nothing at another node.
+    pub fn bound(&self) -> Option<Money>
+        ensures { result ≡ bound_of self.now }
+    {
+        match self {
+            Node::CostLeaf { bound, .. } => Some(*bound),
             _ => None,
         }
     }
@@ -127,4 +139,32 @@ impl Tree {
         }
         branchings
     }
+    /// The least of the bounds of the cost leaves, or nothing where there is no cost leaf.
+    pub fn least_bound(&self) -> Option<Money>
+        ensures { IsLeastOf (bounds_of self.now) result }
+    {
+        let mut least = None;
+        for number in 0..self.len() {
+            least = least_of(least, self.node(NodeNo(number)).bound());
+        }
+        least
+    }
+}
+
+/// The lower of two bounds, each of which may be missing.
+fn least_of(least: Option<Money>, bound: Option<Money>) -> Option<Money>
+    ensures { result ≡ least_of least bound }
+{
+    match (least, bound) {
+        (least, None) => least,
+        (None, Some(bound)) => Some(bound),
+        (Some(least), Some(bound)) => Some(lower_of(least, bound)),
+    }
+}
+
+/// The lower of two bounds.
+fn lower_of(least: Money, bound: Money) -> Money
+    ensures { result ≡ lower_of least bound }
+{
+    if bound.0 < least.0 { bound } else { least }
 }

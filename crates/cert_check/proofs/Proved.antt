@@ -12,12 +12,12 @@ use Rattle.branch_tree.specs.declared.tree.Node.{Node}
 use Rattle.branch_tree.specs.declared.tree.Node.TheVariants.{Branch, CostLeaf, RayLeaf, EmptyLeaf}
 use Rattle.branch_tree.specs.Bounds.{IsChainValue}
 use Rattle.branch_tree.specs.Claims.{Conclusion, optimal, infeasible, bounded, bounded_plan, Priced, plan_of, said_by}
-use Rattle.branch_tree.specs.Claims.{IsPlanIn, IsRay, IsProvedAt, IsProvedClaim, IsLeast, DoBound}
+use Rattle.branch_tree.specs.Claims.{IsPlanIn, IsRay, IsProvedAt, IsProvedClaim, DoBound}
 use Rattle.branch_tree.specs.Meanings.{Meanings, IsRelaxation}
-use Rattle.branch_tree.specs.Trees.{Covers, IsWhole, Walks, branchings_of, bounds_of, cut_of, nodes_in, regions_below}
+use Rattle.branch_tree.specs.Trees.{Covers, IsLeast, IsLeastOf, IsWhole, Walks, branchings_of, bounds_of, cut_of, nodes_in, regions_below}
 use Rattle.branch_tree.proofs.Duality.{chain_values_are_one}
 use Rattle.branch_tree.proofs.Walking.{proved_at_each_node}
-use Rattle.cert_check.specs.Reasons.{IsFound, IsMisshapen, HasOtherBranchings, IsLeastOf, HasOtherLeast, IsBelowCost}
+use Rattle.cert_check.specs.Reasons.{IsFound, IsMisshapen, HasOtherBranchings, HasOtherLeast, IsBelowCost}
 use Rattle.cert_check.specs.Reasons.{IsLeft, money, node_tests, tests_from, plan_tests, leaf_tests, head_tests}
 use Rattle.cert_check.specs.Reasons.{claim_tests}
 use Rattle.cert_check.specs.Tests.{NoneFails, IsPassed}

@@ -13,14 +13,14 @@ use Rattle.branch_tree.specs.declared.tree.Node.{Node}
 use Rattle.branch_tree.specs.declared.tree.Node.TheVariants.{Branch, CostLeaf, RayLeaf, EmptyLeaf}
 use Rattle.branch_tree.specs.Claims.{Conclusion, optimal, infeasible, bounded, bounded_plan, Priced, plan_of, said_by}
 use Rattle.branch_tree.specs.Meanings.{Meanings}
-use Rattle.branch_tree.specs.Trees.{IsWhole, bounds_of, cut_of, nodes_in}
+use Rattle.branch_tree.specs.Trees.{IsLeastOf, IsWhole, bounds_of, cut_of, nodes_in}
 use Rattle.branch_tree.proofs.Duality.{chain_values_are_one}
 use Rattle.cert_check.specs.declared.verdict.Reason.{Reason}
 use Rattle.cert_check.specs.declared.verdict.Reason.TheVariants.{TreeShape, BoundDiffers, RayNotPositive}
 use Rattle.cert_check.specs.declared.verdict.Reason.TheVariants.{LeastBoundDiffers}
 use Rattle.cert_check.specs.declared.verdict.Verdict.TheVariants.{Valid, Invalid}
 use Rattle.cert_check.specs.Laws.{VerdictsAreOne}
-use Rattle.cert_check.specs.Reasons.{IsAfterTree, IsMisshapen, IsFound, IsLeastOf, IsBelowCost, IsLeft, HasOtherLeast}
+use Rattle.cert_check.specs.Reasons.{IsAfterTree, IsMisshapen, IsFound, IsBelowCost, IsLeft, HasOtherLeast}
 use Rattle.cert_check.specs.Reasons.{money, node_tests, tests_from, plan_tests, leaf_tests, head_tests, claim_tests}
 use Rattle.cert_check.specs.Tests.{Test, FirstFails}
 use Rattle.cert_check.proofs.Proved.{found_least}

@@ -7,5 +7,3 @@ pub mod Sizes
 pub mod Laws
 -- the inside of a check: the way down a tree
 pub mod Paths
--- the least bound of leaves
-pub mod Leaves

@@ -11,11 +11,10 @@ use Rattle.branch_tree.specs.declared.tree.Node.{Node}
 use Rattle.branch_tree.specs.declared.tree.Node.TheVariants.{Branch, CostLeaf, RayLeaf, EmptyLeaf}
 use Rattle.branch_tree.specs.Bounds.{IsEmpty, IsChainValue}
 use Rattle.branch_tree.specs.Claims.{Conclusion, optimal, infeasible, bounded, bounded_plan, Priced, plan_of, said_by}
-use Rattle.branch_tree.specs.Claims.{IsLeast}
 use Rattle.branch_tree.specs.Cuts.{IsProper}
 use Rattle.branch_tree.specs.Meanings.{Meanings, DoFitFor}
 use Rattle.branch_tree.specs.Regions.{are_in}
-use Rattle.branch_tree.specs.Trees.{IsWhole, branchings_of, bounds_of, cut_of, nodes_in}
+use Rattle.branch_tree.specs.Trees.{IsLeastOf, IsWhole, branchings_of, bounds_of, cut_of, nodes_in}
 use Rattle.cert_check.specs.declared.verdict.Reason.{Reason}
 use Rattle.cert_check.specs.declared.verdict.Reason.TheVariants.{TreeShape, BranchingsDiffer, NotProper}
 use Rattle.cert_check.specs.declared.verdict.Reason.TheVariants.{MultiplierIndex}
@@ -104,6 +103,10 @@ abbrev pub HasOtherCost : Meanings → Priced → Reason → Type 0
 HasOtherCost problem plan reason =
     (reason ≡ CostDiffers (money plan.cost) (money (problem.cost plan.picks))) × (plan.cost ≢ problem.cost plan.picks)
 
+-- picks with the cost that is said
+abbrev pub priced_at : Money → List ℕ → Priced
+priced_at cost picks = record { cost = cost.0; picks = picks }
+
 abbrev pub plan_tests : Meanings → List (List Bool) → Option Priced → List Test
 plan_tests problem root None = []
 plan_tests problem root (Some plan) = DoPicksFail problem root plan ∷ HasOtherCost problem plan ∷ []
@@ -123,11 +126,6 @@ abbrev pub leaf_tests : (ℕ → Money → Test) → ℕ → List Node → List 
 leaf_tests test number [] = []
 leaf_tests test number (CostLeaf bound multipliers ∷ nodes) = test number bound ∷ leaf_tests test (suc number) nodes
 leaf_tests test number (node ∷ nodes) = leaf_tests test (suc number) nodes
-
--- the least of bounds, or none where there is no bound
-abbrev pub IsLeastOf : List ℤ → Option Money → Type 0
-IsLeastOf bounds None = bounds ≡ []
-IsLeastOf bounds (Some least) = IsLeast bounds least.0
 
 -- the bound that is said is not the least of the cost leaves' bounds
 abbrev pub HasOtherLeast : ℤ → List Node → Reason → Type 0

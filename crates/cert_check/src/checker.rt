@@ -2,7 +2,7 @@
 
 ghost use Rattle.std.specs.Prelude.{◌≡◌, ◌≤◌, [], length, vec_capacity, IfOk, IfErr};
 ghost use Rattle.rail_base.specs.declared.limits.TheConstants.{MOST_NODES};
-ghost use Rattle.branch_tree.specs.Claims.{IsProvedClaim};
+ghost use Rattle.branch_tree.specs.Claims.{IsConcluded, IsProvedClaim, said_by};
 ghost use Rattle.branch_tree.specs.Regions.{IsOver};
 ghost use Rattle.cert_check.specs.Reasons.{claim_tests};
 ghost use Rattle.cert_check.specs.Tests.{FirstFails};
@@ -58,6 +58,9 @@ impl Checker {
     /// Checks a claim of a problem over a root region: it is valid exactly where its tree proves it, and else the
     /// verdict is the first reason that holds. The tree has no more nodes than the checker was made for, and the
     /// problem has as many trips. The root region is one of this problem, and afterwards as it was. It takes no memory.
+    ///
+    /// What a valid claim says is true of all solutions in the root, whoever made it: no solution costs less than an
+    /// optimal one or a bound, and an infeasible root has none.
     pub fn check<R: Relaxation>(
         &mut self,
         problem: &mut R,
@@ -70,6 +73,9 @@ impl Checker {
         requires root { IsOver self.old.trips (R.meanings (R.problem problem.old)).catalogue root.old }
         // Valid exactly where the tree proves the claim, and else the first reason that holds.
         ensures verdict { IsVerdict (R.meanings (R.problem problem.old)) root.old claim.now result }
+        // What a valid claim says is true of all solutions in the root.
+        ensures holds { result ≡ Verdict.Valid → IsConcluded (R.meanings (R.problem problem.old)) root.old
+            (said_by claim.now.head) }
         // What is left as it was.
         ensures root { root.new ≡ root.old }
         ensures problem { R.problem problem.new ≡ R.problem problem.old }
@@ -90,6 +96,26 @@ impl Checker {
             Err(reason) => Verdict::Invalid(reason),
         }
     }
+}
+
+/// The verdict on a claim of a problem over a root region, as `Checker::check` finds it. The root region is one of this
+/// problem, and afterwards as it was. The error is want of memory.
+pub fn checked<R: Relaxation>(
+    alloc: Global,
+    problem: &mut R,
+    root: &mut Region,
+    claim: &Claim<'_>,
+) -> Result<Verdict, NoMemory>
+    requires root { IsOver (R.meanings (R.problem problem.old)).trips
+        (R.meanings (R.problem problem.old)).catalogue root.old }
+    ensures verdict { IfOk result (IsVerdict (R.meanings (R.problem problem.old)) root.old claim.now) }
+    ensures holds { IfOk result (λ verdict. verdict ≡ Verdict.Valid →
+        IsConcluded (R.meanings (R.problem problem.old)) root.old (said_by claim.now.head)) }
+    ensures root { root.new ≡ root.old }
+    ensures problem { R.problem problem.new ≡ R.problem problem.old }
+{
+    let mut checker = Checker::new(alloc, claim.tree.len(), problem.trips())?;
+    Ok(checker.check(problem, root, claim))
 }
 
 /// Tests a claim up to the first test that fails.

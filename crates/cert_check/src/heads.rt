@@ -2,16 +2,15 @@
 
 ghost use Rattle.std.specs.Prelude.{◌≡◌, ◌≢◌, ◌↔◌, length, All, ◌≤ℤ◌, ◌<ℤ◌, int_lt, [], IsTrue, IfOk, IfErr};
 ghost use Rattle.std.specs.Prelude.{MatchOption, Some};
-ghost use Rattle.branch_tree.specs.Claims.{DoBound, IsLeast, IsPlanIn, plan_of, said_by};
-ghost use Rattle.branch_tree.specs.Trees.{bounds_of};
-ghost use Rattle.cert_check.specs.Leaves.{bound_of, least_of, lower_of, priced_at};
-ghost use Rattle.cert_check.specs.Reasons.{HasOtherLeast, IsBelowCost, IsLeft, IsLeastOf, head_tests, leaf_tests};
-ghost use Rattle.cert_check.specs.Reasons.{plan_tests};
+ghost use Rattle.branch_tree.specs.Claims.{DoBound, IsPlanIn, plan_of, said_by};
+ghost use Rattle.branch_tree.specs.Trees.{IsLeast, bounds_of};
+ghost use Rattle.cert_check.specs.Reasons.{HasOtherLeast, IsBelowCost, IsLeft, head_tests, leaf_tests};
+ghost use Rattle.cert_check.specs.Reasons.{plan_tests, priced_at};
 ghost use Rattle.cert_check.specs.Tests.{FirstFails};
 
 use crate::leaves::is_value;
 use crate::verdict::Reason;
-use branch_tree::{ClaimHead, Node, Region, Relaxation, Settled, Tree};
+use branch_tree::{ClaimHead, Region, Relaxation, Settled, Tree};
 use rail_base::{Money, NodeNo};
 use timetable::Picks;
 
@@ -94,7 +93,7 @@ fn test_none_below(tree: &Tree, cost: Money) -> Result<(), Reason>
     ensures reason { IfErr result (FirstFails (leaf_tests (IsBelowCost cost.0) 0 tree.now)) }
 {
     for number in 0..tree.len() {
-        if let Some(bound) = bound_of(tree.node(NodeNo(number))) {
+        if let Some(bound) = tree.node(NodeNo(number)).bound() {
             if is_below(bound, cost) {
                 return Err(Reason::LeafBelowCost {
                     node: NodeNo(number),
@@ -113,7 +112,7 @@ fn test_no_cost_leaf(tree: &Tree) -> Result<(), Reason>
     ensures reason { IfErr result (FirstFails (leaf_tests IsLeft 0 tree.now)) }
 {
     for number in 0..tree.len() {
-        if bound_of(tree.node(NodeNo(number))).is_some() {
+        if tree.node(NodeNo(number)).bound().is_some() {
             return Err(Reason::CostLeafLeft(NodeNo(number)));
         }
     }
@@ -125,51 +124,12 @@ fn test_least(tree: &Tree, said: Money) -> Result<(), Reason>
     ensures passed { IfOk result (λ _. IsLeast (bounds_of tree.now) said.0) }
     ensures reason { IfErr result (HasOtherLeast said.0 tree.now) }
 {
-    let found = least_bound(tree);
+    let found = tree.least_bound();
     if is_value(found, said) {
         Ok(())
     } else {
         Err(Reason::LeastBoundDiffers { said, found })
     }
-}
-
-/// The least bound of the cost leaves, or nothing where there is none.
-fn least_bound(tree: &Tree) -> Option<Money>
-    ensures { IsLeastOf (bounds_of tree.now) result }
-{
-    let mut least = None;
-    for number in 0..tree.len() {
-        least = least_of(least, bound_of(tree.node(NodeNo(number))));
-    }
-    least
-}
-
-/// The bound of a node, where it is a cost leaf.
-fn bound_of(node: &Node) -> Option<Money>
-    ensures { result ≡ bound_of node.now }
-{
-    match node {
-        Node::CostLeaf { bound, .. } => Some(*bound),
-        _ => None,
-    }
-}
-
-/// The lower of two bounds, each of which may be missing.
-fn least_of(least: Option<Money>, bound: Option<Money>) -> Option<Money>
-    ensures { result ≡ least_of least bound }
-{
-    match (least, bound) {
-        (least, None) => least,
-        (None, Some(bound)) => Some(bound),
-        (Some(least), Some(bound)) => Some(lower_of(least, bound)),
-    }
-}
-
-/// The lower of two bounds.
-fn lower_of(least: Money, bound: Money) -> Money
-    ensures { result ≡ lower_of least bound }
-{
-    if is_below(bound, least) { bound } else { least }
 }
 
 /// Whether a bound is below an amount.

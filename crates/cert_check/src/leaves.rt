@@ -1,7 +1,7 @@
 //! The test of a node in its region: that a cut is proper there, and that a leaf's multipliers fit and give what it
 //! says.
 
-ghost use Rattle.std.specs.Prelude.{◌≡◌, ◌∷◌, [], ◌↔◌, length, IfOk, IfErr, IsTrue, MatchOption, Some, pos, ◌<ℤ◌};
+ghost use Rattle.std.specs.Prelude.{◌≡◌, ◌∷◌, [], ◌↔◌, length, IfOk, IfErr, IsTrue, Some};
 ghost use Rattle.branch_tree.specs.Bounds.{IsChainValue, IsEmpty};
 ghost use Rattle.branch_tree.specs.Claims.{IsProvedAt, IsRay};
 ghost use Rattle.branch_tree.specs.Cuts.{IsProper};
@@ -11,7 +11,7 @@ ghost use Rattle.cert_check.specs.Reasons.{IsUnfit};
 ghost use Rattle.cert_check.specs.Tests.{FirstFails};
 
 use crate::verdict::Reason;
-use branch_tree::{BoundAnswer, Cut, Multipliers, Node, Region, Relaxation, Weight};
+use branch_tree::{BoundAnswer, Cut, Multipliers, Node, Region, Relaxation, Weight, is_positive};
 use rail_base::{Money, NodeNo};
 use timetable::Picks;
 
@@ -205,16 +205,6 @@ pub fn is_value(found: Option<Money>, value: Money) -> bool
 {
     match found {
         Some(other) => other.0 == value.0,
-        None => false,
-    }
-}
-
-/// Whether what was found is a positive value.
-fn is_positive(found: Option<Money>) -> bool
-    ensures { IsTrue result ↔ MatchOption found ⊥ (λ value. pos 0 <ℤ value.0) }
-{
-    match found {
-        Some(value) => value.0 > 0,
         None => false,
     }
 }

@@ -11,5 +11,5 @@ mod path;
 mod shape;
 pub mod verdict;
 
-pub use checker::Checker;
+pub use checker::{Checker, checked};
 pub use verdict::{Reason, Verdict};

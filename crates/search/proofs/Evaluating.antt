@@ -1,6 +1,6 @@
 -- What evaluations of a region show, and what an offer leaves.
-use Rattle.std.proofs.Common.{◌≡◌, List, [], ◌∷◌, ℕ, Bool, true, false, Option, Some, None, ◌⊎◌, inl}
-use Rattle.std.proofs.Common.{inr, refl, sym, ◌∙◌, subst, ℤ, pos, negsuc, int_lt, w8, w64, to_z, of_z, ap}
+use Rattle.std.proofs.Common.{◌≡◌, List, [], ◌∷◌, ℕ, Bool, true, false, Option, Some, None, ◌⊎◌, ◌↔◌, IsTrue, inl}
+use Rattle.std.proofs.Common.{◌≤ℤ◌, ◌<ℤ◌, inr, refl, sym, ◌∙◌, subst, ℤ, pos, negsuc, int_lt, w8, w64, to_z, of_z, ap}
 use Rattle.std.proofs.Common.{Result, Ok, Err, OnOk, is_ok, is_none}
 use Rattle.std.specs.Result.{result_err}
 use Rattle.std.proofs.lemmas.Bool.{false≢true}
@@ -25,16 +25,18 @@ use Rattle.search.specs.Offers.{HasCheaperIn, IsOffered}
 use Rattle.search.proofs.Below.{lower, not_lower}
 
 -- the test of a chain value without cost
-pub ray_test : (problem : Meanings) (region : List (List Bool)) (multipliers : List Entry) (value : Money) (old new : List ℕ) →
-    IsBound problem region multipliers NoCost (Value value) old new → IsRayTest problem region multipliers (int_lt (pos 0) value.0)
-ray_test problem region multipliers value old new is = at (int_lt (pos 0) value.0) refl
+pub ray_test : (problem : Meanings) (region : List (List Bool)) (multipliers : List Entry) (value : Money) (old new : List ℕ) (positive : Bool) →
+    IsBound problem region multipliers NoCost (Value value) old new → (IsTrue positive ↔ (pos 0 <ℤ value.0)) → IsRayTest problem region multipliers positive
+ray_test problem region multipliers value old new true is tested = (value.0, bounds_are_chain_values problem region multipliers NoCost value old new is, tested.0 refl)
+ray_test problem region multipliers value old new false is tested = record {
+  value = value.0;
+  chain_value = bounds_are_chain_values problem region multipliers NoCost value old new is;
+  not_positive = at (int_lt (pos 0) value.0) refl;
+}
   where
-    chain : IsChainValue problem region multipliers NoCost value.0
-    chain = bounds_are_chain_values problem region multipliers NoCost value old new is
-
-    at : (positive : Bool) → int_lt (pos 0) value.0 ≡ positive → IsRayTest problem region multipliers positive
-    at true e = (value.0, chain, lower (pos 0) value.0 e)
-    at false e = record { value = value.0; chain_value = chain; not_positive = not_lower (pos 0) value.0 e }
+    at : (below : Bool) → int_lt (pos 0) value.0 ≡ below → value.0 ≤ℤ pos 0
+    at true e = absurd (false≢true (tested.1 (lower (pos 0) value.0 e)))
+    at false e = not_lower (pos 0) value.0 e
 
 -- an offer that was not made leaves the best solution
 pub not_offered : (problem : Meanings) (region : List (List Bool)) (best : Option Priced) → IsOffered problem region best best

@@ -2,7 +2,6 @@
 use Rattle.std.proofs.Common.{◌≡◌, ℕ, zero, suc, ◌+◌, ◌*◌, ◌<◌, ◌≤◌, List, [], ◌∷◌, ◌++◌, length, reverse, All}
 use Rattle.std.proofs.Common.{Contains, Bool, true, false, if◌then◌else◌, Option, Some, None, MatchOption, refl, sym}
 use Rattle.std.proofs.Common.{ap, subst, arith, ◌∙◌, inl, inr, ◌⊎◌, ℤ, ◌≤ℤ◌, ◌<ℤ◌, int_lt}
-use Rattle.std.specs.List.{fold}
 use Rattle.std.proofs.lemmas.Int.{ints}
 use Rattle.std.proofs.lemmas.List.{append-nil, length-append, length-map, length-reverse}
 use Rattle.std.proofs.lemmas.List.Elements.{All-cons, All-nil, All-head, All-tail, All-contains, All-weaker}
@@ -11,18 +10,19 @@ use Rattle.branch_tree.specs.declared.multipliers.Entry.{Entry}
 use Rattle.branch_tree.specs.declared.tree.Node.{Node}
 use Rattle.branch_tree.specs.declared.tree.Node.TheVariants.{Branch, CostLeaf, RayLeaf, EmptyLeaf}
 use Rattle.branch_tree.specs.Claims.{Priced, Conclusion, optimal, infeasible, plan_of, IsPlanIn, IsProved, IsProvedAt}
-use Rattle.branch_tree.specs.Claims.{IsRaisedAt, IsSettledAt, IsNotEvident, IsNotEvidentAt, IsLeast, DoBound, EndsInTime}
+use Rattle.branch_tree.specs.Claims.{IsRaisedAt, IsSettledAt, IsNotEvident, IsNotEvidentAt, DoBound, EndsInTime}
 use Rattle.branch_tree.specs.Claims.{HasOpenLeaf, is_open, is_below, open_leaves_of}
 use Rattle.branch_tree.specs.Meanings.{Meanings}
-use Rattle.branch_tree.specs.Trees.{Walks, Covers, IsWhole, bounds_of, branchings_of, cut_of, regions_below}
+use Rattle.branch_tree.specs.Trees.{Walks, Covers, IsLeast, IsLeastOf, IsWhole, bounds_of, branchings_of, cut_of, regions_below}
 use Rattle.branch_tree.proofs.Covering.{leaves_exceed_branches}
 use Rattle.branch_tree.proofs.Walking.{covers_each, proved_at_each_node}
 use Rattle.search.specs.declared.found.Best.{Best}
+use Rattle.search.specs.declared.found.Found.{Found}
 use Rattle.search.specs.declared.found.Found.TheVariants.{Bounded}
 use Rattle.search.specs.declared.nodes.SearchNode.{SearchNode}
 use Rattle.search.specs.declared.nodes.SearchNode.TheVariants.{Fixed, Pending}
 use Rattle.search.specs.Frontiers.{can_improve}
-use Rattle.search.specs.Ends.{HasEnded, found_by, least_of, lesser, lesser_of, closed_by, bounded_by}
+use Rattle.search.specs.Ends.{HasEnded, IsFoundBy, found_by, closed_by, bounded_by}
 use Rattle.search.specs.Nodes.{CanBranch, IsNodeOf, IsPlaced, IsSearched, cut_at, tree_node, tree_nodes}
 use Rattle.search.specs.Offers.{HasPlanIn}
 use Rattle.search.specs.Conclusions.{IsSolved, nodes_found, plan_found, plan_in, bounded_with}
@@ -81,85 +81,6 @@ proved_by problem root plan nodes conclusion is same bound =
 
 pub whole_tree : (problem : Meanings) (root : List (List Bool)) (best : Option Priced) (nodes : List SearchNode) → IsSearched problem root best nodes → IsWhole (tree_nodes nodes)
 whole_tree problem root best nodes is = ((covers_each (IsProvedAt problem) problem.catalogue root (tree_nodes nodes)).0 (tree_of problem root best nodes is).proved).0
-
--- ---- the least bound
-
--- the least of a number and the bounds of nodes
-record IsLeastFrom (start : Money) (nodes : List Node) (least : Option Money) : Type 0 where
-  value : Money
-  is : least ≡ Some value
-  below : value.0 ≤ℤ start.0
-  all : All (λ bound. value.0 ≤ℤ bound) (bounds_of nodes)
-  one : (value.0 ≡ start.0) ⊎ Contains (bounds_of nodes) value.0
-
-record IsLesser (start bound next : Money) : Type 0 where
-  first : next.0 ≤ℤ start.0
-  second : next.0 ≤ℤ bound.0
-  either : (next.0 ≡ start.0) ⊎ (next.0 ≡ bound.0)
-
-lesser_is : (start bound : Money) (lower_one : Bool) → int_lt bound.0 start.0 ≡ lower_one → IsLesser start bound (if lower_one then bound else start)
-lesser_is start bound true e =
-    let under : bound.0 <ℤ start.0 = lower bound.0 start.0 e in
-    record { first = omega (arith, ints, under); second = omega (arith, ints); either = inr refl }
-lesser_is start bound false e =
-    let over : start.0 ≤ℤ bound.0 = not_lower bound.0 start.0 e in
-    record { first = omega (arith, ints); second = omega (arith, ints, over); either = inl refl }
-
-later : (bound value : ℤ) (bounds : List ℤ) → Contains bounds value → Contains (bound ∷ bounds) value
-later bound value bounds is = (suc is.0, omega (arith, is.1), is.2)
-
-first_of_all : (bound value : ℤ) (bounds : List ℤ) → value ≡ bound → Contains (bound ∷ bounds) value
-first_of_all bound value bounds same = (0, omega arith, sym same)
-
-least_after : (start bound next : Money) (nodes : List Node) (multipliers : List Entry) (least : Option Money) → IsLesser start bound next → IsLeastFrom next nodes least → IsLeastFrom start (CostLeaf bound multipliers ∷ nodes) least
-least_after start bound next nodes multipliers least lesser rest = record {
-  value = rest.value;
-  is = rest.is;
-  below = omega (arith, ints, rest.below, lesser.first);
-  all = All-cons (λ number. rest.value.0 ≤ℤ number) bound.0 (bounds_of nodes) (omega (arith, ints, rest.below, lesser.second)) rest.all;
-  one = elim rest.one as (λ _. (rest.value.0 ≡ start.0) ⊎ Contains (bounds_of (CostLeaf bound multipliers ∷ nodes)) rest.value.0) [
-    | inl same ↦ elim lesser.either as (λ _. (rest.value.0 ≡ start.0) ⊎ Contains (bounds_of (CostLeaf bound multipliers ∷ nodes)) rest.value.0) [
-      | inl start_is ↦ inl (same ∙ start_is)
-      | inr bound_is ↦ inr (first_of_all bound.0 rest.value.0 (bounds_of nodes) (same ∙ bound_is))
-    ]
-    | inr has ↦ inr (later bound.0 rest.value.0 (bounds_of nodes) has)
-  ];
-}
-
-least_from : (start : Money) (nodes : List Node) → IsLeastFrom start nodes (fold lesser (Some start) nodes)
-least_from start [] = record { value = start; is = refl; below = omega (arith, ints); all = All-nil (λ number. start.0 ≤ℤ number); one = inl refl }
-least_from start (CostLeaf bound multipliers ∷ nodes) =
-    least_after start bound (lesser_of (Some start) bound) nodes multipliers (fold lesser (Some (lesser_of (Some start) bound)) nodes)
-    (lesser_is start bound (int_lt bound.0 start.0) refl) (least_from (lesser_of (Some start) bound) nodes)
-least_from start (Branch cut ∷ nodes) = let rest = least_from start nodes in record { value = rest.value; is = rest.is; below = rest.below; all = rest.all; one = rest.one }
-least_from start (RayLeaf multipliers ∷ nodes) = let rest = least_from start nodes in record { value = rest.value; is = rest.is; below = rest.below; all = rest.all; one = rest.one }
-least_from start (EmptyLeaf ∷ nodes) = let rest = least_from start nodes in record { value = rest.value; is = rest.is; below = rest.below; all = rest.all; one = rest.one }
-
--- the least of some bounds, where there are such
-IsLeastOf : List ℤ → Option Money → Type 0
-IsLeastOf bounds None = bounds ≡ []
-IsLeastOf bounds (Some least) = IsLeast bounds least.0
-
-first_least : (bound : Money) (multipliers : List Entry) (nodes : List Node) → IsLeastFrom bound nodes (fold lesser (Some bound) nodes) → IsLeastOf (bounds_of (CostLeaf bound multipliers ∷ nodes)) (fold lesser (Some bound) nodes)
-unfolding IsLeastOf
-first_least bound multipliers nodes from = subst (λ least. IsLeastOf (bounds_of (CostLeaf bound multipliers ∷ nodes)) least) (sym from.is) found
-  where
-    found : IsLeast (bound.0 ∷ bounds_of nodes) from.value.0
-    found = record {
-      one = elim from.one as (λ _. Contains (bound.0 ∷ bounds_of nodes) from.value.0) [
-        | inl same ↦ first_of_all bound.0 from.value.0 (bounds_of nodes) same
-        | inr has ↦ later bound.0 from.value.0 (bounds_of nodes) has
-      ];
-      all = All-cons (λ number. from.value.0 ≤ℤ number) bound.0 (bounds_of nodes) from.below from.all;
-    }
-
-least_is : (nodes : List Node) → IsLeastOf (bounds_of nodes) (least_of nodes)
-unfolding IsLeastOf
-least_is [] = refl
-least_is (CostLeaf bound multipliers ∷ nodes) = first_least bound multipliers nodes (least_from bound nodes)
-least_is (Branch cut ∷ nodes) = least_is nodes
-least_is (RayLeaf multipliers ∷ nodes) = least_is nodes
-least_is (EmptyLeaf ∷ nodes) = least_is nodes
 
 -- ---- opens leaves and bounds
 
@@ -284,14 +205,14 @@ module _ (problem : Meanings) (root : List (List Bool)) (grant : ℕ) (best : Op
       always_below (Some plan) none closed = not_some plan none
 
   solved_by : (least : Option Money) → IsLeastOf (bounds_of nodes) least → IsSolved problem root grant (found_by least best nodes)
-  unfolding IsLeastOf
   solved_by None none = solved_closed (subst (λ bounds. All (λ bound. is_below bound (plan_in best) ≡ false) bounds) (sym none) (All-nil (λ bound. is_below bound (plan_in best) ≡ false))) (λ _. none) best refl
   solved_by (Some bound) least = solved_at bound least (is_below bound.0 (plan_in best)) refl
 
-pub solved : (problem : Meanings) (root : List (List Bool)) (grant : ℕ) (best : Option Best) (nodes : List SearchNode) → IsSearched problem root (plan_in best) nodes →
-    branchings_of (tree_nodes nodes) ≤ grant → HasEnded grant (plan_in best) (tree_nodes nodes) → IsSolved problem root grant (found_by (least_of (tree_nodes nodes)) best (tree_nodes nodes))
-solved problem root grant best nodes is granted ended =
-    solved_by problem root grant best (tree_nodes nodes) (tree_of problem root (plan_in best) nodes is) granted ended (least_of (tree_nodes nodes)) (least_is (tree_nodes nodes))
+pub solved : (problem : Meanings) (root : List (List Bool)) (grant : ℕ) (best : Option Best) (nodes : List SearchNode) (found : Found) → IsSearched problem root (plan_in best) nodes →
+    branchings_of (tree_nodes nodes) ≤ grant → HasEnded grant (plan_in best) (tree_nodes nodes) → IsFoundBy best (tree_nodes nodes) found → IsSolved problem root grant found
+solved problem root grant best nodes found is granted ended by =
+    subst (λ one. IsSolved problem root grant one) (sym by.is)
+    (solved_by problem root grant best (tree_nodes nodes) (tree_of problem root (plan_in best) nodes is) granted ended by.least by.is_least)
 
 -- ---- the nodes as they are put into the tree
 

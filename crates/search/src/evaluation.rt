@@ -1,6 +1,6 @@
 //! Evaluations: what a relaxation tells of a region under multipliers.
 
-ghost use Rattle.std.specs.Prelude.{◌≡◌, ◌⊎◌, ◌∷◌, [], length, pos, negsuc, IfOk, OnOk, if◌then◌else◌, int_lt};
+ghost use Rattle.std.specs.Prelude.{◌≡◌, ◌⊎◌, ◌∷◌, [], length, pos, negsuc, IfOk, OnOk, if◌then◌else◌};
 ghost use Rattle.branch_tree.specs.Bounds.{IsEmpty};
 ghost use Rattle.branch_tree.specs.Claims.{is_below};
 ghost use Rattle.branch_tree.specs.Meanings.{DoFitFor};
@@ -9,7 +9,9 @@ ghost use Rattle.search.specs.Offers.{IsOffered};
 ghost use Rattle.search.specs.Conclusions.{plan_in};
 
 use crate::found::Best;
-use branch_tree::{BoundAnswer, Multipliers, Node, Region, Relaxation, Settled, Weight};
+use branch_tree::{
+    BoundAnswer, Multipliers, Node, Region, Relaxation, Settled, Weight, is_positive,
+};
 use rail_base::{Money, NoMemory};
 use std::alloc::Global;
 use timetable::Picks;
@@ -155,15 +157,8 @@ fn is_ray<R: Relaxation>(
     let mut picks = Picks::new(alloc, problem.trips())?;
     match problem.bound(region, multipliers, Weight::NoCost, &mut picks) {
         BoundAnswer::Empty => Ok(false),
-        BoundAnswer::Value(value) => Ok(is_positive(value)),
+        BoundAnswer::Value(value) => Ok(is_positive(Some(value))),
     }
-}
-
-/// Whether a value is positive.
-fn is_positive(value: Money) -> bool
-    ensures { result ≡ int_lt (pos 0) value.0 }
-{
-    value.0 > 0
 }
 
 /// One multiplier: a sign at an index.

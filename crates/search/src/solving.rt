@@ -4,18 +4,18 @@
 ghost use Rattle.std.specs.Prelude.{ℕ, List, [], ◌∷◌, Bool, Option, ◌≡◌, ◌+◌, ◌*◌, ◌<◌, ◌≤◌, ◌^◌, true, length, All};
 ghost use Rattle.std.specs.Prelude.{IfOk, None, OnOk};
 ghost use Rattle.rail_base.specs.declared.limits.TheConstants.{MOST_BRANCHINGS, MOST_NODES, MOST_ROUNDS};
-ghost use Rattle.branch_tree.specs.Claims.{Priced, is_open, open_leaves_of};
+ghost use Rattle.branch_tree.specs.Claims.{IsConcluded, Priced, is_open, open_leaves_of};
 ghost use Rattle.branch_tree.specs.Meanings.{DoFitFor};
 ghost use Rattle.branch_tree.specs.Regions.{IsOver};
 ghost use Rattle.branch_tree.specs.Trees.{branchings_of};
 ghost use Rattle.search.specs.declared.nodes.SearchNode.{SearchNode};
 ghost use Rattle.search.specs.Questions.{AreAsked, AreTheSame, MayBeAsked, in_rounds};
-ghost use Rattle.search.specs.Ends.{HasEnded, HaveKeptUp, found_by, least_of, lesser, made_or_open};
+ghost use Rattle.search.specs.Ends.{HasEnded, HaveKeptUp, IsFoundBy, found_by, made_or_open};
 ghost use Rattle.search.specs.Frontiers.{HasLeastRank, IsEntered, IsOpenAt};
 ghost use Rattle.search.specs.Putting.{IsBranchedAt, IsInheritedAndAdvised, IsMade, IsNumbered, IsPut};
 ghost use Rattle.search.specs.Nodes.{IsDivisionAt, IsLeafOf, IsSearched, tree_node, tree_nodes};
 ghost use Rattle.search.specs.Offers.{IsOffered};
-ghost use Rattle.search.specs.Conclusions.{IsSolved, nodes_found, plan_found, plan_in};
+ghost use Rattle.search.specs.Conclusions.{IsSolved, conclusion_of, nodes_found, plan_found, plan_in};
 ghost use Rattle.search.specs.NodesInWork.{IsWorkedOn, is_left_open};
 
 use crate::evaluation::{Outcome, evaluate, is_below};
@@ -47,7 +47,7 @@ struct Search {
 /// 4,000, and `rounds` in how many rounds the advisors may be asked at a node, at most 100. Each advisor was asked at
 /// most 2^63 times.
 ///
-/// The answer is proved by its tree, whatever the advisors propose. `Bounded` comes exactly where all branchings that
+/// The answer is true of all solutions in the root and proved by its tree, whatever the advisors propose. `Bounded` comes exactly where all branchings that
 /// are granted are made and a leaf is open: its bound is below the cost of the best solution, or there is none yet.
 /// Else it is `Optimal` where a solution was found, and `Infeasible` where none was: then there is none in the root.
 ///
@@ -73,6 +73,8 @@ pub fn solve<R: Relaxation>(
     requires asked { All (λ advisor. asked advisor ≤ 2 ^ 63) advisors.old.items }
     ensures same { R.problem problem.new ≡ R.problem problem.old }
     ensures solved { IfOk result (IsSolved (R.meanings (R.problem problem.old)) root.now grant) }
+    ensures holds { IfOk result (λ found. IsConcluded (R.meanings (R.problem problem.old)) root.now
+        (conclusion_of found)) }
     ensures advisors { AreTheSame advisors.old.items advisors.new.items identity }
     ensures asked { AreAsked advisors.old.items advisors.new.items asked has_quit 0 (rounds * (2 * grant + 1)) }
     ensures counted { IfOk result (λ found. AreAsked advisors.old.items advisors.new.items asked has_quit
@@ -101,6 +103,7 @@ fn run<R: Relaxation>(
 
     // The problem, and the nodes.
     ensures same { R.problem problem.new ≡ R.problem problem.old }
+    ensures accepted { OnOk result (R.IsAccepted (R.problem problem.old)) }
     ensures searched { IfOk result (λ search. IsSearched (R.meanings (R.problem problem.old)) root.now
         (plan_in search.best) search.nodes.items) }
     ensures granted { IfOk result (λ search. branchings_of (tree_nodes search.nodes.items) ≤ grant) }
@@ -299,30 +302,26 @@ impl Search {
     /// What was found. The error is want of memory.
     fn finish(self, alloc: Global) -> Result<Found, NoMemory>
         requires { length self.nodes.items ≤ MOST_NODES }
-        ensures { IfOk result (λ found. found ≡
-            found_by (least_of (tree_nodes self.nodes.items)) self.best (tree_nodes self.nodes.items)) }
+        ensures { IfOk result (IsFoundBy self.best (tree_nodes self.nodes.items)) }
     {
-        let (tree, least) = into_tree(alloc, self.nodes)?;
+        let tree = into_tree(alloc, self.nodes)?;
+        let least = tree.least_bound();
         Ok(found_of(least, self.best, tree))
     }
 }
 
-/// The tree of the nodes, and the least of its bounds, where it has one. The error is want of memory.
-fn into_tree(alloc: Global, mut nodes: Vec<SearchNode>) -> Result<(Tree, Option<Money>), NoMemory>
+/// The tree of the nodes. The error is want of memory.
+fn into_tree(alloc: Global, mut nodes: Vec<SearchNode>) -> Result<Tree, NoMemory>
     requires { length nodes.items ≤ MOST_NODES }
-    ensures tree { IfOk result (λ made. made.0 ≡ tree_nodes nodes.items) }
-    ensures least { IfOk result (λ made. made.1 ≡ least_of (tree_nodes nodes.items)) }
+    ensures { IfOk result (λ tree. tree ≡ tree_nodes nodes.items) }
 {
     // The nodes leave from the end, so the first one is put there.
     nodes.reverse();
-    let mut least = None;
     let mut tree = Tree::new(alloc)?;
     while let Some(node) = nodes.pop() {
-        let node = node.into_tree_node();
-        least = lesser_bound(least, &node);
-        tree.push(node)?;
+        tree.push(node.into_tree_node())?;
     }
-    Ok((tree, least))
+    Ok(tree)
 }
 
 /// What a tree proves with the least of its bounds and the best solution.
@@ -337,19 +336,6 @@ fn found_of(least: Option<Money>, best: Option<Best>, tree: Tree) -> Found
     match best {
         Some(Best { picks, cost }) => Found::Optimal { picks, cost, tree },
         None => Found::Infeasible { tree },
-    }
-}
-
-/// The lesser of a bound and that of a node, where there are such.
-fn lesser_bound(least: Option<Money>, node: &Node) -> Option<Money>
-    ensures { result ≡ lesser least node.now }
-{
-    let Node::CostLeaf { bound, .. } = node else {
-        return least;
-    };
-    match least {
-        Some(least) if bound.0 >= least.0 => Some(least),
-        _ => Some(*bound),
     }
 }
 

@@ -8,13 +8,13 @@ use Rattle.cert_check.proofs.heads.test_no_cost_leaf.Goals as goal
 
 pub returns-then-is_some-clause-reason : goal.returns-then-is_some-clause-reason
 returns-then-is_some-clause-reason c =
-    let some : HasBound c.node.result.now = has_bound c.node.result.now (ap is_some (sym c.bound_of.ensures) ∙ sym c.is_some.ensures ∙ c.if-is_some.true) in
+    let some : HasBound c.node.result.now = has_bound c.node.result.now (ap is_some (sym c.bound.ensures) ∙ sym c.is_some.ensures ∙ c.if-is_some.true) in
     stop_at IsLeft (λ bound. ⊥) c.args.tree.now c.loop-number.number c.node.result.now some.bound _ (omega arith) c.node.ensures.value some.is refl c.loop-number.invariant
 
 pub loop-number-preserved : goal.loop-number-preserved
 loop-number-preserved c =
     skip_at IsLeft (λ bound. ⊥) c.args.tree.now c.loop-number.number c.node.result.now (omega arith) c.node.ensures.value
-    (no_bound c.node.result.now (ap is_some (sym c.bound_of.ensures) ∙ sym c.is_some.ensures ∙ c.if-is_some.false)) c.loop-number.invariant
+    (no_bound c.node.result.now (ap is_some (sym c.bound.ensures) ∙ sym c.is_some.ensures ∙ c.if-is_some.false)) c.loop-number.invariant
 
 pub returns-clause-passed : goal.returns-clause-passed
 returns-clause-passed c =

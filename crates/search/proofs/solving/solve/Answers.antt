@@ -1,10 +1,10 @@
 use Rattle.std.proofs.Common.{◌≡◌, ◌+◌, ◌*◌, length, sym, ap, subst, ◌∙◌, arith}
 use Rattle.branch_tree.specs.Claims.{open_leaves_of}
 use Rattle.branch_tree.specs.Trees.{branchings_of}
+use Rattle.branch_tree.proofs.Concluding.{proved_is_concluded}
 use Rattle.search.specs.Questions.{AreAsked, in_rounds}
-use Rattle.search.specs.Ends.{least_of}
 use Rattle.search.specs.Nodes.{tree_nodes}
-use Rattle.search.specs.Conclusions.{IsSolved, nodes_found, plan_found, plan_in}
+use Rattle.search.specs.Conclusions.{conclusion_of, nodes_found, plan_found, plan_in}
 use Rattle.search.proofs.Finishing.{found_nodes, length-tree, solved}
 use Rattle.search.proofs.solving.solve.Goals as goal
 
@@ -16,16 +16,22 @@ finish-requires g c =
 
 pub returns-clause-solved : goal.returns-clause-solved
 returns-clause-solved g c =
+    solved (g.R.Relaxation.meanings (g.R.Relaxation.problem c.args.problem.now)) c.args.root.now c.args.grant c.in_ok-search.search.best c.in_ok-search.search.nodes.items c.in_ok-found.found
+    c.in_ok-search.ensures.searched c.in_ok-search.ensures.granted c.in_ok-search.ensures.ended c.in_ok-found.ensures
+
+pub returns-clause-holds : goal.returns-clause-holds
+returns-clause-holds g c =
     let problem = g.R.Relaxation.meanings (g.R.Relaxation.problem c.args.problem.now) in
-    subst (λ found. IsSolved problem c.args.root.now c.args.grant found) (sym c.in_ok-found.ensures)
-    (solved problem c.args.root.now c.args.grant c.in_ok-search.search.best c.in_ok-search.search.nodes.items c.in_ok-search.ensures.searched c.in_ok-search.ensures.granted c.in_ok-search.ensures.ended)
+    let found = c.in_ok-found.found in
+    proved_is_concluded problem (g.met.R.Relaxation.relaxes (g.R.Relaxation.problem c.args.problem.now) c.in_ok-search.ensures.accepted)
+    c.args.root.now (conclusion_of found) (branchings_of (nodes_found found)) (nodes_found found) (returns-clause-solved g c).proved
 
 pub returns-clause-counted : goal.returns-clause-counted
 returns-clause-counted g c =
     let tree = tree_nodes c.in_ok-search.search.nodes.items in
-    let both = found_nodes (least_of tree) c.in_ok-search.search.best tree in
-    let nodes : nodes_found c.in_ok-found.found ≡ tree = ap nodes_found c.in_ok-found.ensures ∙ both.0 in
-    let plan : plan_found c.in_ok-found.found ≡ plan_in c.in_ok-search.search.best = ap plan_found c.in_ok-found.ensures ∙ both.1 in
+    let both = found_nodes c.in_ok-found.ensures.least c.in_ok-search.search.best tree in
+    let nodes : nodes_found c.in_ok-found.found ≡ tree = ap nodes_found c.in_ok-found.ensures.is ∙ both.0 in
+    let plan : plan_found c.in_ok-found.found ≡ plan_in c.in_ok-search.search.best = ap plan_found c.in_ok-found.ensures.is ∙ both.1 in
     subst (λ all. AreAsked c.args.advisors.now.items c.run.new.advisors.items (λ b. (goal.Advisor-dyn g (b.vtable, b.value)).asked b.value) (λ b. (goal.Advisor-dyn g (b.vtable, b.value)).has_quit b.value)
     (in_rounds c.args.rounds (branchings_of all + open_leaves_of (plan_found c.in_ok-found.found) all)) (c.args.rounds * (2 * branchings_of all + 1))) (sym nodes)
     (subst (λ best. AreAsked c.args.advisors.now.items c.run.new.advisors.items (λ b. (goal.Advisor-dyn g (b.vtable, b.value)).asked b.value) (λ b. (goal.Advisor-dyn g (b.vtable, b.value)).has_quit b.value)

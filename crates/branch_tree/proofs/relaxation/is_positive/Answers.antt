@@ -1,5 +1,5 @@
 use Rattle.std.proofs.Common.{rules}
-use Rattle.cert_check.proofs.leaves.is_positive.Goals as goal
+use Rattle.branch_tree.proofs.relaxation.is_positive.Goals as goal
 
 pub returns-in-Some : goal.returns-in-Some
 returns-in-Some c = search rules
