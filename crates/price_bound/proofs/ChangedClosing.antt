@@ -23,9 +23,9 @@ ray_alike changed region multipliers (value, chain, positive) =
     (value, chain_alike changed region multipliers value chain, positive)
 
 pub changed_broken_picks_are_closed : ChangedBrokenPicksAreClosed
-changed_broken_picks_are_closed day changes picks accepted few follow unsolved =
+changed_broken_picks_are_closed day changes picks accepted follow unsolved =
     let plain : AreClosedAlone day (meanings_of day) picks =
-    broken_picks_are_closed day picks accepted few follow unsolved in
+    broken_picks_are_closed day picks accepted follow unsolved in
     record {
       at_handover = plain.at_handover;
       at_yard = λ early.

@@ -101,8 +101,8 @@ module _ (day : Day) (picks : List ℕ) (accepted : IsAccepted day) (follow : Fo
       ap (λ (o : Option ℕ). (unwrap_or {T = Entry} (option_map (λ i. record { index = i; value = sign_of (slack_of day picks i) }) o) (record { index = 0; value = pos 1 })).index) found in
       absurd (omega (arith, index, early))
 
-  near_alone : length (compositions_of day) ≤ MOST_COMPOSITIONS → position (is_positive day picks) (sigmas_of day) ≡ None → AreNear day picks (alone picks)
-  near_alone few none = record {
+  near_alone : position (is_positive day picks) (sigmas_of day) ≡ None → AreNear day picks (alone picks)
+  near_alone none = record {
     inside = inside;
     follow = follow;
     parts = λ l t link at second.
@@ -116,7 +116,7 @@ module _ (day : Day) (picks : List ℕ) (accepted : IsAccepted day) (follow : Fo
   }
     where
       inside : are_in picks (alone picks) ≡ true
-      inside = alone_has picks (λ t below. let listed = (follow.run t (omega (arith, below, follow.trips))).listed in omega (arith, few, listed))
+      inside = alone_has picks (λ t below. let listed = (follow.run t (omega (arith, below, follow.trips))).listed in omega (arith, accepted.compositions, listed))
 
   -- the chain value is that of the picks
   chain_value : AreNear day picks (alone picks) → IsChainValue (meanings_of day) (alone picks) (broken_at day picks ∷ []) NoCost (priced (meanings_of day) (broken_at day picks ∷ []) NoCost picks)
@@ -130,7 +130,7 @@ module _ (day : Day) (picks : List ℕ) (accepted : IsAccepted day) (follow : Fo
         (at_most (priced (meanings_of day) (broken_at day picks ∷ []) NoCost picks));
   }
 
-  module _ (few : length (compositions_of day) ≤ MOST_COMPOSITIONS) (unsolved : IsSolution day picks → ⊥) where
+  module _ (unsolved : IsSolution day picks → ⊥) where
     is_broken : IsBroken (meanings_of day) picks (broken_at day picks)
     is_broken = (relaxes day accepted).broken picks follow unsolved
 
@@ -141,14 +141,14 @@ module _ (day : Day) (picks : List ℕ) (accepted : IsAccepted day) (follow : Fo
 
     ray : (broken_at day picks).index < handovers_begin day → IsRay (meanings_of day) (alone picks) (broken_at day picks ∷ [])
     ray early =
-        let chain = chain_value (near_alone few (no_sigma (position (is_positive day picks) (sigmas_of day)) refl early)) in (
+        let chain = chain_value (near_alone (no_sigma (position (is_positive day picks) (sigmas_of day)) refl early)) in (
           priced (meanings_of day) (broken_at day picks ∷ []) NoCost picks,
           chain,
           (broken_picks_have_rays (meanings_of day) (relaxes day accepted) picks follow unsolved).positive (priced (meanings_of day) (broken_at day picks ∷ []) NoCost picks) chain,
         )
 
 pub broken_picks_are_closed : BrokenPicksAreClosed
-broken_picks_are_closed day picks accepted few follow unsolved = record {
-  at_handover = empty day picks accepted follow few unsolved;
-  at_yard = ray day picks accepted follow few unsolved;
+broken_picks_are_closed day picks accepted follow unsolved = record {
+  at_handover = empty day picks accepted follow unsolved;
+  at_yard = ray day picks accepted follow unsolved;
 }

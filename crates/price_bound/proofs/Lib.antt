@@ -43,13 +43,13 @@ mod ChainSteps
 mod ChainCells
 mod Finding
 mod ChangedCosts
-mod ChangedRelaxation
-mod ChangedPlans
+pub mod ChangedRelaxation
+pub mod ChangedPlans
 mod Alone
 mod Closing
 mod ChangedClosing
 mod BrokenPlaces
 mod FewGiven
 mod FewCosts
-mod SmallValues
+pub mod SmallValues
 mod MissedParts

@@ -9,6 +9,7 @@ use Rattle.timetable.specs.Cost.{cost_of, plan_cost}
 use Rattle.timetable.specs.Day.{Day, types_of}
 use Rattle.timetable.specs.Links.{list_of}
 use Rattle.timetable.specs.Picks.{IsSolution, picked}
+use Rattle.timetable.specs.PlanBounds.{PlansCostAtLeast, NoPlanRuns}
 use Rattle.timetable.specs.Running.{Runs}
 use Rattle.timetable.proofs.AdmittedTypes.{CompositionOf, composition_of}
 use Rattle.branch_tree.specs.declared.relaxation.Weight.TheVariants.{Cost}
@@ -18,8 +19,8 @@ use Rattle.branch_tree.specs.Regions.{root_of}
 use Rattle.branch_tree.proofs.Duality.{solutions_are_priced_low}
 use Rattle.branch_tree.proofs.Roots.{solutions_lie_in_roots}
 use Rattle.price_bound.specs.DayMeanings.{meanings_of}
-use Rattle.price_bound.specs.PlanBounds.{PlansCostAtLeast, NoPlanRuns, SolutionsBoundPlans, NoSolutionsNoPlans}
-use Rattle.price_bound.specs.PlanBounds.{PlansHavePicks, PlansArePricedLow}
+use Rattle.price_bound.specs.PlanBounds.{SolutionsBoundPlans, NoSolutionsNoPlans}
+use Rattle.price_bound.specs.PlanBounds.{PlansHavePicks, PlansLieInRoots, PlansArePricedLow}
 use Rattle.price_bound.proofs.Solving.{list_read}
 use Rattle.price_bound.proofs.Whole.{relaxes}
 
@@ -87,19 +88,24 @@ plans_are_priced_low day plan picks multipliers accepted by fits =
     subst (λ (n : ℕ). priced (meanings_of day) multipliers Cost picks ≤ℤ pos n) (ap (cost_of day) by.types)
     (solutions_are_priced_low (meanings_of day) (relaxes day accepted) picks multipliers by.solution fits).with_cost
 
+-- the picks of a plan that runs lie in the region of the day
+pub plans_lie_in_roots : PlansLieInRoots
+plans_lie_in_roots day plan picks accepted by = solutions_lie_in_roots day picks accepted.compositions by.solution
+
 pub solutions_bound_plans : SolutionsBoundPlans
-solutions_bound_plans day bound few = (
+solutions_bound_plans day bound accepted = (
   (λ (all : CostsAtLeast (meanings_of day) (root_of day) bound) plan runs.
       let some : PicksOf day plan = picks_of day plan runs in
-      subst (λ (n : ℕ). bound ≤ℤ pos n) some.costs (all some.picks some.solves (solutions_lie_in_roots day some.picks few some.solves))),
+      subst (λ (n : ℕ). bound ≤ℤ pos n) some.costs
+      (all some.picks some.solves (solutions_lie_in_roots day some.picks accepted.compositions some.solves))),
   (λ (all : PlansCostAtLeast day bound) picks (solves : IsSolution day picks) inside.
       subst (λ (n : ℕ). bound ≤ℤ pos n) (ap (cost_of day) solves.types) (all solves.plan solves.runs)),
 )
 
 pub no_solutions_no_plans : NoSolutionsNoPlans
-no_solutions_no_plans day few = (
+no_solutions_no_plans day accepted = (
   (λ (none : HasNoSolution (meanings_of day) (root_of day)) plan runs.
       let some : PicksOf day plan = picks_of day plan runs in
-      none some.picks some.solves (solutions_lie_in_roots day some.picks few some.solves)),
+      none some.picks some.solves (solutions_lie_in_roots day some.picks accepted.compositions some.solves)),
   (λ (none : NoPlanRuns day) picks (solves : IsSolution day picks) inside. none solves.plan solves.runs),
 )

@@ -9,7 +9,7 @@ use Rattle.std.proofs.lemmas.List.{get_or_default}
 use Rattle.timetable.specs.declared.day.indices.Place.{Place}
 use Rattle.timetable.specs.declared.day.indices.Place.TheVariants.{Lambda, Mu}
 use Rattle.timetable.specs.declared.day.records.Link.{Link}
-use Rattle.timetable.specs.Accepted.{AreLinks}
+use Rattle.timetable.specs.Accepted.{AreLinks, IsSoundDay}
 use Rattle.timetable.specs.Admissible.{is_admissible}
 use Rattle.timetable.specs.Compositions.{compositions_of, composition_at}
 use Rattle.timetable.specs.Day.{Day, wanted_of}
@@ -102,6 +102,15 @@ solved day picks accepted follow have none balanced =
     (faults_decide day picks accepted.sound accepted.links accepted.stocked (are_picks day picks follow)).1 (keep_rules day picks accepted.links follow have, (none, balanced))
 
 -- ---- the relaxation
+
+-- what an instance hands out is what is known of an accepted day
+pub accepted_day : (day : Day) → IsSoundDay day → IsAccepted day
+accepted_day day sound = record {
+  sound = sound.limits;
+  links = sound.links;
+  stocked = sound.stock;
+  compositions = sound.compositions;
+}
 
 module _ (day : Day) (accepted : IsAccepted day) where
   module _ (picks : List ℕ) (follow : Follow day picks) (none : broken_index day picks ≡ None) where

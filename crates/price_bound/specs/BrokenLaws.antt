@@ -1,6 +1,5 @@
 -- Where picks that follow are broken, and why the region of such picks alone has no solution.
 use Rattle.std.specs.Prelude.{ℕ, ◌≡◌, ◌+◌, ◌<◌, ◌≤◌, ◌⊎◌, List, [], ◌∷◌, length, Some, None, ℤ, pos}
-use Rattle.rail_base.specs.declared.limits.TheConstants.{MOST_COMPOSITIONS}
 use Rattle.timetable.specs.declared.day.indices.Place.{Place}
 use Rattle.timetable.specs.Compositions.{compositions_of}
 use Rattle.timetable.specs.Day.{Day}
@@ -62,14 +61,12 @@ pub record AreClosedAlone (day : Day) (problem : Meanings) (picks : List ℕ) : 
   pub at_yard : (broken_at day picks).index < handovers_begin day →
       IsRay problem (alone picks) (broken_at day picks ∷ [])
 
--- So it is of all picks that follow and are no solution, of a day with no more compositions than a catalogue may have.
+-- So it is of all picks that follow and are no solution.
 abbrev pub BrokenPicksAreClosed : Type 0
 BrokenPicksAreClosed = (day : Day) (picks : List ℕ) → IsAccepted day →
-    length (compositions_of day) ≤ MOST_COMPOSITIONS → Follow day picks → (IsSolution day picks → ⊥) →
-    AreClosedAlone day (meanings_of day) picks
+    Follow day picks → (IsSolution day picks → ⊥) → AreClosedAlone day (meanings_of day) picks
 
 -- So it is under any changes.
 abbrev pub ChangedBrokenPicksAreClosed : Type 0
 ChangedBrokenPicksAreClosed = (day : Day) (changes : List Change) (picks : List ℕ) → IsAccepted day →
-    length (compositions_of day) ≤ MOST_COMPOSITIONS → Follow day picks → (IsSolution day picks → ⊥) →
-    AreClosedAlone day (changed_meanings (changed_day day changes)) picks
+    Follow day picks → (IsSolution day picks → ⊥) → AreClosedAlone day (changed_meanings (changed_day day changes)) picks

@@ -1,5 +1,6 @@
 -- What the relaxation of a day means.
-use Rattle.std.specs.Prelude.{ℕ, ◌≡◌, List, [], ◌∷◌, ◌++◌, length, pos}
+use Rattle.std.specs.Prelude.{ℕ, ◌≡◌, ◌≤◌, List, [], ◌∷◌, ◌++◌, length, pos}
+use Rattle.rail_base.specs.declared.limits.TheConstants.{MOST_COMPOSITIONS}
 use Rattle.timetable.specs.Accepted.{IsDay, AreLinks, IsStocked}
 use Rattle.timetable.specs.Chains.{chains_of}
 use Rattle.timetable.specs.Compositions.{compositions_of}
@@ -45,6 +46,8 @@ pub record IsAccepted (day : Day) : Type 0 where
   pub sound : IsDay day
   pub links : AreLinks day
   pub stocked : IsStocked day
+  -- there are no more compositions than a catalogue may have
+  pub compositions : length (compositions_of day) ≤ MOST_COMPOSITIONS
 
 -- Every accepted day is a relaxation of its solutions.
 abbrev pub DaysAreRelaxations : Type 0

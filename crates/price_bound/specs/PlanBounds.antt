@@ -1,27 +1,18 @@
 -- What a bound of all solutions says of plans of named units.
-use Rattle.std.specs.Prelude.{ℕ, ◌≡◌, ◌+◌, ◌≤◌, ◌↔◌, List, length, map, ℤ, pos, ◌≤ℤ◌}
-use Rattle.rail_base.specs.declared.limits.TheConstants.{MOST_COMPOSITIONS}
-use Rattle.timetable.specs.Compositions.{compositions_of}
+use Rattle.std.specs.Prelude.{ℕ, ◌≡◌, ◌+◌, ◌↔◌, List, map, Bool, IsTrue, ℤ, pos, ◌≤ℤ◌}
 use Rattle.timetable.specs.Cost.{plan_cost}
 use Rattle.timetable.specs.Day.{Day, types_of}
 use Rattle.timetable.specs.Picks.{IsSolution, picked}
+use Rattle.timetable.specs.PlanBounds.{PlansCostAtLeast, NoPlanRuns}
 use Rattle.timetable.specs.Running.{Runs}
 use Rattle.branch_tree.specs.declared.multipliers.Entry.{Entry}
 use Rattle.branch_tree.specs.declared.relaxation.Weight.TheVariants.{Cost}
 use Rattle.branch_tree.specs.Claims.{CostsAtLeast, HasNoSolution}
 use Rattle.branch_tree.specs.Meanings.{DoFitFor, priced}
-use Rattle.branch_tree.specs.Regions.{root_of}
+use Rattle.branch_tree.specs.Regions.{are_in, root_of}
 use Rattle.price_bound.specs.declared.changes.Change.{Change}
 use Rattle.price_bound.specs.ChangedDays.{added_cost, changed_day, changed_meanings}
 use Rattle.price_bound.specs.DayMeanings.{IsAccepted, meanings_of}
-
--- every plan that runs costs at least so much
-abbrev pub PlansCostAtLeast : Day → ℤ → Type 0
-PlansCostAtLeast day bound = (plan : List (List ℕ)) → Runs day plan → bound ≤ℤ pos (plan_cost day plan)
-
--- no plan runs
-abbrev pub NoPlanRuns : Day → Type 0
-NoPlanRuns day = (plan : List (List ℕ)) → Runs day plan → ⊥
 
 -- picks of a plan: they are a solution, and have the types of its units
 pub record IsPickedBy (day : Day) (plan : List (List ℕ)) (picks : List ℕ) : Type 0 where
@@ -32,6 +23,11 @@ pub record IsPickedBy (day : Day) (plan : List (List ℕ)) (picks : List ℕ) : 
 abbrev pub PlansHavePicks : Type 0
 PlansHavePicks = (day : Day) (plan : List (List ℕ)) → Runs day plan → (picks : List ℕ) × IsPickedBy day plan picks
 
+-- They lie in the region of the day.
+abbrev pub PlansLieInRoots : Type 0
+PlansLieInRoots = (day : Day) (plan : List (List ℕ)) (picks : List ℕ) → IsAccepted day → IsPickedBy day plan picks →
+    IsTrue (are_in picks (root_of day))
+
 -- Weak duality: under multipliers that fit, the picks of a plan that runs are priced at its cost or lower.
 abbrev pub PlansArePricedLow : Type 0
 PlansArePricedLow = (day : Day) (plan : List (List ℕ)) (picks : List ℕ) (multipliers : List Entry) →
@@ -40,20 +36,29 @@ PlansArePricedLow = (day : Day) (plan : List (List ℕ)) (picks : List ℕ) (mul
 
 -- Every solution in the region of a day costs at least so much exactly where every plan that runs does.
 abbrev pub SolutionsBoundPlans : Type 0
-SolutionsBoundPlans = (day : Day) (bound : ℤ) → length (compositions_of day) ≤ MOST_COMPOSITIONS →
+SolutionsBoundPlans = (day : Day) (bound : ℤ) → IsAccepted day →
     CostsAtLeast (meanings_of day) (root_of day) bound ↔ PlansCostAtLeast day bound
 
 -- The region of a day has no solution exactly where no plan runs.
 abbrev pub NoSolutionsNoPlans : Type 0
-NoSolutionsNoPlans = (day : Day) → length (compositions_of day) ≤ MOST_COMPOSITIONS →
-    HasNoSolution (meanings_of day) (root_of day) ↔ NoPlanRuns day
+NoSolutionsNoPlans = (day : Day) → IsAccepted day → HasNoSolution (meanings_of day) (root_of day) ↔ NoPlanRuns day
 
--- ---- under changes
+-- ---- in any region, under changes
 
--- every plan that runs costs at least so much, with what changes add for its picks
-abbrev pub ChangedPlansCostAtLeast : Day → List Change → ℤ → Type 0
-ChangedPlansCostAtLeast day changes bound = (plan : List (List ℕ)) (picks : List ℕ) → Runs day plan →
-    IsPickedBy day plan picks → bound ≤ℤ pos (plan_cost day plan + added_cost changes picks)
+-- a plan runs by picks that lie in a region
+pub record RunsIn (day : Day) (region : List (List Bool)) (plan : List (List ℕ)) (picks : List ℕ) : Type 0 where
+  pub runs : Runs day plan
+  pub picked : IsPickedBy day plan picks
+  pub inside : IsTrue (are_in picks region)
+
+-- every plan that runs by picks in a region costs at least so much, with what changes add for its picks
+abbrev pub PlansInCostAtLeast : Day → List Change → List (List Bool) → ℤ → Type 0
+PlansInCostAtLeast day changes region bound = (plan : List (List ℕ)) (picks : List ℕ) →
+    RunsIn day region plan picks → bound ≤ℤ pos (plan_cost day plan + added_cost changes picks)
+
+-- no plan runs by picks in a region
+abbrev pub NoPlanRunsIn : Day → List (List Bool) → Type 0
+NoPlanRunsIn day region = (plan : List (List ℕ)) (picks : List ℕ) → RunsIn day region plan picks → ⊥
 
 -- Weak duality under changes: the picks of a plan that runs are priced at its cost and what the changes add for them,
 -- or lower.
@@ -64,14 +69,14 @@ ChangedPlansArePricedLow = (day : Day) (changes : List Change) (plan : List (Lis
     priced (changed_meanings (changed_day day changes)) multipliers Cost picks
     ≤ℤ pos (plan_cost day plan + added_cost changes picks)
 
--- Every solution in the region of a day costs at least so much under changes exactly where every plan that runs does.
+-- Every solution in a region costs at least so much under changes exactly where every plan that runs by picks in it
+-- does.
 abbrev pub ChangedSolutionsBoundPlans : Type 0
-ChangedSolutionsBoundPlans = (day : Day) (changes : List Change) (bound : ℤ) →
-    length (compositions_of day) ≤ MOST_COMPOSITIONS →
-    CostsAtLeast (changed_meanings (changed_day day changes)) (root_of day) bound
-    ↔ ChangedPlansCostAtLeast day changes bound
+ChangedSolutionsBoundPlans = (day : Day) (changes : List Change) (region : List (List Bool)) (bound : ℤ) →
+    CostsAtLeast (changed_meanings (changed_day day changes)) region bound
+    ↔ PlansInCostAtLeast day changes region bound
 
--- Under changes too the region of a day has no solution exactly where no plan runs.
+-- Under changes too a region has no solution exactly where no plan runs by picks in it.
 abbrev pub NoChangedSolutionsNoPlans : Type 0
-NoChangedSolutionsNoPlans = (day : Day) (changes : List Change) → length (compositions_of day) ≤ MOST_COMPOSITIONS →
-    HasNoSolution (changed_meanings (changed_day day changes)) (root_of day) ↔ NoPlanRuns day
+NoChangedSolutionsNoPlans = (day : Day) (changes : List Change) (region : List (List Bool)) →
+    HasNoSolution (changed_meanings (changed_day day changes)) region ↔ NoPlanRunsIn day region

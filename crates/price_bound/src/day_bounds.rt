@@ -14,7 +14,6 @@ use branch_tree::{BoundAnswer, Multipliers, Region, Relaxation, Settled, Slacks,
 use compositions::Catalogue;
 use inventory::Ledger;
 use rail_base::NoMemory;
-use rail_base::limits::{MOST_LINKS, MOST_UNITS};
 use std::alloc::Global;
 use std::marker::Model;
 use timetable::{Instance, Picks};
@@ -71,8 +70,7 @@ impl<'a> DayBounds<'a> {
         requires changes { AreChanges instance.now changes.now }
         ensures { IfOk result (λ bounds. bounds ≡ changed_day instance.now changes.now) }
     {
-        prove!(instance.links() as usize <= MOST_LINKS);
-        prove!(instance.units() <= MOST_UNITS);
+        instance.is_sound();
         let ledger = Ledger::new(alloc, instance)?;
         let room = Workspace::new(alloc, instance, changes)?;
         Ok(DayBounds {

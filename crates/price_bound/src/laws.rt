@@ -8,7 +8,7 @@ ghost use Rattle.price_bound.specs.ChangedDays.{ChangedDaysAreRelaxations, Uncha
 ghost use Rattle.price_bound.specs.DayMeanings.{DaysAreRelaxations};
 ghost use Rattle.price_bound.specs.PlanBounds.{ChangedPlansArePricedLow, ChangedSolutionsBoundPlans};
 ghost use Rattle.price_bound.specs.PlanBounds.{NoChangedSolutionsNoPlans, NoSolutionsNoPlans, PlansArePricedLow};
-ghost use Rattle.price_bound.specs.PlanBounds.{PlansHavePicks, SolutionsBoundPlans};
+ghost use Rattle.price_bound.specs.PlanBounds.{PlansHavePicks, PlansLieInRoots, SolutionsBoundPlans};
 ghost use Rattle.price_bound.specs.Sizes.{AreSizeLimits, ChangedSlacksAreSmall, ChangedValuesAreSmall, SlacksAreSmall};
 ghost use Rattle.price_bound.specs.Sizes.{ValuesAreSmall};
 
@@ -25,7 +25,7 @@ pub fn changed_days_are_relaxations()
 {}
 
 /// What holds of all solutions in the region of a day holds of all plans of named units that run: they cost at least so
-/// much, or there is none. The day has no more compositions than a catalogue may have.
+/// much, or there is none.
 pub fn solutions_stand_for_plans()
     ensures bound { SolutionsBoundPlans }
     ensures none { NoSolutionsNoPlans }
@@ -38,12 +38,13 @@ pub fn plans_are_priced_low()
     ensures law { PlansArePricedLow }
 {}
 
-/// What holds of all solutions in the region of a day under changes holds of all plans of named units that run: they
-/// cost at least so much, with what the changes add for their picks, or there is none. The day has no more compositions
-/// than a catalogue may have.
+/// What holds of all solutions in a region under changes holds of all plans of named units that run by picks in it: they
+/// cost at least so much, with what the changes add for their picks, or there is none. In the region of the day lie the
+/// picks of every plan that runs.
 pub fn changed_solutions_stand_for_plans()
     ensures bound { ChangedSolutionsBoundPlans }
     ensures none { NoChangedSolutionsNoPlans }
+    ensures root { PlansLieInRoots }
 {}
 
 /// Weak duality under changes: under multipliers that fit, the picks of a plan that runs are priced at its cost and
@@ -63,15 +64,14 @@ pub fn picks_are_broken_first()
 {}
 
 /// Picks that follow and are no solution have no open region alone: nothing is near it where they are broken at a
-/// hand-over, and where they are broken at a yard, the multiplier that is named for them is a ray there. The day has no
-/// more compositions than a catalogue may have.
+/// hand-over, and where they are broken at a yard, the multiplier that is named for them is a ray there.
 pub fn broken_picks_are_closed()
     ensures law { BrokenPicksAreClosed }
 {}
 
 /// Under changes too picks that follow and are no solution have no open region alone, and for the same cause: at a
 /// hand-over nothing is near it, and at a yard the multiplier that is named for them is a ray there, since what changes
-/// add has no part in a value without cost. The day has no more compositions than a catalogue may have.
+/// add has no part in a value without cost.
 pub fn changed_broken_picks_are_closed()
     ensures law { ChangedBrokenPicksAreClosed }
 {}
