@@ -1,25 +1,25 @@
 -- The verdict of the checker on the claim of an answer, as the verdict on that answer.
-use Rattle.std.proofs.Common.{◌≡◌, ℕ, ◌+◌, ◌≤◌, List, Bool, pos, arith, length, sym, ◌∙◌, ap, subst}
-use Rattle.rail_base.specs.declared.limits.TheConstants.{MOST_COMPOSITIONS}
+use Rattle.std.proofs.Common.{◌≡◌, ℕ, ◌+◌, List, Bool, pos, arith, length, sym, ◌∙◌, ap, subst}
 use Rattle.timetable.specs.Compositions.{compositions_of}
 use Rattle.timetable.specs.Cost.{cost_of}
 use Rattle.timetable.specs.Day.{Day}
 use Rattle.timetable.specs.Picks.{picked}
 use Rattle.branch_tree.specs.declared.claims.Claim.{Claim}
 use Rattle.branch_tree.specs.declared.tree.Node.{Node}
-use Rattle.branch_tree.specs.Claims.{Conclusion, IsProved, said_by}
-use Rattle.branch_tree.specs.Meanings.{IsRelaxation, Meanings}
+use Rattle.branch_tree.specs.Claims.{Conclusion, IsConcluded, IsProved, said_by}
+use Rattle.branch_tree.specs.Meanings.{Meanings}
 use Rattle.branch_tree.specs.Regions.{IsOver, root_of}
 use Rattle.cert_check.specs.declared.verdict.Reason.{Reason}
 use Rattle.cert_check.specs.declared.verdict.Verdict.TheVariants.{Invalid, Valid}
 use Rattle.cert_check.specs.Verdicts.{IsVerdict}
 use Rattle.price_bound.specs.ChangedDays.{ChangedDay, changed_meanings, unchanged}
-use Rattle.price_bound.specs.DayMeanings.{meanings_of}
+use Rattle.price_bound.specs.DayMeanings.{IsAccepted, meanings_of}
 use Rattle.answer_text.specs.declared.answer.Answer.{Answer}
 use Rattle.branch_tree.proofs.Over.{roots_are_over}
-use Rattle.answer_check.specs.Validity.{HasPicks, IsTrueOf, IsValid, conclusion_of}
+use Rattle.answer_check.specs.Headline.{IsTrueOf}
+use Rattle.answer_check.specs.Validity.{HasPicks, IsValid, conclusion_of}
 use Rattle.answer_check.specs.Verdicts.{IsRefuted}
-use Rattle.answer_check.proofs.Truth.{valid_answers_are_true}
+use Rattle.answer_check.proofs.Truth.{holds}
 
 nothing_added : (n : ℕ) → n + 0 ≡ n
 nothing_added n = omega arith
@@ -55,9 +55,11 @@ module _ (day : Day) (answer : Answer) (picks : List ℕ) (claim : Claim) (plann
         verdict.0));
   }
 
-  pub says_true : IsVerdict (meanings_of day) (root_of day) claim Valid → IsRelaxation (meanings_of day)
-      → length (compositions_of day) ≤ MOST_COMPOSITIONS → IsTrueOf day answer
-  says_true verdict relaxes few = valid_answers_are_true day answer relaxes few (says_valid verdict)
+  pub says_true : IsConcluded (meanings_of day) (root_of day) (said_by claim.head) → IsAccepted day
+      → IsTrueOf day answer.head answer.runs
+  says_true concluded accepted =
+      holds day accepted answer.runs picks answer.head planned
+      (subst (λ (c : Conclusion). IsConcluded (meanings_of day) (root_of day) c) head concluded)
 
   pub says_refuted : (reason : Reason) → IsVerdict (meanings_of day) (root_of day) claim (Invalid reason) → IsRefuted day answer reason
   says_refuted reason verdict = record {

@@ -2,11 +2,8 @@
 use Rattle.std.proofs.Common.{◌≡◌, ℕ, suc, ◌≤◌, List, [], ◌∷◌, ◌++◌, length, Bool, IsTrue, Ok, Err, inl, inr}
 use Rattle.std.proofs.Common.{refl, sym, subst, ℤ}
 use Rattle.std.specs.Prelude.{⊤, Result, IfOk}
-use Rattle.rail_base.specs.declared.limits.TheConstants.{MOST_COMPOSITIONS}
 use Rattle.rail_base.specs.declared.memory.NoMemory.{NoMemory}
 use Rattle.rail_base.specs.declared.numbers.Money.{Money}
-use Rattle.timetable.specs.Accepted.{AreLinks, IsDay}
-use Rattle.timetable.specs.Compositions.{compositions_of}
 use Rattle.timetable.specs.Day.{Day}
 use Rattle.timetable.specs.Picks.{IsSolution}
 use Rattle.branch_tree.specs.declared.claims.Claim.{Claim}
@@ -25,7 +22,7 @@ use Rattle.cert_check.specs.Tests.{Test, FirstFails}
 use Rattle.day_simulator.specs.declared.events.StepFault.{StepFault}
 use Rattle.day_simulator.specs.Laws.{IsInTurn}
 use Rattle.day_simulator.proofs.InTurn.{in_turn}
-use Rattle.price_bound.specs.DayMeanings.{meanings_of}
+use Rattle.price_bound.specs.DayMeanings.{IsAccepted, meanings_of}
 use Rattle.price_bound.proofs.Solving.{solution_follows}
 use Rattle.answer_text.specs.declared.answer.Answer.{Answer}
 use Rattle.answer_text.specs.declared.answer.Head.{Head}
@@ -110,8 +107,7 @@ other_claim problem root claim plan =
 
 -- ---- verdicts on answers to a day
 
-module _ (day : Day) (is_day : IsDay day) (links : AreLinks day)
-    (few : length (compositions_of day) ≤ MOST_COMPOSITIONS) where
+module _ (day : Day) (accepted : IsAccepted day) where
   -- the picks of a plan that runs don't fail
   picks_hold : (runs : List (List ℕ)) (picks : List ℕ) (cost : ℤ) → RunsByPicks day runs picks
       → DoPicksFail (meanings_of day) (root_of day) (record { cost = cost; picks = picks }) PicksFail → ⊥
@@ -119,9 +115,9 @@ module _ (day : Day) (is_day : IsDay day) (links : AreLinks day)
       let solves : IsSolution day picks =
       record { are_picks = planned.are_picks; plan = runs; runs = planned.runs; types = sym planned.types } in
       elim fails.1 [
-        | inl outside ↦ outside (solutions_lie_in_roots day picks few solves)
+        | inl outside ↦ outside (solutions_lie_in_roots day picks accepted.compositions solves)
         | inr rest ↦ elim rest [
-          | inl apart ↦ apart (solution_follows day picks links solves)
+          | inl apart ↦ apart (solution_follows day picks accepted.links solves)
           | inr none ↦ none solves
         ]
       ]
@@ -152,7 +148,7 @@ module _ (day : Day) (is_day : IsDay day) (links : AreLinks day)
     can_come (verdict.UnknownUnit trip) right = record { in_turn = λ fault is. absurd cc; picks = λ is. absurd cc }
     can_come (verdict.Stops stopped) right = record {
       in_turn = λ fault is. subst IsInTurn (same fault is)
-          (in_turn day answer.runs is_day links stopped right.1.fault_is);
+          (in_turn day answer.runs accepted.sound accepted.links stopped right.1.fault_is);
       picks = λ is. absurd cc;
     }
       where

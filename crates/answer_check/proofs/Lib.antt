@@ -1,6 +1,7 @@
 pub mod KnownUnits
 pub mod Admitting
 pub mod Truth
+pub mod RegionTruths
 pub mod OnePicks
 pub mod Checked
 pub mod Refuting

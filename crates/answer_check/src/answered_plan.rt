@@ -79,7 +79,7 @@ fn plan_of(alloc: Global, instance: &Instance, runs: &Runs) -> Result<NamedPlan,
     if let Some(trip) = first_unknown(instance, lists) {
         return Err(RunsRefusal::UnknownUnit(trip));
     }
-    Ok(NamedPlan::of(copy_of(alloc, lists)?))
+    Ok(NamedPlan::copied(alloc, lists)?)
 }
 
 /// The first trip whose list has a unit that the day does not have.
@@ -109,26 +109,6 @@ fn are_known(instance: &Instance, units: &[UnitNo]) -> bool
     ensures { result ≡ are_units instance.now units.now }
 {
     units.iter().all(|unit| unit.0 < instance.units())
-}
-
-/// The same lists again. The error is want of memory.
-pub fn copy_of(alloc: Global, lists: &[UnitList]) -> Result<Vec<UnitList>, NoMemory>
-    ensures { IfOk result (λ copy. copy.items ≡ lists.now) }
-{
-    let mut copy = Vec::new(alloc);
-    for list in lists {
-        copy.push(list_again(alloc, list)?)?;
-    }
-    Ok(copy)
-}
-
-/// The same list again.
-fn list_again(alloc: Global, list: &UnitList) -> Result<UnitList, NoMemory>
-    ensures { IfOk result (λ again. again ≡ list.now) }
-{
-    let mut units = Vec::new(alloc);
-    units.extend_from_slice(list.items())?;
-    Ok(UnitList::of(units))
 }
 
 /// The picks of a plan that runs: the compositions of its lists. The error is want of memory.

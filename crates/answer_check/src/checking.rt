@@ -2,22 +2,21 @@
 
 ghost use Rattle.std.specs.Prelude.{◌≡◌, ◌≤◌, IfErr, IfOk, length};
 ghost use Rattle.rail_base.specs.declared.limits.TheConstants.{MOST_TRIPS};
-ghost use Rattle.branch_tree.specs.Claims.{said_by};
-ghost use Rattle.branch_tree.specs.Meanings.{IsRelaxation};
+ghost use Rattle.branch_tree.specs.Claims.{IsConcluded, said_by};
 ghost use Rattle.branch_tree.specs.Regions.{root_of};
 ghost use Rattle.cert_check.specs.Verdicts.{IsVerdict};
-ghost use Rattle.price_bound.specs.DayMeanings.{meanings_of};
+ghost use Rattle.price_bound.specs.DayMeanings.{IsAccepted, meanings_of};
 ghost use Rattle.transitions.specs.Edges.{AreGraphs};
-ghost use Rattle.answer_check.specs.Validity.{HasPicks, IsTrueOf, conclusion_of};
+ghost use Rattle.answer_check.specs.Headline.{IsTrueOf};
+ghost use Rattle.answer_check.specs.Validity.{HasPicks, conclusion_of};
 ghost use Rattle.answer_check.specs.Verdicts.{CanCome, IsAnswerVerdict, IsPicksRefusal, VerdictOf};
 
 use crate::answered_plan::{RunsRefusal, picks_of};
 use answer_text::{Answer, Head};
-use branch_tree::{Claim, ClaimHead, Region, Relaxation};
-use cert_check::{Checker, Reason, Verdict};
+use branch_tree::{Claim, ClaimHead, Region};
+use cert_check::{Reason, Verdict, checked};
 use day_simulator::StepFault;
 use price_bound::DayBounds;
-use rail_base::limits::{MOST_COMPOSITIONS, MOST_LINKS, MOST_TRIPS};
 use rail_base::{NoMemory, TripNo};
 use std::alloc::Global;
 use timetable::{Instance, Picks};
@@ -57,13 +56,12 @@ pub fn check_answer(
     requires graphs { AreGraphs instance.now graphs.now }
     requires runs { length answer.now.runs ≤ MOST_TRIPS }
     ensures verdict { IfOk result (IsAnswerVerdict instance.now answer.now) }
-    ensures holds { IfOk result (λ verdict. verdict ≡ AnswerVerdict.Valid → IsTrueOf instance.now answer.now) }
+    ensures holds { IfOk result (λ verdict. verdict ≡ AnswerVerdict.Valid →
+        IsTrueOf instance.now answer.now.head answer.now.runs) }
     ensures can_come { IfOk result CanCome }
 {
-    // Limits of trips, links and compositions, within which some verdicts never come.
-    prove!(instance.trips() as usize <= MOST_TRIPS);
-    prove!(instance.links() as usize <= MOST_LINKS);
-    prove!(instance.catalogue().len() as usize <= MOST_COMPOSITIONS);
+    // What is known of an accepted day: some verdicts never come, and what holds of all solutions holds of all plans.
+    instance.is_sound();
     match picks_for(alloc, instance, answer) {
         Ok(picks) => check_claim(alloc, instance, graphs, answer, &picks),
         Err(refusal) => verdict_of(refusal),
@@ -79,7 +77,8 @@ pub fn verdict_on(
 ) -> Result<AnswerVerdict, NoMemory>
     requires { length answer.now.runs ≤ MOST_TRIPS }
     ensures verdict { IfOk result (IsAnswerVerdict instance.now answer.now) }
-    ensures holds { IfOk result (λ verdict. verdict ≡ AnswerVerdict.Valid → IsTrueOf instance.now answer.now) }
+    ensures holds { IfOk result (λ verdict. verdict ≡ AnswerVerdict.Valid →
+        IsTrueOf instance.now answer.now.head answer.now.runs) }
     ensures can_come { IfOk result CanCome }
 {
     let graphs = Graphs::build(alloc, instance)?;
@@ -112,7 +111,7 @@ fn picks_for(alloc: Global, instance: &Instance, answer: &Answer) -> Result<Pick
 }
 
 /// What the head of an answer claims, where these are the picks of its plan.
-fn claimed<'a>(head: Head, picks: &'a Picks) -> ClaimHead<'a>
+pub fn claimed<'a>(head: Head, picks: &'a Picks) -> ClaimHead<'a>
     ensures { said_by result ≡ conclusion_of head picks.now }
 {
     match head {
@@ -124,7 +123,7 @@ fn claimed<'a>(head: Head, picks: &'a Picks) -> ClaimHead<'a>
 }
 
 /// The claim of an answer, where these are the picks of its plan.
-fn claim_of<'a>(answer: &'a Answer, picks: &'a Picks) -> Claim<'a>
+pub fn claim_of<'a>(answer: &'a Answer, picks: &'a Picks) -> Claim<'a>
     ensures head { said_by result.head ≡ conclusion_of answer.now.head picks.now }
     ensures branchings { result.branchings ≡ answer.now.branchings }
     ensures tree { result.tree.now ≡ answer.now.tree }
@@ -145,21 +144,21 @@ fn check_claim(
     picks: &Picks,
 ) -> Result<AnswerVerdict, NoMemory>
     requires graphs { AreGraphs instance.now graphs.now }
+    requires accepted { IsAccepted instance.now }
     requires picks { HasPicks instance.now answer.now picks.now }
     ensures verdict { IfOk result (IsAnswerVerdict instance.now answer.now) }
-    ensures holds { IfOk result (λ verdict. verdict ≡ AnswerVerdict.Valid → IsTrueOf instance.now answer.now) }
+    ensures holds { IfOk result (λ verdict. verdict ≡ AnswerVerdict.Valid →
+        IsTrueOf instance.now answer.now.head answer.now.runs) }
 {
-    // Of a catalogue within its limit, what holds of all solutions holds of all plans.
-    prove!(instance.catalogue().len() as usize <= MOST_COMPOSITIONS);
     let claim = claim_of(answer, picks);
-    match checked(alloc, instance, graphs, &claim)? {
+    match verdict_on_claim(alloc, instance, graphs, &claim)? {
         Verdict::Valid => Ok(AnswerVerdict::Valid),
         Verdict::Invalid(reason) => Ok(AnswerVerdict::Claim(reason)),
     }
 }
 
-/// The verdict on a claim of the day.
-fn checked(
+/// The verdict on a claim of the day, over the region of all admissible compositions.
+fn verdict_on_claim(
     alloc: Global,
     instance: &Instance,
     graphs: &Graphs,
@@ -167,11 +166,10 @@ fn checked(
 ) -> Result<Verdict, NoMemory>
     requires { AreGraphs instance.now graphs.now }
     ensures verdict { IfOk result (IsVerdict (meanings_of instance.now) (root_of instance.now) claim.now) }
-    ensures relaxation { IfOk result (λ _. IsRelaxation (meanings_of instance.now)) }
+    ensures holds { IfOk result (λ verdict. verdict ≡ Verdict.Valid →
+        IsConcluded (meanings_of instance.now) (root_of instance.now) (said_by claim.now.head)) }
 {
     let mut root = Region::root(alloc, instance)?;
-    let mut checker = Checker::new(alloc, claim.tree.len(), instance.trips())?;
     let mut bounds = DayBounds::new(alloc, instance, graphs)?;
-    prove!(bounds.trips() == instance.trips());
-    Ok(checker.check(&mut bounds, &mut root, claim))
+    checked(alloc, &mut bounds, &mut root, claim)
 }

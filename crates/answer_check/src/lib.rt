@@ -6,5 +6,5 @@ mod answered_plan;
 pub mod checking;
 pub mod laws;
 
-pub use answered_plan::{copy_of, picks_of_plan};
-pub use checking::{AnswerVerdict, check_answer, verdict_on};
+pub use answered_plan::picks_of_plan;
+pub use checking::{AnswerVerdict, check_answer, claim_of, claimed, verdict_on};

@@ -1,4 +1,4 @@
--- The nodes of a tree that proves what is said of a day are within the limits of answer documents.
+-- The nodes of a tree that proves what is said of a problem are within the limits of answer documents.
 use Rattle.std.proofs.Common.{◌≡◌, ℕ, ◌<◌, ◌≤◌, List, [], ◌∷◌, ◌++◌, length, Bool, Option, Some, None, ◌∙◌}
 use Rattle.std.proofs.Common.{subst, arith, ℤ, pos, ◌+ℤ◌}
 use Rattle.std.specs.Prelude.{All, unsigned_abs}
@@ -6,9 +6,7 @@ use Rattle.std.proofs.lemmas.Int.{ints}
 use Rattle.std.proofs.lemmas.List.{length-set}
 use Rattle.std.proofs.lemmas.List.Elements.{All-cons, All-head, All-nil, All-tail}
 use Rattle.rail_base.specs.declared.limits.TheConstants.{MOST_COMPOSITIONS, MOST_TRIPS}
-use Rattle.timetable.specs.Compositions.{compositions_of}
 use Rattle.timetable.specs.Day.{Day}
-use Rattle.timetable.specs.Indices.{places_of}
 use Rattle.branch_tree.specs.declared.cuts.Cut.{Cut}
 use Rattle.branch_tree.specs.declared.cuts.Cut.TheVariants.{Only, AtMost}
 use Rattle.branch_tree.specs.declared.cuts.Side.TheVariants.{Left, Right}
@@ -20,16 +18,13 @@ use Rattle.branch_tree.specs.Bounds.{IsChainValue}
 use Rattle.branch_tree.specs.Claims.{IsProvedAt}
 use Rattle.branch_tree.specs.Cuts.{is_on, side_of, trip_of, IsProper}
 use Rattle.branch_tree.specs.Entries.{AreMultipliers, DoFit}
-use Rattle.branch_tree.specs.Meanings.{priced}
+use Rattle.branch_tree.specs.Meanings.{Meanings, priced}
 use Rattle.branch_tree.specs.Regions.{set_at}
 use Rattle.branch_tree.specs.Sets.{kept}
 use Rattle.branch_tree.specs.Trees.{KeepLimits, Walks, bounds_of, cut_of, multipliers_of, regions_below}
 use Rattle.price_bound.specs.declared.sizes.TheConstants.{MOST_VALUE}
-use Rattle.price_bound.specs.DayMeanings.{IsAccepted, meanings_of}
-use Rattle.price_bound.specs.FollowingPicks.{Follow}
-use Rattle.price_bound.specs.Sizes.{ValuesAreSmall}
-use Rattle.answer_text.specs.declared.limits.TheConstants.{MOST_INDEX}
 use Rattle.answer_text.specs.Limits.{AreEntries, IsAmount, IsCut, IsNode}
+use Rattle.day_planner.specs.Answerable.{IsAnswerable}
 
 -- the region has a set for each trip
 abbrev pub IsLong : ℕ → List (List Bool) → Type 0
@@ -55,66 +50,64 @@ cut_within catalogue region (Only trip comp) long few proper =
 cut_within catalogue region (AtMost trip unit_type count) long few proper =
     (omega (arith, proper.in_range.0, long), proper.in_range.1, proper.in_range.2)
 
-module _ (day : Day) (accepted : IsAccepted day) (comps : length (compositions_of day) ≤ MOST_COMPOSITIONS)
-    (indices : length (places_of day) ≤ MOST_INDEX) (small : ValuesAreSmall) where
+module _ (day : Day) (problem : Meanings) (root : List (List Bool)) (is : IsAnswerable day problem root) where
   -- the entries of multipliers that fit are within the limits
   entries_within : (entries : List Entry) → AreMultipliers entries
-      → DoFit (meanings_of day).indices (meanings_of day).free_from entries → AreEntries entries
+      → DoFit problem.indices problem.free_from entries → AreEntries entries
   entries_within entries keeps fits = record {
     multipliers = keeps;
-    indices = λ k d below. omega (arith, (fits k d below).0, indices);
+    indices = λ k d below. omega (arith, (fits k d below).0, is.indices);
   }
 
   -- a chain value with cost is an amount
   value_within : (region : List (List Bool)) (entries : List Entry) (value : ℤ) → AreMultipliers entries
-      → IsChainValue (meanings_of day) region entries Cost value → IsAmount value
+      → IsChainValue problem region entries Cost value → IsAmount value
   value_within region entries value keeps chain =
-      let below : unsigned_abs (priced (meanings_of day) entries Cost chain.picks) < MOST_VALUE =
-      small day chain.picks entries Cost accepted chain.near.follow keeps in
+      let below : unsigned_abs (priced problem entries Cost chain.picks) < MOST_VALUE =
+      is.small chain.picks entries (is.relaxation.near_follow chain.picks region chain.near) keeps in
       let known : unsigned_abs value < MOST_VALUE =
       subst (λ (v : ℤ). unsigned_abs v < MOST_VALUE) chain.reached below in
       omega (arith, known)
 
-  node_within : (region : List (List Bool)) (node : Node) → IsLong (length day.trips) region
-      → IsProvedAt (meanings_of day) region node → AreMultipliers (multipliers_of node) → IsNode node
+  node_within : (region : List (List Bool)) (node : Node) → IsLong problem.trips region
+      → IsProvedAt problem region node → AreMultipliers (multipliers_of node) → IsNode node
   node_within region (Branch cut) long proved keeps =
-      cut_within (compositions_of day) region cut (omega (arith, long, accepted.sound.timetable.trip_count)) comps proved.proper
+      cut_within problem.catalogue region cut (omega (arith, long, is.trips)) is.compositions proved.proper
   node_within region (CostLeaf bound entries) long proved keeps =
       (value_within region entries bound.0 keeps proved.bound, entries_within entries keeps proved.fitting)
   node_within region (RayLeaf entries) long proved keeps = entries_within entries keeps proved.fitting
   node_within region EmptyLeaf long proved keeps = tt
 
   -- the nodes of trees are within the limits
-  pub nodes_within : (regions : List (List (List Bool))) (nodes : List Node) → All (IsLong (length day.trips)) regions
-      → Walks cut_of (compositions_of day) (IsProvedAt (meanings_of day)) regions nodes → KeepLimits nodes
+  pub nodes_within : (regions : List (List (List Bool))) (nodes : List Node) → All (IsLong problem.trips) regions
+      → Walks cut_of problem.catalogue (IsProvedAt problem) regions nodes → KeepLimits nodes
       → All IsNode nodes
   nodes_within regions [] long walks keeps = All-nil IsNode
   nodes_within [] (node ∷ nodes) long walks keeps = absurd walks
   nodes_within (region ∷ regions) (node ∷ nodes) long walks keeps =
-      let here : IsLong (length day.trips) region = All-head (IsLong (length day.trips)) region regions long in
-      let others : All (IsLong (length day.trips)) regions =
-      All-tail (IsLong (length day.trips)) region regions long in
+      let here : IsLong problem.trips region = All-head (IsLong problem.trips) region regions long in
+      let others : All (IsLong problem.trips) regions =
+      All-tail (IsLong problem.trips) region regions long in
       All-cons IsNode node nodes
       (node_within region node here walks.0
       (All-head (λ (n : Node). AreMultipliers (multipliers_of n)) node nodes keeps))
-      (nodes_within (regions_below (compositions_of day) region (cut_of node) ++ regions) nodes
-      (sides_long (length day.trips) (compositions_of day) region (cut_of node) regions here others) walks.1
+      (nodes_within (regions_below problem.catalogue region (cut_of node) ++ regions) nodes
+      (sides_long problem.trips problem.catalogue region (cut_of node) regions here others) walks.1
       (All-tail (λ (n : Node). AreMultipliers (multipliers_of n)) node nodes keeps))
 
   -- the cost of picks that follow is an amount
-  pub cost_within : (picks : List ℕ) (cost : ℤ) → Follow day picks → (meanings_of day).cost picks ≡ cost
-      → IsAmount cost
-  cost_within picks cost follow is =
+  pub cost_within : (picks : List ℕ) (cost : ℤ) → problem.Follow picks → problem.cost picks ≡ cost → IsAmount cost
+  cost_within picks cost follow same_cost =
       let none : AreMultipliers [] = record {
         rising = grind arith;
         not_zero = λ k d below. absurd (omega (arith, below));
         within = λ k d below. absurd (omega (arith, below));
         few = omega arith;
       } in
-      let below : unsigned_abs ((meanings_of day).cost picks +ℤ pos 0) < MOST_VALUE =
-      small day picks [] Cost accepted follow none in
+      let below : unsigned_abs (problem.cost picks +ℤ pos 0) < MOST_VALUE =
+      is.small picks [] follow none in
       let known : unsigned_abs (cost +ℤ pos 0) < MOST_VALUE =
-      subst (λ (c : ℤ). unsigned_abs (c +ℤ pos 0) < MOST_VALUE) is below in
+      subst (λ (c : ℤ). unsigned_abs (c +ℤ pos 0) < MOST_VALUE) same_cost below in
       alone cost known
     where
       alone : (c : ℤ) → unsigned_abs (c +ℤ pos 0) < MOST_VALUE → IsAmount c

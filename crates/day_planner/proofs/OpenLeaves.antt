@@ -3,13 +3,12 @@ use Rattle.std.proofs.Common.{◌≡◌, ℕ, ◌+◌, List, [], ◌∷◌, ℤ,
 use Rattle.std.specs.Prelude.{if◌then◌else◌}
 use Rattle.branch_tree.specs.declared.tree.Node.{Node}
 use Rattle.branch_tree.specs.declared.tree.Node.TheVariants.{Branch, CostLeaf, RayLeaf, EmptyLeaf}
-use Rattle.branch_tree.specs.Claims.{is_below, open_leaves_of}
+use Rattle.branch_tree.specs.Claims.{is_below, open_leaves_of, plan_of}
 use Rattle.answer_text.specs.declared.answer.Answer.{Answer}
 use Rattle.answer_text.specs.declared.answer.Head.{Head}
 use Rattle.answer_text.specs.declared.answer.Head.TheVariants.{Optimal, Infeasible, Bounded, BoundedPlan}
-use Rattle.branch_tree.specs.Claims.{plan_of}
 use Rattle.answer_check.specs.Validity.{conclusion_of}
-use Rattle.day_planner.specs.Headline.{open_leaves, plan_said}
+use Rattle.answer_check.specs.ProvedTrees.{open_leaves, plan_said}
 
 same_open : (cost : ℤ) (picks others : List ℕ) (nodes : List Node)
     → open_leaves_of (Some (record { cost = cost; picks = picks })) nodes

@@ -1,25 +1,17 @@
--- An answer that says what a search has found meets the headline.
+-- An answer that says what a search has found has a tree that proves it.
 use Rattle.std.proofs.Common.{◌≡◌, ℕ, ◌+◌, ◌*◌, ◌≤◌, List, [], ◌∷◌, length, Bool, true, false, refl, sym, ◌∙◌, ap}
 use Rattle.std.proofs.Common.{subst, arith, Option, None}
 use Rattle.std.specs.Prelude.{All, IsSome}
 use Rattle.std.proofs.lemmas.List.Elements.{All-cons, All-contains, All-nil}
-use Rattle.rail_base.specs.declared.limits.TheConstants.{MOST_BRANCHINGS, MOST_COMPOSITIONS, MOST_NODES, MOST_TRIPS}
-use Rattle.timetable.specs.Accepted.{HaveCompositions}
-use Rattle.timetable.specs.Compositions.{compositions_of}
+use Rattle.rail_base.specs.declared.limits.TheConstants.{MOST_BRANCHINGS, MOST_NODES, MOST_TRIPS}
 use Rattle.timetable.specs.Day.{Day}
-use Rattle.timetable.specs.Indices.{places_of}
 use Rattle.branch_tree.specs.declared.tree.Node.{Node}
 use Rattle.branch_tree.specs.Claims.{Conclusion, Priced, plan_of, EndsInTime, HasOpenLeaf, IsPlanIn, IsProved}
-use Rattle.branch_tree.specs.Meanings.{IsRelaxation}
-use Rattle.branch_tree.specs.Regions.{root_of}
+use Rattle.branch_tree.specs.Meanings.{Meanings}
 use Rattle.branch_tree.specs.Trees.{branchings_of, bounds_of}
+use Rattle.branch_tree.proofs.Concluding.{proved_is_concluded}
 use Rattle.branch_tree.proofs.Covering.{leaves_exceed_branches}
-use Rattle.branch_tree.proofs.Over.{roots_are_over}
 use Rattle.branch_tree.proofs.Walking.{proved_at}
-use Rattle.price_bound.specs.DayMeanings.{IsAccepted, meanings_of}
-use Rattle.price_bound.specs.FollowingPicks.{Follow}
-use Rattle.price_bound.specs.Sizes.{ValuesAreSmall}
-use Rattle.price_bound.proofs.Whole.{relaxes}
 use Rattle.search.specs.declared.found.Found.{Found}
 use Rattle.search.specs.declared.found.Found.TheVariants as found
 use Rattle.search.specs.Conclusions.{IsBounded, IsSolved, nodes_found, plan_found}
@@ -27,15 +19,15 @@ use Rattle.search.specs.Conclusions as search
 use Rattle.answer_text.specs.declared.answer.Answer.{Answer}
 use Rattle.answer_text.specs.declared.answer.Head.{Head}
 use Rattle.answer_text.specs.declared.answer.Head.TheVariants.{Optimal, Infeasible, Bounded, BoundedPlan}
-use Rattle.answer_text.specs.declared.limits.TheConstants.{MOST_INDEX}
 use Rattle.answer_text.specs.Limits.{IsAmount, IsHead, IsNode, IsRun, IsWithin, has_plan}
-use Rattle.answer_check.specs.Validity.{IsProvedBy, IsValid, RunsByPicks, bound_said, conclusion_of}
-use Rattle.answer_check.proofs.Truth.{valid_answers_are_true}
-use Rattle.day_planner.specs.Headline.{IsHeadline, plan_said}
+use Rattle.answer_check.specs.ProvedTrees.{HasProvedTreeIn, bound_said, plan_said}
+use Rattle.answer_check.specs.Validity.{RunsByPicks, conclusion_of}
+use Rattle.day_planner.specs.Answerable.{IsAnswerable}
 use Rattle.day_planner.specs.FoundAnswers.{SaysFound}
+use Rattle.day_planner.specs.Laws.{SaidAnswersAreProved}
 use Rattle.day_planner.proofs.Granting.{enough_leave_none_open}
 use Rattle.day_planner.proofs.Leaves.{bounds_within, cost_within, nodes_within}
-use Rattle.day_planner.proofs.Naming.{few_runs, runs_within}
+use Rattle.day_planner.proofs.NamedRuns.{few_runs, runs_within}
 
 -- a head with a bound says what was found with a bound
 bound_found : (head : Head) (picks : List ℕ) (found : Found) → conclusion_of head picks ≡ search.conclusion_of found
@@ -57,69 +49,68 @@ no_bound Infeasible none = refl
 no_bound (Bounded bound) none = absurd (none refl)
 no_bound (BoundedPlan bound cost) none = absurd (none refl)
 
-module _ (day : Day) (accepted : IsAccepted day) (served : HaveCompositions day) (comps : length (compositions_of day) ≤ MOST_COMPOSITIONS)
-    (indices : length (places_of day) ≤ MOST_INDEX) (small : ValuesAreSmall) where
+module _ (day : Day) (problem : Meanings) (root : List (List Bool)) (is : IsAnswerable day problem root) where
   -- the picks of a plan that was found follow
-  follows : (picks : List ℕ) (plan : Priced) → plan.picks ≡ picks → IsPlanIn (meanings_of day) (root_of day) plan
-      → Follow day picks
-  follows picks plan is inside =
-      let relaxation : IsRelaxation (meanings_of day) = relaxes day accepted in
-      subst (Follow day) is (relaxation.near_follow plan.picks (root_of day)
-      (relaxation.solution_near plan.picks (root_of day) inside.solution inside.inside))
+  follows : (picks : List ℕ) (plan : Priced) → plan.picks ≡ picks → IsPlanIn problem root plan → problem.Follow picks
+  follows picks plan same inside =
+      subst problem.Follow same (is.relaxation.near_follow plan.picks root
+      (is.relaxation.solution_near plan.picks root inside.solution inside.inside))
 
   -- what a proved head says is within the limits
   head_within : (head : Head) (picks : List ℕ) (branchings : ℕ) (nodes : List Node)
-      → IsProved (meanings_of day) (root_of day) (conclusion_of head picks) branchings nodes
+      → IsProved problem root (conclusion_of head picks) branchings nodes
       → All IsAmount (bounds_of nodes) → IsHead head
   head_within (Optimal cost) picks branchings nodes proved amounts =
-      cost_within day accepted comps indices small picks cost.0
+      cost_within day problem root is picks cost.0
       (follows picks (record { cost = cost.0; picks = picks }) refl proved.plan) proved.plan.cost
   head_within Infeasible picks branchings nodes proved amounts = tt
   head_within (Bounded bound) picks branchings nodes proved amounts =
       All-contains IsAmount (bounds_of nodes) bound.0 amounts proved.head.one
   head_within (BoundedPlan bound cost) picks branchings nodes proved amounts = (
     All-contains IsAmount (bounds_of nodes) bound.0 amounts proved.head.one,
-    cost_within day accepted comps indices small picks cost.0
+    cost_within day problem root is picks cost.0
         (follows picks (record { cost = cost.0; picks = picks }) refl proved.plan) proved.plan.cost,
   )
 
-  module _ (found : Found) (answer : Answer) (says : SaysFound day found answer) where
+  module _ (naming : List ℕ → List (List ℕ)) (found : Found) (answer : Answer)
+      (says : SaysFound day naming found answer) where
     -- the branchings that are said are those that were made
     said_branchings : answer.branchings ≡ branchings_of (nodes_found found)
     said_branchings = says.branchings ∙ ap branchings_of says.tree
 
     -- the tree that was found proves what the answer says
-    proves : (granted : ℕ) → IsSolved (meanings_of day) (root_of day) granted found → IsProvedBy day answer says.picks
+    proves : (granted : ℕ) → IsSolved problem root granted found
+        → IsProved problem root (conclusion_of answer.head says.picks) answer.branchings answer.tree
     proves granted solved =
-        subst (λ (c : Conclusion). IsProved (meanings_of day) (root_of day) c answer.branchings answer.tree)
-        (sym says.concludes)
-        (subst (λ (nodes : List Node). IsProved (meanings_of day) (root_of day)
-        (search.conclusion_of found) answer.branchings nodes) (sym says.tree)
-        (subst (λ (n : ℕ). IsProved (meanings_of day) (root_of day) (search.conclusion_of found) n
-        (nodes_found found)) (sym said_branchings) solved.proved))
+        subst (λ (c : Conclusion). IsProved problem root c answer.branchings answer.tree) (sym says.concludes)
+        (subst (λ (nodes : List Node). IsProved problem root (search.conclusion_of found) answer.branchings nodes)
+        (sym says.tree)
+        (subst (λ (n : ℕ). IsProved problem root (search.conclusion_of found) n (nodes_found found))
+        (sym said_branchings) solved.proved))
 
     -- the runs are within the limits
     runs_are : (planned : Bool) → has_plan answer.head ≡ planned
         → All IsRun answer.runs × (length answer.runs ≤ MOST_TRIPS)
     runs_are true some =
         let plan : RunsByPicks day answer.runs says.picks = says.planned some in
-        (runs_within day accepted.sound answer.runs plan.runs, few_runs day accepted.sound answer.runs plan.runs)
+        (runs_within day is.limits answer.runs plan.runs, few_runs day is.limits answer.runs plan.runs)
     runs_are false none = (
       subst (All IsRun) (sym (says.no_runs none)) (All-nil IsRun),
       subst (λ (runs : List (List ℕ)). length runs ≤ MOST_TRIPS) (sym (says.no_runs none)) (omega arith),
     )
 
     -- the answer is within the limits of its text
-    is_within : (granted : ℕ) → granted ≤ MOST_BRANCHINGS → IsSolved (meanings_of day) (root_of day) granted found → IsWithin MOST_NODES answer
+    is_within : (granted : ℕ) → granted ≤ MOST_BRANCHINGS → IsSolved problem root granted found
+        → IsWithin MOST_NODES answer
     is_within granted few solved =
-        let proved : IsProvedBy day answer says.picks = proves granted solved in
-        let root_long : All (λ region. length region ≡ length day.trips) (root_of day ∷ []) =
-        All-cons (λ region. length region ≡ length day.trips) (root_of day) [] (roots_are_over day).each
-        (All-nil (λ region. length region ≡ length day.trips)) in
+        let proved : IsProved problem root (conclusion_of answer.head says.picks) answer.branchings answer.tree =
+        proves granted solved in
         let nodes : All IsNode answer.tree =
-        nodes_within day accepted comps indices small (root_of day ∷ []) answer.tree root_long
-        (proved_at (meanings_of day)
-        (root_of day ∷ []) answer.tree proved.proper proved.fitting proved.bounds proved.rays proved.empty) says.kept in
+        nodes_within day problem root is (root ∷ []) answer.tree
+        (All-cons (λ region. length region ≡ problem.trips) root [] is.sets
+        (All-nil (λ region. length region ≡ problem.trips)))
+        (proved_at problem (root ∷ []) answer.tree proved.proper proved.fitting proved.bounds proved.rays proved.empty)
+        says.kept in
         let runs = runs_are (has_plan answer.head) refl in
         let size : length answer.tree ≡ 2 * branchings_of answer.tree + 1 =
         leaves_exceed_branches answer.tree proved.whole.0 in
@@ -135,21 +126,14 @@ module _ (day : Day) (accepted : IsAccepted day) (served : HaveCompositions day)
           nodes = nodes;
         }
 
-    -- it meets the headline
-    pub says_headline : (granted : ℕ) → granted ≤ MOST_BRANCHINGS
-        → IsSolved (meanings_of day) (root_of day) granted found → IsHeadline day granted answer
-    says_headline granted few solved =
-        let valid : IsValid day answer = record {
-          picks = says.picks;
-          planned = says.planned;
-          proved = proves granted solved;
-        } in
+    -- all is so that is said of the tree
+    says_proved : (granted : ℕ) → granted ≤ MOST_BRANCHINGS → IsSolved problem root granted found
+        → HasProvedTreeIn day problem root naming granted answer
+    says_proved granted few solved =
         let plan : plan_found found ≡ plan_said answer says.picks = ap plan_of (sym says.concludes) in
-        let in_time : EndsInTime (meanings_of day) (root_of day) (plan_said answer says.picks) answer.tree =
-        subst (λ (nodes : List Node). EndsInTime (meanings_of day) (root_of day)
-        (plan_said answer says.picks) nodes) (sym says.tree)
-        (subst (λ (p : Option Priced). EndsInTime (meanings_of day) (root_of day) p
-        (nodes_found found)) plan solved.in_time) in
+        let in_time : EndsInTime problem root (plan_said answer says.picks) answer.tree =
+        subst (λ (nodes : List Node). EndsInTime problem root (plan_said answer says.picks) nodes) (sym says.tree)
+        (subst (λ (p : Option Priced). EndsInTime problem root p (nodes_found found)) plan solved.in_time) in
         let spent : IsSome (bound_said answer.head) → branchings_of answer.tree ≡ granted =
         λ some. ap branchings_of says.tree ∙
         (solved.bounded.0 (bound_found answer.head says.picks found says.concludes some)).0 in
@@ -158,16 +142,21 @@ module _ (day : Day) (accepted : IsAccepted day) (served : HaveCompositions day)
         (subst (λ (p : Option Priced). HasOpenLeaf p (nodes_found found)) plan
         (solved.bounded.0 (bound_found answer.head says.picks found says.concludes some)).1) in
         record {
-          holds = valid_answers_are_true day answer (relaxes day accepted) comps valid;
-          valid = valid;
+          valid = record { picks = says.picks; planned = says.planned; proved = proves granted solved };
+          concluded = proved_is_concluded problem is.relaxation root (conclusion_of answer.head says.picks)
+              answer.branchings answer.tree (proves granted solved);
           named = says.named;
           branchings = says.branchings;
           granted = subst (λ (nodes : List Node). branchings_of nodes ≤ granted) (sym says.tree) solved.granted;
           spent = spent;
           left_open = left_open;
-          enough = λ many. no_bound answer.head (λ some. enough_leave_none_open day (relaxes day accepted) served comps
+          enough = λ many. no_bound answer.head (λ some. enough_leave_none_open problem is.relaxation root is.filled
               (plan_said answer says.picks) answer.tree (proves granted solved).proper in_time
               (omega (arith, many, spent some)) (left_open some));
           evident = in_time;
           within = is_within granted few solved;
         }
+
+pub said_answers_are_proved : SaidAnswersAreProved
+said_answers_are_proved day problem root naming granted found answer is few solved says =
+    says_proved day problem root is naming found answer says granted few solved

@@ -1,4 +1,5 @@
--- what is said with an answer to a day
-pub mod Headline
--- that it says what a search has found
+-- that an answer says what a search has found
 pub mod FoundAnswers
+-- problems whose answers can be written down and read again
+pub mod Answerable
+pub mod Laws

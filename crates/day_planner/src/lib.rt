@@ -2,6 +2,11 @@
 //! all plans.
 #![tactic(auto)]
 
+pub mod answers;
+pub mod laws;
+pub mod naming;
 pub mod planning;
 
+pub use answers::{answer_with, runs_for, said};
+pub use naming::{DayNaming, Naming};
 pub use planning::answer_for;

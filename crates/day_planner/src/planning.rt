@@ -1,36 +1,32 @@
 //! From a day to a proved answer: the search, the plan of named units for what it found, and the tree that proves it.
 
-ghost use Rattle.std.specs.Prelude.{ℕ, List, ◌≡◌, ◌≤◌, ◌+◌, ◌*◌, ◌^◌, [], All, IfOk};
+ghost use Rattle.std.specs.Prelude.{ℕ, List, ◌≡◌, ◌≤◌, ◌+◌, ◌*◌, ◌^◌, All, IfOk};
 ghost use Rattle.rail_base.specs.declared.limits.TheConstants.{MOST_BRANCHINGS, MOST_ROUNDS};
-ghost use Rattle.inventory.specs.NamedUnits.{named_plan};
-ghost use Rattle.timetable.specs.Picks.{IsSolution, picked};
+ghost use Rattle.timetable.specs.Picks.{IsSolution};
 ghost use Rattle.transitions.specs.Edges.{AreGraphs};
 ghost use Rattle.branch_tree.specs.Claims.{open_leaves_of};
 ghost use Rattle.branch_tree.specs.Regions.{root_of};
-ghost use Rattle.branch_tree.specs.Trees.{KeepLimits, branchings_of};
+ghost use Rattle.branch_tree.specs.Trees.{branchings_of};
 ghost use Rattle.price_bound.specs.DayMeanings.{meanings_of};
 ghost use Rattle.search.specs.Questions.{AreAsked, AreTheSame, in_rounds};
 ghost use Rattle.search.specs.Conclusions.{IsSolved, nodes_found, plan_found};
-ghost use Rattle.search.specs.declared.found.Found.TheVariants.{Bounded};
-ghost use Rattle.answer_check.specs.Validity.{RunsByPicks};
+ghost use Rattle.answer_check.specs.Headline.{IsHeadline};
+ghost use Rattle.answer_check.specs.ProvedTrees.{named_for, open_leaves};
 ghost use Rattle.answer_check.specs.Verdicts.{IsAnswerVerdict};
-ghost use Rattle.day_planner.specs.Headline.{IsHeadline, open_leaves};
-ghost use Rattle.day_planner.specs.FoundAnswers.{IsPlanFound, SaysFound};
+ghost use Rattle.day_planner.specs.FoundAnswers.{IsNameable, SaysFound};
 
+use crate::answers::said;
+use crate::naming::DayNaming;
 use advisors::Advisor;
 use answer_check::AnswerVerdict;
-use answer_text::{Answer, Head, Runs};
-use branch_tree::{Region, Tree};
+use answer_text::Answer;
+use branch_tree::Region;
 use price_bound::DayBounds;
-use price_bound::laws::values_are_small;
-use rail_base::limits::{MOST_COMPOSITIONS, MOST_LINKS, MOST_TRIPS, MOST_UNITS};
-use rail_base::{Money, NoMemory, TripNo};
-use rail_csv::UnitList;
-use search::{Best, Found, solve};
+use rail_base::NoMemory;
+use search::{Found, solve};
 use std::alloc::Global;
-use timetable::{Instance, NamedPlan, Picks};
+use timetable::Instance;
 use transitions::Graphs;
-use unit_duties::{DutyRefusal, name_units};
 
 /// Plans a day by a search of at most so many branchings, and answers it with a proof of what it says.
 ///
@@ -94,7 +90,8 @@ fn find(
     solve(alloc, &mut bounds, &root, nodes, rounds, advisors)
 }
 
-/// The answer that says what was found: where a plan was found, its units are named. The error is want of memory.
+/// The answer that says what was found of a day: where a plan was found, its units are named. The error is want of
+/// memory.
 fn answer_of(
     alloc: Global,
     instance: &Instance,
@@ -102,117 +99,15 @@ fn answer_of(
     found: Found,
 ) -> Result<Answer, NoMemory>
     requires graphs { AreGraphs instance.now graphs.now }
-    requires plan { IsPlanFound instance.now found }
-    ensures says { IfOk result (SaysFound instance.now found) }
+    requires plan { IsNameable (IsSolution instance.now) found }
+    ensures says { IfOk result (SaysFound instance.now (named_for instance.now) found) }
     ensures headline { IfOk result (λ answer. (nodes : ℕ) → nodes ≤ MOST_BRANCHINGS →
         IsSolved (meanings_of instance.now) (root_of instance.now) nodes found → IsHeadline instance.now nodes answer) }
 {
-    // What is known of an accepted day, and of how large its values are.
-    prove!(instance.trips() as usize <= MOST_TRIPS);
-    prove!(instance.links() as usize <= MOST_LINKS);
-    prove!(instance.units() <= MOST_UNITS);
+    // What is known of an accepted day, and how many indices it has.
+    instance.is_sound();
     prove!(instance.free_from() <= instance.indices());
-    prove!(instance.catalogue().len() as usize <= MOST_COMPOSITIONS);
-    values_are_small();
-    let answer = said(alloc, instance, graphs, found)?;
+    let naming = DayNaming::new(instance, graphs);
+    let answer = said(alloc, &naming, found)?;
     Ok(answer)
-}
-
-/// The answer that says what was found, as a value.
-fn said(
-    alloc: Global,
-    instance: &Instance,
-    graphs: &Graphs,
-    found: Found,
-) -> Result<Answer, NoMemory>
-    requires graphs { AreGraphs instance.now graphs.now }
-    requires plan { IsPlanFound instance.now found }
-    ensures { IfOk result (SaysFound instance.now found) }
-{
-    match found {
-        Found::Optimal { picks, cost, tree } => {
-            let runs = runs_for(alloc, instance, graphs, &picks)?;
-            Ok(answer_with(Head::Optimal { cost }, runs, tree))
-        }
-        Found::Infeasible { tree } => Ok(answer_with(Head::Infeasible, no_runs(alloc), tree)),
-        Found::Bounded { best, bound, tree } => said_with(
-            alloc, instance, graphs, best, bound, tree,
-        ),
-    }
-}
-
-/// The answer that says a bound that was found, and the plan of the best solution, where one was found.
-fn said_with(
-    alloc: Global,
-    instance: &Instance,
-    graphs: &Graphs,
-    best: Option<Best>,
-    bound: Money,
-    tree: Tree,
-) -> Result<Answer, NoMemory>
-    requires graphs { AreGraphs instance.now graphs.now }
-    requires plan { IsPlanFound instance.now (Bounded best bound tree) }
-    ensures { IfOk result (SaysFound instance.now (Bounded best bound tree)) }
-{
-    let Some(Best { picks, cost }) = best else {
-        return Ok(answer_with(Head::Bounded { bound }, no_runs(alloc), tree));
-    };
-    let runs = runs_for(alloc, instance, graphs, &picks)?;
-    Ok(answer_with(Head::BoundedPlan { bound, cost }, runs, tree))
-}
-
-/// The answer with this head, these runs and this tree, whose branchings it says.
-fn answer_with(head: Head, runs: Runs, tree: Tree) -> Answer
-    ensures head { result.head ≡ head }
-    ensures branchings { result.branchings ≡ branchings_of result.tree }
-    ensures runs { result.runs ≡ runs }
-    ensures tree { result.tree ≡ tree }
-    ensures kept { KeepLimits result.tree }
-{
-    Answer {
-        head,
-        branchings: tree.branchings(),
-        runs,
-        tree,
-    }
-}
-
-/// No runs.
-fn no_runs(alloc: Global) -> Runs
-    ensures { result ≡ [] }
-{
-    Runs::of(Vec::new(alloc))
-}
-
-/// The runs of a plan with these picks, which are a solution: its units are named by the rule of `name_units`. The
-/// error is want of memory.
-fn runs_for(
-    alloc: Global,
-    instance: &Instance,
-    graphs: &Graphs,
-    picks: &Picks,
-) -> Result<Runs, NoMemory>
-    requires graphs { AreGraphs instance.now graphs.now }
-    requires solution { IsSolution instance.now picks.now }
-    ensures by_picks { IfOk result (λ runs. RunsByPicks instance.now runs picks.now) }
-    ensures named { IfOk result (λ runs. runs ≡ named_plan instance.now (picked instance.now picks.now)) }
-{
-    match name_units(alloc, instance, graphs, picks) {
-        Ok(plan) => runs_of(alloc, &plan),
-        Err(DutyRefusal::NoMemory) => Err(NoMemory),
-        Err(_) => unreachable!(),
-    }
-}
-
-/// The lists of a plan as runs. The error is want of memory.
-fn runs_of(alloc: Global, plan: &NamedPlan) -> Result<Runs, NoMemory>
-    ensures { IfOk result (λ runs. runs ≡ plan.now) }
-{
-    let mut lists = Vec::new(alloc);
-    for trip in 0..plan.trips() {
-        let mut units = Vec::new(alloc);
-        units.extend_from_slice(plan.units(TripNo(trip)))?;
-        lists.push(UnitList::of(units))?;
-    }
-    Ok(Runs::of(lists))
 }

@@ -10,7 +10,7 @@ returns-in-Valid-clause-verdict c =
 pub returns-in-Valid-clause-holds : goal.returns-in-Valid-clause-holds
 returns-in-Valid-clause-holds c same =
     says_true c.args.instance.now c.args.answer.now c.args.picks.now c.claim_of-claim.result c.requires.picks
-    c.claim_of-claim.ensures.head c.claim_of-claim.ensures.branchings c.claim_of-claim.ensures.tree (search rules) (search rules) (search rules)
+    c.claim_of-claim.ensures.head c.claim_of-claim.ensures.branchings c.claim_of-claim.ensures.tree (search rules) c.requires.accepted
 
 pub returns-in-Invalid-clause-verdict : goal.returns-in-Invalid-clause-verdict
 returns-in-Invalid-clause-verdict c =

@@ -1,8 +1,8 @@
 use Rattle.std.proofs.Common.{rules}
-use Rattle.day_planner.proofs.planning.said_with.Goals as goal
+use Rattle.day_planner.proofs.answers.said_with.Goals as goal
 
 pub returns : goal.returns
-returns c = record {
+returns g c = record {
   picks = c.in-Some.picks;
   planned = search rules;
   named = search rules;

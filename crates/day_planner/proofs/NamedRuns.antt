@@ -1,7 +1,7 @@
 -- The units of a plan that runs, and the picks of a solution, within the limits.
 use Rattle.std.proofs.Common.{◌≡◌, ℕ, ◌+◌, ◌<◌, ◌≤◌, List, [], ◌∷◌, map, length, IsTrue, Bool, true, if◌then◌else◌}
 use Rattle.std.proofs.Common.{refl, sym, ◌∙◌, ap, subst, arith}
-use Rattle.std.specs.Prelude.{All}
+use Rattle.std.specs.Prelude.{All, MatchOption, Option, Some, None}
 use Rattle.std.proofs.lemmas.Bool.{eq-eqb, le-leb, leb-true}
 use Rattle.std.proofs.lemmas.List.{get_or-map, get_or_default, length-map}
 use Rattle.std.proofs.lemmas.List.Elements.{All-cons, All-nil}
@@ -14,9 +14,14 @@ use Rattle.timetable.specs.Running.{Runs}
 use Rattle.timetable.specs.Admissible.{is_admissible}
 use Rattle.timetable.specs.Picks.{IsSolution}
 use Rattle.unit_duties.specs.Broken.{AreAdmissible}
+use Rattle.branch_tree.specs.Claims.{IsPlanIn, Priced}
+use Rattle.branch_tree.specs.Meanings.{Meanings}
 use Rattle.price_bound.proofs.Solving.{list_read}
 use Rattle.answer_text.specs.Limits.{IsRun}
+use Rattle.search.specs.declared.found.Found.{Found}
+use Rattle.search.specs.Conclusions.{plan_found}
 use Rattle.answer_check.proofs.Admitting.{AreFew, some_units}
+use Rattle.day_planner.specs.FoundAnswers.{IsNameable}
 
 -- the first unit of a list is one of it
 has_first : (u : ℕ) (us : List ℕ) → IsTrue (has u (u ∷ us))
@@ -72,3 +77,14 @@ picks_may_run day picks solution = record {
       (subst (λ (types : List ℕ). IsTrue (is_admissible day t types)) (sym read)
       (solution.runs.lists t below).admissible);
 }
+
+-- where a plan was found that is in a root, its picks are a solution of the day
+pub solution_found : (day : Day) (found : Found) (problem : Meanings) (root : List (List Bool))
+    → ((picks : List ℕ) → problem.IsSolution picks → IsSolution day picks)
+    → MatchOption (plan_found found) (Unit {0}) (IsPlanIn problem root) → IsNameable (IsSolution day) found
+solution_found day found problem root over plan = by (plan_found found) plan
+  where
+    by : (some : Option Priced) → MatchOption some (Unit {0}) (IsPlanIn problem root)
+        → MatchOption some (Unit {0}) (λ one. IsSolution day one.picks)
+    by None none = tt
+    by (Some one) is = over one.picks is.solution

@@ -1,8 +1,8 @@
 use Rattle.std.proofs.Common.{rules}
-use Rattle.day_planner.proofs.planning.said.Goals as goal
+use Rattle.day_planner.proofs.answers.said.Goals as goal
 
 pub returns-in_ok-runs-in-Optimal : goal.returns-in_ok-runs-in-Optimal
-returns-in_ok-runs-in-Optimal c = record {
+returns-in_ok-runs-in-Optimal g c = record {
   picks = c.in-Optimal.picks;
   planned = search rules;
   named = search rules;

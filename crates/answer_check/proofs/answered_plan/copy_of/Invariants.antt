@@ -1,6 +1,0 @@
-use Rattle.std.proofs.Common.{◌≡◌, take}
-use Rattle.answer_check.proofs.answered_plan.copy_of.Given as goal
-
--- the lists before this one are copied
-abbrev pub invariant-loop-list : goal.invariant-loop-list
-invariant-loop-list l = l.copy.items ≡ take l.list-index l.lists

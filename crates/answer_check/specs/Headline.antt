@@ -1,0 +1,44 @@
+-- What is promised of an answer to a day, whoever plans it: the status says which answer it is, its text was written,
+-- what it says is true of every plan of named units, and its tree proves that.
+use Rattle.std.specs.Prelude.{ℕ, ◌≡◌, List, ℤ, pos, Option}
+use Rattle.rail_io.specs.Sinks.{Appends}
+use Rattle.timetable.specs.Cost.{plan_cost}
+use Rattle.timetable.specs.Day.{Day}
+use Rattle.timetable.specs.PlanBounds.{PlansCostAtLeast, NoPlanRuns}
+use Rattle.timetable.specs.Running.{Runs}
+use Rattle.answer_text.specs.declared.answer.Answer.{Answer}
+use Rattle.answer_text.specs.declared.answer.Head.{Head}
+use Rattle.answer_text.specs.declared.answer.Head.TheVariants.{Optimal, Infeasible, Bounded, BoundedPlan}
+use Rattle.answer_text.specs.Texts.{text_of}
+use Rattle.answer_check.specs.ProvedTrees.{HasProvedTree}
+
+-- the runs are a plan that runs, of this cost
+pub record IsPlanOf (day : Day) (runs : List (List ℕ)) (cost : ℤ) : Type 0 where
+  pub run : Runs day runs
+  pub costs : cost ≡ pos (plan_cost day runs)
+
+-- what an answer says is true of the day, where these are its runs
+abbrev pub IsTrueOf : Day → Head → List (List ℕ) → Type 0
+IsTrueOf day (Optimal cost) runs = IsPlanOf day runs cost.0 × PlansCostAtLeast day cost.0
+IsTrueOf day Infeasible runs = NoPlanRuns day
+IsTrueOf day (Bounded bound) runs = PlansCostAtLeast day bound.0
+IsTrueOf day (BoundedPlan bound cost) runs = IsPlanOf day runs cost.0 × PlansCostAtLeast day bound.0
+
+-- the status that goes with an answer
+abbrev pub status_said : Head → ℕ
+status_said (Optimal cost) = 0
+status_said Infeasible = 1
+status_said (Bounded bound) = 4
+status_said (BoundedPlan bound cost) = 4
+
+-- The headline: what the answer says is true, and a tree proves it, for which so many branchings were granted.
+pub record IsHeadline (day : Day) (grant : ℕ) (answer : Answer) : Type 0 where
+  pub holds : IsTrueOf day answer.head answer.runs
+  pub tree : HasProvedTree day grant answer
+
+-- What was written is the text of an answer that meets the headline, and nothing else; and the status goes with it.
+pub record IsAnswered (day : Day) (grant status : ℕ) (before after : Option (List ℕ)) : Type 0 where
+  pub answer : Answer
+  pub headline : IsHeadline day grant answer
+  pub says : status ≡ status_said answer.head
+  pub written : Appends (text_of answer) before after
