@@ -1,11 +1,9 @@
 -- The cost leaves of a tree, one after another.
-use Rattle.std.proofs.Common.{◌≡◌, ℕ, suc, ◌+◌, ◌<◌, List, [], ◌∷◌, ◌++◌, length, take, drop, slice_get, Bool, true}
-use Rattle.std.proofs.Common.{false, if◌then◌else◌, ℤ, int_lt, ◌≤ℤ◌, ◌<ℤ◌, All, Option, Some, None, is_some, refl, sym}
-use Rattle.std.proofs.Common.{◌∙◌, ap, subst, arith, inl, inr, unwrap_or}
+use Rattle.std.proofs.Common.{◌≡◌, ℕ, suc, ◌+◌, ◌<◌, List, [], ◌∷◌, length, drop, slice_get, true}
+use Rattle.std.proofs.Common.{false, ℤ, int_lt, ◌≤ℤ◌, ◌<ℤ◌, All, Some, None, is_some, refl, sym}
+use Rattle.std.proofs.Common.{ap, subst, arith, inl, inr, unwrap_or}
 use Rattle.std.proofs.lemmas.Int.{ints}
-use Rattle.std.proofs.lemmas.List.{append-nil}
-use Rattle.std.proofs.lemmas.List.Elements.{All-nil, All-cons, All-head, All-push, All-weaker, Contains-push}
-use Rattle.std.proofs.lemmas.List.Elements.{Contains-append_left}
+use Rattle.std.proofs.lemmas.List.Elements.{All-cons, All-head}
 use Rattle.rail_base.specs.declared.numbers.Money.{Money}
 use Rattle.branch_tree.specs.declared.tree.Node.{Node}
 use Rattle.branch_tree.specs.declared.tree.Node.TheVariants.{Branch, CostLeaf, RayLeaf, EmptyLeaf}

@@ -1,5 +1,4 @@
 -- Answers to accepted days can be written down and read again, also under changes.
-use Rattle.std.proofs.Common.{refl}
 use Rattle.branch_tree.specs.declared.relaxation.Weight.TheVariants.{Cost}
 use Rattle.branch_tree.proofs.Over.{roots_are_over}
 use Rattle.branch_tree.proofs.Roots.{roots_are_filled}

@@ -1,7 +1,6 @@
 -- Where picks that follow are broken, and why the region of such picks alone has no solution.
 use Rattle.std.specs.Prelude.{ℕ, ◌≡◌, ◌+◌, ◌<◌, ◌≤◌, ◌⊎◌, List, [], ◌∷◌, length, Some, None, ℤ, pos}
 use Rattle.timetable.specs.declared.day.indices.Place.{Place}
-use Rattle.timetable.specs.Compositions.{compositions_of}
 use Rattle.timetable.specs.Day.{Day}
 use Rattle.timetable.specs.Indices.{IsIndexOf, lambdas_of, mus_of}
 use Rattle.timetable.specs.Picks.{IsSolution, picked}

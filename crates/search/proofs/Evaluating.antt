@@ -12,7 +12,7 @@ use Rattle.branch_tree.specs.declared.relaxation.Settled.TheVariants.{Broken}
 use Rattle.branch_tree.specs.declared.relaxation.Weight.{Weight}
 use Rattle.branch_tree.specs.declared.relaxation.Weight.TheVariants.{Cost, NoCost}
 use Rattle.branch_tree.specs.Entries.{refusal_of, put_in}
-use Rattle.branch_tree.specs.Bounds.{IsBound, IsChainValue, IsEmpty, IsSettled}
+use Rattle.branch_tree.specs.Bounds.{IsBound, IsEmpty, IsSettled}
 use Rattle.branch_tree.specs.Claims.{Priced, is_below}
 use Rattle.branch_tree.specs.Meanings.{Meanings, IsRelaxation, DoFitFor}
 use Rattle.branch_tree.proofs.Duality.{bounds_are_chain_values}

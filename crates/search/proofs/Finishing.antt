@@ -1,12 +1,11 @@
 -- What a search finds is proved by its tree, once no leaf is opens or all branchings that were granted are made.
 use Rattle.std.proofs.Common.{◌≡◌, ℕ, zero, suc, ◌+◌, ◌*◌, ◌<◌, ◌≤◌, List, [], ◌∷◌, ◌++◌, length, reverse, All}
 use Rattle.std.proofs.Common.{Contains, Bool, true, false, if◌then◌else◌, Option, Some, None, MatchOption, refl, sym}
-use Rattle.std.proofs.Common.{ap, subst, arith, ◌∙◌, inl, inr, ◌⊎◌, ℤ, ◌≤ℤ◌, ◌<ℤ◌, int_lt}
+use Rattle.std.proofs.Common.{ap, subst, arith, ◌∙◌, inl, inr, ◌⊎◌, ℤ, ◌≤ℤ◌}
 use Rattle.std.proofs.lemmas.Int.{ints}
 use Rattle.std.proofs.lemmas.List.{append-nil, length-append, length-map, length-reverse}
 use Rattle.std.proofs.lemmas.List.Elements.{All-cons, All-nil, All-head, All-tail, All-contains, All-weaker}
 use Rattle.rail_base.specs.declared.numbers.Money.{Money}
-use Rattle.branch_tree.specs.declared.multipliers.Entry.{Entry}
 use Rattle.branch_tree.specs.declared.tree.Node.{Node}
 use Rattle.branch_tree.specs.declared.tree.Node.TheVariants.{Branch, CostLeaf, RayLeaf, EmptyLeaf}
 use Rattle.branch_tree.specs.Claims.{Priced, Conclusion, optimal, infeasible, plan_of, IsPlanIn, IsProved, IsProvedAt}
@@ -26,7 +25,7 @@ use Rattle.search.specs.Ends.{HasEnded, IsFoundBy, found_by, closed_by, bounded_
 use Rattle.search.specs.Nodes.{CanBranch, IsNodeOf, IsPlaced, IsSearched, cut_at, tree_node, tree_nodes}
 use Rattle.search.specs.Offers.{HasPlanIn}
 use Rattle.search.specs.Conclusions.{IsSolved, nodes_found, plan_found, plan_in, bounded_with}
-use Rattle.search.proofs.Below.{lower, not_lower, not_lower_test}
+use Rattle.search.proofs.Below.{not_lower, not_lower_test}
 
 -- ---- the tree
 

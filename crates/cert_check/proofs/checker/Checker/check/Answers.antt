@@ -1,4 +1,4 @@
-use Rattle.std.proofs.Common.{◌≡◌, ◌∙◌, sym, subst}
+use Rattle.std.proofs.Common.{◌∙◌, sym, subst}
 use Rattle.branch_tree.specs.Claims.{said_by}
 use Rattle.branch_tree.proofs.Concluding.{proved_is_concluded}
 use Rattle.cert_check.specs.Reasons.{claim_tests}
