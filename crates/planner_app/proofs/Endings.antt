@@ -14,10 +14,10 @@ use Rattle.rail_io.specs.Sinks.{Appends}
 use Rattle.answer_check.specs.declared.checking.AnswerVerdict.{AnswerVerdict}
 use Rattle.answer_check.specs.declared.checking.AnswerVerdict.TheVariants.{Valid, RunsDiffer, UnknownUnit, Stops}
 use Rattle.answer_check.specs.declared.checking.AnswerVerdict.TheVariants as verdicts
-use Rattle.answer_check.specs.Validity.{IsTrueOf, IsValid}
+use Rattle.answer_check.specs.Headline.{IsHeadline, IsTrueOf, status_said}
+use Rattle.answer_check.specs.Validity.{IsValid}
 use Rattle.answer_check.specs.Verdicts.{IsAnswerVerdict}
 use Rattle.answer_check.proofs.Refuting.{valid_or_not}
-use Rattle.day_planner.specs.Headline.{IsHeadline}
 use Rattle.run_documents.specs.declared.answer_file.AnswerError.{AnswerError}
 use Rattle.run_documents.specs.declared.answer_file.AnswerError.TheVariants as answer_error
 use Rattle.run_documents.specs.declared.outcome.Outcome.{Outcome}
@@ -29,7 +29,6 @@ use Rattle.commands.specs.declared.command.Command.TheVariants as command
 use Rattle.commands.specs.PlainForm.{IsPlainForm}
 use Rattle.planner_app.specs.declared.reports.ReportKind.{ReportKind}
 use Rattle.planner_app.specs.declared.reports.ReportKind.TheVariants as report
-use Rattle.planner_app.specs.Statuses.{status_said}
 use Rattle.planner_app.specs.Outcomes.{AreAnswered, AskAbout, AskToCheck, AskToPlan, AskToReport, AskToSimulate}
 use Rattle.planner_app.specs.Outcomes.{OfDay, OfDayAndPlan, PlanRuns, Says, command_for, folder_of, reads_plan}
 use Rattle.planner_app.specs.Statuses.{EndsCheck, EndsPlanning, EndsSimulation, IsAnswerFileRefused, IsAnswerRefusedIn}
@@ -186,8 +185,8 @@ module _ (words : List (List ℕ)) (files : Files) (dir : List ℕ) where
   answered_right day answer accepted (inl none) = day_or_not day none.0 accepted.of_tables none.1
   answered_right day answer accepted (inr wrong) = file_right answer accepted.of_file wrong.2
 
-  checked_valid : (day : Day) (answer : Answer) → AreAnswered files dir day answer → IsValid day answer → IsTrueOf day answer
-      → EndsCheck files dir 0
+  checked_valid : (day : Day) (answer : Answer) → AreAnswered files dir day answer → IsValid day answer
+      → IsTrueOf day answer.head answer.runs → EndsCheck files dir 0
   checked_valid day answer accepted valid holds = record {
     valid = (λ e. (day, answer, accepted, valid), λ said. refl);
     holds = λ e. (day, answer, accepted, holds);
@@ -212,8 +211,8 @@ module _ (words : List (List ℕ)) (files : Files) (dir : List ℕ) where
   }
 
   by_verdict : (day : Day) (answer : Answer) (status : ℕ) → AreAnswered files dir day answer
-      → ((status ≡ 0) × IsValid day answer) ⊎ ((status ≡ 1) × ¬ IsValid day answer) → (status ≡ 0 → IsTrueOf day answer)
-      → EndsCheck files dir status
+      → ((status ≡ 0) × IsValid day answer) ⊎ ((status ≡ 1) × ¬ IsValid day answer)
+      → (status ≡ 0 → IsTrueOf day answer.head answer.runs) → EndsCheck files dir status
   by_verdict day answer status accepted (inl valid) holds =
       subst (λ (n : ℕ). EndsCheck files dir n) (sym valid.0) (checked_valid day answer accepted valid.1 (holds valid.0))
   by_verdict day answer status accepted (inr wrong) holds =

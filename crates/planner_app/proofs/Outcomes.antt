@@ -28,7 +28,7 @@ use Rattle.answer_text.specs.declared.answer.Head.{Head}
 use Rattle.answer_check.specs.declared.checking.AnswerVerdict.{AnswerVerdict}
 use Rattle.answer_check.specs.declared.checking.AnswerVerdict.TheVariants.{Valid}
 use Rattle.answer_check.specs.Validity.{IsValid}
-use Rattle.day_planner.specs.Headline.{IsHeadline}
+use Rattle.answer_check.specs.Headline.{IsHeadline}
 use Rattle.run_documents.specs.declared.answer_file.AnswerError.{AnswerError}
 use Rattle.run_documents.specs.declared.outcome.Outcome.{Outcome}
 use Rattle.run_documents.specs.declared.outcome.Outcome.TheVariants.{Planned, Tried, Runs, Stops, Checked, Reported}

@@ -13,7 +13,7 @@ use Rattle.answer_text.specs.Limits.{has_plan}
 use Rattle.answer_check.specs.declared.checking.AnswerVerdict.{AnswerVerdict}
 use Rattle.answer_check.specs.declared.checking.AnswerVerdict.TheVariants.{Valid}
 use Rattle.answer_check.specs.Validity.{IsValid}
-use Rattle.day_planner.specs.Headline.{IsHeadline}
+use Rattle.answer_check.specs.Headline.{IsHeadline, status_said}
 use Rattle.run_documents.specs.declared.answer_file.AnswerError.{AnswerError}
 use Rattle.run_documents.specs.declared.outcome.Outcome.{Outcome}
 use Rattle.run_documents.specs.declared.outcome.Outcome.TheVariants as outcome
@@ -24,7 +24,6 @@ use Rattle.commands.specs.declared.command.Command.{Command}
 use Rattle.commands.specs.declared.command.Command.TheVariants as command
 use Rattle.commands.specs.PlainForm.{IsPlainForm}
 use Rattle.planner_app.specs.declared.reports.ReportKind.{ReportKind}
-use Rattle.planner_app.specs.Statuses.{status_said}
 use Rattle.planner_app.specs.Outcomes.{AreAnswered, AskToReport, AskToTry, IsTried, OfDay, OfDayAndPlan, Says}
 use Rattle.planner_app.specs.Outcomes.{command_for}
 use Rattle.planner_app.specs.Outcomes.{AskAbout, AskInVain, HasCause, IsOutcome, IsSound, folder_of}

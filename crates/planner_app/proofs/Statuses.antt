@@ -13,7 +13,7 @@ use Rattle.run_documents.specs.declared.outcome.Outcome.TheVariants.{Planned, Tr
 use Rattle.run_documents.specs.declared.outcome.Outcome.TheVariants.{NoPlan, Usage, Refused, CannotRead}
 use Rattle.run_documents.specs.declared.outcome.Outcome.TheVariants.{NoAnswer, NoMemory}
 use Rattle.planner_app.specs.declared.reports.ReportKind.{ReportKind}
-use Rattle.planner_app.specs.Statuses.{status_said}
+use Rattle.answer_check.specs.Headline.{status_said}
 use Rattle.planner_app.specs.Outcomes.{AskInVain, AskToCheck, AskToPlan, AskToReport, AskToSimulate, AskToTry, HasCause}
 use Rattle.planner_app.specs.Outcomes.{IsOutcome}
 use Rattle.planner_app.specs.Statuses.{CountsFailedReads, CountsFailedWrites, EndsCheck, EndsPlanning, EndsReport, EndsSimulation, EndsTrial}

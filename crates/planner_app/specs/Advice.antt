@@ -1,7 +1,7 @@
 -- How the advisors are asked in a run.
 use Rattle.std.specs.Prelude.{ℕ, ◌≡◌, ◌+◌, ◌*◌, Bool, List, ⊤}
 use Rattle.search.specs.Questions.{AreAsked, in_rounds}
-use Rattle.day_planner.specs.Headline.{open_leaves}
+use Rattle.answer_check.specs.ProvedTrees.{open_leaves}
 use Rattle.run_documents.specs.declared.outcome.Outcome.{Outcome}
 use Rattle.run_documents.specs.declared.outcome.Outcome.TheVariants.{Planned, Tried, NoMemory}
 

@@ -6,7 +6,7 @@ use Rattle.day_files.specs.Inputs.{day_in}
 use Rattle.answer_text.specs.declared.answer.Answer.{Answer}
 use Rattle.answer_text.specs.Texts.{text_of}
 use Rattle.answer_text.specs.Limits.{has_plan}
-use Rattle.day_planner.specs.Headline.{IsHeadline}
+use Rattle.answer_check.specs.Headline.{IsHeadline}
 use Rattle.run_documents.specs.declared.answer_file.AnswerError.TheVariants as answer_error
 use Rattle.run_documents.specs.declared.outcome.Outcome.{Outcome}
 use Rattle.run_documents.specs.declared.outcome.Outcome.TheVariants.{Planned, Tried, CannotRead, NoAnswer}

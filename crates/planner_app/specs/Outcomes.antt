@@ -25,9 +25,9 @@ use Rattle.answer_text.specs.Limits.{IsWithin, has_plan}
 use Rattle.trial_day.specs.Trial.{trial_tables_of}
 use Rattle.answer_check.specs.declared.checking.AnswerVerdict.{AnswerVerdict}
 use Rattle.answer_check.specs.declared.checking.AnswerVerdict.TheVariants.{Valid}
-use Rattle.answer_check.specs.Validity.{IsTrueOf, IsValid}
+use Rattle.answer_check.specs.Headline.{IsHeadline, IsTrueOf}
+use Rattle.answer_check.specs.Validity.{IsValid}
 use Rattle.answer_check.specs.Verdicts.{CanCome, IsAnswerVerdict}
-use Rattle.day_planner.specs.Headline.{IsHeadline}
 use Rattle.run_documents.specs.declared.answer_file.AnswerError.{AnswerError}
 use Rattle.run_documents.specs.declared.outcome.Outcome.{Outcome}
 use Rattle.run_documents.specs.declared.outcome.Outcome.TheVariants.{Planned, Tried, Runs, Stops, Checked, Reported}
@@ -142,7 +142,7 @@ pub record AreAnswered (files : Files) (dir : List ℕ) (day : Day) (answer : An
 pub record IsVerdictOn (day : Day) (answer : Answer) (head : Head) (verdict : AnswerVerdict) : Type 0 where
   pub says : head ≡ answer.head
   pub is : IsAnswerVerdict day answer verdict
-  pub holds : verdict ≡ Valid → IsTrueOf day answer
+  pub holds : verdict ≡ Valid → IsTrueOf day answer.head answer.runs
   pub can_come : CanCome verdict
 
 -- the answer of the files was checked, alone or before a report, which is told only where the answer is valid

@@ -13,7 +13,7 @@ use Rattle.answer_text.specs.declared.answer.Answer.{Answer}
 use Rattle.answer_text.specs.Limits.{has_plan}
 use Rattle.answer_check.specs.declared.checking.AnswerVerdict.TheVariants.{Valid}
 use Rattle.answer_check.specs.Validity.{IsValid}
-use Rattle.day_planner.specs.Headline.{IsHeadline}
+use Rattle.answer_check.specs.Headline.{IsHeadline}
 use Rattle.run_documents.specs.declared.outcome.Outcome.{Outcome}
 use Rattle.run_documents.specs.declared.outcome.Outcome.TheVariants.{Planned, Tried, Runs, Stops, Checked, Reported}
 use Rattle.run_documents.specs.declared.outcome.Outcome.TheVariants.{NoPlan, NoMemory}

@@ -10,17 +10,14 @@ use Rattle.day_files.specs.declared.errors.Refusal.{Refusal}
 use Rattle.day_files.specs.declared.inputs.Inputs.{Inputs}
 use Rattle.day_files.specs.Inputs.{day_in, inputs_in}
 use Rattle.answer_text.specs.declared.answer.Answer.{Answer}
-use Rattle.answer_text.specs.declared.answer.Head.{Head}
-use Rattle.answer_text.specs.declared.answer.Head.TheVariants.{Optimal, Infeasible, Bounded, BoundedPlan}
 use Rattle.answer_text.specs.declared.refusal.AnswerRefusal.{AnswerRefusal}
 use Rattle.answer_text.specs.Grammar.{IsRefused}
 use Rattle.answer_text.specs.Limits.{has_plan}
-use Rattle.answer_text.specs.Texts.{text_of}
 use Rattle.trial_day.specs.Trial.{trial_tables_of}
 use Rattle.answer_check.specs.declared.checking.AnswerVerdict.{AnswerVerdict}
 use Rattle.answer_check.specs.declared.checking.AnswerVerdict.TheVariants.{Valid}
-use Rattle.answer_check.specs.Validity.{IsTrueOf, IsValid}
-use Rattle.day_planner.specs.Headline.{IsHeadline}
+use Rattle.answer_check.specs.Headline.{IsAnswered, IsHeadline, IsTrueOf, status_said}
+use Rattle.answer_check.specs.Validity.{IsValid}
 use Rattle.run_documents.specs.declared.answer_file.AnswerError.TheVariants as answer_error
 use Rattle.run_documents.specs.declared.outcome.Outcome.{Outcome}
 use Rattle.run_documents.specs.declared.outcome.Outcome.TheVariants.{Planned, Tried, Runs, Stops, Checked, Reported}
@@ -38,21 +35,6 @@ use Rattle.planner_app.specs.ReportTexts.{report_text}
 -- the status says of no read and no write that it failed, and not that memory ran out
 abbrev pub IsUndisturbed : ℕ → Type 0
 IsUndisturbed status = (status ≢ 5) × (status ≢ 6) × (status ≢ 7)
-
--- the status that goes with a head
-abbrev pub status_said : Head → ℕ
-status_said (Optimal cost) = 0
-status_said Infeasible = 1
-status_said (Bounded bound) = 4
-status_said (BoundedPlan bound cost) = 4
-
--- What was written is the text of an answer to a day, with so many branchings granted, and nothing else; the answer
--- meets the headline, and the status is that of what it says: 0 of `optimal`, 1 of `infeasible`, 4 of `bounded`.
-pub record IsAnswered (day : Day) (nodes status : ℕ) (before after : Option (List ℕ)) : Type 0 where
-  pub answer : Answer
-  pub headline : IsHeadline day nodes answer
-  pub says : status ≡ status_said answer.head
-  pub written : Appends (text_of answer) before after
 
 -- the status with which the day of a folder is planned, and what was written
 pub record EndsPlanning (files : Files) (dir : List ℕ) (nodes status : ℕ)
@@ -85,7 +67,8 @@ pub record EndsCheck (files : Files) (dir : List ℕ) (status : ℕ) : Type 0 wh
   -- 0 exactly where the files are accepted, and the answer is valid
   pub valid : (status ≡ 0) ↔ ((day : Day) × (answer : Answer) × AreAnswered files dir day answer × IsValid day answer)
   -- and what a valid answer says is true of every plan of the day
-  pub holds : status ≡ 0 → (day : Day) × (answer : Answer) × AreAnswered files dir day answer × IsTrueOf day answer
+  pub holds : status ≡ 0 → (day : Day) × (answer : Answer) × AreAnswered files dir day answer
+      × IsTrueOf day answer.head answer.runs
   -- 1 exactly where they are accepted, and it isn't
   pub invalid : (status ≡ 1) ↔ ((day : Day) × (answer : Answer) × AreAnswered files dir day answer
       × ¬ (IsValid day answer))

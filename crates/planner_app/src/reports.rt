@@ -11,7 +11,7 @@ ghost use Rattle.planner_app.specs.ReportTexts.{report_text};
 ghost use Rattle.planner_app.specs.Statuses.{tells_unread};
 
 use crate::answered::{Answered, answered_in};
-use answer_check::{AnswerVerdict, copy_of, picks_of_plan, verdict_on};
+use answer_check::{AnswerVerdict, picks_of_plan, verdict_on};
 use answer_text::Answer;
 use day_reports::{costs_table, duties_table, yards_table};
 use rail_base::{Bytes, NoMemory};
@@ -89,7 +89,7 @@ fn table_of(
     requires runs { running.Runs instance.now answer.now.runs }
     ensures { IfOk result (λ text. text.items ≡ report_text kind instance.now answer.now.runs) }
 {
-    let plan = NamedPlan::of(copy_of(alloc, answer.runs.items())?);
+    let plan = NamedPlan::copied(alloc, answer.runs.items())?;
     match kind {
         ReportKind::Duties => duties_table(alloc, instance, &plan),
         ReportKind::Yards => yards_table_of(alloc, instance, &plan),

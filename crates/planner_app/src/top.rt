@@ -10,7 +10,8 @@ ghost use Rattle.planner_app.specs.Outcomes.{AskAbout, AskInVain, AskToCheck, As
 ghost use Rattle.planner_app.specs.Outcomes.{AskToTry, Grants, IsOutcome};
 ghost use Rattle.planner_app.specs.Statuses.{EndsCheck, EndsPlanning, EndsReport, EndsSimulation, EndsTrial};
 ghost use Rattle.planner_app.specs.Statuses.{CountsFailedReads, CountsFailedWrites, IsStatus, IsUndisturbed, Wrote};
-ghost use Rattle.planner_app.specs.Statuses.{status_of, status_of_verdict, status_said, tells_unread};
+ghost use Rattle.answer_check.specs.Headline.{status_said};
+ghost use Rattle.planner_app.specs.Statuses.{status_of, status_of_verdict, tells_unread};
 
 use crate::run::outcome_of;
 use crate::status::{BOUNDED, FAILURE, NO_MEMORY, REFUSED, SUCCESS, UNREAD, UNWRITTEN, USAGE};
