@@ -18,8 +18,8 @@ use timetable::Picks;
 /// The answer that says what was found: where a plan was found, the rule names its units, which it can. The error is
 /// want of memory. All that is said of the answer's tree follows by `laws::said_answers_are_proved`.
 pub fn said<N: Naming>(alloc: Global, naming: &N, found: Found) -> Result<Answer, NoMemory>
-    requires plan { IsNameable (N.CanName naming.now) found }
-    ensures says { IfOk result (SaysFound (N.day naming.now) (N.named naming.now) found) }
+    requires { IsNameable (N.CanName naming.now) found }
+    ensures { IfOk result (SaysFound (N.day naming.now) (N.named naming.now) found) }
 {
     match found {
         Found::Optimal { picks, cost, tree } => {
@@ -39,8 +39,8 @@ fn said_with<N: Naming>(
     bound: Money,
     tree: Tree,
 ) -> Result<Answer, NoMemory>
-    requires plan { IsNameable (N.CanName naming.now) (Bounded best bound tree) }
-    ensures says { IfOk result (SaysFound (N.day naming.now) (N.named naming.now) (Bounded best bound tree)) }
+    requires { IsNameable (N.CanName naming.now) (Bounded best bound tree) }
+    ensures { IfOk result (SaysFound (N.day naming.now) (N.named naming.now) (Bounded best bound tree)) }
 {
     let Some(Best { picks, cost }) = best else {
         return Ok(answer_with(Head::Bounded { bound }, no_runs(alloc), tree));
@@ -74,7 +74,7 @@ fn no_runs(alloc: Global) -> Runs
 
 /// The runs of the plan that the rule names for picks, which it can name. The error is want of memory.
 pub fn runs_for<N: Naming>(alloc: Global, naming: &N, picks: &Picks) -> Result<Runs, NoMemory>
-    requires can { N.CanName naming.now picks.now }
+    requires { N.CanName naming.now picks.now }
     ensures named { IfOk result (λ runs. runs ≡ N.named naming.now picks.now) }
     ensures by_picks { IfOk result (λ runs. RunsByPicks (N.day naming.now) runs picks.now) }
 {

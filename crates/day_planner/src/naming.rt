@@ -29,7 +29,7 @@ pub trait Naming {
     /// The plan of the units that the rule names for picks. It runs, and has the picked compositions. The error is want
     /// of memory.
     fn name(&self, alloc: Global, picks: &Picks) -> Result<NamedPlan, NoMemory>
-        requires can { CanName self.now picks.now }
+        requires { CanName self.now picks.now }
         ensures named { IfOk result (λ plan. plan ≡ named self.now picks.now) }
         ensures runs { IfOk result (λ plan. RunsByPicks (day self.now) plan picks.now) };
 }

@@ -1,5 +1,4 @@
-use Rattle.std.proofs.Common.{◌≡◌, IfOk, refl}
-use Rattle.std.proofs.Common.{length}
+use Rattle.std.proofs.Common.{◌≡◌, IfOk, length, refl}
 use Rattle.branch_tree.specs.Claims.{IsConcluded, said_by}
 use Rattle.cert_check.specs.declared.verdict.Verdict.{Verdict}
 use Rattle.cert_check.specs.declared.verdict.Verdict.TheVariants.{Valid}
@@ -8,9 +7,10 @@ use Rattle.answer_check.proofs.Checked.{at_day, root_over}
 use Rattle.answer_check.proofs.checking.verdict_on_claim.Goals as goal
 
 pub checked-requires : goal.checked-requires
-checked-requires c =
-    root_over c.args.instance.now c.in_ok-bounds.bounds (length c.in_ok-bounds.bounds.day.trips) c.in_ok-root.root
-    c.in_ok-bounds.ensures refl c.in_ok-root.ensures
+checked-requires c = record {
+  root = root_over c.args.instance.now c.in_ok-bounds.bounds (length c.in_ok-bounds.bounds.day.trips) c.in_ok-root.root
+      c.in_ok-bounds.ensures refl c.in_ok-root.ensures;
+}
 
 pub returns-clause-verdict : goal.returns-clause-verdict
 returns-clause-verdict c =
