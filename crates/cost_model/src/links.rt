@@ -1,12 +1,12 @@
 //! What a link costs: the shunting of a turn.
 
-ghost use Rattle.std.specs.Prelude.{◌≡◌, ◌<◌, ◌≤◌, ◌&&◌, ◌==◌, not, unwrap_or, List, ℕ, length};
+ghost use Rattle.std.specs.Prelude.{◌≡◌, ◌<◌, ◌≤◌, List, ℕ, length};
 ghost use Rattle.timetable.specs.Cost.{link_cost};
 ghost use Rattle.cost_model.specs.LinkedTrains.{LeadsBetween};
 
 use rail_base::limits::{MOST_COMPOSITION, MOST_WEIGHT};
 use rail_base::{LinkNo, TypeNo};
-use timetable::{Instance, LinkKind, turned};
+use timetable::Instance;
 
 /// The most that a link costs, in the unit of the weights: the most weight.
 pub const MOST_LINK_COST: u64 = MOST_WEIGHT as u64;
@@ -29,25 +29,9 @@ pub fn link_cost(
         → result ≡ link_cost instance.now number lists }
     ensures range { result ≤ MOST_LINK_COST }
 {
-    let link = instance.link(number);
-    match link.kind {
-        LinkKind::Turn { .. } => {
-            let arriving = turned(link.reverse, arriving);
-            let kept = instance.kept(number, arriving.as_slice(), departing);
-            if is_shunted(kept, arriving.len(), departing.len()) {
-                u64::from(instance.weights().shunting)
-            } else {
-                0
-            }
-        }
-        LinkKind::Join { .. } | LinkKind::Split { .. } => 0,
+    if instance.link(number).is_shunted(arriving, departing) {
+        u64::from(instance.weights().shunting)
+    } else {
+        0
     }
-}
-
-/// Whether a turn that keeps so many units has others, of so many that arrive or of so many that depart.
-fn is_shunted(kept: Option<u32>, arriving: usize, departing: usize) -> bool
-    ensures { result ≡ not ((unwrap_or kept 0 == arriving) && (unwrap_or kept 0 == departing)) }
-{
-    let kept = kept.unwrap_or(0) as usize;
-    !(kept == arriving && kept == departing)
 }

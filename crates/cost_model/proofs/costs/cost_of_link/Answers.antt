@@ -1,6 +1,6 @@
 -- A link leads between trips of the day.
 use Rattle.std.proofs.Common.{ℕ, ◌<◌, length, subst, sym}
-use Rattle.cost_model.proofs.Leading.{from_below, to_below}
+use Rattle.timetable.proofs.Leading.{from_below, to_below}
 use Rattle.cost_model.proofs.costs.cost_of_link.Goals as goal
 
 pub types_on-arriving-requires-clause-trip : goal.types_on-arriving-requires-clause-trip
