@@ -1,7 +1,12 @@
 -- The statuses of outcomes, and their causes.
 use Rattle.std.proofs.Common.{◌≡◌, ◌≢◌, ◌↔◌, ◌≤◌, ◌⊎◌, inl, inr, ℕ, suc, Bool, true, false, List, Option, Some, ap, refl, sym, ◌∙◌, subst}
 use Rattle.std.proofs.Common.{arith}
+use Rattle.std.specs.Global.{Vec}
+use Rattle.std.specs.Prelude.{IfOk, Result, Ok, Err}
+use Rattle.rail_base.specs.declared.memory.NoMemory as memory
 use Rattle.rail_io.specs.Folders.{Files, Rose, faults_after}
+use Rattle.statuses.specs.Written.{IsTextOf}
+use Rattle.run_documents.specs.Texts.{IsDocument}
 use Rattle.answer_text.specs.declared.answer.Head.{Head}
 use Rattle.answer_text.specs.declared.answer.Head.TheVariants.{Optimal, Infeasible, Bounded, BoundedPlan}
 use Rattle.answer_check.specs.declared.checking.AnswerVerdict.{AnswerVerdict}
@@ -16,8 +21,8 @@ use Rattle.planner_app.specs.declared.reports.ReportKind.{ReportKind}
 use Rattle.answer_check.specs.Headline.{status_said}
 use Rattle.planner_app.specs.Outcomes.{AskInVain, AskToCheck, AskToPlan, AskToReport, AskToSimulate, AskToTry, HasCause}
 use Rattle.planner_app.specs.Outcomes.{IsOutcome}
-use Rattle.planner_app.specs.Statuses.{CountsFailedReads, CountsFailedWrites, EndsCheck, EndsPlanning, EndsReport, EndsSimulation, EndsTrial}
-use Rattle.planner_app.specs.Statuses.{IsUndisturbed, tells_unread, status_of, status_of_verdict, Wrote, Whole, Part, Nothing}
+use Rattle.planner_app.specs.Statuses.{CountsFailedReads, EndsCheck, EndsPlanning, EndsReport, EndsSimulation, EndsTrial}
+use Rattle.planner_app.specs.Statuses.{IsUndisturbed, tells_unread, status_of, status_of_verdict, WroteOutcome, Whole, Part, Nothing}
 use Rattle.planner_app.proofs.Endings.{check_ends, planning_ends, simulation_ends}
 use Rattle.planner_app.proofs.ReportEndings.{report_ends, trial_ended}
 
@@ -102,7 +107,7 @@ unread_is_five NoMemory = inr (refl, λ five. omega (arith, five), λ six. omega
 
 -- the status tells of the outcome whether a read failed
 pub counts_reads : (outcome : Outcome) (status before after : ℕ) (written written' : Option (List ℕ)) (faults faults' : ℕ)
-    → Wrote outcome status written written' faults faults' → after ≡ faults_after (tells_unread outcome) before → CountsFailedReads status before after
+    → WroteOutcome outcome status written written' faults faults' → after ≡ faults_after (tells_unread outcome) before → CountsFailedReads status before after
 counts_reads outcome status before after written written' faults faults' wrote counts = by (unread_is_five outcome) wrote
   where
     failed : tells_unread outcome ≡ true → after ≡ faults_after true before
@@ -111,7 +116,7 @@ counts_reads outcome status before after written written' faults faults' wrote c
     same : tells_unread outcome ≡ false → after ≡ before
     same read = counts ∙ ap (λ (failed : Bool). faults_after failed before) read
 
-    by : IsToldByFive outcome → Wrote outcome status written written' faults faults' → CountsFailedReads status before after
+    by : IsToldByFive outcome → WroteOutcome outcome status written written' faults faults' → CountsFailedReads status before after
     by (inl (unread, five)) (Whole text d appends e) = record { failed = λ _. failed unread; undisturbed = λ undisturbed. absurd (undisturbed.0 (e ∙ five)); at_most_one = inr (failed unread) }
     by (inl (unread, five)) (Part text d appends rose six) = record { failed = λ _. failed unread; undisturbed = λ undisturbed. absurd (undisturbed.1 six); at_most_one = inr (failed unread) }
     by (inl (unread, five)) (Nothing kept seven) = record { failed = λ _. failed unread; undisturbed = λ undisturbed. absurd (undisturbed.2 seven); at_most_one = inr (failed unread) }
@@ -119,21 +124,39 @@ counts_reads outcome status before after written written' faults faults' wrote c
     by (inr (read, not_five, not_six)) (Part text d appends rose six) = record { failed = λ five. absurd (omega (arith, five, six)); undisturbed = λ _. same read; at_most_one = inl (same read) }
     by (inr (read, not_five, not_six)) (Nothing kept seven) = record { failed = λ five. absurd (omega (arith, five, seven)); undisturbed = λ _. same read; at_most_one = inl (same read) }
 
--- the status of an outcome says of no write that it failed
-pub counts_no_write : (outcome : Outcome) (status before after : ℕ) → status ≡ status_of outcome → after ≡ before → CountsFailedWrites status before after
-counts_no_write outcome status before after is same = record { failed = λ six. absurd (by (unread_is_five outcome) (sym is ∙ six)); none = λ _. same }
-  where
-    by : IsToldByFive outcome → status_of outcome ≢ 6
-    by (inl (unread, five)) = λ six. omega (arith, five, six)
-    by (inr (read, not_five, not_six)) = not_six
+-- an outcome that has a document has a status that says of no write that it failed, and not that memory ran out
+few_with_document : (outcome : Outcome) (text : List ℕ) → IsDocument outcome text → status_of outcome ≤ 5
+few_with_document (Planned answer) text is = omega (arith, low_head answer.head (status_said answer.head) refl)
+few_with_document (Tried seed trips answer) text is = omega (arith, low_head answer.head (status_said answer.head) refl)
+few_with_document (Reported report) text is = omega arith
+few_with_document NoPlan text is = omega arith
+few_with_document (Runs money) text is = omega arith
+few_with_document (Stops fault) text is = omega arith
+few_with_document (Checked head found) text is = elim (few_of_verdict found (status_of_verdict found) refl) [ inl zero ↦ omega (arith, zero) | inr one ↦ omega (arith, one) ]
+few_with_document Usage text is = omega arith
+few_with_document (Refused why) text is = omega arith
+few_with_document (CannotRead table) text is = omega arith
+few_with_document (NoAnswer answer_error.CannotRead) text is = omega arith
+few_with_document (NoAnswer answer_error.TooLong) text is = omega arith
+few_with_document (NoAnswer (answer_error.Refused refusal)) text is = omega arith
+few_with_document NoMemory text is = absurd is
+
+pub few_where_made : (outcome : Outcome) (made : Result (Vec ℕ) memory.NoMemory) → IfOk made (λ text. IsDocument outcome text.items) → IfOk made (λ _. status_of outcome ≤ 5)
+few_where_made outcome (Ok text) is = few_with_document outcome text.items is
+few_where_made outcome (Err why) is = tt
+
+-- the text that was made is that of the outcome
+pub text_of_outcome : (outcome : Outcome) (made : Result (Vec ℕ) memory.NoMemory) → IfOk made (λ text. IsDocument outcome text.items) → (text : List ℕ) → IsTextOf made text → IsDocument outcome text
+text_of_outcome outcome (Ok document) is text same = subst (λ text. IsDocument outcome text) (sym same) is
+text_of_outcome outcome (Err why) is text none = absurd none
 
 module _ {F : Type 0} (holds : F → Option Files) (may_fail : F → List ℕ → Bool) (counted taken : F → ℕ) (words : List (List ℕ)) (before after : F)
     (outcome : Outcome) (status : ℕ) (written written' : Option (List ℕ)) (faults faults' : ℕ)
-    (is : IsOutcome holds may_fail counted taken words before after outcome) (wrote : Wrote outcome status written written' faults faults') where
+    (is : IsOutcome holds may_fail counted taken words before after outcome) (wrote : WroteOutcome outcome status written written' faults faults') where
   pub unread_rose : status ≡ 5 → Rose (counted before) (counted after)
   unread_rose five = rose_by may_fail counted taken words before after outcome (five_of wrote) is.caused
     where
-      five_of : Wrote outcome status written written' faults faults' → status_of outcome ≡ 5
+      five_of : WroteOutcome outcome status written written' faults faults' → status_of outcome ≡ 5
       five_of (Whole text d appends e) = sym e ∙ five
       five_of (Part text d appends rose six) = absurd (omega (arith, five, six))
       five_of (Nothing same seven) = absurd (omega (arith, five, seven))
@@ -142,7 +165,7 @@ module _ {F : Type 0} (holds : F → Option Files) (may_fail : F → List ℕ �
   its_own : IsUndisturbed status → status_of outcome ≡ status
   its_own undisturbed = by wrote
     where
-      by : Wrote outcome status written written' faults faults' → status_of outcome ≡ status
+      by : WroteOutcome outcome status written written' faults faults' → status_of outcome ≡ status
       by (Whole text d appends e) = sym e
       by (Part text d appends rose six) = absurd (undisturbed.1 six)
       by (Nothing same seven) = absurd (undisturbed.2 seven)
@@ -154,7 +177,7 @@ module _ {F : Type 0} (holds : F → Option Files) (may_fail : F → List ℕ �
       → AskToPlan words dir nodes rounds → IsUndisturbed status → EndsPlanning files dir nodes status written written'
   ends_planning files dir nodes rounds tells asked undisturbed = by wrote
     where
-      by : Wrote outcome status written written' faults faults' → EndsPlanning files dir nodes status written written'
+      by : WroteOutcome outcome status written written' faults faults' → EndsPlanning files dir nodes status written written'
       by (Whole text d appends e) = subst (λ (n : ℕ). EndsPlanning files dir nodes n written written') (sym e)
           (planning_ends words files dir nodes rounds asked written written' outcome (is.told files tells) text d appends
           (own_undisturbed undisturbed))
@@ -165,7 +188,7 @@ module _ {F : Type 0} (holds : F → Option Files) (may_fail : F → List ℕ �
       → IsUndisturbed status → EndsReport files dir kind status written written'
   ends_report files dir kind tells asked undisturbed = by wrote
     where
-      by : Wrote outcome status written written' faults faults' → EndsReport files dir kind status written written'
+      by : WroteOutcome outcome status written written' faults faults' → EndsReport files dir kind status written written'
       by (Whole text d appends e) = subst (λ (n : ℕ). EndsReport files dir kind n written written') (sym e)
           (report_ends words files dir kind asked written written' outcome (is.told files tells) text d appends
           (own_undisturbed undisturbed))
@@ -176,7 +199,7 @@ module _ {F : Type 0} (holds : F → Option Files) (may_fail : F → List ℕ �
       → EndsTrial seed trips nodes status written written'
   ends_trial seed trips nodes rounds asked undisturbed = by wrote
     where
-      by : Wrote outcome status written written' faults faults' → EndsTrial seed trips nodes status written written'
+      by : WroteOutcome outcome status written written' faults faults' → EndsTrial seed trips nodes status written written'
       by (Whole text d appends e) = subst (λ (n : ℕ). EndsTrial seed trips nodes n written written') (sym e)
           (trial_ended words seed trips nodes rounds asked written written' holds may_fail counted taken before after outcome is text d
           appends (own_undisturbed undisturbed))

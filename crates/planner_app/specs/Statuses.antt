@@ -1,9 +1,11 @@
 -- The status that a run ends with, what it wrote, and how many calls failed.
-use Rattle.std.specs.Prelude.{ℕ, ◌≡◌, ◌≢◌, ◌⊎◌, ◌≤◌, ◌<◌, ◌↔◌, List, length, Option, Bool, true, false, IsTrue}
+use Rattle.std.specs.Prelude.{ℕ, ◌≡◌, ◌≢◌, ◌⊎◌, ◌<◌, ◌↔◌, List, length, Option, Bool, true, false, IsTrue}
 use Rattle.std.specs.Prelude.{Result, Ok, Err}
 use Rattle.rail_base.specs.declared.limits.TheConstants.{MOST_FILE_BYTES}
-use Rattle.rail_io.specs.Folders.{Files, Rose, counted}
-use Rattle.rail_io.specs.Sinks.{Appends, AppendsPart}
+use Rattle.rail_io.specs.Folders.{Files}
+use Rattle.rail_io.specs.Sinks.{Appends}
+pub use Rattle.statuses.specs.Written.{CountsFailedReads, CountsFailedWrites, IsStatus, IsUndisturbed}
+pub use Rattle.statuses.specs.Written.{Wrote, Whole, Part, Nothing}
 use Rattle.timetable.specs.Build.{day_of}
 use Rattle.timetable.specs.Day.{Day}
 use Rattle.day_files.specs.declared.errors.Refusal.{Refusal}
@@ -31,10 +33,6 @@ use Rattle.planner_app.specs.Outcomes.{AreAnswered, PlanRuns}
 use Rattle.planner_app.specs.ReportTexts.{report_text}
 
 -- ---- what the files say of the status
-
--- the status says of no read and no write that it failed, and not that memory ran out
-abbrev pub IsUndisturbed : ℕ → Type 0
-IsUndisturbed status = (status ≢ 5) × (status ≢ 6) × (status ≢ 7)
 
 -- the status with which the day of a folder is planned, and what was written
 pub record EndsPlanning (files : Files) (dir : List ℕ) (nodes status : ℕ)
@@ -100,10 +98,6 @@ pub record EndsTrial (seed trips nodes status : ℕ) (before after : Option (Lis
   pub says : status ≡ status_said answer.head
   pub written : Appends (trial_text seed trips answer) before after
 
--- the statuses that there are
-abbrev pub IsStatus : ℕ → Type 0
-IsStatus status = status ≤ 7
-
 -- ---- of an outcome
 
 -- the status of a verdict
@@ -138,25 +132,7 @@ abbrev pub leaves_unread : {A : Type 0} → Result A Outcome → Bool
 leaves_unread (Ok read) = false
 leaves_unread (Err outcome) = tells_unread outcome
 
--- What was written of an outcome, and the status that says so: its whole document; or a front of it, where a write
--- failed; or nothing, where memory ran out.
-pub data Wrote (outcome : Outcome) (status : ℕ) (before after : Option (List ℕ)) (faults faults' : ℕ) : Type 0 where
-  Whole : (text : List ℕ) → IsDocument outcome text → Appends text before after → status ≡ status_of outcome
-      → Wrote outcome status before after faults faults'
-  Part : (text : List ℕ) → IsDocument outcome text → AppendsPart text before after → Rose faults faults' → status ≡ 6
-      → Wrote outcome status before after faults faults'
-  Nothing : after ≡ before → status ≡ 7 → Wrote outcome status before after faults faults'
-
--- ---- how many calls failed
-
--- a folder's count of failed reads before a run and after it: one more where the status says that a file could not be
--- read, the same where it is none of 5, 6 and 7, and either of the two where it is 6 or 7
-pub record CountsFailedReads (status before after : ℕ) : Type 0 where
-  pub failed : status ≡ 5 → after ≡ counted before
-  pub undisturbed : IsUndisturbed status → after ≡ before
-  pub at_most_one : (after ≡ before) ⊎ (after ≡ counted before)
-
--- a sink's count of failed writes before a run and after it: one more where the status is 6, and else the same
-pub record CountsFailedWrites (status before after : ℕ) : Type 0 where
-  pub failed : status ≡ 6 → after ≡ counted before
-  pub none : status ≢ 6 → after ≡ before
+-- What was written of an outcome's document, and the status that says so.
+abbrev pub WroteOutcome : Outcome → ℕ → Option (List ℕ) → Option (List ℕ) → ℕ → ℕ → Type 0
+WroteOutcome outcome status before after faults faults' =
+    Wrote (IsDocument outcome) (status_of outcome) status before after faults faults'

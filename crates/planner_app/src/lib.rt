@@ -6,7 +6,6 @@ mod answered;
 pub mod laws;
 pub mod reports;
 mod run;
-pub mod status;
 mod top;
 
 pub use answer_check::{AnswerVerdict, check_answer, checking};

@@ -9,19 +9,19 @@ ghost use Rattle.planner_app.specs.Advice.{AreAskedFor};
 ghost use Rattle.planner_app.specs.Outcomes.{AskAbout, AskInVain, AskToCheck, AskToPlan, AskToReport, AskToSimulate};
 ghost use Rattle.planner_app.specs.Outcomes.{AskToTry, Grants, IsOutcome};
 ghost use Rattle.planner_app.specs.Statuses.{EndsCheck, EndsPlanning, EndsReport, EndsSimulation, EndsTrial};
-ghost use Rattle.planner_app.specs.Statuses.{CountsFailedReads, CountsFailedWrites, IsStatus, IsUndisturbed, Wrote};
+ghost use Rattle.planner_app.specs.Statuses.{CountsFailedReads, CountsFailedWrites, IsStatus, IsUndisturbed};
 ghost use Rattle.answer_check.specs.Headline.{status_said};
-ghost use Rattle.planner_app.specs.Statuses.{status_of, status_of_verdict, tells_unread};
+ghost use Rattle.planner_app.specs.Statuses.{WroteOutcome, status_of, status_of_verdict, tells_unread};
 
 use crate::run::outcome_of;
-use crate::status::{BOUNDED, FAILURE, NO_MEMORY, REFUSED, SUCCESS, UNREAD, UNWRITTEN, USAGE};
 use advisors::Advisor;
 use answer_check::AnswerVerdict;
 use answer_text::Head;
 use rail_base::Words;
-use rail_io::{Folder, Sink, write_all};
+use rail_io::{Folder, Sink};
 use run_documents::document::document;
 use run_documents::{AnswerError, Outcome};
+use statuses::{BOUNDED, FAILURE, NO_MEMORY, REFUSED, SUCCESS, UNREAD, USAGE, write_document};
 use std::alloc::Global;
 
 /// The status that goes with what an answer says.
@@ -65,18 +65,12 @@ fn status_of(outcome: &Outcome) -> u8
 
 /// Writes the document of an outcome, made whole in memory before the first write, and answers the status.
 fn write_outcome<K: Sink>(alloc: Global, outcome: &Outcome, out: &mut K) -> u8
-    ensures wrote { Wrote outcome.now result (K.written out.old) (K.written out.new) (K.faults out.old)
+    ensures wrote { WroteOutcome outcome.now result (K.written out.old) (K.written out.new) (K.faults out.old)
         (K.faults out.new) }
     ensures lasting { K.faults out.old ≤ K.faults out.new }
     ensures failed_writes { K.counts_failed ≡ true → CountsFailedWrites result (K.faults out.old) (K.faults out.new) }
 {
-    let Ok(text) = document(alloc, outcome) else {
-        return NO_MEMORY;
-    };
-    match write_all(out, text.as_slice()) {
-        Ok(()) => status_of(outcome),
-        Err(_) => UNWRITTEN,
-    }
+    write_document(document(alloc, outcome), status_of(outcome), out)
 }
 
 /// Runs the command that the words name over a folder, writes one document to the sink and answers the status.
@@ -162,7 +156,7 @@ pub fn railplan<F: Folder, K: Sink>(
     // is as it tells.
     ensures document { (outcome : Outcome)
         × IsOutcome F.holds F.may_fail F.faults F.taken words.now folder.old folder.new outcome
-        × Wrote outcome result (K.written out.old) (K.written out.new) (K.faults out.old) (K.faults out.new)
+        × WroteOutcome outcome result (K.written out.old) (K.written out.new) (K.faults out.old) (K.faults out.new)
         × (F.counts_failed ≡ true
         → F.faults folder.new ≡ faults_after (tells_unread outcome) (F.faults folder.old))
         × ((nodes rounds : ℕ) → Grants words.now nodes rounds

@@ -3,10 +3,10 @@
 
 use advisors::{Advisor, Diver, Subgradient};
 use planner_app::railplan;
-use planner_app::status::NO_MEMORY;
 use rail_base::limits::MOST_WORDS;
 use rail_base::{NoMemory, Words};
 use rail_io::{DiskFolder, Folder, Sink, StdoutSink};
+use statuses::NO_MEMORY;
 use std::alloc::Global;
 use std::env::{self, Args};
 use std::io::ErrorKind;
