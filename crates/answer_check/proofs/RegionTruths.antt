@@ -17,7 +17,7 @@ module _ (day : Day) (changes : List Change) (region : List (List Bool)) (runs :
       → IsPlanIn (changed_meanings (changed_day day changes)) region (record { cost = cost; picks = picks })
       → IsPlanWithin day changes region runs picks cost
   is_plan cost planned plan = record {
-    run = record {
+    does_run = record {
       runs = planned.runs;
       picked = record { solution = plan.solution; types = planned.types };
       inside = plan.inside;

@@ -20,7 +20,7 @@ module _ (day : Day) (accepted : IsAccepted day) (runs : List (List ℕ)) (picks
   is_plan : (cost : ℤ) → RunsByPicks day runs picks
       → IsPlanIn (meanings_of day) (root_of day) (record { cost = cost; picks = picks }) → IsPlanOf day runs cost
   is_plan cost planned plan = record {
-    run = planned.runs;
+    does_run = planned.runs;
     costs = sym plan.cost ∙ ap (λ (lists : List (List ℕ)). pos (cost_of day lists)) planned.types;
   }
 

@@ -1,5 +1,5 @@
--- What is promised of an answer to a day, whoever plans it: the status says which answer it is, its text was written,
--- what it says is true of every plan of named units, and its tree proves that.
+-- What is promised of an answer to a day by the command that plans it: what it says is true of every plan of named
+-- units, its tree proves that, the status says which answer it is, and it was written.
 use Rattle.std.specs.Prelude.{ℕ, ◌≡◌, List, ℤ, pos, Option}
 use Rattle.rail_io.specs.Sinks.{Appends}
 use Rattle.timetable.specs.Cost.{plan_cost}
@@ -9,12 +9,11 @@ use Rattle.timetable.specs.Running.{Runs}
 use Rattle.answer_text.specs.declared.answer.Answer.{Answer}
 use Rattle.answer_text.specs.declared.answer.Head.{Head}
 use Rattle.answer_text.specs.declared.answer.Head.TheVariants.{Optimal, Infeasible, Bounded, BoundedPlan}
-use Rattle.answer_text.specs.Texts.{text_of}
 use Rattle.answer_check.specs.ProvedTrees.{HasProvedTree}
 
 -- the runs are a plan that runs, of this cost
 pub record IsPlanOf (day : Day) (runs : List (List ℕ)) (cost : ℤ) : Type 0 where
-  pub run : Runs day runs
+  pub does_run : Runs day runs
   pub costs : cost ≡ pos (plan_cost day runs)
 
 -- what an answer says is true of the day, where these are its runs
@@ -31,14 +30,18 @@ status_said Infeasible = 1
 status_said (Bounded bound) = 4
 status_said (BoundedPlan bound cost) = 4
 
--- The headline: what the answer says is true, and a tree proves it, for which so many branchings were granted.
+-- The headline of an answer for which so many branchings were granted.
 pub record IsHeadline (day : Day) (grant : ℕ) (answer : Answer) : Type 0 where
+  -- what it says is true
   pub holds : IsTrueOf day answer.head answer.runs
+  -- its tree proves it; it is `bounded` exactly where all granted branchings were made and a leaf is open
   pub tree : HasProvedTree day grant answer
 
--- What was written is the text of an answer that meets the headline, and nothing else; and the status goes with it.
-pub record IsAnswered (day : Day) (grant status : ℕ) (before after : Option (List ℕ)) : Type 0 where
+-- An answer meets the headline and the status goes with it; and what was written, where the sink tells, is its text and
+-- nothing else.
+pub record IsAnswered (text : Answer → List ℕ) (day : Day) (grant status : ℕ)
+    (before after : Option (List ℕ)) : Type 0 where
   pub answer : Answer
   pub headline : IsHeadline day grant answer
   pub says : status ≡ status_said answer.head
-  pub written : Appends (text_of answer) before after
+  pub written : Appends (text answer) before after

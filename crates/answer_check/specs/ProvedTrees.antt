@@ -1,6 +1,6 @@
--- What is said of the tree of an answer that a search found: that it proves the answer, and that the search ended neither
--- too early nor too late.
-use Rattle.std.specs.Prelude.{ℕ, ◌+◌, ◌≤◌, ◌≡◌, List, [], Bool, ℤ, Option, Some, None, IsSome, IsTrue}
+-- What is said of the tree of an answer that a search found: that it proves the answer, and that the search ended
+-- neither too early nor too late.
+use Rattle.std.specs.Prelude.{ℕ, ◌+◌, ◌≤◌, ◌≡◌, ◌↔◌, List, [], Bool, ℤ, Option, Some, None, IsSome, IsTrue}
 use Rattle.rail_base.specs.declared.limits.TheConstants.{MOST_NODES}
 use Rattle.inventory.specs.NamedUnits.{named_plan}
 use Rattle.timetable.specs.Day.{Day}
@@ -31,7 +31,7 @@ plan_said answer picks = plan_of (conclusion_of answer.head picks)
 abbrev pub open_leaves : Answer → ℕ
 open_leaves answer = open_leaves_of (plan_said answer []) answer.tree
 
--- What is said of the tree of an answer that was searched for in a root region of a problem over the day, where units
+-- What is said of the tree of an answer that was searched for in a root region of a problem, where the units of the day
 -- are named by a rule and so many branchings are granted.
 pub record HasProvedTreeIn (day : Day) (problem : Meanings) (root : List (List Bool)) (naming : List ℕ → List (List ℕ))
     (grant : ℕ) (answer : Answer) : Type 0 where
@@ -45,14 +45,13 @@ pub record HasProvedTreeIn (day : Day) (problem : Meanings) (root : List (List B
   pub branchings : answer.branchings ≡ branchings_of answer.tree
   -- no more branchings were made than were granted
   pub granted : branchings_of answer.tree ≤ grant
-  -- `bounded`: exactly the granted branchings were made
-  pub spent : IsSome (bound_said answer.head) → branchings_of answer.tree ≡ grant
-  -- `bounded`: a leaf is open
-  pub left_open : IsSome (bound_said answer.head) → HasOpenLeaf (plan_said answer valid.picks) answer.tree
+  -- it is `bounded` exactly where all that were granted are made, and a leaf is open
+  pub bounded : IsSome (bound_said answer.head)
+      ↔ ((branchings_of answer.tree ≡ grant) × HasOpenLeaf (plan_said answer valid.picks) answer.tree)
   -- `bounded` never comes where as many branchings are granted as the trips have choices of compositions, less one
   pub enough : choices_of root ≤ grant + 1 → bound_said answer.head ≡ None
-  -- no bound is below the one without multipliers; what the bound of a leaf finds is a plan that runs only where the
-  -- answer has one that costs no more; and no open leaf has an evident end
+  -- no bound is below the one without multipliers; what the bound of a leaf finds is a solution only where the answer
+  -- has a plan that costs no more, by the costs of the problem; and no open leaf has an evident end
   pub evident : EndsInTime problem root (plan_said answer valid.picks) answer.tree
   -- its text can be read again
   pub within : IsWithin MOST_NODES answer

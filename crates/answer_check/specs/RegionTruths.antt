@@ -15,7 +15,7 @@ use Rattle.answer_check.specs.Validity.{RunsByPicks, conclusion_of}
 -- the runs are a plan that runs by these picks, which lie in the region, and this is its cost with what the changes add
 pub record IsPlanWithin (day : Day) (changes : List Change) (region : List (List Bool)) (runs : List (List ℕ))
     (picks : List ℕ) (cost : ℤ) : Type 0 where
-  pub run : RunsIn day region runs picks
+  pub does_run : RunsIn day region runs picks
   pub costs : cost ≡ pos (plan_cost day runs + added_cost changes picks)
 
 -- what an answer says is true of the plans that run by picks in the region, where these are its runs and their picks

@@ -29,7 +29,7 @@ pub record RunsByPicks (day : Day) (plan : List (List ℕ)) (picks : List ℕ) :
 abbrev pub HasPicks : Day → Answer → List ℕ → Type 0
 HasPicks day answer picks = IsTrue (has_plan answer.head) → RunsByPicks day answer.runs picks
 
--- a valid answer, by a root region of a problem over the day: its plan, where it has one, runs, and its tree proves what
+-- a valid answer, by a root region of a problem: its plan, where it has one, runs on the day, and its tree proves what
 -- it says of all solutions in the root, of the picks of that plan
 pub record IsValidIn (day : Day) (problem : Meanings) (root : List (List Bool)) (answer : Answer) : Type 0 where
   pub picks : List ℕ

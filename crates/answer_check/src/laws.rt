@@ -15,9 +15,9 @@ pub fn answer_verdicts_are_one()
     ensures law { AnswerVerdictsAreOne }
 {}
 
-/// What is concluded of all solutions in a region of a day, under changes, is true of the plans that run by picks in it:
-/// the plan of an optimal answer costs least of them, with what the changes add, none runs where there is no solution, and
-/// none costs less than a bound.
+/// What is concluded of all solutions in a region of a day, under changes, is true of the plans that run by picks in
+/// it: the plan of an optimal answer costs least of them, with what the changes add, none runs where there is no
+/// solution, and none costs less than a bound.
 pub fn conclusions_hold_in_a_region()
     ensures law { ConcludedIsTrueIn }
 {}

@@ -1,6 +1,6 @@
 -- An answer that says what a search has found has a tree that proves it.
 use Rattle.std.proofs.Common.{◌≡◌, ℕ, ◌+◌, ◌*◌, ◌≤◌, List, [], ◌∷◌, length, Bool, true, false, refl, sym, ◌∙◌, ap}
-use Rattle.std.proofs.Common.{subst, arith, Option, None}
+use Rattle.std.proofs.Common.{subst, arith, Option, Some, None}
 use Rattle.std.specs.Prelude.{All, IsSome}
 use Rattle.std.proofs.lemmas.List.Elements.{All-cons, All-contains, All-nil}
 use Rattle.rail_base.specs.declared.limits.TheConstants.{MOST_BRANCHINGS, MOST_NODES, MOST_TRIPS}
@@ -41,6 +41,18 @@ bound_found (Bounded bound) picks (found.Optimal others least tree) same some = 
 bound_found (Bounded bound) picks (found.Infeasible tree) same some = absurd cc
 bound_found (BoundedPlan bound cost) picks (found.Optimal others least tree) same some = absurd cc
 bound_found (BoundedPlan bound cost) picks (found.Infeasible tree) same some = absurd cc
+
+-- what was found with a bound is said by a head with a bound
+bound_of_found : (head : Head) (picks : List ℕ) (found : Found) → conclusion_of head picks ≡ search.conclusion_of found
+    → IsBounded found → IsSome (bound_said head)
+bound_of_found head picks (found.Optimal others least tree) same is = absurd is
+bound_of_found head picks (found.Infeasible tree) same is = absurd is
+bound_of_found (Bounded bound) picks (found.Bounded best least tree) same is = refl
+bound_of_found (BoundedPlan bound cost) picks (found.Bounded best least tree) same is = refl
+bound_of_found (Optimal cost) picks (found.Bounded None least tree) same is = absurd cc
+bound_of_found (Optimal cost) picks (found.Bounded (Some best) least tree) same is = absurd cc
+bound_of_found Infeasible picks (found.Bounded None least tree) same is = absurd cc
+bound_of_found Infeasible picks (found.Bounded (Some best) least tree) same is = absurd cc
 
 -- a head with no bound has none
 no_bound : (head : Head) → ¬ IsSome (bound_said head) → bound_said head ≡ None
@@ -134,13 +146,23 @@ module _ (day : Day) (problem : Meanings) (root : List (List Bool)) (is : IsAnsw
         let in_time : EndsInTime problem root (plan_said answer says.picks) answer.tree =
         subst (λ (nodes : List Node). EndsInTime problem root (plan_said answer says.picks) nodes) (sym says.tree)
         (subst (λ (p : Option Priced). EndsInTime problem root p (nodes_found found)) plan solved.in_time) in
-        let spent : IsSome (bound_said answer.head) → branchings_of answer.tree ≡ granted =
-        λ some. ap branchings_of says.tree ∙
-        (solved.bounded.0 (bound_found answer.head says.picks found says.concludes some)).0 in
-        let left_open : IsSome (bound_said answer.head) → HasOpenLeaf (plan_said answer says.picks) answer.tree =
-        λ some. subst (λ (nodes : List Node). HasOpenLeaf (plan_said answer says.picks) nodes) (sym says.tree)
-        (subst (λ (p : Option Priced). HasOpenLeaf p (nodes_found found)) plan
-        (solved.bounded.0 (bound_found answer.head says.picks found says.concludes some)).1) in
+        let bound : IsBounded found → IsSome (bound_said answer.head) =
+        bound_of_found answer.head says.picks found says.concludes in
+        let as_said : IsSome (bound_said answer.head)
+            → (branchings_of answer.tree ≡ granted) × HasOpenLeaf (plan_said answer says.picks) answer.tree =
+        λ some.
+        let both = solved.bounded.0 (bound_found answer.head says.picks found says.concludes some) in (
+          ap branchings_of says.tree ∙ both.0,
+          subst (λ (nodes : List Node). HasOpenLeaf (plan_said answer says.picks) nodes) (sym says.tree)
+              (subst (λ (p : Option Priced). HasOpenLeaf p (nodes_found found)) plan both.1),
+        ) in
+        let as_found : (branchings_of answer.tree ≡ granted) × HasOpenLeaf (plan_said answer says.picks) answer.tree
+            → IsBounded found =
+        λ both. solved.bounded.1 (
+          ap branchings_of (sym says.tree) ∙ both.0,
+          subst (λ (p : Option Priced). HasOpenLeaf p (nodes_found found)) (sym plan)
+              (subst (λ (nodes : List Node). HasOpenLeaf (plan_said answer says.picks) nodes) says.tree both.1),
+        ) in
         record {
           valid = record { picks = says.picks; planned = says.planned; proved = proves granted solved };
           concluded = proved_is_concluded problem is.relaxation root (conclusion_of answer.head says.picks)
@@ -148,11 +170,10 @@ module _ (day : Day) (problem : Meanings) (root : List (List Bool)) (is : IsAnsw
           named = says.named;
           branchings = says.branchings;
           granted = subst (λ (nodes : List Node). branchings_of nodes ≤ granted) (sym says.tree) solved.granted;
-          spent = spent;
-          left_open = left_open;
+          bounded = (as_said, λ both. bound (as_found both));
           enough = λ many. no_bound answer.head (λ some. enough_leave_none_open problem is.relaxation root is.filled
               (plan_said answer says.picks) answer.tree (proves granted solved).proper in_time
-              (omega (arith, many, spent some)) (left_open some));
+              (omega (arith, many, (as_said some).0)) (as_said some).1);
           evident = in_time;
           within = is_within granted few solved;
         }

@@ -4,9 +4,10 @@
 
 ghost use Rattle.day_planner.specs.Laws.{ChangedDaysAreAnswerable, DaysAreAnswerable, SaidAnswersAreProved};
 
-/// Whatever the relaxation over a day, its root region and the rule of naming: of the tree of an answer that says what a
-/// search has found there, all is so that is said of the tree of an answer to the day. Such is each relaxation of an
-/// accepted day, also under changes, in any region in which each trip has a composition.
+/// Of each answerable problem, whatever its root region and the rule of naming: of the tree of an answer that says what
+/// a search has found there, all is so that is said of the tree of an answer to the day. An accepted day is answerable,
+/// and so is it under changes in any region in which each trip has a composition, where it has no more indices than a
+/// document writes.
 pub fn said_answers_are_proved()
     ensures law { SaidAnswersAreProved }
     ensures day { DaysAreAnswerable }

@@ -173,11 +173,13 @@ module _ (words : List (List ℕ)) (seed trips nodes rounds : ℕ) (asked : AskT
         day = is.day;
         made = subst (λ (s : ℕ). day_of (trial_tables_of s trips) ≡ Ok is.day) same.0
             (subst (λ (t : ℕ). day_of (trial_tables_of seed' t) ≡ Ok is.day) same.1 is.made);
-        answer = answer;
-        headline = subst (λ (n : ℕ). IsHeadline is.day n answer) same.2 is.headline;
-        says = refl;
-        written = subst (λ (s : ℕ). Appends (trial_text s trips answer) before after) same.0
-            (subst (λ (t : ℕ). Appends (trial_text seed' t answer) before after) same.1 written);
+        answered = record {
+          answer = answer;
+          headline = subst (λ (n : ℕ). IsHeadline is.day n answer) same.2 is.headline;
+          says = refl;
+          written = subst (λ (s : ℕ). Appends (trial_text s trips answer) before after) same.0
+              (subst (λ (t : ℕ). Appends (trial_text seed' t answer) before after) same.1 written);
+        };
       }
 
   named_trial : (other : Command) → IsPlainForm words other → code other ≡ 6

@@ -15,10 +15,11 @@ use Rattle.answer_text.specs.declared.answer.Answer.{Answer}
 use Rattle.answer_text.specs.declared.refusal.AnswerRefusal.{AnswerRefusal}
 use Rattle.answer_text.specs.Grammar.{IsRefused}
 use Rattle.answer_text.specs.Limits.{has_plan}
+use Rattle.answer_text.specs.Texts.{text_of}
 use Rattle.trial_day.specs.Trial.{trial_tables_of}
 use Rattle.answer_check.specs.declared.checking.AnswerVerdict.{AnswerVerdict}
 use Rattle.answer_check.specs.declared.checking.AnswerVerdict.TheVariants.{Valid}
-use Rattle.answer_check.specs.Headline.{IsAnswered, IsHeadline, IsTrueOf, status_said}
+use Rattle.answer_check.specs.Headline.{IsAnswered, IsTrueOf, status_said}
 use Rattle.answer_check.specs.Validity.{IsValid}
 use Rattle.run_documents.specs.declared.answer_file.AnswerError.TheVariants as answer_error
 use Rattle.run_documents.specs.declared.outcome.Outcome.{Outcome}
@@ -40,7 +41,8 @@ pub record EndsPlanning (files : Files) (dir : List ℕ) (nodes status : ℕ)
   -- 3 exactly where a table is refused
   pub refused : (status ≡ 3) ↔ ((why : Refusal) × (day_in files dir ≡ Err why))
   -- where it isn't 3, the tables are accepted as a day, and an answer to it was written
-  pub answered : status ≢ 3 → (day : Day) × (day_in files dir ≡ Ok day) × IsAnswered day nodes status before after
+  pub answered : status ≢ 3 → (day : Day) × (day_in files dir ≡ Ok day) 
+      × IsAnswered text_of day nodes status before after
 
 -- the status with which a plan of a folder is run
 pub record EndsSimulation (files : Files) (dir : List ℕ) (status : ℕ) : Type 0 where
@@ -93,10 +95,7 @@ pub record EndsReport (files : Files) (dir : List ℕ) (kind : ReportKind) (stat
 pub record EndsTrial (seed trips nodes status : ℕ) (before after : Option (List ℕ)) : Type 0 where
   pub day : Day
   pub made : day_of (trial_tables_of seed trips) ≡ Ok day
-  pub answer : Answer
-  pub headline : IsHeadline day nodes answer
-  pub says : status ≡ status_said answer.head
-  pub written : Appends (trial_text seed trips answer) before after
+  pub answered : IsAnswered (trial_text seed trips) day nodes status before after
 
 -- ---- of an outcome
 

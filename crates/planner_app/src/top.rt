@@ -3,6 +3,7 @@
 ghost use Rattle.std.specs.Prelude.{ℕ, true, List, ◌≡◌, ◌≤◌, ◌+◌, ◌*◌, ◌^◌, ◌↔◌, Some, All};
 ghost use Rattle.rail_io.specs.Folders.{Files, OnlyReads, Rose, faults_after};
 ghost use Rattle.search.specs.Questions.{AreAsked, AreTheSame};
+ghost use Rattle.answer_check.specs.Headline.{status_said};
 ghost use Rattle.run_documents.specs.declared.outcome.Outcome.{Outcome};
 ghost use Rattle.planner_app.specs.declared.reports.ReportKind.{ReportKind};
 ghost use Rattle.planner_app.specs.Advice.{AreAskedFor};
@@ -10,7 +11,6 @@ ghost use Rattle.planner_app.specs.Outcomes.{AskAbout, AskInVain, AskToCheck, As
 ghost use Rattle.planner_app.specs.Outcomes.{AskToTry, Grants, IsOutcome};
 ghost use Rattle.planner_app.specs.Statuses.{EndsCheck, EndsPlanning, EndsReport, EndsSimulation, EndsTrial};
 ghost use Rattle.planner_app.specs.Statuses.{CountsFailedReads, CountsFailedWrites, IsStatus, IsUndisturbed};
-ghost use Rattle.answer_check.specs.Headline.{status_said};
 ghost use Rattle.planner_app.specs.Statuses.{WroteOutcome, status_of, status_of_verdict, tells_unread};
 
 use crate::run::outcome_of;
