@@ -6,8 +6,6 @@ use Rattle.std.specs.Option.{option_eq}
 use Rattle.std.proofs.lemmas.Bool.{cases_Bool, false≢true, eqb-true, eq-eqb}
 use Rattle.std.proofs.lemmas.Option.{slice_get-get_or, unwrap_or-slice_get}
 use Rattle.timetable.specs.declared.day.records.Link.{Link}
-use Rattle.timetable.specs.declared.day.records.LinkKind.{LinkKind}
-use Rattle.timetable.specs.declared.day.records.LinkKind.TheVariants.{Turn, Join, Split}
 use Rattle.timetable.specs.Admissible.{is_admissible}
 use Rattle.timetable.specs.Chains.{leads_from, leads_to}
 use Rattle.timetable.specs.Compositions.{compositions_of, composition_at}
@@ -16,7 +14,9 @@ use Rattle.timetable.specs.Handovers.{second_of}
 use Rattle.timetable.specs.LinkRows.{NamesBelow}
 use Rattle.timetable.specs.Links.{itself, list_of, link_holds}
 use Rattle.timetable.specs.Picks.{ArePicks, picked}
+use Rattle.timetable.proofs.Leading.{from_below, to_below}
 use Rattle.timetable.proofs.Picking.{picked_on, pick_within}
+use Rattle.timetable.proofs.Within.{second_below}
 use Rattle.transitions.specs.declared.edge.Edge.{Edge}
 use Rattle.transitions.specs.declared.edge.Shunt.{Shunt}
 use Rattle.transitions.specs.declared.edge.Shunt.TheVariants.{Keep}
@@ -25,22 +25,6 @@ use Rattle.transitions.specs.Laws.{AreOn, MayRunAll}
 use Rattle.transitions.proofs.ByRule.{edges_by_rule}
 use Rattle.transitions.proofs.Following.{edges_found}
 use Rattle.unit_duties.specs.Broken.{pick_of, AreAdmissible}
-
--- the trips that a link names are there
-from_below : (n : ℕ) (kind : LinkKind) → NamesBelow n kind → leads_from kind < n
-from_below n (Turn a b uncouple couple exchange) h = h.0
-from_below n (Join a1 a2 b) h = h.0
-from_below n (Split a b1 b2) h = h.0
-
-to_below : (n : ℕ) (kind : LinkKind) → NamesBelow n kind → leads_to kind < n
-to_below n (Turn a b uncouple couple exchange) h = h.1
-to_below n (Join a1 a2 b) h = h.2
-to_below n (Split a b1 b2) h = h.1
-
-second_below : (n : ℕ) (kind : LinkKind) → NamesBelow n kind → (t : ℕ) → second_of kind ≡ Some t → t < n
-second_below n (Turn a b uncouple couple exchange) h t e = absurd (cc)
-second_below n (Join a1 a2 b) h t e = let same : a2 ≡ t = cc in subst (λ x. x < n) same h.1
-second_below n (Split a b1 b2) h t e = let same : b2 ≡ t = cc in subst (λ x. x < n) same h.2
 
 -- two picks are one, or not
 some_cases : (x y : ℕ) → IsTrue (eqb x y) ↔ (Some x ≡ Some y)
@@ -108,14 +92,14 @@ module _ (day : Day) (graphs : List (List Edge)) (picks : List ℕ) (are : AreGr
   are_on edge from to part = record {
     arriving = types_at (leads_from link.kind) (from_below (length day.trips) link.kind below) ∙ ap (composition_at day) (sym from);
     departing = types_at (leads_to link.kind) (to_below (length day.trips) link.kind below) ∙ ap (composition_at day) (sym to);
-    second = seconds (second_of link.kind) (second_below (length day.trips) link.kind below) ∙ ap (option_map (composition_at day)) (sym part);
+    second = seconds (second_of link.kind) (λ t is. second_below (length day.trips) link.kind t below is) ∙ ap (option_map (composition_at day)) (sym part);
   }
 
   may_run : MayRunAll day link (edge_with Keep)
   may_run = record {
     arriving = runs (leads_from link.kind) (from_below (length day.trips) link.kind below);
     departing = runs (leads_to link.kind) (to_below (length day.trips) link.kind below);
-    second = second_runs (second_of link.kind) (second_below (length day.trips) link.kind below);
+    second = second_runs (second_of link.kind) (λ t is. second_below (length day.trips) link.kind t below is);
   }
 
   -- where the rule holds, the edge is found, and its part is the second pick

@@ -10,7 +10,7 @@ ghost use Rattle.transitions.specs.Edges.{AreGraphs};
 ghost use Rattle.unit_duties.specs.Broken.{pick_of, AreAdmissible, EachHolds, IsFirstBroken};
 
 use rail_base::{CompNo, LinkNo};
-use timetable::{Instance, LinkKind, Picks};
+use timetable::{Instance, Link, Picks};
 use transitions::Graphs;
 
 /// The first link whose rule is broken by the types of the picked compositions.
@@ -39,21 +39,21 @@ fn holds(instance: &Instance, graphs: &Graphs, picks: &Picks, number: LinkNo) ->
     ensures { (link : Link) → slice_get instance.now.links number ≡ Some link →
         result ≡ link_holds itself link (picked instance.now picks.now) }
 {
-    let kind = &instance.link(number).kind;
-    let from = picks.get(kind.leads_from());
-    let to = picks.get(kind.leads_to());
+    let link = instance.link(number);
+    let from = picks.get(link.kind.leads_from());
+    let to = picks.get(link.kind.leads_to());
     match graphs.find(number, from, to) {
-        Some(edge) => edge.part == second_pick(picks, kind),
+        Some(edge) => edge.part == second_pick(picks, link),
         None => false,
     }
 }
 
 /// The composition that is picked for the second train of a join or a split; a turn has none.
-fn second_pick(picks: &Picks, kind: &LinkKind) -> Option<CompNo>
-    requires { NamesBelow (length picks.now) kind.now }
-    ensures { result ≡ option_map (pick_of picks.now) (second_of kind.now) }
+fn second_pick(picks: &Picks, link: &Link) -> Option<CompNo>
+    requires { NamesBelow (length picks.now) link.now.kind }
+    ensures { result ≡ option_map (pick_of picks.now) (second_of link.now.kind) }
 {
-    match kind.second() {
+    match link.kind.second() {
         Some(trip) => Some(picks.get(trip)),
         None => None,
     }

@@ -1,11 +1,10 @@
 //! What becomes of the units of a train at the links of its trip, and what it takes from the yard, read off the types
 //! of picks.
 
-ghost use Rattle.std.specs.Prelude.{ℕ, ◌≡◌, ◌<◌, ◌≤◌, ◌∷◌, length, take, drop, option_to_list, IfOk, IfSome};
+ghost use Rattle.std.specs.Prelude.{◌≡◌, ◌<◌, ◌≤◌, length, take, drop, IfOk};
 ghost use Rattle.inventory.specs.Places.{going_on, going_by, given_places, put_together, coming};
-ghost use Rattle.timetable.specs.Chains.{leads_from};
 ghost use Rattle.timetable.specs.LinkRows.{NamesBelow};
-ghost use Rattle.timetable.specs.Links.{list_of, arriving_in};
+ghost use Rattle.timetable.specs.Links.{list_of};
 ghost use Rattle.timetable.specs.Picks.{ArePicks, picked};
 ghost use Rattle.timetable.specs.Turns.{staying, beyond};
 ghost use Rattle.unit_duties.specs.Trains.{kept_at};
@@ -15,7 +14,7 @@ use rail_base::limits::MOST_COMPOSITION;
 use rail_base::{NoMemory, TripNo, TypeNo, UnitNo};
 use rail_csv::{End, UnitList};
 use std::alloc::Global;
-use timetable::{Instance, Link, LinkKind, Picks, beyond, copy_of, staying, turned};
+use timetable::{Instance, Link, Picks, beyond, copy_of, staying, turned};
 
 /// The types of the composition that is picked for a trip, front to rear.
 fn types_on<'a>(instance: &'a Instance, picks: &Picks, trip: TripNo) -> &'a [TypeNo]
@@ -89,30 +88,17 @@ fn going_by(
     ensures { result.items ≡ going_by link.now.kind link.now.reverse (picked instance.now picks.now) to units.now }
 {
     let units = turned(link.reverse, units);
-    match link.kind {
-        LinkKind::Turn {
-            departing,
-            uncouple,
-            ..
-        } => {
-            if to != departing {
-                return ArrayVec::new();
-            }
-            staying_of(
-                uncouple,
-                units.as_slice(),
-                kept_count(instance, picks, link),
-            )
-        }
-        LinkKind::Join { departing, .. } => {
-            if to != departing {
-                return ArrayVec::new();
-            }
-            units
-        }
-        LinkKind::Split { first, second, .. } => {
-            let in_front = types_on(instance, picks, first).len();
-            if to == first {
+    let trips = link.kind.departing();
+    match trips.second {
+        None if to == trips.first => staying_of(
+            link.kind.uncoupling_end(),
+            units.as_slice(),
+            kept_count(instance, picks, link),
+        ),
+        None => ArrayVec::new(),
+        Some(second) => {
+            let in_front = types_on(instance, picks, trips.first).len();
+            if to == trips.first {
                 front_of(units.as_slice(), in_front)
             } else if to == second {
                 behind(units.as_slice(), in_front)
@@ -157,25 +143,15 @@ fn coming(
     let Some(link) = instance.link_into(trip) else {
         return Ok(Vec::new(alloc));
     };
-    let first = link.kind.leads_from();
+    let trips = link.kind.arriving();
+    let first = trips.first;
     let going = going_on(instance, picks, first, trip, units_of(lists, first));
     let mut units = going.as_slice().to_vec(alloc)?;
-    if let Some(second) = second_arriving(&link.kind) {
+    if let Some(second) = trips.second {
         let going = going_on(instance, picks, second, trip, units_of(lists, second));
         units.extend_from_slice(going.as_slice())?;
     }
     Ok(units)
-}
-
-/// The second trip that arrives for a join.
-fn second_arriving(kind: &LinkKind) -> Option<TripNo>
-    ensures value { leads_from kind.now ∷ option_to_list result ≡ arriving_in kind.now }
-    ensures within { (trips : ℕ) → NamesBelow trips kind.now → IfSome result (λ trip. trip < trips) }
-{
-    match *kind {
-        LinkKind::Join { second, .. } => Some(second),
-        LinkKind::Turn { .. } | LinkKind::Split { .. } => None,
-    }
 }
 
 /// The units of a trip.
@@ -204,17 +180,9 @@ pub(crate) fn given_units(
     let Some(link) = instance.link_out(trip) else {
         return copy_of(units);
     };
-    match link.kind {
-        LinkKind::Turn { uncouple, .. } => {
-            let units = turned(link.reverse, units);
-            beyond_of(
-                uncouple,
-                units.as_slice(),
-                kept_count(instance, picks, &link),
-            )
-        }
-        LinkKind::Join { .. } | LinkKind::Split { .. } => ArrayVec::new(),
-    }
+    let units = turned(link.reverse, units);
+    let kept = kept_count(instance, picks, &link);
+    beyond_of(link.kind.uncoupling_end(), units.as_slice(), kept)
 }
 
 /// The units of a trip, front to rear: those that come with its trains, and those that are taken from the yard.
@@ -239,10 +207,7 @@ pub(crate) fn put_together(
         return Ok(fetched.to_vec(alloc)?);
     };
     let mut come = coming(alloc, instance, picks, lists, trip)?;
-    let LinkKind::Turn { couple, .. } = link.kind else {
-        return Ok(come);
-    };
-    match couple {
+    match link.kind.coupling_end() {
         End::None => Ok(come),
         End::Rear => {
             come.extend_from_slice(fetched)?;

@@ -12,10 +12,10 @@ pub returns-in-Some : goal.returns-in-Some
 returns-in-Some c = λ link at.
     let day = c.args.instance.now in
     let picks = c.args.picks.now in
-    let here = c.link.result.now in
-    let same = one c.link.result.now link (sym c.link.ensures.value ∙ at) in
+    let here = c.link-link.result.now in
+    let same = one c.link-link.result.now link (sym c.link-link.ensures.value ∙ at) in
     subst (λ l. c.eq.result ≡ link_holds itself l (picked c.args.instance.now c.args.picks.now)) same
-    (some_found day c.args.graphs.now picks c.requires.graphs c.requires.picks c.requires.admissible c.args.number here c.link.ensures.value c.link.ensures.within.trips
+    (some_found day c.args.graphs.now picks c.requires.graphs c.requires.picks c.requires.admissible c.args.number here c.link-link.ensures.value c.link-link.ensures.within.trips
     c.get-from.result c.get-to.result c.find.result
     (subst (λ t. slice_get c.args.picks.now t ≡ Some c.get-from.result) c.leads_from.ensures c.get-from.ensures)
     (subst (λ t. slice_get c.args.picks.now t ≡ Some c.get-to.result) c.leads_to.ensures c.get-to.ensures)
@@ -27,9 +27,9 @@ returns-in-Some c = λ link at.
 
 pub returns-in-None : goal.returns-in-None
 returns-in-None c = λ link at.
-    let same = one c.link.result.now link (sym c.link.ensures.value ∙ at) in
+    let same = one c.link-link.result.now link (sym c.link-link.ensures.value ∙ at) in
     subst (λ l. false ≡ link_holds itself l (picked c.args.instance.now c.args.picks.now)) same
-    (none_found c.args.instance.now c.args.graphs.now c.args.picks.now c.requires.graphs c.requires.picks c.requires.admissible c.args.number c.link.result.now c.link.ensures.value c.link.ensures.within.trips
+    (none_found c.args.instance.now c.args.graphs.now c.args.picks.now c.requires.graphs c.requires.picks c.requires.admissible c.args.number c.link-link.result.now c.link-link.ensures.value c.link-link.ensures.within.trips
     c.get-from.result c.get-to.result c.find.result
     (subst (λ t. slice_get c.args.picks.now t ≡ Some c.get-from.result) c.leads_from.ensures c.get-from.ensures)
     (subst (λ t. slice_get c.args.picks.now t ≡ Some c.get-to.result) c.leads_to.ensures c.get-to.ensures)
