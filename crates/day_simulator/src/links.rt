@@ -2,7 +2,7 @@
 
 ghost use Rattle.std.specs.Prelude.{◌≡◌, ◌<◌, length, IfSome};
 ghost use Rattle.std.specs.List.{list_all};
-ghost use Rattle.timetable.specs.Links.{arriving_in, trips_into};
+ghost use Rattle.timetable.specs.Links.{listed, trips_into};
 ghost use Rattle.timetable.specs.Running.{IsPlan};
 ghost use Rattle.day_simulator.specs.State.{stage_of, has_arrived};
 ghost use Rattle.day_simulator.specs.Steps.{is_tested_at, broken, broken_into, broken_out};
@@ -10,16 +10,16 @@ ghost use Rattle.day_simulator.specs.Steps.{is_tested_at, broken, broken_into, b
 use crate::balance::stage_of;
 use crate::events::Stage;
 use rail_base::{LinkNo, TripNo};
-use timetable::{Instance, LinkKind, NamedPlan};
+use timetable::{Instance, Link, LinkTrips, NamedPlan};
 
-/// Whether a link's rule is tested at departures, or else at arrivals: a join where its trip leaves, a turn and a split
-/// where their trip arrives.
-fn is_tested_at(departure: bool, kind: LinkKind) -> bool
-    ensures { result ≡ is_tested_at departure kind }
+/// Whether a link's rule is tested at departures, or else at arrivals: a join, for which two trips arrive, where its
+/// trip leaves, and a turn and a split where their trip arrives.
+fn is_tested_at(departure: bool, link: &Link) -> bool
+    ensures { result ≡ is_tested_at departure link.now.kind }
 {
-    match kind {
-        LinkKind::Join { .. } => departure,
-        LinkKind::Turn { .. } | LinkKind::Split { .. } => !departure,
+    match link.kind.arriving().second {
+        Some(_) => departure,
+        None => !departure,
     }
 }
 
@@ -36,7 +36,7 @@ fn broken(
 {
     let number = number?;
     let link = instance.link(number);
-    if is_tested_at(departure, link.kind) && !link.holds(instance, plan) {
+    if is_tested_at(departure, link) && !link.holds(instance, plan) {
         Some(number)
     } else {
         None
@@ -70,17 +70,16 @@ fn has_arrived(stages: &[Stage], trip: TripNo) -> bool
     matches!(stage_of(stages, trip), Stage::Arrived)
 }
 
-/// Whether all the arriving trips of a link have arrived.
-fn have_arrived(stages: &[Stage], kind: LinkKind) -> bool
-    ensures { result ≡ list_all (λ a. has_arrived (stage_of stages.now a)) (arriving_in kind) }
+/// Whether all these trips of a link have arrived.
+fn have_arrived(stages: &[Stage], trips: LinkTrips) -> bool
+    ensures { result ≡ list_all (λ a. has_arrived (stage_of stages.now a)) (listed trips) }
 {
-    match kind {
-        LinkKind::Turn { arriving, .. } | LinkKind::Split { arriving, .. } => {
-            has_arrived(stages, arriving)
-        }
-        LinkKind::Join { first, second, .. } => {
-            has_arrived(stages, first) && has_arrived(stages, second)
-        }
+    if !has_arrived(stages, trips.first) {
+        return false;
+    }
+    match trips.second {
+        Some(second) => has_arrived(stages, second),
+        None => true,
     }
 }
 
@@ -90,7 +89,7 @@ pub(crate) fn have_trips_into_arrived(instance: &Instance, stages: &[Stage], tri
     ensures { result ≡ list_all (λ a. has_arrived (stage_of stages.now a)) (trips_into instance.now trip) }
 {
     match instance.link_into(trip) {
-        Some(link) => have_arrived(stages, link.kind),
+        Some(link) => have_arrived(stages, link.kind.arriving()),
         None => true,
     }
 }
