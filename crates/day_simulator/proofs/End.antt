@@ -5,7 +5,7 @@ use Rattle.std.specs.Prelude.{if◌then◌else◌, ◌==◌, ◌&&◌, not}
 use Rattle.std.proofs.lemmas.Bool.{cases_eq, cases_lt, cond-true, cond-false, cases_Bool, eqb-true, eq-eqb}
 use Rattle.timetable.specs.Day.{Day, type_of, unit_count, wanted_of}
 use Rattle.timetable.specs.Lists.{count_of, below}
-use Rattle.timetable.specs.Duties.{last_place, last_place_of}
+use Rattle.timetable.specs.Duties.{last_place}
 use Rattle.timetable.specs.Running.{ending, ending_of}
 use Rattle.day_simulator.specs.declared.events.DayEvent.{DayEvent}
 use Rattle.day_simulator.specs.declared.events.DayEvent.TheVariants.{Depart, Arrive}
