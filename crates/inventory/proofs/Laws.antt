@@ -1,6 +1,5 @@
 -- The laws of naming.
 use Rattle.std.proofs.Common.{◌≡◌, ℕ, ◌<◌, List, [], ◌∷◌, length, Bool, false, refl, sym, ap, ◌∙◌, subst, arith}
-use Rattle.std.proofs.Common.{reverse}
 use Rattle.std.specs.Prelude.{filter, nat_lt}
 use Rattle.std.proofs.lemmas.Bool.{cond-false, le-ltb}
 use Rattle.timetable.specs.Day.{Day, leaves, home_of, unit_count}
@@ -26,7 +25,7 @@ given_is_duty day types minute plan u =
     (filter_in_order day (λ t. has u (list_of plan t)) (below (length day.trips))
     ∙ ap (filter (λ t. has u (list_of plan t))) (sym (reverse_twice (in_order day (below (length day.trips))))))
 
-all_led : (day : Day) (types : List (List ℕ)) (minute : ℕ) (plan : List (List ℕ)) → IsNamedBefore day types minute plan → (u : ℕ) → u < unit_count day → AreLed day types minute plan u (latest_first day)
+pub all_led : (day : Day) (types : List (List ℕ)) (minute : ℕ) (plan : List (List ℕ)) → IsNamedBefore day types minute plan → (u : ℕ) → u < unit_count day → AreLed day types minute plan u (latest_first day)
 all_led day types minute plan named u lt = record {
   begins = subst (BeginsAt day (home_of day u)) (given_is_duty day types minute plan u) (named.homes u lt);
   follows = subst (EachFollows (MayFollowByPlaces day types plan u)) (given_is_duty day types minute plan u) (named.follows u lt);
@@ -56,16 +55,6 @@ none_before day types =
       links = λ t lt early. absurd (omega arith);
       homes = λ u lt. subst (BeginsAt day (home_of day u)) (sym (none u)) tt;
       follows = λ u lt. subst (EachFollows (MayFollowByPlaces day types [] u)) (sym (none u)) tt;
-    }
-
--- no trip of a unit is named before minute 0
-pub all_led_since : (day : Day) (types : List (List ℕ)) (done : List ℕ) (u : ℕ) → u < unit_count day → AreLed day types 0 [] u done
-unfolding given_trips
-all_led_since day types done u lt =
-    let none : given_trips day types 0 [] u done ≡ [] = filter_none (λ t. nat_lt (leaves day t) 0) (filter (λ t. has u (list_of [] t)) (reverse done)) (λ t. le-ltb (leaves day t) 0 (omega arith)) in
-    record {
-      begins = subst (BeginsAt day (home_of day u)) (sym none) tt;
-      follows = subst (EachFollows (MayFollowByPlaces day types [] u)) (sym none) tt;
     }
 
 pub served_plans_run : ServedPlansRun

@@ -11,3 +11,4 @@ pub mod Refusing
 pub mod DutyOrder
 pub mod Taking
 pub mod Kept
+pub mod Leaving

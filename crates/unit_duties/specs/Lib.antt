@@ -3,6 +3,7 @@ pub mod AddedStops
 pub mod Trains
 pub mod Yards
 pub mod FetchedUnits
+pub mod Naming
 pub mod Broken
 pub mod Refusals
 pub mod DutyLaws

@@ -70,3 +70,7 @@ pub record ArePutIn (day : Day) (s ready : ℕ) (us : List ℕ) (yards after : B
   pub each : (w : Waiting) → Contains after.keys w
       ↔ (((1 ≤ count_of w.unit us) × (w.station ≡ s) × (w.unit_type ≡ type_of day w.unit) × (w.ready ≡ ready))
       ⊎ Contains yards.keys w)
+
+-- these units no longer wait, and the others wait as before
+pub record AreLeft (us : List ℕ) (yards after : BTreeSet Waiting) : Type 0 where
+  pub each : (w : Waiting) → Contains after.keys w ↔ (Contains yards.keys w × (count_of w.unit us ≡ 0))

@@ -13,6 +13,6 @@ mod trains;
 mod yards;
 
 pub use by_unit::duties;
-pub use plans::name_units;
+pub use plans::{name_units, name_units_from};
 pub use refusal::DutyRefusal;
 pub use stops::{Duties, Stop};

@@ -1,13 +1,13 @@
 //! The naming of units: which units run on which trip, where a composition is picked for each.
 
 ghost use Rattle.std.specs.Prelude.{ℕ, ◌≡◌, ◌<◌, ◌≤◌, [], Option, length, replicate, IfOk, OnOk};
-ghost use Rattle.inventory.specs.Counts.{AreServed};
-ghost use Rattle.timetable.specs.Accepted.{AreLinks};
-ghost use Rattle.timetable.specs.Day.{to_of, ready_at};
+ghost use Rattle.timetable.specs.Day.{leaves, to_of, ready_at};
+ghost use Rattle.timetable.specs.Links.{list_of};
 ghost use Rattle.timetable.specs.Running.{AreUnits};
 ghost use Rattle.unit_duties.specs.Trains.{given_units};
-ghost use Rattle.unit_duties.specs.Yards.{ArePutIn};
-ghost use Rattle.inventory.specs.NamedUnits.{InYard, named_plan};
+ghost use Rattle.unit_duties.specs.Naming.{CanBeNamed, IsNext, IsFetched};
+ghost use Rattle.unit_duties.specs.Yards.{ArePutIn, AreLeft};
+ghost use Rattle.inventory.specs.NamedUnits.{InYard, named_from};
 ghost use Rattle.timetable.specs.Picks.{ArePicks, picked};
 ghost use Rattle.unit_duties.specs.FetchedUnits.{CanFetch, HasFetched};
 
@@ -22,29 +22,100 @@ use std::alloc::Global;
 use std::collections::BTreeSet;
 use timetable::{Instance, NamedPlan, Picks};
 
-/// The plan of units that are named by the rule. Trips are named by departure minute and then by trip number. Units
-/// that stay in a train keep their places; each other place, front to rear, gets the unit of its type that was ready
-/// earliest in the yard of the station, and of those the one with the smallest number.
-pub(crate) fn named_plan(
-    alloc: Global,
-    instance: &Instance,
-    picks: &Picks,
-) -> Result<NamedPlan, NoMemory>
-    requires links { AreLinks instance.now }
-    requires picks { ArePicks instance.now picks.now }
-    requires served { AreServed instance.now (picked instance.now picks.now) }
-    ensures { IfOk result (λ plan. plan ≡ named_plan instance.now (picked instance.now picks.now)) }
+/// What a naming is made of: the day, the compositions that are picked, and a plan whose trips that leave before a minute
+/// keep their units.
+#[derive(Clone, Copy)]
+pub(crate) struct Naming<'a> {
+    pub(crate) instance: &'a Instance,
+    pub(crate) picks: &'a Picks,
+    pub(crate) minute: u32,
+    pub(crate) earlier: &'a NamedPlan,
+}
+
+/// The plan in which the trips that leave before the minute keep their units, and the others are named by the rule. Trips
+/// are named by departure minute and then by trip number. Units that stay in a train keep their places; each other place,
+/// front to rear, gets the unit of its type that was ready earliest in the yard of the station, and of those the one with
+/// the smallest number.
+pub(crate) fn named_from(alloc: Global, naming: Naming<'_>) -> Result<NamedPlan, NoMemory>
+    requires can { CanBeNamed naming.instance.now naming.picks.now naming.minute naming.earlier.now }
+    ensures { IfOk result (λ plan. plan
+        ≡ named_from naming.entry.instance.now (picked naming.entry.instance.now naming.entry.picks.now)
+        naming.entry.minute naming.entry.earlier.now) }
 {
+    let instance = naming.instance;
+    instance.is_sound();
     let order = trips_in_order(alloc, instance)?;
     let mut yards = units_at_home(alloc, instance)?;
     let mut lists = empty_lists(alloc, instance.trips())?;
     for trip in &order {
-        let fetched = fetch(instance, picks, &mut yards, *trip);
-        let units = put_together(alloc, instance, picks, &lists, *trip, fetched.as_slice())?;
-        give(instance, picks, &mut yards, *trip, &units)?;
+        let units = next_units(alloc, naming, &mut yards, &lists, *trip)?;
+        give(instance, naming.picks, &mut yards, *trip, &units)?;
         lists[trip.place()] = UnitList::of(units);
     }
     Ok(NamedPlan::of(lists))
+}
+
+/// The units of the trip that is next in order, which wait in no yard then: those of the plan where it leaves before the
+/// minute, and else those that the rule names.
+fn next_units(
+    alloc: Global,
+    naming: Naming<'_>,
+    yards: &mut BTreeSet<Waiting>,
+    lists: &[UnitList],
+    trip: TripNo,
+) -> Result<Vec<UnitNo>, NoMemory>
+    requires picks { ArePicks naming.instance.now naming.picks.now }
+    requires lists { length lists.now ≡ length naming.instance.now.trips }
+    requires trip { trip < length naming.instance.now.trips }
+    requires known { leaves naming.instance.now trip < naming.minute → trip < length naming.earlier.now }
+    ensures { IfOk result (λ units. IsNext naming.entry.instance.now naming.entry.picks.now naming.entry.minute
+        naming.entry.earlier.now lists.now trip yards.old yards.new units.items) }
+{
+    if departure(naming.instance, trip) < naming.minute {
+        return keep(alloc, naming.earlier, yards, trip);
+    }
+    fetch_all(alloc, naming, yards, lists, trip)
+}
+
+/// The units that a trip has in a plan; they wait in no yard then.
+fn keep(
+    alloc: Global,
+    plan: &NamedPlan,
+    yards: &mut BTreeSet<Waiting>,
+    trip: TripNo,
+) -> Result<Vec<UnitNo>, NoMemory>
+    requires { trip < length plan.now }
+    ensures units { IfOk result (λ units. units.items ≡ list_of plan.now trip) }
+    ensures left { IfOk result (λ units. AreLeft units.items yards.old yards.new) }
+{
+    let units = plan.units(trip);
+    yards.retain(|waiting| !units.contains(&waiting.unit));
+    Ok(units.to_vec(alloc)?)
+}
+
+/// The units of a trip, front to rear: those that come with its trains, and those that it takes from the yard.
+fn fetch_all(
+    alloc: Global,
+    naming: Naming<'_>,
+    yards: &mut BTreeSet<Waiting>,
+    lists: &[UnitList],
+    trip: TripNo,
+) -> Result<Vec<UnitNo>, NoMemory>
+    requires picks { ArePicks naming.instance.now naming.picks.now }
+    requires lists { length lists.now ≡ length naming.instance.now.trips }
+    requires trip { trip < length naming.instance.now.trips }
+    ensures { IfOk result (λ units. IsFetched naming.entry.instance.now naming.entry.picks.now lists.now trip
+        yards.old yards.new units.items) }
+{
+    let fetched = fetch(naming.instance, naming.picks, yards, trip);
+    put_together(
+        alloc,
+        naming.instance,
+        naming.picks,
+        lists,
+        trip,
+        fetched.as_slice(),
+    )
 }
 
 /// For each trip a list of no units.

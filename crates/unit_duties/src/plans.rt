@@ -1,18 +1,19 @@
 //! Plans of named units, for compositions that are picked.
 
 ghost use Rattle.std.specs.Prelude.{◌≡◌, IfOk, IfErr};
-ghost use Rattle.inventory.specs.NamedUnits.{named_plan};
-ghost use Rattle.inventory.specs.NamingLaws.{RunsWith};
+ghost use Rattle.inventory.specs.NamedUnits.{named_plan, named_from};
+ghost use Rattle.inventory.specs.NamingLaws.{RunsWith, RunsOn};
 ghost use Rattle.timetable.specs.Picks.{ArePicks, picked};
 ghost use Rattle.transitions.specs.Edges.{AreGraphs};
 ghost use Rattle.unit_duties.specs.Broken.{AreAdmissible};
+ghost use Rattle.unit_duties.specs.Naming.{CanBeNamed};
 ghost use Rattle.unit_duties.specs.Refusals.{IsRefusal, HaveNoPlan};
 
 use crate::broken::first_broken;
-use crate::naming::named_plan;
+use crate::naming::{Naming, named_from};
 use crate::refusal::DutyRefusal;
 use inventory::Ledger;
-use rail_base::limits::{MOST_LINKS, MOST_TRIPS, MOST_UNITS};
+use rail_base::{Minute, NoMemory};
 use std::alloc::Global;
 use timetable::{Instance, NamedPlan, Picks};
 use transitions::Graphs;
@@ -39,10 +40,7 @@ pub fn name_units(
     ensures refusal { IfErr result (IsRefusal instance.now picks.now) }
     ensures none { IfErr result (HaveNoPlan instance.now picks.now) }
 {
-    // What these three calls ensure of trips, links and units is what the laws of naming ask of the day.
-    prove!(instance.trips() as usize <= MOST_TRIPS);
-    prove!(instance.links() as usize <= MOST_LINKS);
-    prove!(instance.units() <= MOST_UNITS);
+    instance.is_sound();
     if let Some(link) = first_broken(instance, graphs, picks) {
         return Err(DutyRefusal::LinkBroken(link));
     }
@@ -51,5 +49,39 @@ pub fn name_units(
     if let Some(fault) = ledger.first_fault() {
         return Err(DutyRefusal::Stock(fault));
     }
-    Ok(named_plan(alloc, instance, picks)?)
+    let none = NamedPlan::of(Vec::new(alloc));
+    let naming = Naming {
+        instance,
+        picks,
+        minute: 0,
+        earlier: &none,
+    };
+    Ok(named_from(alloc, naming)?)
+}
+
+/// The plan of named units whose trips have the picked compositions, in which the trips that leave before a minute keep the
+/// units of an earlier plan, and the others are named by the rule of `name_units`, over the units that stand ready in the
+/// yards then. The yards serve the compositions, as they do exactly where the picks are those of some plan that runs; the
+/// earlier plan has a list for each trip; and in it the trips that leave before the minute are named with these
+/// compositions as the rules of links and duties ask it of them. The error is want of memory.
+pub fn name_units_from(
+    alloc: Global,
+    instance: &Instance,
+    picks: &Picks,
+    minute: Minute,
+    earlier: &NamedPlan,
+) -> Result<NamedPlan, NoMemory>
+    requires can { CanBeNamed instance.now picks.now minute earlier.now }
+    ensures plan { IfOk result (λ plan. plan
+        ≡ named_from instance.now (picked instance.now picks.now) minute earlier.now) }
+    ensures runs { IfOk result (RunsOn instance.now (picked instance.now picks.now) minute earlier.now) }
+{
+    instance.is_sound();
+    let naming = Naming {
+        instance,
+        picks,
+        minute: minute.minutes(),
+        earlier,
+    };
+    named_from(alloc, naming)
 }
