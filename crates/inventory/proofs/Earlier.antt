@@ -26,20 +26,20 @@ module _ (day : Day) (minute : ℕ) where
       ∙ none_early ts (λ b c. late b (omega arith))
 
   -- after a trip that leaves later, all do
-  all_late : (t : ℕ) (ts : List ℕ) → InLine day (t ∷ ts) → nat_lt (leaves day t) minute ≡ false → filter (λ t. nat_lt (leaves day t) minute) (t ∷ ts) ≡ []
+  pub all_late : (t : ℕ) (ts : List ℕ) → InLine day (t ∷ ts) → nat_lt (leaves day t) minute ≡ false → filter (λ t. nat_lt (leaves day t) minute) (t ∷ ts) ≡ []
   all_late t ts line late =
       let le = ltb-false (leaves day t) minute late in
       cond-false (nat_lt (leaves day t) minute) (t ∷ filter (λ t. nat_lt (leaves day t) minute) ts) (filter (λ t. nat_lt (leaves day t) minute) ts) late
       ∙ none_early ts (λ b c. let later = leaves_least day b t (line.0 b c) in omega arith)
 
-  early_begins : (home : ℕ) (ts : List ℕ) → InLine day ts → BeginsAt day home ts → BeginsAt day home (filter (λ t. nat_lt (leaves day t) minute) ts)
+  pub early_begins : (home : ℕ) (ts : List ℕ) → InLine day ts → BeginsAt day home ts → BeginsAt day home (filter (λ t. nat_lt (leaves day t) minute) ts)
   early_begins home [] line h = tt
   early_begins home (t ∷ ts) line h = elim (cases_Bool (nat_lt (leaves day t) minute)) [
     | inl is_early ↦ subst (BeginsAt day home) (sym (cond-true (nat_lt (leaves day t) minute) (t ∷ filter (λ t. nat_lt (leaves day t) minute) ts) (filter (λ t. nat_lt (leaves day t) minute) ts) is_early)) h
     | inr late ↦ subst (BeginsAt day home) (sym (all_late t ts line late)) tt
   ]
 
-  early_follows : (R : ℕ → ℕ → Type 0) (ts : List ℕ) → InLine day ts → EachFollows R ts → EachFollows R (filter (λ t. nat_lt (leaves day t) minute) ts)
+  pub early_follows : (R : ℕ → ℕ → Type 0) (ts : List ℕ) → InLine day ts → EachFollows R ts → EachFollows R (filter (λ t. nat_lt (leaves day t) minute) ts)
   early_follows R [] line h = tt
   early_follows R (t ∷ []) line h = elim (cases_Bool (nat_lt (leaves day t) minute)) [
     | inl is_early ↦ subst (EachFollows R) (sym (cond-true (nat_lt (leaves day t) minute) (t ∷ []) [] is_early)) tt

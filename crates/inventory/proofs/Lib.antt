@@ -19,6 +19,8 @@ pub mod OtherUnits
 pub mod OneMore
 pub mod Solutions
 pub mod Earlier
+pub mod Frozen
+pub mod ReadyUnits
 pub mod PlaceOf
 pub mod Tables
 pub mod Filled

@@ -110,7 +110,7 @@ flat_once u f (x ∷ xs) once apart distinct =
       | inr none ↦ omega arith
     ]
 
-flat_same : (f g : ℕ → List ℕ) (xs : List ℕ) → ((a : ℕ) → 1 ≤ count_of a xs → f a ≡ g a) → flat_map f xs ≡ flat_map g xs
+pub flat_same : (f g : ℕ → List ℕ) (xs : List ℕ) → ((a : ℕ) → 1 ≤ count_of a xs → f a ≡ g a) → flat_map f xs ≡ flat_map g xs
 flat_same f g [] h = refl
 flat_same f g (x ∷ xs) h =
     let o = one_same x x refl in

@@ -24,7 +24,7 @@ use Rattle.inventory.proofs.Yards.{list_sum, list_sum_below, cond_zero}
 
 -- ---- lists of trips
 
-filter_in : (p : ℕ → Bool) (x : ℕ) (ys : List ℕ) → p x ≡ true → count_of x (filter p ys) ≡ count_of x ys
+pub filter_in : (p : ℕ → Bool) (x : ℕ) (ys : List ℕ) → p x ≡ true → count_of x (filter p ys) ≡ count_of x ys
 filter_in p x [] is = refl
 filter_in p x (y ∷ ys) is = let rest = filter_in p x ys is in elim (cases_Bool (p y)) [
   | inl passes ↦ let e : count_of x (filter p (y ∷ ys)) ≡ one y x + count_of x (filter p ys) = ap (count_of x) (cond-true (p y) (y ∷ filter p ys) (filter p ys) passes) in omega arith
@@ -34,7 +34,7 @@ filter_in p x (y ∷ ys) is = let rest = filter_in p x ys is in elim (cases_Bool
       omega arith
 ]
 
-filter_out : (p : ℕ → Bool) (x : ℕ) (ys : List ℕ) → p x ≡ false → count_of x (filter p ys) ≡ 0
+pub filter_out : (p : ℕ → Bool) (x : ℕ) (ys : List ℕ) → p x ≡ false → count_of x (filter p ys) ≡ 0
 filter_out p x [] isnt = refl
 filter_out p x (y ∷ ys) isnt = let rest = filter_out p x ys isnt in elim (cases_Bool (p y)) [
   | inl passes ↦
@@ -45,11 +45,11 @@ filter_out p x (y ∷ ys) isnt = let rest = filter_out p x ys isnt in elim (case
 ]
 
 -- the last of trips that are not none
-abbrev last_of : ℕ → List ℕ → ℕ
+abbrev pub last_of : ℕ → List ℕ → ℕ
 last_of a [] = a
 last_of a (b ∷ ts) = last_of b ts
 
-last_there : (a : ℕ) (ts : List ℕ) → 1 ≤ count_of (last_of a ts) (a ∷ ts)
+pub last_there : (a : ℕ) (ts : List ℕ) → 1 ≤ count_of (last_of a ts) (a ∷ ts)
 last_there a [] = let o = one_same a a refl in omega arith
 last_there a (b ∷ ts) = let rest = last_there b ts in omega arith
 
@@ -122,7 +122,7 @@ module _ (day : Day) (plan : List (List ℕ)) (is_day : IsDay day) (links : AreL
       omega arith
 
   -- a unit that stays in the train from one trip to another is not given by the one, nor taken by the other
-  stays : (a b u : ℕ) → 1 ≤ count_of u (kept day plan a b) → (count_of u (given day plan a) ≡ 0) × (count_of u (taken day plan b) ≡ 0)
+  pub stays : (a b u : ℕ) → 1 ≤ count_of u (kept day plan a b) → (count_of u (given day plan a) ≡ 0) × (count_of u (taken day plan b) ≡ 0)
   stays a b u c =
       let k = ap (count_of u) (kept_is day types links (type_of day) plan types_are holds a b) in
       let none = not_given day types (list_of plan) links is_day a b u (list_of plan a) (once a u) (omega arith) in
@@ -217,7 +217,7 @@ module _ (day : Day) (plan : List (List ℕ)) (is_day : IsDay day) (links : AreL
       ])
       follows
 
-  here_step : (s u a b : ℕ) → MayFollow day plan u a b → takes_here s u b ≡ gives_here s u a
+  pub here_step : (s u a b : ℕ) → MayFollow day plan u a b → takes_here s u b ≡ gives_here s u a
   here_step s u a b follows = ⊎_elim
       (λ (in_train : IsTrue (has u (kept day plan a b))).
       let none = stays a b u (leb-true 1 (count_of u (kept day plan a b)) in_train) in
@@ -238,7 +238,7 @@ module _ (day : Day) (plan : List (List ℕ)) (is_day : IsDay day) (links : AreL
   -- ---- the first and the last trip
 
   -- a unit comes to no trip that it first runs on in a train
-  first_takes : (u b : ℕ) (ts : List ℕ) → duty day plan u ≡ b ∷ ts → count_of u (taken day plan b) ≡ 1
+  pub first_takes : (u b : ℕ) (ts : List ℕ) → duty day plan u ≡ b ∷ ts → count_of u (taken day plan b) ≡ 1
   first_takes u b ts is =
       let line : InLine day (b ∷ ts) = subst (InLine day) is (duty_in_line day plan u) in
       let there = one_same b b refl in
@@ -342,7 +342,7 @@ module _ (day : Day) (plan : List (List ℕ)) (is_day : IsDay day) (links : AreL
   -- ---- all trips
 
   -- what is nothing on trips that do not have the unit, is of its duty alone
-  of_duty : (u : ℕ) (f : ℕ → ℕ) → ((t : ℕ) → t < length day.trips → count_of u (list_of plan t) ≡ 0 → f t ≡ 0) → list_sum f (duty day plan u) ≡ sum_below f (length day.trips)
+  pub of_duty : (u : ℕ) (f : ℕ → ℕ) → ((t : ℕ) → t < length day.trips → count_of u (list_of plan t) ≡ 0 → f t ≡ 0) → list_sum f (duty day plan u) ≡ sum_below f (length day.trips)
   of_duty u f none =
       list_sum_below f (length day.trips) (duty day plan u) (duty_within u) (duty_once u)
       ∙ sum_same (λ t. if has t (duty day plan u) then f t else 0) f (length day.trips)

@@ -57,14 +57,14 @@ module _ (day : Day) (plan : List (List ℕ)) (is_day : IsDay day) (links : AreL
   abbrev gives : (ℕ → Bool) → ℕ → ℕ
   gives passes m = sum_below (λ t. if passes t then count_of m (given_with itself day types t) else 0) (length day.trips)
 
-  takes_by_units : (passes : ℕ → Bool) (m : ℕ)
+  pub takes_by_units : (passes : ℕ → Bool) (m : ℕ)
       → takes passes m ≡ sum_below (λ u. if type_of day u == m then sum_below (λ t. if passes t then count_of u (taken day plan t) else 0) (length day.trips) else 0) (unit_count day)
   takes_by_units passes m =
       sum_same (λ t. if passes t then count_of m (taken_with itself day types t) else 0) (λ t. if passes t then count_of m (types_of day (taken day plan t)) else 0) (length day.trips)
       (λ t lt. ap (λ (us : List ℕ). cond {A = ℕ} (passes t) (count_of m us) 0) (taken-map (type_of day) day plan runs.links t))
       ∙ by_units (type_of day) m (unit_count day) passes (λ t. taken day plan t) (length day.trips) (λ t u c. known t u (let less = taken_less day plan is_day links runs t u in omega arith))
 
-  gives_by_units : (passes : ℕ → Bool) (m : ℕ)
+  pub gives_by_units : (passes : ℕ → Bool) (m : ℕ)
       → gives passes m ≡ sum_below (λ u. if type_of day u == m then sum_below (λ t. if passes t then count_of u (given day plan t) else 0) (length day.trips) else 0) (unit_count day)
   gives_by_units passes m =
       sum_same (λ t. if passes t then count_of m (given_with itself day types t) else 0) (λ t. if passes t then count_of m (types_of day (given day plan t)) else 0) (length day.trips)

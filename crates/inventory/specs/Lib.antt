@@ -12,5 +12,6 @@ pub mod Places
 pub mod NamedUnits
 pub mod NamedBefore
 pub mod NamingLaws
+pub mod ReadyUnits
 -- which picks are solutions
 pub mod SolutionLaws

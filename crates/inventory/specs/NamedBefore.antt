@@ -1,8 +1,8 @@
 -- What is asked of the trips that are named already, where the others are to be named from a minute on.
 use Rattle.std.specs.Prelude.{ℕ, ◌≡◌, ◌<◌, ◌≤◌, ◌⊎◌, List, IsTrue, filter, length, nat_lt}
-use Rattle.timetable.specs.Day.{Day, leaves, from_of, to_of, home_of, types_of, unit_count, ready_at}
+use Rattle.timetable.specs.Day.{Day, leaves, arrives, from_of, to_of, home_of, types_of, unit_count, ready_at}
 use Rattle.timetable.specs.Duties.{duty}
-use Rattle.timetable.specs.Links.{list_of}
+use Rattle.timetable.specs.Links.{list_of, trips_into}
 use Rattle.timetable.specs.Lists.{has, IsDistinct}
 use Rattle.timetable.specs.Running.{AreUnits, BeginsAt, EachFollows}
 use Rattle.inventory.specs.Places.{going_on, given_places, kept_places, taken_places, coming}
@@ -28,6 +28,11 @@ MayFollowByPlaces day types plan u a b =
 -- the trips of a unit's duty that leave before a minute
 abbrev pub duty_before : Day → List (List ℕ) → ℕ → ℕ → List ℕ
 duty_before day plan minute u = filter (λ t. nat_lt (leaves day t) minute) (duty day plan u)
+
+-- a trip is frozen at a minute: it leaves before it, or a link leads to it from a trip that arrives before it
+abbrev pub IsFrozen : Day → ℕ → ℕ → Type 0
+IsFrozen day minute t =
+    (leaves day t < minute) ⊎ ((a : ℕ) × IsTrue (has a (trips_into day t)) × (arrives day a < minute))
 
 -- The trips that leave before the minute are named with these types, as the rules of links and duties ask it of them.
 pub record IsNamedBefore (day : Day) (types : List (List ℕ)) (minute : ℕ) (plan : List (List ℕ)) : Type 0 where

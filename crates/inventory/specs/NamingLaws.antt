@@ -7,7 +7,7 @@ use Rattle.timetable.specs.Lists.{count_of}
 use Rattle.timetable.specs.Renumbering.{renumbered, kth_number}
 use Rattle.timetable.specs.Running.{RunsOf, Runs}
 use Rattle.inventory.specs.Counts.{AreServed}
-use Rattle.inventory.specs.NamedBefore.{IsNamedBefore}
+use Rattle.inventory.specs.NamedBefore.{IsNamedBefore, IsFrozen}
 use Rattle.inventory.specs.NamedUnits.{InYard, may_be_taken, ready_since, next_unit, named_from, named_plan}
 use Rattle.inventory.specs.ServingLaws.{StandAtStart}
 
@@ -47,6 +47,19 @@ ServedPlansRunWithUnits = (units : Units) (day : Day) (types : List (List ℕ))
 abbrev pub RunningPlansAreNamed : Type 0
 RunningPlansAreNamed = (day : Day) (plan : List (List ℕ)) (minute : ℕ) → AreLinks day → Runs day plan
     → IsNamedBefore day (map (types_of day) plan) minute plan
+
+-- what is named before a minute with some types is named so with others that are the same on each frozen trip
+abbrev pub NamesStay : Type 0
+NamesStay = (day : Day) (some types : List (List ℕ)) (minute : ℕ) (plan : List (List ℕ)) → IsDay day → AreLinks day
+    → ((t : ℕ) → t < length day.trips → IsFrozen day minute t → list_of types t ≡ list_of some t)
+    → IsNamedBefore day some minute plan → IsNamedBefore day types minute plan
+
+-- so the trips of a plan that runs which leave before a minute are named with types that are the plan's on each frozen
+-- trip
+abbrev pub PlansNameTheirPast : Type 0
+PlansNameTheirPast = (day : Day) (plan types : List (List ℕ)) (minute : ℕ) → IsDay day → AreLinks day
+    → ((t : ℕ) → t < length day.trips → IsFrozen day minute t → list_of types t ≡ types_of day (list_of plan t))
+    → Runs day plan → IsNamedBefore day types minute plan
 
 -- a unit of a type that may be taken at a station at a minute, where some were taken already
 pub record IsAvailable (day : Day) (stands : ℕ → Option InYard) (s minute : ℕ) (chosen : List ℕ) (m u : ℕ)

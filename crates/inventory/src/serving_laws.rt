@@ -2,6 +2,7 @@
 //!
 //! Each law is the contract of a function that does nothing.
 
+ghost use Rattle.inventory.specs.ReadyUnits.{YardsHoldReadyUnits};
 ghost use Rattle.inventory.specs.ServingLaws.{PlansAreServed, PlansOfUnitsAreServed, DeparturesAreEnough};
 
 /// A plan that runs is served by the yards: its compositions may run on their trips, the rule of each link holds over
@@ -21,4 +22,11 @@ pub fn plans_of_units_are_served()
 /// minute.
 pub fn departures_are_enough()
     ensures law { DeparturesAreEnough }
+{}
+
+/// How many units of a type a yard holds in a plan that runs, once the trips that leave at a minute have left, is the number
+/// of its units that stand there ready: that were given there by the last of their trips and are ready by then, or have not
+/// left their home there.
+pub fn yards_hold_ready_units()
+    ensures law { YardsHoldReadyUnits }
 {}
