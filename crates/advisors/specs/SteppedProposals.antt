@@ -23,8 +23,9 @@ abbrev pub stepped : Look → ℕ → ℤ
 stepped look index = if is_entered look.slacks.now index then moved_at look index (value_at look.slacks.now index)
     else value_at look.multipliers.now index
 
--- a proposal as it is when the turn of an index comes, since multipliers are put by rising index: below the index what
--- is proposed, and from it on what stood there before
+-- A proposal as it is when the turn of an index comes, since multipliers are put by rising index: below the index what
+-- is proposed, and from it on what stood there before. Of the proposal after the step it reads the part below the index
+-- alone, so that each value is fixed by those before it.
 abbrev pub at_turn : Proposed → Proposed → ℕ → Proposed
 at_turn before after index =
     record before { multipliers = below index after.multipliers ++ from_on index before.multipliers }

@@ -54,8 +54,12 @@ impl Advisor for Subgradient {
     /// proposes nothing and answers `Enough`. It was asked fewer than 2^64 - 1 times, and takes no memory.
     fn advise(&mut self, look: &Look<'_>, to: &mut Proposal) -> Result<Word, NoMemory>
         requires room { self.old + 1 < 2 ^ 64 }
+
+        // The count of calls, and the word.
         ensures asked { self.new ≡ self.old + 1 }
         ensures answer { result ≡ Ok (word_for look.now.slacks.now) }
+
+        // What is proposed.
         ensures nothing { look.now.slacks.now ≡ [] → to.new ≡ to.old }
         ensures stepped { look.now.slacks.now ≢ [] → IsStepped look.now to.old to.new }
         ensures over { IsOverSame to.old to.new }

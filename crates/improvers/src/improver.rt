@@ -7,9 +7,6 @@ use rail_base::{Money, NoMemory};
 use std::alloc::Global;
 use timetable::Picks;
 
-/// How often an improver is asked about one node at most.
-pub const MOST_ATTEMPTS: u32 = 10_000;
-
 /// The best solution that is known, of the whole problem.
 #[derive(Drop)]
 pub struct Incumbent<'a> {
@@ -79,12 +76,11 @@ impl Improvement {
     }
 }
 
-/// Proposes multipliers, picks and a cut for the open nodes of a search, in whatever way. No answer of it can make what
-/// the search says false: the search evaluates the node under the multipliers itself, where they fit; it settles picks
-/// that lie in its root and follow, and passes over all others; and it branches by the cut only where it is proper.
+/// Proposes multipliers, picks and a cut for an open node of a search, in whatever way. Nothing is promised of them:
+/// whoever asks has to test that the multipliers fit, that picks are a solution and that the cut is proper.
 pub trait Improver {
     /// Asks for an improvement of a node, which is put into `to`, where nothing is proposed yet. The answer is whether
-    /// it may be asked again about this node, after what it proposed was used. The error is want of memory.
+    /// it wants to be asked again about this node. The error is want of memory.
     fn improve(&mut self, seen: &Seen<'_>, to: &mut Improvement) -> Result<bool, NoMemory>;
 }
 

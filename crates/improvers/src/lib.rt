@@ -1,7 +1,7 @@
-//! Improvers: what is asked, at each open node of a search, for multipliers, picks and a cut. Nothing is asked of an
-//! improver itself: a search tests all that it proposes.
+//! Improvers: what may be asked about an open node of a search for multipliers, picks and a cut. Nothing is asked of an
+//! improver itself, so what it proposes is to be tested. No search asks one yet.
 #![tactic(auto)]
 
 pub mod improver;
 
-pub use improver::{Improvement, Improver, Incumbent, MOST_ATTEMPTS, NoImprover, Seen};
+pub use improver::{Improvement, Improver, Incumbent, NoImprover, Seen};
