@@ -1,4 +1,5 @@
 pub mod Refusing
+pub mod OneFile
 pub mod Accepted
 pub mod Reached
 pub mod FirstRefused

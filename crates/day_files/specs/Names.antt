@@ -1,7 +1,8 @@
 -- The names of files.
-use Rattle.std.specs.Prelude.{ℕ, List, ◌++◌, codes}
+use Rattle.std.specs.Prelude.{ℕ, List, codes}
 use Rattle.rail_csv.specs.declared.rows.Table.{Table}
 use Rattle.rail_csv.specs.declared.rows.Table.TheVariants.{Types, Stations, Stock, Trips, Links, Weights, Plan}
+use Rattle.day_files.specs.OneFile.{path_in}
 
 -- the name of a table's file, without the folder
 abbrev pub file_name : Table → List ℕ
@@ -15,4 +16,4 @@ file_name Plan = codes "plan.csv"
 
 -- the path of a table's file in a folder
 abbrev pub path_of : List ℕ → Table → List ℕ
-path_of dir table = dir ++ (codes "/" ++ file_name table)
+path_of dir table = path_in dir (file_name table)

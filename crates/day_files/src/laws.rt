@@ -6,6 +6,7 @@ ghost use Rattle.day_files.specs.declared.errors.Refusal.{Refusal};
 ghost use Rattle.timetable.specs.Day.{Day};
 ghost use Rattle.day_files.specs.declared.inputs.Inputs.{Inputs};
 ghost use Rattle.day_files.specs.Inputs.{day_in, inputs_in};
+ghost use Rattle.day_files.specs.OneFile.{PathsNest};
 ghost use Rattle.day_files.specs.Tables.{AreAcceptedAsDay, IsMadeDay};
 ghost use Rattle.timetable.specs.Accepted.{IsSoundDay};
 ghost use Rattle.day_files.specs.Acceptance.{AreAccepted, IsFirstRefused, IsOfPlan};
@@ -38,4 +39,10 @@ pub fn what_is_accepted()
 pub fn accepted_days_are_sound()
     ensures made { (files : Files) (dir : List ℕ) (day : Day) → day_in files dir ≡ Ok day → IsMadeDay day }
     ensures sound { (day : Day) → IsMadeDay day → IsSoundDay day }
+{}
+
+/// A folder may lie below another: the path of a file in the folder `below` of a folder `dir` is that of the file in
+/// `dir` which is called by both names, as `2/stock.csv`.
+pub fn paths_nest()
+    ensures nest { PathsNest }
 {}

@@ -2,12 +2,16 @@
 #![tactic(auto)]
 
 pub mod errors;
+pub mod files;
 pub mod inputs;
 pub mod laws;
+pub mod lines;
 mod names;
 mod tables;
 mod texts;
 
 pub use errors::{ReadError, Refusal};
+pub use files::{file_in, path_in};
 pub use inputs::{Inputs, day_in, inputs_in};
+pub use lines::{file_refused_line, file_unread_line};
 pub use names::file_name;

@@ -6,11 +6,12 @@ ghost use Rattle.day_files.specs.Tables.{bytes_in, read_by};
 ghost use Rattle.day_files.specs.Answers.{Reads, IsCaused, IsErrorOf, IsWrong, error_of, tells_unread};
 
 use crate::errors::{ReadError, Refusal};
-use crate::names::path_of;
+use crate::files::file_in;
+use crate::names::file_name;
 use rail_base::Bytes;
 use rail_base::limits::MOST_TABLE_BYTES;
 use rail_csv::{Table, TableRefusal};
-use rail_io::{FileRefusal, Folder, read_file};
+use rail_io::{FileRefusal, Folder};
 use std::alloc::Global;
 use timetable::DayTable;
 
@@ -31,9 +32,8 @@ fn bytes_of<F: Folder>(
         → F.faults folder.new ≡ faults_after (tells_unread result) (F.faults folder.old) }
     ensures only_reads { OnlyReads F.holds F.may_fail F.faults F.taken folder.old folder.new }
 {
-    let path = path_of(alloc, dir, table)?;
-    match read_file(alloc, folder, path.as_str(), MOST_TABLE_BYTES) {
-        Ok(bytes) => Ok(Bytes::of(bytes)),
+    match file_in(alloc, folder, dir, file_name(table), MOST_TABLE_BYTES) {
+        Ok(bytes) => Ok(bytes),
         Err(FileRefusal::ReadFault) => Err(ReadError::CannotRead(table)),
         Err(FileRefusal::TooLong) => Err(ReadError::Refused(Refusal::TooLong(table))),
         Err(FileRefusal::NoMemory) => Err(ReadError::NoMemory),

@@ -1,9 +1,10 @@
 -- The answer of a folder, or what is wrong with its file.
-use Rattle.std.specs.Prelude.{ℕ, ◌≡◌, ◌<◌, ◌≤◌, List, ◌++◌, length, codes, Bool, true, false, IsTrue, Result, ⊤}
+use Rattle.std.specs.Prelude.{ℕ, ◌≡◌, ◌<◌, ◌≤◌, List, length, codes, Bool, true, false, IsTrue, Result, ⊤}
 use Rattle.std.specs.Prelude.{Ok, Err}
 use Rattle.rail_base.specs.declared.limits.TheConstants.{MOST_FILE_BYTES}
 use Rattle.rail_base.specs.declared.memory.NoMemory.{NoMemory}
 use Rattle.rail_io.specs.Folders.{Files, Rose, RosePast, file_at}
+use Rattle.day_files.specs.OneFile.{path_in}
 use Rattle.answer_text.specs.declared.answer.Answer.{Answer}
 use Rattle.answer_text.specs.declared.refusal.AnswerRefusal.{AnswerRefusal}
 use Rattle.answer_text.specs.Grammar.{IsRefused, IsText}
@@ -16,7 +17,7 @@ answer_file = codes "answer.txt"
 
 -- the path of the answer in a folder
 abbrev pub answer_path : List ℕ → List ℕ
-answer_path dir = dir ++ (codes "/" ++ answer_file)
+answer_path dir = path_in dir answer_file
 
 -- the bytes of the answer's file
 abbrev pub answer_bytes : Files → List ℕ → List ℕ

@@ -1,9 +1,10 @@
 -- The lines that a run writes, and the texts of faults in them.
-use Rattle.std.specs.Prelude.{ℕ, List, [], ◌∷◌, ◌++◌, codes}
+use Rattle.std.specs.Prelude.{ℕ, List, [], ◌++◌, codes}
 use Rattle.std.specs.Fmt.{decimal, signed_decimal}
 use Rattle.rail_base.specs.declared.numbers.Money.{Money}
 use Rattle.rail_csv.specs.declared.rows.Table.{Table}
 use Rattle.day_files.specs.declared.errors.Refusal.{Refusal}
+pub use Rattle.day_files.specs.Lines.{file_refused_line, file_unread_line, line_end}
 use Rattle.day_files.specs.Names.{file_name}
 use Rattle.day_files.specs.Texts.{refusal_file, refusal_text}
 use Rattle.answer_text.specs.declared.refusal.AnswerRefusal.{AnswerRefusal}
@@ -36,9 +37,6 @@ fault_text (Balance station unit_type count wanted) = balance_text station unit_
 
 -- ---- the lines, each with its line feed
 
-abbrev pub line_end : List ℕ
-line_end = 10 ∷ []
-
 -- the plan runs, at this cost
 abbrev pub runs_line : Money → List ℕ
 runs_line cost = codes "runs " ++ (signed_decimal cost.0 ++ line_end)
@@ -66,17 +64,11 @@ no_plan_line = codes "no plan" ++ line_end
 abbrev pub trial_line : ℕ → ℕ → List ℕ
 trial_line seed trips = codes "trial " ++ (decimal seed ++ (codes " " ++ (decimal trips ++ line_end)))
 
--- a file is refused, by its name and why
-abbrev pub file_refused_line : List ℕ → List ℕ → List ℕ
-file_refused_line file why = codes "refused " ++ (file ++ (codes ": " ++ (why ++ line_end)))
-
+-- the file of a table is refused, by its name and why
 abbrev pub refused_line : Refusal → List ℕ
 refused_line refusal = file_refused_line (file_name (refusal_file refusal)) (refusal_text refusal)
 
--- a file could not be read, by its name
-abbrev pub file_unread_line : List ℕ → List ℕ
-file_unread_line file = codes "cannot read " ++ (file ++ line_end)
-
+-- the file of a table could not be read, by its name
 abbrev pub cannot_read_line : Table → List ℕ
 cannot_read_line table = file_unread_line (file_name table)
 

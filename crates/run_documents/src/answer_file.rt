@@ -1,16 +1,17 @@
 //! The answer of a folder, read from its file.
 
-ghost use Rattle.std.specs.Prelude.{◌≡◌, true, ◌≤◌, Some, IfOk, IfErr, length, string_bytes};
+ghost use Rattle.std.specs.Prelude.{◌≡◌, true, ◌≤◌, Some, IfOk, IfErr, length};
 ghost use Rattle.rail_io.specs.Folders.{Files, OnlyReads, faults_after};
 ghost use Rattle.answer_text.specs.Limits.{IsWithin};
 ghost use Rattle.rail_base.specs.declared.limits.TheConstants.{MOST_FILE_BYTES, MOST_NODES};
 ghost use Rattle.run_documents.specs.AnswerFiles.{AreRefusedFor, IsAnswerCaused, IsAnswerOf, ReadsAnswer};
-ghost use Rattle.run_documents.specs.AnswerFiles.{answer_path, tells_unread};
+ghost use Rattle.run_documents.specs.AnswerFiles.{tells_unread};
 
 use answer_text::{Answer, AnswerRefusal, read};
+use day_files::file_in;
 use rail_base::NoMemory;
 use rail_base::limits::MOST_FILE_BYTES;
-use rail_io::{FileRefusal, Folder, read_file};
+use rail_io::{FileRefusal, Folder};
 use std::alloc::Global;
 use thiserror::Error;
 
@@ -29,14 +30,6 @@ pub enum AnswerError {
     /// The bytes of its file are no answer.
     #[error("no answer")]
     Refused(AnswerRefusal),
-}
-
-/// The path of the answer of a folder: the folder, a slash and the name.
-fn path_of(alloc: Global, dir: &str) -> Result<String, NoMemory>
-    ensures { IfOk result (λ path. string_bytes path ≡ answer_path dir.now) }
-{
-    let name = ANSWER_FILE;
-    Ok(format!(in alloc; "{dir}/{name}")?)
 }
 
 /// The answer that the file `answer.txt` of a folder is, or why there is none. The error is want of memory.
@@ -62,14 +55,13 @@ pub fn answer_in<F: Folder>(
         → F.faults folder.new ≡ faults_after (tells_unread result) (F.faults folder.old) }
     ensures only_reads { OnlyReads F.holds F.may_fail F.faults F.taken folder.old folder.new }
 {
-    let path = path_of(alloc, dir)?;
-    let bytes = match read_file(alloc, folder, path.as_str(), MOST_FILE_BYTES) {
+    let bytes = match file_in(alloc, folder, dir, ANSWER_FILE, MOST_FILE_BYTES) {
         Ok(bytes) => bytes,
         Err(FileRefusal::ReadFault) => return Ok(Err(AnswerError::CannotRead)),
         Err(FileRefusal::TooLong) => return Ok(Err(AnswerError::TooLong)),
         Err(FileRefusal::NoMemory) => return Err(NoMemory),
     };
-    match answer_of(alloc, bytes.as_slice())? {
+    match answer_of(alloc, bytes.items())? {
         Ok(answer) => Ok(Ok(answer)),
         Err(refusal) => Ok(Err(AnswerError::Refused(refusal))),
     }

@@ -4,7 +4,7 @@ ghost use Rattle.std.specs.Prelude.{◌≡◌, ◌++◌, IfOk, string_bytes};
 ghost use Rattle.answer_text.specs.Texts.{head_line};
 ghost use Rattle.run_documents.specs.AnswerFiles.{answer_file};
 ghost use Rattle.run_documents.specs.Lines.{answer_refusal_text, balance_text, cannot_read_line, fault_text};
-ghost use Rattle.run_documents.specs.Lines.{file_refused_line, file_unread_line, line_end, not_ready_text};
+ghost use Rattle.run_documents.specs.Lines.{file_refused_line, line_end, not_ready_text};
 ghost use Rattle.run_documents.specs.Lines.{refused_line, runs_line, stops_line, usage_text};
 ghost use Rattle.run_documents.specs.Texts.{IsDocument};
 ghost use Rattle.run_documents.specs.TrialTexts.{summary_by, trial_text};
@@ -13,7 +13,7 @@ use crate::answer_file::{ANSWER_FILE, AnswerError};
 use crate::check_lines::check_line;
 use crate::outcome::Outcome;
 use answer_text::{Answer, AnswerRefusal, Head, print, write_head};
-use day_files::{Refusal, file_name};
+use day_files::{Refusal, file_name, file_refused_line, file_unread_line};
 use day_simulator::StepFault;
 use rail_base::{Money, NoMemory, StationNo, TripNo, TypeNo, UnitNo};
 use rail_csv::Table;
@@ -146,25 +146,11 @@ fn refused_line(alloc: Global, refusal: &Refusal) -> Result<String, NoMemory>
     file_refused_line(alloc, file_name(refusal.table()), why.as_str())
 }
 
-/// The line of a file of this name that is refused for this.
-fn file_refused_line(alloc: Global, file: &str, why: &str) -> Result<String, NoMemory>
-    ensures { IfOk result (λ line. string_bytes line ≡ file_refused_line file.now why.now) }
-{
-    Ok(format!(in alloc; "refused {file}: {why}\n")?)
-}
-
 /// The line of a table's file that could not be read.
 fn cannot_read_line(alloc: Global, table: Table) -> Result<String, NoMemory>
     ensures { IfOk result (λ line. string_bytes line ≡ cannot_read_line table) }
 {
     file_unread_line(alloc, file_name(table))
-}
-
-/// The line of a file of this name that could not be read.
-fn file_unread_line(alloc: Global, file: &str) -> Result<String, NoMemory>
-    ensures { IfOk result (λ line. string_bytes line ≡ file_unread_line file.now) }
-{
-    Ok(format!(in alloc; "cannot read {file}\n")?)
 }
 
 /// Why a plan stops.

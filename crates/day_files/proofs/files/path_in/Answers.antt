@@ -1,4 +1,4 @@
-use Rattle.run_documents.proofs.answer_file.path_of.Goals as goal
+use Rattle.day_files.proofs.files.path_in.Goals as goal
 
 pub returns : goal.returns
 returns c = c.in_ok-format.ensures.ok
