@@ -1,11 +1,21 @@
 -- Answers to accepted days can be written down and read again, also under changes.
+use Rattle.std.proofs.Common.{◌≡◌, ◌≤◌, List, Bool, length, sym, ap, subst, ◌∙◌}
+use Rattle.timetable.specs.Accepted.{IsSoundDay}
+use Rattle.timetable.specs.Day.{Day}
+use Rattle.timetable.specs.Indices.{places_of}
 use Rattle.branch_tree.specs.declared.relaxation.Weight.TheVariants.{Cost}
+use Rattle.branch_tree.specs.Meanings.{Meanings}
+use Rattle.branch_tree.specs.Regions.{root_of}
 use Rattle.branch_tree.proofs.Over.{roots_are_over}
 use Rattle.branch_tree.proofs.Roots.{roots_are_filled}
-use Rattle.price_bound.specs.ChangedDays.{changed_day}
+use Rattle.price_bound.specs.ChangedDays.{ChangedDay, changed_day, changed_meanings, unchanged}
+use Rattle.price_bound.specs.DayMeanings.{meanings_of}
 use Rattle.price_bound.proofs.ChangedRelaxation.{changed_relaxes}
 use Rattle.price_bound.proofs.SmallValues.{changed_values_are_small, values_are_small}
-use Rattle.price_bound.proofs.Whole.{relaxes}
+use Rattle.price_bound.proofs.Whole.{accepted_day, relaxes}
+use Rattle.answer_text.specs.declared.limits.TheConstants.{MOST_INDEX}
+use Rattle.answer_check.proofs.Checked.{unchanged_means}
+use Rattle.day_planner.specs.Answerable.{IsAnswerable}
 use Rattle.day_planner.specs.Laws.{ChangedDaysAreAnswerable, DaysAreAnswerable}
 
 pub days_are_answerable : DaysAreAnswerable
@@ -32,3 +42,13 @@ changed_days_are_answerable day changes region accepted are indices sets filled 
   sets = sets;
   filled = filled;
 }
+
+-- so they are of a day that nothing is changed on, as its bounds and its rule of naming see it
+pub unchanged_answerable : (day naming : Day) (bounds : ChangedDay) (root : List (List Bool)) → IsSoundDay day
+    → length (places_of day) ≤ MOST_INDEX → naming ≡ day → bounds ≡ unchanged day → root ≡ root_of day
+    → IsAnswerable naming (changed_meanings bounds) root
+unchanged_answerable day naming bounds root sound indices same is rooted =
+    subst (λ (d : Day). IsAnswerable d (changed_meanings bounds) root) (sym same)
+    (subst (λ (m : Meanings). IsAnswerable day m root) (sym (ap changed_meanings is ∙ unchanged_means day))
+    (subst (λ (r : List (List Bool)). IsAnswerable day (meanings_of day) r) (sym rooted)
+    (days_are_answerable day (accepted_day day sound) sound.served indices)))

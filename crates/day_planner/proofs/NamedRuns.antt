@@ -16,6 +16,7 @@ use Rattle.timetable.specs.Picks.{IsSolution}
 use Rattle.unit_duties.specs.Broken.{AreAdmissible}
 use Rattle.branch_tree.specs.Claims.{IsPlanIn, Priced}
 use Rattle.branch_tree.specs.Meanings.{Meanings}
+use Rattle.branch_tree.specs.Regions.{are_in}
 use Rattle.price_bound.proofs.Solving.{list_read}
 use Rattle.answer_text.specs.Limits.{IsRun}
 use Rattle.search.specs.declared.found.Found.{Found}
@@ -78,13 +79,13 @@ picks_may_run day picks solution = record {
       (solution.runs.lists t below).admissible);
 }
 
--- where a plan was found that is in a root, its picks are a solution of the day
-pub solution_found : (day : Day) (found : Found) (problem : Meanings) (root : List (List Bool))
-    → ((picks : List ℕ) → problem.IsSolution picks → IsSolution day picks)
-    → MatchOption (plan_found found) (Unit {0}) (IsPlanIn problem root) → IsNameable (IsSolution day) found
-solution_found day found problem root over plan = by (plan_found found) plan
+-- where a plan was found, it is a solution in the root, and so its picks can be named
+pub nameable_found : (CanName : List ℕ → Type 0) (found : Found) (problem : Meanings) (root : List (List Bool))
+    → ((picks : List ℕ) → problem.IsSolution picks → IsTrue (are_in picks root) → CanName picks)
+    → MatchOption (plan_found found) (Unit {0}) (IsPlanIn problem root) → IsNameable CanName found
+nameable_found CanName found problem root names plan = by (plan_found found) plan
   where
     by : (some : Option Priced) → MatchOption some (Unit {0}) (IsPlanIn problem root)
-        → MatchOption some (Unit {0}) (λ one. IsSolution day one.picks)
+        → MatchOption some (Unit {0}) (λ one. CanName one.picks)
     by None none = tt
-    by (Some one) is = over one.picks is.solution
+    by (Some one) is = names one.picks is.solution is.inside

@@ -149,7 +149,7 @@ module _ (day : Day) (problem : Meanings) (root : List (List Bool)) (is : IsAnsw
         let bound : IsBounded found → IsSome (bound_said answer.head) =
         bound_of_found answer.head says.picks found says.concludes in
         let as_said : IsSome (bound_said answer.head)
-            → (branchings_of answer.tree ≡ granted) × HasOpenLeaf (plan_said answer says.picks) answer.tree =
+        → (branchings_of answer.tree ≡ granted) × HasOpenLeaf (plan_said answer says.picks) answer.tree =
         λ some.
         let both = solved.bounded.0 (bound_found answer.head says.picks found says.concludes some) in (
           ap branchings_of says.tree ∙ both.0,
@@ -157,7 +157,7 @@ module _ (day : Day) (problem : Meanings) (root : List (List Bool)) (is : IsAnsw
               (subst (λ (p : Option Priced). HasOpenLeaf p (nodes_found found)) plan both.1),
         ) in
         let as_found : (branchings_of answer.tree ≡ granted) × HasOpenLeaf (plan_said answer says.picks) answer.tree
-            → IsBounded found =
+        → IsBounded found =
         λ both. solved.bounded.1 (
           ap branchings_of (sym says.tree) ∙ both.0,
           subst (λ (p : Option Priced). HasOpenLeaf p (nodes_found found)) (sym plan)
@@ -178,6 +178,6 @@ module _ (day : Day) (problem : Meanings) (root : List (List Bool)) (is : IsAnsw
           within = is_within granted few solved;
         }
 
-pub said_answers_are_proved : SaidAnswersAreProved
-said_answers_are_proved day problem root naming granted found answer is few solved says =
+pub said_answers_are_proved : (problem : Meanings) → SaidAnswersAreProved problem
+said_answers_are_proved problem day root naming granted found answer is few solved says =
     says_proved day problem root is naming found answer says granted few solved

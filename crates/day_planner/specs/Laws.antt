@@ -17,10 +17,10 @@ use Rattle.answer_check.specs.ProvedTrees.{HasProvedTreeIn}
 use Rattle.day_planner.specs.Answerable.{IsAnswerable}
 use Rattle.day_planner.specs.FoundAnswers.{SaysFound}
 
--- Of each answerable problem, whatever its root region and the rule of naming: an answer that says what a search has
--- found there has a tree of which all is so that is said of such trees.
-abbrev pub SaidAnswersAreProved : Type 0
-SaidAnswersAreProved = (day : Day) (problem : Meanings) (root : List (List Bool)) (naming : List ℕ → List (List ℕ))
+-- Of an answerable problem, whatever its root region and the rule of naming: an answer that says what a search has found
+-- there has a tree of which all is so that is said of such trees.
+abbrev pub SaidAnswersAreProved : Meanings → Type 0
+SaidAnswersAreProved problem = (day : Day) (root : List (List Bool)) (naming : List ℕ → List (List ℕ))
     (grant : ℕ) (found : Found) (answer : Answer) → IsAnswerable day problem root → grant ≤ MOST_BRANCHINGS →
     IsSolved problem root grant found → SaysFound day naming found answer →
     HasProvedTreeIn day problem root naming grant answer

@@ -4,12 +4,17 @@
 
 ghost use Rattle.day_planner.specs.Laws.{ChangedDaysAreAnswerable, DaysAreAnswerable, SaidAnswersAreProved};
 
-/// Of each answerable problem, whatever its root region and the rule of naming: of the tree of an answer that says what
-/// a search has found there, all is so that is said of the tree of an answer to the day. An accepted day is answerable,
-/// and so is it under changes in any region in which each trip has a composition, where it has no more indices than a
-/// document writes.
-pub fn said_answers_are_proved()
-    ensures law { SaidAnswersAreProved }
+use branch_tree::Relaxation;
+
+/// Of an answerable problem, whatever its root region and the rule of naming: of the tree of an answer that says what a
+/// search has found there, all is so that is said of the tree of an answer to the day.
+pub fn said_answers_are_proved<R: Relaxation>()
+    ensures law { (problem : R.Problem) → SaidAnswersAreProved (R.meanings problem) }
+{}
+
+/// An accepted day is answerable, and so is it under changes in any region in which each trip has a composition, where
+/// it has no more indices than a document writes.
+pub fn days_are_answerable()
     ensures day { DaysAreAnswerable }
     ensures changed { ChangedDaysAreAnswerable }
 {}

@@ -9,4 +9,4 @@ pub mod planning;
 
 pub use answers::{answer_with, runs_for, said};
 pub use naming::{DayNaming, Naming};
-pub use planning::answer_for;
+pub use planning::{Grant, answer_for, answer_to};

@@ -1,32 +1,86 @@
 //! From a day to a proved answer: the search, the plan of named units for what it found, and the tree that proves it.
 
-ghost use Rattle.std.specs.Prelude.{ℕ, List, ◌≡◌, ◌≤◌, ◌+◌, ◌*◌, ◌^◌, All, IfOk};
+ghost use Rattle.std.specs.Prelude.{ℕ, List, ◌≡◌, ◌≤◌, ◌+◌, ◌*◌, ◌^◌, All, IfOk, IsTrue};
 ghost use Rattle.rail_base.specs.declared.limits.TheConstants.{MOST_BRANCHINGS, MOST_ROUNDS};
-ghost use Rattle.timetable.specs.Picks.{IsSolution};
 ghost use Rattle.transitions.specs.Edges.{AreGraphs};
-ghost use Rattle.branch_tree.specs.Claims.{open_leaves_of};
-ghost use Rattle.branch_tree.specs.Regions.{root_of};
-ghost use Rattle.branch_tree.specs.Trees.{branchings_of};
-ghost use Rattle.price_bound.specs.DayMeanings.{meanings_of};
+ghost use Rattle.branch_tree.specs.Regions.{IsOver, are_in};
 ghost use Rattle.search.specs.Questions.{AreAsked, AreTheSame, in_rounds};
-ghost use Rattle.search.specs.Conclusions.{IsSolved, nodes_found, plan_found};
 ghost use Rattle.answer_check.specs.Headline.{IsHeadline};
-ghost use Rattle.answer_check.specs.ProvedTrees.{named_for, open_leaves};
+ghost use Rattle.answer_check.specs.ProvedTrees.{HasProvedTree, HasProvedTreeIn, open_leaves};
 ghost use Rattle.answer_check.specs.Verdicts.{IsAnswerVerdict};
-ghost use Rattle.day_planner.specs.FoundAnswers.{IsNameable, SaysFound};
+ghost use Rattle.day_planner.specs.Answerable.{IsAnswerable};
 
 use crate::answers::said;
-use crate::naming::DayNaming;
+use crate::naming::{DayNaming, Naming};
 use advisors::Advisor;
 use answer_check::AnswerVerdict;
 use answer_text::Answer;
-use branch_tree::Region;
+use branch_tree::{Region, Relaxation};
 use price_bound::DayBounds;
 use rail_base::NoMemory;
-use search::{Found, solve};
+use search::solve;
 use std::alloc::Global;
 use timetable::Instance;
 use transitions::Graphs;
+
+/// What is granted to a search.
+#[derive(Clone, Copy)]
+pub struct Grant {
+    /// How many branchings may be made, at most 4,000.
+    pub branchings: u32,
+    /// In how many rounds the advisors may be asked at a node, at most 100.
+    pub rounds: u8,
+}
+
+/// Searches a root region of an answerable problem, and answers it with a proof of what the answer says. The root is one
+/// of the problem, and of each solution in it the rule can name the units. Each advisor was asked at most 2^63 times
+/// before.
+///
+/// Afterwards an advisor of the same identity stands at each place, whatever the answer is, and they are asked as
+/// `search::solve` tells. The error is want of memory alone, here or in an advisor. What the problem means is as before
+/// after any answer.
+pub fn answer_to<R: Relaxation, N: Naming>(
+    alloc: Global,
+    problem: &mut R,
+    root: &Region,
+    naming: &N,
+    grant: Grant,
+    advisors: &mut Vec<Box<dyn Advisor>>,
+) -> Result<Answer, NoMemory>
+    // An answerable problem, a root region of it, a rule that can name each solution in it, and what is granted.
+    requires answerable { IsAnswerable (N.day naming.now) (R.meanings (R.problem problem.old)) root.now }
+    requires over { IsOver (R.meanings (R.problem problem.old)).trips
+        (R.meanings (R.problem problem.old)).catalogue root.now }
+    requires names { (picks : List ℕ) → (R.meanings (R.problem problem.old)).IsSolution picks →
+        IsTrue (are_in picks root.now) → N.CanName naming.now picks }
+    requires branchings { grant.branchings ≤ MOST_BRANCHINGS }
+    requires rounds { grant.rounds ≤ MOST_ROUNDS }
+    requires asked { All (λ advisor. asked advisor ≤ 2 ^ 63) advisors.old.items }
+
+    // The problem, and the answer.
+    ensures same { R.problem problem.new ≡ R.problem problem.old }
+    ensures tree { IfOk result (HasProvedTreeIn (N.day naming.now) (R.meanings (R.problem problem.old)) root.now
+        (N.named naming.now) grant.branchings) }
+
+    // The advisors: that one of the same identity stands at each place, and how often it was asked.
+    ensures advisors { AreTheSame advisors.old.items advisors.new.items identity }
+    ensures asked { AreAsked advisors.old.items advisors.new.items asked has_quit 0
+        (grant.rounds * (2 * grant.branchings + 1)) }
+    ensures counted { IfOk result (λ answer. AreAsked advisors.old.items advisors.new.items asked has_quit
+        (in_rounds grant.rounds (answer.branchings + open_leaves answer))
+        (grant.rounds * (2 * answer.branchings + 1))) }
+{
+    let found = solve(
+        alloc,
+        problem,
+        root,
+        grant.branchings,
+        grant.rounds,
+        advisors,
+    )?;
+    let answer = said(alloc, naming, found)?;
+    Ok(answer)
+}
 
 /// Plans a day by a search of at most so many branchings, and answers it with a proof of what it says.
 ///
@@ -60,54 +114,41 @@ pub fn answer_for(
         (in_rounds rounds (answer.branchings + open_leaves answer)) (rounds * (2 * answer.branchings + 1))) }
 {
     let graphs = Graphs::build(alloc, instance)?;
-    let found = find(alloc, instance, &graphs, nodes, rounds, advisors)?;
-    let answer = answer_of(alloc, instance, &graphs, found)?;
+    // What is known of an accepted day.
+    instance.is_sound();
+    let grant = Grant {
+        branchings: nodes,
+        rounds,
+    };
+    let answer = day_answer(alloc, instance, &graphs, grant, advisors)?;
     Ok(answer)
 }
 
-/// What a search of at most so many branchings finds of the solutions of a day.
-fn find(
+/// The answer to a day, in the region of all admissible compositions, with its units named by the rule of `name_units`.
+fn day_answer(
     alloc: Global,
     instance: &Instance,
     graphs: &Graphs,
-    nodes: u32,
-    rounds: u8,
+    grant: Grant,
     advisors: &mut Vec<Box<dyn Advisor>>,
-) -> Result<Found, NoMemory>
+) -> Result<Answer, NoMemory>
     requires graphs { AreGraphs instance.now graphs.now }
-    requires nodes { nodes ≤ MOST_BRANCHINGS }
-    requires rounds { rounds ≤ MOST_ROUNDS }
+    requires branchings { grant.branchings ≤ MOST_BRANCHINGS }
+    requires rounds { grant.rounds ≤ MOST_ROUNDS }
     requires asked { All (λ advisor. asked advisor ≤ 2 ^ 63) advisors.old.items }
-    ensures solved { IfOk result (IsSolved (meanings_of instance.now) (root_of instance.now) nodes) }
+    ensures tree { IfOk result (HasProvedTree instance.now grant.branchings) }
     ensures advisors { AreTheSame advisors.old.items advisors.new.items identity }
-    ensures asked { AreAsked advisors.old.items advisors.new.items asked has_quit 0 (rounds * (2 * nodes + 1)) }
-    ensures counted { IfOk result (λ found. AreAsked advisors.old.items advisors.new.items asked has_quit
-        (in_rounds rounds (branchings_of (nodes_found found) + open_leaves_of (plan_found found) (nodes_found found)))
-        (rounds * (2 * branchings_of (nodes_found found) + 1))) }
+    ensures asked { AreAsked advisors.old.items advisors.new.items asked has_quit 0
+        (grant.rounds * (2 * grant.branchings + 1)) }
+    ensures counted { IfOk result (λ answer. AreAsked advisors.old.items advisors.new.items asked has_quit
+        (in_rounds grant.rounds (answer.branchings + open_leaves answer))
+        (grant.rounds * (2 * answer.branchings + 1))) }
 {
     let root = Region::root(alloc, instance)?;
     let mut bounds = DayBounds::new(alloc, instance, graphs)?;
-    solve(alloc, &mut bounds, &root, nodes, rounds, advisors)
-}
-
-/// The answer that says what was found of a day: where a plan was found, its units are named. The error is want of
-/// memory.
-fn answer_of(
-    alloc: Global,
-    instance: &Instance,
-    graphs: &Graphs,
-    found: Found,
-) -> Result<Answer, NoMemory>
-    requires graphs { AreGraphs instance.now graphs.now }
-    requires plan { IsNameable (IsSolution instance.now) found }
-    ensures says { IfOk result (SaysFound instance.now (named_for instance.now) found) }
-    ensures headline { IfOk result (λ answer. (nodes : ℕ) → nodes ≤ MOST_BRANCHINGS →
-        IsSolved (meanings_of instance.now) (root_of instance.now) nodes found → IsHeadline instance.now nodes answer) }
-{
+    let naming = DayNaming::new(instance, graphs);
     // What is known of an accepted day, and how many indices it has.
     instance.is_sound();
     prove!(instance.free_from() <= instance.indices());
-    let naming = DayNaming::new(instance, graphs);
-    let answer = said(alloc, &naming, found)?;
-    Ok(answer)
+    answer_to(alloc, &mut bounds, &root, &naming, grant, advisors)
 }
