@@ -24,7 +24,7 @@ use rail_base::limits::MOST_TRIPS;
 use rail_base::{CompNo, LinkNo, NoMemory, TripNo};
 use std::alloc::Global;
 use std::marker::Model;
-use timetable::{Instance, LinkKind, Picks};
+use timetable::{Instance, Picks};
 use transitions::Edge;
 
 /// Room for the rows of any chain of a day. A contract sees a list of cells for each row.
@@ -202,21 +202,17 @@ fn offer_edges(pricing: &Pricing<'_>, link: LinkNo, row: &mut CellRow, ahead: &C
     ensures small { AreSmallOffers most_edge_price ahead.now row.old row.new }
 {
     let edges = pricing.graphs.edges(link);
-    match pricing.instance.link(link).kind {
-        LinkKind::Turn {
-            arriving,
-            departing,
-            couple,
-            ..
-        } => {
+    let kind = &pricing.instance.link(link).kind;
+    match kind.second() {
+        None => {
             let turn = TurnTrips {
-                arriving,
-                departing,
-                couple,
+                arriving: kind.leads_from(),
+                departing: kind.leads_to(),
+                couple: kind.coupling_end(),
             };
             offer_edges_at(&TurnPrices::new(pricing, link, turn), edges, row, ahead);
         }
-        LinkKind::Join { second, .. } | LinkKind::Split { second, .. } => {
+        Some(second) => {
             offer_edges_at(&PartPrices::new(pricing, link, second), edges, row, ahead);
         }
     }
