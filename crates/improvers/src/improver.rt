@@ -80,7 +80,7 @@ impl Improvement {
 /// whoever asks has to test that the multipliers fit, that picks are a solution and that the cut is proper.
 pub trait Improver {
     /// Asks for an improvement of a node, which is put into `to`, where nothing is proposed yet. The answer is whether
-    /// it wants to be asked again about this node. The error is want of memory.
+    /// it may be asked again about this node, after what it proposed was used. The error is want of memory.
     fn improve(&mut self, seen: &Seen<'_>, to: &mut Improvement) -> Result<bool, NoMemory>;
 }
 

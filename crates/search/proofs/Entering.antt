@@ -21,7 +21,7 @@ use Rattle.search.specs.declared.nodes.SearchNode.TheVariants.{Fixed, Pending}
 use Rattle.search.specs.Frontiers.{IsEntered, can_improve, has_rank, rank_order}
 use Rattle.search.specs.Nodes.{IsDivisionAt, branched}
 use Rattle.search.specs.Offers.{IsOffered}
-use Rattle.search.proofs.Growing.{offered_both}
+use Rattle.search.proofs.Evaluating.{offered_again}
 
 -- ---- ranks
 
@@ -95,11 +95,11 @@ entered_after P Q follows (node ∷ nodes) (suc place) cut left right within bra
     (entered_after P Q follows nodes place cut left right (omega (arith, within)) branch one other (All-tail P node nodes all))
 
 -- the nodes after a branching are entered, as those before are
-pub entered_on : (problem : Meanings) (old middle new : Option Priced) (before after : Frontier) (nodes : List SearchNode) (place : ℕ) (division : Division) (left right : SearchNode) →
-    IsDivisionAt problem old nodes place division → IsOffered problem division.left old middle → IsOffered problem division.right middle new →
+pub entered_on : (problem : Meanings) (root : List (List Bool)) (old middle new : Option Priced) (before after : Frontier) (nodes : List SearchNode) (place : ℕ) (division : Division) (left right : SearchNode) →
+    IsDivisionAt problem old nodes place division → IsOffered problem root old middle → IsOffered problem root middle new →
     IsEntered new after left → IsEntered new after right → ((node : SearchNode) → IsEntered new before node → IsEntered new after node) →
     All (IsEntered old before) nodes → All (IsEntered new after) (branched nodes place division.cut left right)
-entered_on problem old middle new before after nodes place division left right at first second one other others all =
+entered_on problem root old middle new before after nodes place division left right at first second one other others all =
     entered_after (IsEntered old before) (IsEntered new after)
-    (λ node entered. others node (entered_with old new (offered_both problem old middle new division at.node at.divided first second).no_dearer before node entered))
+    (λ node entered. others node (entered_with old new (offered_again problem root old middle new first second).no_dearer before node entered))
     nodes place division.cut left right at.within tt one other all

@@ -128,33 +128,15 @@ new_walk problem root region best cut left right is over within = (
   ),
 )
 
-plan_kept : (problem : Meanings) (root region : List (List Bool)) (old new : Option Priced) → IsWithin root region → IsOffered problem region old new → HasPlanIn problem root old → HasPlanIn problem root new
-plan_kept problem root region old new within offered plan = elim offered.either as (λ _. HasPlanIn problem root new) [
+plan_kept : (problem : Meanings) (root : List (List Bool)) (old new : Option Priced) → IsOffered problem root old new → HasPlanIn problem root old → HasPlanIn problem root new
+plan_kept problem root old new offered plan = elim offered.either as (λ _. HasPlanIn problem root new) [
   | inl same ↦ subst (λ best. HasPlanIn problem root best) (sym same) plan
   | inr has ↦ widened new has
 ]
   where
-    widened : (best : Option Priced) → HasCheaperIn problem region old best → HasPlanIn problem root best
+    widened : (best : Option Priced) → HasCheaperIn problem root old best → HasPlanIn problem root best
     widened None has = tt
-    widened (Some plan) has = record { inside = within plan.picks has.0.inside; solution = has.0.solution; cost = has.0.cost }
-
--- an offer in a side is one in the region
-pub offered_in_side : (problem : Meanings) (region : List (List Bool)) (cut : Cut) (side : Side) (old new : Option Priced) → IsProper problem.catalogue region cut →
-    IsOffered problem (side_of problem.catalogue cut side region) old new → IsOffered problem region old new
-offered_in_side problem region cut side old new proper offered = record {
-  no_dearer = offered.no_dearer;
-  either = elim offered.either as (λ _. (new ≡ old) ⊎ HasCheaperIn problem region old new) [
-    | inl same ↦ inl same
-    | inr has ↦ inr (widened new has)
-  ];
-}
-  where
-    widened : (best : Option Priced) → HasCheaperIn problem (side_of problem.catalogue cut side region) old best → HasCheaperIn problem region old best
-    widened None has = has
-    widened (Some plan) has = (
-      record { inside = within_side problem region region cut side proper (λ picks inside. inside) plan.picks has.0.inside; solution = has.0.solution; cost = has.0.cost },
-      has.1,
-    )
+    widened (Some plan) has = has.0
 
 cut_before : (problem : Meanings) (region : List (List Bool)) (node : SearchNode) → CanBranch problem region node → cut_at node ≡ None
 cut_before problem region (Fixed node) can = absurd can
@@ -163,7 +145,7 @@ cut_before problem region (Pending node) can = refl
 -- the nodes after a branching are searched, as those before are
 pub searched_on : (problem : Meanings) (root region : List (List Bool)) (old new : Option Priced) (nodes : List SearchNode) (place : ℕ) (node : SearchNode) (cut : Cut) (left right : SearchNode) →
     place < length nodes → node ≡ get_or nodes place node → ((other : List (List Bool)) → CanBranch problem other node → other ≡ region) → is_open old (tree_node node) ≡ true →
-    IsBranching problem new region cut left right → IsOffered problem region old new → IsSearched problem root old nodes → IsSearched problem root new (branched nodes place cut left right)
+    IsBranching problem new region cut left right → IsOffered problem root old new → IsSearched problem root old nodes → IsSearched problem root new (branched nodes place cut left right)
 searched_on problem root region old new nodes place node cut left right within is own opens branching offered searched =
     let P : List (List Bool) → SearchNode → Type 0 = IsPlaced problem root new in
     let at : IsPlacedAt cut_at problem.catalogue (IsPlaced problem root old) (root ∷ []) nodes place node = placed_at cut_at problem.catalogue (IsPlaced problem root old) (root ∷ []) nodes place node within is searched.walks in
@@ -181,7 +163,7 @@ searched_on problem root region old new nodes place node cut left right within i
     (subst (λ other. Walks cut_at problem.catalogue P (other ∷ []) (Fixed (Branch cut) ∷ left ∷ right ∷ [])) (sym same) (new_walk problem root region new cut left right branching over inside)) in
     record {
       walks = subst (λ all. Walks cut_at problem.catalogue P (root ∷ []) all) (append_assoc (take place nodes) (Fixed (Branch cut) ∷ left ∷ right ∷ []) (drop (suc place) nodes)) grown;
-      plan = plan_kept problem root region old new inside offered searched.plan;
+      plan = plan_kept problem root old new offered searched.plan;
     }
 
 -- ---- counts
@@ -264,9 +246,21 @@ ready_at problem relaxation root best nodes place node within here below searche
     let at : IsPlacedAt cut_at problem.catalogue (IsPlaced problem root best) (root ∷ []) nodes place (Pending node) = placed_at cut_at problem.catalogue (IsPlaced problem root best) (root ∷ []) nodes place (Pending node) within here searched.walks in
     ready_by problem relaxation root at.region best node at.fact (at.fact.known.branches below)
 
-branching_of : (problem : Meanings) (region : List (List Bool)) (middle new : Option Priced) (division : Division) (left right : SearchNode) (node : PendingNode) → node.region ≡ region → IsDivision problem.catalogue node division →
-    IsLeafOf problem middle division.left left → IsOffered problem division.right middle new → IsLeafOf problem new division.right right → IsBranching problem new region division.cut left right
-branching_of problem region middle new division left right node own divided one offered other = record {
+-- the regions of a division lie in the root
+pub sides_within : (problem : Meanings) (root : List (List Bool)) (best : Option Priced) (nodes : List SearchNode) (place : ℕ) (division : Division) → IsDivisionAt problem best nodes place division →
+    IsSearched problem root best nodes → IsWithin root division.left × IsWithin root division.right
+sides_within problem root best nodes place division at searched =
+    let placed : IsPlacedAt cut_at problem.catalogue (IsPlaced problem root best) (root ∷ []) nodes place (Pending at.node) =
+    placed_at cut_at problem.catalogue (IsPlaced problem root best) (root ∷ []) nodes place (Pending at.node) at.within at.here searched.walks in
+    let own : at.node.region ≡ placed.region = (placed.fact.known.branches at.below).own in
+    let within : IsWithin root at.node.region = subst (λ sets. IsWithin root sets) (sym own) placed.fact.within in (
+      subst (λ sets. IsWithin root sets) (sym at.divided.left) (within_side problem root at.node.region division.cut Left at.divided.proper within),
+      subst (λ sets. IsWithin root sets) (sym at.divided.right) (within_side problem root at.node.region division.cut Right at.divided.proper within),
+    )
+
+branching_of : (problem : Meanings) (root region : List (List Bool)) (middle new : Option Priced) (division : Division) (left right : SearchNode) (node : PendingNode) → node.region ≡ region → IsDivision problem.catalogue node division →
+    IsLeafOf problem middle division.left left → IsOffered problem root middle new → IsLeafOf problem new division.right right → IsBranching problem new region division.cut left right
+branching_of problem root region middle new division left right node own divided one offered other = record {
   proper = subst (λ sets. IsProper problem.catalogue sets division.cut) own divided.proper;
   one = record {
     leaf = one.leaf;
@@ -278,35 +272,28 @@ branching_of problem region middle new division left right node own divided one 
   };
 }
 
-pub offered_both : (problem : Meanings) (old middle new : Option Priced) (division : Division) (node : PendingNode) → IsDivision problem.catalogue node division → IsOffered problem division.left old middle →
-    IsOffered problem division.right middle new → IsOffered problem node.region old new
-offered_both problem old middle new division node divided first second =
-    offered_again problem node.region old middle new
-    (offered_in_side problem node.region division.cut Left old middle divided.proper (subst (λ sets. IsOffered problem sets old middle) divided.left first))
-    (offered_in_side problem node.region division.cut Right middle new divided.proper (subst (λ sets. IsOffered problem sets middle new) divided.right second))
-
 pub after_branch : (problem : Meanings) (root : List (List Bool)) (old middle new : Option Priced) (nodes : List SearchNode) (place : ℕ) (division : Division) (left right : SearchNode) →
-    IsDivisionAt problem old nodes place division → IsLeafOf problem middle division.left left → IsOffered problem division.left old middle → IsLeafOf problem new division.right right → IsOffered problem division.right middle new →
+    IsDivisionAt problem old nodes place division → IsLeafOf problem middle division.left left → IsOffered problem root old middle → IsLeafOf problem new division.right right → IsOffered problem root middle new →
     IsSearched problem root old nodes → IsSearched problem root new (branched nodes place division.cut left right)
 after_branch problem root old middle new nodes place division left right at one first other second searched =
     searched_on problem root at.node.region old new nodes place (Pending at.node) division.cut left right at.within at.here (λ sets can. sym can.own) at.below
-    (branching_of problem at.node.region middle new division left right at.node refl at.divided one second other)
-    (offered_both problem old middle new division at.node at.divided first second) searched
+    (branching_of problem root at.node.region middle new division left right at.node refl at.divided one second other)
+    (offered_again problem root old middle new first second) searched
 
 pub branchings_after : (problem : Meanings) (old middle new : Option Priced) (nodes : List SearchNode) (place : ℕ) (division : Division) (left right : SearchNode) → IsDivisionAt problem old nodes place division →
     IsLeafOf problem middle division.left left → IsLeafOf problem new division.right right → branchings_of (tree_nodes (branched nodes place division.cut left right)) ≡ branchings_of (tree_nodes nodes) + 1
 branchings_after problem old middle new nodes place division left right at one other =
     one_branching nodes place (Pending at.node) division.cut left right at.within at.here refl one.leaf other.leaf
 
-pub kept_up : (problem : Meanings) (old middle new : Option Priced) (nodes : List SearchNode) (place : ℕ) (division : Division) (left right : SearchNode) → IsDivisionAt problem old nodes place division →
-    IsLeafOf problem middle division.left left → IsOffered problem division.left old middle → IsLeafOf problem new division.right right → IsOffered problem division.right middle new →
+pub kept_up : (problem : Meanings) (root : List (List Bool)) (old middle new : Option Priced) (nodes : List SearchNode) (place : ℕ) (division : Division) (left right : SearchNode) → IsDivisionAt problem old nodes place division →
+    IsLeafOf problem middle division.left left → IsOffered problem root old middle → IsLeafOf problem new division.right right → IsOffered problem root middle new →
     made_or_open new (tree_nodes (branched nodes place division.cut left right)) ≤
     made_or_open old (tree_nodes nodes) + ((if is_open middle (tree_node left) then 1 else 0) + (if is_open new (tree_node right) then 1 else 0))
-kept_up problem old middle new nodes place division left right at one first other second =
+kept_up problem root old middle new nodes place division left right at one first other second =
     omega (
       arith,
       branchings_after problem old middle new nodes place division left right at one other,
-      open_after old new (offered_both problem old middle new division at.node at.divided first second).no_dearer nodes place (Pending at.node) division.cut left right at.within at.here at.below,
+      open_after old new (offered_again problem root old middle new first second).no_dearer nodes place (Pending at.node) division.cut left right at.within at.here at.below,
       open_least middle new second.no_dearer (tree_node left),
     )
 
@@ -326,7 +313,7 @@ one_node problem root best node over is offered = record {
     record { known = is.known; over = over; within = λ picks inside. inside },
     subst (λ found. Walks cut_at problem.catalogue (IsPlaced problem root best) (regions_below problem.catalogue root found ++ []) []) (sym is.leaf) tt,
   );
-  plan = plan_kept problem root root None best (λ picks inside. inside) offered tt;
+  plan = plan_kept problem root None best offered tt;
 }
 
 pub division_at : (problem : Meanings) (best : Option Priced) (nodes : List SearchNode) (place : ℕ) (node : PendingNode) (division : Division) → place < length nodes → Pending node ≡ get_or nodes place (Pending node) →

@@ -12,6 +12,8 @@ pub mod Advising
 -- the cut of a node, and nodes from their work
 pub mod Choosing
 pub mod Placing
+-- what is offered within a root, and improvements
+pub mod Offering
 -- the nodes after a branching
 pub mod Growing
 -- the end of a search

@@ -9,6 +9,8 @@ pub mod Evaluations
 pub mod NodesInWork
 pub mod NodeAdvice
 pub mod Rounds
+-- what improvers are shown, and what is made of their answers
+pub mod Improvements
 -- the nodes of a search, and those of them that may be branched
 pub mod Nodes
 pub mod Frontiers

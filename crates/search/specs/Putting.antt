@@ -15,6 +15,7 @@ use Rattle.search.specs.declared.evaluation.Outcome.TheVariants.{Ended, Open}
 use Rattle.search.specs.declared.work.Work.{Work}
 use Rattle.search.specs.Evaluations.{IsOutcome, leaf_of}
 use Rattle.search.specs.Nodes.{IsDivisionAt, IsLeafOf, branched, tree_node}
+use Rattle.search.specs.Improvements.{AreImproved}
 use Rattle.search.specs.NodeAdvice.{CallTest}
 use Rattle.search.specs.NodesInWork.{HasInherited, begun, node_from}
 use Rattle.search.specs.Offers.{IsOffered}
@@ -25,46 +26,56 @@ abbrev pub IsNumbered : ℕ → SearchNode → Type 0
 IsNumbered number (Fixed node) = Unit {0}
 IsNumbered number (Pending node) = node.number ≡ number
 
+-- so many rounds of advice were made about a node, before which no advisor had enough
+abbrev pub AreAdvised : {A : Type 0} → (A → Bool) → CallTest A → Meanings → ℕ → List A → List A → Option Priced →
+    Option Priced → Work → Work → Type 0
+AreAdvised has_quit has_answered problem rounds advisors later earlier best before after = (enough : List Bool) ×
+    AreRounds has_quit has_answered problem rounds
+    (record {
+      advisors = advisors;
+      enough = replicate (length advisors) false;
+      best = earlier;
+      work = before;
+    })
+    (record { advisors = later; enough = enough; best = best; work = after })
+
 -- A node in work was evaluated under what it inherits, after which the best solution is the one before or a cheaper one
--- of its region; and then so many rounds of advice were made, before which no advisor had enough.
+-- of its region; then the improver was asked about it so many times, and what it proposed was used; and then the rounds
+-- of advice were made.
 pub record IsInheritedAndAdvised {A : Type 0} (has_quit : A → Bool) (has_answered : CallTest A) (problem : Meanings)
-    (rounds : ℕ) (inherited : List Entry) (advisors later : List A) (earlier best : Option Priced)
-    (before after : Work) : Type 0 where
+    (root : List (List Bool)) (rounds : ℕ) (inherited : List Entry) (advisors later : List A)
+    (earlier best : Option Priced) (before after : Work) : Type 0 where
   pub middle : Option Priced
   pub with_inherited : Work
   pub first : HasInherited problem earlier middle inherited before with_inherited
   pub offered : IsOffered problem before.region earlier middle
-  pub enough : List Bool
-  pub asked : AreRounds has_quit has_answered problem rounds
-      (record {
-        advisors = advisors;
-        enough = replicate (length advisors) false;
-        best = middle;
-        work = with_inherited;
-      })
-      (record { advisors = later; enough = enough; best = best; work = after })
+  pub attempts : ℕ
+  pub improved : Option Priced
+  pub with_improved : Work
+  pub improvements : AreImproved problem root attempts middle improved with_inherited with_improved
+  pub asked : AreAdvised has_quit has_answered problem rounds advisors later improved best with_improved after
 
--- what a node is made of after the first evaluation of its region: the end that this shows, about which no advisor is
--- asked; or what it inherits and the rounds of advice
-abbrev pub IsMadeAfter : {A : Type 0} → (A → Bool) → CallTest A → Meanings → ℕ → List A → List A → Option Priced →
-    Option Priced → List (List Bool) → List Entry → ℕ → Outcome → SearchNode → Type 0
-IsMadeAfter has_quit has_answered problem rounds advisors later middle best region inherited number (Ended ending)
+-- what a node is made of after the first evaluation of its region: the end that this shows, about which nothing is
+-- asked; or what it inherits, the improvements and the rounds of advice
+abbrev pub IsMadeAfter : {A : Type 0} → (A → Bool) → CallTest A → Meanings → List (List Bool) → ℕ → List A → List A →
+    Option Priced → Option Priced → List (List Bool) → List Entry → ℕ → Outcome → SearchNode → Type 0
+IsMadeAfter has_quit has_answered problem root rounds advisors later middle best region inherited number (Ended ending)
     node = (node ≡ Fixed (leaf_of ending)) × (best ≡ middle) × (later ≡ advisors)
-IsMadeAfter has_quit has_answered problem rounds advisors later middle best region inherited number (Open evaluation)
-    node = (work : Work) × IsInheritedAndAdvised has_quit has_answered problem rounds inherited advisors later middle
-    best (begun region evaluation) work × (node ≡ node_from number best work)
+IsMadeAfter has_quit has_answered problem root rounds advisors later middle best region inherited number
+    (Open evaluation) node = (work : Work) × IsInheritedAndAdvised has_quit has_answered problem root rounds inherited
+    advisors later middle best (begun region evaluation) work × (node ≡ node_from number best work)
 
 -- A node was made of a region: it was evaluated with no multipliers, after which the best solution is the one before or
--- a cheaper one of the region; and then, where that leaves it open, under those that it inherits and as the advisors
--- propose.
-pub record IsMade {A : Type 0} (has_quit : A → Bool) (has_answered : CallTest A) (problem : Meanings) (rounds : ℕ)
-    (advisors later : List A) (earlier best : Option Priced) (region : List (List Bool)) (inherited : List Entry)
-    (number : ℕ) (node : SearchNode) : Type 0 where
+-- a cheaper one of the region; and then, where that leaves it open, under those that it inherits and as the improver and
+-- the advisors propose.
+pub record IsMade {A : Type 0} (has_quit : A → Bool) (has_answered : CallTest A) (problem : Meanings)
+    (root : List (List Bool)) (rounds : ℕ) (advisors later : List A) (earlier best : Option Priced)
+    (region : List (List Bool)) (inherited : List Entry) (number : ℕ) (node : SearchNode) : Type 0 where
   pub middle : Option Priced
   pub outcome : Outcome
   pub first : IsOutcome problem region [] middle outcome
   pub offered : IsOffered problem region earlier middle
-  pub after : IsMadeAfter has_quit has_answered problem rounds advisors later middle best region inherited number
+  pub after : IsMadeAfter has_quit has_answered problem root rounds advisors later middle best region inherited number
       outcome node
 
 -- A leaf over a region is put at a place and entered in the frontier, as the others still are. Where it may be branched
@@ -85,8 +96,9 @@ pub record IsPut (problem : Meanings) (region : List (List Bool)) (place : ℕ) 
 -- branched they have the next two numbers, the first one the lower. The best solution is that of the first side, and
 -- then of the second. The nodes are made of the sides of the division, which inherit its multipliers: that of the first
 -- side before that of the second.
-pub record IsBranchedAt {A : Type 0} (has_quit : A → Bool) (has_answered : CallTest A) (problem : Meanings) (rounds : ℕ)
-    (advisors later : List A) (best best' : Option Priced) (before after : List SearchNode) (place : ℕ) : Type 0 where
+pub record IsBranchedAt {A : Type 0} (has_quit : A → Bool) (has_answered : CallTest A) (problem : Meanings)
+    (root : List (List Bool)) (rounds : ℕ) (advisors later : List A) (best best' : Option Priced)
+    (before after : List SearchNode) (place : ℕ) : Type 0 where
   pub division : Division
   pub left : SearchNode
   pub right : SearchNode
@@ -95,10 +107,10 @@ pub record IsBranchedAt {A : Type 0} (has_quit : A → Bool) (has_answered : Cal
   pub left_number : IsNumbered (length before) left
   pub right_number : IsNumbered (length before + 1) right
   pub middle : Option Priced
-  pub first : IsOffered problem division.left best middle
-  pub second : IsOffered problem division.right middle best'
+  pub first : IsOffered problem root best middle
+  pub second : IsOffered problem root middle best'
   pub between : List A
-  pub left_made : IsMade has_quit has_answered problem rounds advisors between best middle division.left
+  pub left_made : IsMade has_quit has_answered problem root rounds advisors between best middle division.left
       division.multipliers (length before) left
-  pub right_made : IsMade has_quit has_answered problem rounds between later middle best' division.right
+  pub right_made : IsMade has_quit has_answered problem root rounds between later middle best' division.right
       division.multipliers (length before + 1) right

@@ -173,7 +173,12 @@ fn single(alloc: Global, index: u32, sign: i8) -> Result<Multipliers, NoMemory>
 }
 
 /// Makes a solution the best where it costs less than the best one so far, or is the first.
-fn offer(alloc: Global, best: &mut Option<Best>, picks: &Picks, cost: Money) -> Result<(), NoMemory>
+pub(crate) fn offer(
+    alloc: Global,
+    best: &mut Option<Best>,
+    picks: &Picks,
+    cost: Money,
+) -> Result<(), NoMemory>
     ensures { OnOk result (plan_in best.new ≡ (if is_below cost.0 (plan_in best.old)
         then Some (record { cost = cost.0; picks = picks.now }) else plan_in best.old)) }
 {

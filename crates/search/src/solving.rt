@@ -12,8 +12,8 @@ ghost use Rattle.search.specs.declared.nodes.SearchNode.{SearchNode};
 ghost use Rattle.search.specs.Questions.{AreAsked, AreTheSame, MayBeAsked, in_rounds};
 ghost use Rattle.search.specs.Ends.{HasEnded, HaveKeptUp, IsFoundBy, found_by, made_or_open};
 ghost use Rattle.search.specs.Frontiers.{HasLeastRank, IsEntered, IsOpenAt};
-ghost use Rattle.search.specs.Putting.{IsBranchedAt, IsInheritedAndAdvised, IsMade, IsNumbered, IsPut};
-ghost use Rattle.search.specs.Nodes.{IsDivisionAt, IsLeafOf, IsSearched, tree_node, tree_nodes};
+ghost use Rattle.search.specs.Putting.{AreAdvised, IsBranchedAt, IsInheritedAndAdvised, IsMade, IsNumbered, IsPut};
+ghost use Rattle.search.specs.Nodes.{IsDivisionAt, IsLeafOf, IsSearched, IsWithin, tree_node, tree_nodes};
 ghost use Rattle.search.specs.Offers.{IsOffered};
 ghost use Rattle.search.specs.Conclusions.{IsSolved, conclusion_of, nodes_found, plan_found, plan_in};
 ghost use Rattle.search.specs.NodesInWork.{IsWorkedOn, is_left_open};
@@ -21,13 +21,24 @@ ghost use Rattle.search.specs.NodesInWork.{IsWorkedOn, is_left_open};
 use crate::evaluation::{Outcome, evaluate, is_below};
 use crate::found::{Best, Found};
 use crate::frontier::Frontier;
+use crate::improving::improve;
 use crate::nodes::{Division, SearchNode};
 use crate::rounds::{NodeAdvice, make_rounds};
 use crate::work::Work;
 use advisors::Advisor;
 use branch_tree::{Multipliers, Node, Region, Relaxation, Tree};
+use improvers::{Improver, NoImprover};
 use rail_base::{Money, NoMemory};
 use std::alloc::Global;
+
+/// How far a search may go.
+#[derive(Clone, Copy)]
+pub struct Allowed {
+    /// How many branchings may be made, at most 4,000.
+    pub branchings: u32,
+    /// In how many rounds the advisors may be asked at a node, at most 100.
+    pub rounds: u8,
+}
 
 /// A search that is under way.
 #[derive(Drop)]
@@ -47,9 +58,10 @@ struct Search {
 /// 4,000, and `rounds` in how many rounds the advisors may be asked at a node, at most 100. Each advisor was asked at
 /// most 2^63 times.
 ///
-/// The answer is true of all solutions in the root and proved by its tree, whatever the advisors propose. `Bounded` comes exactly where all branchings that
-/// are granted are made and a leaf is open: its bound is below the cost of the best solution, or there is none yet.
-/// Else it is `Optimal` where a solution was found, and `Infeasible` where none was: then there is none in the root.
+/// The answer is true of all solutions in the root and proved by its tree, whatever the advisors propose. `Bounded`
+/// comes exactly where all branchings that are granted are made and a leaf is open: its bound is below the cost of the
+/// best solution, or there is none yet. Else it is `Optimal` where a solution was found, and `Infeasible` where none
+/// was: then there is none in the root.
 ///
 /// Afterwards an advisor of the same identity stands at each place, whatever the answer is, and none was asked fewer
 /// times than before. One that had quit stays so and is not asked, and none is asked once it has quit, as its call
@@ -81,18 +93,65 @@ pub fn solve<R: Relaxation>(
         (in_rounds rounds (branchings_of (nodes_found found) + open_leaves_of (plan_found found) (nodes_found found)))
         (rounds * (2 * branchings_of (nodes_found found) + 1))) }
 {
-    let search = run(alloc, problem, root, grant, rounds, advisors)?;
+    let allowed = Allowed {
+        branchings: grant,
+        rounds,
+    };
+    solve_with(alloc, problem, root, allowed, &mut NoImprover, advisors)
+}
+
+/// Finds a solution of least cost in a region by branch and bound, as `solve` does, and asks an improver about each
+/// node too: after its evaluation under what it inherits, and before the rounds of advice, while the node is open.
+///
+/// Nothing is asked of the improver. Multipliers that it proposes are tried where they fit, picks are offered where
+/// they are solutions in the root, and its cut is taken where it is proper. The conditions are those of `solve`, and
+/// all that is said of its answer, of the advisors and of the error holds.
+pub fn solve_with<R: Relaxation, I: Improver>(
+    alloc: Global,
+    problem: &mut R,
+    root: &Region,
+    allowed: Allowed,
+    improver: &mut I,
+    advisors: &mut Vec<Box<dyn Advisor>>,
+) -> Result<Found, NoMemory>
+    requires over { IsOver (R.meanings (R.problem problem.old)).trips
+        (R.meanings (R.problem problem.old)).catalogue root.now }
+    requires grant { allowed.branchings ≤ MOST_BRANCHINGS }
+    requires rounds { allowed.rounds ≤ MOST_ROUNDS }
+    requires asked { All (λ advisor. asked advisor ≤ 2 ^ 63) advisors.old.items }
+    ensures same { R.problem problem.new ≡ R.problem problem.old }
+    ensures solved { IfOk result (IsSolved (R.meanings (R.problem problem.old)) root.now allowed.branchings) }
+    ensures holds { IfOk result (λ found. IsConcluded (R.meanings (R.problem problem.old)) root.now
+        (conclusion_of found)) }
+    ensures advisors { AreTheSame advisors.old.items advisors.new.items identity }
+    ensures asked { AreAsked advisors.old.items advisors.new.items asked has_quit 0
+        (allowed.rounds * (2 * allowed.branchings + 1)) }
+    ensures counted { IfOk result (λ found. AreAsked advisors.old.items advisors.new.items asked has_quit
+        (in_rounds allowed.rounds (branchings_of (nodes_found found)
+        + open_leaves_of (plan_found found) (nodes_found found)))
+        (allowed.rounds * (2 * branchings_of (nodes_found found) + 1))) }
+{
+    let search = run(
+        alloc,
+        problem,
+        root,
+        allowed.branchings,
+        allowed.rounds,
+        improver,
+        advisors,
+    )?;
     let found = search.finish(alloc)?;
     Ok(found)
 }
 
 /// Branches open nodes until none is left or so many branchings are made.
-fn run<R: Relaxation>(
+fn run<R: Relaxation, I: Improver>(
     alloc: Global,
     problem: &mut R,
     root: &Region,
     grant: u32,
     rounds: u8,
+    improver: &mut I,
     advisors: &mut Vec<Box<dyn Advisor>>,
 ) -> Result<Search, NoMemory>
     requires over { IsOver (R.meanings (R.problem problem.old)).trips
@@ -116,23 +175,24 @@ fn run<R: Relaxation>(
         (in_rounds rounds (made_or_open (plan_in search.best) (tree_nodes search.nodes.items)))
         (rounds * (2 * branchings_of (tree_nodes search.nodes.items) + 1))) }
 {
-    let mut search = Search::begin(alloc, problem, root, rounds, advisors)?;
+    let mut search = Search::begin(alloc, problem, root, rounds, improver, advisors)?;
     for _branching in 0..grant {
         let Some(place) = search.frontier.next_open(&search.nodes, &search.best) else {
             return Ok(search);
         };
-        search.branch(alloc, problem, place, rounds, advisors)?;
+        search.branch(alloc, problem, root, place, rounds, improver, advisors)?;
     }
     Ok(search)
 }
 
 impl Search {
     /// A search over a region, which is its one node.
-    fn begin<R: Relaxation>(
+    fn begin<R: Relaxation, I: Improver>(
         alloc: Global,
         problem: &mut R,
         root: &Region,
         rounds: u8,
+        improver: &mut I,
         advisors: &mut Vec<Box<dyn Advisor>>,
     ) -> Result<Search, NoMemory>
         requires over { IsOver (R.meanings (R.problem problem.old)).trips
@@ -148,7 +208,7 @@ impl Search {
             All (IsEntered (plan_in search.best) search.frontier) search.nodes.items) }
         ensures none { IfOk result (λ search. branchings_of (tree_nodes search.nodes.items) ≡ 0) }
         ensures made { IfOk result (λ search. (node : SearchNode) × (search.nodes.items ≡ node ∷ []) ×
-            IsMade has_quit has_answered (R.meanings (R.problem problem.old)) rounds advisors.old.items
+            IsMade has_quit has_answered (R.meanings (R.problem problem.old)) root.now rounds advisors.old.items
             advisors.new.items None (plan_in search.best) root.now [] 0 node) }
 
         // The advisors: that one of the same identity stands at each place, and how often it was asked.
@@ -158,29 +218,33 @@ impl Search {
             (in_rounds rounds (made_or_open (plan_in search.best) (tree_nodes search.nodes.items))) rounds) }
     {
         let inherited = Multipliers::new(alloc)?;
-        let root = root.copy(alloc)?;
+        let region = root.copy(alloc)?;
         let mut search = Search {
             nodes: Vec::new(alloc),
             frontier: Frontier::new(alloc),
             best: None,
         };
-        search.put_node(alloc, problem, 0, root, &inherited, rounds, advisors)?;
+        search.put_node(
+            alloc, problem, root, 0, region, &inherited, rounds, improver, advisors,
+        )?;
         Ok(search)
     }
 
     /// Branches the open node of the least bound, of these the one with the least number, which is at a place. Its left
     /// side is made first.
-    fn branch<R: Relaxation>(
+    fn branch<R: Relaxation, I: Improver>(
         &mut self,
         alloc: Global,
         problem: &mut R,
+        root: &Region,
         place: usize,
         rounds: u8,
+        improver: &mut I,
         advisors: &mut Vec<Box<dyn Advisor>>,
     ) -> Result<(), NoMemory>
         requires accepted { R.IsAccepted (R.problem problem.old) }
-        requires searched { (root : List (List Bool)) × IsSearched (R.meanings (R.problem problem.old)) root
-            (plan_in self.old.best) self.old.nodes.items }
+        requires searched { IsSearched (R.meanings (R.problem problem.old)) root.now (plan_in self.old.best)
+            self.old.nodes.items }
         requires entered { All (IsEntered (plan_in self.old.best) self.old.frontier) self.old.nodes.items }
         requires few { length self.old.nodes.items < MOST_NODES }
         requires open { IsOpenAt (plan_in self.old.best) self.old.nodes.items place }
@@ -189,14 +253,13 @@ impl Search {
 
         // The problem, and the nodes.
         ensures same { R.problem problem.new ≡ R.problem problem.old }
-        ensures searched { OnOk result ((root : List (List Bool)) →
-            IsSearched (R.meanings (R.problem problem.old)) root (plan_in self.old.best) self.old.nodes.items →
-            IsSearched (R.meanings (R.problem problem.old)) root (plan_in self.new.best) self.new.nodes.items) }
+        ensures searched { OnOk result (IsSearched (R.meanings (R.problem problem.old)) root.now
+            (plan_in self.new.best) self.new.nodes.items) }
         ensures entered { OnOk result (All (IsEntered (plan_in self.new.best) self.new.frontier) self.new.nodes.items) }
         ensures one { OnOk result
             (branchings_of (tree_nodes self.new.nodes.items) ≡ branchings_of (tree_nodes self.old.nodes.items) + 1) }
-        ensures branched { OnOk result (IsBranchedAt has_quit has_answered (R.meanings (R.problem problem.old)) rounds
-            advisors.old.items advisors.new.items (plan_in self.old.best) (plan_in self.new.best)
+        ensures branched { OnOk result (IsBranchedAt has_quit has_answered (R.meanings (R.problem problem.old)) root.now
+            rounds advisors.old.items advisors.new.items (plan_in self.old.best) (plan_in self.new.best)
             self.old.nodes.items self.new.nodes.items place) }
 
         // The advisors: that one of the same identity stands at each place, and how often it was asked.
@@ -218,45 +281,52 @@ impl Search {
         self.put_node(
             alloc,
             problem,
+            root,
             place + 1,
             left,
             &multipliers,
             rounds,
+            improver,
             advisors,
         )?;
         self.put_node(
             alloc,
             problem,
+            root,
             place + 2,
             right,
             &multipliers,
             rounds,
+            improver,
             advisors,
         )
     }
 
     /// Makes the node of a region, puts it at a place, and enters it in the frontier. The error is want of memory.
-    fn put_node<R: Relaxation>(
+    fn put_node<R: Relaxation, I: Improver>(
         &mut self,
         alloc: Global,
         problem: &mut R,
+        root: &Region,
         place: usize,
         region: Region,
         inherited: &Multipliers,
         rounds: u8,
+        improver: &mut I,
         advisors: &mut Vec<Box<dyn Advisor>>,
     ) -> Result<(), NoMemory>
         requires few { length self.old.nodes.items ≤ MOST_NODES }
         requires place { place ≤ length self.old.nodes.items }
         requires region { length region ≡ (R.meanings (R.problem problem.old)).trips }
+        requires within { IsWithin root.now region }
         requires fits { DoFitFor (R.meanings (R.problem problem.old)) inherited.now }
         requires room { MayBeAsked advisors.old.items asked rounds }
         ensures same { R.problem problem.new ≡ R.problem problem.old }
-        ensures offered { OnOk result (IsOffered (R.meanings (R.problem problem.old)) region (plan_in self.old.best)
+        ensures offered { OnOk result (IsOffered (R.meanings (R.problem problem.old)) root.now (plan_in self.old.best)
             (plan_in self.new.best)) }
         ensures accepted { OnOk result (R.IsAccepted (R.problem problem.old)) }
         ensures put { OnOk result (IsPut (R.meanings (R.problem problem.old)) region place self.old self.new
-            (IsMade has_quit has_answered (R.meanings (R.problem problem.old)) rounds advisors.old.items
+            (IsMade has_quit has_answered (R.meanings (R.problem problem.old)) root.now rounds advisors.old.items
             advisors.new.items (plan_in self.old.best) (plan_in self.new.best) region inherited.now
             (length self.old.nodes.items))
             (AreAsked advisors.old.items advisors.new.items asked has_quit (in_rounds rounds 1) rounds)) }
@@ -267,11 +337,13 @@ impl Search {
         let node = make_node(
             alloc,
             problem,
+            root,
             region,
             number,
             inherited,
             &mut self.best,
             rounds,
+            improver,
             advisors,
         )?;
         self.nodes.insert(place, node)?;
@@ -341,28 +413,31 @@ fn found_of(least: Option<Money>, best: Option<Best>, tree: Tree) -> Found
 
 /// Makes a node of the search: evaluates its region with no multipliers and then under those that it inherits, and asks
 /// the advisors about it.
-fn make_node<R: Relaxation>(
+fn make_node<R: Relaxation, I: Improver>(
     alloc: Global,
     problem: &mut R,
+    root: &Region,
     region: Region,
     number: u32,
     inherited: &Multipliers,
     best: &mut Option<Best>,
     rounds: u8,
+    improver: &mut I,
     advisors: &mut Vec<Box<dyn Advisor>>,
 ) -> Result<SearchNode, NoMemory>
     requires region { length region ≡ (R.meanings (R.problem problem.old)).trips }
+    requires within { IsWithin root.now region }
     requires fits { DoFitFor (R.meanings (R.problem problem.old)) inherited.now }
     requires room { MayBeAsked advisors.old.items asked rounds }
 
     // The problem, and the node.
     ensures same { R.problem problem.new ≡ R.problem problem.old }
-    ensures offered { OnOk result (IsOffered (R.meanings (R.problem problem.old)) region (plan_in best.old)
+    ensures offered { OnOk result (IsOffered (R.meanings (R.problem problem.old)) root.now (plan_in best.old)
         (plan_in best.new)) }
     ensures accepted { OnOk result (R.IsAccepted (R.problem problem.old)) }
     ensures node { IfOk result (IsLeafOf (R.meanings (R.problem problem.old)) (plan_in best.new) region) }
     ensures number { IfOk result (IsNumbered number) }
-    ensures made { IfOk result (IsMade has_quit has_answered (R.meanings (R.problem problem.old)) rounds
+    ensures made { IfOk result (IsMade has_quit has_answered (R.meanings (R.problem problem.old)) root.now rounds
         advisors.old.items advisors.new.items (plan_in best.old) (plan_in best.new) region inherited.now number) }
 
     // The advisors: that one of the same identity stands at each place, and how often it was asked.
@@ -377,7 +452,10 @@ fn make_node<R: Relaxation>(
         Outcome::Ended(ending) => Ok(SearchNode::Fixed(ending.into_leaf())),
         Outcome::Open(evaluation) => {
             let mut work = Work::new(alloc, region, evaluation)?;
-            let worked = work_on(alloc, problem, &mut work, inherited, best, rounds, advisors);
+            let worked = work_on(
+                alloc, problem, root, &mut work, number, inherited, best, rounds, improver,
+                advisors,
+            );
             worked.and(Ok(work.into_node(number, best)))
         }
     }
@@ -385,16 +463,20 @@ fn make_node<R: Relaxation>(
 
 /// Works on a node after its first evaluation: evaluates it under the multipliers that it inherits, and asks the
 /// advisors about it. The error is want of memory.
-fn work_on<R: Relaxation>(
+fn work_on<R: Relaxation, I: Improver>(
     alloc: Global,
     problem: &mut R,
+    root: &Region,
     work: &mut Work,
+    number: u32,
     inherited: &Multipliers,
     best: &mut Option<Best>,
     rounds: u8,
+    improver: &mut I,
     advisors: &mut Vec<Box<dyn Advisor>>,
 ) -> Result<(), NoMemory>
     requires region { length work.old.region ≡ (R.meanings (R.problem problem.old)).trips }
+    requires within { IsWithin root.now work.old.region }
     requires worked { IsWorkedOn (R.meanings (R.problem problem.old)) (plan_in best.old) work.old }
     requires fits { DoFitFor (R.meanings (R.problem problem.old)) inherited.now }
     requires room { MayBeAsked advisors.old.items asked rounds }
@@ -402,7 +484,7 @@ fn work_on<R: Relaxation>(
     // The problem, and the node.
     ensures same { R.problem problem.new ≡ R.problem problem.old }
     ensures region { OnOk result (work.new.region ≡ work.old.region) }
-    ensures offered { OnOk result (IsOffered (R.meanings (R.problem problem.old)) work.old.region (plan_in best.old)
+    ensures offered { OnOk result (IsOffered (R.meanings (R.problem problem.old)) root.now (plan_in best.old)
         (plan_in best.new)) }
     ensures worked { OnOk result (IsWorkedOn (R.meanings (R.problem problem.old)) (plan_in best.new) work.new) }
 
@@ -412,12 +494,45 @@ fn work_on<R: Relaxation>(
     ensures least { OnOk result (is_left_open (plan_in best.new) work.new ≡ true →
         AreAsked advisors.old.items advisors.new.items asked has_quit (in_rounds rounds 1) rounds) }
 
-    // What is inherited and the rounds make of the node.
+    // What is inherited, the improvements and the rounds make of the node.
     ensures advised { OnOk result (IsInheritedAndAdvised has_quit has_answered (R.meanings (R.problem problem.old))
-        rounds inherited.now advisors.old.items advisors.new.items (plan_in best.old) (plan_in best.new) work.old
-        work.new) }
+        root.now rounds inherited.now advisors.old.items advisors.new.items (plan_in best.old) (plan_in best.new)
+        work.old work.new) }
 {
     work.inherit(alloc, problem, inherited, best)?;
+    improve(alloc, problem, root, work, number, best, improver)?;
+    advise(alloc, problem, work, best, rounds, advisors)
+}
+
+/// Asks the advisors about a node, where it is open. The error is want of memory.
+fn advise<R: Relaxation>(
+    alloc: Global,
+    problem: &mut R,
+    work: &mut Work,
+    best: &mut Option<Best>,
+    rounds: u8,
+    advisors: &mut Vec<Box<dyn Advisor>>,
+) -> Result<(), NoMemory>
+    requires region { length work.old.region ≡ (R.meanings (R.problem problem.old)).trips }
+    requires worked { IsWorkedOn (R.meanings (R.problem problem.old)) (plan_in best.old) work.old }
+    requires room { MayBeAsked advisors.old.items asked rounds }
+
+    // The problem, and the node.
+    ensures same { R.problem problem.new ≡ R.problem problem.old }
+    ensures region { OnOk result (work.new.region ≡ work.old.region) }
+    ensures offered { OnOk result (IsOffered (R.meanings (R.problem problem.old)) work.old.region (plan_in best.old)
+        (plan_in best.new)) }
+    ensures worked { OnOk result (IsWorkedOn (R.meanings (R.problem problem.old)) (plan_in best.new) work.new) }
+
+    // The advisors: that one of the same identity stands at each place, how often it was asked, and what the rounds
+    // make of the node.
+    ensures advisors { AreTheSame advisors.old.items advisors.new.items identity }
+    ensures asked { AreAsked advisors.old.items advisors.new.items asked has_quit 0 rounds }
+    ensures least { OnOk result (is_left_open (plan_in best.new) work.new ≡ true →
+        AreAsked advisors.old.items advisors.new.items asked has_quit (in_rounds rounds 1) rounds) }
+    ensures advised { OnOk result (AreAdvised has_quit has_answered (R.meanings (R.problem problem.old)) rounds
+        advisors.old.items advisors.new.items (plan_in best.old) (plan_in best.new) work.old work.new) }
+{
     if !work.is_open(best) {
         return Ok(());
     }

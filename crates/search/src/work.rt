@@ -4,7 +4,9 @@ ghost use Rattle.std.specs.Prelude.{◌≡◌, true, length, map, IfOk, OnOk};
 ghost use Rattle.branch_tree.specs.Bounds.{AreSlacks};
 ghost use Rattle.branch_tree.specs.Meanings.{DoFitFor};
 ghost use Rattle.branch_tree.specs.Sets.{size_of};
+ghost use Rattle.search.specs.Improvements.{AreTried, IsSeenOf, IsUsedUp};
 ghost use Rattle.search.specs.NodeAdvice.{IsLookAt};
+ghost use Rattle.search.specs.Nodes.{IsWithin};
 ghost use Rattle.search.specs.Offers.{IsOffered};
 ghost use Rattle.search.specs.Conclusions.{plan_in};
 ghost use Rattle.search.specs.NodesInWork.{HasInherited, IsConsidered, IsTakenUp, IsWorkedOn};
@@ -12,9 +14,11 @@ ghost use Rattle.search.specs.NodesInWork.{begun, is_left_open, learned, node_fr
 
 use crate::evaluation::{Ending, Evaluation, Outcome, evaluate, is_below};
 use crate::found::Best;
+use crate::improving::{Attempt, offer_solutions};
 use crate::nodes::{PendingNode, SearchNode};
 use advisors::{Look, Proposal};
 use branch_tree::{Cut, Multipliers, Node, Region, Relaxation, Slacks};
+use improvers::{Improvement, Incumbent, Seen};
 use rail_base::{Money, NoMemory};
 use std::alloc::Global;
 use timetable::Picks;
@@ -80,7 +84,14 @@ impl Work {
         &self.last.picks
     }
 
-    /// All that is shown of the node.
+    /// The picks of the kept evaluation.
+    pub(crate) fn kept_picks(&self) -> &Picks
+        ensures { result.now ≡ self.now.kept.picks }
+    {
+        &self.kept.picks
+    }
+
+    /// All that is shown of the node to advisors.
     pub(crate) fn look<'a, R: Relaxation>(&'a self, problem: &R, shown: &'a Shown) -> Look<'a>
         requires sizes { shown.now.sizes.items ≡ map size_of self.now.region }
         requires slacks { AreSlacks (R.meanings (R.problem problem.now)) self.now.last.picks shown.now.slacks }
@@ -95,6 +106,29 @@ impl Work {
             multipliers: &self.last.multipliers,
             picks: &self.last.picks,
             slacks: &shown.slacks,
+            free_from: problem.free_from(),
+        }
+    }
+
+    /// All that is shown of the node to an improver.
+    pub(crate) fn seen<'a, R: Relaxation>(
+        &'a self,
+        problem: &R,
+        attempt: &'a Attempt,
+        best: &'a Option<Best>,
+    ) -> Seen<'a>
+        requires { AreSlacks (R.meanings (R.problem problem.now)) self.now.kept.picks attempt.now.slacks }
+        ensures { IsSeenOf (R.meanings (R.problem problem.now)) attempt.now.node attempt.now.number self.now result }
+    {
+        Seen {
+            node: attempt.node,
+            attempt: attempt.number,
+            region: &self.region,
+            kept: self.kept.value,
+            multipliers: &self.kept.multipliers,
+            picks: &self.kept.picks,
+            slacks: &attempt.slacks,
+            best: incumbent(best),
             free_from: problem.free_from(),
         }
     }
@@ -189,6 +223,68 @@ impl Work {
         Ok(())
     }
 
+    /// Uses what an improver proposes for the node: its cut is remembered, its picks are offered where they are
+    /// solutions in the root, and its multipliers are considered. The error is want of memory.
+    pub(crate) fn take_improvement<R: Relaxation>(
+        &mut self,
+        alloc: Global,
+        problem: &mut R,
+        root: &Region,
+        improvement: Improvement,
+        best: &mut Option<Best>,
+    ) -> Result<(), NoMemory>
+        requires region { length self.old.region ≡ (R.meanings (R.problem problem.old)).trips }
+        requires within { IsWithin root.now self.old.region }
+        requires worked { IsWorkedOn (R.meanings (R.problem problem.old)) (plan_in best.old) self.old }
+        ensures same { R.problem problem.new ≡ R.problem problem.old }
+        ensures region { OnOk result (self.new.region ≡ self.old.region) }
+        ensures offered { OnOk result (IsOffered (R.meanings (R.problem problem.old)) root.now (plan_in best.old)
+            (plan_in best.new)) }
+        ensures worked { OnOk result (IsWorkedOn (R.meanings (R.problem problem.old)) (plan_in best.new) self.new) }
+        ensures used { OnOk result (IsUsedUp (R.meanings (R.problem problem.old)) root.now improvement
+            (plan_in best.old) (plan_in best.new) self.old self.new) }
+    {
+        let Improvement {
+            multipliers,
+            picks,
+            cut,
+        } = improvement;
+        self.remember(cut);
+        offer_solutions(alloc, problem, root, &picks, best)?;
+        self.consider_any(alloc, problem, multipliers, best)
+    }
+
+    /// Evaluates the node under multipliers, where there are any, they fit and the node is open. The error is want of
+    /// memory.
+    fn consider_any<R: Relaxation>(
+        &mut self,
+        alloc: Global,
+        problem: &mut R,
+        multipliers: Option<Multipliers>,
+        best: &mut Option<Best>,
+    ) -> Result<(), NoMemory>
+        requires region { length self.old.region ≡ (R.meanings (R.problem problem.old)).trips }
+        requires worked { IsWorkedOn (R.meanings (R.problem problem.old)) (plan_in best.old) self.old }
+        ensures same { R.problem problem.new ≡ R.problem problem.old }
+        ensures region { OnOk result (self.new.region ≡ self.old.region) }
+        ensures offered { OnOk result (IsOffered (R.meanings (R.problem problem.old)) self.old.region
+            (plan_in best.old) (plan_in best.new)) }
+        ensures worked { OnOk result (IsWorkedOn (R.meanings (R.problem problem.old)) (plan_in best.new) self.new) }
+        ensures tried { OnOk result (AreTried (R.meanings (R.problem problem.old)) multipliers (plan_in best.old)
+            (plan_in best.new) self.old self.new) }
+    {
+        let Some(multipliers) = multipliers else {
+            return Ok(());
+        };
+        if !self.is_open(best) {
+            return Ok(());
+        }
+        if !multipliers.fits(problem.indices(), problem.free_from()) {
+            return Ok(());
+        }
+        self.consider(alloc, problem, multipliers, best)
+    }
+
     /// Makes an evaluation the last one, and keeps it where its value is greater than that of the kept one. The error
     /// is want of memory.
     fn learn(&mut self, alloc: Global, evaluation: Evaluation) -> Result<(), NoMemory>
@@ -245,5 +341,16 @@ impl Work {
             picks,
             cut,
         })
+    }
+}
+
+/// The best solution, as an improver sees it.
+fn incumbent(best: &Option<Best>) -> Option<Incumbent<'_>> {
+    match best {
+        Some(best) => Some(Incumbent {
+            picks: &best.picks,
+            cost: best.cost,
+        }),
+        None => None,
     }
 }

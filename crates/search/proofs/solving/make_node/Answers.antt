@@ -5,7 +5,7 @@ use Rattle.search.specs.declared.nodes.SearchNode.TheVariants.{Fixed}
 use Rattle.search.specs.declared.evaluation.Outcome.TheVariants.{Ended, Open}
 use Rattle.search.specs.declared.work.Work.{Work}
 use Rattle.search.specs.Evaluations.{IsOutcome}
-use Rattle.search.specs.Nodes.{IsLeafOf, tree_node}
+use Rattle.search.specs.Nodes.{IsLeafOf, IsWithin, tree_node}
 use Rattle.search.specs.Questions.{AreAsked, in_rounds}
 use Rattle.search.specs.Offers.{IsOffered}
 use Rattle.search.specs.Conclusions.{plan_in}
@@ -13,6 +13,7 @@ use Rattle.search.specs.NodesInWork.{IsWorkedOn}
 use Rattle.search.specs.Putting.{IsInheritedAndAdvised, IsMade, IsNumbered}
 use Rattle.search.proofs.Asking.{are_unasked}
 use Rattle.search.proofs.Evaluating.{is_ending, offered_again}
+use Rattle.search.proofs.Offering.{offered_within}
 use Rattle.search.proofs.Placing.{begun, ended_leaf, ended_not_open, leaf_made_from, left_open_made, numbered_from}
 use Rattle.search.proofs.Returning.{if_ok_and, on_ok_and, on_ok_both, on_ok_known}
 use Rattle.search.proofs.solving.make_node.Goals as goal
@@ -56,11 +57,11 @@ returns-in_ok-work-in-Open-clause-offered g c =
     let problem = g.R.Relaxation.meanings (g.R.Relaxation.problem c.args.problem.now) in
     let best = plan_in c.evaluate.new.best in
     let after = plan_in c.work_on-worked.new.best in
-    subst (λ result. OnOk result (IsOffered problem c.args.region (plan_in c.args.best.now) after)) (sym c.and.ensures)
+    subst (λ result. OnOk result (IsOffered problem c.args.root.now (plan_in c.args.best.now) after)) (sym c.and.ensures)
     (on_ok_and _ c.work_on-worked.result c.into_node.result (on_ok_weaker c.work_on-worked.result
-    (λ offered. offered_again problem c.args.region (plan_in c.args.best.now) best after c.in_ok-outcome.ensures.offered
-    (subst (λ work. IsOffered problem work.region best after) c.in_ok-work-in-Open.ensures
-    (subst (λ p. IsOffered (g.R.Relaxation.meanings p) c.in_ok-work-in-Open.work.region best after) c.evaluate.ensures.same offered)))
+    (λ offered. offered_again problem c.args.root.now (plan_in c.args.best.now) best after
+    (offered_within problem c.args.root.now c.args.region (plan_in c.args.best.now) best c.requires.within c.in_ok-outcome.ensures.offered)
+    (subst (λ p. IsOffered (g.R.Relaxation.meanings p) c.args.root.now best after) c.evaluate.ensures.same offered))
     c.work_on-worked.ensures.offered))
 
 pub returns-in_ok-work-in-Open-clause-accepted : goal.returns-in_ok-work-in-Open-clause-accepted
@@ -114,7 +115,7 @@ returns-in_ok-work-in-Open-clause-made g c =
     let best = plan_in c.evaluate.new.best in
     let after = plan_in c.work_on-worked.new.best in
     let inherited = c.args.inherited.now in
-    let Made = IsMade (λ b. (goal.Advisor-dyn g (b.vtable, b.value)).has_quit b.value) (λ b. (goal.Advisor-dyn g (b.vtable, b.value)).has_answered b.value) problem c.args.rounds first last (plan_in c.args.best.now) after c.args.region inherited c.args.number in
+    let Made = IsMade (λ b. (goal.Advisor-dyn g (b.vtable, b.value)).has_quit b.value) (λ b. (goal.Advisor-dyn g (b.vtable, b.value)).has_answered b.value) problem c.args.root.now c.args.rounds first last (plan_in c.args.best.now) after c.args.region inherited c.args.number in
     subst (λ result. IfOk result Made) (sym c.and.ensures)
     (if_ok_and Made c.work_on-worked.result c.into_node.result
     (on_ok_weaker c.work_on-worked.result (λ given. record {
@@ -125,9 +126,15 @@ returns-in_ok-work-in-Open-clause-made g c =
       offered = c.in_ok-outcome.ensures.offered;
       after = (
         c.work_on-worked.new.work,
-        subst (λ work. IsInheritedAndAdvised (λ b. (goal.Advisor-dyn g (b.vtable, b.value)).has_quit b.value) (λ b. (goal.Advisor-dyn g (b.vtable, b.value)).has_answered b.value) problem c.args.rounds inherited first last best after work c.work_on-worked.new.work) c.in_ok-work-in-Open.ensures
-            (subst (λ p. IsInheritedAndAdvised (λ b. (goal.Advisor-dyn g (b.vtable, b.value)).has_quit b.value) (λ b. (goal.Advisor-dyn g (b.vtable, b.value)).has_answered b.value) (g.R.Relaxation.meanings p) c.args.rounds inherited first last best after c.in_ok-work-in-Open.work c.work_on-worked.new.work)
+        subst (λ work. IsInheritedAndAdvised (λ b. (goal.Advisor-dyn g (b.vtable, b.value)).has_quit b.value) (λ b. (goal.Advisor-dyn g (b.vtable, b.value)).has_answered b.value) problem c.args.root.now c.args.rounds inherited first last best after work c.work_on-worked.new.work) c.in_ok-work-in-Open.ensures
+            (subst (λ p. IsInheritedAndAdvised (λ b. (goal.Advisor-dyn g (b.vtable, b.value)).has_quit b.value) (λ b. (goal.Advisor-dyn g (b.vtable, b.value)).has_answered b.value) (g.R.Relaxation.meanings p) c.args.root.now c.args.rounds inherited first last best after c.in_ok-work-in-Open.work c.work_on-worked.new.work)
             c.evaluate.ensures.same given),
         c.into_node.ensures,
       );
     }) c.work_on-worked.ensures.advised))
+
+pub returns-in-Ended-clause-offered : goal.returns-in-Ended-clause-offered
+returns-in-Ended-clause-offered g c = offered_within _ c.args.root.now c.args.region _ _ c.requires.within c.in_ok-outcome.ensures.offered
+
+pub work_on-worked-requires-clause-within : goal.work_on-worked-requires-clause-within
+work_on-worked-requires-clause-within g c = subst (λ (work : Work). IsWithin c.args.root.now work.region) (sym c.in_ok-work-in-Open.ensures) c.requires.within

@@ -62,10 +62,8 @@ pub branch-search-requires-in-loop-branching-clause-accepted : goal.branch-searc
 branch-search-requires-in-loop-branching-clause-accepted g c = subst (λ p. g.R.Relaxation.IsAccepted p) (sym c.loop-branching.invariant.same) c.loop-branching.invariant.accepted
 
 pub branch-search-requires-in-loop-branching-clause-searched : goal.branch-search-requires-in-loop-branching-clause-searched
-branch-search-requires-in-loop-branching-clause-searched g c = (
-  c.args.root.now,
-  subst (λ p. IsSearched (g.R.Relaxation.meanings p) c.args.root.now (plan_in c.loop-branching.search.best) c.loop-branching.search.nodes.items) (sym c.loop-branching.invariant.same) c.loop-branching.invariant.searched,
-)
+branch-search-requires-in-loop-branching-clause-searched g c =
+    subst (λ p. IsSearched (g.R.Relaxation.meanings p) c.args.root.now (plan_in c.loop-branching.search.best) c.loop-branching.search.nodes.items) (sym c.loop-branching.invariant.same) c.loop-branching.invariant.searched
 
 pub branch-search-requires-in-loop-branching-clause-few : goal.branch-search-requires-in-loop-branching-clause-few
 branch-search-requires-in-loop-branching-clause-few g c =
@@ -99,8 +97,7 @@ loop-branching-preserved g c =
       same = c.branch-search-in-loop-branching.ensures.same ∙ c.loop-branching.invariant.same;
       accepted = c.loop-branching.invariant.accepted;
       searched = subst (λ p. IsSearched (g.R.Relaxation.meanings p) c.args.root.now after c.branch-search-in-loop-branching.new.self.nodes.items) c.loop-branching.invariant.same
-          (c.in_ok-branch.ensures.searched c.args.root.now
-          (subst (λ p. IsSearched (g.R.Relaxation.meanings p) c.args.root.now before c.loop-branching.search.nodes.items) (sym c.loop-branching.invariant.same) c.loop-branching.invariant.searched));
+          c.in_ok-branch.ensures.searched;
       entered = c.in_ok-branch.ensures.entered;
       made = c.in_ok-branch.ensures.one ∙ ap (λ (made : ℕ). made + 1) c.loop-branching.invariant.made;
       advisors = c.branch-search-in-loop-branching.ensures.advisors ∙ c.loop-branching.invariant.advisors;

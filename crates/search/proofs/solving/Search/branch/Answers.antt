@@ -14,7 +14,7 @@ use Rattle.search.specs.Conclusions.{plan_in}
 use Rattle.search.proofs.Asking.{are_asked_again, are_asked_within, are_unasked, may_be_asked_yet}
 use Rattle.search.proofs.Counting.{asked_for_both, asked_if_open}
 use Rattle.search.proofs.Entering.{entered_on}
-use Rattle.search.proofs.Growing.{after_branch, branchings_after, kept_up, put_after}
+use Rattle.search.proofs.Growing.{after_branch, branchings_after, kept_up, put_after, sides_within}
 use Rattle.search.proofs.Returning.{on_ok_both}
 use Rattle.search.proofs.solving.Search.branch.Goals as goal
 
@@ -51,6 +51,15 @@ put_node-requires-2-clause-room g c =
     may_be_asked_yet _ _ 0 c.args.rounds c.args.rounds c.args.advisors.now.items c.put_node.new.advisors.items
     (λ place none below. omega (arith, c.requires.room place none below)) c.put_node.ensures.asked
 
+pub put_node-requires-clause-within : goal.put_node-requires-clause-within
+put_node-requires-clause-within g c = (sides_within _ c.args.root.now _ _ _ _ c.in_ok-division.ensures c.requires.searched).0
+
+pub put_node-requires-2-clause-within : goal.put_node-requires-2-clause-within
+put_node-requires-2-clause-within g c = (sides_within _ c.args.root.now _ _ _ _ c.in_ok-division.ensures c.requires.searched).1
+
+pub divide_at-requires-clause-searched : goal.divide_at-requires-clause-searched
+divide_at-requires-clause-searched g c = (c.args.root.now, c.requires.searched)
+
 pub returns-in_err-put_node-clause-asked : goal.returns-in_err-put_node-clause-asked
 returns-in_err-put_node-clause-asked g c =
     are_asked_within _ _ 0 c.args.rounds 0 (2 * c.args.rounds) c.args.advisors.now.items c.put_node.new.advisors.items (omega arith) (omega arith) c.put_node.ensures.asked
@@ -69,15 +78,15 @@ returns-clause-searched g c =
     let middle = plan_in c.put_node.new.self.best in
     let new = plan_in c.put_node-2.new.self.best in
     let one = c.in_ok-put_node.ensures.put in
-    on_ok_both c.put_node-2.result c.put_node-2.ensures.put c.put_node-2.ensures.offered (λ other second root searched.
+    on_ok_both c.put_node-2.result c.put_node-2.ensures.put c.put_node-2.ensures.offered (λ other second.
     let items : c.put_node-2.new.self.nodes.items ≡ branched c.args.self.now.nodes.items c.args.place c.in_ok-division.division.cut one.node other.node =
     put_after c.args.self.now.nodes.items c.args.place c.in_ok-division.division.cut one.node other.node c.put_node.new.self.nodes.items c.put_node-2.new.self.nodes.items c.requires.open.within one.nodes other.nodes in
-    subst (λ items. IsSearched problem root new items) (sym items)
-    (after_branch problem root (plan_in c.args.self.now.best) middle new c.args.self.now.nodes.items c.args.place c.in_ok-division.division one.node other.node
+    subst (λ items. IsSearched problem c.args.root.now new items) (sym items)
+    (after_branch problem c.args.root.now (plan_in c.args.self.now.best) middle new c.args.self.now.nodes.items c.args.place c.in_ok-division.division one.node other.node
     c.in_ok-division.ensures one.leaf c.in_ok-put_node.ensures.offered
     (subst (λ p. IsLeafOf (g.R.Relaxation.meanings p) new c.in_ok-division.division.right other.node) c.put_node.ensures.same other.leaf)
-    (subst (λ p. IsOffered (g.R.Relaxation.meanings p) c.in_ok-division.division.right middle new) c.put_node.ensures.same second)
-    searched))
+    (subst (λ p. IsOffered (g.R.Relaxation.meanings p) c.args.root.now middle new) c.put_node.ensures.same second)
+    c.requires.searched))
 
 pub returns-clause-one : goal.returns-clause-one
 returns-clause-one g c =
@@ -107,10 +116,10 @@ returns-clause-counted g c =
     let right : ℕ = if is_open new (tree_node other.node) then 1 else 0 in (
       left + right,
       subst (λ items. made_or_open new (tree_nodes items) ≤ made_or_open old (tree_nodes c.args.self.now.nodes.items) + (left + right)) (sym items)
-          (kept_up problem old middle new c.args.self.now.nodes.items c.args.place c.in_ok-division.division one.node other.node
+          (kept_up problem c.args.root.now old middle new c.args.self.now.nodes.items c.args.place c.in_ok-division.division one.node other.node
           c.in_ok-division.ensures one.leaf c.in_ok-put_node.ensures.offered
           (subst (λ p. IsLeafOf (g.R.Relaxation.meanings p) new c.in_ok-division.division.right other.node) c.put_node.ensures.same other.leaf)
-          (subst (λ p. IsOffered (g.R.Relaxation.meanings p) c.in_ok-division.division.right middle new) c.put_node.ensures.same second)),
+          (subst (λ p. IsOffered (g.R.Relaxation.meanings p) c.args.root.now middle new) c.put_node.ensures.same second)),
       asked_for_both _ _ c.args.rounds left right c.args.advisors.now.items c.put_node.new.advisors.items c.put_node-2.new.advisors.items
           (asked_if_open _ _ c.args.rounds (is_open middle (tree_node one.node)) c.args.advisors.now.items c.put_node.new.advisors.items c.put_node.ensures.asked one.done)
           (asked_if_open _ _ c.args.rounds (is_open new (tree_node other.node)) c.put_node.new.advisors.items c.put_node-2.new.advisors.items c.put_node-2.ensures.asked other.done),
@@ -127,9 +136,9 @@ returns-clause-entered g c =
     put_after c.args.self.now.nodes.items c.args.place c.in_ok-division.division.cut one.node other.node c.put_node.new.self.nodes.items c.put_node-2.new.self.nodes.items c.requires.open.within one.nodes other.nodes in
     let after = c.put_node-2.new.self.frontier in
     subst (λ items. All (IsEntered new after) items) (sym items)
-    (entered_on problem (plan_in c.args.self.now.best) middle new c.args.self.now.frontier after c.args.self.now.nodes.items c.args.place c.in_ok-division.division one.node other.node
+    (entered_on problem c.args.root.now (plan_in c.args.self.now.best) middle new c.args.self.now.frontier after c.args.self.now.nodes.items c.args.place c.in_ok-division.division one.node other.node
     c.in_ok-division.ensures c.in_ok-put_node.ensures.offered
-    (subst (λ p. IsOffered (g.R.Relaxation.meanings p) c.in_ok-division.division.right middle new) c.put_node.ensures.same second)
+    (subst (λ p. IsOffered (g.R.Relaxation.meanings p) c.args.root.now middle new) c.put_node.ensures.same second)
     (other.others new one.node (one.entered new)) (other.entered new) (λ node entered. other.others new node (one.others new node entered)) c.requires.entered))
 
 pub returns-clause-branched : goal.returns-clause-branched
@@ -151,12 +160,12 @@ returns-clause-branched g c =
       right_number = subst (λ (n : ℕ). IsNumbered n other.node) longer other.number;
       middle = plan_in c.put_node.new.self.best;
       first = c.in_ok-put_node.ensures.offered;
-      second = subst (λ p. IsOffered (g.R.Relaxation.meanings p) c.in_ok-division.division.right (plan_in c.put_node.new.self.best) (plan_in c.put_node-2.new.self.best)) c.put_node.ensures.same second;
+      second = subst (λ p. IsOffered (g.R.Relaxation.meanings p) c.args.root.now (plan_in c.put_node.new.self.best) (plan_in c.put_node-2.new.self.best)) c.put_node.ensures.same second;
       between = c.put_node.new.advisors.items;
-      left_made = subst (λ (n : ℕ). IsMade (λ b. (goal.Advisor-dyn g (b.vtable, b.value)).has_quit b.value) (λ b. (goal.Advisor-dyn g (b.vtable, b.value)).has_answered b.value) problem c.args.rounds c.args.advisors.now.items c.put_node.new.advisors.items (plan_in c.args.self.now.best) (plan_in c.put_node.new.self.best)
+      left_made = subst (λ (n : ℕ). IsMade (λ b. (goal.Advisor-dyn g (b.vtable, b.value)).has_quit b.value) (λ b. (goal.Advisor-dyn g (b.vtable, b.value)).has_answered b.value) problem c.args.root.now c.args.rounds c.args.advisors.now.items c.put_node.new.advisors.items (plan_in c.args.self.now.best) (plan_in c.put_node.new.self.best)
           c.in_ok-division.division.left c.in_ok-division.division.multipliers n one.node) same one.made;
-      right_made = subst (λ (n : ℕ). IsMade (λ b. (goal.Advisor-dyn g (b.vtable, b.value)).has_quit b.value) (λ b. (goal.Advisor-dyn g (b.vtable, b.value)).has_answered b.value) problem c.args.rounds c.put_node.new.advisors.items c.put_node-2.new.advisors.items (plan_in c.put_node.new.self.best) (plan_in c.put_node-2.new.self.best)
+      right_made = subst (λ (n : ℕ). IsMade (λ b. (goal.Advisor-dyn g (b.vtable, b.value)).has_quit b.value) (λ b. (goal.Advisor-dyn g (b.vtable, b.value)).has_answered b.value) problem c.args.root.now c.args.rounds c.put_node.new.advisors.items c.put_node-2.new.advisors.items (plan_in c.put_node.new.self.best) (plan_in c.put_node-2.new.self.best)
           c.in_ok-division.division.right c.in_ok-division.division.multipliers n other.node) longer
-          (subst (λ p. IsMade (λ b. (goal.Advisor-dyn g (b.vtable, b.value)).has_quit b.value) (λ b. (goal.Advisor-dyn g (b.vtable, b.value)).has_answered b.value) (g.R.Relaxation.meanings p) c.args.rounds c.put_node.new.advisors.items c.put_node-2.new.advisors.items (plan_in c.put_node.new.self.best) (plan_in c.put_node-2.new.self.best)
+          (subst (λ p. IsMade (λ b. (goal.Advisor-dyn g (b.vtable, b.value)).has_quit b.value) (λ b. (goal.Advisor-dyn g (b.vtable, b.value)).has_answered b.value) (g.R.Relaxation.meanings p) c.args.root.now c.args.rounds c.put_node.new.advisors.items c.put_node-2.new.advisors.items (plan_in c.put_node.new.self.best) (plan_in c.put_node-2.new.self.best)
           c.in_ok-division.division.right c.in_ok-division.division.multipliers (length c.put_node.new.self.nodes.items) other.node) c.put_node.ensures.same other.made);
     })

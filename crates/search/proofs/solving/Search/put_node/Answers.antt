@@ -18,7 +18,7 @@ returns-clause-put g c =
       node = c.in_ok-node.node;
       leaf = c.in_ok-node.ensures.node;
       number = subst (λ number. IsNumbered number c.in_ok-node.node) count c.in_ok-node.ensures.number;
-      made = subst (λ (number : ℕ). IsMade (λ b. (goal.Advisor-dyn g (b.vtable, b.value)).has_quit b.value) (λ b. (goal.Advisor-dyn g (b.vtable, b.value)).has_answered b.value) (g.R.Relaxation.meanings (g.R.Relaxation.problem c.args.problem.now)) c.args.rounds
+      made = subst (λ (number : ℕ). IsMade (λ b. (goal.Advisor-dyn g (b.vtable, b.value)).has_quit b.value) (λ b. (goal.Advisor-dyn g (b.vtable, b.value)).has_answered b.value) (g.R.Relaxation.meanings (g.R.Relaxation.problem c.args.problem.now)) c.args.root.now c.args.rounds
           c.args.advisors.now.items c.make_node.new.advisors.items (plan_in c.args.self.now.best) (plan_in c.make_node.new.best) c.args.region c.args.inherited.now number c.in_ok-node.node) count c.in_ok-node.ensures.made;
       nodes = c.in_ok-insert.ensures.items;
       entered = λ best. subst (λ node. IsEntered best c.enter.new.self node) here (entered best);

@@ -6,7 +6,7 @@ use Rattle.search.specs.Questions.{AreAsked, in_rounds}
 use Rattle.search.specs.Nodes.{tree_nodes}
 use Rattle.search.specs.Conclusions.{conclusion_of, nodes_found, plan_found, plan_in}
 use Rattle.search.proofs.Finishing.{found_nodes, length-tree, solved}
-use Rattle.search.proofs.solving.solve.Goals as goal
+use Rattle.search.proofs.solving.solve_with.Goals as goal
 
 pub finish-requires : goal.finish-requires
 finish-requires g c =
@@ -16,7 +16,7 @@ finish-requires g c =
 
 pub returns-clause-solved : goal.returns-clause-solved
 returns-clause-solved g c =
-    solved (g.R.Relaxation.meanings (g.R.Relaxation.problem c.args.problem.now)) c.args.root.now c.args.grant c.in_ok-search.search.best c.in_ok-search.search.nodes.items c.in_ok-found.found
+    solved (g.R.Relaxation.meanings (g.R.Relaxation.problem c.args.problem.now)) c.args.root.now c.args.allowed.branchings c.in_ok-search.search.best c.in_ok-search.search.nodes.items c.in_ok-found.found
     c.in_ok-search.ensures.searched c.in_ok-search.ensures.granted c.in_ok-search.ensures.ended c.in_ok-found.ensures
 
 pub returns-clause-holds : goal.returns-clause-holds
@@ -33,6 +33,6 @@ returns-clause-counted g c =
     let nodes : nodes_found c.in_ok-found.found ≡ tree = ap nodes_found c.in_ok-found.ensures.is ∙ both.0 in
     let plan : plan_found c.in_ok-found.found ≡ plan_in c.in_ok-search.search.best = ap plan_found c.in_ok-found.ensures.is ∙ both.1 in
     subst (λ all. AreAsked c.args.advisors.now.items c.run.new.advisors.items (λ b. (goal.Advisor-dyn g (b.vtable, b.value)).asked b.value) (λ b. (goal.Advisor-dyn g (b.vtable, b.value)).has_quit b.value)
-    (in_rounds c.args.rounds (branchings_of all + open_leaves_of (plan_found c.in_ok-found.found) all)) (c.args.rounds * (2 * branchings_of all + 1))) (sym nodes)
+    (in_rounds c.args.allowed.rounds (branchings_of all + open_leaves_of (plan_found c.in_ok-found.found) all)) (c.args.allowed.rounds * (2 * branchings_of all + 1))) (sym nodes)
     (subst (λ best. AreAsked c.args.advisors.now.items c.run.new.advisors.items (λ b. (goal.Advisor-dyn g (b.vtable, b.value)).asked b.value) (λ b. (goal.Advisor-dyn g (b.vtable, b.value)).has_quit b.value)
-    (in_rounds c.args.rounds (branchings_of tree + open_leaves_of best tree)) (c.args.rounds * (2 * branchings_of tree + 1))) (sym plan) c.in_ok-search.ensures.counted)
+    (in_rounds c.args.allowed.rounds (branchings_of tree + open_leaves_of best tree)) (c.args.allowed.rounds * (2 * branchings_of tree + 1))) (sym plan) c.in_ok-search.ensures.counted)
