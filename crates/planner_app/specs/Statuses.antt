@@ -41,7 +41,7 @@ pub record EndsPlanning (files : Files) (dir : List ℕ) (nodes status : ℕ)
   -- 3 exactly where a table is refused
   pub refused : (status ≡ 3) ↔ ((why : Refusal) × (day_in files dir ≡ Err why))
   -- where it isn't 3, the tables are accepted as a day, and an answer to it was written
-  pub answered : status ≢ 3 → (day : Day) × (day_in files dir ≡ Ok day) 
+  pub answered : status ≢ 3 → (day : Day) × (day_in files dir ≡ Ok day)
       × IsAnswered text_of day nodes status before after
 
 -- the status with which a plan of a folder is run
