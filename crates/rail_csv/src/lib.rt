@@ -16,7 +16,7 @@ mod table_rows;
 pub use columns::{digits_value, name_of, number_of, time_of};
 pub use header_words::{column_name, header};
 pub use readers::{links, plan, stations, stock, trips, types, weights};
-pub use reading::{field_bytes, is_header, next_record, records_in};
+pub use reading::{field_bytes, field_text, is_header, next_record, records_in};
 pub use refusal::TableRefusal;
 pub use rows::{
     End, KindWord, LinkRow, PlanRow, StationRow, StockRow, Table, TripRow, TypeRow, UnitList,

@@ -1,6 +1,8 @@
 //! How every table is read: its header, and then its rows in order, up to the limit or the first that is wrong.
 
 ghost use Rattle.std.specs.Prelude.{◌≡◌, ◌≤◌, ◌<◌, ◌+◌, ◌^◌, [], length, map, Ok, IfOk, IfErr, MatchOption, MatchBool};
+ghost use Rattle.std.specs.Prelude.{is_some, IfSome};
+ghost use Rattle.std.specs.Str.{is_utf8};
 ghost use Rattle.csv.specs.Reading.{NotLengths, error_kind};
 ghost use Rattle.csv.specs.Records.{fields_of};
 ghost use Rattle.rail_base.specs.Answers.{Fails, Gives, GivesRows};
@@ -50,6 +52,18 @@ pub fn field_bytes(found: &ByteRecord, column: usize) -> &[u8]
     match found.get(column) {
         Some(bytes) => bytes,
         None => b"",
+    }
+}
+
+/// The text of a record's field, by its column, counted from 0, and the empty text where there is no such column; nothing
+/// where the bytes of the field are not UTF-8.
+pub fn field_text(found: &ByteRecord, column: usize) -> Option<&str>
+    ensures utf8 { is_some result ≡ is_utf8 (field (fields_of found.now) column) }
+    ensures text { IfSome result (λ text. text.now ≡ field (fields_of found.now) column) }
+{
+    match std::str::from_utf8(field_bytes(found, column)) {
+        Ok(text) => Some(text),
+        Err(_) => None,
     }
 }
 
@@ -124,7 +138,7 @@ fn record_of(read: Result<ByteRecord, Error>) -> Result<ByteRecord, NoMemory>
 }
 
 /// The next of the records that are left; none where all are read, and then there is nothing more to be read. The error
-/// is want of memory, and ends the reading too.
+/// is want of memory.
 pub fn next_record(records: &mut ByteRecordsIntoIter<&[u8]>) -> Result<Option<ByteRecord>, NoMemory>
     requires { ReadsOn records.old }
     ensures { IfOk result (λ next. MatchOption next (records_left records.old ≡ [])
