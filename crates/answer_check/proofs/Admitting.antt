@@ -15,7 +15,7 @@ use Rattle.timetable.specs.Picks.{picked}
 use Rattle.timetable.specs.Running.{Runs}
 use Rattle.timetable.proofs.AdmittedTypes.{CompositionOf, composition_of}
 use Rattle.price_bound.proofs.Solving.{list_read}
-use Rattle.answer_check.specs.Validity.{RunsByPicks}
+use Rattle.timetable.specs.Picks.{RunsByPicks}
 use Rattle.answer_check.specs.Verdicts.{IsCompOf}
 
 pub record AreFew (ms : List ℕ) : Type 0 where

@@ -32,7 +32,8 @@ use Rattle.answer_check.specs.declared.answered_plan.RunsRefusal.{RunsRefusal}
 use Rattle.answer_check.specs.declared.answered_plan.RunsRefusal.TheVariants as runs_refusal
 use Rattle.answer_check.specs.declared.checking.AnswerVerdict.{AnswerVerdict}
 use Rattle.answer_check.specs.declared.checking.AnswerVerdict.TheVariants as verdict
-use Rattle.answer_check.specs.Validity.{RunsByPicks, conclusion_of}
+use Rattle.answer_check.specs.Validity.{conclusion_of}
+use Rattle.timetable.specs.Picks.{RunsByPicks}
 use Rattle.answer_check.specs.Verdicts.{CanCome, IsAnswerVerdict, IsPicksRefusal, IsRefuted, VerdictOf}
 
 -- ---- tests that are failed for other reasons

@@ -10,7 +10,8 @@ use Rattle.answer_text.specs.declared.answer.Answer.{Answer}
 use Rattle.answer_text.specs.declared.answer.Head.{Head}
 use Rattle.answer_text.specs.declared.answer.Head.TheVariants.{Optimal, Infeasible, Bounded, BoundedPlan}
 use Rattle.answer_text.specs.Limits.{has_plan}
-use Rattle.answer_check.specs.Validity.{HasPicks, RunsByPicks, conclusion_of}
+use Rattle.answer_check.specs.Validity.{HasPicks, conclusion_of}
+use Rattle.timetable.specs.Picks.{RunsByPicks}
 
 abbrev AreKnown : Day → List ℕ → Type 0
 AreKnown day picks = All (λ comp. comp < length (compositions_of day)) picks

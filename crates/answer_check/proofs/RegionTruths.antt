@@ -10,7 +10,8 @@ use Rattle.answer_text.specs.declared.answer.Head.{Head}
 use Rattle.answer_text.specs.declared.answer.Head.TheVariants.{Optimal, Infeasible, Bounded, BoundedPlan}
 use Rattle.answer_text.specs.Limits.{has_plan}
 use Rattle.answer_check.specs.RegionTruths.{ConcludedIsTrueIn, IsPlanWithin, IsTrueIn}
-use Rattle.answer_check.specs.Validity.{RunsByPicks, conclusion_of}
+use Rattle.answer_check.specs.Validity.{conclusion_of}
+use Rattle.timetable.specs.Picks.{RunsByPicks}
 
 module _ (day : Day) (changes : List Change) (region : List (List Bool)) (runs : List (List ℕ)) (picks : List ℕ) where
   is_plan : (cost : ℤ) → RunsByPicks day runs picks

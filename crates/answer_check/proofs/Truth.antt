@@ -13,7 +13,8 @@ use Rattle.answer_text.specs.declared.answer.Head.{Head}
 use Rattle.answer_text.specs.declared.answer.Head.TheVariants.{Optimal, Infeasible, Bounded, BoundedPlan}
 use Rattle.answer_text.specs.Limits.{has_plan}
 use Rattle.answer_check.specs.Headline.{IsPlanOf, IsTrueOf}
-use Rattle.answer_check.specs.Validity.{IsValid, RunsByPicks, conclusion_of}
+use Rattle.answer_check.specs.Validity.{IsValid, conclusion_of}
+use Rattle.timetable.specs.Picks.{RunsByPicks}
 
 module _ (day : Day) (accepted : IsAccepted day) (runs : List (List ℕ)) (picks : List ℕ) where
   -- the cost of the picks is that of the plan

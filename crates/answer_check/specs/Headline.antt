@@ -4,7 +4,7 @@ use Rattle.std.specs.Prelude.{ℕ, ◌≡◌, List, ℤ, pos, Option}
 use Rattle.rail_io.specs.Sinks.{Appends}
 use Rattle.timetable.specs.Cost.{plan_cost}
 use Rattle.timetable.specs.Day.{Day}
-use Rattle.timetable.specs.PlanBounds.{PlansCostAtLeast, NoPlanRuns}
+use Rattle.timetable.specs.Cost.{PlansCostAtLeast, NoPlanRuns}
 use Rattle.timetable.specs.Running.{Runs}
 use Rattle.answer_text.specs.declared.answer.Answer.{Answer}
 use Rattle.answer_text.specs.declared.answer.Head.{Head}

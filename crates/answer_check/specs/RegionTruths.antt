@@ -10,7 +10,8 @@ use Rattle.price_bound.specs.PlanBounds.{NoPlanRunsIn, PlansInCostAtLeast, RunsI
 use Rattle.answer_text.specs.declared.answer.Head.{Head}
 use Rattle.answer_text.specs.declared.answer.Head.TheVariants.{Optimal, Infeasible, Bounded, BoundedPlan}
 use Rattle.answer_text.specs.Limits.{has_plan}
-use Rattle.answer_check.specs.Validity.{RunsByPicks, conclusion_of}
+use Rattle.answer_check.specs.Validity.{conclusion_of}
+use Rattle.timetable.specs.Picks.{RunsByPicks}
 
 -- the runs are a plan that runs by these picks, which lie in the region, and this is its cost with what the changes add
 pub record IsPlanWithin (day : Day) (changes : List Change) (region : List (List Bool)) (runs : List (List ℕ))

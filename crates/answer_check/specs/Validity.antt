@@ -1,8 +1,7 @@
 -- When an answer is valid: its plan runs, and its tree proves what it says.
-use Rattle.std.specs.Prelude.{ℕ, ◌≡◌, List, map, Bool, IsTrue}
-use Rattle.timetable.specs.Day.{Day, types_of}
-use Rattle.timetable.specs.Picks.{ArePicks, picked}
-use Rattle.timetable.specs.Running.{Runs}
+use Rattle.std.specs.Prelude.{ℕ, List, Bool, IsTrue}
+use Rattle.timetable.specs.Day.{Day}
+use Rattle.timetable.specs.Picks.{RunsByPicks}
 use Rattle.branch_tree.specs.Claims.{Conclusion, IsProved, optimal, infeasible, bounded, bounded_plan}
 use Rattle.branch_tree.specs.Meanings.{Meanings}
 use Rattle.branch_tree.specs.Regions.{root_of}
@@ -18,12 +17,6 @@ conclusion_of (Optimal cost) picks = optimal (record { cost = cost.0; picks = pi
 conclusion_of Infeasible picks = infeasible
 conclusion_of (Bounded bound) picks = bounded bound.0
 conclusion_of (BoundedPlan bound cost) picks = bounded_plan bound.0 (record { cost = cost.0; picks = picks })
-
--- a plan runs, and these are its compositions
-pub record RunsByPicks (day : Day) (plan : List (List ℕ)) (picks : List ℕ) : Type 0 where
-  pub runs : Runs day plan
-  pub are_picks : ArePicks day picks
-  pub types : picked day picks ≡ map (types_of day) plan
 
 -- where the answer has a plan, it runs, and these are its compositions; where it has none, nothing is said of them
 abbrev pub HasPicks : Day → Answer → List ℕ → Type 0

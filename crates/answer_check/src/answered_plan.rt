@@ -6,7 +6,7 @@ ghost use Rattle.timetable.specs.Running as running;
 ghost use Rattle.timetable.specs.Day.{types_of};
 ghost use Rattle.timetable.specs.Links.{list_of};
 ghost use Rattle.timetable.specs.Plans.{are_units};
-ghost use Rattle.answer_check.specs.Validity.{RunsByPicks};
+ghost use Rattle.timetable.specs.Picks.{RunsByPicks};
 ghost use Rattle.answer_check.specs.Verdicts.{IsCompOf, IsFoundOf, IsRunsRefusal};
 
 use answer_text::Runs;

@@ -21,7 +21,8 @@ use Rattle.answer_text.specs.declared.answer.Head.{Head}
 use Rattle.answer_text.specs.declared.answer.Head.TheVariants.{Optimal, Infeasible, Bounded, BoundedPlan}
 use Rattle.answer_text.specs.Limits.{IsAmount, IsHead, IsNode, IsRun, IsWithin, has_plan}
 use Rattle.answer_check.specs.ProvedTrees.{HasProvedTreeIn, bound_said, plan_said}
-use Rattle.answer_check.specs.Validity.{RunsByPicks, conclusion_of}
+use Rattle.answer_check.specs.Validity.{conclusion_of}
+use Rattle.timetable.specs.Picks.{RunsByPicks}
 use Rattle.day_planner.specs.Answerable.{IsAnswerable}
 use Rattle.day_planner.specs.FoundAnswers.{SaysFound}
 use Rattle.day_planner.specs.Laws.{SaidAnswersAreProved}

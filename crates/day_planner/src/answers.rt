@@ -4,7 +4,7 @@
 ghost use Rattle.std.specs.Prelude.{◌≡◌, [], IfOk};
 ghost use Rattle.branch_tree.specs.Trees.{KeepLimits, branchings_of};
 ghost use Rattle.search.specs.declared.found.Found.TheVariants.{Bounded};
-ghost use Rattle.answer_check.specs.Validity.{RunsByPicks};
+ghost use Rattle.timetable.specs.Picks.{RunsByPicks};
 ghost use Rattle.day_planner.specs.FoundAnswers.{IsNameable, SaysFound};
 
 use crate::naming::Naming;

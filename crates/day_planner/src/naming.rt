@@ -5,7 +5,7 @@ ghost use Rattle.timetable.specs.Day.{Day};
 ghost use Rattle.timetable.specs.Picks.{IsSolution};
 ghost use Rattle.transitions.specs.Edges.{AreGraphs};
 ghost use Rattle.answer_check.specs.ProvedTrees.{named_for};
-ghost use Rattle.answer_check.specs.Validity.{RunsByPicks};
+ghost use Rattle.timetable.specs.Picks.{RunsByPicks};
 
 use rail_base::NoMemory;
 use rail_base::limits::{MOST_LINKS, MOST_TRIPS, MOST_UNITS};

@@ -9,7 +9,7 @@ use Rattle.timetable.specs.Cost.{cost_of, plan_cost}
 use Rattle.timetable.specs.Day.{Day, types_of}
 use Rattle.timetable.specs.Links.{list_of}
 use Rattle.timetable.specs.Picks.{IsSolution, picked}
-use Rattle.timetable.specs.PlanBounds.{PlansCostAtLeast, NoPlanRuns}
+use Rattle.timetable.specs.Cost.{PlansCostAtLeast, NoPlanRuns}
 use Rattle.timetable.specs.Running.{Runs}
 use Rattle.timetable.proofs.AdmittedTypes.{CompositionOf, composition_of}
 use Rattle.branch_tree.specs.declared.relaxation.Weight.TheVariants.{Cost}

@@ -3,7 +3,7 @@ use Rattle.std.specs.Prelude.{ℕ, ◌≡◌, ◌+◌, ◌↔◌, List, map, Boo
 use Rattle.timetable.specs.Cost.{plan_cost}
 use Rattle.timetable.specs.Day.{Day, types_of}
 use Rattle.timetable.specs.Picks.{IsSolution, picked}
-use Rattle.timetable.specs.PlanBounds.{PlansCostAtLeast, NoPlanRuns}
+use Rattle.timetable.specs.Cost.{PlansCostAtLeast, NoPlanRuns}
 use Rattle.timetable.specs.Running.{Runs}
 use Rattle.branch_tree.specs.declared.multipliers.Entry.{Entry}
 use Rattle.branch_tree.specs.declared.relaxation.Weight.TheVariants.{Cost}

@@ -1,6 +1,7 @@
--- What a plan costs. It depends on the types of its lists alone.
-use Rattle.std.specs.Prelude.{ℕ, ◌+◌, ◌-◌, ◌*◌, List, map, length, Bool, false, not, ◌&&◌, ◌==◌, if◌then◌else◌, option_map}
-use Rattle.std.specs.Prelude.{unwrap_or, slice_get}
+-- What a plan costs, which depends on the types of its lists alone; and what is said of all plans of a day: how little
+-- one that runs may cost, or that none runs.
+use Rattle.std.specs.Prelude.{ℕ, ◌+◌, ◌-◌, ◌*◌, List, map, length, Bool, false, not, ◌&&◌, ◌==◌, if◌then◌else◌}
+use Rattle.std.specs.Prelude.{option_map, unwrap_or, slice_get, ℤ, pos, ◌≤ℤ◌}
 use Rattle.rail_csv.specs.declared.rows.End.{End}
 use Rattle.compositions.specs.Composition.{carriages_of, seats_of, first_seats_of}
 use Rattle.timetable.specs.declared.day.records.LinkKind.{LinkKind}
@@ -8,6 +9,7 @@ use Rattle.timetable.specs.declared.day.records.LinkKind.TheVariants.{Turn, Join
 use Rattle.timetable.specs.Day.{Day, Units, km_of, demand_of, first_demand_of, stock_units}
 use Rattle.timetable.specs.Links.{list_of, turned}
 use Rattle.timetable.specs.Lists.{sum_below}
+use Rattle.timetable.specs.Running.{RunsOf}
 use Rattle.timetable.specs.Turns.{kept_count}
 
 -- the seats that are missing on a trip with this composition, of first and of second class: none of a class that has
@@ -60,3 +62,19 @@ plan_cost_of units day plan = cost_of day (map (map units.unit_type) plan)
 -- the cost of a plan of the stock's units
 abbrev pub plan_cost : Day → List (List ℕ) → ℕ
 plan_cost day plan = plan_cost_of (stock_units day) day plan
+
+-- every plan of these units that runs costs at least so much
+abbrev pub PlansOfUnitsCostAtLeast : Units → Day → ℤ → Type 0
+PlansOfUnitsCostAtLeast units day bound =
+    (plan : List (List ℕ)) → RunsOf units day plan → bound ≤ℤ pos (plan_cost_of units day plan)
+
+-- no plan of these units runs
+abbrev pub NoPlanOfUnitsRuns : Units → Day → Type 0
+NoPlanOfUnitsRuns units day = (plan : List (List ℕ)) → RunsOf units day plan → ⊥
+
+-- the same of the stock's units
+abbrev pub PlansCostAtLeast : Day → ℤ → Type 0
+PlansCostAtLeast day bound = PlansOfUnitsCostAtLeast (stock_units day) day bound
+
+abbrev pub NoPlanRuns : Day → Type 0
+NoPlanRuns day = NoPlanOfUnitsRuns (stock_units day) day

@@ -13,7 +13,6 @@ pub mod Running
 pub mod Cost
 pub mod Renumbering
 pub mod LinkCounts
-pub mod PlanBounds
 pub mod Picks
 -- its chains and hand-overs
 pub mod Chains

@@ -19,3 +19,9 @@ pub record IsSolution (day : Day) (picks : List ℕ) : Type 0 where
   pub plan : List (List ℕ)
   pub runs : Runs day plan
   pub types : map (types_of day) plan ≡ picked day picks
+
+-- a plan runs, and these are its compositions
+pub record RunsByPicks (day : Day) (plan : List (List ℕ)) (picks : List ℕ) : Type 0 where
+  pub runs : Runs day plan
+  pub are_picks : ArePicks day picks
+  pub types : picked day picks ≡ map (types_of day) plan
