@@ -18,9 +18,7 @@ use Rattle.timetable.specs.declared.building.refusal.PlanRefusal.{PlanRefusal}
 use Rattle.timetable.specs.Accepted.{IsSoundDay}
 use Rattle.timetable.specs.Build.{day_of}
 use Rattle.timetable.specs.Plans.{plan_of}
-use Rattle.timetable.proofs.Days.{day_within_limits}
-use Rattle.timetable.proofs.Said.{is_day_of}
-use Rattle.timetable.proofs.StockRows.{stocked}
+use Rattle.timetable.proofs.SoundDays.{tables_make_sound_days}
 use Rattle.day_files.specs.declared.errors.Refusal.{Refusal}
 use Rattle.day_files.specs.declared.inputs.Inputs.{Inputs}
 use Rattle.day_files.specs.Tables.{RowsOf, reading, bytes_of, bytes_in, as_table, read_by, table_in}
@@ -168,13 +166,4 @@ made_of_files files dir day e =
 
 -- a day that is made of such tables is as the laws on days ask for it
 pub sound_of : (day : Day) → IsMadeDay day → IsSoundDay day
-sound_of day made =
-    let meant = is_day_of made.tables day made.made in
-    record {
-      limits = day_within_limits made.tables day made.rows.types made.rows.stations made.rows.trips made.rows.links made.rows.weights made.made;
-      links = meant.linked;
-      meet = meant.meet;
-      stock = stocked day made.tables.stock meant.stock_rows meant.stock made.rows.stock.each;
-      served = meant.served;
-      compositions = meant.compositions;
-    }
+sound_of day made = tables_make_sound_days made.tables day made.rows made.made

@@ -55,8 +55,8 @@ pub fn field_bytes(found: &ByteRecord, column: usize) -> &[u8]
     }
 }
 
-/// The text of a record's field, by its column, counted from 0, and the empty text where there is no such column; nothing
-/// where the bytes of the field are not UTF-8.
+/// The text of a record's field, by its column, counted from 0, and the empty text where there is no such column;
+/// nothing where the bytes of the field are not UTF-8.
 pub fn field_text(found: &ByteRecord, column: usize) -> Option<&str>
     ensures utf8 { is_some result ≡ is_utf8 (field (fields_of found.now) column) }
     ensures text { IfSome result (λ text. text.now ≡ field (fields_of found.now) column) }

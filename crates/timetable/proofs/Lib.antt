@@ -59,4 +59,14 @@ pub mod Reindexing
 pub mod Renumbered
 pub mod KthUnits
 pub mod LinkCounts
+pub mod OtherStock
+pub mod FewPlaces
+pub mod SoundDays
+pub mod LeftRows
+pub mod LeftEntries
+pub mod LeftLinks
+pub mod LeftTables
+pub mod Without
+pub mod TripsLeft
+pub mod FoundNames
 pub mod MissingSeats

@@ -46,13 +46,15 @@ pub record StaysBy (day : Day) (a b : ℕ) : Type 0 where
   pub arriving : IsTrue (has a (arriving_in link.kind))
   pub departing : IsTrue (has b (departing_in link.kind))
 
-pub stays_by : (day : Day) (plan : List (List ℕ)) (u a b : ℕ) → 1 ≤ count_of u (kept day plan a b) → StaysBy day a b
-unfolding outgoing
-stays_by day plan u a b c = ⊎_elim
+-- by which a number stays that is among those kept, of units or of types
+pub stays_by_with : (type_of : ℕ → ℕ) (day : Day) (lists : List (List ℕ)) (u a b : ℕ) → 1 ≤ count_of u (kept_with type_of day lists a b) → StaysBy day a b
+unfolding outgoing kept_with
+stays_by_with type_of day lists u a b c =
+    let kept_by_any : Option Link → List ℕ = λ o. unwrap_or (option_map (λ link. kept_by type_of link.kind link.reverse lists a b) o) [] in
+    ⊎_elim
     (λ (h : (link : Link) × IsNamed arriving_in day.links a link).
-    let same = kept_at day plan a b (Some h.0) (out_is day a h.0 h.1) in
-    let c' : 1 ≤ count_of u (kept_by (type_of day) (h.0).kind (h.0).reverse plan a b) = subst (λ l. 1 ≤ count_of u l) same c in
-    let names = kept_names (type_of day) u (h.0).kind (h.0).reverse plan a b c' in
+    let c' : 1 ≤ count_of u (kept_by type_of (h.0).kind (h.0).reverse lists a b) = subst (λ o. 1 ≤ count_of u (kept_by_any o)) (out_is day a h.0 h.1) c in
+    let names = kept_names type_of u (h.0).kind (h.0).reverse lists a b c' in
     record {
       number = (h.1).number;
       link = h.0;
@@ -61,10 +63,12 @@ stays_by day plan u a b c = ⊎_elim
       departing = le-leb 1 (count_of b (departing_in (h.0).kind)) names.departing;
     })
     (λ none.
-    let same : kept day plan a b ≡ [] = kept_at day plan a b None (ap (option_and_then (slice_get day.links)) none.0) in
-    let c' : 1 ≤ 0 = subst (λ l. 1 ≤ count_of u l) same c in
+    let c' : 1 ≤ 0 = subst (λ o. 1 ≤ count_of u (kept_by_any o)) (ap (option_and_then (slice_get day.links)) none.0) c in
     absurd (omega arith))
     (named_or_not arriving_in day.links a)
+
+pub stays_by : (day : Day) (plan : List (List ℕ)) (u a b : ℕ) → 1 ≤ count_of u (kept day plan a b) → StaysBy day a b
+stays_by day plan = stays_by_with (type_of day) day plan
 
 rule_of : (day : Day) (link : Link) (plan : List (List ℕ)) → link_holds (type_of day) link plan ≡ true → kind_holds (type_of day) link.kind link.reverse plan ≡ true
 unfolding link_holds

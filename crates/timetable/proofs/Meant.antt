@@ -49,8 +49,10 @@ use Rattle.timetable.specs.LinkRows.{kind_of, is_arriving, is_departing, names_a
 use Rattle.timetable.specs.LinkRows.{accept_trips, accept_link, links_in}
 use Rattle.timetable.specs.Links.{arriving_in, departing_in}
 use Rattle.timetable.specs.Lists.{count_of, has}
-use Rattle.timetable.specs.Meaning.{IsNumberOf, IsTypeOf, IsStationOf, AreWeightsOf, IsStockOf, IsTripOf, IsTurnOf}
-use Rattle.timetable.specs.Meaning.{IsJoinOf, IsSplitOf, IsKindOf, IsLinkOf, AreNamedApart, IsOtherStock, IsDayOf}
+use Rattle.timetable.specs.Meaning.{IsTypeOf, IsStationOf, AreWeightsOf, IsStockOf, IsTripOf, IsTurnOf}
+use Rattle.timetable.specs.NamedEntries.{IsNumberOf}
+use Rattle.timetable.specs.Meaning.{IsJoinOf, IsSplitOf, IsKindOf, IsLinkOf, IsOtherStock, IsDayOf}
+use Rattle.timetable.specs.NamedEntries.{AreNamedApart}
 use Rattle.timetable.specs.NamedEntries.{has_name, find_name, found_or}
 use Rattle.timetable.specs.Rowwise.{row_after}
 use Rattle.timetable.proofs.Days.{entry_is, length-units_in}

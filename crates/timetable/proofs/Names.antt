@@ -19,7 +19,7 @@ place_map : {X Y : Type 0} (p : Y → Bool) (f : X → Y) (xs : List X) → posi
 place_map p f [] = refl
 place_map p f (x ∷ xs) = ap (λ (n : ℕ). cond (not (p (f x))) (1 + n) 0) (place_map p f xs)
 
-position_map : {X Y : Type 0} (p : Y → Bool) (f : X → Y) (xs : List X) → position p (map f xs) ≡ position (λ x. p (f x)) xs
+pub position_map : {X Y : Type 0} (p : Y → Bool) (f : X → Y) (xs : List X) → position p (map f xs) ≡ position (λ x. p (f x)) xs
 position_map p f xs = λ i. cond (ltb (place_map p f xs i) (length-map xs f i)) (Some (place_map p f xs i)) None
 
 module _ {X K : Type 0} (text : K → List ℕ) (name_of : X → List ℕ) (names : List K) (entries : List X) where

@@ -10,7 +10,7 @@ use Rattle.std.proofs.lemmas.List.Folds.{Any-from_list_any}
 use Rattle.std.proofs.lemmas.Slice.Eq.{bytes_eq-Decides}
 use Rattle.rail_base.specs.Answers.{◌>>=◌}
 use Rattle.timetable.specs.declared.building.refusal.InstanceRefusal.{InstanceRefusal}
-use Rattle.timetable.specs.Meaning.{AreNamedApart}
+use Rattle.timetable.specs.NamedEntries.{AreNamedApart}
 use Rattle.timetable.specs.NamedEntries.{has_name, found_or}
 use Rattle.timetable.specs.Rowwise.{accept_each}
 

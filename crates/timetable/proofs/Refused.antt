@@ -28,7 +28,7 @@ use Rattle.timetable.specs.Build.{day_of}
 use Rattle.timetable.specs.Compositions.{greatest_in}
 use Rattle.timetable.specs.Day.{Day}
 use Rattle.timetable.specs.LinkRows.{links_in}
-use Rattle.timetable.specs.Meaning.{AreNamedApart}
+use Rattle.timetable.specs.NamedEntries.{AreNamedApart}
 use Rattle.timetable.specs.NamedEntries.{has_name, find_name}
 use Rattle.timetable.specs.Refusals.{type_tests, station_tests, stock_tests, starts_in, compositions_in, IsUnserved}
 use Rattle.timetable.specs.Refusals.{trip_tests, link_tests, day_tests}

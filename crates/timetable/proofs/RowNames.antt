@@ -11,7 +11,7 @@ use Rattle.std.proofs.lemmas.List.Sums.{fails_before_first}
 use Rattle.std.proofs.lemmas.Option.{slice_get_within, slice_get-map, slice_get-get_or, same_Some}
 use Rattle.std.proofs.lemmas.Option.{get_or_from_slice_get}
 use Rattle.std.proofs.lemmas.Slice.Eq.{bytes_eq-Decides}
-use Rattle.timetable.specs.Meaning.{IsNumberOf, AreNamedApart}
+use Rattle.timetable.specs.NamedEntries.{IsNumberOf, AreNamedApart}
 use Rattle.timetable.specs.NamedEntries.{has_name, find_name}
 use Rattle.timetable.specs.Refusals.{HasName, HasNoName}
 use Rattle.timetable.proofs.Accepting.{any_front}

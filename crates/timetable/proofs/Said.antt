@@ -30,8 +30,10 @@ use Rattle.timetable.specs.NamedEntries.{has_name, find_name}
 use Rattle.timetable.specs.Compositions.{greatest_platform}
 use Rattle.timetable.specs.Day.{Day, leaves, arrives, from_of, to_of, platform_of, units_of}
 use Rattle.timetable.specs.LinkRows.{accept_link, links_in}
-use Rattle.timetable.specs.Meaning.{IsNumberOf, IsTypeOf, IsStationOf, AreWeightsOf, IsStockOf, IsTripOf, IsKindOf}
-use Rattle.timetable.specs.Meaning.{IsLinkOf, AreNamedApart, IsOtherStock, IsDayOf}
+use Rattle.timetable.specs.Meaning.{IsTypeOf, IsStationOf, AreWeightsOf, IsStockOf, IsTripOf, IsKindOf}
+use Rattle.timetable.specs.NamedEntries.{IsNumberOf}
+use Rattle.timetable.specs.Meaning.{IsLinkOf, IsOtherStock, IsDayOf}
+use Rattle.timetable.specs.NamedEntries.{AreNamedApart}
 use Rattle.timetable.proofs.Accepting.{accepted_all, accepted_zip, accepted_pairs}
 use Rattle.timetable.proofs.Days.{IsMade, entry_at, entry_is, length-units_in, day_is_made}
 use Rattle.timetable.proofs.Entries.{IsStockOfRow, IsTripOfRow, Passes, found_name, type_of_row, station_of_row}

@@ -1,18 +1,20 @@
 -- What is known of every day that was accepted.
-use Rattle.std.specs.Prelude.{ℕ, ◌+◌, ◌<◌, ◌≤◌, ◌≡◌, length, List, [], ◌∷◌, ◌==◌, ◌&&◌, true, if◌then◌else◌, All}
+use Rattle.std.specs.Prelude.{ℕ, ◌+◌, ◌*◌, ◌<◌, ◌≤◌, ◌≡◌, length, List, [], ◌∷◌, ◌==◌, ◌&&◌, true, if◌then◌else◌, All}
 use Rattle.std.specs.Prelude.{IsTrue, Some, slice_get}
 use Rattle.rail_base.specs.declared.limits.TheConstants.{MOST_CARRIAGES, MOST_SEATS, MOST_FIRST_SEATS, MOST_METRES}
 use Rattle.rail_base.specs.declared.limits.TheConstants.{MOST_MINUTES, MOST_KM, MOST_DEMAND, MOST_FIRST_DEMAND}
 use Rattle.rail_base.specs.declared.limits.TheConstants.{MOST_PLATFORM, MOST_REALLOCATION, MOST_STOCK, MOST_TYPES}
-use Rattle.rail_base.specs.declared.limits.TheConstants.{MOST_COMPOSITIONS}
+use Rattle.rail_base.specs.declared.limits.TheConstants.{MOST_COMPOSITIONS, MOST_HANDOVERS}
 use Rattle.rail_base.specs.declared.limits.TheConstants.{MOST_STATIONS, MOST_TRIPS, MOST_LINKS, MOST_UNITS, MOST_WEIGHT}
 use Rattle.compositions.specs.declared.types.UnitType.{UnitType}
 use Rattle.timetable.specs.Admissible.{is_admissible}
 use Rattle.timetable.specs.Compositions.{compositions_of}
 use Rattle.timetable.specs.Day.{Day, Units, leaves, arrives, from_of, to_of, km_of, demand_of, first_demand_of}
 use Rattle.timetable.specs.Day.{platform_of, reallocation_of, wanted_of, stock_units}
+use Rattle.timetable.specs.Indices.{places_of}
 use Rattle.timetable.specs.Links.{arriving_in, departing_in}
 use Rattle.timetable.specs.Lists.{count_of, has}
+use Rattle.timetable.specs.NamedEntries.{AreNamedApart}
 use Rattle.timetable.specs.declared.day.records.Link.{Link}
 use Rattle.timetable.specs.declared.day.records.LinkKind.{LinkKind}
 use Rattle.timetable.specs.declared.day.records.Stock.{Stock}
@@ -93,13 +95,22 @@ pub record IsStocked (day : Day) : Type 0 where
   pub once : (s m : ℕ) → rows_of day.stock s m ≤ 1
   pub few : (s m : ℕ) → wanted_of day s m ≤ MOST_STOCK
 
--- All that is known of a day that was accepted: it is within the limits, each trip has one link on each side at most, the
--- trips of a link meet in time and at one station, no station has two stock rows of a type, and some composition may run
--- on each trip, of compositions that are not too many.
+-- no two types, stations or trips have one name
+pub record HaveNames (day : Day) : Type 0 where
+  pub types : AreNamedApart (λ t. t.name) day.types
+  pub stations : AreNamedApart (λ s. s.name) day.stations
+  pub trips : AreNamedApart (λ t. t.name) day.trips
+
+-- All that is known of a day that was accepted: it is within the limits, names are apart, each trip has one link on
+-- each side at most, the trips of a link meet in time and at one station, no station has two stock rows of a type, and
+-- some composition may run on each trip, of compositions that are not too many; so its multipliers are not too many.
 pub record IsSoundDay (day : Day) : Type 0 where
   pub limits : IsDay day
+  pub names : HaveNames day
   pub links : AreLinks day
   pub meet : DoMeet day
   pub stock : IsStocked day
   pub served : HaveCompositions day
   pub compositions : length (compositions_of day) ≤ MOST_COMPOSITIONS
+  pub indices : length (places_of day)
+      ≤ MOST_TYPES * MOST_TRIPS + MOST_STATIONS * MOST_TYPES + MOST_HANDOVERS * MOST_COMPOSITIONS

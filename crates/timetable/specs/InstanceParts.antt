@@ -8,7 +8,7 @@ use Rattle.timetable.specs.declared.day.instance.Instance.TheInside.{Inside}
 use Rattle.timetable.specs.declared.day.instance.InstanceParts.{InstanceParts}
 use Rattle.timetable.specs.AcceptedRows.{day_with}
 use Rattle.timetable.specs.Day.{Day, units_of}
-use Rattle.timetable.specs.Accepted.{IsDay, AreLinks, DoMeet, IsStocked, HaveCompositions}
+use Rattle.timetable.specs.Accepted.{IsDay, AreLinks, DoMeet, IsStocked, HaveCompositions, HaveNames}
 use Rattle.timetable.specs.Chains.{chains_of}
 use Rattle.timetable.specs.Compositions.{greatest_in}
 use Rattle.timetable.specs.Handovers.{handovers_of}
@@ -34,6 +34,7 @@ pub record Holds (a : Inside) : Type 0 where
   pub units : a.units.items ≡ units_of (day_in a)
   pub day : IsDay (day_in a)
   pub within : IsWithin (day_in a)
+  pub names : HaveNames (day_in a)
   pub links : AreLinks (day_in a)
   pub meet : DoMeet (day_in a)
   pub stocked : IsStocked (day_in a)

@@ -10,19 +10,21 @@ use Rattle.rail_csv.specs.declared.rows.PlanRow.{PlanRow}
 use Rattle.timetable.specs.declared.building.tables.Tables.{Tables}
 use Rattle.timetable.specs.declared.day.records.LinkKind.{LinkKind}
 use Rattle.timetable.specs.declared.day.records.Stock.{Stock}
-use Rattle.timetable.specs.Accepted.{IsDay, AreLinks, DoMeet, rows_of}
+use Rattle.timetable.specs.Accepted.{IsTimetable, AreLinks, DoMeet, HaveNames, IsSoundDay, rows_of}
 use Rattle.timetable.specs.Build.{day_of, starts_of}
 use Rattle.timetable.specs.Chains.{AreChains}
 use Rattle.timetable.specs.Cost.{missing_seats}
-use Rattle.timetable.specs.Day.{Day, leaves, arrives, from_of, to_of, home_of, type_of, unit_count, wanted_of}
+use Rattle.timetable.specs.Day.{Day, Units, leaves, arrives, from_of, to_of, home_of, type_of, unit_count, wanted_of}
 use Rattle.timetable.specs.Day.{demand_of, first_demand_of}
+use Rattle.timetable.specs.DayTables.{AreTables}
 use Rattle.timetable.specs.Duties.{duty}
 use Rattle.timetable.specs.Indices.{HaveMultipliers, lambdas_of, places_of}
 use Rattle.timetable.specs.Lists.{count_below}
 use Rattle.timetable.specs.Meaning.{IsDayOf}
+use Rattle.timetable.specs.NamedEntries.{IsNumberOf, find_name}
 use Rattle.timetable.specs.Plans.{plan_of, plan_tests, IsPlanOf}
 use Rattle.timetable.specs.Refusals.{day_tests}
-use Rattle.timetable.specs.Running.{Runs, EachFollows}
+use Rattle.timetable.specs.Running.{RunsOf, EachFollows}
 use Rattle.timetable.specs.Starts.{start_of}
 use Rattle.timetable.specs.Tests.{Test, NoneFailed, IsFirstFailed}
 use Rattle.timetable.specs.Turns.{IsKept, kept_of, Parts, AreParts, turn_parts}
@@ -36,6 +38,21 @@ pub record IsDecided {X E : Type 0} (made : Result X E) (tests : List (Test E)) 
 pub record DaysAreMade : Type 0 where
   pub decided : (tables : Tables) → IsDecided (day_of tables) (day_tests tables)
   pub meaning : (tables : Tables) (day : Day) → (day_of tables ≡ Ok day) ↔ IsDayOf tables day
+
+-- a day that tables make whose rows keep within the ranges of their columns is as the laws on days ask for it
+abbrev pub TablesMakeSoundDays : Type 0
+TablesMakeSoundDays = (tables : Tables) (day : Day) → AreTables tables → day_of tables ≡ Ok day → IsSoundDay day
+
+-- the name of each station and each trip is found as its number
+pub record AreFound (day : Day) : Type 0 where
+  pub station : (s : ℕ) (name : List ℕ) → IsNumberOf (λ s. s.name) day.stations name s
+      → find_name (λ s. s.name) day.stations name ≡ Some s
+  pub trip : (t : ℕ) (name : List ℕ) → IsNumberOf (λ t. t.name) day.trips name t
+      → find_name (λ t. t.name) day.trips name ≡ Some t
+
+-- so it is where names are apart
+abbrev pub NamesAreFound : Type 0
+NamesAreFound = (day : Day) → HaveNames day → AreFound day
 
 -- the plan of a day that rows make
 pub record PlansAreMade : Type 0 where
@@ -90,8 +107,8 @@ pub record AreInOnePlace (day : Day) (trips : List ℕ) : Type 0 where
 
 -- so are the trips of each unit in a plan that runs
 abbrev pub UnitsAreInOnePlace : Type 0
-UnitsAreInOnePlace = (day : Day) (plan : List (List ℕ)) (u : ℕ) → IsDay day → AreLinks day → DoMeet day → Runs day plan
-    → u < unit_count day → AreInOnePlace day (duty day plan u)
+UnitsAreInOnePlace = (units : Units) (day : Day) (plan : List (List ℕ)) (u : ℕ) → IsTimetable day → AreLinks day
+    → DoMeet day → RunsOf units day plan → u < units.count → AreInOnePlace day (duty day plan u)
 
 -- so many seats of a class are missing: none where there are enough, and else those with which there would be
 pub record AreMissing (seats demand missing : ℕ) : Type 0 where

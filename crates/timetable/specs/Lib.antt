@@ -34,6 +34,7 @@ pub mod Refusals
 -- what is known of accepted days and entries
 pub mod Accepted
 pub mod Within
+pub mod DerivedDays
 -- what is so of every day, table and plan
 pub mod Laws
 -- the inside of an instance, and of the building of one

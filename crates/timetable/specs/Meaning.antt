@@ -1,6 +1,6 @@
 -- What it means that a day is the day of tables, in the tables' own words: the rows in order, with what they name, and
 -- no rule broken.
-use Rattle.std.specs.Prelude.{ℕ, ◌≡◌, ◌≢◌, ◌<◌, ◌≤◌, List, map, length, Bool, true, false, Some, None, slice_get}
+use Rattle.std.specs.Prelude.{ℕ, ◌≡◌, ◌≢◌, ◌<◌, ◌≤◌, List, length, Bool, true, false, Some, None}
 use Rattle.std.specs.List.{AllZip, AllPairs}
 use Rattle.rail_base.specs.declared.limits.TheConstants.{MOST_UNITS, MOST_COMPOSITIONS}
 use Rattle.compositions.specs.declared.types.UnitType.{UnitType}
@@ -24,10 +24,7 @@ use Rattle.timetable.specs.declared.building.tables.Tables.{Tables}
 use Rattle.timetable.specs.Accepted.{AreLinks, DoMeet, HaveCompositions}
 use Rattle.timetable.specs.Compositions.{compositions_of}
 use Rattle.timetable.specs.Day.{Day, leaves, arrives, from_of, to_of, unit_count}
-
--- the entry of the number has the name
-abbrev pub IsNumberOf : {X : Type 0} → (X → List ℕ) → List X → List ℕ → ℕ → Type 0
-IsNumberOf name_of entries name n = slice_get (map name_of entries) n ≡ Some name
+use Rattle.timetable.specs.NamedEntries.{IsNumberOf, AreNamedApart}
 
 -- the unit type of a row
 pub record IsTypeOf (row : TypeRow) (t : UnitType) : Type 0 where
@@ -116,10 +113,6 @@ IsKindOf IsTrip row (Split a b1 b2) = IsSplitOf IsTrip row a b1 b2
 pub record IsLinkOf (day : Day) (row : LinkRow) (link : Link) : Type 0 where
   pub kind : IsKindOf (IsNumberOf (λ t. t.name) day.trips) row link.kind
   pub reverse : link.reverse ≡ row.reverse
-
--- no two entries have one name
-abbrev pub AreNamedApart : {X : Type 0} → (X → List ℕ) → List X → Type 0
-AreNamedApart name_of entries = AllPairs (λ a b. name_of a ≢ name_of b) entries
 
 -- the stock is of another station or another type
 abbrev pub IsOtherStock : Stock → Stock → Type 0

@@ -3,6 +3,7 @@
 pub(crate) mod accepted;
 pub mod day_tables;
 pub(crate) mod entries;
+pub mod left_tables;
 pub(crate) mod link_rows;
 pub(crate) mod linked;
 pub(crate) mod named;

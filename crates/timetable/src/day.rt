@@ -1,6 +1,7 @@
 //! The day that is planned: what it holds and what can be asked of it, plans of it, and picks.
 
 pub(crate) mod chains;
+pub mod derived;
 pub mod indices;
 pub mod instance;
 pub(crate) mod link_tables;

@@ -2,9 +2,11 @@
 //!
 //! Each law is the contract of a function that does nothing.
 
+ghost use Rattle.timetable.specs.DerivedDays.{OtherStockKeepsTimetables, TablesMakeDaysWithout, TripsThatAreLeft};
 ghost use Rattle.timetable.specs.Laws.{DaysAreMade, PlansAreMade, ChainsAreOne, KeepTheLongest, HaveParts};
 ghost use Rattle.timetable.specs.Laws.{UnitsAreNumbered, UnitsAreAtHome, RowsSayStock, UnitsAreInOnePlace};
-ghost use Rattle.timetable.specs.Laws.{SeatsAreMissingByClass, PlacesHaveMultipliers};
+ghost use Rattle.timetable.specs.Laws.{NamesAreFound, SeatsAreMissingByClass, PlacesHaveMultipliers};
+ghost use Rattle.timetable.specs.Laws.{TablesMakeSoundDays};
 ghost use Rattle.timetable.specs.LinkCounts.{LinksCount, TripsCount};
 ghost use Rattle.timetable.specs.Renumbering.{RenumberedPlansRun, UnitsAreRenumberedBack, KthUnitsAreRenumbered};
 ghost use Rattle.timetable.specs.TurnsWithoutExchange.{IsPlainTurn};
@@ -13,6 +15,18 @@ ghost use Rattle.timetable.specs.TurnsWithoutExchange.{IsPlainTurn};
 /// the one that they make exactly where it is the day of the tables in their own words.
 pub fn days_are_made()
     ensures law { DaysAreMade }
+{}
+
+/// Every day that tables make whose rows keep within the ranges of their columns is sound: of it holds what the laws on
+/// days ask for.
+pub fn tables_make_sound_days()
+    ensures law { TablesMakeSoundDays }
+{}
+
+/// On a day whose names are apart, as those of every accepted day are, the name of each station is found as the number
+/// of this station, and the name of each trip as the number of this trip.
+pub fn names_are_found()
+    ensures law { NamesAreFound }
 {}
 
 /// Rows make a plan of a day exactly where no test on them fails, and a refusal is that of the first test that fails. A
@@ -41,10 +55,28 @@ pub fn rows_say_stock()
     ensures law { RowsSayStock }
 {}
 
-/// In a plan that runs each unit is in one place at a time, where every trip takes time and the trips of each link meet
-/// at a station in time, as on every accepted day. Of two trips that follow one another in its duty the second leaves
-/// from the station where the first arrives, and no earlier than it arrives; and of any two trips of the duty the later
-/// one leaves no earlier than the earlier one arrives.
+/// A day with other stock rows has the same timetable: what is known of its trips, stations, types, links and weights
+/// stays known.
+pub fn other_stock_keeps_timetables()
+    ensures law { OtherStockKeepsTimetables }
+{}
+
+/// Where tables make a day, they make the day without some of its trips once the rows of these trips, and the rows of
+/// the links that name one of them, are gone.
+pub fn tables_make_days_without()
+    ensures law { TablesMakeDaysWithout }
+{}
+
+/// The trips of a day without some are those that are left, in the same order: each is what it was, and the number that
+/// it has then and the number that it had before lead to one another.
+pub fn trips_that_are_left()
+    ensures law { TripsThatAreLeft }
+{}
+
+/// In a plan that runs with any units each of them is in one place at a time, where every trip takes time and the trips
+/// of each link meet at a station in time, as on every accepted day. Of two trips that follow one another in its duty
+/// the second leaves from the station where the first arrives, and no earlier than it arrives; and of any two trips of
+/// the duty the later one leaves no earlier than the earlier one arrives.
 pub fn units_are_in_one_place()
     ensures law { UnitsAreInOnePlace }
 {}

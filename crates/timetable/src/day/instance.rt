@@ -119,8 +119,8 @@ impl Instance {
         })
     }
 
-    /// What is known of every instance: its day is one that was accepted, with all that the laws on days ask for. It does
-    /// nothing.
+    /// What is known of every instance: its day is one that was accepted, with all that the laws on days ask for. It
+    /// does nothing.
     pub fn is_sound(&self)
         ensures { IsSoundDay self.now }
     {

@@ -73,8 +73,8 @@ impl NamedPlan {
         NamedPlan { lists }
     }
 
-    /// The plan of the same lists again, one a trip in the order of the trips: at most 400. There is no condition on the
-    /// units. The error is want of memory.
+    /// The plan of the same lists again, one a trip in the order of the trips: at most 400. There is no condition on
+    /// the units. The error is want of memory.
     pub fn copied(alloc: Global, lists: &[UnitList]) -> Result<NamedPlan, NoMemory>
         requires { length lists.now ≤ MOST_TRIPS }
         ensures { IfOk result (λ plan. plan ≡ lists.now) }

@@ -51,6 +51,11 @@ invariant_of-result c =
       units = parts.units;
       day = day_within_limits c.args.tables day c.requires.types c.requires.stations c.requires.trips c.requires.links c.requires.weights made;
       within = entries_within c.args.tables day c.requires.types c.requires.stations c.requires.trips c.requires.weights made;
+      names = record {
+        types = (is_day_of c.args.tables day made).type_names;
+        stations = (is_day_of c.args.tables day made).station_names;
+        trips = (is_day_of c.args.tables day made).trip_names;
+      };
       catalogue = c.in_ok-rows.ensures.catalogue;
       few_compositions = subst (λ (cs : List (List ℕ)). length cs ≤ 1000) (sym c.in_ok-rows.ensures.catalogue) (day_is_made c.args.tables day made).compositions;
       links = are_links day c.args.tables.links linked;

@@ -1,0 +1,35 @@
+//! Days that derive from a day.
+
+ghost use Rattle.std.specs.Prelude.{◌≡◌, IfOk};
+ghost use Rattle.timetable.specs.DayTables.{IsDayOfBytes};
+ghost use Rattle.timetable.specs.DerivedDays.{without_trips};
+
+use crate::building::day_tables::tables_of;
+use crate::day::instance::Instance;
+use rail_base::{NoMemory, TripNo};
+use rail_csv::TableBytes;
+use std::alloc::Global;
+
+impl Instance {
+    /// The instance of the day without some of its trips, which are told by their numbers, and without the links that
+    /// name one of them. The other trips and links keep their order, and units keep their numbers. The bytes are those
+    /// of the tables that made this day, so its tables make a day without these trips too, and the error is want of
+    /// memory alone.
+    pub fn without_trips(
+        &self,
+        alloc: Global,
+        bytes: &TableBytes,
+        gone: &[TripNo],
+    ) -> Result<Instance, NoMemory>
+        requires { IsDayOfBytes bytes.now self.now }
+        ensures { IfOk result (λ later. later ≡ without_trips gone.now self.now) }
+    {
+        let Ok(tables) = tables_of(alloc, bytes) else {
+            return Err(NoMemory);
+        };
+        match Instance::build(alloc, tables.without_trips(gone)) {
+            Ok(later) => Ok(later),
+            Err(_) => Err(NoMemory),
+        }
+    }
+}
