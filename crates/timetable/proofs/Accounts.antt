@@ -2,31 +2,35 @@
 -- rule holds.
 use Rattle.std.proofs.Common.{◌≡◌, ℕ, ◌+◌, ◌<◌, ◌≤◌, List, sym, ap, ◌∙◌, arith, ◌≢◌, ⊎_elim, ◌⊎◌, inl, inr}
 use Rattle.std.proofs.lemmas.Bool.{cases_eq, cases_lt}
-use Rattle.timetable.specs.Day.{Day, leaves, arrives}
+use Rattle.timetable.specs.Day.{Day, leaves, arrives, type_of}
 use Rattle.timetable.specs.Lists.{count_of}
-use Rattle.timetable.specs.Links.{list_of, kept, given, taken}
+use Rattle.timetable.specs.Links.{list_of, kept, given, taken, kept_with, given_with, taken_with}
 
 -- what arrives with a trip is given to the yard, or kept for one of two trips at most
-pub record Gives (day : Day) (plan : List (List ℕ)) (a : ℕ) : Type 0 where
+pub record GivesWith (type_of : ℕ → ℕ) (day : Day) (lists : List (List ℕ)) (a : ℕ) : Type 0 where
   pub first : ℕ
   pub second : ℕ
   pub apart : first ≢ second
-  pub total : (u : ℕ) → count_of u (list_of plan a) ≡ count_of u (given day plan a) + count_of u (kept day plan a first) + count_of u (kept day plan a second)
-  pub others : (u b : ℕ) → b ≢ first → b ≢ second → count_of u (kept day plan a b) ≡ 0
+  pub total : (u : ℕ) → count_of u (list_of lists a) ≡ count_of u (given_with type_of day lists a) + count_of u (kept_with type_of day lists a first) + count_of u (kept_with type_of day lists a second)
+  pub others : (u b : ℕ) → b ≢ first → b ≢ second → count_of u (kept_with type_of day lists a b) ≡ 0
 
 -- what departs with a trip is taken from the yard, or was kept from one of two trips at most
-pub record Takes (day : Day) (plan : List (List ℕ)) (b : ℕ) : Type 0 where
+pub record TakesWith (type_of : ℕ → ℕ) (day : Day) (lists : List (List ℕ)) (b : ℕ) : Type 0 where
   pub first : ℕ
   pub second : ℕ
   pub apart : first ≢ second
-  pub total : (u : ℕ) → count_of u (list_of plan b) ≡ count_of u (taken day plan b) + count_of u (kept day plan first b) + count_of u (kept day plan second b)
-  pub others : (u a : ℕ) → a ≢ first → a ≢ second → count_of u (kept day plan a b) ≡ 0
+  pub total : (u : ℕ) → count_of u (list_of lists b) ≡ count_of u (taken_with type_of day lists b) + count_of u (kept_with type_of day lists first b) + count_of u (kept_with type_of day lists second b)
+  pub others : (u a : ℕ) → a ≢ first → a ≢ second → count_of u (kept_with type_of day lists a b) ≡ 0
 
 -- all units of all trips are accounted for
-pub record AreAccounted (day : Day) (plan : List (List ℕ)) : Type 0 where
-  pub gives : (a : ℕ) → Gives day plan a
-  pub takes : (b : ℕ) → Takes day plan b
-  pub time : (u a b : ℕ) → 1 ≤ count_of u (kept day plan a b) → arrives day a ≤ leaves day b
+pub record AreAccountedWith (type_of : ℕ → ℕ) (day : Day) (lists : List (List ℕ)) : Type 0 where
+  pub gives : (a : ℕ) → GivesWith type_of day lists a
+  pub takes : (b : ℕ) → TakesWith type_of day lists b
+  pub time : (u a b : ℕ) → 1 ≤ count_of u (kept_with type_of day lists a b) → arrives day a ≤ leaves day b
+
+-- of the units of a plan
+abbrev pub AreAccounted : Day → List (List ℕ) → Type 0
+AreAccounted day plan = AreAccountedWith (type_of day) day plan
 
 -- what follows for one unit
 module _ (day : Day) (plan : List (List ℕ)) (accounted : AreAccounted day plan) where
@@ -70,7 +74,7 @@ module _ (day : Day) (plan : List (List ℕ)) (accounted : AreAccounted day plan
       ⊎_elim (λ (e : b ≡ c). e)
       (λ (ne : b ≢ c). absurd (two (one_of b kb) (one_of c kc) ne)) (cases_eq b c)
     where
-      g : Gives day plan a
+      g : GivesWith (type_of day) day plan a
       g = accounted.gives a
 
       one_of : (x : ℕ) → 1 ≤ count_of u (kept day plan a x) → (x ≡ (accounted.gives a).first) ⊎ (x ≡ (accounted.gives a).second)

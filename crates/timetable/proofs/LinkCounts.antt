@@ -8,13 +8,12 @@ use Rattle.timetable.specs.declared.day.records.LinkKind.{LinkKind}
 use Rattle.timetable.specs.declared.day.records.LinkKind.TheVariants.{Turn, Join, Split}
 use Rattle.timetable.specs.Accepted.{AreLinks}
 use Rattle.timetable.specs.Day.{Day}
-use Rattle.timetable.specs.LinkCounts.{LinksCount, TripCounts, TripsCount}
+use Rattle.timetable.specs.LinkCounts.{EachLinkHolds, LinksCount, TripCounts, TripsCount}
 use Rattle.timetable.specs.Links.{list_of, turned, turn_of, kind_holds, link_holds, arriving_in, departing_in, kept_by}
-use Rattle.timetable.specs.Links.{given_by, taken_by, kept}
+use Rattle.timetable.specs.Links.{given_by, taken_by, kept_with}
 use Rattle.timetable.specs.Lists.{count_of, has, sum_below}
-use Rattle.timetable.specs.Running.{Runs}
-use Rattle.timetable.proofs.Accounts.{AreAccounted}
-use Rattle.timetable.proofs.Linked.{StaysBy, stays_by, links_account}
+use Rattle.timetable.proofs.Accounts.{AreAccountedWith}
+use Rattle.timetable.proofs.Linked.{StaysBy, stays_by_with, links_account_with}
 use Rattle.timetable.proofs.LinkKinds.{same_alone}
 use Rattle.timetable.proofs.Ones.{one_same}
 use Rattle.timetable.proofs.Reindexing.{sum_at}
@@ -125,34 +124,34 @@ sum_of_two f x y n apart others outside =
           omega arith
     ]
 
-module _ (day : Day) (plan : List (List ℕ)) (links : AreLinks day) (runs : Runs day plan) where
-  accounted : AreAccounted day plan
-  accounted = links_account day plan links (record { holds = runs.links })
+module _ (type_of : ℕ → ℕ) (day : Day) (lists : List (List ℕ)) (links : AreLinks day) (hold : EachLinkHolds type_of day lists) where
+  accounted : AreAccountedWith type_of day lists
+  accounted = links_account_with type_of day lists links (record { holds = hold })
 
   -- nothing is kept from or for a trip that is not there
-  none_kept : (u a b : ℕ) → (count_of u (kept day plan a b) ≡ 0) ⊎ ((a < length day.trips) × (b < length day.trips))
-  none_kept u a b = elim (cases_lt 0 (count_of u (kept day plan a b))) [
+  none_kept : (u a b : ℕ) → (count_of u (kept_with type_of day lists a b) ≡ 0) ⊎ ((a < length day.trips) × (b < length day.trips))
+  none_kept u a b = elim (cases_lt 0 (count_of u (kept_with type_of day lists a b))) [
     | inl some ↦
-        let by : StaysBy day a b = stays_by day plan u a b (omega arith) in
+        let by : StaysBy day a b = stays_by_with type_of day lists u a b (omega arith) in
         inr (links.arriving by.number a by.link by.at by.arriving, links.departing by.number b by.link by.at by.departing)
     | inr none ↦ inl (omega arith)
   ]
 
-  none_for : (u a b : ℕ) → length day.trips ≤ b → count_of u (kept day plan a b) ≡ 0
+  none_for : (u a b : ℕ) → length day.trips ≤ b → count_of u (kept_with type_of day lists a b) ≡ 0
   none_for u a b past = elim (none_kept u a b) [ inl none ↦ none | inr there ↦ absurd (let lt = there.1 in omega arith) ]
 
-  none_from : (u a b : ℕ) → length day.trips ≤ a → count_of u (kept day plan a b) ≡ 0
+  none_from : (u a b : ℕ) → length day.trips ≤ a → count_of u (kept_with type_of day lists a b) ≡ 0
   none_from u a b past = elim (none_kept u a b) [ inl none ↦ none | inr there ↦ absurd (let lt = there.0 in omega arith) ]
 
-  counts_at : (t u : ℕ) → TripCounts day plan t u
+  counts_at : (t u : ℕ) → TripCounts type_of day lists t u
   counts_at t u =
       let gives = accounted.gives t in
       let takes = accounted.takes t in
       let given_all = gives.total u in
       let taken_all = takes.total u in
-      let goes = sum_of_two (λ b. count_of u (kept day plan t b)) gives.first gives.second (length day.trips) gives.apart (gives.others u) (λ b past. none_for u t b past) in
-      let comes = sum_of_two (λ a. count_of u (kept day plan a t)) takes.first takes.second (length day.trips) takes.apart (takes.others u) (λ a past. none_from u a t past) in
+      let goes = sum_of_two (λ b. count_of u (kept_with type_of day lists t b)) gives.first gives.second (length day.trips) gives.apart (gives.others u) (λ b past. none_for u t b past) in
+      let comes = sum_of_two (λ a. count_of u (kept_with type_of day lists a t)) takes.first takes.second (length day.trips) takes.apart (takes.others u) (λ a past. none_from u a t past) in
       record { arriving = omega arith; departing = omega arith }
 
 pub trips_count : TripsCount
-trips_count day plan t u links runs = counts_at day plan links runs t u
+trips_count type_of day lists t u links hold = counts_at type_of day lists links hold t u

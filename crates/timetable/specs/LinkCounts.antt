@@ -1,14 +1,13 @@
 -- How often a unit is in the lists of trips: what arrives with a trip is given to the yard or stays in the train for a
 -- later trip, and what departs with one is taken from the yard or stayed in the train of an earlier one.
-use Rattle.std.specs.Prelude.{ℕ, ◌≡◌, ◌+◌, List, length, IsTrue, true}
+use Rattle.std.specs.Prelude.{ℕ, ◌≡◌, ◌+◌, List, length, IsTrue, true, Some, slice_get}
 use Rattle.std.specs.List.{sum_by}
 use Rattle.timetable.specs.declared.day.records.Link.{Link}
 use Rattle.timetable.specs.Accepted.{AreLinks}
 use Rattle.timetable.specs.Day.{Day}
 use Rattle.timetable.specs.Links.{list_of, link_holds, arriving_in, departing_in, kept_by, given_by, taken_by}
-use Rattle.timetable.specs.Links.{kept, given, taken}
+use Rattle.timetable.specs.Links.{kept_with, given_with, taken_with}
 use Rattle.timetable.specs.Lists.{count_of, has, sum_below}
-use Rattle.timetable.specs.Running.{Runs}
 
 -- ---- at a link
 
@@ -35,12 +34,22 @@ LinksCount = (type_of : ℕ → ℕ) (link : Link) (lists : List (List ℕ)) (u 
 
 -- ---- on a day
 
--- the same of a trip, with all trips of the day
-pub record TripCounts (day : Day) (plan : List (List ℕ)) (t u : ℕ) : Type 0 where
-  pub arriving : count_of u (list_of plan t)
-      ≡ count_of u (given day plan t) + sum_below (λ b. count_of u (kept day plan t b)) (length day.trips)
-  pub departing : count_of u (list_of plan t)
-      ≡ count_of u (taken day plan t) + sum_below (λ a. count_of u (kept day plan a t)) (length day.trips)
+-- the rule of each link holds
+abbrev pub EachLinkHolds : (ℕ → ℕ) → Day → List (List ℕ) → Type 0
+EachLinkHolds type_of day lists =
+    (l : ℕ) (link : Link) → slice_get day.links l ≡ Some link → link_holds type_of link lists ≡ true
 
+-- the same of a trip, with all trips of the day
+pub record TripCounts (type_of : ℕ → ℕ) (day : Day) (lists : List (List ℕ)) (t u : ℕ) : Type 0 where
+  pub arriving : count_of u (list_of lists t)
+      ≡ count_of u (given_with type_of day lists t)
+      + sum_below (λ b. count_of u (kept_with type_of day lists t b)) (length day.trips)
+  pub departing : count_of u (list_of lists t)
+      ≡ count_of u (taken_with type_of day lists t)
+      + sum_below (λ a. count_of u (kept_with type_of day lists a t)) (length day.trips)
+
+-- so it is of each trip where the rule of each link holds, be the lists of any units, of a plan that runs or not, or of
+-- types
 abbrev pub TripsCount : Type 0
-TripsCount = (day : Day) (plan : List (List ℕ)) (t u : ℕ) → AreLinks day → Runs day plan → TripCounts day plan t u
+TripsCount = (type_of : ℕ → ℕ) (day : Day) (lists : List (List ℕ)) (t u : ℕ)
+    → AreLinks day → EachLinkHolds type_of day lists → TripCounts type_of day lists t u

@@ -88,9 +88,10 @@ pub fn links_count()
     ensures law { LinksCount }
 {}
 
-/// In a plan that runs, where no trip arrives for two links or departs by two, the list of each trip has a unit as often
-/// as what the trip gives to the yard, and what is kept of it for the trips of the day, have it together; and as often as
-/// what it takes from the yard, and what was kept for it.
+/// Where the rule of each link holds, on a day whose links are as on every accepted day, the list of each trip has a
+/// unit as often as what the trip gives to the yard, and what is kept of it for the trips of the day, have it
+/// together; and as often as what it takes from the yard, and what was kept for it. The lists may be of any units, or
+/// of types.
 pub fn trips_count()
     ensures law { TripsCount }
 {}
