@@ -1,14 +1,14 @@
 -- How many entries stay in the train at a turn, of units and of types alike, and what is given and taken beside them.
-use Rattle.std.proofs.Common.{◌≡◌, ℕ, ◌-◌, List, [], length, map, Bool, true, false, Option, Some, None, refl, sym, ap}
+use Rattle.std.proofs.Common.{◌≡◌, ℕ, ◌-◌, ◌≤◌, arith, List, [], length, map, Bool, true, false, Option, Some, None, refl, sym, ap}
 use Rattle.std.proofs.Common.{subst, ◌∙◌, unwrap_or}
 use Rattle.std.specs.Prelude.{option_and_then, option_map, is_some, ◌&&◌, if◌then◌else◌}
 use Rattle.std.proofs.lemmas.Bool.{and_from, cond-true, cond-false}
-use Rattle.std.proofs.lemmas.List.{length-map, map-id}
+use Rattle.std.proofs.lemmas.List.{length-map, length-reverse, map-id}
 use Rattle.rail_csv.specs.declared.rows.End.{End}
 use Rattle.timetable.specs.declared.day.records.LinkKind.{LinkKind}
 use Rattle.timetable.specs.declared.day.records.LinkKind.TheVariants.{Turn}
 use Rattle.timetable.specs.Chains.{leads_from, leads_to}
-use Rattle.timetable.specs.Links.{itself, list_of, turned, kind_holds, given_by, taken_by}
+use Rattle.timetable.specs.Links.{itself, list_of, turned, turn_of, kind_holds, given_by, taken_by}
 use Rattle.timetable.specs.Beside.{AreBeside}
 use Rattle.timetable.specs.Turns.{Parts, same, staying, beyond, parts_beside, kept_of, kept_length, may_shunt, parts_at}
 use Rattle.timetable.specs.Turns.{turn_parts}
@@ -42,6 +42,10 @@ module _ {X : Type 0} (f : X → ℕ) (uncouple couple : End) (exchange : Bool) 
 pub turned_numbers : {X : Type 0} (f : X → ℕ) (r : Bool) (xs ys : List X) (zs : List ℕ) → ys ≡ turned r xs → map f xs ≡ zs → map f ys ≡ turned r zs
 turned_numbers f r xs ys zs turns numbers = ap (map f) turns ∙ sym (turned-map f r xs) ∙ ap (turned r) numbers
 
+pub few_turned : {X : Type 0} (n : ℕ) (r : Bool) (xs ys : List X) → ys ≡ turned r xs → length xs ≤ n → length ys ≤ n
+few_turned n false xs ys turns few = subst (λ (zs : List _). length zs ≤ n) (sym turns) few
+few_turned n true xs ys turns few = let long = length-reverse xs in subst (λ (zs : List _). length zs ≤ n) (sym turns) (omega arith)
+
 module _ (type_of : ℕ → ℕ) (kind : LinkKind) (r : Bool) (lists : List (List ℕ)) (a b : ℕ) (uncouple couple : End) (exchange : Bool)
     (is : kind ≡ Turn a b uncouple couple exchange) (stays : Option ℕ) where
   -- by what a turn keeps
@@ -70,6 +74,18 @@ module _ (type_of : ℕ → ℕ) (kind : LinkKind) (r : Bool) (lists : List (Lis
         by : (o : Option ℕ) → is_some (option_map (parts_beside uncouple couple (turned r (list_of lists a)) (list_of lists b)) o) ≡ is_some o
         by None = refl
         by (Some n) = refl
+
+    -- what stays is kept, and nothing where the rule is broken
+    pub stays_on : {X : Type 0} (f : X → ℕ) (arriving : List X) → map f arriving ≡ turned r (list_of lists a)
+        → map f (unwrap_or (option_map (staying uncouple arriving) stays) []) ≡ (turn_of type_of uncouple couple exchange (turned r (list_of lists a)) (list_of lists b)).kept
+    stays_on {X} f arriving e =
+        by stays
+        ∙ ap (λ (o : Option Parts). (unwrap_or o (record { kept = []; given = turned r (list_of lists a); taken = list_of lists b })).kept) are_beside
+      where
+        by : (o : Option ℕ) → map f (unwrap_or (option_map (staying uncouple arriving) o) [])
+            ≡ (unwrap_or (option_map (parts_beside uncouple couple (turned r (list_of lists a)) (list_of lists b)) o) (record { kept = []; given = turned r (list_of lists a); taken = list_of lists b })).kept
+        by None = refl
+        by (Some n) = sym (staying-map f uncouple arriving n) ∙ ap (λ (us : List ℕ). staying uncouple us n) e
 
     -- what goes is given, and all where the rule is broken
     module _ {X : Type 0} (f : X → ℕ) where

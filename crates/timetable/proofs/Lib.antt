@@ -52,6 +52,7 @@ pub mod Ones
 pub mod Sums
 pub mod Ends
 pub mod LinkKinds
+pub mod LinkKept
 pub mod Accounts
 pub mod Linked
 pub mod OnePlace

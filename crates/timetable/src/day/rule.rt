@@ -1,7 +1,8 @@
 //! The rule of a link: which trips it leads on from and to, which compositions or units may go on by it, and which
 //! units stay in the train, go to the yard and come from it.
 
-ghost use Rattle.std.specs.Prelude.{ℕ, ◌≡◌, ◌<◌, ◌≤◌, ◌++◌, length, map, IfSome, IsTrue, unwrap_or, option_map};
+ghost use Rattle.std.specs.Prelude.{ℕ, ◌≡◌, ◌<◌, ◌≤◌, ◌++◌, ◌&&◌, [], length, map, IfSome, IsTrue, unwrap_or};
+ghost use Rattle.std.specs.Prelude.{option_map};
 ghost use Rattle.compositions.specs.Composition.{are_types};
 ghost use Rattle.timetable.specs.Cost.{shunts};
 ghost use Rattle.timetable.specs.Day.{type_of, types_of};
@@ -9,20 +10,36 @@ ghost use Rattle.timetable.specs.Chains.{leads_from, leads_to};
 ghost use Rattle.timetable.specs.Handovers.{second_of};
 ghost use Rattle.timetable.specs.LinkRows.{AreBelow, NamesBelow};
 ghost use Rattle.timetable.specs.Links.{list_of, turned, link_holds, split_holds, arriving_in, departing_in, listed};
-ghost use Rattle.timetable.specs.Links.{link_out, link_into, given, taken, given_by, taken_by, given_with, taken_with};
+ghost use Rattle.timetable.specs.Links.{link_out, link_into, given, taken, kept_by, given_by, taken_by, given_with, taken_with};
+ghost use Rattle.timetable.specs.Lists.{has};
 ghost use Rattle.timetable.specs.Running.{IsPlan, AreUnits};
-ghost use Rattle.timetable.specs.Turns.{same, beyond, kept_of, IsKept, uncoupling_end, coupling_end};
+ghost use Rattle.timetable.specs.Turns.{same, staying, beyond, kept_of, IsKept, uncoupling_end, coupling_end};
 ghost use Rattle.timetable.specs.Beside.{AreBeside};
 
 use crate::day::instance::Instance;
 use crate::day::plan::NamedPlan;
 use crate::day::records::{Link, LinkKind, LinkTrips};
 use crate::day::trip_entry::TripEntry;
-use crate::day::turns::{beyond, kept_length, staying_at};
+use crate::day::turns::{beyond, kept_length, staying, staying_at};
 use arrayvec::ArrayVec;
 use rail_base::limits::MOST_COMPOSITION;
 use rail_base::{TripNo, TypeNo, UnitNo};
 use rail_csv::End;
+
+impl LinkTrips {
+    /// Whether a trip is one of them.
+    pub fn has(&self, trip: TripNo) -> bool
+        ensures { result ≡ has trip (listed self.now) }
+    {
+        if trip == self.first {
+            return true;
+        }
+        match self.second {
+            Some(second) => trip == second,
+            None => false,
+        }
+    }
+}
 
 impl LinkKind {
     /// The trips that arrive for the link, the train in front first.
@@ -67,6 +84,14 @@ impl LinkKind {
                 second: Some(second),
             },
         }
+    }
+
+    /// Whether the link leads from one trip to another: the one arrives for it, and the other leaves by it.
+    pub fn leads(&self, from: TripNo, to: TripNo) -> bool
+        ensures named { result ≡ has from (arriving_in self.now) && has to (departing_in self.now) }
+        ensures below { (bound : ℕ) → NamesBelow bound self.now → IsTrue result → (from < bound) × (to < bound) }
+    {
+        self.arriving().has(from) && self.departing().has(to)
     }
 
     /// The trip that a link leads a chain from: its first arriving trip, the train in front.
@@ -174,6 +199,22 @@ fn going<T: Copy + Default + Drop>(
     }
 }
 
+/// What stays of a list, where so many stay and the others go at this end, and nothing where none do.
+fn left<T: Copy + Default + Drop>(
+    end: End,
+    whole: &[T],
+    kept: Option<usize>,
+) -> ArrayVec<T, MOST_COMPOSITION>
+    requires few { length whole.now ≤ MOST_COMPOSITION }
+    requires kept { IfSome kept (λ n. n ≤ length whole.now) }
+    ensures { result.items ≡ unwrap_or (option_map (staying end whole.now) kept) [] }
+{
+    match kept {
+        Some(stay) => copy_of(staying(end, whole, stay)),
+        None => ArrayVec::new(),
+    }
+}
+
 /// Whether the whole is the first list and then the second.
 fn is_joined(first: &[UnitNo], second: &[UnitNo], whole: &[UnitNo]) -> bool
     ensures { result ≡ same (first.now ++ second.now) whole.now }
@@ -248,6 +289,22 @@ impl Link {
         staying_at::<E>(uncouple, couple, exchange, kept, arriving, departing)
     }
 
+    /// The list of a trip that arrives for the link, after a reversal.
+    fn arriving_list<E: TripEntry>(
+        &self,
+        instance: &Instance,
+        lists: &E::Lists,
+        trip: TripNo,
+    ) -> ArrayVec<E, MOST_COMPOSITION>
+        requires lists { E.AreOf instance.now lists.now }
+        requires trip { trip < length instance.now.trips }
+        ensures numbers { map E.number result.items
+            ≡ turned self.now.reverse (list_of (E.lists_of instance.now lists.now) trip) }
+        ensures few { length result.items ≤ MOST_COMPOSITION }
+    {
+        turned(self.reverse, E::list(lists, instance, trip))
+    }
+
     /// Whether a plan keeps the link's rule.
     #[tactic(auto, unfolding(crate::specs::Links::link_holds, crate::specs::Links::join_holds))]
     pub fn holds(&self, instance: &Instance, plan: &NamedPlan) -> bool
@@ -278,6 +335,39 @@ impl Link {
                 let arriving = turned(self.reverse, plan.units(arriving));
                 is_split(plan.units(first), plan.units(second), arriving.as_slice())
             }
+        }
+    }
+
+    /// What stays in the train from a trip that arrives for the link to one that leaves by it, front to rear after a
+    /// reversal: at a turn what stands at the kept places, and nothing where its rule is broken; at a join the list of
+    /// the arriving trip; at a split the list of the departing trip. Nothing between other trips.
+    pub fn kept<E: TripEntry>(
+        &self,
+        instance: &Instance,
+        lists: &E::Lists,
+        from: TripNo,
+        to: TripNo,
+    ) -> ArrayVec<E, MOST_COMPOSITION>
+        requires trips { NamesBelow (length instance.now.trips) self.now.kind }
+        requires lists { E.AreOf instance.now lists.now }
+        ensures { map E.number result.items ≡ kept_by (E.type_of instance.now) self.now.kind self.now.reverse
+            (E.lists_of instance.now lists.now) from to }
+    {
+        if !self.kind.leads(from, to) {
+            return ArrayVec::new();
+        }
+        match self.kind {
+            LinkKind::Turn {
+                arriving,
+                uncouple,
+                ..
+            } => {
+                let arriving = self.arriving_list::<E>(instance, lists, arriving);
+                let staying = self.staying::<E>(instance, lists, arriving.as_slice());
+                left(uncouple, arriving.as_slice(), staying)
+            }
+            LinkKind::Join { .. } => self.arriving_list::<E>(instance, lists, from),
+            LinkKind::Split { .. } => copy_of(E::list(lists, instance, to)),
         }
     }
 
@@ -382,9 +472,9 @@ impl Instance {
         Some(*self.link(number))
     }
 
-    /// What a trip gives to the yard where it arrives, front to rear after a reversal: what a turn uncouples, all of its
-    /// list where no link leads on or the rule of the turn is broken, and nothing at a join or a split. The trip is
-    /// below `trips`.
+    /// What a trip gives to the yard where it arrives, front to rear after a reversal: what a turn uncouples, all of
+    /// its list where no link leads on or the rule of the turn is broken, and nothing at a join or a split. The trip
+    /// is below `trips`.
     #[tactic(auto, unfolding(crate::specs::Links::given_with))]
     pub fn given<E: TripEntry>(
         &self,
@@ -435,8 +525,8 @@ impl NamedPlan {
     }
 
     /// The units that a trip of the plan's day gives to the yard where it arrives, front to rear after a reversal:
-    /// those that a turn uncouples, all of them where no link leads on or the rule of the turn is broken, and none at a
-    /// join or a split.
+    /// those that a turn uncouples, all of them where no link leads on or the rule of the turn is broken, and none at
+    /// a join or a split.
     pub fn given(&self, instance: &Instance, trip: TripNo) -> ArrayVec<UnitNo, MOST_COMPOSITION>
         requires trip { trip < length instance.now.trips }
         requires plan { IsPlan instance.now self.now }
