@@ -26,7 +26,7 @@ Has x [] = ⊥
 Has x (y ∷ ys) = (y ≡ x) ⊎ Has x ys
 
 -- each is below the later ones
-abbrev Rise : List ℕ → Type 0
+abbrev pub Rise : List ℕ → Type 0
 Rise [] = ⊤
 Rise (x ∷ xs) = ((y : ℕ) → Has y xs → x < y) × Rise xs
 
@@ -51,15 +51,22 @@ pairs_rise (x ∷ xs) r i zero d order below = absurd (omega arith)
 pairs_rise (x ∷ xs) r zero (suc j) d order below = r.0 (get_or xs j d) (has_at xs j d (omega arith))
 pairs_rise (x ∷ xs) r (suc i) (suc j) d order below = pairs_rise xs r.1 i j d (omega arith) (omega arith)
 
+rise_from : (xs : List ℕ) → AllPairs (λ a b. a < b) xs → Rise xs
+rise_from [] pairs = tt
+rise_from (x ∷ xs) pairs = (
+  (λ y has. let (k, below, at) = contains_from y xs has in subst (λ (z : ℕ). x < z) at (pairs 0 (suc k) _ (omega arith) (omega arith))),
+  rise_from xs (λ i j d order below. pairs (suc i) (suc j) d (omega arith) (omega arith)),
+)
+
 -- ---- a minute more
 
 -- what inserting a minute makes of a list
-record Inserts (m : ℕ) (before after : List ℕ) : Type 0 where
-  here : Has m after
-  kept : (x : ℕ) → Has x before → Has x after
-  only : (x : ℕ) → Has x after → Has x before ⊎ (m ≡ x)
-  rise : Rise before → Rise after
-  few : length after ≤ suc (length before)
+pub record Inserts (m : ℕ) (before after : List ℕ) : Type 0 where
+  pub here : Has m after
+  pub kept : (x : ℕ) → Has x before → Has x after
+  pub only : (x : ℕ) → Has x after → Has x before ⊎ (m ≡ x)
+  pub rise : Rise before → Rise after
+  pub few : length after ≤ suc (length before)
 
 later_kept : (m k : ℕ) (ks after : List ℕ) → Inserts m ks after → (x : ℕ) → Has x (k ∷ ks) → Has x (k ∷ after)
 later_kept m k ks after so x (inl is) = inl is
@@ -113,7 +120,7 @@ inserts_none m k ks is = record {
   few = omega arith;
 }
 
-inserts : (m : ℕ) (ks : List ℕ) → Inserts m ks (inserted m ks)
+pub inserts : (m : ℕ) (ks : List ℕ) → Inserts m ks (inserted m ks)
 inserts m [] = record {
   here = inl refl;
   kept = λ x none. absurd none;
@@ -130,6 +137,9 @@ inserts m (k ∷ ks) =
   where
     higher : (m k : ℕ) → m ≤ k → (k == m) ≡ false → m < k
     higher m k least differ = let other : (k ≡ m → ⊥) = λ is. both_ways (k == m) differ (eq-eqb k m is) in omega arith
+
+pub inserted_rise : (m : ℕ) (ks after : List ℕ) → after ≡ inserted m ks → AllPairs (λ a b. a < b) ks → AllPairs (λ a b. a < b) after
+inserted_rise m ks after is pairs = subst (AllPairs (λ a b. a < b)) (sym is) (pairs_rise (inserted m ks) ((inserts m ks).rise (rise_from ks pairs)))
 
 -- a minute that is there stays where it is
 pub there : (ks : List ℕ) (i m : ℕ) → i < length ks → get_or ks i 0 ≡ m → ((k : ℕ) → k < i → get_or ks k 0 < m) → inserted m ks ≡ ks

@@ -10,6 +10,7 @@ pub use building::refusal::{InstanceRefusal, PlanRefusal};
 pub use building::tables::{Rows, Tables};
 pub use day::indices::Place;
 pub use day::instance::Instance;
+pub use day::minutes::insert_minute;
 pub use day::picks::Picks;
 pub use day::plan::NamedPlan;
 pub use day::records::{Handover, Link, LinkKind, LinkTrips, Station, Stock, Trip, Unit, Weights};

@@ -34,10 +34,11 @@ impl Minutes {
     }
 }
 
-/// Puts a minute at its place among minutes that rise, where it isn't there yet.
-fn insert(minutes: &mut Vec<Minute>, minute: Minute) -> Result<(), NoMemory>
+/// Puts a minute at its place among minutes that rise, where it isn't there yet. The error is want of memory.
+pub fn insert_minute(minutes: &mut Vec<Minute>, minute: Minute) -> Result<(), NoMemory>
     requires { AllPairs (λ a b. a < b) minutes.old.items }
-    ensures { OnOk result (minutes.new.items ≡ inserted minute minutes.old.items) }
+    ensures inserted { OnOk result (minutes.new.items ≡ inserted minute minutes.old.items) }
+    ensures rise { OnOk result (AllPairs (λ a b. a < b) minutes.new.items) }
 {
     match minutes.binary_search(&minute) {
         Ok(_) => Ok(()),
@@ -58,7 +59,7 @@ fn insert_departure(
     ensures { OnOk result (minutes.new.items ≡ with_departure station trip.now minutes.old.items) }
 {
     if trip.from == station {
-        insert(minutes, trip.departure)?;
+        insert_minute(minutes, trip.departure)?;
     }
     Ok(())
 }
