@@ -20,7 +20,7 @@ as_many units day stocked stand s m = stand s m ∙ sym (units_are_at_home day s
 pub plans_of_units_are_served : PlansOfUnitsAreServed
 plans_of_units_are_served units day plan is_day links stocked stand runs =
     let number : ℕ → ℕ = kth_number units (stock_units day) in
-    let is : IsRenumbering units (stock_units day) number = kth_units_are_renumbered units (stock_units day) (as_many units day stocked stand) in
+    let is : IsRenumbering units (stock_units day) number = (kth_units_are_renumbered units (stock_units day) (as_many units day stocked stand)).renumbers in
     let alike : RunsAlike units (stock_units day) number day plan = renumbered_plans_run units (stock_units day) number day plan is runs.is_plan in
     subst (AreServed day) alike.types (served day (renumbered number plan) is_day links stocked (alike.runs.0 runs))
 
@@ -28,6 +28,6 @@ pub served_plans_run_with_units : ServedPlansRunWithUnits
 served_plans_run_with_units units day types is_day links stocked stand are_served =
     let named : RunsWith day types (named_plan day types) = served_plans_run day types is_day links stocked are_served in
     let number : ℕ → ℕ = kth_number (stock_units day) units in
-    let is : IsRenumbering (stock_units day) units number = kth_units_are_renumbered (stock_units day) units (λ s m. sym (as_many units day stocked stand s m)) in
+    let is : IsRenumbering (stock_units day) units number = (kth_units_are_renumbered (stock_units day) units (λ s m. sym (as_many units day stocked stand s m))).renumbers in
     let alike : RunsAlike (stock_units day) units number day (named_plan day types) = renumbered_plans_run (stock_units day) units number day (named_plan day types) is named.runs.is_plan in
     record { runs = alike.runs.0 named.runs; types_are = alike.types ∙ named.types_are }

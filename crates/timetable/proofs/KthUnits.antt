@@ -1,4 +1,5 @@
--- The k-th units of a type at a station, where as many stand there, are a renumbering.
+-- The k-th units of a type at a station are among the others where no fewer of these stand there, and a renumbering where
+-- as many do.
 use Rattle.std.proofs.Common.{◌≡◌, ℕ, zero, suc, ◌+◌, ◌<◌, ◌≤◌, Bool, true, false, refl, sym, ap, ◌∙◌, subst, arith, inl}
 use Rattle.std.proofs.Common.{inr}
 use Rattle.std.specs.Prelude.{◌==◌, ◌&&◌}
@@ -6,7 +7,8 @@ use Rattle.std.proofs.lemmas.Bool.{cases_Bool, cases_eq, cases_lt, cond-true, co
 use Rattle.std.proofs.lemmas.Bool.{and_from, false≢true}
 use Rattle.timetable.specs.Day.{Units}
 use Rattle.timetable.specs.Lists.{count_below}
-use Rattle.timetable.specs.Renumbering.{is_at, standing_at, unit_after, kth_number, KthUnitsAreRenumbered}
+use Rattle.timetable.specs.Renumbering.{AreAmong, is_at, standing_at, unit_after, before_unit, kth_number}
+use Rattle.timetable.specs.Renumbering.{KthUnitsAreAmong, KthUnitsAreRenumbered}
 use Rattle.timetable.proofs.Reindexing.{given_few}
 
 -- ---- how many numbers pass a test
@@ -59,11 +61,7 @@ module _ (units : Units) (s m before : ℕ) where
 
 -- ---- the k-th of some units, and the k-th of others
 
--- how many units like a unit come before it
-abbrev before_unit : Units → ℕ → ℕ
-before_unit units u = count_below (is_at units (units.home u) (units.unit_type u)) u
-
-module _ (units others : Units) (alike : (s m : ℕ) → standing_at units s m ≡ standing_at others s m) where
+module _ (units others : Units) (enough : (s m : ℕ) → standing_at units s m ≤ standing_at others s m) where
   is_like : (u : ℕ) → is_at units (units.home u) (units.unit_type u) u ≡ true
   is_like u = and_from _ _ (eq-eqb (units.home u) (units.home u) refl) (eq-eqb (units.unit_type u) (units.unit_type u) refl)
 
@@ -71,7 +69,7 @@ module _ (units others : Units) (alike : (s m : ℕ) → standing_at units s m �
   unfolding kth_number
   kth_is u lt =
       let fewer = counts_more (is_at units (units.home u) (units.unit_type u)) u units.count (is_like u) lt in
-      let same = alike (units.home u) (units.unit_type u) in
+      let least = enough (units.home u) (units.unit_type u) in
       is_after others (units.home u) (units.unit_type u) (before_unit units u) others.count (omega arith)
 
   kth_home : (u : ℕ) → u < units.count → others.home (kth_number units others u) ≡ units.home u
@@ -114,14 +112,18 @@ module _ (units others : Units) (alike : (s m : ℕ) → standing_at units s m �
   kth_few : units.count ≤ others.count
   kth_few = given_few (kth_number units others) units.count others.count (λ u lt. (kth_is u lt).known) kth_once
 
+  kth_among : AreAmong units others (kth_number units others)
+  kth_among = record { known = λ u lt. (kth_is u lt).known; once = kth_once; unit_type = kth_type; home = kth_home }
+
+pub kth_units_are_among : KthUnitsAreAmong
+kth_units_are_among units others enough = record { among = kth_among units others enough; kth = kth_before units others enough }
+
 pub kth_units_are_renumbered : KthUnitsAreRenumbered
 kth_units_are_renumbered units others alike =
-    let few = kth_few units others alike in
-    let others_few = kth_few others units (λ s m. sym (alike s m)) in
+    let enough : (s m : ℕ) → standing_at units s m ≤ standing_at others s m = λ s m. let same = alike s m in omega arith in
+    let few = kth_few units others enough in
+    let others_few = kth_few others units (λ s m. let same = alike s m in omega arith) in
     record {
-      count = omega arith;
-      known = λ u lt. (kth_is units others alike u lt).known;
-      once = kth_once units others alike;
-      unit_type = kth_type units others alike;
-      home = kth_home units others alike;
+      renumbers = record { among = kth_among units others enough; count = omega arith };
+      kth = kth_before units others enough;
     }

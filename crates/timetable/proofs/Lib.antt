@@ -57,6 +57,7 @@ pub mod Accounts
 pub mod Linked
 pub mod OnePlace
 pub mod Reindexing
+pub mod AnyStock
 pub mod Renumbered
 pub mod KthUnits
 pub mod LinkCounts

@@ -43,6 +43,56 @@ module _ (number : ℕ → ℕ) (n k : ℕ) (known : (u : ℕ) → u < n → num
   pub given_few : n ≤ k
   given_few = let sum = sum_given (λ _. 1) in omega (arith, sum_ones n, sum_ones k)
 
+-- Where two functions are alike on each number that is not given, one is as much more than the other in all as on those
+-- that are given.
+pub sum_apart : (number : ℕ → ℕ) (n k : ℕ) → ((u : ℕ) → u < n → number u < k) → ((u w : ℕ) → u < n → w < n → number u ≡ number w → u ≡ w)
+    → (f g : ℕ → ℕ) → ((v : ℕ) → v < k → ((u : ℕ) → u < n → number u ≢ v) → f v ≡ g v)
+    → sum_below f k + sum_below (λ u. g (number u)) n ≡ sum_below g k + sum_below (λ u. f (number u)) n
+sum_apart number zero k known once f g alike = let same = sum_same f g k (λ v lt. alike v lt (λ u below. absurd (omega arith))) in omega arith
+sum_apart number (suc n) k known once f g alike =
+    let x : ℕ = number n in
+    let but : ℕ → ℕ = λ v. if x == v then g v else f v in
+    let rest = sum_apart number n k (λ u lt. known u (omega arith)) (λ u w lu lw. once u w (omega arith) (omega arith)) but g (λ v lt none. elim (cases_eq x v) [
+      | inl e ↦ cond-true (eqb x v) (g v) (f v) (eq-eqb x v e)
+      | inr ne ↦ cond-false (eqb x v) (g v) (f v) (ne_eqb x v ne) ∙ alike v lt (λ u below. elim (cases_eq u n) [
+        | inl is ↦ subst (λ (w : ℕ). number w ≢ v) (sym is) ne
+        | inr other ↦ none u (omega arith)
+      ])
+    ]) in
+    let others = sum_same (λ u. but (number u)) (λ u. f (number u)) n
+    (λ u lt. cond-false (eqb x (number u)) (g (number u)) (f (number u)) (ne_eqb x (number u) (λ e. let same : n ≡ u = once n u (omega arith) (omega arith) e in absurd (omega arith)))) in
+    let both = sum_same (λ v. f v + (if x == v then g v else 0)) (λ v. but v + (if x == v then f v else 0)) k (λ v lt. elim (cases_eq x v) [
+      | inl e ↦
+          let first = cond-true {A = ℕ} (eqb x v) (g v) 0 (eq-eqb x v e) in
+          let second = cond-true {A = ℕ} (eqb x v) (g v) (f v) (eq-eqb x v e) in
+          let third = cond-true {A = ℕ} (eqb x v) (f v) 0 (eq-eqb x v e) in
+          omega arith
+      | inr ne ↦
+          let first = cond-false {A = ℕ} (eqb x v) (g v) 0 (ne_eqb x v ne) in
+          let second = cond-false {A = ℕ} (eqb x v) (g v) (f v) (ne_eqb x v ne) in
+          let third = cond-false {A = ℕ} (eqb x v) (f v) 0 (ne_eqb x v ne) in
+          omega arith
+    ]) in
+    let left = sum_add f (λ v. if x == v then g v else 0) k in
+    let right = sum_add but (λ v. if x == v then f v else 0) k in
+    let here = sum_at g x k (known n (omega arith)) in
+    let there = sum_at f x k (known n (omega arith)) in
+    omega arith
+
+-- a number is given to one below a bound, or to none
+pub sought : (number : ℕ → ℕ) (v m : ℕ) → ((u : ℕ) × (u < m) × (number u ≡ v)) ⊎ ((u : ℕ) → u < m → number u ≢ v)
+sought number v zero = inr (λ u lt. absurd (omega arith))
+sought number v (suc m) = elim (cases_eq (number m) v) [
+  | inl e ↦ inl (m, (omega arith), e)
+  | inr ne ↦ elim (sought number v m) [
+    | inl found ↦ inl (found.0, (let lt = found.1 in omega arith), found.2)
+    | inr none ↦ inr (λ u lt. elim (cases_eq u m) [
+      | inl is ↦ subst (λ (w : ℕ). number w ≢ v) (sym is) ne
+      | inr other ↦ none u (omega arith)
+    ])
+  ]
+]
+
 -- as many as there are to give
 module _ (number : ℕ → ℕ) (n : ℕ) (known : (u : ℕ) → u < n → number u < n) (once : (u v : ℕ) → u < n → v < n → number u ≡ number v → u ≡ v) where
   -- as many of the one pass a test as of the others
@@ -56,22 +106,9 @@ module _ (number : ℕ → ℕ) (n : ℕ) (known : (u : ℕ) → u < n → numbe
       let each_is = sum_same (λ v. g v + (1 - g v)) (λ _. 1) n (λ v lt. let small = few v in omega arith) in
       omega arith
 
-  sought : (v m : ℕ) → ((u : ℕ) × (u < m) × (number u ≡ v)) ⊎ ((u : ℕ) → u < m → number u ≢ v)
-  sought v zero = inr (λ u lt. absurd (omega arith))
-  sought v (suc m) = elim (cases_eq (number m) v) [
-    | inl e ↦ inl (m, (omega arith), e)
-    | inr ne ↦ elim (sought v m) [
-      | inl found ↦ inl (found.0, (let lt = found.1 in omega arith), found.2)
-      | inr none ↦ inr (λ u lt. elim (cases_eq u m) [
-        | inl is ↦ subst (λ (w : ℕ). number w ≢ v) (sym is) ne
-        | inr other ↦ none u (omega arith)
-      ])
-    ]
-  ]
-
   -- each is given
   pub is_given : (v : ℕ) → v < n → (u : ℕ) × (u < n) × (number u ≡ v)
-  is_given v lt = elim (sought v n) [
+  is_given v lt = elim (sought number v n) [
     | inl found ↦ found
     | inr none ↦
         let sum = sum_given number n n known once (λ w. 1 - one v w) in

@@ -1,6 +1,6 @@
 -- Which plans run: with units that stand anywhere at the start of the day, and with those of the stock at their homes.
 use Rattle.std.specs.Prelude.{ℕ, ◌≡◌, ◌<◌, ◌≤◌, ◌⊎◌, List, [], ◌∷◌, length, map, true, ◌==◌, ◌&&◌, IsTrue, slice_get}
-use Rattle.std.specs.Prelude.{Some, ⊤}
+use Rattle.std.specs.Prelude.{Some, ⊤, ◌↔◌}
 use Rattle.timetable.specs.declared.day.records.Link.{Link}
 use Rattle.timetable.specs.Day.{Day, Units, leaves, from_of, to_of, type_of, unit_count, stock_units}
 use Rattle.timetable.specs.Day.{wanted_of, ready_at}
@@ -88,3 +88,24 @@ pub record RunsOf (units : Units) (day : Day) (plan : List (List ℕ)) : Type 0 
 -- The plan runs, with the units of the stock.
 abbrev pub Runs : Day → List (List ℕ) → Type 0
 Runs day plan = RunsOf (stock_units day) day plan
+
+-- ---- in two parts
+
+-- All but the last of these: the plan runs through the day, wherever its units end it. The numbers of the stock rows are
+-- no part of it.
+pub record RunsThrough (units : Units) (day : Day) (plan : List (List ℕ)) : Type 0 where
+  pub is_plan : IsPlanOfUnits units day plan
+  pub lists : (t : ℕ) → t < length day.trips → MayRunOf units.unit_type day t (list_of plan t)
+  pub links : (l : ℕ) (link : Link) → slice_get day.links l ≡ Some link → link_holds units.unit_type link plan ≡ true
+  pub homes : (u : ℕ) → u < units.count → BeginsAt day (units.home u) (duty day plan u)
+  pub follows : (u : ℕ) → u < units.count → EachFollows (MayFollowOf units.unit_type day plan u) (duty day plan u)
+
+-- The last: each station has, of each type, as many units at the end as are wanted.
+abbrev pub EndsAsWanted : Units → Day → List (List ℕ) → Type 0
+EndsAsWanted units day plan = (s m : ℕ) → s < length day.stations → m < length day.types
+    → ending_of units day plan s m ≡ wanted_of day s m
+
+-- a plan runs exactly where both hold
+abbrev pub RunsInParts : Type 0
+RunsInParts = (units : Units) (day : Day) (plan : List (List ℕ))
+    → RunsOf units day plan ↔ (RunsThrough units day plan × EndsAsWanted units day plan)

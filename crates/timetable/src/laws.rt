@@ -9,6 +9,8 @@ ghost use Rattle.timetable.specs.Laws.{NamesAreFound, SeatsAreMissingByClass, Pl
 ghost use Rattle.timetable.specs.Laws.{TablesMakeSoundDays};
 ghost use Rattle.timetable.specs.LinkCounts.{LinksCount, TripsCount};
 ghost use Rattle.timetable.specs.Renumbering.{RenumberedPlansRun, UnitsAreRenumberedBack, KthUnitsAreRenumbered};
+ghost use Rattle.timetable.specs.Renumbering.{PlansRunAmong, KthUnitsAreAmong};
+ghost use Rattle.timetable.specs.Running.{RunsInParts};
 ghost use Rattle.timetable.specs.TurnsWithoutExchange.{IsPlainTurn};
 
 /// Tables make a day exactly where no test on them fails, and a refusal is that of the first test that fails. A day is
@@ -81,9 +83,10 @@ pub fn units_are_in_one_place()
     ensures law { UnitsAreInOnePlace }
 {}
 
-/// Where the rule of a link holds, the list of each arriving trip has a unit as often as what the link gives to the yard
-/// of it, and what it keeps of it for its departing trips, have it together. The list of each departing trip has it as
-/// often as what the link takes from the yard for it, and what it kept of its arriving trips. The lists may be of types.
+/// Where the rule of a link holds, the list of each arriving trip has a unit as often as what the link gives to the
+/// yard of it, and what it keeps of it for its departing trips, have it together. The list of each departing trip has
+/// it as often as what the link takes from the yard for it, and what it kept of its arriving trips. The lists may be
+/// of types.
 pub fn links_count()
     ensures law { LinksCount }
 {}
@@ -96,11 +99,24 @@ pub fn trips_count()
     ensures law { TripsCount }
 {}
 
-/// Where units are given the numbers of other units, one to one, each that of a unit of its type that stands at the same
-/// station, a plan runs exactly where it runs with the new numbers. Its trips have the same types then, so it costs the
-/// same, and each unit has the same duty.
+/// A plan runs exactly where it runs through the day and ends it with as many units of each type at each station as
+/// are wanted there. Only the latter goes by the stock rows.
+pub fn plans_run_in_parts()
+    ensures law { RunsInParts }
+{}
+
+/// Where units are given the numbers of other units, one to one, each that of a unit of its type that stands at the
+/// same station, a plan runs exactly where it runs with the new numbers. Its trips have the same types then, so it
+/// costs the same, and each unit has the same duty.
 pub fn renumbered_plans_run()
     ensures law { RenumberedPlansRun }
+{}
+
+/// Where some of the others are left over, a plan that runs through the day runs with the new numbers through the same
+/// day with any stock rows. It costs the same, and each unit has the same duty. The others that are left over stay
+/// where they stand: as many more end the day at a station, of each type, as stood there more at its start.
+pub fn plans_run_among()
+    ensures law { PlansRunAmong }
 {}
 
 /// Such numbers lead back: there are numbers of the one kind for the others, and each undoes the other.
@@ -108,8 +124,13 @@ pub fn units_are_renumbered_back()
     ensures law { UnitsAreRenumberedBack }
 {}
 
-/// Where as many units of each type stand at each station, the k-th unit of a type at a station may be given the number
-/// of the k-th of the others of this type there.
+/// Where no fewer of the others, of each type, stand at each station, each unit is given the number of one of these:
+/// the k-th unit of a type at a station that of the k-th of the others of this type there.
+pub fn kth_units_are_among()
+    ensures law { KthUnitsAreAmong }
+{}
+
+/// Where as many units of each type stand at each station, these numbers leave none of the others over.
 pub fn kth_units_are_renumbered()
     ensures law { KthUnitsAreRenumbered }
 {}
@@ -121,8 +142,8 @@ pub fn seats_are_missing_by_class()
     ensures law { SeatsAreMissingByClass }
 {}
 
-/// Where no trip arrives for two links or departs by two, and links keep time, as on every accepted day, no other lists
-/// are the chains of the day.
+/// Where no trip arrives for two links or departs by two, and links keep time, as on every accepted day, no other
+/// lists are the chains of the day.
 pub fn chains_are_one()
     ensures law { ChainsAreOne }
 {}
