@@ -31,7 +31,7 @@ use Rattle.inventory.proofs.Sums.{one_same}
 
 -- ---- the trips of a duty that leave before a minute
 
-in_duty : (day : Day) (plan : List (List ℕ)) (minute u t : ℕ) → 1 ≤ count_of t (duty_before day plan minute u) → (t < length day.trips) × (leaves day t < minute)
+pub in_duty : (day : Day) (plan : List (List ℕ)) (minute u t : ℕ) → 1 ≤ count_of t (duty_before day plan minute u) → (t < length day.trips) × (leaves day t < minute)
 unfolding duty
 in_duty day plan minute u t c = elim (cases_Bool (nat_lt (leaves day t) minute)) [
   | inr late ↦ let none = filter_out (λ t. nat_lt (leaves day t) minute) t (duty day plan u) late in absurd (omega arith)

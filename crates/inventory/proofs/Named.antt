@@ -37,7 +37,7 @@ pub length-below : (n : ℕ) → length (below n) ≡ n
 length-below zero = refl
 length-below (suc n) = let rest = length-below n in length-append (below n) (n ∷ []) ∙ (omega arith)
 
-at_below : {X : Type 0} (f : ℕ → X) (n t : ℕ) → t < n → slice_get (map f (below n)) t ≡ Some (f t)
+pub at_below : {X : Type 0} (f : ℕ → X) (n t : ℕ) → t < n → slice_get (map f (below n)) t ≡ Some (f t)
 at_below f zero t lt = absurd (omega arith)
 at_below f (suc n) t lt =
     let long : length (map f (below n)) ≡ n = length-map (below n) f ∙ length-below n in

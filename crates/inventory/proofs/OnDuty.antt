@@ -267,7 +267,7 @@ module _ (day : Day) (plan : List (List ℕ)) (is_day : IsDay day) (links : AreL
       ]
 
   -- a unit goes on in no train from the trip that it runs on last
-  last_gives : (u a : ℕ) (ts : List ℕ) → duty day plan u ≡ a ∷ ts → count_of u (given day plan (last_of a ts)) ≡ 1
+  pub last_gives : (u a : ℕ) (ts : List ℕ) → duty day plan u ≡ a ∷ ts → count_of u (given day plan (last_of a ts)) ≡ 1
   last_gives u a ts is =
       let last = last_of a ts in
       let g : Goes day types (last_of a ts) = goes day types links (last_of a ts) in

@@ -1,6 +1,6 @@
 -- Where the yards serve compositions, naming units by the rule gives a plan that runs.
 use Rattle.std.specs.Prelude.{ℕ, ◌≡◌, ◌<◌, List, length, map, Option, true, ◌≤◌}
-use Rattle.timetable.specs.Accepted.{IsDay, AreLinks, IsStocked}
+use Rattle.timetable.specs.Accepted.{IsDay, AreUnitsOf, AreLinks, IsStocked}
 use Rattle.timetable.specs.Day.{Day, Units, leaves, type_of, types_of, unit_count, stock_units}
 use Rattle.timetable.specs.Links.{list_of}
 use Rattle.timetable.specs.Lists.{count_of}
@@ -11,10 +11,14 @@ use Rattle.inventory.specs.NamedBefore.{IsNamedBefore, IsFrozen}
 use Rattle.inventory.specs.NamedUnits.{InYard, may_be_taken, ready_since, next_unit, named_from, named_plan}
 use Rattle.inventory.specs.ServingLaws.{StandAtStart}
 
--- the plan runs, and its trips have these types
-pub record RunsWith (day : Day) (types plan : List (List ℕ)) : Type 0 where
-  pub runs : Runs day plan
-  pub types_are : map (types_of day) plan ≡ types
+-- the plan runs with these units, and its trips have these types
+pub record RunsWithUnits (units : Units) (day : Day) (types plan : List (List ℕ)) : Type 0 where
+  pub runs : RunsOf units day plan
+  pub types_are : map (map units.unit_type) plan ≡ types
+
+-- it runs with the units of the stock
+abbrev pub RunsWith : Day → List (List ℕ) → List (List ℕ) → Type 0
+RunsWith day = RunsWithUnits (stock_units day) day
 
 -- the same, and the trips that leave before a minute have the lists of another plan
 pub record RunsOn (day : Day) (types : List (List ℕ)) (minute : ℕ) (earlier plan : List (List ℕ)) : Type 0 where
@@ -31,16 +35,11 @@ abbrev pub ServedPlansRun : Type 0
 ServedPlansRun = (day : Day) (types : List (List ℕ)) → IsDay day → AreLinks day → IsStocked day → AreServed day types
     → RunsWith day types (named_plan day types)
 
--- the plan runs with these units, and its trips have these types
-pub record RunsWithUnits (units : Units) (day : Day) (types plan : List (List ℕ)) : Type 0 where
-  pub runs : RunsOf units day plan
-  pub types_are : map (map units.unit_type) plan ≡ types
-
 -- the same of any units of which as many, of each type, stand at each station as the stock rows say: the k-th unit of
 -- the stock, of a type at a station, is the k-th of these
 abbrev pub ServedPlansRunWithUnits : Type 0
 ServedPlansRunWithUnits = (units : Units) (day : Day) (types : List (List ℕ))
-    → IsDay day → AreLinks day → IsStocked day → StandAtStart units day → AreServed day types
+    → IsDay day → AreLinks day → IsStocked day → AreUnitsOf units day → StandAtStart units day → AreServed day types
     → RunsWithUnits units day types (renumbered (kth_number (stock_units day) units) (named_plan day types))
 
 -- of a plan that runs, the trips that leave before a minute are named as it is asked of them

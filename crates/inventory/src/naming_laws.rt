@@ -11,9 +11,9 @@ pub fn served_plans_run()
     ensures law { ServedPlansRun }
 {}
 
-/// They are the types of a plan that runs with any units too, where as many of them, of each type, stand at each station
-/// as the stock rows say for the start of the day: the one that is named by the rule, in which the k-th unit of the stock,
-/// of a type at a station, is the k-th of these.
+/// They are the types of a plan that runs with any units of the day too, where as many of them, of each type, stand at
+/// each station as the stock rows say for the start of the day: the one that is named by the rule, in which the k-th
+/// unit of the stock, of a type at a station, is the k-th of these.
 pub fn served_plans_run_with_units()
     ensures law { ServedPlansRunWithUnits }
 {}
@@ -29,14 +29,15 @@ pub fn running_plans_are_named()
     ensures law { RunningPlansAreNamed }
 {}
 
-/// What is named up to a minute as the rules demand it stays so with other compositions, where these are the same on each
-/// trip that is frozen: that leaves before the minute, or to which a link leads from a trip that arrives before it.
+/// What is named up to a minute as the rules demand it stays so with other compositions, where these are the same on
+/// each trip that is frozen: that leaves before the minute, or to which a link leads from a trip that arrives before
+/// it.
 pub fn names_stay()
     ensures law { NamesStay }
 {}
 
-/// So the trips of a plan that runs are named as the rules demand it, up to a minute, with all compositions that are the
-/// plan's on each frozen trip.
+/// So the trips of a plan that runs are named as the rules demand it, up to a minute, with all compositions that are
+/// the plan's on each frozen trip.
 pub fn plans_name_their_past()
     ensures law { PlansNameTheirPast }
 {}
