@@ -50,9 +50,12 @@ left gone entries = left_from gone 0 entries
 abbrev pub new_number : List ℕ → ℕ → ℕ
 new_number gone t = count_below (λ k. not (has k gone)) t
 
--- the number that a trip of then had before
+-- the numbers that the trips of then had before, in order, and that of one of them
+abbrev pub old_numbers : Day → List ℕ → List ℕ
+old_numbers day gone = left gone (listed (λ k. k) (length day.trips))
+
 abbrev pub old_number : Day → List ℕ → ℕ → ℕ
-old_number day gone t = unwrap_or (slice_get (left gone (listed (λ k. k) (length day.trips))) t) 0
+old_number day gone t = unwrap_or (slice_get (old_numbers day gone) t) 0
 
 -- a link with other numbers of its trips
 abbrev pub kind_with : (ℕ → ℕ) → LinkKind → LinkKind

@@ -27,8 +27,8 @@ fn is_among(trip: TripNo, gone: &[TripNo]) -> bool
     gone.contains(&trip)
 }
 
-/// Takes the row at a place out if its trip is gone. There is a row at that place.
-fn take_out_at(rows: &mut Vec<TripRow>, place: usize, gone: &[TripNo])
+/// Takes what is of the trip of this number out if the trip is gone.
+fn take_out_at<T: Drop>(rows: &mut Vec<T>, place: usize, gone: &[TripNo])
     requires place { place < length rows.old.items }
     requires few { place < MOST_TRIPS }
     ensures { rows.new.items ≡ take place rows.old.items
@@ -39,8 +39,8 @@ fn take_out_at(rows: &mut Vec<TripRow>, place: usize, gone: &[TripNo])
     }
 }
 
-/// Takes the rows of the trips out that are gone.
-fn take_out(rows: &mut Vec<TripRow>, gone: &[TripNo])
+/// Of a list that has one entry for each trip, in the order of the trips, takes those out whose trips are gone.
+pub(crate) fn take_out<T: Drop>(rows: &mut Vec<T>, gone: &[TripNo])
     requires { length rows.old.items ≤ MOST_TRIPS }
     ensures { rows.new.items ≡ left gone.now rows.old.items }
 {

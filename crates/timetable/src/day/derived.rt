@@ -2,9 +2,11 @@
 
 ghost use Rattle.std.specs.Prelude.{◌≡◌, IfOk};
 ghost use Rattle.timetable.specs.DayTables.{IsDayOfBytes};
-ghost use Rattle.timetable.specs.DerivedDays.{without_trips};
+ghost use Rattle.timetable.specs.DerivedDays.{old_numbers, without_trips};
+ghost use Rattle.timetable.specs.Lists.{listed};
 
 use crate::building::day_tables::tables_of;
+use crate::building::left_tables::take_out;
 use crate::day::instance::Instance;
 use rail_base::{NoMemory, TripNo};
 use rail_csv::TableBytes;
@@ -32,4 +34,24 @@ impl Instance {
             Err(_) => Err(NoMemory),
         }
     }
+    /// The numbers of the trips that are left without some, in order: each is at the place of the number that the trip
+    /// has on the day without them, by the law `trips_that_are_left`.
+    pub fn trips_left(&self, alloc: Global, gone: &[TripNo]) -> Result<Vec<TripNo>, NoMemory>
+        ensures { IfOk result (λ trips. trips.items ≡ old_numbers self.now gone.now) }
+    {
+        let mut trips = numbers_below(alloc, self.trips())?;
+        take_out(&mut trips, gone);
+        Ok(trips)
+    }
+}
+
+/// The numbers of so many trips, in order.
+fn numbers_below(alloc: Global, trips: u32) -> Result<Vec<TripNo>, NoMemory>
+    ensures { IfOk result (λ numbers. numbers.items ≡ listed (λ k. k) trips) }
+{
+    let mut numbers = Vec::new(alloc);
+    for trip in 0..trips {
+        numbers.push(TripNo(trip))?;
+    }
+    Ok(numbers)
 }

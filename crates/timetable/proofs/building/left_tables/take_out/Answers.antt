@@ -1,15 +1,14 @@
 -- One place after another, from the last to the first.
 use Rattle.std.proofs.Common.{◌≡◌, ◌+◌, ◌-◌, ◌≤◌, ◌++◌, ℕ, List, length, take, drop, sym, subst, arith}
-use Rattle.rail_csv.specs.declared.rows.TripRow.{TripRow}
 use Rattle.timetable.specs.DerivedDays.{left_from}
 use Rattle.timetable.proofs.LeftRows.{taken_out}
 use Rattle.timetable.proofs.building.left_tables.take_out.Goals as goal
 
 pub loop-place-preserved : goal.loop-place-preserved
-loop-place-preserved c =
+loop-place-preserved g c =
     let gone : List ℕ = c.args.gone.now in
-    let all : List TripRow = c.args.rows.now.items in
-    let rows : List TripRow = c.loop-place.rows.items in
+    let all : List g.row.T.Denot = c.args.rows.now.items in
+    let rows : List g.row.T.Denot = c.loop-place.rows.items in
     let place : ℕ = c.loop-place.place in
     let test = c.loop-place-test.true in
     let inside : place ≤ length all = c.loop-place.invariant.1 in

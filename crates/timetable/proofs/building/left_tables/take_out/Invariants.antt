@@ -4,10 +4,10 @@ use Rattle.timetable.specs.DerivedDays.{left_from}
 use Rattle.timetable.proofs.building.left_tables.take_out.Given as goal
 
 abbrev pub invariant-loop-place : goal.invariant-loop-place
-invariant-loop-place l =
+invariant-loop-place g l =
     (l.rows.items ≡ take l.place l.fn.rows.items ++ left_from l.gone l.place (drop l.place l.fn.rows.items)) ×
     (l.place ≤ length l.fn.rows.items)
 
 -- the place falls
 abbrev pub decreases-loop-place : goal.decreases-loop-place
-decreases-loop-place l = l.place
+decreases-loop-place g l = l.place
