@@ -1,5 +1,5 @@
 -- There are no more numbers than trips.
-use Rattle.std.proofs.Common.{◌≤◌, ℕ, List, length, ap, arith}
+use Rattle.std.proofs.Common.{ℕ, List, length, ap, arith}
 use Rattle.timetable.proofs.Listing.{length-listed}
 use Rattle.timetable.proofs.day.instance.Instance.trips_left.Goals as goal
 
