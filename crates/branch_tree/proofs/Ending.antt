@@ -10,7 +10,7 @@ use Rattle.branch_tree.specs.declared.cuts.Cut.{Cut}
 use Rattle.branch_tree.specs.declared.cuts.Side.{Side}
 use Rattle.branch_tree.specs.declared.cuts.Side.TheVariants.{Left, Right}
 use Rattle.branch_tree.specs.Cuts.{trip_of, is_on, is_met, side_of, IsProper}
-use Rattle.branch_tree.specs.Laws.{ProperCutsEnd}
+use Rattle.branch_tree.specs.Laws.{ProperCutsEnd, SidesAreFilled}
 use Rattle.branch_tree.specs.Regions.{choices_of, set_at, IsFilled, IsSingle}
 use Rattle.branch_tree.specs.Sets.{HasMember, size_of, kept_from, kept}
 use Rattle.branch_tree.specs.Trees.{Walks, cut_of, regions_below, branches_in}
@@ -114,6 +114,12 @@ side_filled : (catalogue : List (List ℕ)) (cut : Cut) (side : Side) (region : 
 side_filled catalogue cut side region inside some filled =
     All-set HasMember region (trip_of cut) (kept (is_on catalogue cut side) (set_at region (trip_of cut)))
     (subst HasMember (get_or-set_at region (trip_of cut) (trip_of cut) (kept (is_on catalogue cut side) (set_at region (trip_of cut))) [] refl inside) some) filled
+
+pub sides_are_filled : SidesAreFilled
+sides_are_filled catalogue cut Left region proper filled =
+    side_filled catalogue cut Left region (trip_inside catalogue region cut proper.in_range) proper.left filled
+sides_are_filled catalogue cut Right region proper filled =
+    side_filled catalogue cut Right region (trip_inside catalogue region cut proper.in_range) proper.right filled
 
 filled_below : (catalogue : List (List ℕ)) (region : List (List Bool)) (regions : List (List (List Bool))) (found : Option Cut) → MatchOption found (Unit {0}) (IsProper catalogue region) →
     IsFilled region → AreFilled regions → AreFilled (regions_below catalogue region found ++ regions)

@@ -31,12 +31,12 @@ unfolding root_of
 root_length day = length-map-range_with_len (λ trip. set_of (λ comp. is_admissible day trip (composition_at day comp))) 0 (length day.trips)
 
 pub roots_are_filled : RootsAreFilled
-roots_are_filled day few served trip d below =
+roots_are_filled day sound trip d below =
     let at : trip < length day.trips = omega (arith, below, root_length day) in
-    let (types, admitted) = served trip at in
+    let (types, admitted) = sound.served trip at in
     let as_listed : CompositionOf day types = composition_of day trip types admitted in (
       as_listed.comp,
-      root_member day trip as_listed.comp d at (omega (arith, few, as_listed.listed))
+      root_member day trip as_listed.comp d at (omega (arith, sound.compositions, as_listed.listed))
           ∙ ap (is_admissible day trip) as_listed.is ∙ admitted,
     )
 
@@ -49,12 +49,12 @@ picked_there day picks trip below =
     (slice_get-map (composition_at day) picks trip ∙ ap (option_map (composition_at day)) (slice_get-get_or picks trip 0 below))
 
 pub solutions_lie_in_roots : SolutionsLieInRoots
-solutions_lie_in_roots day picks few solves =
+solutions_lie_in_roots day picks sound solves =
     each_in picks (root_of day) (solves.are_picks.trips ∙ sym (root_length day)) (λ trip below.
     let at : trip < length day.trips = omega (arith, below, root_length day) in
     let there : trip < length picks = omega (arith, at, solves.are_picks.trips) in
     let known : get_or picks trip 0 < length (compositions_of day) = solves.are_picks.known trip 0 there in
-    root_member day trip (get_or picks trip 0) [] at (omega (arith, few, known))
+    root_member day trip (get_or picks trip 0) [] at (omega (arith, sound.compositions, known))
     ∙ ap (is_admissible day trip)
     (sym (picked_there day picks trip there) ∙ sym (ap (λ lists. list_of lists trip) solves.types) ∙ list_of-types day solves.plan trip)
     ∙ (solves.runs.lists trip at).admissible)

@@ -1,9 +1,8 @@
 -- What holds of every cut, tree and relaxation.
 use Rattle.std.specs.Prelude.{ℕ, ◌+◌, ◌*◌, ◌<◌, ◌≤◌, ◌≡◌, ◌↔◌, None, List, [], ◌∷◌, ◌++◌, length, get_or, set, Bool}
 use Rattle.std.specs.Prelude.{true, not, ◌&&◌, ◌==◌, IsTrue, if◌then◌else◌, ℤ, pos, ◌≤ℤ◌, ◌<ℤ◌, All}
-use Rattle.rail_base.specs.declared.limits.TheConstants.{MOST_COMPOSITIONS}
 use Rattle.rail_base.specs.declared.numbers.Money.{Money}
-use Rattle.timetable.specs.Accepted.{HaveCompositions}
+use Rattle.timetable.specs.Accepted.{IsSoundDay}
 use Rattle.timetable.specs.Day.{Day}
 use Rattle.timetable.specs.Compositions.{compositions_of}
 use Rattle.timetable.specs.Picks.{IsSolution}
@@ -99,19 +98,23 @@ ProperCutsEnd = (catalogue : List (List ℕ)) (root : List (List Bool)) (nodes :
 abbrev pub RootsAreOver : Type 0
 RootsAreOver = (day : Day) → IsOver (length day.trips) (compositions_of day) (root_of day)
 
--- In the region of a day each trip has some composition.
+-- In the region of an accepted day each trip has some composition.
 abbrev pub RootsAreFilled : Type 0
-RootsAreFilled = (day : Day) → length (compositions_of day) ≤ MOST_COMPOSITIONS → HaveCompositions day →
-    IsFilled (root_of day)
+RootsAreFilled = (day : Day) → IsSoundDay day → IsFilled (root_of day)
 
--- Picks that are a solution are in the region of the day.
+-- Picks that are a solution are in that region.
 abbrev pub SolutionsLieInRoots : Type 0
-SolutionsLieInRoots = (day : Day) (picks : List ℕ) → length (compositions_of day) ≤ MOST_COMPOSITIONS →
-    IsSolution day picks → IsTrue (are_in picks (root_of day))
+SolutionsLieInRoots = (day : Day) (picks : List ℕ) → IsSoundDay day → IsSolution day picks →
+    IsTrue (are_in picks (root_of day))
 
 abbrev pub SidesAreOver : Type 0
 SidesAreOver = (trips : ℕ) (catalogue other : List (List ℕ)) (cut : Cut) (side : Side) (region : List (List Bool)) →
     IsOver trips catalogue region → IsOver trips catalogue (side_of other cut side region)
+
+-- Each side of a proper cut of a region in which each trip has some composition is such a region.
+abbrev pub SidesAreFilled : Type 0
+SidesAreFilled = (catalogue : List (List ℕ)) (cut : Cut) (side : Side) (region : List (List Bool)) →
+    IsProper catalogue region cut → IsFilled region → IsFilled (side_of catalogue cut side region)
 
 -- Where a trip has more than one composition, the cut of one of them alone is proper.
 abbrev pub SomeCutsAreProper : Type 0

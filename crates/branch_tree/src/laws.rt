@@ -6,7 +6,7 @@
 ghost use Rattle.branch_tree.specs.Claims.{IsProvedAt};
 ghost use Rattle.branch_tree.specs.Laws.{CutsKeep, PicksLieByTrip, CutsDivide, CutsAreUndone, LeavesCover};
 ghost use Rattle.branch_tree.specs.Laws.{CoversEach, LeavesGrow, LeavesExceedBranches, ProperCutsEnd, RootsAreOver};
-ghost use Rattle.branch_tree.specs.Laws.{RootsAreFilled, SolutionsLieInRoots};
+ghost use Rattle.branch_tree.specs.Laws.{RootsAreFilled, SidesAreFilled, SolutionsLieInRoots};
 ghost use Rattle.branch_tree.specs.Laws.{SidesAreOver, SomeCutsAreProper, SolutionsArePricedLow};
 ghost use Rattle.branch_tree.specs.Laws.{BoundsAreChainValues, ChainValuesAreOne, EmptyHasNoChainValue};
 ghost use Rattle.branch_tree.specs.Laws.{ChainValuesBound, EmptyHasNoSolution, RaysHaveNoSolution};
@@ -42,11 +42,15 @@ pub fn regions_are_over_their_day()
     ensures sides { SidesAreOver }
 {}
 
-/// In the region of a day, of whose compositions there are no more than a catalogue may have, each trip has some
-/// composition, and every solution lies in it.
+/// In the region of an accepted day each trip has some composition, and every solution lies in it.
 pub fn roots_have_all_solutions()
     ensures filled { RootsAreFilled }
     ensures solutions { SolutionsLieInRoots }
+{}
+
+/// Each side of a proper cut of a region in which each trip has some composition is such a region.
+pub fn sides_are_filled()
+    ensures law { SidesAreFilled }
 {}
 
 /// Where a trip has more than one composition, the cut of one of them alone is proper.

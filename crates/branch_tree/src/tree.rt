@@ -139,6 +139,7 @@ impl Tree {
         }
         branchings
     }
+
     /// The least of the bounds of the cost leaves, or nothing where there is no cost leaf.
     pub fn least_bound(&self) -> Option<Money>
         ensures { IsLeastOf (bounds_of self.now) result }
