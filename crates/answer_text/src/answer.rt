@@ -72,6 +72,13 @@ impl Runs {
     {
         self.runs.as_slice()
     }
+
+    /// The lists of units themselves, one a trip, as a plan takes them. It takes no memory.
+    pub fn into_items(self) -> Vec<UnitList>
+        ensures { result.items ≡ self }
+    {
+        self.runs
+    }
 }
 
 /// An answer: what it says of a day, and what proves it.
