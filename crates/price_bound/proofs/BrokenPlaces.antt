@@ -1,6 +1,7 @@
 -- The place at which picks that follow are broken, and the sign.
 use Rattle.std.proofs.Common.{◌≡◌, ℕ, List, Some, slice_get, refl, subst, sym, ℤ, pos}
 use Rattle.std.proofs.lemmas.Option.{slice_get_within}
+use Rattle.timetable.specs.Accepted.{IsSoundDay}
 use Rattle.timetable.specs.declared.day.indices.Place.{Place}
 use Rattle.timetable.specs.Day.{Day}
 use Rattle.timetable.specs.Indices.{IsIndexOf, IsPlace, places_of}
@@ -8,7 +9,7 @@ use Rattle.timetable.proofs.Indices.{get_place, have_multipliers, index_in}
 use Rattle.branch_tree.specs.declared.relaxation.Settled.TheVariants.{Broken}
 use Rattle.branch_tree.specs.Bounds.{IsSettled}
 use Rattle.price_bound.specs.BrokenLaws.{AreBrokenAt, BrokenAtFirstMissed, BrokenAtFirstFault, SolvedWithoutFault}
-use Rattle.price_bound.specs.DayMeanings.{IsAccepted, meanings_of}
+use Rattle.price_bound.specs.DayMeanings.{meanings_of}
 use Rattle.price_bound.specs.BrokenPlaces.{fault_sign, place_of}
 use Rattle.price_bound.specs.Slacks.{broken_index, sign_of, slack_at}
 use Rattle.price_bound.proofs.SettledBy.{fault_first, fault_place, fault_signed, first_place, named, sigma_first}
@@ -24,7 +25,7 @@ has_index day place is =
     }
 
 -- where picks are broken first
-broken_first : (day : Day) (picks : List ℕ) → IsAccepted day → (place : Place) (sign : ℤ) → IsPlace day place → sign_of (slack_at day picks place) ≡ sign
+broken_first : (day : Day) (picks : List ℕ) → IsSoundDay day → (place : Place) (sign : ℤ) → IsPlace day place → sign_of (slack_at day picks place) ≡ sign
     → ((index : ℕ) → IsIndexOf day place index → broken_index day picks ≡ Some index) → AreBrokenAt day picks place sign
 broken_first day picks accepted place sign is signed first =
     let index_of : IsIndexOf day place (index_in day place) = has_index day place is in

@@ -1,5 +1,6 @@
 -- A day under changes is a relaxation of its solutions, as the day is: what it costs has no part in it.
 use Rattle.std.proofs.Common.{◌≡◌, ℕ, ◌+◌, List, ℤ, pos, arith, refl, ap}
+use Rattle.timetable.specs.Accepted.{IsSoundDay}
 use Rattle.timetable.specs.declared.day.indices.Place.{Place}
 use Rattle.timetable.specs.Cost.{cost_of}
 use Rattle.timetable.specs.Picks.{picked}
@@ -10,7 +11,7 @@ use Rattle.branch_tree.specs.Meanings.{IsBroken, IsMet, IsRelaxation}
 use Rattle.branch_tree.specs.declared.multipliers.Entry.{Entry}
 use Rattle.price_bound.specs.ChangedDays.{ChangedDay, ChangedDaysAreRelaxations, UnchangedDaysAreDays, changed_day}
 use Rattle.price_bound.specs.ChangedDays.{changed_meanings}
-use Rattle.price_bound.specs.DayMeanings.{IsAccepted, meanings_of}
+use Rattle.price_bound.specs.DayMeanings.{meanings_of}
 use Rattle.price_bound.specs.BrokenPlaces.{Names}
 use Rattle.price_bound.proofs.Whole.{relaxes}
 
@@ -27,7 +28,7 @@ met_alike : (changed : ChangedDay) (picks : List ℕ) (index : ℕ) → IsMet (m
     → IsMet (changed_meanings changed) picks index
 met_alike changed picks index met = record { not_positive = met.not_positive; none = met.none }
 
-pub changed_relaxes : (changed : ChangedDay) → IsAccepted changed.day → IsRelaxation (changed_meanings changed)
+pub changed_relaxes : (changed : ChangedDay) → IsSoundDay changed.day → IsRelaxation (changed_meanings changed)
 changed_relaxes changed accepted =
     let plain : IsRelaxation (meanings_of changed.day) = relaxes changed.day accepted in
     record {

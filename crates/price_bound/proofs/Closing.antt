@@ -5,6 +5,7 @@ use Rattle.std.proofs.Common.{◌≤ℤ◌, ◌<ℤ◌, ◌⊎◌, ⊎_elim}
 use Rattle.std.specs.Prelude.{option_map}
 use Rattle.std.proofs.lemmas.Int.{ints}
 use Rattle.std.proofs.lemmas.Option.{get_or_from_slice_get}
+use Rattle.timetable.specs.Accepted.{IsSoundDay}
 use Rattle.timetable.specs.declared.day.indices.Place.{Place}
 use Rattle.timetable.specs.Compositions.{composition_at}
 use Rattle.timetable.specs.Day.{Day}
@@ -14,6 +15,7 @@ use Rattle.timetable.specs.Picks.{IsSolution, picked}
 use Rattle.timetable.proofs.Handovers.{are_handovers}
 use Rattle.timetable.proofs.LinkNames.{names_below}
 use Rattle.timetable.proofs.Listing.{get_second}
+use Rattle.timetable.proofs.Within.{second_below}
 use Rattle.branch_tree.specs.declared.multipliers.Entry.{Entry}
 use Rattle.branch_tree.specs.declared.relaxation.Weight.TheVariants.{NoCost}
 use Rattle.branch_tree.specs.Bounds.{IsChainValue, IsEmpty}
@@ -23,7 +25,7 @@ use Rattle.branch_tree.specs.Regions.{alone, are_in}
 use Rattle.branch_tree.proofs.Lying.{picks_lie_by_trip}
 use Rattle.branch_tree.proofs.Settling.{alone_same, broken_picks_have_rays}
 use Rattle.price_bound.specs.BrokenLaws.{BrokenPicksAreClosed, handovers_begin}
-use Rattle.price_bound.specs.DayMeanings.{IsAccepted, meanings_of}
+use Rattle.price_bound.specs.DayMeanings.{meanings_of}
 use Rattle.price_bound.specs.FollowingPicks.{Follow, part_of, pick_of}
 use Rattle.price_bound.specs.Near.{AreNear, LieIn}
 use Rattle.price_bound.specs.Parts.{IsPartAt, NoneMissed, second_pick}
@@ -33,7 +35,7 @@ use Rattle.price_bound.proofs.Alone.{alone_at, alone_has}
 use Rattle.price_bound.proofs.FirstBroken.{each_sigma, had}
 use Rattle.price_bound.proofs.PartsFound.{part_there}
 use Rattle.price_bound.proofs.Ruling.{edge_part, has_part, step}
-use Rattle.price_bound.proofs.Solving.{IsPart, same_number, second_within}
+use Rattle.price_bound.proofs.Solving.{IsPart, same_number}
 use Rattle.price_bound.proofs.Steps.{entry_below}
 use Rattle.price_bound.proofs.Whole.{HaveParts, relaxes}
 
@@ -49,7 +51,7 @@ no_product sign slack unit none positive =
 at_most : (v : ℤ) → v ≤ℤ v
 at_most v = omega (arith, ints)
 
-module _ (day : Day) (picks : List ℕ) (accepted : IsAccepted day) (follow : Follow day picks) where
+module _ (day : Day) (picks : List ℕ) (accepted : IsSoundDay day) (follow : Follow day picks) where
   -- ---- at a hand-over: where something is near, no second trip misses its part
 
   near_parts : (others : List ℕ) → AreNear day others (alone picks) → HaveParts day picks
@@ -65,7 +67,7 @@ module _ (day : Day) (picks : List ℕ) (accepted : IsAccepted day) (follow : Fo
       let of_link : IsHandover day.links handover = subst (IsHandover day.links) (get_or_from_slice_get (handovers_of day) h handover handover here) ((are_handovers day).each h handover known) in
       let part : IsPart day (step day picks accepted.links follow handover.link of_link.link of_link.at).edge (part_of of_link.link (picked day picks)) =
       edge_part day picks accepted.links follow handover.link of_link.link of_link.at handover.second of_link.second in
-      let below : handover.second < length day.trips = second_within (length day.trips) of_link.link.kind handover.second (names_below day accepted.links handover.link of_link.link of_link.at) of_link.second in
+      let below : handover.second < length day.trips = second_below (length day.trips) of_link.link.kind handover.second (names_below day accepted.links handover.link of_link.link of_link.at) of_link.second in
       let second : second_pick day picks h ≡ pick_of picks handover.second = ap (λ o. unwrap_or (option_map (λ x. pick_of picks x.second) o) 0) here in
       let same : part.part ≡ second_pick day picks h =
       same_number day part.part (pick_of picks handover.second) part.listed (follow.run handover.second below).listed
@@ -105,7 +107,7 @@ module _ (day : Day) (picks : List ℕ) (accepted : IsAccepted day) (follow : Fo
     inside = inside;
     follow = follow;
     parts = λ l t link at second.
-        let below : t < length day.trips = second_within (length day.trips) link.kind t (names_below day accepted.links l link at) second in
+        let below : t < length day.trips = second_below (length day.trips) link.kind t (names_below day accepted.links l link at) second in
         let each = (picks_lie_by_trip picks (alone picks)).0 inside in record {
           comp = pick_of picks t;
           listed = (follow.run t below).listed;

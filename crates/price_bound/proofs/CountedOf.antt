@@ -23,8 +23,8 @@ module _ (counted : Counted) (graphs : List (List Edge)) (ledger : Loaded) (is :
 
   pub least_counted : (s m k : ℕ) (count : ℤ) → count ≡ count_of_place ledger.day ledger.lists s m k → neg_ℤ (pos 2400) ≤ℤ count
   least_counted s m k count e =
-      subst (λ (x : ℤ). neg_ℤ (pos 2400) ≤ℤ x) (sym (count_is s m k count e)) (least_count counted.day counted.picks is.accepted.sound (are_picks counted.day counted.picks is.follow) s m _)
+      subst (λ (x : ℤ). neg_ℤ (pos 2400) ≤ℤ x) (sym (count_is s m k count e)) (least_count counted.day counted.picks is.accepted.limits (are_picks counted.day counted.picks is.follow) s m _)
 
   pub least_end : (s m : ℕ) (count : ℤ) → count ≡ last_of ledger.day ledger.lists s m → neg_ℤ (pos 2400) ≤ℤ count
   least_end s m count e =
-      subst (λ (x : ℤ). neg_ℤ (pos 2400) ≤ℤ x) (sym (end_is s m count e)) (least_last counted.day counted.picks is.accepted.sound (are_picks counted.day counted.picks is.follow) s m)
+      subst (λ (x : ℤ). neg_ℤ (pos 2400) ≤ℤ x) (sym (end_is s m count e)) (least_last counted.day counted.picks is.accepted.limits (are_picks counted.day counted.picks is.follow) s m)

@@ -2,6 +2,7 @@
 use Rattle.std.proofs.Common.{◌≡◌, ◌<◌, ◌≤◌, ℕ, zero, suc, List, length, refl, sym, subst, arith, inl, inr, ◌⊎◌, ⊎_elim}
 use Rattle.std.proofs.lemmas.Bool.{cases_eq, cases_lt}
 use Rattle.std.proofs.lemmas.Option.{get_or_from_slice_get}
+use Rattle.timetable.specs.Accepted.{IsSoundDay}
 use Rattle.timetable.specs.declared.day.indices.Place.{Place}
 use Rattle.timetable.specs.declared.day.indices.Place.TheVariants.{Sigma}
 use Rattle.timetable.specs.Day.{Day}
@@ -9,7 +10,6 @@ use Rattle.timetable.specs.Handovers.{IsHandover, handovers_of}
 use Rattle.timetable.specs.Picks.{picked}
 use Rattle.timetable.proofs.Handovers.{are_handovers}
 use Rattle.price_bound.specs.BrokenLaws.{PartsAreMissedOrNot}
-use Rattle.price_bound.specs.DayMeanings.{IsAccepted}
 use Rattle.price_bound.specs.FollowingPicks.{Follow, part_of}
 use Rattle.price_bound.specs.Parts.{HasPart, IsFirstMissed, IsPartAt, Misses, second_pick}
 use Rattle.price_bound.proofs.PartsFound.{part_there}
@@ -17,7 +17,7 @@ use Rattle.price_bound.proofs.Ruling.{edge_part, step}
 use Rattle.price_bound.proofs.Solving.{IsPart}
 use Rattle.price_bound.proofs.Steps.{entry_below}
 
-module _ (day : Day) (picks : List ℕ) (accepted : IsAccepted day) (follow : Follow day picks) where
+module _ (day : Day) (picks : List ℕ) (accepted : IsSoundDay day) (follow : Follow day picks) where
   has_some : (h : ℕ) → h < length (handovers_of day) → (comp : ℕ) × IsPartAt day picks h comp
   has_some h known =
       let (handover, here) = entry_below (handovers_of day) h known in

@@ -21,6 +21,7 @@ use Rattle.timetable.specs.Starts.{start_of}
 use Rattle.timetable.specs.Turns.{same}
 use Rattle.timetable.proofs.Handovers.{are_handovers}
 use Rattle.timetable.proofs.LinkNames.{names_below}
+use Rattle.timetable.proofs.Within.{second_below}
 use Rattle.std.proofs.lemmas.Option.{slice_get_within, get_or_from_slice_get}
 use Rattle.inventory.specs.Counts.{takes_of, gives_of, taken_until, ready_until, all_taken, all_given}
 use Rattle.branch_tree.specs.IntSums.{int_sum}
@@ -31,7 +32,6 @@ use Rattle.price_bound.specs.Slacks.{handover_slack, is_part, one_if, slack_at}
 use Rattle.price_bound.specs.YardPrices.{of_type, price_by}
 use Rattle.price_bound.proofs.IntLaws.{below_add, below_neg, below_none, below_same, below_times, only_at, only_here}
 use Rattle.price_bound.proofs.IntLaws.{only_other, only_within, sum_none, times_add, times_neg, times_none, times_one}
-use Rattle.price_bound.proofs.Solving.{second_within}
 
 -- ---- counted units
 

@@ -10,6 +10,7 @@ use Rattle.timetable.specs.Day.{Day}
 use Rattle.timetable.specs.Handovers.{IsHandover, handovers_of}
 use Rattle.timetable.proofs.Handovers.{are_handovers}
 use Rattle.timetable.proofs.LinkNames.{names_below}
+use Rattle.timetable.proofs.Within.{second_below}
 use Rattle.branch_tree.specs.declared.multipliers.Entry.{Entry}
 use Rattle.branch_tree.specs.Entries.{IsPastLast, entry_of}
 use Rattle.price_bound.specs.Entered.{entered, handover_index}
@@ -17,7 +18,6 @@ use Rattle.price_bound.specs.FollowingPicks.{Follow, pick_of}
 use Rattle.price_bound.specs.Parts.{IsPartAt, second_pick}
 use Rattle.price_bound.specs.Slacks.{slack_of}
 use Rattle.price_bound.proofs.SlackIndices.{after_high, after_low, at_part, at_second, past_entered}
-use Rattle.price_bound.proofs.Solving.{second_within}
 use Rattle.price_bound.proofs.Steps.{entry_below}
 
 -- the second trip's pick is a composition of the day
@@ -25,7 +25,7 @@ pub second_known : (day : Day) (picks : List ℕ) → AreLinks day → Follow da
 second_known day picks links follow h known =
     let (handover, at) = entry_below (handovers_of day) h known in
     let of_link : IsHandover day.links handover = subst (IsHandover day.links) (get_or_from_slice_get (handovers_of day) h handover handover at) ((are_handovers day).each h handover known) in
-    let below : handover.second < length day.trips = second_within (length day.trips) of_link.link.kind handover.second (names_below day links handover.link of_link.link of_link.at) of_link.second in
+    let below : handover.second < length day.trips = second_below (length day.trips) of_link.link.kind handover.second (names_below day links handover.link of_link.link of_link.at) of_link.second in
     let pick : second_pick day picks h ≡ pick_of picks handover.second = ap (λ (o : Option Handover). unwrap_or (option_map (λ (x : Handover). pick_of picks x.second) o) 0) at in
     subst (λ (comp : ℕ). comp < length (compositions_of day)) (sym pick) (follow.run handover.second below).listed
 

@@ -5,11 +5,10 @@ use Rattle.std.specs.Prelude.{All}
 use Rattle.std.proofs.lemmas.List.{get_or-map, length-map}
 use Rattle.timetable.specs.Admissible.{is_admissible}
 use Rattle.timetable.specs.Compositions.{compositions_of, composition_at}
-use Rattle.timetable.specs.Cost.{cost_of, plan_cost}
+use Rattle.timetable.specs.Cost.{cost_of, plan_cost, PlansCostAtLeast, NoPlanRuns}
 use Rattle.timetable.specs.Day.{Day, types_of}
 use Rattle.timetable.specs.Links.{list_of}
-use Rattle.timetable.specs.Picks.{IsSolution, picked}
-use Rattle.timetable.specs.Cost.{PlansCostAtLeast, NoPlanRuns}
+use Rattle.timetable.specs.Picks.{IsSolution, RunsByPicks, picked}
 use Rattle.timetable.specs.Running.{Runs}
 use Rattle.timetable.proofs.AdmittedTypes.{CompositionOf, composition_of}
 use Rattle.branch_tree.specs.declared.relaxation.Weight.TheVariants.{Cost}
@@ -81,31 +80,37 @@ picks_of day plan runs =
 pub plans_have_picks : PlansHavePicks
 plans_have_picks day plan runs =
     let some : PicksOf day plan = picks_of day plan runs in
-    (some.picks, record { solution = some.solves; types = some.types })
+    (some.picks, record { runs = runs; are_picks = some.solves.are_picks; types = some.types })
+
+-- picks by which a plan runs are a solution
+pub solved_by : (day : Day) (plan : List (List ℕ)) (picks : List ℕ) → RunsByPicks day plan picks → IsSolution day picks
+solved_by day plan picks by =
+    record { are_picks = by.are_picks; plan = plan; runs = by.runs; types = sym by.types }
 
 pub plans_are_priced_low : PlansArePricedLow
 plans_are_priced_low day plan picks multipliers accepted by fits =
     subst (λ (n : ℕ). priced (meanings_of day) multipliers Cost picks ≤ℤ pos n) (ap (cost_of day) by.types)
-    (solutions_are_priced_low (meanings_of day) (relaxes day accepted) picks multipliers by.solution fits).with_cost
+    (solutions_are_priced_low (meanings_of day) (relaxes day accepted) picks multipliers
+    (solved_by day plan picks by) fits).with_cost
 
 -- the picks of a plan that runs lie in the region of the day
 pub plans_lie_in_roots : PlansLieInRoots
-plans_lie_in_roots day plan picks accepted by = solutions_lie_in_roots day picks accepted.compositions by.solution
+plans_lie_in_roots day plan picks sound by = solutions_lie_in_roots day picks sound (solved_by day plan picks by)
 
 pub solutions_bound_plans : SolutionsBoundPlans
-solutions_bound_plans day bound accepted = (
+solutions_bound_plans day bound sound = (
   (λ (all : CostsAtLeast (meanings_of day) (root_of day) bound) plan runs.
       let some : PicksOf day plan = picks_of day plan runs in
       subst (λ (n : ℕ). bound ≤ℤ pos n) some.costs
-      (all some.picks some.solves (solutions_lie_in_roots day some.picks accepted.compositions some.solves))),
+      (all some.picks some.solves (solutions_lie_in_roots day some.picks sound some.solves))),
   (λ (all : PlansCostAtLeast day bound) picks (solves : IsSolution day picks) inside.
       subst (λ (n : ℕ). bound ≤ℤ pos n) (ap (cost_of day) solves.types) (all solves.plan solves.runs)),
 )
 
 pub no_solutions_no_plans : NoSolutionsNoPlans
-no_solutions_no_plans day accepted = (
+no_solutions_no_plans day sound = (
   (λ (none : HasNoSolution (meanings_of day) (root_of day)) plan runs.
       let some : PicksOf day plan = picks_of day plan runs in
-      none some.picks some.solves (solutions_lie_in_roots day some.picks accepted.compositions some.solves)),
+      none some.picks some.solves (solutions_lie_in_roots day some.picks sound some.solves)),
   (λ (none : NoPlanRuns day) picks (solves : IsSolution day picks) inside. none solves.plan solves.runs),
 )

@@ -25,13 +25,14 @@ use Rattle.timetable.proofs.Handovers.{are_handovers}
 use Rattle.timetable.proofs.LinkNames.{names_below}
 use Rattle.timetable.proofs.NamedTrips.{position_none}
 use Rattle.timetable.proofs.Listing.{get_joined, get_listed, length-listed}
+use Rattle.timetable.proofs.Within.{second_below}
 use Rattle.transitions.specs.declared.edge.Edge.{Edge}
 use Rattle.transitions.specs.Edges.{IsKindEdge}
 use Rattle.transitions.specs.Laws.{AreOn}
 use Rattle.transitions.proofs.ByRule.{edges_by_rule}
 use Rattle.price_bound.specs.FollowingPicks.{Follow, IsStep, part_of, pick_of}
 use Rattle.price_bound.specs.Slacks.{one_if, handover_slack, is_positive, slack_at}
-use Rattle.price_bound.proofs.Solving.{LeadWithin, lead_within, second_within, list_picked, part_is, IsPart}
+use Rattle.price_bound.proofs.Solving.{LeadWithin, lead_within, list_picked, part_is, IsPart}
 
 -- a hand-over and a composition have a multiplier
 pub sigma_there : (day : Day) (h comp : ℕ) → h < length (handovers_of day) → comp < length (compositions_of day)
@@ -81,7 +82,7 @@ module _ (day : Day) (picks : List ℕ) (links : AreLinks day) (follow : Follow 
         → option_map (list_of (picked day picks)) o ≡ option_map (composition_at day) step.edge.part
     seconds None is have = sym (ap (option_map (composition_at day)) (no_second link.kind day link.reverse step.edge is of_kind))
     seconds (Some t) is have =
-        let below : t < length day.trips = second_within (length day.trips) link.kind t (names_below day links l link at) is in
+        let below : t < length day.trips = second_below (length day.trips) link.kind t (names_below day links l link at) is in
         let part = edge_part t is in
         ap (λ (ms : List ℕ). Some ms) (list_picked day picks t (omega (arith, below, follow.trips)) ∙ have t is ∙ sym part.are)
         ∙ sym (ap (option_map (composition_at day)) part.of_edge)

@@ -6,6 +6,7 @@ use Rattle.std.specs.Prelude.{option_map}
 use Rattle.std.proofs.lemmas.Bool.{cases_lt, eq-eqb, lt-ltb}
 use Rattle.std.proofs.lemmas.Int.{ints}
 use Rattle.std.proofs.lemmas.Option.{slice_get-get_or}
+use Rattle.timetable.specs.Accepted.{IsSoundDay}
 use Rattle.timetable.specs.declared.day.indices.Place.{Place}
 use Rattle.timetable.specs.declared.day.indices.Place.TheVariants.{Lambda, Mu, Sigma}
 use Rattle.timetable.specs.declared.day.records.Handover.{Handover}
@@ -28,7 +29,7 @@ use Rattle.branch_tree.specs.declared.relaxation.Settled.{Settled}
 use Rattle.branch_tree.specs.declared.relaxation.Settled.TheVariants.{Costs, Broken}
 use Rattle.branch_tree.specs.Bounds.{IsSettled}
 use Rattle.branch_tree.specs.Meanings.{IsBroken, IsMet, Meanings}
-use Rattle.price_bound.specs.DayMeanings.{IsAccepted, meanings_of}
+use Rattle.price_bound.specs.DayMeanings.{meanings_of}
 use Rattle.price_bound.specs.FollowingPicks.{Follow, part_of, pick_of}
 use Rattle.price_bound.specs.Parts.{HasPart, IsFirstMissed, Misses, NoneMissed, second_pick}
 use Rattle.price_bound.specs.BrokenPlaces.{Names, fault_sign, place_of}
@@ -63,7 +64,7 @@ not_met problem picks at broken met = ⊎_elim
     above (pos (suc n)) positive least = absurd (omega (arith, ints, least))
     above (negsuc n) positive least = absurd (omega (arith, ints, positive))
 
-module _ (day : Day) (picks : List ℕ) (accepted : IsAccepted day) where
+module _ (day : Day) (picks : List ℕ) (accepted : IsSoundDay day) where
   -- picks that are broken first at a place are settled so
   broken_at_place : (place : Place) (index : ℕ) (sign : ℤ) → broken_index day picks ≡ Some index → slice_get (places_of day) index ≡ Some place → sign_of (slack_at day picks place) ≡ sign
       → IsSettled (meanings_of day) picks (Broken index sign)
@@ -74,7 +75,7 @@ module _ (day : Day) (picks : List ℕ) (accepted : IsAccepted day) where
       ap (λ (o : Option ℕ). unwrap_or (option_map (λ i. record { index = i; value = sign_of (slack_of day picks i) }) o) (record { index = 0; value = pos 1 })) first in
       let broken : IsBroken (meanings_of day) picks (broken_at day picks) = broken_there day picks index first in (
         λ solves.
-            let served = (solutions_are_served day picks accepted.sound accepted.links accepted.stocked solves.are_picks).0 solves in
+            let served = (solutions_are_served day picks accepted.limits accepted.links accepted.stock solves.are_picks).0 solves in
             not_met (meanings_of day) picks (broken_at day picks) broken (solution_met day picks accepted.links solves served (broken_at day picks).index broken.index),
         broken,
         ap (λ (e : Entry). e.index) entry,

@@ -6,6 +6,7 @@ use Rattle.std.proofs.Math.Nat.{suc-mul}
 use Rattle.std.proofs.lemmas.Int.{ints}
 use Rattle.std.proofs.lemmas.List.Elements.{All-head, All-tail}
 use Rattle.rail_base.specs.declared.limits.TheConstants.{MOST_CHANGE, MOST_MULTIPLIER, MOST_TRIPS}
+use Rattle.timetable.specs.Accepted.{IsSoundDay}
 use Rattle.timetable.specs.declared.day.indices.Place.{Place}
 use Rattle.timetable.specs.declared.day.indices.Place.TheVariants.{Lambda, Mu, Sigma}
 use Rattle.timetable.specs.declared.day.records.Handover.{Handover}
@@ -29,7 +30,7 @@ use Rattle.price_bound.specs.declared.changes.Change.{Change}
 use Rattle.price_bound.specs.declared.sizes.TheConstants.{MOST_SLACK}
 use Rattle.price_bound.specs.ChangedDays.{AreChanges, added_cost, changed_day, changed_meanings}
 use Rattle.price_bound.specs.Changes.{change_cost}
-use Rattle.price_bound.specs.DayMeanings.{IsAccepted, meanings_of}
+use Rattle.price_bound.specs.DayMeanings.{meanings_of}
 use Rattle.price_bound.specs.FollowingPicks.{Follow, pick_of}
 use Rattle.price_bound.specs.Sizes.{ChangedSlacksAreSmall, ChangedValuesAreSmall, SlacksAreSmall, ValuesAreSmall}
 use Rattle.price_bound.specs.Slacks.{handover_slack, is_part, one_if, slack_at, slack_of}
@@ -54,7 +55,7 @@ small_part true false = omega arith
 small_part false true = omega arith
 small_part false false = omega arith
 
-module _ (day : Day) (picks : List ℕ) (accepted : IsAccepted day) (follow : Follow day picks) where
+module _ (day : Day) (picks : List ℕ) (accepted : IsSoundDay day) (follow : Follow day picks) where
   picks_are : ArePicks day picks
   picks_are = are_picks day picks follow
 
@@ -65,15 +66,15 @@ module _ (day : Day) (picks : List ℕ) (accepted : IsAccepted day) (follow : Fo
   small_at : (place : Place) → unsigned_abs (slack_at day picks place) ≤ MOST_SLACK
   small_at (Lambda s m k) =
       let minute : ℕ = get_or (minutes_of day s) k 0 in
-      let start = few_start day accepted.sound s m in
-      let given = few_ready day picks accepted.sound picks_are s m minute in
-      let taken = few_taken day picks accepted.sound picks_are s m minute in
+      let start = few_start day accepted.limits s m in
+      let given = few_ready day picks accepted.limits picks_are s m minute in
+      let taken = few_taken day picks accepted.limits picks_are s m minute in
       small_count (start_of day s m + ready_until day (picked day picks) s m minute) (taken_until day (picked day picks) s m minute) (omega arith) (omega arith)
   small_at (Mu s m) =
-      let start = few_start day accepted.sound s m in
-      let given = few_all_given day picks accepted.sound picks_are s m in
-      let taken = few_all_taken day picks accepted.sound picks_are s m in
-      let wanted = accepted.stocked.few s m in
+      let start = few_start day accepted.limits s m in
+      let given = few_all_given day picks accepted.limits picks_are s m in
+      let taken = few_all_taken day picks accepted.limits picks_are s m in
+      let wanted = accepted.stock.few s m in
       small_end (wanted_of day s m) (start_of day s m + all_given day (picked day picks) s m) (all_taken day (picked day picks) s m) (omega arith) (omega arith)
   small_at (Sigma h comp) = small_handover comp (slice_get (handovers_of day) h)
 
@@ -99,7 +100,7 @@ module _ (day : Day) (picks : List ℕ) (accepted : IsAccepted day) (follow : Fo
       omega arith
 
   small_cost : (weight : Weight) → unsigned_abs (weighted weight (pos (cost_of day (picked day picks)))) ≤ MOST_DAY_COST
-  small_cost Cost = day_costs day accepted.sound picks picks_are
+  small_cost Cost = day_costs day accepted.limits picks picks_are
   small_cost NoCost = omega arith
 
 pub slacks_are_small : SlacksAreSmall
@@ -132,19 +133,19 @@ few_changes (change ∷ changes) t comp few =
     (All-head (λ (c : Change). c.cost ≤ MOST_CHANGE) change changes few)
     (few_changes changes t comp (All-tail (λ (c : Change). c.cost ≤ MOST_CHANGE) change changes few))
 
-module _ (day : Day) (changes : List Change) (picks : List ℕ) (accepted : IsAccepted day) (are : AreChanges day changes) (follow : Follow day picks) where
+module _ (day : Day) (changes : List Change) (picks : List ℕ) (accepted : IsSoundDay day) (are : AreChanges day changes) (follow : Follow day picks) where
   -- what changes add
   small_added : added_cost changes picks ≤ MOST_TRIPS * MOST_CHANGE
   small_added =
       let sum : sum_below (λ t. change_cost changes t (pick_of picks t)) (length day.trips) ≤ length day.trips * MOST_CHANGE =
       summed (λ t. change_cost changes t (pick_of picks t)) MOST_CHANGE (length day.trips) (λ t below. few_changes changes t (pick_of picks t) are.costs) in
       let same = added_by_trips changes picks (length day.trips) are.rising are.trips in
-      let few = accepted.sound.timetable.trip_count in
+      let few = accepted.limits.timetable.trip_count in
       omega (arith, sum, same, few)
 
   small_changed_cost : (weight : Weight) → unsigned_abs (weighted weight (pos (cost_of day (picked day picks) + added_cost changes picks))) ≤ MOST_DAY_COST + MOST_TRIPS * MOST_CHANGE
   small_changed_cost Cost =
-      let cost = day_costs day accepted.sound picks (are_picks day picks follow) in
+      let cost = day_costs day accepted.limits picks (are_picks day picks follow) in
       omega (arith, cost, small_added)
   small_changed_cost NoCost = omega arith
 

@@ -18,8 +18,10 @@ use Rattle.timetable.specs.Handovers.{second_of}
 use Rattle.timetable.specs.LinkRows.{NamesBelow}
 use Rattle.timetable.specs.Links.{list_of, turned, join_holds, split_holds}
 use Rattle.timetable.specs.Picks.{IsSolution, picked}
+use Rattle.timetable.proofs.Leading.{from_below, to_below}
 use Rattle.timetable.proofs.LinkNames.{names_below}
 use Rattle.timetable.proofs.Shares.{same_lists}
+use Rattle.timetable.proofs.Within.{second_below}
 use Rattle.transitions.specs.declared.edge.Edge.{Edge}
 use Rattle.transitions.specs.Edges.{IsKindEdge, MayRun}
 use Rattle.transitions.specs.Laws.{FollowsEdge}
@@ -66,14 +68,7 @@ pub record LeadWithin (n : ℕ) (kind : LinkKind) : Type 0 where
   pub to : leads_to kind < n
 
 pub lead_within : (n : ℕ) (kind : LinkKind) → NamesBelow n kind → LeadWithin n kind
-lead_within n (Turn a b uncouple couple exchange) below = record { from = below.0; to = below.1 }
-lead_within n (Join a1 a2 b) below = record { from = below.0; to = below.2 }
-lead_within n (Split a b1 b2) below = record { from = below.0; to = below.1 }
-
-pub second_within : (n : ℕ) (kind : LinkKind) (t : ℕ) → NamesBelow n kind → second_of kind ≡ Some t → t < n
-second_within n (Turn a b uncouple couple exchange) t below second = absurd cc
-second_within n (Join a1 a2 b) t below second = let e : a2 ≡ t = cc in subst (λ k. k < n) e below.1
-second_within n (Split a b1 b2) t below second = let e : b2 ≡ t = cc in subst (λ k. k < n) e below.2
+lead_within n kind below = record { from = from_below n kind below; to = to_below n kind below }
 
 -- the part that a chain's lists leave is the part of the edge
 joined_part : (r : Bool) (first part departing : List ℕ) → turned r first ++ turned r part ≡ departing → turned r (drop (length first) departing) ≡ part
@@ -168,7 +163,7 @@ module _ (day : Day) (picks : List ℕ) (links : AreLinks day) (solves : IsSolut
     -- the second train's composition is the part
     part_typed : (t : ℕ) → second_of link.kind ≡ Some t → composition_at day (pick_of picks t) ≡ part_of link (picked day picks)
     part_typed t second =
-        let below : t < length day.trips = second_within (length day.trips) link.kind t (names_below day links l link at) second in
+        let below : t < length day.trips = second_below (length day.trips) link.kind t (names_below day links l link at) second in
         let from : list_of (picked day picks) (leads_from link.kind) ≡ composition_at day follows.edge.from =
         list_picked day picks (leads_from link.kind) (picks_long (leads_from link.kind) within.from) ∙ sym (follows.origin ∙ typed (leads_from link.kind) within.from) in
         let to : list_of (picked day picks) (leads_to link.kind) ≡ composition_at day follows.edge.to =
@@ -181,7 +176,7 @@ module _ (day : Day) (picks : List ℕ) (links : AreLinks day) (solves : IsSolut
 
     part_lies : (t : ℕ) (region : List (List Bool)) → second_of link.kind ≡ Some t → IsTrue (are_in picks region) → LieIn day region t (part_of link (picked day picks))
     part_lies t region second inside =
-        let below : t < length day.trips = second_within (length day.trips) link.kind t (names_below day links l link at) second in
+        let below : t < length day.trips = second_below (length day.trips) link.kind t (names_below day links l link at) second in
         let in_each = (picks_lie_by_trip picks region).0 inside in record {
           comp = pick_of picks t;
           listed = listed t below;
@@ -204,4 +199,4 @@ module _ (day : Day) (picks : List ℕ) (links : AreLinks day) (solves : IsSolut
   second_is_part l t link at second = part_typed l link at t second
 
   pub second_listed : (l t : ℕ) (link : Link) → slice_get day.links l ≡ Some link → second_of link.kind ≡ Some t → pick_of picks t < length (compositions_of day)
-  second_listed l t link at second = listed t (second_within (length day.trips) link.kind t (names_below day links l link at) second)
+  second_listed l t link at second = listed t (second_below (length day.trips) link.kind t (names_below day links l link at) second)

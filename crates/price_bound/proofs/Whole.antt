@@ -25,7 +25,7 @@ use Rattle.inventory.specs.SolutionLaws.{KeepTheRules}
 use Rattle.inventory.specs.StockFaults.{NoneShort, AllBalanced}
 use Rattle.inventory.proofs.Solutions.{faults_decide, solutions_are_served}
 use Rattle.branch_tree.specs.Meanings.{IsBroken, IsRelaxation}
-use Rattle.price_bound.specs.DayMeanings.{IsAccepted, meanings_of}
+use Rattle.price_bound.specs.DayMeanings.{meanings_of}
 use Rattle.price_bound.specs.FollowingPicks.{Follow, part_of, pick_of}
 use Rattle.price_bound.specs.Slacks.{broken_at, broken_index, first_from, is_none, is_positive, or_else, slack_at}
 use Rattle.price_bound.proofs.Breaking.{broken_there}
@@ -97,22 +97,13 @@ keep_rules day picks links follow have = record {
 }
 
 -- picks that follow, whose second trips have the parts, are a solution where the yards have no fault
-pub solved : (day : Day) (picks : List ℕ) → IsAccepted day → Follow day picks → HaveParts day picks → NoneShort day (picked day picks) → AllBalanced day (picked day picks) → IsSolution day picks
+pub solved : (day : Day) (picks : List ℕ) → IsSoundDay day → Follow day picks → HaveParts day picks → NoneShort day (picked day picks) → AllBalanced day (picked day picks) → IsSolution day picks
 solved day picks accepted follow have none balanced =
-    (faults_decide day picks accepted.sound accepted.links accepted.stocked (are_picks day picks follow)).1 (keep_rules day picks accepted.links follow have, (none, balanced))
+    (faults_decide day picks accepted.limits accepted.links accepted.stock (are_picks day picks follow)).1 (keep_rules day picks accepted.links follow have, (none, balanced))
 
 -- ---- the relaxation
 
--- what an instance hands out is what is known of an accepted day
-pub accepted_day : (day : Day) → IsSoundDay day → IsAccepted day
-accepted_day day sound = record {
-  sound = sound.limits;
-  links = sound.links;
-  stocked = sound.stock;
-  compositions = sound.compositions;
-}
-
-module _ (day : Day) (accepted : IsAccepted day) where
+module _ (day : Day) (accepted : IsSoundDay day) where
   module _ (picks : List ℕ) (follow : Follow day picks) (none : broken_index day picks ≡ None) where
     apart : (first_from (length (lambdas_of day) + length (mus_of day)) (is_positive day picks) (sigmas_of day) ≡ None)
         × (or_else (first_from 0 (is_positive day picks) (lambdas_of day)) (first_from (length (lambdas_of day)) (λ place. not (is_none day picks place)) (mus_of day)) ≡ None)
@@ -146,7 +137,7 @@ module _ (day : Day) (accepted : IsAccepted day) where
     solution = solved day picks accepted follow (λ l t link at second. has_part day picks accepted.links follow l link at no_sigma t second) none_short all_balanced
 
   served : (picks : List ℕ) → IsSolution day picks → AreServed day (picked day picks)
-  served picks solves = (solutions_are_served day picks accepted.sound accepted.links accepted.stocked solves.are_picks).0 solves
+  served picks solves = (solutions_are_served day picks accepted.limits accepted.links accepted.stock solves.are_picks).0 solves
 
   found : (picks : List ℕ) → Follow day picks → (IsSolution day picks → ⊥) → (o : Option ℕ) → broken_index day picks ≡ o → IsBroken (meanings_of day) picks (broken_at day picks)
   found picks follow unsolved None is = absurd (unsolved (solution picks follow is))

@@ -2,13 +2,14 @@
 use Rattle.std.specs.Prelude.{ℕ, ◌≡◌, ◌+◌, ◌<◌, ◌≤◌, ◌↔◌, List, [], ◌∷◌, length, Bool, ◌==◌, if◌then◌else◌, pos}
 use Rattle.std.specs.List.{All, AllPairs}
 use Rattle.rail_base.specs.declared.limits.TheConstants.{MOST_CHANGE}
+use Rattle.timetable.specs.Accepted.{IsSoundDay}
 use Rattle.timetable.specs.Compositions.{compositions_of}
 use Rattle.timetable.specs.Cost.{cost_of}
 use Rattle.timetable.specs.Day.{Day}
 use Rattle.timetable.specs.Picks.{picked}
 use Rattle.branch_tree.specs.Meanings.{IsRelaxation, Meanings}
 use Rattle.price_bound.specs.declared.changes.Change.{Change}
-use Rattle.price_bound.specs.DayMeanings.{IsAccepted, meanings_of}
+use Rattle.price_bound.specs.DayMeanings.{meanings_of}
 use Rattle.price_bound.specs.FollowingPicks.{pick_of}
 
 -- a day, and what it costs to give some of its trips other picks than bases
@@ -46,7 +47,7 @@ changed_day day changes = record { day = day; changes = changes }
 
 -- Every accepted day is, under any changes, a relaxation of its solutions.
 abbrev pub ChangedDaysAreRelaxations : Type 0
-ChangedDaysAreRelaxations = (day : Day) (changes : List Change) → IsAccepted day →
+ChangedDaysAreRelaxations = (day : Day) (changes : List Change) → IsSoundDay day →
     IsRelaxation (changed_meanings (changed_day day changes))
 
 -- two problems mean the same: picks cost the same and have the same slacks, and the same picks follow, are near a

@@ -1,7 +1,6 @@
 -- What the relaxation of a day means.
-use Rattle.std.specs.Prelude.{ℕ, ◌≡◌, ◌≤◌, List, [], ◌∷◌, ◌++◌, length, pos}
-use Rattle.rail_base.specs.declared.limits.TheConstants.{MOST_COMPOSITIONS}
-use Rattle.timetable.specs.Accepted.{IsDay, AreLinks, IsStocked}
+use Rattle.std.specs.Prelude.{ℕ, ◌≡◌, List, [], ◌∷◌, ◌++◌, length, pos}
+use Rattle.timetable.specs.Accepted.{IsSoundDay}
 use Rattle.timetable.specs.Chains.{chains_of}
 use Rattle.timetable.specs.Compositions.{compositions_of}
 use Rattle.timetable.specs.Cost.{cost_of}
@@ -41,20 +40,12 @@ meanings_of day = record {
   broken = broken_at day;
 }
 
--- what is known of every accepted day
-pub record IsAccepted (day : Day) : Type 0 where
-  pub sound : IsDay day
-  pub links : AreLinks day
-  pub stocked : IsStocked day
-  -- there are no more compositions than a catalogue may have
-  pub compositions : length (compositions_of day) ≤ MOST_COMPOSITIONS
-
 -- Every accepted day is a relaxation of its solutions.
 abbrev pub DaysAreRelaxations : Type 0
-DaysAreRelaxations = (day : Day) → IsAccepted day → IsRelaxation (meanings_of day)
+DaysAreRelaxations = (day : Day) → IsSoundDay day → IsRelaxation (meanings_of day)
 
 -- what is kept while a day is worked on: its edges, and a ledger of its yards
 pub record IsWorkedOn (day : Day) (graphs : List (List Edge)) (ledger : Loaded) : Type 0 where
-  pub accepted : IsAccepted day
+  pub accepted : IsSoundDay day
   pub graphs_are : AreGraphs day graphs
   pub counted : ledger.day ≡ day

@@ -1,6 +1,7 @@
 -- The slacks of picks that are entered so far: those of the indices below a number, each that is not 0.
 use Rattle.std.specs.Prelude.{ℕ, ◌≡◌, ◌+◌, ◌*◌, ◌^◌, ◌<◌, List, length, ℤ}
 use Rattle.rail_base.specs.declared.limits.TheConstants.{MOST_SLACKS}
+use Rattle.timetable.specs.Accepted.{IsSoundDay}
 use Rattle.timetable.specs.declared.day.indices.Place.TheVariants.{Mu, Sigma}
 use Rattle.timetable.specs.Compositions.{compositions_of}
 use Rattle.timetable.specs.Day.{Day}
@@ -13,7 +14,6 @@ use Rattle.transitions.specs.declared.edge.Edge.{Edge}
 use Rattle.transitions.specs.Edges.{AreGraphs}
 use Rattle.branch_tree.specs.declared.multipliers.Entry.{Entry}
 use Rattle.branch_tree.specs.Entries.{entry_of}
-use Rattle.price_bound.specs.DayMeanings.{IsAccepted}
 use Rattle.price_bound.specs.FollowingPicks.{Follow}
 use Rattle.price_bound.specs.Slacks.{slack_of}
 
@@ -52,7 +52,7 @@ pub record Counted : Type 0 where
 
 -- the picks follow, the ledger has loaded them, and there is room for their slacks
 pub record IsCounted (day : Day) (graphs : List (List Edge)) (ledger : Loaded) (picks : List ℕ) : Type 0 where
-  pub accepted : IsAccepted day
+  pub accepted : IsSoundDay day
   pub edges : AreGraphs day graphs
   pub follow : Follow day picks
   pub counted : ledger ≡ record { day = day; lists = picked day picks }

@@ -38,9 +38,9 @@ pub fn plans_are_priced_low()
     ensures law { PlansArePricedLow }
 {}
 
-/// What holds of all solutions in a region under changes holds of all plans of named units that run by picks in it: they
-/// cost at least so much, with what the changes add for their picks, or there is none. In the region of the day lie the
-/// picks of every plan that runs.
+/// What holds of all solutions in a region under changes holds of all plans of named units that run by picks in it:
+/// they cost at least so much, with what the changes add for their picks, or there is none. In the region of an
+/// accepted day lie the picks of every plan that runs.
 pub fn changed_solutions_stand_for_plans()
     ensures bound { ChangedSolutionsBoundPlans }
     ensures none { NoChangedSolutionsNoPlans }

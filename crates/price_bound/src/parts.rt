@@ -1,9 +1,9 @@
 //! The parts of hand-overs, and the second trips that have another composition than the part.
 
 ghost use Rattle.std.specs.Prelude.{◌≡◌, ◌<◌, length, MatchOption};
+ghost use Rattle.timetable.specs.Accepted.{IsSoundDay};
 ghost use Rattle.timetable.specs.Handovers.{handovers_of};
 ghost use Rattle.transitions.specs.Edges.{AreGraphs};
-ghost use Rattle.price_bound.specs.DayMeanings.{IsAccepted};
 ghost use Rattle.price_bound.specs.FollowingPicks.{Follow};
 ghost use Rattle.price_bound.specs.Parts.{IsFirstMissed, IsMissed, IsPartAt, NoneMissed, second_pick};
 
@@ -13,7 +13,7 @@ use transitions::Graphs;
 
 /// The first hand-over whose second trip has another composition than the part, and the part.
 pub(crate) fn first_missed(instance: &Instance, graphs: &Graphs, picks: &Picks) -> Option<Place>
-    requires accepted { IsAccepted instance.now }
+    requires accepted { IsSoundDay instance.now }
     requires graphs { AreGraphs instance.now graphs.now }
     requires follow { Follow instance.now picks.now }
     ensures { MatchOption result (NoneMissed instance.now picks.now) (IsFirstMissed instance.now picks.now) }
@@ -28,7 +28,7 @@ pub(crate) fn first_missed(instance: &Instance, graphs: &Graphs, picks: &Picks) 
 
 /// The part of a hand-over, where the second trip has another composition.
 fn missed_at(instance: &Instance, graphs: &Graphs, picks: &Picks, handover: u32) -> Option<CompNo>
-    requires accepted { IsAccepted instance.now }
+    requires accepted { IsSoundDay instance.now }
     requires graphs { AreGraphs instance.now graphs.now }
     requires follow { Follow instance.now picks.now }
     requires handover { handover < length (handovers_of instance.now) }
@@ -44,7 +44,7 @@ fn missed_at(instance: &Instance, graphs: &Graphs, picks: &Picks, handover: u32)
 
 /// The part of a hand-over: the composition that a join or a split leaves for its second trip.
 pub(crate) fn part_at(instance: &Instance, graphs: &Graphs, picks: &Picks, handover: u32) -> CompNo
-    requires accepted { IsAccepted instance.now }
+    requires accepted { IsSoundDay instance.now }
     requires graphs { AreGraphs instance.now graphs.now }
     requires follow { Follow instance.now picks.now }
     requires handover { handover < length (handovers_of instance.now) }

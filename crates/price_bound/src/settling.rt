@@ -1,11 +1,11 @@
 //! Whether picks that follow are a solution, and where they are broken if they are none.
 
 ghost use Rattle.std.specs.Prelude.{◌≡◌, ◌-ℤ◌, pos};
+ghost use Rattle.timetable.specs.Accepted.{IsSoundDay};
 ghost use Rattle.timetable.specs.Indices.{IsPlace};
 ghost use Rattle.transitions.specs.Edges.{AreGraphs};
 ghost use Rattle.branch_tree.specs.Bounds.{IsSettled};
 ghost use Rattle.price_bound.specs.ChangedDays.{AreChanges, changed_day, changed_meanings};
-ghost use Rattle.price_bound.specs.DayMeanings.{IsAccepted};
 ghost use Rattle.price_bound.specs.FollowingPicks.{Follow};
 ghost use Rattle.price_bound.specs.BrokenPlaces.{Names, fault_sign, place_of};
 ghost use Rattle.price_bound.specs.Slacks.{sign_of};
@@ -29,7 +29,7 @@ pub(crate) fn settle(
     ledger: &mut Ledger<'_>,
     picks: &Picks,
 ) -> Settled
-    requires accepted { IsAccepted instance.now }
+    requires accepted { IsSoundDay instance.now }
     requires graphs { AreGraphs instance.now graphs.now }
     requires changes { AreChanges instance.now changes.now }
     requires ledger { ledger.old.day ≡ instance.now }

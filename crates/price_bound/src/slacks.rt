@@ -2,6 +2,7 @@
 
 ghost use Rattle.std.specs.Prelude.{ℕ, ◌≡◌, ◌≢◌, ◌+◌, ◌++◌, ◌≤◌, ◌<◌, ◌*◌, ◌^◌, [], length, negsuc, pos, ◌-ℤ◌, ◌≤ℤ◌};
 ghost use Rattle.rail_base.specs.declared.limits.TheConstants.{MOST_SLACKS};
+ghost use Rattle.timetable.specs.Accepted.{IsSoundDay};
 ghost use Rattle.timetable.specs.declared.day.indices.Place.TheVariants.{Lambda, Mu, Sigma};
 ghost use Rattle.timetable.specs.Compositions.{compositions_of};
 ghost use Rattle.timetable.specs.Handovers.{handovers_of};
@@ -10,7 +11,7 @@ ghost use Rattle.timetable.specs.Minutes.{minutes_of};
 ghost use Rattle.transitions.specs.Edges.{AreGraphs};
 ghost use Rattle.branch_tree.specs.Bounds.{AreSlacks};
 ghost use Rattle.branch_tree.specs.Entries.{IsPastLast, entry_of};
-ghost use Rattle.price_bound.specs.DayMeanings.{IsAccepted, meanings_of};
+ghost use Rattle.price_bound.specs.DayMeanings.{meanings_of};
 ghost use Rattle.price_bound.specs.Entered.{end_index, entered, handover_index, station_index, yard_index};
 ghost use Rattle.price_bound.specs.FollowingPicks.{Follow};
 ghost use Rattle.price_bound.specs.Slacks.{slack_at};
@@ -34,7 +35,7 @@ pub(crate) fn put_slacks(
     picks: &Picks,
     into: &mut Slacks,
 )
-    requires accepted { IsAccepted instance.now }
+    requires accepted { IsSoundDay instance.now }
     requires graphs { AreGraphs instance.now graphs.now }
     requires ledger { ledger.old.day ≡ instance.now }
     requires follow { Follow instance.now picks.now }

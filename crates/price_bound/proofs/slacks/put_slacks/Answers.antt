@@ -14,7 +14,7 @@ use Rattle.price_bound.proofs.slacks.put_slacks.Goals as goal
 
 pub invariant_of-counted : goal.invariant_of-counted
 invariant_of-counted c =
-    let sound = c.requires.accepted.sound in
+    let sound = c.requires.accepted.limits in
     let indices = c.indices.ensures.value in
     let most = c.indices.ensures.few in
     let lambdas = c.free_from.ensures.value in
