@@ -11,11 +11,10 @@ use Rattle.timetable.specs.Admissible.{is_admissible}
 use Rattle.timetable.specs.Compositions.{compositions_of, composition_at}
 use Rattle.timetable.specs.Day.{Day, types_of}
 use Rattle.timetable.specs.Links.{list_of}
-use Rattle.timetable.specs.Picks.{picked}
+use Rattle.timetable.specs.Picks.{RunsByPicks, picked}
 use Rattle.timetable.specs.Running.{Runs}
 use Rattle.timetable.proofs.AdmittedTypes.{CompositionOf, composition_of}
 use Rattle.price_bound.proofs.Solving.{list_read}
-use Rattle.timetable.specs.Picks.{RunsByPicks}
 use Rattle.answer_check.specs.Verdicts.{IsCompOf}
 
 pub record AreFew (ms : List ℕ) : Type 0 where

@@ -4,8 +4,9 @@ use Rattle.std.proofs.Common.{refl, sym, subst, ℤ}
 use Rattle.std.specs.Prelude.{⊤, Result, IfOk}
 use Rattle.rail_base.specs.declared.memory.NoMemory.{NoMemory}
 use Rattle.rail_base.specs.declared.numbers.Money.{Money}
+use Rattle.timetable.specs.Accepted.{IsSoundDay}
 use Rattle.timetable.specs.Day.{Day}
-use Rattle.timetable.specs.Picks.{IsSolution}
+use Rattle.timetable.specs.Picks.{IsSolution, RunsByPicks}
 use Rattle.branch_tree.specs.declared.claims.Claim.{Claim}
 use Rattle.branch_tree.specs.declared.tree.Node.{Node}
 use Rattle.branch_tree.specs.declared.tree.Node.TheVariants.{Branch, CostLeaf, RayLeaf, EmptyLeaf}
@@ -22,7 +23,7 @@ use Rattle.cert_check.specs.Tests.{Test, FirstFails}
 use Rattle.day_simulator.specs.declared.events.StepFault.{StepFault}
 use Rattle.day_simulator.specs.Laws.{IsInTurn}
 use Rattle.day_simulator.proofs.InTurn.{in_turn}
-use Rattle.price_bound.specs.DayMeanings.{IsAccepted, meanings_of}
+use Rattle.price_bound.specs.DayMeanings.{meanings_of}
 use Rattle.price_bound.proofs.Solving.{solution_follows}
 use Rattle.answer_text.specs.declared.answer.Answer.{Answer}
 use Rattle.answer_text.specs.declared.answer.Head.{Head}
@@ -33,7 +34,6 @@ use Rattle.answer_check.specs.declared.answered_plan.RunsRefusal.TheVariants as 
 use Rattle.answer_check.specs.declared.checking.AnswerVerdict.{AnswerVerdict}
 use Rattle.answer_check.specs.declared.checking.AnswerVerdict.TheVariants as verdict
 use Rattle.answer_check.specs.Validity.{conclusion_of}
-use Rattle.timetable.specs.Picks.{RunsByPicks}
 use Rattle.answer_check.specs.Verdicts.{CanCome, IsAnswerVerdict, IsPicksRefusal, IsRefuted, VerdictOf}
 
 -- ---- tests that are failed for other reasons
@@ -108,7 +108,7 @@ other_claim problem root claim plan =
 
 -- ---- verdicts on answers to a day
 
-module _ (day : Day) (accepted : IsAccepted day) where
+module _ (day : Day) (accepted : IsSoundDay day) where
   -- the picks of a plan that runs don't fail
   picks_hold : (runs : List (List ℕ)) (picks : List ℕ) (cost : ℤ) → RunsByPicks day runs picks
       → DoPicksFail (meanings_of day) (root_of day) (record { cost = cost; picks = picks }) PicksFail → ⊥
@@ -116,7 +116,7 @@ module _ (day : Day) (accepted : IsAccepted day) where
       let solves : IsSolution day picks =
       record { are_picks = planned.are_picks; plan = runs; runs = planned.runs; types = sym planned.types } in
       elim fails.1 [
-        | inl outside ↦ outside (solutions_lie_in_roots day picks accepted.compositions solves)
+        | inl outside ↦ outside (solutions_lie_in_roots day picks accepted solves)
         | inr rest ↦ elim rest [
           | inl apart ↦ apart (solution_follows day picks accepted.links solves)
           | inr none ↦ none solves
@@ -149,7 +149,7 @@ module _ (day : Day) (accepted : IsAccepted day) where
     can_come (verdict.UnknownUnit trip) right = record { in_turn = λ fault is. absurd cc; picks = λ is. absurd cc }
     can_come (verdict.Stops stopped) right = record {
       in_turn = λ fault is. subst IsInTurn (same fault is)
-          (in_turn day answer.runs accepted.sound accepted.links stopped right.1.fault_is);
+          (in_turn day answer.runs accepted.limits accepted.links stopped right.1.fault_is);
       picks = λ is. absurd cc;
     }
       where

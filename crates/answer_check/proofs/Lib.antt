@@ -1,7 +1,9 @@
 pub mod KnownUnits
 pub mod Admitting
-pub mod Truth
+pub mod Unchanged
+pub mod Saying
 pub mod RegionTruths
+pub mod Truth
 pub mod OnePicks
 pub mod Checked
 pub mod Refuting

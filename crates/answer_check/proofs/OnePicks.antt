@@ -4,14 +4,13 @@ use Rattle.std.proofs.Common.{◌∙◌, ap, arith}
 use Rattle.std.specs.Prelude.{All}
 use Rattle.timetable.specs.Compositions.{compositions_of, composition_at}
 use Rattle.timetable.specs.Day.{Day}
-use Rattle.timetable.specs.Picks.{picked}
+use Rattle.timetable.specs.Picks.{RunsByPicks, picked}
 use Rattle.price_bound.proofs.Solving.{same_number}
 use Rattle.answer_text.specs.declared.answer.Answer.{Answer}
 use Rattle.answer_text.specs.declared.answer.Head.{Head}
 use Rattle.answer_text.specs.declared.answer.Head.TheVariants.{Optimal, Infeasible, Bounded, BoundedPlan}
 use Rattle.answer_text.specs.Limits.{has_plan}
 use Rattle.answer_check.specs.Validity.{HasPicks, conclusion_of}
-use Rattle.timetable.specs.Picks.{RunsByPicks}
 
 abbrev AreKnown : Day → List ℕ → Type 0
 AreKnown day picks = All (λ comp. comp < length (compositions_of day)) picks
@@ -43,6 +42,7 @@ concluded_once day (BoundedPlan bound cost) runs one other first second =
     ap (λ (picks : List ℕ). conclusion_of (BoundedPlan bound cost) picks) (planned_once day runs one other (first refl) (second refl))
 
 -- an answer concludes one thing
-pub one_conclusion : (day : Day) (answer : Answer) (one other : List ℕ) → HasPicks day answer one → HasPicks day answer other
+pub one_conclusion : (day : Day) (answer : Answer) (one other : List ℕ) → HasPicks day answer.head answer.runs one
+    → HasPicks day answer.head answer.runs other
     → conclusion_of answer.head one ≡ conclusion_of answer.head other
 one_conclusion day answer one other = concluded_once day answer.head answer.runs one other

@@ -2,26 +2,35 @@
 -- units, its tree proves that, the status says which answer it is, and it was written.
 use Rattle.std.specs.Prelude.{ℕ, ◌≡◌, List, ℤ, pos, Option}
 use Rattle.rail_io.specs.Sinks.{Appends}
-use Rattle.timetable.specs.Cost.{plan_cost}
-use Rattle.timetable.specs.Day.{Day}
-use Rattle.timetable.specs.Cost.{PlansCostAtLeast, NoPlanRuns}
-use Rattle.timetable.specs.Running.{Runs}
+use Rattle.timetable.specs.Cost.{plan_cost_of, PlansOfUnitsCostAtLeast, NoPlanOfUnitsRuns}
+use Rattle.timetable.specs.Day.{Day, Units, stock_units}
+use Rattle.timetable.specs.Running.{RunsOf}
 use Rattle.answer_text.specs.declared.answer.Answer.{Answer}
 use Rattle.answer_text.specs.declared.answer.Head.{Head}
 use Rattle.answer_text.specs.declared.answer.Head.TheVariants.{Optimal, Infeasible, Bounded, BoundedPlan}
 use Rattle.answer_check.specs.ProvedTrees.{HasProvedTree}
 
--- the runs are a plan that runs, of this cost
-pub record IsPlanOf (day : Day) (runs : List (List ℕ)) (cost : ℤ) : Type 0 where
-  pub does_run : Runs day runs
-  pub costs : cost ≡ pos (plan_cost day runs)
+-- what a head says, of plans of which it is known what it is to be one of a cost, to cost at least so much, and that
+-- none runs
+abbrev pub Says : (ℤ → Type 0) → (ℤ → Type 0) → Type 0 → Head → Type 0
+Says IsPlan CostAtLeast NoneRuns (Optimal cost) = IsPlan cost.0 × CostAtLeast cost.0
+Says IsPlan CostAtLeast NoneRuns Infeasible = NoneRuns
+Says IsPlan CostAtLeast NoneRuns (Bounded bound) = CostAtLeast bound.0
+Says IsPlan CostAtLeast NoneRuns (BoundedPlan bound cost) = IsPlan cost.0 × CostAtLeast bound.0
 
--- what an answer says is true of the day, where these are its runs
+-- the runs are a plan that runs with these units, at this cost
+pub record IsPlanAtCost (units : Units) (day : Day) (runs : List (List ℕ)) (cost : ℤ) : Type 0 where
+  pub does_run : RunsOf units day runs
+  pub costs : cost ≡ pos (plan_cost_of units day runs)
+
+-- what an answer says is true of the plans of these units, where these are its runs
+abbrev pub IsTrueOfUnits : Units → Day → Head → List (List ℕ) → Type 0
+IsTrueOfUnits units day head runs =
+    Says (IsPlanAtCost units day runs) (PlansOfUnitsCostAtLeast units day) (NoPlanOfUnitsRuns units day) head
+
+-- what an answer says is true of the day: of the plans of the stock's units
 abbrev pub IsTrueOf : Day → Head → List (List ℕ) → Type 0
-IsTrueOf day (Optimal cost) runs = IsPlanOf day runs cost.0 × PlansCostAtLeast day cost.0
-IsTrueOf day Infeasible runs = NoPlanRuns day
-IsTrueOf day (Bounded bound) runs = PlansCostAtLeast day bound.0
-IsTrueOf day (BoundedPlan bound cost) runs = IsPlanOf day runs cost.0 × PlansCostAtLeast day bound.0
+IsTrueOf day = IsTrueOfUnits (stock_units day) day
 
 -- the status that goes with an answer
 abbrev pub status_said : Head → ℕ

@@ -18,15 +18,16 @@ conclusion_of Infeasible picks = infeasible
 conclusion_of (Bounded bound) picks = bounded bound.0
 conclusion_of (BoundedPlan bound cost) picks = bounded_plan bound.0 (record { cost = cost.0; picks = picks })
 
--- where the answer has a plan, it runs, and these are its compositions; where it has none, nothing is said of them
-abbrev pub HasPicks : Day → Answer → List ℕ → Type 0
-HasPicks day answer picks = IsTrue (has_plan answer.head) → RunsByPicks day answer.runs picks
+-- where an answer with this head and these runs has a plan, it runs, and these are its compositions; where it has none,
+-- nothing is said of them
+abbrev pub HasPicks : Day → Head → List (List ℕ) → List ℕ → Type 0
+HasPicks day head runs picks = IsTrue (has_plan head) → RunsByPicks day runs picks
 
 -- a valid answer, by a root region of a problem: its plan, where it has one, runs on the day, and its tree proves what
 -- it says of all solutions in the root, of the picks of that plan
 pub record IsValidIn (day : Day) (problem : Meanings) (root : List (List Bool)) (answer : Answer) : Type 0 where
   pub picks : List ℕ
-  pub planned : HasPicks day answer picks
+  pub planned : HasPicks day answer.head answer.runs picks
   pub proved : IsProved problem root (conclusion_of answer.head picks) answer.branchings answer.tree
 
 -- a valid answer to the day, by the region of all admissible compositions

@@ -53,7 +53,7 @@ HasPlan answer = IsTrue (has_plan answer.head)
 -- a claim says of the day what an answer says, whose plan, where it has one, runs
 pub record IsClaimOf (day : Day) (answer : Answer) (claim : Claim) : Type 0 where
   pub picks : List ℕ
-  pub planned : HasPicks day answer picks
+  pub planned : HasPicks day answer.head answer.runs picks
   pub head : said_by claim.head ≡ conclusion_of answer.head picks
   pub branchings : claim.branchings ≡ answer.branchings
   pub tree : claim.tree.now ≡ answer.tree

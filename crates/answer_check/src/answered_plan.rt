@@ -5,8 +5,8 @@ ghost use Rattle.rail_base.specs.declared.limits.TheConstants.{MOST_TRIPS};
 ghost use Rattle.timetable.specs.Running as running;
 ghost use Rattle.timetable.specs.Day.{types_of};
 ghost use Rattle.timetable.specs.Links.{list_of};
-ghost use Rattle.timetable.specs.Plans.{are_units};
 ghost use Rattle.timetable.specs.Picks.{RunsByPicks};
+ghost use Rattle.timetable.specs.Plans.{are_units};
 ghost use Rattle.answer_check.specs.Verdicts.{IsCompOf, IsFoundOf, IsRunsRefusal};
 
 use answer_text::Runs;

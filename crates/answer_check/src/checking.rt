@@ -2,10 +2,11 @@
 
 ghost use Rattle.std.specs.Prelude.{◌≡◌, ◌≤◌, IfErr, IfOk, length};
 ghost use Rattle.rail_base.specs.declared.limits.TheConstants.{MOST_TRIPS};
+ghost use Rattle.timetable.specs.Accepted.{IsSoundDay};
 ghost use Rattle.branch_tree.specs.Claims.{IsConcluded, said_by};
 ghost use Rattle.branch_tree.specs.Regions.{root_of};
 ghost use Rattle.cert_check.specs.Verdicts.{IsVerdict};
-ghost use Rattle.price_bound.specs.DayMeanings.{IsAccepted, meanings_of};
+ghost use Rattle.price_bound.specs.DayMeanings.{meanings_of};
 ghost use Rattle.transitions.specs.Edges.{AreGraphs};
 ghost use Rattle.answer_check.specs.Headline.{IsTrueOf};
 ghost use Rattle.answer_check.specs.Validity.{HasPicks, conclusion_of};
@@ -100,7 +101,7 @@ fn verdict_of(refusal: RunsRefusal) -> Result<AnswerVerdict, NoMemory>
 /// The picks of an answer's plan; none where it has no plan.
 fn picks_for(alloc: Global, instance: &Instance, answer: &Answer) -> Result<Picks, RunsRefusal>
     requires { length answer.now.runs ≤ MOST_TRIPS }
-    ensures picks { IfOk result (HasPicks instance.now answer.now) }
+    ensures picks { IfOk result (HasPicks instance.now answer.now.head answer.now.runs) }
     ensures refused { IfErr result (IsPicksRefusal instance.now answer.now) }
 {
     if answer.head.has_plan() {
@@ -144,8 +145,8 @@ fn check_claim(
     picks: &Picks,
 ) -> Result<AnswerVerdict, NoMemory>
     requires graphs { AreGraphs instance.now graphs.now }
-    requires accepted { IsAccepted instance.now }
-    requires picks { HasPicks instance.now answer.now picks.now }
+    requires accepted { IsSoundDay instance.now }
+    requires picks { HasPicks instance.now answer.now.head answer.now.runs picks.now }
     ensures verdict { IfOk result (IsAnswerVerdict instance.now answer.now) }
     ensures holds { IfOk result (λ verdict. verdict ≡ AnswerVerdict.Valid →
         IsTrueOf instance.now answer.now.head answer.now.runs) }

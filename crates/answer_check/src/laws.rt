@@ -3,7 +3,7 @@
 //! A law is the contract of a function that does nothing.
 
 ghost use Rattle.answer_check.specs.Laws.{AnswerVerdictsAreOne, ValidAnswersAreFound};
-ghost use Rattle.answer_check.specs.RegionTruths.{ConcludedIsTrueIn};
+ghost use Rattle.answer_check.specs.RegionTruths.{ConcludedIsTrueIn, TrueInRootsIsTrueOfDays};
 
 /// Of a valid answer `check_answer` finds that it is valid, or memory is wanting: no other verdict on it is right.
 pub fn valid_answers_are_found()
@@ -17,7 +17,9 @@ pub fn answer_verdicts_are_one()
 
 /// What is concluded of all solutions in a region of a day, under changes, is true of the plans that run by picks in
 /// it: the plan of an optimal answer costs least of them, with what the changes add, none runs where there is no
-/// solution, and none costs less than a bound.
+/// solution, and none costs less than a bound. In the region of an accepted day, where nothing is changed, that is what
+/// is true of all plans of the day.
 pub fn conclusions_hold_in_a_region()
     ensures law { ConcludedIsTrueIn }
+    ensures of_day { TrueInRootsIsTrueOfDays }
 {}

@@ -3,7 +3,7 @@ use Rattle.branch_tree.specs.Claims.{IsConcluded, said_by}
 use Rattle.cert_check.specs.declared.verdict.Verdict.{Verdict}
 use Rattle.cert_check.specs.declared.verdict.Verdict.TheVariants.{Valid}
 use Rattle.cert_check.specs.Verdicts.{IsVerdict}
-use Rattle.answer_check.proofs.Checked.{at_day, root_over}
+use Rattle.answer_check.proofs.Unchanged.{at_day, root_over}
 use Rattle.answer_check.proofs.checking.verdict_on_claim.Goals as goal
 
 pub checked-requires : goal.checked-requires
