@@ -83,10 +83,14 @@ pub fn solve<R: Relaxation>(
     requires grant { grant ≤ MOST_BRANCHINGS }
     requires rounds { rounds ≤ MOST_ROUNDS }
     requires asked { All (λ advisor. asked advisor ≤ 2 ^ 63) advisors.old.items }
+
+    // The problem, and what was found.
     ensures same { R.problem problem.new ≡ R.problem problem.old }
     ensures solved { IfOk result (IsSolved (R.meanings (R.problem problem.old)) root.now grant) }
     ensures holds { IfOk result (λ found. IsConcluded (R.meanings (R.problem problem.old)) root.now
         (conclusion_of found)) }
+
+    // The advisors: that one of the same identity stands at each place, and how often it was asked.
     ensures advisors { AreTheSame advisors.old.items advisors.new.items identity }
     ensures asked { AreAsked advisors.old.items advisors.new.items asked has_quit 0 (rounds * (2 * grant + 1)) }
     ensures counted { IfOk result (λ found. AreAsked advisors.old.items advisors.new.items asked has_quit
@@ -119,10 +123,14 @@ pub fn solve_with<R: Relaxation, I: Improver>(
     requires grant { allowed.branchings ≤ MOST_BRANCHINGS }
     requires rounds { allowed.rounds ≤ MOST_ROUNDS }
     requires asked { All (λ advisor. asked advisor ≤ 2 ^ 63) advisors.old.items }
+
+    // The problem, and what was found.
     ensures same { R.problem problem.new ≡ R.problem problem.old }
     ensures solved { IfOk result (IsSolved (R.meanings (R.problem problem.old)) root.now allowed.branchings) }
     ensures holds { IfOk result (λ found. IsConcluded (R.meanings (R.problem problem.old)) root.now
         (conclusion_of found)) }
+
+    // The advisors: that one of the same identity stands at each place, and how often it was asked.
     ensures advisors { AreTheSame advisors.old.items advisors.new.items identity }
     ensures asked { AreAsked advisors.old.items advisors.new.items asked has_quit 0
         (allowed.rounds * (2 * allowed.branchings + 1)) }
