@@ -5,6 +5,7 @@ use Rattle.std.specs.Prelude.{All, IsSome}
 use Rattle.std.proofs.lemmas.List.Elements.{All-cons, All-contains, All-nil}
 use Rattle.rail_base.specs.declared.limits.TheConstants.{MOST_BRANCHINGS, MOST_NODES, MOST_TRIPS}
 use Rattle.timetable.specs.Day.{Day}
+use Rattle.timetable.specs.Picks.{RunsByPicks}
 use Rattle.branch_tree.specs.declared.tree.Node.{Node}
 use Rattle.branch_tree.specs.Claims.{Conclusion, Priced, plan_of, EndsInTime, HasOpenLeaf, IsPlanIn, IsProved}
 use Rattle.branch_tree.specs.Meanings.{Meanings}
@@ -22,7 +23,6 @@ use Rattle.answer_text.specs.declared.answer.Head.TheVariants.{Optimal, Infeasib
 use Rattle.answer_text.specs.Limits.{IsAmount, IsHead, IsNode, IsRun, IsWithin, has_plan}
 use Rattle.answer_check.specs.ProvedTrees.{HasProvedTreeIn, bound_said, plan_said}
 use Rattle.answer_check.specs.Validity.{conclusion_of}
-use Rattle.timetable.specs.Picks.{RunsByPicks}
 use Rattle.day_planner.specs.Answerable.{IsAnswerable}
 use Rattle.day_planner.specs.FoundAnswers.{SaysFound}
 use Rattle.day_planner.specs.Laws.{SaidAnswersAreProved}

@@ -15,7 +15,7 @@ IsNameable CanName found = MatchOption (search.plan_found found) (Unit {0}) (λ 
 -- The answer says what was found: it concludes the same, of the picks of its plan, and has the tree that was found.
 pub record SaysFound (day : Day) (naming : List ℕ → List (List ℕ)) (found : Found) (answer : Answer) : Type 0 where
   pub picks : List ℕ
-  pub planned : HasPicks day answer picks
+  pub planned : HasPicks day answer.head answer.runs picks
   -- the units of the plan, where there is one, are named by the rule
   pub named : IsTrue (has_plan answer.head) → answer.runs ≡ naming picks
   pub concludes : conclusion_of answer.head picks ≡ search.conclusion_of found

@@ -2,9 +2,9 @@
 //! rule the units are named.
 
 ghost use Rattle.std.specs.Prelude.{◌≡◌, [], IfOk};
+ghost use Rattle.timetable.specs.Picks.{RunsByPicks};
 ghost use Rattle.branch_tree.specs.Trees.{KeepLimits, branchings_of};
 ghost use Rattle.search.specs.declared.found.Found.TheVariants.{Bounded};
-ghost use Rattle.timetable.specs.Picks.{RunsByPicks};
 ghost use Rattle.day_planner.specs.FoundAnswers.{IsNameable, SaysFound};
 
 use crate::naming::Naming;

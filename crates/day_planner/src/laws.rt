@@ -12,8 +12,7 @@ pub fn said_answers_are_proved<R: Relaxation>()
     ensures law { (problem : R.Problem) → SaidAnswersAreProved (R.meanings problem) }
 {}
 
-/// An accepted day is answerable, and so is it under changes in any region in which each trip has a composition, where
-/// it has no more indices than a document writes.
+/// An accepted day is answerable, and so is it under changes in any region in which each trip has a composition.
 pub fn days_are_answerable()
     ensures day { DaysAreAnswerable }
     ensures changed { ChangedDaysAreAnswerable }

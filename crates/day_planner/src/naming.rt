@@ -2,10 +2,9 @@
 
 ghost use Rattle.std.specs.Prelude.{ℕ, List, ◌≡◌, IfOk};
 ghost use Rattle.timetable.specs.Day.{Day};
-ghost use Rattle.timetable.specs.Picks.{IsSolution};
+ghost use Rattle.timetable.specs.Picks.{IsSolution, RunsByPicks};
 ghost use Rattle.transitions.specs.Edges.{AreGraphs};
 ghost use Rattle.answer_check.specs.ProvedTrees.{named_for};
-ghost use Rattle.timetable.specs.Picks.{RunsByPicks};
 
 use rail_base::NoMemory;
 use rail_base::limits::{MOST_LINKS, MOST_TRIPS, MOST_UNITS};

@@ -16,68 +16,62 @@ use advisors::Advisor;
 use answer_check::AnswerVerdict;
 use answer_text::Answer;
 use branch_tree::{Region, Relaxation};
+use improvers::{Improver, NoImprover};
 use price_bound::DayBounds;
 use rail_base::NoMemory;
-use search::solve;
+use search::{Allowed, solve_with};
 use std::alloc::Global;
 use timetable::Instance;
 use transitions::Graphs;
 
-/// What is granted to a search.
-#[derive(Clone, Copy)]
-pub struct Grant {
-    /// How many branchings may be made, at most 4,000.
-    pub branchings: u32,
-    /// In how many rounds the advisors may be asked at a node, at most 100.
-    pub rounds: u8,
+/// Where a problem over a day is searched, and by which rule the units of what is found there are named.
+pub struct Scope<'a, N> {
+    /// The compositions that each trip may have.
+    pub root: &'a Region,
+    /// The rule by which units are named.
+    pub naming: &'a N,
 }
 
-/// Searches a root region of an answerable problem, and answers it with a proof of what the answer says. The root is one
-/// of the problem, and of each solution in it the rule can name the units. Each advisor was asked at most 2^63 times
-/// before.
+/// Searches a root region of an answerable problem, and answers it with a proof of what the answer says. The root is
+/// one of the problem, and of each solution in it the rule can name the units. Each advisor was asked at most 2^63
+/// times before. Nothing is asked of the improver: all that is said here holds whatever it proposes.
 ///
 /// Afterwards an advisor of the same identity stands at each place, whatever the answer is, and they are asked as
-/// `search::solve` tells. The error is want of memory alone, here or in an advisor. What the problem means is as before
-/// after any answer.
-pub fn answer_to<R: Relaxation, N: Naming>(
+/// `search::solve_with` tells. The error is want of memory alone, here, in the improver or in an advisor. What the
+/// problem means is as before after any answer.
+pub fn answer_to<R: Relaxation, N: Naming, I: Improver>(
     alloc: Global,
     problem: &mut R,
-    root: &Region,
-    naming: &N,
-    grant: Grant,
+    scope: Scope<'_, N>,
+    allowed: Allowed,
+    improver: &mut I,
     advisors: &mut Vec<Box<dyn Advisor>>,
 ) -> Result<Answer, NoMemory>
-    // An answerable problem, a root region of it, a rule that can name each solution in it, and what is granted.
-    requires answerable { IsAnswerable (N.day naming.now) (R.meanings (R.problem problem.old)) root.now }
+    // An answerable problem, a root region of it, a rule that can name each solution in it, and what is allowed.
+    requires answerable { IsAnswerable (N.day scope.naming.now) (R.meanings (R.problem problem.old)) scope.root.now }
     requires over { IsOver (R.meanings (R.problem problem.old)).trips
-        (R.meanings (R.problem problem.old)).catalogue root.now }
+        (R.meanings (R.problem problem.old)).catalogue scope.root.now }
     requires names { (picks : List ℕ) → (R.meanings (R.problem problem.old)).IsSolution picks →
-        IsTrue (are_in picks root.now) → N.CanName naming.now picks }
-    requires branchings { grant.branchings ≤ MOST_BRANCHINGS }
-    requires rounds { grant.rounds ≤ MOST_ROUNDS }
+        IsTrue (are_in picks scope.root.now) → N.CanName scope.naming.now picks }
+    requires branchings { allowed.branchings ≤ MOST_BRANCHINGS }
+    requires rounds { allowed.rounds ≤ MOST_ROUNDS }
     requires asked { All (λ advisor. asked advisor ≤ 2 ^ 63) advisors.old.items }
 
     // The problem, and the answer.
     ensures same { R.problem problem.new ≡ R.problem problem.old }
-    ensures tree { IfOk result (HasProvedTreeIn (N.day naming.now) (R.meanings (R.problem problem.old)) root.now
-        (N.named naming.now) grant.branchings) }
+    ensures tree { IfOk result (HasProvedTreeIn (N.day scope.naming.now) (R.meanings (R.problem problem.old))
+        scope.root.now (N.named scope.naming.now) allowed.branchings) }
 
     // The advisors: that one of the same identity stands at each place, and how often it was asked.
     ensures advisors { AreTheSame advisors.old.items advisors.new.items identity }
     ensures asked { AreAsked advisors.old.items advisors.new.items asked has_quit 0
-        (grant.rounds * (2 * grant.branchings + 1)) }
+        (allowed.rounds * (2 * allowed.branchings + 1)) }
     ensures counted { IfOk result (λ answer. AreAsked advisors.old.items advisors.new.items asked has_quit
-        (in_rounds grant.rounds (answer.branchings + open_leaves answer))
-        (grant.rounds * (2 * answer.branchings + 1))) }
+        (in_rounds allowed.rounds (answer.branchings + open_leaves answer))
+        (allowed.rounds * (2 * answer.branchings + 1))) }
 {
-    let found = solve(
-        alloc,
-        problem,
-        root,
-        grant.branchings,
-        grant.rounds,
-        advisors,
-    )?;
+    let Scope { root, naming } = scope;
+    let found = solve_with(alloc, problem, root, allowed, improver, advisors)?;
     let answer = said(alloc, naming, found)?;
     Ok(answer)
 }
@@ -91,7 +85,7 @@ pub fn answer_to<R: Relaxation, N: Naming>(
 /// The answer is true whatever the advisors propose: its plan, where it has one, runs and costs what it says, what it
 /// says of all plans of named units is true of them, and its tree proves that, so that `check_answer` finds it valid.
 /// The units of its plan are named by the rule of `name_units`.
-/// It is `bounded` only where all branchings that are granted were made and a leaf is open.
+/// It is `bounded` exactly where all branchings that are granted were made and a leaf is open.
 ///
 /// Afterwards an advisor of the same identity stands at each place, whatever the answer is, and they are asked as
 /// `search::solve` tells. The error is want of memory alone, here or in an advisor.
@@ -114,41 +108,79 @@ pub fn answer_for(
         (in_rounds rounds (answer.branchings + open_leaves answer)) (rounds * (2 * answer.branchings + 1))) }
 {
     let graphs = Graphs::build(alloc, instance)?;
-    // What is known of an accepted day.
-    instance.is_sound();
-    let grant = Grant {
+    let allowed = Allowed {
         branchings: nodes,
         rounds,
     };
-    let answer = day_answer(alloc, instance, &graphs, grant, advisors)?;
+    improved_answer_for(alloc, instance, &graphs, allowed, &mut NoImprover, advisors)
+}
+
+/// Plans a day as `answer_for` does, by a search that asks an improver too, as `search::solve_with` tells. The graphs
+/// are those of the day, which an improver may go by too.
+///
+/// Nothing is asked of the improver: the conditions are those of `answer_for`, and all that is said of its answer, of
+/// the advisors and of the error holds whatever is proposed.
+pub fn improved_answer_for<I: Improver>(
+    alloc: Global,
+    instance: &Instance,
+    graphs: &Graphs,
+    allowed: Allowed,
+    improver: &mut I,
+    advisors: &mut Vec<Box<dyn Advisor>>,
+) -> Result<Answer, NoMemory>
+    requires graphs { AreGraphs instance.now graphs.now }
+    requires branchings { allowed.branchings ≤ MOST_BRANCHINGS }
+    requires rounds { allowed.rounds ≤ MOST_ROUNDS }
+    requires asked { All (λ advisor. asked advisor ≤ 2 ^ 63) advisors.old.items }
+
+    // The answer.
+    ensures headline { IfOk result (IsHeadline instance.now allowed.branchings) }
+    ensures checks { IfOk result (λ answer. (verdict : AnswerVerdict) →
+        IsAnswerVerdict instance.now answer verdict → verdict ≡ AnswerVerdict.Valid) }
+
+    // The advisors: that one of the same identity stands at each place, and how often it was asked.
+    ensures advisors { AreTheSame advisors.old.items advisors.new.items identity }
+    ensures asked { AreAsked advisors.old.items advisors.new.items asked has_quit 0
+        (allowed.rounds * (2 * allowed.branchings + 1)) }
+    ensures counted { IfOk result (λ answer. AreAsked advisors.old.items advisors.new.items asked has_quit
+        (in_rounds allowed.rounds (answer.branchings + open_leaves answer))
+        (allowed.rounds * (2 * answer.branchings + 1))) }
+{
+    // What is known of an accepted day.
+    instance.is_sound();
+    let answer = day_answer(alloc, instance, graphs, allowed, improver, advisors)?;
     Ok(answer)
 }
 
 /// The answer to a day, in the region of all admissible compositions, with its units named by the rule of `name_units`.
-fn day_answer(
+fn day_answer<I: Improver>(
     alloc: Global,
     instance: &Instance,
     graphs: &Graphs,
-    grant: Grant,
+    allowed: Allowed,
+    improver: &mut I,
     advisors: &mut Vec<Box<dyn Advisor>>,
 ) -> Result<Answer, NoMemory>
     requires graphs { AreGraphs instance.now graphs.now }
-    requires branchings { grant.branchings ≤ MOST_BRANCHINGS }
-    requires rounds { grant.rounds ≤ MOST_ROUNDS }
+    requires branchings { allowed.branchings ≤ MOST_BRANCHINGS }
+    requires rounds { allowed.rounds ≤ MOST_ROUNDS }
     requires asked { All (λ advisor. asked advisor ≤ 2 ^ 63) advisors.old.items }
-    ensures tree { IfOk result (HasProvedTree instance.now grant.branchings) }
+    ensures tree { IfOk result (HasProvedTree instance.now allowed.branchings) }
     ensures advisors { AreTheSame advisors.old.items advisors.new.items identity }
     ensures asked { AreAsked advisors.old.items advisors.new.items asked has_quit 0
-        (grant.rounds * (2 * grant.branchings + 1)) }
+        (allowed.rounds * (2 * allowed.branchings + 1)) }
     ensures counted { IfOk result (λ answer. AreAsked advisors.old.items advisors.new.items asked has_quit
-        (in_rounds grant.rounds (answer.branchings + open_leaves answer))
-        (grant.rounds * (2 * answer.branchings + 1))) }
+        (in_rounds allowed.rounds (answer.branchings + open_leaves answer))
+        (allowed.rounds * (2 * answer.branchings + 1))) }
 {
     let root = Region::root(alloc, instance)?;
     let mut bounds = DayBounds::new(alloc, instance, graphs)?;
     let naming = DayNaming::new(instance, graphs);
-    // What is known of an accepted day, and how many indices it has.
+    // What is known of an accepted day.
     instance.is_sound();
-    prove!(instance.free_from() <= instance.indices());
-    answer_to(alloc, &mut bounds, &root, &naming, grant, advisors)
+    let scope = Scope {
+        root: &root,
+        naming: &naming,
+    };
+    answer_to(alloc, &mut bounds, scope, allowed, improver, advisors)
 }

@@ -1,24 +1,13 @@
 use Rattle.std.proofs.Common.{◌+◌, ◌*◌}
-use Rattle.price_bound.proofs.Whole.{accepted_day}
 use Rattle.search.proofs.Asking.{are_unasked}
-use Rattle.answer_check.proofs.Refuting.{only_valid}
-use Rattle.answer_check.proofs.Truth.{valid_answers_are_true}
 use Rattle.day_planner.proofs.planning.answer_for.Goals as goal
 
 pub returns-in_err-graphs-clause-asked : goal.returns-in_err-graphs-clause-asked
 returns-in_err-graphs-clause-asked g c = are_unasked _ _
     (c.args.rounds * (2 * c.args.nodes + 1)) c.args.advisors.now.items
 
-pub returns-clause-headline : goal.returns-clause-headline
-returns-clause-headline g c = record {
-  holds = valid_answers_are_true c.args.instance.now c.in_ok-answer.answer
-      (accepted_day c.args.instance.now c.is_sound.ensures) c.in_ok-answer.ensures.tree.valid;
-  tree = c.in_ok-answer.ensures.tree;
-}
-
-pub returns-clause-checks : goal.returns-clause-checks
-returns-clause-checks g c = λ verdict right.
-    only_valid c.args.instance.now c.in_ok-answer.answer c.in_ok-answer.ensures.tree.valid verdict right
-
 pub returns-clause-asked : goal.returns-clause-asked
-returns-clause-asked g c = c.day_answer.ensures.asked
+returns-clause-asked g c = c.improved_answer_for.ensures.asked
+
+pub returns-clause-counted : goal.returns-clause-counted
+returns-clause-counted g c = c.improved_answer_for.ensures.counted
