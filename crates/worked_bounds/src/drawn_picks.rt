@@ -7,7 +7,7 @@ use crate::drawn_days::Draws;
 use rail_base::{CompNo, LinkNo, TripNo};
 use std::alloc::Global;
 use std::test::Fail;
-use timetable::{Instance, LinkKind, Picks};
+use timetable::{Instance, Link, Picks};
 use transitions::{Edge, Graphs};
 
 /// Picks that follow the links; every other time but for one link in six, where what that leads to has a composition by
@@ -29,7 +29,7 @@ pub(crate) fn drawn_picks(
     for link in 0..day.links() {
         let edges = graphs.edges(LinkNo(link));
         if follows_all || draws.below(6) != 0 {
-            follow(&day.link(LinkNo(link)).kind, edges, draws, &mut picks);
+            follow(day.link(LinkNo(link)), edges, draws, &mut picks);
         }
     }
     if draws.below(2) == 0 {
@@ -49,23 +49,24 @@ fn drawn_composition(day: &Instance, draws: &mut Draws) -> CompNo {
 
 /// Gives the trips that depart by a link compositions by one of its edges from what is picked for those that arrive,
 /// where there is one.
-fn follow(kind: &LinkKind, edges: &[Edge], draws: &mut Draws, picks: &mut Picks)
+fn follow(link: &Link, edges: &[Edge], draws: &mut Draws, picks: &mut Picks)
     ensures { length picks.new ≡ length picks.old }
 {
-    let Some(edge) = drawn_edge(kind, edges, draws, picks) else {
+    let Some(edge) = drawn_edge(link, edges, draws, picks) else {
         return;
     };
-    set_pick(picks, kind.leads_to(), edge.to);
-    if let (LinkKind::Split { second, .. }, Some(part)) = (kind, edge.part) {
-        set_pick(picks, *second, part);
+    let trips = link.kind.departing();
+    set_pick(picks, trips.first, edge.to);
+    if let (Some(second), Some(part)) = (trips.second, edge.part) {
+        set_pick(picks, second, part);
     }
 }
 
 /// One of the edges that begin with what is picked for the trips that a link leads from.
-fn drawn_edge(kind: &LinkKind, edges: &[Edge], draws: &mut Draws, picks: &Picks) -> Option<Edge> {
+fn drawn_edge(link: &Link, edges: &[Edge], draws: &mut Draws, picks: &Picks) -> Option<Edge> {
     let mut drawn = None;
     for edge in edges {
-        if begins(kind, edge, picks) && (drawn.is_none() || draws.below(3) == 0) {
+        if begins(link, edge, picks) && (drawn.is_none() || draws.below(3) == 0) {
             drawn = Some(*edge);
         }
     }
@@ -88,13 +89,14 @@ fn turn_round(day: &Instance, draws: &mut Draws, picks: &mut Picks)
 }
 
 /// Whether an edge of a link begins with what is picked for the trips that the link leads from.
-fn begins(kind: &LinkKind, edge: &Edge, picks: &Picks) -> bool {
-    if edge.from != pick_of(picks, kind.leads_from()) {
+fn begins(link: &Link, edge: &Edge, picks: &Picks) -> bool {
+    let trips = link.kind.arriving();
+    if edge.from != pick_of(picks, trips.first) {
         return false;
     }
-    match kind {
-        LinkKind::Join { second, .. } => edge.part == Some(pick_of(picks, *second)),
-        _ => true,
+    match trips.second {
+        Some(second) => edge.part == Some(pick_of(picks, second)),
+        None => true,
     }
 }
 

@@ -14,7 +14,7 @@ use rail_base::{CompNo, LinkNo, TripNo};
 use sample_days::may_run;
 use std::alloc::Global;
 use std::test::Fail;
-use timetable::{Instance, LinkKind, NamedPlan, Picks};
+use timetable::{Instance, Link, NamedPlan, Picks};
 use transitions::{Edge, Graphs};
 use unit_duties::{DutyRefusal, name_units};
 
@@ -167,7 +167,7 @@ fn first_broken(day: &Instance, graphs: &Graphs, picks: &Picks) -> Option<LinkNo
 {
     for link in 0..day.links() {
         let edges = graphs.edges(LinkNo(link));
-        if !has_edge(&day.link(LinkNo(link)).kind, edges, picks) {
+        if !has_edge(day.link(LinkNo(link)), edges, picks) {
             return Some(LinkNo(link));
         }
     }
@@ -176,10 +176,10 @@ fn first_broken(day: &Instance, graphs: &Graphs, picks: &Picks) -> Option<LinkNo
 
 /// Whether one of the edges of a link goes from what is picked for the trips that arrive to what is picked for those
 /// that depart.
-fn has_edge(kind: &LinkKind, edges: &[Edge], picks: &Picks) -> bool {
-    let from = pick_of(picks, kind.leads_from());
-    let to = pick_of(picks, kind.leads_to());
-    let part = match kind.second() {
+fn has_edge(link: &Link, edges: &[Edge], picks: &Picks) -> bool {
+    let from = pick_of(picks, link.kind.leads_from());
+    let to = pick_of(picks, link.kind.leads_to());
+    let part = match link.kind.second() {
         Some(trip) => Some(pick_of(picks, trip)),
         None => None,
     };
