@@ -1,10 +1,7 @@
 -- The counts of the words seen are those of the words taken apart.
 use Rattle.std.proofs.Common.{◌≡◌, ◌≤◌, ◌+◌, ℕ, Bool, true, List, [], ◌∷◌, ◌++◌, Option, Some, None, length}
-use Rattle.std.proofs.Common.{refl, ap, arith, map, take, ◌<◌, ◌∙◌, slice_index_or, Bor, drop, append_assoc}
-use Rattle.std.proofs.Common.{sym}
-use Rattle.std.specs.Prelude.{slice_get}
-use Rattle.std.proofs.lemmas.List.{at_drop_more, get_or-map, length-append, length-map, map-append}
-use Rattle.std.proofs.lemmas.Option.{get_or_from_slice_get, slice_get_within}
+use Rattle.std.proofs.Common.{refl, ap, arith, map, take, ◌<◌, ◌∙◌, slice_index_or, Bor}
+use Rattle.std.proofs.lemmas.List.{get_or-map, length-append, length-map}
 use Rattle.std.proofs.lemmas.List.Sums.{fold_more}
 use Rattle.command_line.specs.declared.form.OptionName.{OptionName}
 use Rattle.command_line.specs.declared.form.OptionName.TheVariants.{Nodes, Rounds}
@@ -97,22 +94,3 @@ parts_more words i d lt =
     fold_more with_word no_parts texts i d.now inside
     ∙ ap (λ (word : List ℕ). with_word (parts_of (take i texts)) word)
     (get_or-map (λ (word : Bor (List ℕ)). word.now) words i d d.now lt)
-
--- ---- the words from a place on
-
-drop_next : (words : WordList) (i : ℕ) (word : List ℕ) → slice_get words i ≡ Some word
-    → drop i words ≡ word ∷ drop (i + 1) words
-drop_next words i word here =
-    at_drop_more (λ (rest : WordList). rest) words i word (slice_get_within words i word here)
-    ∙ ap (λ (w : List ℕ). w ∷ drop (i + 1) words) (get_or_from_slice_get words i word word here)
-
--- one more word is copied
-pub copied_more : (words : WordList) (i : ℕ) (word : Bor (List ℕ)) (copied more : List (Bor (List ℕ)))
-    → slice_get words i ≡ Some word.now → more ≡ copied ++ word ∷ []
-    → map (λ word. word.now) more ++ drop (i + 1) words ≡ map (λ word. word.now) copied ++ drop i words
-copied_more words i word copied more here one =
-    ap (λ (ws : List (Bor (List ℕ))). map (λ word. word.now) ws ++ drop (i + 1) words) one
-    ∙ ap (λ (ws : WordList). ws ++ drop (i + 1) words)
-    (map-append (λ (w : Bor (List ℕ)). w.now) copied (word ∷ []))
-    ∙ append_assoc (map (λ word. word.now) copied) (word.now ∷ []) (drop (i + 1) words)
-    ∙ ap (λ (ws : WordList). map (λ word. word.now) copied ++ ws) (sym (drop_next words i word.now here))

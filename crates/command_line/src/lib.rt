@@ -8,4 +8,4 @@ pub mod taken;
 
 pub use form::{Form, OptionName};
 pub use plain::is_plain;
-pub use taken::{GivenTexts, take_apart, words_after};
+pub use taken::{GivenTexts, take_apart};

@@ -1,6 +1,6 @@
 //! The words after a command word, taken apart by `clap`.
 
-ghost use Rattle.std.specs.Prelude.{◌≡◌, IfOk, drop, map, true};
+ghost use Rattle.std.specs.Prelude.{◌≡◌, IfOk, map, true};
 ghost use Rattle.clap.specs.Words.{found_of, matches_of, rows_of};
 ghost use Rattle.command_line.specs.Apps.{app};
 ghost use Rattle.command_line.specs.Parts.{fits, parts_of};
@@ -10,7 +10,7 @@ use crate::form::Form;
 use crate::options::{command, first_id};
 use clap::ArgMatches;
 use clap::error::ErrorKind;
-use rail_base::{NoMemory, Words};
+use rail_base::NoMemory;
 use std::alloc::Global;
 
 /// The texts of a command line: positional words, and the values of options.
@@ -59,19 +59,4 @@ fn matches<'a>(alloc: Global, form: Form, words: &'a [&'a str]) -> Result<ArgMat
             _ => unreachable!(),
         },
     }
-}
-
-/// The words from a place on, counted from 0. The error is want of memory.
-pub fn words_after<'a>(
-    alloc: Global,
-    words: &'a Words,
-    place: u32,
-) -> Result<Vec<&'a str>, NoMemory>
-    ensures { IfOk result (λ rest. map (λ word. word.now) rest.items ≡ drop place words.now) }
-{
-    let mut rest = Vec::new(alloc);
-    for next in place..words.len() {
-        rest.push(words.at(next))?;
-    }
-    Ok(rest)
 }

@@ -1,13 +1,15 @@
 -- A command is understood exactly where the words are its plain form.
-use Rattle.std.proofs.Common.{◌≡◌, ◌≤◌, ℕ, Bool, true, false, ◌&&◌, ◌==◌, ◌%◌, List, [], ◌∷◌, Option, Some, None}
+use Rattle.std.proofs.Common.{◌≡◌, ◌≤◌, ℕ, true, ◌&&◌, ◌==◌, ◌%◌, List, [], ◌∷◌, Option, Some, None}
 use Rattle.std.proofs.Common.{length, refl, sym, ap, subst, ◌∙◌, inl, inr, codes, arith}
-use Rattle.std.specs.Prelude.{nat_le, if◌then◌else◌, option_map, option_and_then, slice_get}
+use Rattle.std.specs.Prelude.{nat_le, option_map, option_and_then, slice_get}
 use Rattle.std.specs.Str.{bytes_eq}
 use Rattle.std.proofs.lemmas.Bool.{and_parts}
 use Rattle.std.proofs.lemmas.Bool.Decides.{nat_tests}
 use Rattle.std.proofs.lemmas.Slice.Eq.{bytes_eq-Decides}
 use Rattle.rail_base.specs.declared.limits.TheConstants.{MOST_BRANCHINGS, MOST_ROUNDS, MOST_TRIPS}
-use Rattle.rail_csv.specs.Fields.{are_digits, number_of}
+use Rattle.plain_words.specs.Numbers.{IsNumber, IsOption, number_up_to}
+use Rattle.plain_words.proofs.Spelled.{if_some, le_of, le_true, number_back, number_forth, option_back, option_few}
+use Rattle.plain_words.proofs.Spelled.{option_forth}
 use Rattle.command_line.specs.declared.form.OptionName.TheVariants.{Nodes, Rounds}
 use Rattle.command_line.specs.declared.form.Form.{Form}
 use Rattle.command_line.specs.declared.form.Form.TheVariants.{Folder, FolderSearch, DaySearch}
@@ -17,71 +19,11 @@ use Rattle.command_line.specs.Texts.{said, texts_of}
 use Rattle.command_line.proofs.PlainForms.{Made, cases, clean, made, parts_are}
 use Rattle.commands.specs.declared.command.Command.{Command}
 use Rattle.commands.specs.declared.command.Command.TheVariants.{Plan, Simulate, Check, Duties, Yards, Costs, Trial}
-use Rattle.commands.specs.declared.command.TheConstants.{MOST_SEED, MOST_WORD_DIGITS, USUAL_NODES, USUAL_ROUNDS}
+use Rattle.commands.specs.declared.command.TheConstants.{MOST_SEED, USUAL_NODES, USUAL_ROUNDS}
 use Rattle.commands.specs.Commands.{command_of, day_of, even_trips, form_of, in_folder, named, named_plain}
-use Rattle.commands.specs.Commands.{nodes_of, number_up_to, numbers_of, option_number, plan_of, rounds_of}
+use Rattle.commands.specs.Commands.{nodes_of, numbers_of, plan_of, rounds_of}
 use Rattle.commands.specs.Commands.{trial_of, trips_of}
-use Rattle.commands.specs.PlainForm.{IsInFolder, IsNumber, IsOption, IsPlainForm, IsTrial, Means, command_word}
-
--- ---- numbers
-
-le_true : (a b : ℕ) → a ≤ b → nat_le a b ≡ true
-le_true a b h = grind (arith, nat_tests)
-
-le_of : (a b : ℕ) → nat_le a b ≡ true → a ≤ b
-le_of a b h = grind (arith, nat_tests)
-
-if_some : {X : Type 0} (b : Bool) (x y : X) → ◌≡◌ {A = Option X} (if b then Some x else None) (Some y)
-    → (b ≡ true) × (x ≡ y)
-if_some true x y e = (refl, cc)
-if_some false x y e = absurd cc
-
-number_forth : (most : ℕ) (text : List ℕ) (number : ℕ) → IsNumber most text number
-    → number_up_to most text ≡ Some number
-number_forth most text number is =
-    let least : nat_le 1 (length text) ≡ true = le_true 1 (length text) is.not_empty in
-    let longest : nat_le (length text) MOST_WORD_DIGITS ≡ true = le_true (length text) MOST_WORD_DIGITS is.not_long in
-    let fits : nat_le (number_of text) most ≡ true =
-    le_true (number_of text) most (omega (arith, is.spelled, is.limit)) in
-    rw (least, longest, is.digits, fits) (ap (λ (n : ℕ). Some n) is.spelled)
-
-number_back : (most : ℕ) (text : List ℕ) (number : ℕ) → number_up_to most text ≡ Some number
-    → IsNumber most text number
-number_back most text number e =
-    let found =
-    if_some (nat_le 1 (length text) &&
-    (nat_le (length text) MOST_WORD_DIGITS && (are_digits text && nat_le (number_of text) most))) (number_of text) number e in
-    let first =
-    and_parts (nat_le 1 (length text))
-    (nat_le (length text) MOST_WORD_DIGITS && (are_digits text && nat_le (number_of text) most)) found.0 in
-    let second = and_parts (nat_le (length text) MOST_WORD_DIGITS) (are_digits text && nat_le (number_of text) most) first.1 in
-    let third = and_parts (are_digits text) (nat_le (number_of text) most) second.1 in
-    let fits : number_of text ≤ most = le_of (number_of text) most third.1 in
-    record {
-      not_empty = le_of 1 (length text) first.0;
-      not_long = le_of (length text) MOST_WORD_DIGITS second.0;
-      digits = third.0;
-      spelled = found.1;
-      limit = omega (arith, fits, found.1);
-    }
-
-option_forth : (usual most : ℕ) (values : WordList) (number : ℕ) → IsOption usual most values number
-    → option_number usual most (slice_get values 0) ≡ Some number
-option_forth usual most [] number is = ap (λ (n : ℕ). Some n) (sym is)
-option_forth usual most (text ∷ []) number is = number_forth most text number is
-option_forth usual most (text ∷ again ∷ texts) number is = absurd is
-
-option_back : (usual most : ℕ) (values : WordList) (number : ℕ) → length values ≤ 1
-    → option_number usual most (slice_get values 0) ≡ Some number → IsOption usual most values number
-option_back usual most [] number few e = cc
-option_back usual most (text ∷ []) number few e = number_back most text number e
-option_back usual most (text ∷ again ∷ texts) number few e = absurd (omega (arith, few))
-
-option_few : (usual most : ℕ) (values : WordList) (number : ℕ) → IsOption usual most values number
-    → length values ≤ 1
-option_few usual most [] number is = omega arith
-option_few usual most (text ∷ []) number is = omega arith
-option_few usual most (text ∷ again ∷ texts) number is = absurd is
+use Rattle.commands.specs.PlainForm.{IsInFolder, IsPlainForm, IsTrial, Means, command_word}
 
 -- ---- as many as the form wants
 

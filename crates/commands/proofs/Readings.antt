@@ -4,10 +4,11 @@ use Rattle.std.specs.Option.{ok_or}
 use Rattle.rail_base.specs.Answers.{Gives}
 use Rattle.command_line.specs.Items.{WordList}
 use Rattle.commands.specs.declared.command.Command.{Command}
-use Rattle.commands.specs.declared.command_words.WordsRefusal.{WordsRefusal}
-use Rattle.commands.specs.declared.command_words.WordsRefusal.TheVariants.{NotUnderstood, NoMemory}
-use Rattle.commands.specs.Commands.{command_of, is_memory}
-use Rattle.commands.specs.PlainForm.{Reads}
+use Rattle.plain_words.specs.declared.refusal.WordsRefusal.{WordsRefusal}
+use Rattle.plain_words.specs.declared.refusal.WordsRefusal.TheVariants.{NotUnderstood, NoMemory}
+use Rattle.plain_words.specs.Commands.{Reads, is_memory}
+use Rattle.commands.specs.Commands.{command_of}
+use Rattle.commands.specs.PlainForm.{IsPlainForm}
 use Rattle.commands.proofs.Meanings.{plain, understood}
 
 one_of : (o : Option Command) (command : Command)
@@ -22,7 +23,7 @@ none_of None e = refl
 
 -- the command that the words make is the one of which they are the plain form
 pub reads : (words : WordList) (result : Result Command WordsRefusal)
-    → Gives is_memory result (ok_or (command_of words) NotUnderstood) → Reads words result
+    → Gives is_memory result (ok_or (command_of words) NotUnderstood) → Reads IsPlainForm words result
 reads words (Ok command) gives =
     let is : command_of words ≡ Some command = one_of (command_of words) command gives in
     record {

@@ -1,31 +1,19 @@
 -- The command that the words of a command line make.
-use Rattle.std.specs.Prelude.{ℕ, List, drop, length, slice_get}
-use Rattle.std.specs.Prelude.{Bool, true, false, ◌&&◌, ◌==◌, ◌%◌, nat_le, if◌then◌else◌}
+use Rattle.std.specs.Prelude.{ℕ, List, drop, slice_get}
+use Rattle.std.specs.Prelude.{◌&&◌, ◌==◌, ◌%◌, nat_le, if◌then◌else◌}
 use Rattle.std.specs.Prelude.{Option, Some, None, option_map, option_and_then, codes}
 use Rattle.std.specs.Str.{bytes_eq}
 use Rattle.rail_base.specs.declared.limits.TheConstants.{MOST_BRANCHINGS, MOST_ROUNDS, MOST_TRIPS}
-use Rattle.rail_csv.specs.Fields.{are_digits, number_of}
+use Rattle.plain_words.specs.Numbers.{number_up_to, option_number}
 use Rattle.command_line.specs.declared.form.Form.{Form}
 use Rattle.command_line.specs.declared.form.Form.TheVariants.{Folder, FolderSearch, DaySearch}
 use Rattle.command_line.specs.Parts.{Parts, fits, parts_of}
 use Rattle.command_line.specs.Texts.{Texts, texts_of}
 use Rattle.commands.specs.declared.command.Command.{Command}
 use Rattle.commands.specs.declared.command.Command.TheVariants.{Plan, Simulate, Check, Duties, Yards, Costs, Trial}
-use Rattle.commands.specs.declared.command.TheConstants.{MOST_SEED, MOST_WORD_DIGITS, USUAL_NODES, USUAL_ROUNDS}
-use Rattle.commands.specs.declared.command_words.WordsRefusal.{WordsRefusal}
-use Rattle.commands.specs.declared.command_words.WordsRefusal.TheVariants.{NotUnderstood, NoMemory}
+use Rattle.commands.specs.declared.command.TheConstants.{MOST_SEED, USUAL_NODES, USUAL_ROUNDS}
 
 -- ---- what the texts say
-
--- a number: at least one digit, no more than a number may have, and at most so much
-abbrev pub number_up_to : ℕ → List ℕ → Option ℕ
-number_up_to most text = if nat_le 1 (length text) && (nat_le (length text) MOST_WORD_DIGITS && (are_digits text
-    && nat_le (number_of text) most)) then Some (number_of text) else None
-
--- the number of an option, which has its usual number where it is not given
-abbrev pub option_number : ℕ → ℕ → Option (List ℕ) → Option ℕ
-option_number usual most None = Some usual
-option_number usual most (Some text) = number_up_to most text
 
 abbrev pub nodes_of : Texts → Option ℕ
 nodes_of texts = option_number USUAL_NODES MOST_BRANCHINGS texts.nodes
@@ -84,9 +72,3 @@ named_plain word parts = if fits (form_of word) parts then named word (texts_of 
 -- it. Nothing where the words are not of this form.
 abbrev pub command_of : List (List ℕ) → Option Command
 command_of words = option_and_then (λ word. named_plain word (parts_of (drop 2 words))) (slice_get words 1)
-
--- ---- the answer
-
-abbrev pub is_memory : WordsRefusal → Bool
-is_memory NoMemory = true
-is_memory NotUnderstood = false

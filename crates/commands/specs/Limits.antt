@@ -1,7 +1,8 @@
 -- The numbers that words are held to, each as it is. Clauses call them by their names.
 use Rattle.std.specs.Prelude.{◌≡◌}
 use Rattle.rail_base.specs.declared.limits.TheConstants.{MOST_BRANCHINGS, MOST_ROUNDS, MOST_TRIPS, MOST_WORDS}
-use Rattle.commands.specs.declared.command.TheConstants.{MOST_SEED, MOST_WORD_DIGITS, USUAL_NODES, USUAL_ROUNDS}
+use Rattle.plain_words.specs.declared.numbers.TheConstants.{MOST_WORD_DIGITS}
+use Rattle.commands.specs.declared.command.TheConstants.{MOST_SEED, USUAL_NODES, USUAL_ROUNDS}
 
 -- words, the numbers in them, options that are not given, and the most trips of a trial
 pub record AreWordLimits : Type 0 where

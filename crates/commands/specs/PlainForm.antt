@@ -1,30 +1,14 @@
 -- The plain form: how a command is written as words.
-use Rattle.std.specs.Prelude.{ℕ, ◌≡◌, ◌⊎◌, ◌≤◌, ◌%◌, List, [], ◌∷◌, length, true, codes, Result, Ok, Err}
+use Rattle.std.specs.Prelude.{ℕ, ◌≡◌, ◌≤◌, ◌%◌, List, [], ◌∷◌, codes}
 use Rattle.rail_base.specs.declared.limits.TheConstants.{MOST_BRANCHINGS, MOST_ROUNDS, MOST_TRIPS}
-use Rattle.rail_csv.specs.Fields.{are_digits, number_of}
+use Rattle.plain_words.specs.Numbers.{IsNumber, IsOption}
 use Rattle.command_line.specs.declared.form.OptionName.TheVariants.{Nodes, Rounds}
 use Rattle.command_line.specs.Items.{HaveTheirForm, Item, WordList, positional_in, values_in, words_of}
 use Rattle.commands.specs.declared.command.Command.{Command}
 use Rattle.commands.specs.declared.command.Command.TheVariants.{Plan, Simulate, Check, Duties, Yards, Costs, Trial}
-use Rattle.commands.specs.declared.command.TheConstants.{MOST_SEED, MOST_WORD_DIGITS, USUAL_NODES, USUAL_ROUNDS}
-use Rattle.commands.specs.declared.command_words.WordsRefusal.{WordsRefusal}
-use Rattle.commands.specs.declared.command_words.WordsRefusal.TheVariants.{NotUnderstood, NoMemory}
+use Rattle.commands.specs.declared.command.TheConstants.{MOST_SEED, USUAL_NODES, USUAL_ROUNDS}
 
 -- ---- what it means
-
--- a number is at least one digit, no more than a number may have, and at most so much
-pub record IsNumber (most : ℕ) (text : List ℕ) (number : ℕ) : Type 0 where
-  pub not_empty : 1 ≤ length text
-  pub not_long : length text ≤ MOST_WORD_DIGITS
-  pub digits : are_digits text ≡ true
-  pub spelled : number_of text ≡ number
-  pub limit : number ≤ most
-
--- an option is given at most once, and has its usual number where it is not given
-abbrev pub IsOption : ℕ → ℕ → WordList → ℕ → Type 0
-IsOption usual most [] number = number ≡ usual
-IsOption usual most (text ∷ []) number = IsNumber most text number
-IsOption usual most (text ∷ again ∷ texts) number = ⊥
 
 -- a folder, and no options
 abbrev pub IsInFolder : List ℕ → WordList → WordList → WordList → Type 0
@@ -71,10 +55,3 @@ pub record IsPlainForm (words : WordList) (command : Command) : Type 0 where
   pub form : HaveTheirForm items
   pub written : words ≡ program ∷ command_word command ∷ words_of items
   pub meant : Means (positional_in items) (values_in Nodes items) (values_in Rounds items) command
-
--- The answer of the reading: a command exactly where the words are its plain form, and `NotUnderstood` exactly where
--- they are of no plain form. Want of memory is free.
-pub record Reads (words : WordList) (result : Result Command WordsRefusal) : Type 0 where
-  pub understood : (command : Command) → result ≡ Ok command → IsPlainForm words command
-  pub refused : result ≡ Err NotUnderstood → (command : Command) → ¬ (IsPlainForm words command)
-  pub given : (command : Command) → IsPlainForm words command → (result ≡ Ok command) ⊎ (result ≡ Err NoMemory)

@@ -1,49 +1,6 @@
 //! The commands of the program.
 
-ghost use Rattle.std.specs.Prelude.{◌≡◌, IsUtf8};
-
-use std::marker::Model;
-
-/// A text of any length. A contract sees the list of its UTF-8 bytes.
-#[derive(Drop)]
-pub struct Text {
-    text: String,
-}
-
-impl Model for Text {
-    ghost use Rattle.std.specs.Prelude.{List, ℕ, string_bytes};
-
-    ghost Value = { List ℕ };
-
-    ghost view = { λ a. string_bytes a.text };
-}
-
-impl Text {
-    /// The text of these bytes, which are UTF-8. It takes no memory.
-    pub fn of(items: Vec<u8>) -> Text
-        requires { IsUtf8 items.items }
-        ensures { result ≡ items.items }
-    {
-        match String::from_utf8(items) {
-            Ok(text) => Text { text },
-            Err(_) => unreachable!(),
-        }
-    }
-
-    /// Its bytes. They take no memory.
-    pub fn items(&self) -> &[u8]
-        ensures { result.now ≡ self.now }
-    {
-        self.text.as_bytes()
-    }
-
-    /// The text. It takes no memory.
-    pub fn as_str(&self) -> &str
-        ensures { result.now ≡ self.now }
-    {
-        self.text.as_str()
-    }
-}
+use plain_words::Text;
 
 /// What the program is asked to do.
 #[derive(Drop)]
@@ -95,8 +52,6 @@ pub enum Command {
     },
 }
 
-/// The most digits that a number on the command line may have.
-pub const MOST_WORD_DIGITS: usize = 10;
 /// The greatest number that a trial day may be made from.
 pub const MOST_SEED: u32 = 4_294_967_295;
 /// Branchings that are granted where the words say nothing of them.

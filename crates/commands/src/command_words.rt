@@ -1,44 +1,22 @@
 //! The command that the words of a command line make.
 
-ghost use Rattle.std.specs.Prelude.{◌≡◌, IfOk, map};
+ghost use Rattle.std.specs.Prelude.{◌≡◌, map};
 ghost use Rattle.std.specs.Option.{ok_or};
 ghost use Rattle.rail_base.specs.Answers.{Gives};
 ghost use Rattle.command_line.specs.Parts.{parts_of};
 ghost use Rattle.command_line.specs.Texts.{texts_in};
-ghost use Rattle.commands.specs.declared.command_words.WordsRefusal.TheVariants.{NotUnderstood};
-ghost use Rattle.commands.specs.PlainForm.{Reads};
-ghost use Rattle.commands.specs.Commands.{command_of, day_of, form_of, in_folder, is_memory, named};
+ghost use Rattle.plain_words.specs.declared.refusal.WordsRefusal.TheVariants.{NotUnderstood};
+ghost use Rattle.plain_words.specs.Commands.{Reads, is_memory};
+ghost use Rattle.commands.specs.PlainForm.{IsPlainForm};
+ghost use Rattle.commands.specs.Commands.{command_of, day_of, form_of, in_folder, named};
 ghost use Rattle.commands.specs.Commands.{named_plain, nodes_of, plan_of, rounds_of, trial_of, trips_of};
 
-use crate::command::{Command, MOST_SEED, Text, USUAL_NODES, USUAL_ROUNDS};
-use crate::numbers::{number, option_number};
-use command_line::{Form, GivenTexts, is_plain, take_apart, words_after};
+use crate::command::{Command, MOST_SEED, USUAL_NODES, USUAL_ROUNDS};
+use command_line::{Form, GivenTexts, is_plain, take_apart};
+use plain_words::{Text, WordsRefusal, number, option_number, words_after};
+use rail_base::Words;
 use rail_base::limits::{MOST_BRANCHINGS, MOST_ROUNDS, MOST_TRIPS};
-use rail_base::{NoMemory, Words};
 use std::alloc::Global;
-use thiserror::Error;
-
-/// Why words make no command.
-#[derive(Clone, Copy, Debug, Error)]
-pub enum WordsRefusal {
-    /// The words are not of the form that the program understands.
-    #[error("not understood")]
-    NotUnderstood,
-    /// Want of memory.
-    #[error("out of memory")]
-    NoMemory,
-}
-
-impl From<NoMemory> for WordsRefusal {
-    ghost use Rattle.std.specs.Prelude.{◌≡◌};
-    ghost use Rattle.commands.specs.declared.command_words.WordsRefusal.TheVariants as refusals;
-
-    ghost from_gives = { λ _ e. e ≡ refusals.NoMemory };
-
-    fn from(_error: NoMemory) -> WordsRefusal {
-        WordsRefusal::NoMemory
-    }
-}
 
 /// Reads the words of a command line, of which the first stands for the program's name and is not looked at.
 ///
@@ -57,7 +35,7 @@ impl From<NoMemory> for WordsRefusal {
 /// `NotUnderstood` comes exactly where the words are not of this form; `NoMemory` is want of memory.
 pub fn read_words(alloc: Global, words: &Words) -> Result<Command, WordsRefusal>
     ensures value { Gives is_memory result (ok_or (command_of words.now) NotUnderstood) }
-    ensures meaning { Reads words.now result }
+    ensures meaning { Reads IsPlainForm words.now result }
 {
     command(alloc, words)
 }
@@ -121,7 +99,7 @@ fn named(alloc: Global, word: &str, taken: GivenTexts<'_>) -> Result<Command, Wo
 fn in_folder(alloc: Global, word: &str, dir: &str) -> Result<Command, WordsRefusal>
     ensures { Gives is_memory result (ok_or (in_folder word.now dir.now) NotUnderstood) }
 {
-    let dir = text(alloc, dir)?;
+    let dir = Text::copy(alloc, dir)?;
     match word {
         "simulate" => Ok(Command::Simulate { dir }),
         "check" => Ok(Command::Check { dir }),
@@ -145,7 +123,7 @@ fn plan(alloc: Global, taken: GivenTexts<'_>) -> Result<Command, WordsRefusal>
     let Some(rounds) = rounds_of(taken) else {
         return Err(WordsRefusal::NotUnderstood);
     };
-    let dir = text(alloc, dir)?;
+    let dir = Text::copy(alloc, dir)?;
     Ok(Command::Plan { dir, nodes, rounds })
 }
 
@@ -220,11 +198,4 @@ fn trips_of(word: &str) -> Option<u32>
         return None;
     }
     Some(trips)
-}
-
-/// A copy of a word as a text.
-fn text(alloc: Global, word: &str) -> Result<Text, NoMemory>
-    ensures { IfOk result (λ text. text ≡ word.now) }
-{
-    Ok(Text::of(String::from_str(alloc, word)?.into_bytes()))
 }

@@ -4,7 +4,6 @@
 pub mod command;
 pub mod command_words;
 pub mod laws;
-mod numbers;
 
-pub use command::{Command, Text};
-pub use command_words::{WordsRefusal, read_words};
+pub use command::Command;
+pub use command_words::read_words;

@@ -13,7 +13,8 @@ use Rattle.command_line.specs.Items.{WordList, values_in}
 use Rattle.commands.specs.declared.command.Command.{Command}
 use Rattle.commands.specs.declared.command.Command.TheVariants as command
 use Rattle.commands.specs.declared.command.TheConstants.{USUAL_NODES, USUAL_ROUNDS}
-use Rattle.commands.specs.PlainForm.{IsOption, IsPlainForm, IsSearch}
+use Rattle.plain_words.specs.Numbers.{IsOption}
+use Rattle.commands.specs.PlainForm.{IsPlainForm, IsSearch}
 use Rattle.commands.proofs.Meanings.{plain}
 use Rattle.planner_app.specs.Advice.{AreAskedFor}
 use Rattle.planner_app.specs.Outcomes.{AskAbout, AskToPlan, AskToTry, Grants, folder_of}

@@ -5,8 +5,9 @@ use Rattle.command_line.specs.declared.form.Form.{Form}
 use Rattle.command_line.specs.Parts.{Parts, fits, parts_of}
 use Rattle.command_line.specs.Texts.{texts_of}
 use Rattle.commands.specs.declared.command.Command.{Command}
-use Rattle.commands.specs.declared.command_words.WordsRefusal.TheVariants.{NotUnderstood}
-use Rattle.commands.specs.Commands.{form_of, is_memory, named, named_plain}
+use Rattle.plain_words.specs.declared.refusal.WordsRefusal.TheVariants.{NotUnderstood}
+use Rattle.plain_words.specs.Commands.{is_memory}
+use Rattle.commands.specs.Commands.{form_of, named, named_plain}
 use Rattle.commands.proofs.command_words.plain_command.Goals as goal
 
 -- what words say that are tested for a form

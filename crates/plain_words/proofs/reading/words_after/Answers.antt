@@ -1,6 +1,6 @@
 use Rattle.std.proofs.Common.{◌≡◌, ◌∙◌, ◌++◌, List, [], ◌∷◌, Bor, ℕ, rules}
-use Rattle.command_line.proofs.Counting.{copied_more}
-use Rattle.command_line.proofs.taken.words_after.Goals as goal
+use Rattle.plain_words.proofs.Copying.{copied_more}
+use Rattle.plain_words.proofs.reading.words_after.Goals as goal
 
 pub loop-next-preserved : goal.loop-next-preserved
 loop-next-preserved c =

@@ -1,0 +1,10 @@
+-- the parts of a word
+pub mod Parting
+-- the words from a place on
+pub mod Copying
+-- the items of words
+pub mod Made
+-- how often options are given
+pub mod Once
+-- numbers
+pub mod Spelled
