@@ -8,3 +8,5 @@ pub mod Made
 pub mod Once
 -- numbers
 pub mod Spelled
+-- the words that a program is started with
+pub mod Gathered

@@ -5,6 +5,7 @@
 pub mod form;
 pub mod given;
 pub mod numbers;
+pub mod program;
 pub mod reading;
 pub mod refusal;
 pub mod text;
@@ -12,6 +13,7 @@ pub mod text;
 pub use form::Form;
 pub use given::GivenWords;
 pub use numbers::{MOST_WORD_DIGITS, number, option_number};
+pub use program::program_words;
 pub use reading::{read_form, words_after};
 pub use refusal::WordsRefusal;
 pub use text::Text;
