@@ -91,6 +91,17 @@ impl ChainRows {
         }
     }
 
+    /// The value of the cell of a row and a composition, if there is one.
+    pub(crate) fn value(&self, place: usize, comp: CompNo) -> Option<i64> {
+        if place >= self.rows.len() || comp.place() >= self.rows[place].len() {
+            return None;
+        }
+        match self.rows[place].get(comp) {
+            Some(cell) => Some(cell.value),
+            None => None,
+        }
+    }
+
     /// The composition to which the cell of a row and a composition leads; 0 where there is no cell.
     fn next(&self, place: usize, comp: CompNo) -> CompNo
         requires { place < length self.now }

@@ -1,18 +1,20 @@
 //! A day as a relaxation.
 
-ghost use Rattle.std.specs.Prelude.{◌≡◌, IfOk};
-ghost use Rattle.branch_tree.specs.Meanings.{IsRelaxation};
+ghost use Rattle.std.specs.Prelude.{◌≡◌, IfOk, length};
+ghost use Rattle.branch_tree.specs.Meanings.{DoFitFor, IsRelaxation};
 ghost use Rattle.transitions.specs.Edges.{AreGraphs};
 ghost use Rattle.price_bound.specs.ChangedDays.{AreChanges, changed_day, changed_meanings, unchanged};
 
 use crate::changes::Change;
 use crate::following::follow;
+use crate::guide::{Asked, put_prices};
 use crate::settling::settle;
 use crate::slacks::put_slacks;
 use crate::workspaces::Workspace;
 use branch_tree::{BoundAnswer, Multipliers, Region, Relaxation, Settled, Slacks, Weight};
 use compositions::Catalogue;
 use inventory::Ledger;
+use price_guide::PriceGuide;
 use rail_base::NoMemory;
 use std::alloc::Global;
 use std::marker::Model;
@@ -80,6 +82,31 @@ impl<'a> DayBounds<'a> {
             ledger,
             room,
         })
+    }
+
+    /// Puts into a guide what compositions and edges are priced under multipliers that fit, in a region that has a set
+    /// for each trip, and what the best ways on from compositions are priced. Where the region has no way there is no
+    /// price. It takes no memory.
+    pub fn put_prices(
+        &mut self,
+        region: &Region,
+        multipliers: &Multipliers,
+        weight: Weight,
+        guide: &mut PriceGuide,
+    )
+        requires fit { DoFitFor (changed_meanings self.old) multipliers.now }
+        requires region { length region.now ≡ (changed_meanings self.old).trips }
+        ensures same { self.new ≡ self.old }
+    {
+        let asked = Asked {
+            instance: self.instance,
+            graphs: self.graphs,
+            changes: self.changes,
+            region,
+            multipliers,
+            weight,
+        };
+        put_prices(&mut self.room, &asked, guide);
     }
 }
 

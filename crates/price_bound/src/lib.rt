@@ -10,6 +10,7 @@ mod credits;
 pub mod day_bounds;
 mod edge_prices;
 mod following;
+mod guide;
 pub mod laws;
 mod part_prices;
 mod parts;
