@@ -12,3 +12,5 @@ pub mod DutyOrder
 pub mod Taking
 pub mod Kept
 pub mod Leaving
+pub mod LaterDays
+pub mod DaysWithout

@@ -8,3 +8,4 @@ pub mod Broken
 pub mod Refusals
 pub mod DutyLaws
 pub mod TakingLaws
+pub mod LaterDays

@@ -3,6 +3,7 @@
 //! Each law is the contract of a function that does nothing.
 
 ghost use Rattle.unit_duties.specs.DutyLaws.{DutiesAreInOrder};
+ghost use Rattle.unit_duties.specs.LaterDays.{PlansNameTheirPastLater, DaysWithoutAreLater};
 ghost use Rattle.unit_duties.specs.TakingLaws.{TripsTakeInTurn};
 
 pub use inventory::naming_laws::named_plans_run;
@@ -22,4 +23,19 @@ pub fn duties_are_in_order()
 /// there is one.
 pub fn trips_take_in_turn()
     ensures law { TripsTakeInTurn }
+{}
+
+/// A later day has some of the trips of a day, in their order, among them each that leaves before a minute, and some
+/// of its links, among them each by which such a trip leaves. The trips of a plan that runs in the day are then named
+/// in the later day as the rules demand it, up to the minute, with all compositions that are the plan's on each trip
+/// of the later day that is frozen there: that leaves before the minute, or to which a link leads from a trip that
+/// arrives before it.
+pub fn plans_name_their_past_later()
+    ensures law { PlansNameTheirPastLater }
+{}
+
+/// The day without some trips is such a later day where none of these leaves before the minute, nor by a link by which
+/// another trip leaves before it, as the other trip of a split may.
+pub fn days_without_are_later()
+    ensures law { DaysWithoutAreLater }
 {}
