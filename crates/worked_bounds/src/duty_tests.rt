@@ -1,19 +1,20 @@
 //! Worked days: plans of named units for compositions that are picked, and the duties of the units of a plan.
 
-ghost use Rattle.timetable.specs.Picks.{ArePicks};
+ghost use Rattle.inventory.specs.NamingLaws.{RunsWith};
+ghost use Rattle.timetable.specs.Picks.{ArePicks, picked};
 ghost use Rattle.timetable.specs.Running.{IsPlan};
 ghost use Rattle.unit_duties.specs.Broken.{AreAdmissible};
 
 use crate::exchange_days::{EARLY_EXCHANGE, EXCHANGE};
 use crate::ledger_tests::{fault_of, running_picks};
-use rail_base::{TripNo, UnitNo};
+use rail_base::{Minute, TripNo, UnitNo};
 use sample_days::{ONE_LEFT, TURN, Texts, day_of, plan_of};
 use std::alloc::{AllocError, Global};
 use std::process::Abort;
 use std::test::Fail;
 use timetable::{Instance, NamedPlan, Picks};
 use transitions::Graphs;
-use unit_duties::{Stop, duties, name_units};
+use unit_duties::{Stop, duties, name_units, name_units_from};
 
 /// Writes the trips of a unit, and its place in each.
 fn write_stops(text: &mut String, unit: u32, stops: &[Stop]) -> Result<(), AllocError> {
@@ -169,6 +170,50 @@ fn units_are_named(rt: HostRuntime) -> Result<(), Fail> {
     for (texts, first, second, wanted) in NAMED {
         let text = named(&rt, rt.alloc(), texts, *first, *second)?;
         assert!(rt; text.as_str() == *wanted, "{text}");
+    }
+    Ok(())
+}
+
+/// Writes the plan in which the trips that leave before a minute keep the units of a plan, and the others are named from
+/// the minute on.
+fn write_named_from(
+    text: &mut String,
+    alloc: Global,
+    day: &Instance,
+    picks: &Picks,
+    minute: Minute,
+    plan: &NamedPlan,
+) -> Result<(), Fail>
+    requires picks { ArePicks day.now picks.now }
+    requires runs { RunsWith day.now (picked day.now picks.now) plan.now }
+{
+    day.is_sound();
+    let plan = name_units_from(alloc, day, picks, minute, plan)?;
+    write_lists(text, &plan)?;
+    Ok(())
+}
+
+/// The plan that is named for picks, and then again from a minute on.
+fn named_from(alloc: Global, day: &Instance, picks: &Picks, minute: Minute) -> Result<String, Fail>
+    requires picks { ArePicks day.now picks.now }
+    requires admissible { AreAdmissible day.now picks.now }
+{
+    let graphs = Graphs::build(alloc, day)?;
+    let mut text = String::new(alloc);
+    if let Ok(plan) = name_units(alloc, day, &graphs, picks) {
+        write_named_from(&mut text, alloc, day, picks, minute, &plan)?;
+    }
+    Ok(text)
+}
+
+// From any minute on the rule goes on as it began, also while a unit is on its way or not ready yet.
+#[test]
+fn units_are_named_from_a_minute_on(rt: HostRuntime) -> Result<(), Fail> {
+    let day = day_of(rt.alloc(), &EXCHANGE)?;
+    let picks = running_picks(&rt, rt.alloc(), &day, 2, 3)?;
+    for minute in [0, 480, 481, 541, 570, 571] {
+        let text = named_from(rt.alloc(), &day, &picks, Minute(minute))?;
+        assert!(rt; text.as_str() == "0: 0 1\n1: 1 0\n", "{text}");
     }
     Ok(())
 }

@@ -1,11 +1,13 @@
 //! Days, plans and multipliers: days of two stations, and days of four trips with links; what turns keep; and what is
 //! refused.
 
+ghost use Rattle.timetable.specs.Running.{IsPlan};
+
 use crate::telling::told;
 use rail_base::limits::MOST_COMPOSITION;
 use rail_base::{LinkNo, Name, NoMemory, StationNo, TripNo, TypeNo, UnitNo};
 use rail_csv::{PlanRow, UnitList, plan};
-use sample_days::{RING, TURN, TWO_TYPES, Texts, day_of, table};
+use sample_days::{ONE_LEFT, RING, TURN, TWO_TYPES, Texts, day_of, plan_of, table};
 use std::alloc::{AllocError, Global};
 use std::process::Abort;
 use std::test::Fail;
@@ -366,4 +368,40 @@ fn are_kept(rt: &impl Abort, alloc: Global, texts: &Texts<'_>, rows: &[Kept]) ->
 fn turns_keep_the_longest_list(rt: HostRuntime) -> Result<(), Fail> {
     are_kept(&rt, rt.alloc(), &EXCHANGE, KEPT_IN_FRONT)?;
     are_kept(&rt, rt.alloc(), &ROUND_THE_TRAIN, KEPT_BETWEEN)
+}
+
+/// From which trip to which, and the units that stay in the train: of two units the turn of a train that goes round keeps
+/// the one that was in the rear.
+const STAYING: &[(u32, u32, &str)] = &[(0, 1, "1 "), (1, 0, ""), (0, 0, ""), (0, 7, "")];
+
+/// The units that stay in the train from one trip to another, by the first link of a day.
+fn staying_told(
+    alloc: Global,
+    day: &Instance,
+    plan: &NamedPlan,
+    from: u32,
+    to: u32,
+) -> Result<String, AllocError>
+    requires { IsPlan day.now plan.now }
+{
+    let mut text = String::new(alloc);
+    if day.links() > 0 {
+        let link = day.link(LinkNo(0));
+        let kept = link.kept::<UnitNo>(day, plan, TripNo(from), TripNo(to));
+        for unit in kept.as_slice() {
+            write!(&mut text, "{} ", unit.0)?;
+        }
+    }
+    Ok(text)
+}
+
+#[test]
+fn units_stay_in_trains(rt: HostRuntime) -> Result<(), Fail> {
+    let day = day_of(rt.alloc(), &ONE_LEFT)?;
+    let plan = plan_of(rt.alloc(), &day, b"trip,units\nT1,0 1\nT2,1\n")?;
+    for (from, to, wanted) in STAYING {
+        let text = staying_told(rt.alloc(), &day, &plan, *from, *to)?;
+        assert!(rt; text.as_str() == *wanted, "{text}");
+    }
+    Ok(())
 }
