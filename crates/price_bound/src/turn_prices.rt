@@ -2,7 +2,6 @@
 
 ghost use Rattle.std.specs.Prelude.{ℕ, ◌≡◌, ◌<◌, ◌≤◌, ◌+◌, ◌*◌, ◌+ℤ◌, ◌-ℤ◌, [], length, take, drop, pos, All, Some};
 ghost use Rattle.std.specs.Prelude.{slice_get};
-ghost use Rattle.timetable.specs.declared.day.records.LinkKind.TheVariants.{Turn};
 ghost use Rattle.timetable.specs.Compositions.{compositions_of, composition_at};
 ghost use Rattle.branch_tree.specs.Meanings.{weighted};
 ghost use Rattle.price_bound.specs.TripAndLinkPrices.{IsForTurn, IsTurnOf, coupled_price_of};
