@@ -2,6 +2,7 @@ pub mod KnownUnits
 pub mod Admitting
 pub mod Unchanged
 pub mod Saying
+pub mod Renumbered
 pub mod RegionTruths
 pub mod Truth
 pub mod OnePicks

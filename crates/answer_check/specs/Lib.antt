@@ -8,5 +8,5 @@ pub mod RegionTruths
 pub mod Validity
 -- the verdict on it
 pub mod Verdicts
--- what holds of verdicts
+-- what holds of verdicts, and of what answers say
 pub mod Laws

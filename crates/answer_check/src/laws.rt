@@ -2,7 +2,7 @@
 //!
 //! A law is the contract of a function that does nothing.
 
-ghost use Rattle.answer_check.specs.Laws.{AnswerVerdictsAreOne, ValidAnswersAreFound};
+ghost use Rattle.answer_check.specs.Laws.{AnswerVerdictsAreOne, RenumberedIsTrue, ValidAnswersAreFound};
 ghost use Rattle.answer_check.specs.RegionTruths.{ConcludedIsTrueIn, TrueInRootsIsTrueOfDays};
 
 /// Of a valid answer `check_answer` finds that it is valid, or memory is wanting: no other verdict on it is right.
@@ -22,4 +22,10 @@ pub fn answer_verdicts_are_one()
 pub fn conclusions_hold_in_a_region()
     ensures law { ConcludedIsTrueIn }
     ensures of_day { TrueInRootsIsTrueOfDays }
+{}
+
+/// What an answer says of the plans of some units is true of the plans of others that have the same types and stand at
+/// the same stations, where its runs have their numbers.
+pub fn truths_are_renumbered()
+    ensures law { RenumberedIsTrue }
 {}
