@@ -255,7 +255,7 @@ module _ (day : Day) (picks : List ℕ) where
         (int_below (λ t. if is_second t handover c then v else pos 0) trips)
         (one_times (is_part day picks handover c) v) (times_neg v (one_if (pick_of picks handover.second == c))) (one_times (pick_of picks handover.second == c) v)
         (part_total handover c v (slice_get_within day.links handover.link of_link.link of_link.at))
-        (second_total handover c v (second_within trips of_link.link.kind handover.second (names_below day links handover.link of_link.link of_link.at) of_link.second))
+        (second_total handover c v (second_below trips of_link.link.kind handover.second (names_below day links handover.link of_link.link of_link.at) of_link.second))
       where
         both : (a b x p q r s : ℤ) → a ≡ p → b ≡ neg_ℤ x → x ≡ q → r ≡ p → s ≡ q → a +ℤ b ≡ r +ℤ neg_ℤ s
         both a b x p q r s e f g i j = omega (arith, ints, e, f, g, i, j)
