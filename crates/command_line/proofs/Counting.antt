@@ -7,7 +7,7 @@ use Rattle.command_line.specs.declared.form.OptionName.{OptionName}
 use Rattle.command_line.specs.declared.form.OptionName.TheVariants.{Nodes, Rounds}
 use Rattle.command_line.specs.declared.form.Kind.{Kind}
 use Rattle.command_line.specs.declared.form.Kind.TheVariants.{Plain, Name, Whole, Other}
-use Rattle.command_line.specs.Items.{WordList}
+use Rattle.plain_words.specs.Items.{WordList}
 use Rattle.command_line.specs.Parts.{Counts, Parts, counted, counts_of, kind_of, no_parts, parts_of, stepped}
 use Rattle.command_line.specs.Parts.{value_of, with_option, with_value, with_word}
 

@@ -1,3 +1,4 @@
+pub mod OptionItems
 pub mod Counting
 pub mod PlainForms
 pub mod Rows
@@ -5,3 +6,4 @@ pub mod Stepping
 pub mod Passing
 pub mod Walking
 pub mod Taking
+pub mod AsItems

@@ -15,7 +15,7 @@ use Rattle.command_line.specs.declared.form.OptionName.TheVariants.{Nodes, Round
 use Rattle.command_line.specs.declared.form.Form.{Form}
 use Rattle.command_line.specs.declared.form.Form.TheVariants.{Folder, FolderSearch, DaySearch}
 use Rattle.command_line.specs.Apps.{app, nodes_rule, rules}
-use Rattle.command_line.specs.Items.{option_name}
+use Rattle.command_line.proofs.OptionItems.{option_name}
 use Rattle.command_line.proofs.Rows.{put}
 use Rattle.command_line.proofs.Stepping.{Place, First, Second, Third, position, has_place, place_id}
 use Rattle.command_line.proofs.Stepping.{has_options, id_of}

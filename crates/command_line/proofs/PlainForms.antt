@@ -10,9 +10,10 @@ use Rattle.command_line.specs.declared.form.OptionName.{OptionName}
 use Rattle.command_line.specs.declared.form.OptionName.TheVariants.{Nodes, Rounds}
 use Rattle.command_line.specs.declared.form.Kind.{Kind}
 use Rattle.command_line.specs.declared.form.Kind.TheVariants.{Plain, Name, Whole, Other}
-use Rattle.command_line.specs.Items.{WordList, Item, Positional, TwoWords, OneWord, HaveTheirForm, option_name}
-use Rattle.command_line.specs.Items.{positional_in, values_in, words_of}
-use Rattle.command_line.specs.Parts.{Parts, begins_with, is_positional, is_whole, kind_of, stepped, with_value}
+use Rattle.plain_words.specs.Items.{WordList, is_positional}
+use Rattle.command_line.proofs.OptionItems.{Item, Positional, TwoWords, OneWord, HaveTheirForm, option_name}
+use Rattle.command_line.proofs.OptionItems.{positional_in, values_in, words_of}
+use Rattle.command_line.specs.Parts.{Parts, begins_with, is_whole, kind_of, stepped, with_value}
 use Rattle.command_line.specs.Parts.{with_word}
 
 pub cases : (b : Bool) → (b ≡ true) ⊎ (b ≡ false)

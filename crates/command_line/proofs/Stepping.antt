@@ -14,7 +14,7 @@ use Rattle.command_line.specs.declared.form.OptionName.TheVariants.{Nodes, Round
 use Rattle.command_line.specs.declared.form.Form.{Form}
 use Rattle.command_line.specs.declared.form.Form.TheVariants.{Folder, FolderSearch, DaySearch}
 use Rattle.command_line.specs.Apps.{first_id, nodes_rule, rounds_rule, rules}
-use Rattle.command_line.specs.Items.{option_name}
+use Rattle.command_line.proofs.OptionItems.{option_name}
 
 -- ---- where the walk stands
 

@@ -19,10 +19,11 @@ use Rattle.command_line.specs.declared.form.OptionName.TheVariants.{Nodes, Round
 use Rattle.command_line.specs.declared.form.Form.{Form}
 use Rattle.command_line.specs.declared.form.Form.TheVariants.{Folder, FolderSearch, DaySearch}
 use Rattle.command_line.specs.Apps.{app, first_id, rules}
-use Rattle.command_line.specs.Items.{WordList, Item, Positional, TwoWords, OneWord, HaveTheirForm}
-use Rattle.command_line.specs.Items.{positional_in, value_before, values_in, words_of}
+use Rattle.plain_words.specs.Items.{WordList}
+use Rattle.command_line.proofs.OptionItems.{Item, Positional, TwoWords, OneWord, HaveTheirForm}
+use Rattle.command_line.proofs.OptionItems.{positional_in, value_before, values_in, words_of}
 use Rattle.command_line.specs.declared.taken.GivenTexts.{GivenTexts}
-use Rattle.command_line.specs.Texts.{SaysItems, Texts, said, texts_in, texts_of}
+use Rattle.command_line.specs.Texts.{said, texts_in, texts_of}
 use Rattle.command_line.specs.Parts.{Parts, fits, is_whole, parts_of, places, times}
 use Rattle.command_line.proofs.PlainForms.{Made, clean, made, parts_are}
 use Rattle.command_line.proofs.Rows.{one_row, value_in}
@@ -271,7 +272,3 @@ has_texts form words found taken is rows first second nodes rounds =
     ≡ said (positional_in is.items) (values_in Nodes is.items) (values_in Rounds is.items) =
     rw (first_is, second_is, nodes_are, rounds_are) refl in
     texts ∙ sym (ap texts_of parts)
-
--- and those of the items, however the words are written as items
-pub says_items : (words : List Text) (texts : Texts) → texts ≡ texts_of (parts_of words) → SaysItems words texts
-says_items words texts is items own written = is ∙ ap texts_of (ap parts_of written ∙ parts_are items [] [] [] own)

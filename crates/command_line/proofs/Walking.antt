@@ -12,9 +12,11 @@ use Rattle.command_line.specs.declared.form.OptionName.TheVariants.{Nodes, Round
 use Rattle.command_line.specs.declared.form.Form.{Form}
 use Rattle.command_line.specs.declared.form.Form.TheVariants.{Folder, FolderSearch, DaySearch}
 use Rattle.command_line.specs.Apps.{rules}
-use Rattle.command_line.specs.Items.{WordList, Item, Positional, TwoWords, OneWord, HaveTheirForm}
-use Rattle.command_line.specs.Items.{is_positional, option_name}
-use Rattle.command_line.specs.Items.{positional_in, value_before, values_in, words_of}
+use Rattle.plain_words.specs.Items.{WordList}
+use Rattle.command_line.proofs.OptionItems.{Item, Positional, TwoWords, OneWord, HaveTheirForm}
+use Rattle.plain_words.specs.Items.{is_positional}
+use Rattle.command_line.proofs.OptionItems.{option_name}
+use Rattle.command_line.proofs.OptionItems.{positional_in, value_before, values_in, words_of}
 use Rattle.command_line.specs.Parts.{places, times}
 use Rattle.command_line.proofs.Rows.{has_row-more, one_row, put_is}
 use Rattle.command_line.proofs.Stepping.{Place, First, Second, Third, position, next, has_place, place_id}

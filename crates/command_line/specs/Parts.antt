@@ -9,7 +9,7 @@ use Rattle.command_line.specs.declared.form.Form.{Form}
 use Rattle.command_line.specs.declared.form.Form.TheVariants.{Folder, FolderSearch, DaySearch}
 use Rattle.command_line.specs.declared.form.Kind.{Kind}
 use Rattle.command_line.specs.declared.form.Kind.TheVariants.{Plain, Name, Whole, Other}
-pub use Rattle.command_line.specs.Items.{is_positional}
+use Rattle.plain_words.specs.Items.{is_positional}
 
 -- ---- one word
 

@@ -1,8 +1,7 @@
 -- What the words after a command word say.
-use Rattle.std.specs.Prelude.{ℕ, ◌≡◌, List, Option, option_map, slice_get}
-use Rattle.command_line.specs.declared.form.OptionName.TheVariants.{Nodes, Rounds}
+use Rattle.std.specs.Prelude.{ℕ, List, Option, option_map, slice_get}
 use Rattle.command_line.specs.declared.taken.GivenTexts.{GivenTexts}
-use Rattle.command_line.specs.Items.{HaveTheirForm, Item, WordList, positional_in, values_in, words_of}
+use Rattle.plain_words.specs.Items.{WordList}
 use Rattle.command_line.specs.Parts.{Parts}
 
 -- the first two positional words, and the value of each option
@@ -31,8 +30,3 @@ texts_in taken = record {
   nodes = option_map (λ text. text.now) taken.nodes;
   rounds = option_map (λ text. text.now) taken.rounds;
 }
-
--- however the words are written as items, the texts are those of the items
-abbrev pub SaysItems : WordList → Texts → Type 0
-SaysItems words texts = (items : List Item) → HaveTheirForm items → words ≡ words_of items
-    → texts ≡ said (positional_in items) (values_in Nodes items) (values_in Rounds items)

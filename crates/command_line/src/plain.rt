@@ -1,7 +1,9 @@
 //! The test of the plain form.
 
-ghost use Rattle.std.specs.Prelude.{◌≡◌, map};
-ghost use Rattle.command_line.specs.Parts.{HasRoom, counted, fits, is_positional, kind_of, no_counts, parts_of, times};
+ghost use Rattle.std.specs.Prelude.{◌≡◌, ◌↔◌, map, true};
+ghost use Rattle.plain_words.specs.Items.{is_positional};
+ghost use Rattle.command_line.specs.Forms.{ArePlain};
+ghost use Rattle.command_line.specs.Parts.{HasRoom, counted, fits, kind_of, no_counts, parts_of, times};
 ghost use Rattle.command_line.specs.Parts.{fitting, places, whole_kind_of, with_option};
 
 use crate::form::{Form, Kind, OptionName};
@@ -31,10 +33,19 @@ impl Model for Seen {
     } };
 }
 
-/// Whether the words after a command word are of the plain form: as many positional words as the form has, which are
-/// not empty and don't begin with `-`, and in any mixture with them each option of the form at most once, as one word
-/// (`--nodes=5`) or as two (`--nodes 5`), of which the second is not empty and doesn't begin with `-`.
+/// Whether the words after a command word are of the form: as many positional words as the form has, which are not empty
+/// and don't begin with `-`, and in any mixture with them each option of the form at most once, as one word
+/// (`--nodes=5`) or as two (`--nodes 5`), of which the second is not empty and doesn't begin with `-`. It takes no
+/// memory.
 pub fn is_plain(form: Form, words: &[&str]) -> bool
+    ensures meaning { (result ≡ true) ↔ ArePlain form (map (λ word. word.now) words.now) }
+    ensures value { result ≡ fits form (parts_of (map (λ word. word.now) words.now)) }
+{
+    are_counted(form, words)
+}
+
+/// Whether there are as many words of each kind as the form has.
+fn are_counted(form: Form, words: &[&str]) -> bool
     ensures { result ≡ fits form (parts_of (map (λ word. word.now) words.now)) }
 {
     let mut seen = Seen::none();

@@ -4,7 +4,8 @@ ghost use Rattle.std.specs.Prelude.{◌≡◌, IfOk, map, true};
 ghost use Rattle.clap.specs.Words.{found_of, matches_of, rows_of};
 ghost use Rattle.command_line.specs.Apps.{app};
 ghost use Rattle.command_line.specs.Parts.{fits, parts_of};
-ghost use Rattle.command_line.specs.Texts.{SaysItems, texts_in, texts_of};
+ghost use Rattle.command_line.specs.Forms.{ArePlain, SaysItems};
+ghost use Rattle.command_line.specs.Texts.{texts_in, texts_of};
 
 use crate::form::Form;
 use crate::options::{command, first_id};
@@ -26,15 +27,15 @@ pub struct GivenTexts<'a> {
     pub rounds: Option<&'a str>,
 }
 
-/// Takes apart words of the plain form. The error is want of memory.
+/// Takes apart words of the form. The error is want of memory.
 pub fn take_apart<'a>(
     alloc: Global,
     form: Form,
     words: &'a [&'a str],
 ) -> Result<GivenTexts<'a>, NoMemory>
-    requires { fits form (parts_of (map (λ word. word.now) words.now)) ≡ true }
+    requires { ArePlain form (map (λ word. word.now) words.now) }
     ensures value { IfOk result (λ taken. texts_in taken ≡ texts_of (parts_of (map (λ word. word.now) words.now))) }
-    ensures meaning { IfOk result (λ taken. SaysItems (map (λ word. word.now) words.now) (texts_in taken)) }
+    ensures meaning { IfOk result (λ taken. SaysItems form (map (λ word. word.now) words.now) (texts_in taken)) }
 {
     let matches = matches(alloc, form, words)?;
     Ok(GivenTexts {
@@ -45,7 +46,7 @@ pub fn take_apart<'a>(
     })
 }
 
-/// What `clap` finds in words of the plain form. The error is want of memory.
+/// What `clap` finds in words of the form. The error is want of memory.
 fn matches<'a>(alloc: Global, form: Form, words: &'a [&'a str]) -> Result<ArgMatches<'a>, NoMemory>
     requires { fits form (parts_of (map (λ word. word.now) words.now)) ≡ true }
     ensures { IfOk result (λ found.

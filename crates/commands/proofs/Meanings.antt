@@ -13,41 +13,24 @@ use Rattle.plain_words.proofs.Spelled.{option_forth}
 use Rattle.command_line.specs.declared.form.OptionName.TheVariants.{Nodes, Rounds}
 use Rattle.command_line.specs.declared.form.Form.{Form}
 use Rattle.command_line.specs.declared.form.Form.TheVariants.{Folder, FolderSearch, DaySearch}
-use Rattle.command_line.specs.Items.{WordList, positional_in, values_in}
-use Rattle.command_line.specs.Parts.{Parts, fits, is_whole, parts_of, places, times}
+use Rattle.plain_words.specs.Items as plain
+use Rattle.plain_words.specs.Items.{IsPlain, WordList}
+use Rattle.command_line.proofs.OptionItems.{Item, positional_in, values_in}
+use Rattle.command_line.specs.Parts.{Parts, fits, parts_of}
 use Rattle.command_line.specs.Texts.{said, texts_of}
-use Rattle.command_line.proofs.PlainForms.{Made, cases, clean, made, parts_are}
+use Rattle.command_line.specs.Forms as forms
+use Rattle.command_line.proofs.PlainForms.{cases, clean}
+use Rattle.command_line.proofs.AsItems.{IsSized, all_named, as_items, as_parts, fits_so, items_plain, own_items}
+use Rattle.command_line.proofs.AsItems.{positional_same, values_same}
 use Rattle.commands.specs.declared.command.Command.{Command}
 use Rattle.commands.specs.declared.command.Command.TheVariants.{Plan, Simulate, Check, Duties, Yards, Costs, Trial}
 use Rattle.commands.specs.declared.command.TheConstants.{MOST_SEED, USUAL_NODES, USUAL_ROUNDS}
 use Rattle.commands.specs.Commands.{command_of, day_of, even_trips, form_of, in_folder, named, named_plain}
 use Rattle.commands.specs.Commands.{nodes_of, numbers_of, plan_of, rounds_of}
 use Rattle.commands.specs.Commands.{trial_of, trips_of}
-use Rattle.commands.specs.PlainForm.{IsInFolder, IsPlainForm, IsTrial, Means, command_word}
+use Rattle.commands.specs.PlainForm.{IsInFolder, IsPlainForm, IsTrial, Means, command_word, form_for}
 
--- ---- as many as the form wants
-
-record IsSized (form : Form) (p n r : WordList) : Type 0 where
-  pub as_many : length p ≡ places form
-  pub few_nodes : length n ≤ times form
-  pub few_rounds : length r ≤ times form
-
-sized : (form : Form) (p n r : WordList) → fits form (clean p n r) ≡ true → IsSized form p n r
-sized form p n r fit =
-    let first = and_parts (length p == places form) (nat_le (length n) (times form) && nat_le (length r) (times form)) fit in
-    let second = and_parts (nat_le (length n) (times form)) (nat_le (length r) (times form)) first.1 in
-    record {
-      as_many = grind (arith, nat_tests, first.0);
-      few_nodes = le_of (length n) (times form) second.0;
-      few_rounds = le_of (length r) (times form) second.1;
-    }
-
-fits_so : (form : Form) (p n r : WordList) → IsSized form p n r → fits form (clean p n r) ≡ true
-fits_so form p n r is =
-    let many : (length p == places form) ≡ true = grind (arith, nat_tests, is.as_many) in
-    let nodes : nat_le (length n) (times form) ≡ true = le_true (length n) (times form) is.few_nodes in
-    let rounds : nat_le (length r) (times form) ≡ true = le_true (length r) (times form) is.few_rounds in
-    rw (many, nodes, rounds) refl
+-- ---- folders and days
 
 one_word : (words : WordList) (dir : List ℕ) → length words ≡ 1 → slice_get words 0 ≡ Some dir → words ≡ dir ∷ []
 one_word [] dir one e = absurd cc
@@ -57,8 +40,6 @@ one_word (word ∷ again ∷ words) dir one e = absurd (omega (arith, one))
 no_words : (words : WordList) → length words ≤ 0 → words ≡ []
 no_words [] none = refl
 no_words (word ∷ words) none = absurd (omega (arith, none))
-
--- ---- folders and days
 
 folder_forth : (dir : List ℕ) (p n r : WordList) → IsInFolder dir p n r → slice_get p 0 ≡ Some dir
 folder_forth dir p n r is = ap (λ (words : WordList). slice_get words 0) is.0
@@ -299,6 +280,30 @@ sized_forth (Costs dir) p n r is = folder_sized dir p n r is
 
 -- ---- the words
 
+-- the values of items by this crate's options, and by the names of options, are the same
+meant_named : (command : Command) (items : List Item)
+    → Means (positional_in items) (values_in Nodes items) (values_in Rounds items) command
+    → Means (plain.positional_in (all_named items)) (plain.values_in (codes "--nodes") (all_named items))
+    (plain.values_in (codes "--rounds") (all_named items)) command
+meant_named command items is =
+    rw (positional_same items, values_same Nodes items, values_same Rounds items) is
+
+meant_own : (command : Command) (items : List Item)
+    → Means (plain.positional_in (all_named items)) (plain.values_in (codes "--nodes") (all_named items))
+    (plain.values_in (codes "--rounds") (all_named items)) command
+    → Means (positional_in items) (values_in Nodes items) (values_in Rounds items) command
+meant_own command items is =
+    rw (sym (positional_same items), sym (values_same Nodes items), sym (values_same Rounds items)) is
+
+form_is : (command : Command) → form_of (command_word command) ≡ form_for command
+form_is (Plan dir nodes rounds) = refl
+form_is (Simulate dir) = refl
+form_is (Check dir) = refl
+form_is (Duties dir) = refl
+form_is (Yards dir) = refl
+form_is (Costs dir) = refl
+form_is (Trial seed trips nodes rounds) = refl
+
 -- what is understood is the plain form of the command
 pub understood : (words : WordList) (command : Command) → command_of words ≡ Some command → IsPlainForm words command
 understood [] command e = absurd cc
@@ -306,34 +311,39 @@ understood (program ∷ []) command e = absurd cc
 understood (program ∷ word ∷ rest) command e = elim (cases (fits (form_of word) (parts_of rest))) [
   | inr broken ↦ let at : named_plain word (parts_of rest) ≡ None = rw broken refl in
       let never : ◌≡◌ {A = Option Command} None (Some command) = sym at ∙ e in absurd cc
-  | inl fit ↦ let items : Made rest = made rest [] [] [] (and_parts (is_whole (parts_of rest)) _ fit).0 in
-      let p : WordList = positional_in items.0 in
-      let n : WordList = values_in Nodes items.0 in
-      let r : WordList = values_in Rounds items.0 in
-      let parts : parts_of rest ≡ clean p n r = ap parts_of items.2 ∙ parts_are items.0 [] [] [] items.1 in
+  | inl fit ↦ let found = as_items (form_of word) rest fit in
+      let p : WordList = positional_in found.items in
+      let n : WordList = values_in Nodes found.items in
+      let r : WordList = values_in Rounds found.items in
       let at : named_plain word (parts_of rest) ≡ named word (texts_of (parts_of rest)) = rw fit refl in
-      let fit_clean : fits (form_of word) (clean p n r) ≡ true = ap (fits (form_of word)) (sym parts) ∙ fit in
-      let is = named_back word p n r command (sized (form_of word) p n r fit_clean)
-      (ap (λ (q : Parts). named word (texts_of q)) (sym parts) ∙ (sym at ∙ e)) in
+      let is = named_back word p n r command found.size
+      (ap (λ (q : Parts). named word (texts_of q)) (sym (as_parts (form_of word) rest found)) ∙ (sym at ∙ e)) in
+      let form : form_of word ≡ form_for command = ap form_of is.0 ∙ form_is command in
       record {
         program = program;
-        items = items.0;
-        form = items.1;
-        written = ap (λ (w : List ℕ). program ∷ w ∷ rest) is.0
-            ∙ ap (λ (w : WordList). program ∷ command_word command ∷ w) items.2;
-        meant = is.1;
+        rest = rest;
+        items = all_named found.items;
+        written = ap (λ (w : List ℕ). program ∷ w ∷ rest) is.0;
+        form = subst (λ (f : Form). IsPlain (forms.form_of f) rest (all_named found.items)) form
+            (items_plain (form_of word) rest found);
+        meant = meant_named command found.items is.1;
       }
 ]
 
 -- the plain form of a command is understood
-pub plain : (words : WordList) (command : Command) → IsPlainForm words command → command_of words ≡ Some command
-plain words command is =
-    let p : WordList = positional_in is.items in
-    let n : WordList = values_in Nodes is.items in
-    let r : WordList = values_in Rounds is.items in
+pub plain_form : (words : WordList) (command : Command) → IsPlainForm words command → command_of words ≡ Some command
+plain_form words command is =
+    let own = own_items (form_for command) is.rest is.items is.form in
+    let p : WordList = positional_in own.found.items in
+    let n : WordList = values_in Nodes own.found.items in
+    let r : WordList = values_in Rounds own.found.items in
     let word : List ℕ = command_word command in
+    let meant : Means p n r command =
+    meant_own command own.found.items
+    (subst (λ (items : List plain.Item). Means (plain.positional_in items) (plain.values_in (codes "--nodes") items)
+    (plain.values_in (codes "--rounds") items) command) (sym own.same) is.meant) in
     let fit : fits (form_of word) (clean p n r) ≡ true =
-    fits_so (form_of word) p n r (sized_forth command p n r is.meant) in
+    fits_so (form_of word) p n r (sized_forth command p n r meant) in
     let at : named_plain word (clean p n r) ≡ named word (said p n r) = rw fit refl in
     ap command_of is.written
-    ∙ (ap (named_plain word) (parts_are is.items [] [] [] is.form) ∙ (at ∙ named_forth command p n r is.meant))
+    ∙ (ap (named_plain word) (as_parts (form_for command) is.rest own.found) ∙ (at ∙ named_forth command p n r meant))

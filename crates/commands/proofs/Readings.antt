@@ -2,14 +2,14 @@
 use Rattle.std.proofs.Common.{◌≡◌, ◌∙◌, Option, Some, None, Result, Ok, Err, refl, sym, inl, inr}
 use Rattle.std.specs.Option.{ok_or}
 use Rattle.rail_base.specs.Answers.{Gives}
-use Rattle.command_line.specs.Items.{WordList}
+use Rattle.plain_words.specs.Items.{WordList}
 use Rattle.commands.specs.declared.command.Command.{Command}
 use Rattle.plain_words.specs.declared.refusal.WordsRefusal.{WordsRefusal}
 use Rattle.plain_words.specs.declared.refusal.WordsRefusal.TheVariants.{NotUnderstood, NoMemory}
 use Rattle.plain_words.specs.Commands.{Reads, is_memory}
 use Rattle.commands.specs.Commands.{command_of}
 use Rattle.commands.specs.PlainForm.{IsPlainForm}
-use Rattle.commands.proofs.Meanings.{plain, understood}
+use Rattle.commands.proofs.Meanings.{plain_form, understood}
 
 one_of : (o : Option Command) (command : Command)
     → ◌≡◌ {A = Result Command WordsRefusal} (ok_or o NotUnderstood) (Ok command) → o ≡ Some command
@@ -31,16 +31,16 @@ reads words (Ok command) gives =
           understood words other (is ∙ (let s : ◌≡◌ {A = Option Command} (Some command) (Some other) = cc in s));
       refused = λ e other form. absurd cc;
       given = λ other form. let both : ◌≡◌ {A = Option Command} (Some command) (Some other) = sym is
-          ∙ plain words other form in inl cc;
+          ∙ plain_form words other form in inl cc;
     }
 reads words (Err NotUnderstood) gives =
     let none : command_of words ≡ None = none_of (command_of words) gives in
     record {
       understood = λ other e. absurd cc;
       refused = λ e other form. let never : ◌≡◌ {A = Option Command} None (Some other) = sym none
-          ∙ plain words other form in absurd cc;
+          ∙ plain_form words other form in absurd cc;
       given = λ other form. let never : ◌≡◌ {A = Option Command} None (Some other) = sym none
-          ∙ plain words other form in absurd cc;
+          ∙ plain_form words other form in absurd cc;
     }
 reads words (Err NoMemory) gives = record {
   understood = λ other e. absurd cc;

@@ -1,9 +1,11 @@
 -- The plain form: how a command is written as words.
 use Rattle.std.specs.Prelude.{ℕ, ◌≡◌, ◌≤◌, ◌%◌, List, [], ◌∷◌, codes}
 use Rattle.rail_base.specs.declared.limits.TheConstants.{MOST_BRANCHINGS, MOST_ROUNDS, MOST_TRIPS}
+use Rattle.plain_words.specs.Items.{IsPlain, Item, WordList, positional_in, values_in}
 use Rattle.plain_words.specs.Numbers.{IsNumber, IsOption}
-use Rattle.command_line.specs.declared.form.OptionName.TheVariants.{Nodes, Rounds}
-use Rattle.command_line.specs.Items.{HaveTheirForm, Item, WordList, positional_in, values_in, words_of}
+use Rattle.command_line.specs.declared.form.Form.{Form}
+use Rattle.command_line.specs.declared.form.Form.TheVariants.{Folder, FolderSearch, DaySearch}
+use Rattle.command_line.specs.Forms.{form_of}
 use Rattle.commands.specs.declared.command.Command.{Command}
 use Rattle.commands.specs.declared.command.Command.TheVariants.{Plan, Simulate, Check, Duties, Yards, Costs, Trial}
 use Rattle.commands.specs.declared.command.TheConstants.{MOST_SEED, USUAL_NODES, USUAL_ROUNDS}
@@ -47,11 +49,22 @@ Means positional nodes rounds (Yards dir) = IsInFolder dir positional nodes roun
 Means positional nodes rounds (Costs dir) = IsInFolder dir positional nodes rounds
 Means positional nodes rounds (Trial seed trips n k) = IsTrial positional seed trips × IsSearch n k nodes rounds
 
--- The words are the plain form of the command: any word for the program's name, the command word, and after it, in any
--- mixture, its positional words in their order and its options.
+-- what a command has after its command word
+abbrev pub form_for : Command → Form
+form_for (Plan dir nodes rounds) = FolderSearch
+form_for (Simulate dir) = Folder
+form_for (Check dir) = Folder
+form_for (Duties dir) = Folder
+form_for (Yards dir) = Folder
+form_for (Costs dir) = Folder
+form_for (Trial seed trips nodes rounds) = DaySearch
+
+-- The words are the plain form of the command: any word for the program's name, the command word, and after it words of
+-- the command's form, which mean it.
 pub record IsPlainForm (words : WordList) (command : Command) : Type 0 where
   pub program : List ℕ
+  pub rest : WordList
   pub items : List Item
-  pub form : HaveTheirForm items
-  pub written : words ≡ program ∷ command_word command ∷ words_of items
-  pub meant : Means (positional_in items) (values_in Nodes items) (values_in Rounds items) command
+  pub written : words ≡ program ∷ command_word command ∷ rest
+  pub form : IsPlain (form_of (form_for command)) rest items
+  pub meant : Means (positional_in items) (values_in (codes "--nodes") items) (values_in (codes "--rounds") items) command

@@ -3,7 +3,7 @@
 //! A law is the contract of a function that does nothing.
 
 ghost use Rattle.std.specs.Prelude.{◌≡◌, ◌↔◌, Some};
-ghost use Rattle.command_line.specs.Items.{WordList};
+ghost use Rattle.plain_words.specs.Items.{WordList};
 ghost use Rattle.commands.specs.declared.command.Command.{Command};
 ghost use Rattle.commands.specs.Commands.{command_of};
 ghost use Rattle.commands.specs.Limits.{AreWordLimits};

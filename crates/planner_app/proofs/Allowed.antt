@@ -2,7 +2,7 @@
 use Rattle.std.proofs.Common.{◌≡◌, ℕ, ◌≤◌, List, true, ap, arith}
 use Rattle.std.specs.Prelude.{⊤}
 use Rattle.rail_io.specs.Folders.{Files}
-use Rattle.command_line.specs.Items.{WordList}
+use Rattle.plain_words.specs.Items.{WordList}
 use Rattle.run_documents.specs.declared.outcome.Outcome.{Outcome}
 use Rattle.run_documents.specs.declared.outcome.Outcome.TheVariants.{Planned, Tried, Runs, Stops, Checked, Reported}
 use Rattle.run_documents.specs.declared.outcome.Outcome.TheVariants.{NoPlan, Usage, Refused, CannotRead}

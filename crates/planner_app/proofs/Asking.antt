@@ -1,6 +1,6 @@
 -- What words ask for is one command, and its numbers are within their limits; where no day is read none is asked.
 use Rattle.std.proofs.Common.{◌≡◌, ℕ, ◌≤◌, List, [], ◌∷◌, Option, Some, inl, inr, sym, ap, ◌∙◌, arith, Bool, true}
-use Rattle.std.proofs.Common.{false, refl, subst}
+use Rattle.std.proofs.Common.{codes, false, refl, subst}
 use Rattle.std.proofs.lemmas.Bool.{both_ways}
 use Rattle.rail_base.specs.declared.limits.TheConstants.{MOST_BRANCHINGS, MOST_ROUNDS}
 use Rattle.trial_day.specs.Trial.{IsTrialSize}
@@ -8,21 +8,20 @@ use Rattle.day_files.specs.declared.errors.ReadError.{ReadError}
 use Rattle.day_files.specs.declared.errors.ReadError.TheVariants.{CannotRead, Refused, NoMemory}
 use Rattle.run_documents.specs.declared.outcome.Outcome.{Outcome}
 use Rattle.run_documents.specs.Errors.{outcome_of_error}
-use Rattle.command_line.specs.declared.form.OptionName.TheVariants.{Nodes, Rounds}
-use Rattle.command_line.specs.Items.{WordList, values_in}
+use Rattle.plain_words.specs.Items.{WordList, values_in}
 use Rattle.commands.specs.declared.command.Command.{Command}
 use Rattle.commands.specs.declared.command.Command.TheVariants as command
 use Rattle.commands.specs.declared.command.TheConstants.{USUAL_NODES, USUAL_ROUNDS}
 use Rattle.plain_words.specs.Numbers.{IsOption}
 use Rattle.commands.specs.PlainForm.{IsPlainForm, IsSearch}
-use Rattle.commands.proofs.Meanings.{plain}
+use Rattle.commands.proofs.Meanings.{plain_form}
 use Rattle.planner_app.specs.Advice.{AreAskedFor}
 use Rattle.planner_app.specs.Outcomes.{AskAbout, AskToPlan, AskToTry, Grants, folder_of}
 
 -- words are the plain form of one command at most
 pub one_command : (words : WordList) (one other : Command) → IsPlainForm words one → IsPlainForm words other → one ≡ other
 one_command words one other first second =
-    let both : ◌≡◌ {A = Option Command} (Some one) (Some other) = sym (plain words one first) ∙ plain words other second in
+    let both : ◌≡◌ {A = Option Command} (Some one) (Some other) = sym (plain_form words one first) ∙ plain_form words other second in
     cc
 
 -- the folder of the words is that of their command
@@ -49,12 +48,12 @@ search_within n k nodes rounds is = (
 pub plan_within : (words : WordList) (dir : List ℕ) (nodes rounds : ℕ) → AskToPlan words dir nodes rounds
     → (nodes ≤ MOST_BRANCHINGS) × (rounds ≤ MOST_ROUNDS)
 plan_within words dir nodes rounds form =
-    search_within nodes rounds (values_in Nodes form.items) (values_in Rounds form.items) form.meant.1
+    search_within nodes rounds (values_in (codes "--nodes") form.items) (values_in (codes "--rounds") form.items) form.meant.1
 
 pub trial_within : (words : WordList) (seed trips nodes rounds : ℕ) → AskToTry words seed trips nodes rounds
     → (nodes ≤ MOST_BRANCHINGS) × (rounds ≤ MOST_ROUNDS)
 trial_within words seed trips nodes rounds form =
-    search_within nodes rounds (values_in Nodes form.items) (values_in Rounds form.items) form.meant.1
+    search_within nodes rounds (values_in (codes "--nodes") form.items) (values_in (codes "--rounds") form.items) form.meant.1
 
 -- a trial day is asked for with as many trips as one may have
 pub trial_size : (words : WordList) (seed trips nodes rounds : ℕ) → AskToTry words seed trips nodes rounds → IsTrialSize trips

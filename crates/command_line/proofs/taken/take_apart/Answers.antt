@@ -2,7 +2,8 @@ use Rattle.std.proofs.Common.{◌∙◌, ap, List, map}
 use Rattle.clap.specs.Matches.{first_value, found_of}
 use Rattle.clap.specs.Walk.{Text}
 use Rattle.command_line.specs.Texts.{texts_in}
-use Rattle.command_line.proofs.Taking.{has_texts, is_taken, says_items}
+use Rattle.command_line.proofs.AsItems.{plain_fits, says_items}
+use Rattle.command_line.proofs.Taking.{has_texts, is_taken}
 use Rattle.command_line.proofs.taken.take_apart.Goals as goal
 
 pub returns-clause-value : goal.returns-clause-value
@@ -15,14 +16,14 @@ returns-clause-value c =
       nodes = c.get_str-3.result;
       rounds = c.get_str-4.result;
     })
-    (is_taken c.args.form texts c.requires)
+    (is_taken c.args.form texts (plain_fits c.args.form texts c.requires.0 c.requires.1))
     c.in_ok-matches.ensures
     (c.get_str.ensures ∙ ap (λ (id : Text). first_value (found_of c.in_ok-matches.matches) id) c.first_id.ensures)
     c.get_str-2.ensures c.get_str-3.ensures c.get_str-4.ensures
 
 pub returns-clause-meaning : goal.returns-clause-meaning
 returns-clause-meaning c =
-    says_items (map (λ word. word.now) c.args.words.now)
+    says_items c.args.form (map (λ word. word.now) c.args.words.now)
     (texts_in
     (record {
       first = c.get_str.result;
@@ -30,3 +31,7 @@ returns-clause-meaning c =
       nodes = c.get_str-3.result;
       rounds = c.get_str-4.result;
     })) (returns-clause-value c)
+
+pub matches-requires : goal.matches-requires
+matches-requires c =
+    plain_fits c.args.form (map (λ word. word.now) c.args.words.now) c.requires.0 c.requires.1

@@ -21,13 +21,16 @@ pub returns-then-not-is_plain : goal.returns-then-not-is_plain
 returns-then-not-is_plain c =
     ap (λ (o : Option Command). ok_or o NotUnderstood)
     (tested c.args.word.now c.form_of-form.result (parts_of (map (λ word. word.now) c.args.rest.now)) c.is_plain.result
-    false c.form_of-form.ensures c.is_plain.ensures c.if-not-is_plain.true)
+    false c.form_of-form.ensures c.is_plain.ensures.value c.if-not-is_plain.true)
 
 pub returns : goal.returns
 returns c =
     let parts : Parts = parts_of (map (λ word. word.now) c.args.rest.now) in
     let said : named_plain c.args.word.now parts ≡ named c.args.word.now (texts_of parts) =
     tested c.args.word.now c.form_of-form.result parts c.is_plain.result true c.form_of-form.ensures
-    c.is_plain.ensures c.if-not-is_plain.false in
+    c.is_plain.ensures.value c.if-not-is_plain.false in
     subst (λ (o : Option Command). Gives is_memory c.named.result (ok_or o NotUnderstood))
     (ap (named c.args.word.now) c.in_ok-taken.ensures.value ∙ sym said) c.named.ensures
+
+pub take_apart-requires : goal.take_apart-requires
+take_apart-requires c = c.is_plain.ensures.meaning.0 c.if-not-is_plain.false

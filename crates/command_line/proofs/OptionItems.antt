@@ -1,15 +1,8 @@
--- The plain form of what stands after a command word, by what is written.
-use Rattle.std.specs.Prelude.{ℕ, ◌≡◌, ◌++◌, ◌==◌, Bool, true, false, not, List, [], ◌∷◌, codes, ⊤}
+-- Items whose options are those of this crate, by their own names: which items of words they are.
+use Rattle.std.specs.Prelude.{ℕ, ◌≡◌, ◌++◌, true, List, [], ◌∷◌, codes, ⊤}
+use Rattle.plain_words.specs.Items.{WordList, is_positional}
 use Rattle.command_line.specs.declared.form.OptionName.{OptionName}
 use Rattle.command_line.specs.declared.form.OptionName.TheVariants.{Nodes, Rounds}
-
-abbrev pub WordList : Type 0
-WordList = List (List ℕ)
-
--- a word that is no option: it is not empty and doesn't begin with `-`
-abbrev pub is_positional : List ℕ → Bool
-is_positional [] = false
-is_positional (byte ∷ bytes) = not (byte == 45)
 
 -- a positional word, or an option and its value, as two words (`--nodes 5`) or as one (`--nodes=5`)
 pub data Item : Type 0 where
