@@ -31,8 +31,10 @@ use Rattle.planner_app.specs.declared.reports.ReportKind.{ReportKind}
 use Rattle.planner_app.specs.declared.reports.ReportKind.TheVariants as report
 use Rattle.planner_app.specs.Outcomes.{AreAnswered, AskAbout, AskToCheck, AskToPlan, AskToReport, AskToSimulate}
 use Rattle.planner_app.specs.Outcomes.{OfDay, OfDayAndPlan, PlanRuns, Says, command_for, folder_of, reads_plan}
-use Rattle.planner_app.specs.Statuses.{EndsCheck, EndsPlanning, EndsSimulation, IsAnswerFileRefused, IsAnswerRefusedIn}
-use Rattle.planner_app.specs.Statuses.{IsUndisturbed, status_of, status_of_verdict}
+use Rattle.run_documents.specs.Planning.{EndsPlanning}
+use Rattle.planner_app.specs.Statuses.{EndsCheck, EndsSimulation, IsAnswerFileRefused, IsAnswerRefusedIn}
+use Rattle.statuses.specs.Written.{IsUndisturbed}
+use Rattle.planner_app.specs.Statuses.{status_of, status_of_verdict}
 use Rattle.planner_app.proofs.Allowed.{IsAllowed, is_allowed}
 use Rattle.planner_app.proofs.Asking.{about_folder, one_command}
 use Rattle.planner_app.proofs.Outcomes.{report_folder}

@@ -28,7 +28,8 @@ use Rattle.planner_app.specs.Outcomes.{AreAnswered, AskToReport, AskToTry, IsTri
 use Rattle.planner_app.specs.Outcomes.{command_for}
 use Rattle.planner_app.specs.Outcomes.{AskAbout, AskInVain, HasCause, IsOutcome, IsSound, folder_of}
 use Rattle.planner_app.specs.ReportTexts.{report_text}
-use Rattle.planner_app.specs.Statuses.{EndsReport, EndsTrial, IsAnswerRefusedIn, IsUndisturbed, status_of}
+use Rattle.statuses.specs.Written.{IsUndisturbed}
+use Rattle.planner_app.specs.Statuses.{EndsReport, EndsTrial, IsAnswerRefusedIn, status_of}
 use Rattle.planner_app.specs.Statuses.{status_of_verdict}
 use Rattle.planner_app.proofs.Allowed.{IsAllowed, code, is_allowed, report_code}
 use Rattle.planner_app.proofs.Asking.{about_folder, one_command}

@@ -21,8 +21,11 @@ use Rattle.planner_app.specs.declared.reports.ReportKind.{ReportKind}
 use Rattle.answer_check.specs.Headline.{status_said}
 use Rattle.planner_app.specs.Outcomes.{AskInVain, AskToCheck, AskToPlan, AskToReport, AskToSimulate, AskToTry, HasCause}
 use Rattle.planner_app.specs.Outcomes.{IsOutcome}
-use Rattle.planner_app.specs.Statuses.{CountsFailedReads, EndsCheck, EndsPlanning, EndsReport, EndsSimulation, EndsTrial}
-use Rattle.planner_app.specs.Statuses.{IsUndisturbed, tells_unread, status_of, status_of_verdict, WroteOutcome, Whole, Part, Nothing}
+use Rattle.statuses.specs.Written.{CountsFailedReads}
+use Rattle.run_documents.specs.Planning.{EndsPlanning}
+use Rattle.planner_app.specs.Statuses.{EndsCheck, EndsReport, EndsSimulation, EndsTrial}
+use Rattle.statuses.specs.Written.{IsUndisturbed, Whole, Part, Nothing}
+use Rattle.planner_app.specs.Statuses.{tells_unread, status_of, status_of_verdict, WroteOutcome}
 use Rattle.planner_app.proofs.Endings.{check_ends, planning_ends, simulation_ends}
 use Rattle.planner_app.proofs.ReportEndings.{report_ends, trial_ended}
 

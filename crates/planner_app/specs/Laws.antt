@@ -14,7 +14,8 @@ use Rattle.run_documents.specs.declared.outcome.Outcome.TheVariants.{NoMemory}
 use Rattle.run_documents.specs.AnswerFiles.{answer_bytes}
 use Rattle.planner_app.specs.declared.reports.ReportKind.{ReportKind}
 use Rattle.planner_app.specs.Outcomes.{Says}
-use Rattle.planner_app.specs.Statuses.{EndsCheck, EndsReport, IsUndisturbed, status_of}
+use Rattle.statuses.specs.Written.{IsUndisturbed}
+use Rattle.planner_app.specs.Statuses.{EndsCheck, EndsReport, status_of}
 
 -- ---- answers that are found
 

@@ -4,8 +4,7 @@ use Rattle.std.specs.Prelude.{Result, Ok, Err}
 use Rattle.rail_base.specs.declared.limits.TheConstants.{MOST_FILE_BYTES}
 use Rattle.rail_io.specs.Folders.{Files}
 use Rattle.rail_io.specs.Sinks.{Appends}
-pub use Rattle.statuses.specs.Written.{CountsFailedReads, CountsFailedWrites, IsStatus, IsUndisturbed}
-pub use Rattle.statuses.specs.Written.{Wrote, Whole, Part, Nothing}
+use Rattle.statuses.specs.Written.{Wrote}
 use Rattle.timetable.specs.Build.{day_of}
 use Rattle.timetable.specs.Day.{Day}
 use Rattle.day_files.specs.declared.errors.Refusal.{Refusal}
@@ -34,15 +33,6 @@ use Rattle.planner_app.specs.Outcomes.{AreAnswered, PlanRuns}
 use Rattle.planner_app.specs.ReportTexts.{report_text}
 
 -- ---- what the files say of the status
-
--- the status with which the day of a folder is planned, and what was written
-pub record EndsPlanning (files : Files) (dir : List ℕ) (nodes status : ℕ)
-    (before after : Option (List ℕ)) : Type 0 where
-  -- 3 exactly where a table is refused
-  pub refused : (status ≡ 3) ↔ ((why : Refusal) × (day_in files dir ≡ Err why))
-  -- where it isn't 3, the tables are accepted as a day, and an answer to it was written
-  pub answered : status ≢ 3 → (day : Day) × (day_in files dir ≡ Ok day)
-      × IsAnswered text_of day nodes status before after
 
 -- the status with which a plan of a folder is run
 pub record EndsSimulation (files : Files) (dir : List ℕ) (status : ℕ) : Type 0 where

@@ -10,8 +10,8 @@ mod top;
 
 pub use answer_check::{AnswerVerdict, check_answer, checking};
 pub use commands::{Command, command, command_words, read_words};
-pub use plain_words::{Text, WordsRefusal};
 pub use day_reports::{costs_table, duties_table, yards_table};
+pub use plain_words::{Text, WordsRefusal};
 pub use reports::ReportKind;
 pub use run_documents::{AnswerError, Outcome, answer_file, outcome};
 pub use top::railplan;

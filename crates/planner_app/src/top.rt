@@ -3,37 +3,25 @@
 ghost use Rattle.std.specs.Prelude.{ℕ, true, List, ◌≡◌, ◌≤◌, ◌+◌, ◌*◌, ◌^◌, ◌↔◌, Some, All};
 ghost use Rattle.rail_io.specs.Folders.{Files, OnlyReads, Rose, faults_after};
 ghost use Rattle.search.specs.Questions.{AreAsked, AreTheSame};
-ghost use Rattle.answer_check.specs.Headline.{status_said};
 ghost use Rattle.run_documents.specs.declared.outcome.Outcome.{Outcome};
 ghost use Rattle.planner_app.specs.declared.reports.ReportKind.{ReportKind};
 ghost use Rattle.planner_app.specs.Advice.{AreAskedFor};
 ghost use Rattle.planner_app.specs.Outcomes.{AskAbout, AskInVain, AskToCheck, AskToPlan, AskToReport, AskToSimulate};
 ghost use Rattle.planner_app.specs.Outcomes.{AskToTry, Grants, IsOutcome};
-ghost use Rattle.planner_app.specs.Statuses.{EndsCheck, EndsPlanning, EndsReport, EndsSimulation, EndsTrial};
-ghost use Rattle.planner_app.specs.Statuses.{CountsFailedReads, CountsFailedWrites, IsStatus, IsUndisturbed};
+ghost use Rattle.run_documents.specs.Planning.{EndsPlanning};
+ghost use Rattle.planner_app.specs.Statuses.{EndsCheck, EndsReport, EndsSimulation, EndsTrial};
+ghost use Rattle.statuses.specs.Written.{CountsFailedReads, CountsFailedWrites, IsStatus, IsUndisturbed};
 ghost use Rattle.planner_app.specs.Statuses.{WroteOutcome, status_of, status_of_verdict, tells_unread};
 
 use crate::run::outcome_of;
 use advisors::Advisor;
 use answer_check::AnswerVerdict;
-use answer_text::Head;
 use rail_base::Words;
 use rail_io::{Folder, Sink};
 use run_documents::document::document;
-use run_documents::{AnswerError, Outcome};
-use statuses::{BOUNDED, FAILURE, NO_MEMORY, REFUSED, SUCCESS, UNREAD, USAGE, write_document};
+use run_documents::{AnswerError, Outcome, status_said};
+use statuses::{FAILURE, NO_MEMORY, REFUSED, SUCCESS, UNREAD, USAGE, write_document};
 use std::alloc::Global;
-
-/// The status that goes with what an answer says.
-fn status_said(head: Head) -> u8
-    ensures { result ≡ status_said head }
-{
-    match head {
-        Head::Optimal { .. } => SUCCESS,
-        Head::Infeasible => FAILURE,
-        Head::Bounded { .. } | Head::BoundedPlan { .. } => BOUNDED,
-    }
-}
 
 /// The status that goes with a verdict.
 fn status_of_verdict(verdict: &AnswerVerdict) -> u8

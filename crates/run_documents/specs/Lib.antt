@@ -8,3 +8,5 @@ pub mod TrialTexts
 pub mod Texts
 -- what an error of the tables comes to
 pub mod Errors
+-- how the planning of a day ends
+pub mod Planning

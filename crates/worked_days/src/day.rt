@@ -2,7 +2,7 @@
 
 ghost use Rattle.std.specs.Prelude.{◌≡◌, ◌≢◌, true, IfOk};
 ghost use Rattle.rail_io.specs.Folders.{Rose};
-ghost use Rattle.planner_app.specs.Statuses.{CountsFailedReads, CountsFailedWrites};
+ghost use Rattle.statuses.specs.Written.{CountsFailedReads, CountsFailedWrites};
 
 use advisors::{Advisor, Diver, Subgradient};
 use planner_app::railplan;
