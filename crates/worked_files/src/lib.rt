@@ -7,6 +7,10 @@ mod composition_tests;
 #[cfg(test)]
 mod file_tests;
 #[cfg(test)]
+mod record_tests;
+#[cfg(test)]
 mod row_tests;
 #[cfg(test)]
 mod system_tests;
+#[cfg(test)]
+mod word_tests;

@@ -1,0 +1,89 @@
+//! Words after a command word, read as of one form, whose options are not those of any program here.
+
+use plain_words::{Form, GivenWords, read_form};
+use rail_base::{NoMemory, Words};
+use std::alloc::{AllocError, Global};
+use std::process::Abort;
+use std::test::Fail;
+
+/// A folder, two numbers and a flag.
+const FORM: Form<'static> = Form {
+    places: 1,
+    valued: &["--nodes", "--change"],
+    flags: &["--progress"],
+};
+
+/// Words, and what they are read as: the positional word, the two numbers and whether the flag stands.
+const ROWS: [(&str, &str); 22] = [
+    ("DIR", "DIR 200 0 -"),
+    ("DIR --nodes 5", "DIR 5 0 -"),
+    ("--nodes 5 DIR", "DIR 5 0 -"),
+    ("--nodes=5 DIR", "DIR 5 0 -"),
+    (
+        "--progress DIR --change=7 --nodes 0050",
+        "DIR 50 7 progress",
+    ),
+    (
+        "--change 1000000 --progress DIR",
+        "DIR 200 1000000 progress",
+    ),
+    // Values that are no numbers up to the limit, and one that is not of ten digits at most.
+    ("DIR --nodes=", "DIR ? 0 -"),
+    ("DIR --nodes=-5", "DIR ? 0 -"),
+    ("DIR --nodes five", "DIR ? 0 -"),
+    ("DIR --nodes 4001", "DIR ? 0 -"),
+    ("DIR --change 00000000007", "DIR 200 ? -"),
+    // Words of another form.
+    ("", "not read"),
+    ("DIR DIR", "not read"),
+    ("--progress", "not read"),
+    ("DIR --nodes", "not read"),
+    ("DIR --nodes -5", "not read"),
+    ("DIR --nodes 5 --nodes=5", "not read"),
+    ("DIR --progress --progress", "not read"),
+    ("DIR --progress=yes", "not read"),
+    ("DIR -nodes 5", "not read"),
+    ("DIR --rounds 5", "not read"),
+    ("DIR --nodes --progress", "not read"),
+];
+
+/// Writes the number of an option, where its value is one.
+fn write_number(text: &mut String, number: Option<u32>) -> Result<(), AllocError> {
+    match number {
+        Some(number) => write!(text, " {number}"),
+        None => text.push_str(" ?"),
+    }
+}
+
+/// What words are read as.
+fn reading(alloc: Global, words: &Words) -> Result<String, Fail> {
+    let mut rest = Vec::new(alloc);
+    for place in 0..words.len() {
+        rest.push(words.at(place))?;
+    }
+    let Some(given) = read_form(alloc, &FORM, rest.as_slice())? else {
+        return Ok(String::from_str(alloc, "not read")?);
+    };
+    let mut text = String::from_str(alloc, given.positional(0).unwrap_or("none"))?;
+    write_number(&mut text, given.number("--nodes", 200, 4_000))?;
+    write_number(&mut text, given.number("--change", 0, 1_000_000))?;
+    text.push_str(if given.has("--progress") {
+        " progress"
+    } else {
+        " -"
+    })?;
+    Ok(text)
+}
+
+#[test]
+fn words_of_a_form(rt: HostRuntime) -> Result<(), Fail> {
+    let alloc = rt.alloc();
+    for (line, wanted) in ROWS {
+        let mut words = Words::new(alloc)?;
+        for word in line.split_whitespace() {
+            words.push(word)?;
+        }
+        assert!(rt; reading(alloc, &words)?.as_str() == wanted);
+    }
+    Ok(())
+}
