@@ -59,8 +59,8 @@ pub fn answer_to<R: Relaxation, N: Naming, I: Improver>(
 
     // The problem, and the answer.
     ensures same { R.problem problem.new ≡ R.problem problem.old }
-    ensures tree { IfOk result (HasProvedTreeIn (N.day scope.naming.now) (R.meanings (R.problem problem.old))
-        scope.root.now (N.named scope.naming.now) allowed.branchings) }
+    ensures tree { IfOk result (HasProvedTreeIn (N.day scope.entry.naming.now) (R.meanings (R.problem problem.old))
+        scope.entry.root.now (N.named scope.entry.naming.now) allowed.branchings) }
 
     // The advisors: that one of the same identity stands at each place, and how often it was asked.
     ensures advisors { AreTheSame advisors.old.items advisors.new.items identity }

@@ -1,12 +1,6 @@
-use Rattle.std.proofs.Common.{◌+◌, ◌*◌}
-use Rattle.search.proofs.Asking.{are_unasked}
 use Rattle.answer_check.proofs.Refuting.{only_valid}
 use Rattle.answer_check.proofs.Truth.{valid_answers_are_true}
 use Rattle.day_planner.proofs.planning.improved_answer_for.Goals as goal
-
-pub returns-in_err-graphs-clause-asked : goal.returns-in_err-graphs-clause-asked
-returns-in_err-graphs-clause-asked g c = are_unasked _ _
-    (c.args.rounds * (2 * c.args.nodes + 1)) c.args.advisors.now.items
 
 pub returns-clause-headline : goal.returns-clause-headline
 returns-clause-headline g c = record {
