@@ -1,6 +1,7 @@
 //! Words after a command word, read as of one form, whose options are not those of any program here.
 
 use plain_words::{Form, GivenWords, read_form};
+use rail_base::limits::MOST_WORDS;
 use rail_base::{NoMemory, Words};
 use std::alloc::{AllocError, Global};
 use std::process::Abort;
@@ -75,14 +76,23 @@ fn reading(alloc: Global, words: &Words) -> Result<String, Fail> {
     Ok(text)
 }
 
+/// The words of a line.
+fn words_in(alloc: Global, line: &str) -> Result<Words, NoMemory> {
+    let mut words = Words::new(alloc)?;
+    for word in line.split_whitespace() {
+        if words.len() as usize >= MOST_WORDS {
+            break;
+        }
+        words.push(word)?;
+    }
+    Ok(words)
+}
+
 #[test]
 fn words_of_a_form(rt: HostRuntime) -> Result<(), Fail> {
     let alloc = rt.alloc();
     for (line, wanted) in ROWS {
-        let mut words = Words::new(alloc)?;
-        for word in line.split_whitespace() {
-            words.push(word)?;
-        }
+        let words = words_in(alloc, line)?;
         assert!(rt; reading(alloc, &words)?.as_str() == wanted);
     }
     Ok(())
