@@ -79,8 +79,8 @@ impl Ascent {
         self.best = None;
     }
 
-    /// One evaluation of the bound, and a step from there. The incumbent is what the best plan costs. The problem that is
-    /// bounded stays what it is.
+    /// One evaluation of the bound, and a step from there. The incumbent is what the best plan costs. The problem that
+    /// is bounded stays what it is.
     pub fn step<R: Relaxation>(
         &mut self,
         bounds: &mut R,

@@ -33,8 +33,8 @@ impl Model for Seen {
     } };
 }
 
-/// Whether the words after a command word are of the form: as many positional words as the form has, which are not empty
-/// and don't begin with `-`, and in any mixture with them each option of the form at most once, as one word
+/// Whether the words after a command word are of the form: as many positional words as the form has, which are not
+/// empty and don't begin with `-`, and in any mixture with them each option of the form at most once, as one word
 /// (`--nodes=5`) or as two (`--nodes 5`), of which the second is not empty and doesn't begin with `-`. It takes no
 /// memory.
 pub fn is_plain(form: Form, words: &[&str]) -> bool

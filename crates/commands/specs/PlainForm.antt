@@ -67,4 +67,5 @@ pub record IsPlainForm (words : WordList) (command : Command) : Type 0 where
   pub items : List Item
   pub written : words ≡ program ∷ command_word command ∷ rest
   pub form : IsPlain (form_of (form_for command)) rest items
-  pub meant : Means (positional_in items) (values_in (codes "--nodes") items) (values_in (codes "--rounds") items) command
+  pub meant : Means (positional_in items) (values_in (codes "--nodes") items) (values_in (codes "--rounds") items)
+      command

@@ -12,17 +12,17 @@ path_in dir name = dir ++ (codes "/" ++ name)
 abbrev pub bytes_at : Files → List ℕ → List ℕ → List ℕ
 bytes_at files dir name = file_at files (path_in dir name)
 
--- What is answered of a file of these bytes, of which so many are allowed: all of them, where they are no more; and that
--- it is too long, where they are more. That it could not be read, and want of memory, say nothing of it.
+-- What is answered of a file of these bytes, of which so many are allowed: all of them, where they are no more; and
+-- that it is too long, where they are more. That it could not be read, and want of memory, say nothing of it.
 abbrev pub ReadsFile : List ℕ → ℕ → Result (List ℕ) FileRefusal → Type 0
 ReadsFile file limit (Ok bytes) = (bytes ≡ file) × (length file ≤ limit)
 ReadsFile file limit (Err TooLong) = limit < length file
 ReadsFile file limit (Err ReadFault) = ⊤
 ReadsFile file limit (Err NoMemory) = ⊤
 
--- What a refusal says of the folder before and after, whatever it tells: the file could not be read only where the count
--- of faults rose and a read of it may fail; it was too long only where more bytes were taken than are allowed, or the
--- count of them was at 2^63. Want of memory has no cause.
+-- What a refusal says of the folder before and after, whatever it tells: the file could not be read only where the
+-- count of faults rose and a read of it may fail; it was too long only where more bytes were taken than are allowed, or
+-- the count of them was at 2^63. Want of memory has no cause.
 abbrev pub IsFileCaused : {F : Type 0} → (F → List ℕ → Bool) → (F → ℕ) → (F → ℕ) → List ℕ → ℕ → F → F → FileRefusal
     → Type 0
 IsFileCaused may_fail faults taken path limit before after ReadFault =

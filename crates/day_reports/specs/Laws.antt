@@ -1,5 +1,5 @@
--- The rows of the report of yards: what is taken and what became ready adds up, row by row, to what was taken and given,
--- and each count follows from that of the row before. And the times that reports print.
+-- The rows of the report of yards: what is taken and what became ready adds up, row by row, to what was taken and
+-- given, and each count follows from that of the row before. And the times that reports print.
 use Rattle.std.specs.Prelude.{ℕ, ◌+◌, ◌≡◌, ◌<◌, List, [], ◌∷◌, true, codes, pos, ◌+ℤ◌}
 use Rattle.rail_base.specs.Times.{clock_text}
 use Rattle.rail_base.specs.declared.limits.TheConstants.{MOST_MINUTES}

@@ -3,7 +3,8 @@
 ghost use Rattle.std.specs.Prelude.{◌≡◌, ◌<◌, ◌++◌, ◌∷◌, [], length, get_or, IfOk, OnOk};
 ghost use Rattle.timetable.specs.Minutes.{minutes_of};
 ghost use Rattle.timetable.specs.Picks.{ArePicks, picked};
-ghost use Rattle.day_reports.specs.YardRows.{end_row, fields_of_yard, minute_row, start_row, fields_of_station, yard_fields};
+ghost use Rattle.day_reports.specs.YardRows.{end_row, fields_of_yard, minute_row, start_row};
+ghost use Rattle.day_reports.specs.YardRows.{fields_of_station, yard_fields};
 ghost use Rattle.day_reports.specs.YardRows.{yards_text};
 
 use crate::names::{station_name, type_name};

@@ -8,8 +8,8 @@ use Rattle.timetable.specs.Running.{Runs}
 use Rattle.inventory.specs.Counts.{count_at}
 use Rattle.inventory.specs.NamedBefore.{duty_before}
 
--- a unit stands in the yard of a station and is ready at a minute, where these are the trips that it has run on, one after
--- another: it was given there by the last of them, and is ready by then; or it ran on none, and is at home there
+-- a unit stands in the yard of a station and is ready at a minute, where these are the trips that it has run on, one
+-- after another: it was given there by the last of them, and is ready by then; or it ran on none, and is at home there
 abbrev pub stands_ready : Day → List (List ℕ) → ℕ → ℕ → ℕ → List ℕ → Bool
 stands_ready day plan s minute u [] = home_of day u == s
 stands_ready day plan s minute u (t ∷ []) =

@@ -89,8 +89,8 @@ impl Beam {
         })
     }
 
-    /// Frees clusters of a plan and builds them anew under prices, and tells whether there is a way. The plan that comes
-    /// of it stands in `after`, which is of no meaning where there is none.
+    /// Frees clusters of a plan and builds them anew under prices, and tells whether there is a way. The plan that
+    /// comes of it stands in `after`, which is of no meaning where there is none.
     pub fn rebuild(
         &mut self,
         network: &Network,

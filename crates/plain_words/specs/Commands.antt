@@ -8,8 +8,8 @@ abbrev pub is_memory : WordsRefusal → Bool
 is_memory NoMemory = true
 is_memory NotUnderstood = false
 
--- The answer of a reading, where a relation says of which commands words are the plain form: a command exactly where the
--- words are its plain form, and `NotUnderstood` exactly where they are of no plain form. Want of memory is free.
+-- The answer of a reading, where a relation says of which commands words are the plain form: a command exactly where
+-- the words are its plain form, and `NotUnderstood` exactly where they are of no plain form. Want of memory is free.
 pub record Reads {C : Type 0} (IsPlainForm : WordList → C → Type 0) (words : WordList)
     (result : Result C WordsRefusal) : Type 0 where
   pub understood : (command : C) → result ≡ Ok command → IsPlainForm words command

@@ -75,8 +75,8 @@ pub record IsFlag (form : Form) (name : List ℕ) : Type 0 where
   pub no_value : has name form.valued ≡ false
   pub named : has name form.flags ≡ true
 
--- a positional word, and a value that is a word of its own, is not empty and doesn't begin with `-`; an option is one of
--- the form's
+-- a positional word, and a value that is a word of its own, is not empty and doesn't begin with `-`; an option is one
+-- of the form's
 abbrev pub HasItsForm : Form → Item → Type 0
 HasItsForm form (Positional word) = is_positional word ≡ true
 HasItsForm form (TwoWords name value) = IsValued form name × (is_positional value ≡ true)
@@ -124,8 +124,8 @@ times asked (item ∷ items) = if is_named asked item then times asked items + 1
 
 -- ---- the plain form
 
--- The words are of the plain form, as these items: in any mixture, as many positional words as the form has, and options
--- of it, each at most once.
+-- The words are of the plain form, as these items: in any mixture, as many positional words as the form has, and
+-- options of it, each at most once.
 pub record IsPlain (form : Form) (words : WordList) (items : List Item) : Type 0 where
   pub written : words ≡ words_of items
   pub own : HaveTheirForm form items

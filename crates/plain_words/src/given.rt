@@ -1,6 +1,7 @@
 //! The words after a command word, taken apart.
 
-ghost use Rattle.std.specs.Prelude.{ℕ, ◌≡◌, ◌≤◌, ◌↔◌, [], ◌∷◌, Some, IfSome, length, map, nat_le, option_map, slice_get};
+ghost use Rattle.std.specs.Prelude.{ℕ, ◌≡◌, ◌≤◌, ◌↔◌, [], ◌∷◌, Some, IfSome, length, map, nat_le};
+ghost use Rattle.std.specs.Prelude.{option_map, slice_get};
 ghost use Rattle.plain_words.specs.Items.{form_in, is_named, positional_in, times, values_in};
 ghost use Rattle.plain_words.specs.Numbers.{IsOption};
 ghost use Rattle.plain_words.specs.Reading.{are_once, is_fitting, item_in};

@@ -9,10 +9,10 @@ use crate::given::{GivenItem, GivenWords};
 use rail_base::{NoMemory, Words};
 use std::alloc::Global;
 
-/// Takes apart the words after a command word, where they are of the form: in any mixture as many positional words as it
-/// has, which are not empty and don't begin with `-`, and each of its options at most once, the ones that have a value as
-/// two words (`--nodes 5`), of which the second is not empty and doesn't begin with `-`, or as one (`--nodes=5`). There
-/// is nothing where they are not of the form. The error is want of memory.
+/// Takes apart the words after a command word, where they are of the form: in any mixture as many positional words as
+/// it has, which are not empty and don't begin with `-`, and each of its options at most once, the ones that have a
+/// value as two words (`--nodes 5`), of which the second is not empty and doesn't begin with `-`, or as one
+/// (`--nodes=5`). There is nothing where they are not of the form. The error is want of memory.
 pub fn read_form<'a>(
     alloc: Global,
     form: &Form<'_>,

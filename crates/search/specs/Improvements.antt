@@ -28,7 +28,8 @@ pub record IsProposed (problem : Meanings) (root : List (List Bool)) (picks : Li
 abbrev pub AreProposed : Meanings → List (List Bool) → List (List ℕ) → Option Priced → Option Priced → Type 0
 AreProposed problem root [] before after = after ≡ before
 AreProposed problem root (picks ∷ others) before after =
-    (middle : Option Priced) × IsProposed problem root picks before middle × AreProposed problem root others middle after
+    (middle : Option Priced) × IsProposed problem root picks before middle
+    × AreProposed problem root others middle after
 
 -- the node is open, and there are multipliers which fit
 pub record AreToBeTried (problem : Meanings) (multipliers : Option (List Entry)) (best : Option Priced) (work : Work)

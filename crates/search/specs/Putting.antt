@@ -66,8 +66,8 @@ IsMadeAfter has_quit has_answered problem root rounds advisors later middle best
     advisors later middle best (begun region evaluation) work × (node ≡ node_from number best work)
 
 -- A node was made of a region: it was evaluated with no multipliers, after which the best solution is the one before or
--- a cheaper one of the region; and then, where that leaves it open, under those that it inherits and as the improver and
--- the advisors propose.
+-- a cheaper one of the region; and then, where that leaves it open, under those that it inherits and as the improver
+-- and the advisors propose.
 pub record IsMade {A : Type 0} (has_quit : A → Bool) (has_answered : CallTest A) (problem : Meanings)
     (root : List (List Bool)) (rounds : ℕ) (advisors later : List A) (earlier best : Option Priced)
     (region : List (List Bool)) (inherited : List Entry) (number : ℕ) (node : SearchNode) : Type 0 where

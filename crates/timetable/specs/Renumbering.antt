@@ -36,8 +36,8 @@ pub record IsRenumbering (units others : Units) (number : ℕ → ℕ) : Type 0 
 abbrev pub renumbered : (ℕ → ℕ) → List (List ℕ) → List (List ℕ)
 renumbered number plan = map (map number) plan
 
--- The plan with these numbers runs exactly where the plan runs. Its trips have the same types, so it costs the same, and
--- each unit has the same duty.
+-- The plan with these numbers runs exactly where the plan runs. Its trips have the same types, so it costs the same,
+-- and each unit has the same duty.
 pub record RunsAlike (units others : Units) (number : ℕ → ℕ) (day : Day) (plan : List (List ℕ)) : Type 0 where
   pub runs : RunsOf units day plan ↔ RunsOf others day (renumbered number plan)
   pub types : map (map others.unit_type) (renumbered number plan) ≡ map (map units.unit_type) plan
@@ -50,9 +50,9 @@ RenumberedPlansRun = (units others : Units) (number : ℕ → ℕ) (day : Day) (
 
 -- ---- among more units, and with other stock rows
 
--- A plan that runs through the day, runs with these numbers through the same day with any stock rows. Its trips have the
--- same types, so it costs the same, and each unit has the same duty. Units that are left over stay where they stood: of
--- each type as many more end the day at each station as stood there more at its start.
+-- A plan that runs through the day, runs with these numbers through the same day with any stock rows. Its trips have
+-- the same types, so it costs the same, and each unit has the same duty. Units that are left over stay where they
+-- stood: of each type as many more end the day at each station as stood there more at its start.
 pub record RunsAmong (units others : Units) (number : ℕ → ℕ) (day : Day) (rows : List Stock) (plan : List (List ℕ))
     : Type 0 where
   pub runs : RunsThrough units day plan → RunsThrough others (record day { stock = rows }) (renumbered number plan)

@@ -91,8 +91,8 @@ Runs day plan = RunsOf (stock_units day) day plan
 
 -- ---- in two parts
 
--- All but the last of these: the plan runs through the day, wherever its units end it. The numbers of the stock rows are
--- no part of it.
+-- All but the last of these: the plan runs through the day, wherever its units end it. The numbers of the stock rows
+-- are no part of it.
 pub record RunsThrough (units : Units) (day : Day) (plan : List (List ℕ)) : Type 0 where
   pub is_plan : IsPlanOfUnits units day plan
   pub lists : (t : ℕ) → t < length day.trips → MayRunOf units.unit_type day t (list_of plan t)

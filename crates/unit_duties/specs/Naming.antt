@@ -12,8 +12,8 @@ use Rattle.unit_duties.specs.declared.yards.Waiting.{Waiting}
 use Rattle.unit_duties.specs.FetchedUnits.{CanFetch, HasFetched}
 use Rattle.unit_duties.specs.Yards.{AreLeft}
 
--- The yards serve the picked compositions, and the trips that leave before the minute are named with them as the rules of
--- links and duties ask it of them, in a plan that has a list for each.
+-- The yards serve the picked compositions, and the trips that leave before the minute are named with them as the rules
+-- of links and duties ask it of them, in a plan that has a list for each.
 pub record CanBeNamed (day : Day) (picks : List ℕ) (minute : ℕ) (plan : List (List ℕ)) : Type 0 where
   pub are_picks : ArePicks day picks
   pub served : AreServed day (picked day picks)

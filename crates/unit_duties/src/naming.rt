@@ -22,8 +22,8 @@ use std::alloc::Global;
 use std::collections::BTreeSet;
 use timetable::{Instance, NamedPlan, Picks};
 
-/// What a naming is made of: the day, the compositions that are picked, and a plan whose trips that leave before a minute
-/// keep their units.
+/// What a naming is made of: the day, the compositions that are picked, and a plan whose trips that leave before a
+/// minute keep their units.
 #[derive(Clone, Copy)]
 pub(crate) struct Naming<'a> {
     pub(crate) instance: &'a Instance,
@@ -32,10 +32,10 @@ pub(crate) struct Naming<'a> {
     pub(crate) earlier: &'a NamedPlan,
 }
 
-/// The plan in which the trips that leave before the minute keep their units, and the others are named by the rule. Trips
-/// are named by departure minute and then by trip number. Units that stay in a train keep their places; each other place,
-/// front to rear, gets the unit of its type that was ready earliest in the yard of the station, and of those the one with
-/// the smallest number.
+/// The plan in which the trips that leave before the minute keep their units, and the others are named by the rule.
+/// Trips are named by departure minute and then by trip number. Units that stay in a train keep their places; each
+/// other place, front to rear, gets the unit of its type that was ready earliest in the yard of the station, and of
+/// those the one with the smallest number.
 pub(crate) fn named_from(alloc: Global, naming: Naming<'_>) -> Result<NamedPlan, NoMemory>
     requires can { CanBeNamed naming.instance.now naming.picks.now naming.minute naming.earlier.now }
     ensures { IfOk result (λ plan. plan
@@ -55,8 +55,8 @@ pub(crate) fn named_from(alloc: Global, naming: Naming<'_>) -> Result<NamedPlan,
     Ok(NamedPlan::of(lists))
 }
 
-/// The units of the trip that is next in order, which wait in no yard then: those of the plan where it leaves before the
-/// minute, and else those that the rule names.
+/// The units of the trip that is next in order, which wait in no yard then: those of the plan where it leaves before
+/// the minute, and else those that the rule names.
 fn next_units(
     alloc: Global,
     naming: Naming<'_>,

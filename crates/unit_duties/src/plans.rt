@@ -59,11 +59,11 @@ pub fn name_units(
     Ok(named_from(alloc, naming)?)
 }
 
-/// The plan of named units whose trips have the picked compositions, in which the trips that leave before a minute keep the
-/// units of an earlier plan, and the others are named by the rule of `name_units`, over the units that stand ready in the
-/// yards then. The yards serve the compositions, as they do exactly where the picks are those of some plan that runs; the
-/// earlier plan has a list for each trip; and in it the trips that leave before the minute are named with these
-/// compositions as the rules of links and duties ask it of them. The error is want of memory.
+/// The plan of named units whose trips have the picked compositions, in which the trips that leave before a minute keep
+/// the units of an earlier plan, and the others are named by the rule of `name_units`, over the units that stand ready
+/// in the yards then. The yards serve the compositions, as they do exactly where the picks are those of some plan that
+/// runs; the earlier plan has a list for each trip; and in it the trips that leave before the minute are named with
+/// these compositions as the rules of links and duties ask it of them. The error is want of memory.
 pub fn name_units_from(
     alloc: Global,
     instance: &Instance,

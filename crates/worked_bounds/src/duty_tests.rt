@@ -174,8 +174,8 @@ fn units_are_named(rt: HostRuntime) -> Result<(), Fail> {
     Ok(())
 }
 
-/// Writes the plan in which the trips that leave before a minute keep the units of a plan, and the others are named from
-/// the minute on.
+/// Writes the plan in which the trips that leave before a minute keep the units of a plan, and the others are named
+/// from the minute on.
 fn write_named_from(
     text: &mut String,
     alloc: Global,

@@ -1,5 +1,5 @@
-//! Worked calls: examples of the public calls on days, costs and trial days, worked edges of links, and worked days event
-//! by event, as tests.
+//! Worked calls: examples of the public calls on days, costs and trial days, worked edges of links, and worked days
+//! event by event, as tests.
 #![tactic(auto)]
 
 #[cfg(test)]

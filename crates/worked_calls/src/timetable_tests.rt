@@ -370,8 +370,8 @@ fn turns_keep_the_longest_list(rt: HostRuntime) -> Result<(), Fail> {
     are_kept(&rt, rt.alloc(), &ROUND_THE_TRAIN, KEPT_BETWEEN)
 }
 
-/// From which trip to which, and the units that stay in the train: of two units the turn of a train that goes round keeps
-/// the one that was in the rear.
+/// From which trip to which, and the units that stay in the train: of two units the turn of a train that goes round
+/// keeps the one that was in the rear.
 const STAYING: &[(u32, u32, &str)] = &[(0, 1, "1 "), (1, 0, ""), (0, 0, ""), (0, 7, "")];
 
 /// The units that stay in the train from one trip to another, by the first link of a day.

@@ -34,6 +34,7 @@ impl Instance {
             Err(_) => Err(NoMemory),
         }
     }
+
     /// The numbers of the trips that are left without some, in order: each is at the place of the number that the trip
     /// has on the day without them, by the law `trips_that_are_left`.
     pub fn trips_left(&self, alloc: Global, gone: &[TripNo]) -> Result<Vec<TripNo>, NoMemory>
