@@ -118,8 +118,9 @@ pub fn answer_for(
 /// Plans a day as `answer_for` does, by a search that asks an improver too, as `search::solve_with` tells. The graphs
 /// are those of the day, which an improver may go by too.
 ///
-/// Nothing is asked of the improver: the conditions are those of `answer_for`, and all that is said of its answer, of
-/// the advisors and of the error holds whatever is proposed.
+/// Nothing is asked of the improver: the conditions are those of `answer_for`, and all that is said of its answer and
+/// of the advisors holds whatever is proposed. The error is want of memory alone, here, in the improver or in an
+/// advisor.
 pub fn improved_answer_for<I: Improver>(
     alloc: Global,
     instance: &Instance,

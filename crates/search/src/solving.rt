@@ -109,7 +109,8 @@ pub fn solve<R: Relaxation>(
 ///
 /// Nothing is asked of the improver. Multipliers that it proposes are tried where they fit, picks are offered where
 /// they are solutions in the root, and its cut is taken where it is proper. The conditions are those of `solve`, and
-/// all that is said of its answer, of the advisors and of the error holds.
+/// all that is said of its answer and of the advisors holds. The error is want of memory alone, here, in the improver
+/// or in an advisor.
 pub fn solve_with<R: Relaxation, I: Improver>(
     alloc: Global,
     problem: &mut R,
@@ -420,7 +421,7 @@ fn found_of(least: Option<Money>, best: Option<Best>, tree: Tree) -> Found
 }
 
 /// Makes a node of the search: evaluates its region with no multipliers and then under those that it inherits, and asks
-/// the advisors about it.
+/// the improver and then the advisors about it.
 fn make_node<R: Relaxation, I: Improver>(
     alloc: Global,
     problem: &mut R,
@@ -470,7 +471,7 @@ fn make_node<R: Relaxation, I: Improver>(
 }
 
 /// Works on a node after its first evaluation: evaluates it under the multipliers that it inherits, and asks the
-/// advisors about it. The error is want of memory.
+/// improver and then the advisors about it. The error is want of memory.
 fn work_on<R: Relaxation, I: Improver>(
     alloc: Global,
     problem: &mut R,
