@@ -1,5 +1,6 @@
 -- A day and a later one, which has some of its trips: those that are planned again from a minute on, and all that leave
--- before it.
+-- before it. Of a trip it is asked when and where it runs, and of nothing else that it is the same: not of its name,
+-- its length and its demand, nor of platforms, types and weights.
 use Rattle.std.specs.Prelude.{ℕ, ◌≡◌, ◌<◌, List, length, map, IsTrue, false, Some, slice_get}
 use Rattle.timetable.specs.declared.day.records.Link.{Link}
 use Rattle.timetable.specs.Accepted.{IsTimetable, IsDay, AreLinks}
@@ -18,7 +19,8 @@ pub record HasSameUnits (day later : Day) : Type 0 where
   pub unit_type : (u : ℕ) → type_of later u ≡ type_of day u
   pub home : (u : ℕ) → home_of later u ≡ home_of day u
 
--- each of its trips is a trip of the day, and they are in the same order
+-- each of its trips runs as a trip of the day does: it leaves and arrives when and where that one does, and its units
+-- are ready when they are there; and they are in the same order
 pub record HasTripsOf (day later : Day) (old : ℕ → ℕ) : Type 0 where
   pub known : (t : ℕ) → t < length later.trips → old t < length day.trips
   pub rise : (s t : ℕ) → s < t → t < length later.trips → old s < old t

@@ -26,7 +26,8 @@ pub fn trips_take_in_turn()
 {}
 
 /// A later day has some of the trips of a day, in their order, among them each that leaves before a minute, and some
-/// of its links, among them each by which such a trip leaves. The trips of a plan that runs in the day are then named
+/// of its links, among them each by which such a trip leaves. Of a trip it is asked that it leaves and arrives when and
+/// where it did, and that its units are ready when they were. The trips of a plan that runs in the day are then named
 /// in the later day as the rules demand it, up to the minute, with all compositions that are the plan's on each trip
 /// of the later day that is frozen there: that leaves before the minute, or to which a link leads from a trip that
 /// arrives before it.

@@ -21,8 +21,8 @@ use transitions::Graphs;
 /// The plan of named units whose trips have the picked compositions. Trips are named by departure minute and then by
 /// trip number. Units that stay in a train keep their places; each other place, front to rear, gets the unit of its
 /// type that was ready earliest in the yard of the station, and of those the one with the smallest number. A unit at
-/// its home is ready from the first minute on. The graphs are those of the instance, and each picked composition may
-/// run on its trip.
+/// its home is ready from the first minute on. The graphs are those of the instance, and the picks are a composition of
+/// its catalogue for each trip, which may run on it.
 ///
 /// But for want of memory, the picks are refused exactly where no plan that runs has them: by the first link whose rule
 /// the types break; or, where no link is broken, by the first fault of the yards.
@@ -61,9 +61,10 @@ pub fn name_units(
 
 /// The plan of named units whose trips have the picked compositions, in which the trips that leave before a minute keep
 /// the units of an earlier plan, and the others are named by the rule of `name_units`, over the units that stand ready
-/// in the yards then. The yards serve the compositions, as they do exactly where the picks are those of some plan that
-/// runs; the earlier plan has a list for each trip; and in it the trips that leave before the minute are named with
-/// these compositions as the rules of links and duties ask it of them. The error is want of memory.
+/// in the yards then. There is one pick for each trip, a composition of the catalogue; the yards serve these, as they
+/// do exactly where the picks are those of some plan that runs; the earlier plan has a list for each trip that leaves
+/// before the minute; and in it these trips are named with these compositions as the rules of links and duties ask it
+/// of them. The error is want of memory.
 pub fn name_units_from(
     alloc: Global,
     instance: &Instance,
