@@ -10,8 +10,8 @@ use Rattle.answer_text.specs.declared.answer.Head.{Head}
 use Rattle.answer_text.specs.declared.answer.Head.TheVariants.{Optimal, Infeasible, Bounded, BoundedPlan}
 use Rattle.answer_check.specs.ProvedTrees.{HasProvedTree}
 
--- what a head says, of plans of which it is known what it is to be one of a cost, to cost at least so much, and that
--- none runs
+-- What each head says, where three words are told: that the runs are a plan of this cost, that no plan costs less than
+-- so much, and that no plan runs.
 abbrev pub Says : (ℤ → Type 0) → (ℤ → Type 0) → Type 0 → Head → Type 0
 Says IsPlan CostAtLeast NoneRuns (Optimal cost) = IsPlan cost.0 × CostAtLeast cost.0
 Says IsPlan CostAtLeast NoneRuns Infeasible = NoneRuns
@@ -23,12 +23,14 @@ pub record IsPlanAtCost (units : Units) (day : Day) (runs : List (List ℕ)) (co
   pub does_run : RunsOf units day runs
   pub costs : cost ≡ pos (plan_cost_of units day runs)
 
--- what an answer says is true of the plans of these units, where these are its runs
+-- What an answer says is true of the plans that run with these units, where these are its runs: of `optimal` that the
+-- runs are one of them at its cost, and none costs less; of `infeasible` that there is none; of `bounded` that none
+-- costs less than its bound, and of `bounded` with a plan that the runs are one of them at its cost, too.
 abbrev pub IsTrueOfUnits : Units → Day → Head → List (List ℕ) → Type 0
 IsTrueOfUnits units day head runs =
     Says (IsPlanAtCost units day runs) (PlansOfUnitsCostAtLeast units day) (NoPlanOfUnitsRuns units day) head
 
--- what an answer says is true of the day: of the plans of the stock's units
+-- so of the day: of the plans that run with the units of its stock
 abbrev pub IsTrueOf : Day → Head → List (List ℕ) → Type 0
 IsTrueOf day = IsTrueOfUnits (stock_units day) day
 
