@@ -8,12 +8,13 @@ use std::alloc::Global;
 /// How many violations a hand-over counts whose second trip has another composition than the part.
 pub const MISSED: i64 = 3;
 
-/// Picks that follow, with the edges that they take.
+/// Picks with the edges that they take. They follow where `count` found an edge for each link.
 #[derive(Drop)]
 pub struct Plan {
     /// The composition of each trip.
     pub picks: Vec<CompNo>,
-    /// For each link the place of its edge.
+    /// For each link the place of the edge that was last found for it, which may be that of other picks where these
+    /// have none.
     pub edges: Vec<usize>,
     /// The counts of the yards.
     pub counts: Counts,
@@ -21,12 +22,13 @@ pub struct Plan {
     pub cost: i64,
     /// How many hand-overs have a second trip with another composition than the part.
     pub missed: i64,
-    /// How far the plan is from a solution: 0 where it is one.
+    /// How far picks that follow are from a solution, once they were counted: 0 where they are one.
     pub violations: i64,
 }
 
 impl Plan {
-    /// A plan with the first composition on each trip, which follows nothing. The error is want of memory.
+    /// A plan with the first composition on each trip, which need not follow and isn't counted yet: until then it costs
+    /// nothing and has no violations. The error is want of memory.
     pub fn new(alloc: Global, network: &Network) -> Result<Plan, NoMemory> {
         Ok(Plan {
             picks: vec![in alloc; CompNo(0); network.trips.len()]?,
@@ -70,7 +72,8 @@ impl Plan {
         }
     }
 
-    /// Finds the edges of picks that follow, and counts and measures them.
+    /// Finds the edges of picks that follow, and counts and measures them. A link between whose picks there is no edge
+    /// keeps the one that it had.
     pub fn count(&mut self, network: &Network) {
         self.counts.reset(network);
         self.cost = 0;
