@@ -5,3 +5,4 @@ pub mod Reached
 pub mod FirstRefused
 pub mod RefusedFirst
 pub mod ErrorTables
+pub mod Keeping

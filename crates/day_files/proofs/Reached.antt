@@ -11,11 +11,12 @@ use Rattle.day_files.specs.declared.errors.ReadError.{ReadError}
 use Rattle.day_files.specs.declared.errors.ReadError.TheVariants.{CannotRead, Refused, NoMemory}
 use Rattle.day_files.specs.declared.inputs.Inputs.{Inputs}
 use Rattle.day_files.specs.declared.inputs.UnitTables.{UnitTables}
-use Rattle.timetable.specs.declared.building.tables.Tables.{Tables}
 use Rattle.day_files.specs.Tables.{RowsOf, table_in}
 use Rattle.day_files.specs.Inputs.{tables_in, day_in, inputs_in}
 use Rattle.day_files.specs.Order.{IsRead, Reaches, before}
-use Rattle.day_files.specs.Answers.{Reads}
+use Rattle.day_files.specs.declared.inputs.ReadTables.{ReadTables}
+use Rattle.day_files.specs.declared.tables.ReadTable.{ReadTable}
+use Rattle.day_files.specs.Answers.{Reads, ReadsAs}
 use Rattle.day_files.specs.UnitTables.{AreUnitTablesIn}
 use Rattle.day_files.proofs.Accepted.{file_of, file_is, day_accepted_if}
 
@@ -50,10 +51,10 @@ pub units_read : (files : Files) (dir : List ℕ) (units : UnitTables) → AreUn
     → AllByRecursion (IsRead files dir) tables
     → AllByRecursion (IsRead files dir) (table.Types ∷ table.Stations ∷ table.Stock ∷ tables)
 units_read files dir units held tables rest = (
-  is_read files dir table.Types units.types held.types,
+  is_read files dir table.Types units.types.table held.types,
   (
-    is_read files dir table.Stations units.stations held.stations,
-    (is_read files dir table.Stock units.stock held.stock, rest),
+    is_read files dir table.Stations units.stations.table held.stations,
+    (is_read files dir table.Stock units.stock.table held.stock, rest),
   ),
 )
 
@@ -91,14 +92,15 @@ tables_ended files dir table.Plan why no_plan r e = absurd (no_plan refl)
 
 -- a table that is not read, or is refused, ends the reading of the six
 pub table_ended : (files : Files) (dir : List ℕ) (t : Table) (error : ReadError) → t ≢ table.Plan → AllByRecursion (IsRead files dir) (before t)
-    → Reads {Y = RowsOf t} (λ other. other ≡ t) (Err error) (table_in files dir t) → Reads {Y = Tables} (Reaches files dir) (Err error) (tables_in files dir)
+    → ReadsAs {X = ReadTable (RowsOf t)} (λ read. read.table) (λ other. other ≡ t) (Err error) (table_in files dir t)
+    → ReadsAs {X = ReadTables} (λ read. read.tables) (Reaches files dir) (Err error) (tables_in files dir)
 table_ended files dir t (Refused why) no_plan before read = tables_ended files dir t why no_plan before read
 table_ended files dir t (CannotRead other) no_plan before read = subst (λ t. Reaches files dir t) (sym read) (reached files dir t before no_plan)
 table_ended files dir t NoMemory no_plan before read = tt
 
 -- a plan that is not read, or is refused, ends the reading
 pub plan_ended : (files : Files) (dir : List ℕ) (day : Day) (error : ReadError) → day_in files dir ≡ Ok day →
-    Reads {Y = List PlanRow} (λ other. other ≡ table.Plan) (Err error) (table_in files dir table.Plan) → Reads {Y = Inputs} (Reaches files dir) (Err error) (inputs_in files dir)
+    ReadsAs {X = ReadTable (List PlanRow)} (λ read. read.table) (λ other. other ≡ table.Plan) (Err error) (table_in files dir table.Plan) → Reads {Y = Inputs} (Reaches files dir) (Err error) (inputs_in files dir)
 unfolding inputs_in
 plan_ended files dir day (Refused why) made read = rw (made, read) refl
 plan_ended files dir day (CannotRead other) made read = subst (λ t. Reaches files dir t) (sym read) (plan_reached files dir day made)

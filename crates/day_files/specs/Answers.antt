@@ -22,13 +22,17 @@ use Rattle.rail_csv.specs.Tables.{is_memory}
 use Rattle.day_files.specs.Names.{path_of}
 use Rattle.day_files.specs.Tables.{reading, AreTables, IsMadeDay}
 
--- A call reads what the files hold: its answer is theirs, and its refusal too. A file that could not be read is one
--- that is reached. Want of memory says nothing of the files.
+-- A call reads what the files hold: of what it answers this part is theirs, and its refusal too. A file that could not
+-- be read is one that is reached. Want of memory says nothing of the files.
+abbrev pub ReadsAs : {X Y : Type 0} → (X → Y) → (Table → Type 0) → Result X ReadError → Result Y Refusal → Type 0
+ReadsAs part IsReached (Ok x) said = said ≡ Ok (part x)
+ReadsAs part IsReached (Err (Refused why)) said = said ≡ Err why
+ReadsAs part IsReached (Err (CannotRead table)) said = IsReached table
+ReadsAs part IsReached (Err NoMemory) said = ⊤
+
+-- and its whole answer is theirs
 abbrev pub Reads : {Y : Type 0} → (Table → Type 0) → Result Y ReadError → Result Y Refusal → Type 0
-Reads IsReached (Ok y) said = said ≡ Ok y
-Reads IsReached (Err (Refused why)) said = said ≡ Err why
-Reads IsReached (Err (CannotRead table)) said = IsReached table
-Reads IsReached (Err NoMemory) said = ⊤
+Reads IsReached read said = ReadsAs (λ y. y) IsReached read said
 
 -- What an error says of the folder before and after. A file could not be read only where the count of faults rose and a
 -- read of it may fail. A file was too long only where more bytes were taken than a table may have, or the count of them

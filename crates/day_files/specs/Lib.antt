@@ -7,6 +7,7 @@ pub mod OneFile
 -- the day and the plan in a folder, or the first file that is refused
 pub mod Tables
 pub mod Inputs
+pub mod Kept
 pub mod UnitTables
 pub mod Order
 pub mod Acceptance

@@ -1,21 +1,23 @@
 //! The day and the plan of a folder: the tables, the day that they make, and the plan of it.
 
-ghost use Rattle.std.specs.Prelude.{◌≡◌, true, ◌≢◌, [], Some, Result, IfOk, IfErr, ⊤};
+ghost use Rattle.std.specs.Prelude.{◌≡◌, true, ◌≢◌, [], Some, Ok, Result, IfOk, IfErr, ⊤};
 ghost use Rattle.rail_csv.specs.declared.rows.Table.TheVariants.{Plan};
 ghost use Rattle.rail_io.specs.Folders.{Files, OnlyReads, faults_after};
 ghost use Rattle.rail_csv.specs.Rows.{ArePlanRows};
 ghost use Rattle.timetable.specs.Build.{day_of};
+ghost use Rattle.timetable.specs.DayTables.{IsDayOfBytes};
 ghost use Rattle.timetable.specs.Plans.{plan_of};
 ghost use Rattle.timetable.specs.Running.{IsPlan};
 ghost use Rattle.day_files.specs.Tables.{AreTables, IsMadeDay, IsMadePlan};
 ghost use Rattle.day_files.specs.UnitTables.{AreUnitTables, AreUnitTablesIn};
+ghost use Rattle.day_files.specs.Kept.{AreReadFrom};
 ghost use Rattle.day_files.specs.Inputs.{as_day, as_plan, day_in, inputs_in, tables_in};
 ghost use Rattle.day_files.specs.Order.{Reaches};
-ghost use Rattle.day_files.specs.Answers.{Reads, IsCaused, IsMade, IsErrorOf, tells_unread};
+ghost use Rattle.day_files.specs.Answers.{Reads, ReadsAs, IsCaused, IsMade, IsErrorOf, tells_unread};
 
 use crate::errors::{ReadError, Refusal};
-use crate::tables::table_in;
-use rail_csv::{PlanRow, StationRow, StockRow, TypeRow};
+use crate::tables::{ReadTable, table_in};
+use rail_csv::{PlanRow, StationRow, StockRow, TableBytes, TypeRow};
 use rail_io::Folder;
 use std::alloc::Global;
 use timetable::{Instance, InstanceRefusal, NamedPlan, PlanRefusal, Rows, Tables};
@@ -29,12 +31,24 @@ pub struct Inputs {
     pub plan: NamedPlan,
 }
 
-/// The rows of the six tables, read in their order. The first file that is refused or cannot be read ends the reading.
+/// The six tables of a day, and the bytes that they were read from.
+#[derive(Drop)]
+struct ReadTables {
+    bytes: TableBytes,
+    tables: Tables,
+}
+
+/// The six tables, read in their order, and their bytes. The first file that is refused or cannot be read ends the
+/// reading.
 #[tactic(auto, unfolding(crate::specs::Inputs::tables_in))]
-fn tables_in<F: Folder>(alloc: Global, folder: &mut F, dir: &str) -> Result<Tables, ReadError>
+fn tables_in<F: Folder>(alloc: Global, folder: &mut F, dir: &str) -> Result<ReadTables, ReadError>
+    // What the files come to.
     ensures told { (files : Files) → F.holds folder.old ≡ Some files
-        → Reads (Reaches files dir.now) result (tables_in files dir.now) }
-    ensures within { IfOk result AreTables }
+        → ReadsAs (λ read. read.tables) (Reaches files dir.now) result (tables_in files dir.now) }
+    ensures within { IfOk result (λ read. AreTables read.tables) }
+    ensures kept { IfOk result (λ read. AreReadFrom read.bytes read.tables) }
+
+    // What an error says, and what stays.
     ensures says { IfErr result (IsErrorOf (λ table. table ≢ Plan)) }
     ensures caused { IfErr result (IsCaused F.may_fail F.faults F.taken dir.now folder.old folder.new) }
     ensures fault_counted { F.counts_failed ≡ true
@@ -49,30 +63,31 @@ fn tables_in<F: Folder>(alloc: Global, folder: &mut F, dir: &str) -> Result<Tabl
     tables_with(alloc, folder, dir, units)
 }
 
-/// The rows of the tables of units, with their types and the stations where they stand, which are read first.
+/// The tables of units, with their types and the stations where they stand, which are read first.
 #[derive(Drop)]
 struct UnitTables {
-    types: Rows<TypeRow>,
-    stations: Rows<StationRow>,
-    stock: Rows<StockRow>,
+    types: ReadTable<Rows<TypeRow>>,
+    stations: ReadTable<Rows<StationRow>>,
+    stock: ReadTable<Rows<StockRow>>,
 }
 
-/// The rows of the six tables, of which these were read.
-#[tactic(auto, unfolding(crate::specs::Inputs::tables_in))]
+/// The six tables, of which these were read.
+#[tactic(auto, using(crate::proofs::Keeping::kept), unfolding(crate::specs::Inputs::tables_in))]
 fn tables_with<F: Folder>(
     alloc: Global,
     folder: &mut F,
     dir: &str,
     units: UnitTables,
-) -> Result<Tables, ReadError>
+) -> Result<ReadTables, ReadError>
     // The tables that were read.
     requires read { (files : Files) → F.holds folder.old ≡ Some files → AreUnitTablesIn files dir.now units }
     requires within { AreUnitTables units }
 
     // What the files come to.
     ensures told { (files : Files) → F.holds folder.old ≡ Some files
-        → Reads (Reaches files dir.now) result (tables_in files dir.now) }
-    ensures within { IfOk result AreTables }
+        → ReadsAs (λ read. read.tables) (Reaches files dir.now) result (tables_in files dir.now) }
+    ensures within { IfOk result (λ read. AreTables read.tables) }
+    ensures kept { IfOk result (λ read. AreReadFrom read.bytes read.tables) }
 
     // What an error says, and what stays.
     ensures says { IfErr result (IsErrorOf (λ table. table ≢ Plan)) }
@@ -84,13 +99,28 @@ fn tables_with<F: Folder>(
     let trips = table_in(alloc, folder, dir)?;
     let links = table_in(alloc, folder, dir)?;
     let weights = table_in(alloc, folder, dir)?;
-    Ok(Tables {
-        types: units.types,
-        stations: units.stations,
-        stock: units.stock,
-        trips,
-        links,
-        weights,
+    let UnitTables {
+        types,
+        stations,
+        stock,
+    } = units;
+    Ok(ReadTables {
+        bytes: TableBytes {
+            types: types.bytes,
+            stations: stations.bytes,
+            stock: stock.bytes,
+            trips: trips.bytes,
+            links: links.bytes,
+            weights: weights.bytes,
+        },
+        tables: Tables {
+            types: types.table,
+            stations: stations.table,
+            stock: stock.table,
+            trips: trips.table,
+            links: links.table,
+            weights: weights.table,
+        },
     })
 }
 
@@ -100,6 +130,7 @@ fn day_of(alloc: Global, tables: Tables) -> Result<Instance, ReadError>
     requires { AreTables tables }
     ensures told { Reads (λ _. ⊥) result (as_day (day_of tables)) }
     ensures made { IfOk result IsMadeDay }
+    ensures exact { IfOk result (λ day. day_of tables ≡ Ok day) }
     ensures ended { IfErr result IsMade }
     ensures says { IfErr result (IsErrorOf (λ _. ⊥)) }
 {
@@ -152,8 +183,44 @@ pub fn day_in<F: Folder>(alloc: Global, folder: &mut F, dir: &str) -> Result<Ins
         → F.faults folder.new ≡ faults_after (tells_unread result) (F.faults folder.old) }
     ensures only_reads { OnlyReads F.holds F.may_fail F.faults F.taken folder.old folder.new }
 {
-    let tables = tables_in(alloc, folder, dir)?;
-    day_of(alloc, tables)
+    let read = tables_in(alloc, folder, dir)?;
+    day_of(alloc, read.tables)
+}
+
+/// A day, and the bytes of the six tables that make it.
+#[derive(Drop)]
+pub struct DayWithBytes {
+    /// The bytes of its tables, none longer than a table may be.
+    pub bytes: TableBytes,
+    /// The day.
+    pub instance: Instance,
+}
+
+/// The day that the six tables of a folder make, as `day_in` answers it, and the bytes of these tables, from the same
+/// reading: read as tables they make the day, also where the folder doesn't tell what it holds. The errors are those of
+/// `day_in`, with the same causes.
+#[tactic(auto, unfolding(crate::specs::Inputs::day_in))]
+pub fn day_with_bytes_in<F: Folder>(
+    alloc: Global,
+    folder: &mut F,
+    dir: &str,
+) -> Result<DayWithBytes, ReadError>
+    // What the files come to.
+    ensures told { (files : Files) → F.holds folder.old ≡ Some files
+        → ReadsAs (λ read. read.instance) (Reaches files dir.now) result (day_in files dir.now) }
+    ensures made { IfOk result (λ read. IsMadeDay read.instance) }
+    ensures kept { IfOk result (λ read. IsDayOfBytes read.bytes read.instance) }
+
+    // What an error says, and what stays.
+    ensures says { IfErr result (IsErrorOf (λ table. table ≢ Plan)) }
+    ensures caused { IfErr result (IsCaused F.may_fail F.faults F.taken dir.now folder.old folder.new) }
+    ensures fault_counted { F.counts_failed ≡ true
+        → F.faults folder.new ≡ faults_after (tells_unread result) (F.faults folder.old) }
+    ensures only_reads { OnlyReads F.holds F.may_fail F.faults F.taken folder.old folder.new }
+{
+    let ReadTables { bytes, tables } = tables_in(alloc, folder, dir)?;
+    let instance = day_of(alloc, tables)?;
+    Ok(DayWithBytes { bytes, instance })
 }
 
 /// The day and the plan of a folder: the day of its six tables, and then the plan of it that `plan.csv` makes. The
@@ -187,7 +254,7 @@ pub fn inputs_in<F: Folder>(alloc: Global, folder: &mut F, dir: &str) -> Result<
     ensures only_reads { OnlyReads F.holds F.may_fail F.faults F.taken folder.old folder.new }
 {
     let instance = day_in(alloc, folder, dir)?;
-    let rows: Rows<PlanRow> = table_in(alloc, folder, dir)?;
-    let plan = plan_of(alloc, &instance, rows.items())?;
+    let rows: ReadTable<Rows<PlanRow>> = table_in(alloc, folder, dir)?;
+    let plan = plan_of(alloc, &instance, rows.table.items())?;
     Ok(Inputs { instance, plan })
 }

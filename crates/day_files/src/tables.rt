@@ -3,7 +3,8 @@
 ghost use Rattle.std.specs.Prelude.{◌≡◌, true, ◌≤◌, ℕ, length, List, Some, IfOk, IfErr};
 ghost use Rattle.rail_io.specs.Folders.{Files, OnlyReads, faults_after};
 ghost use Rattle.day_files.specs.Tables.{bytes_in, read_by};
-ghost use Rattle.day_files.specs.Answers.{Reads, IsCaused, IsErrorOf, IsWrong, error_of, tells_unread};
+ghost use Rattle.day_files.specs.Kept.{IsReadTable};
+ghost use Rattle.day_files.specs.Answers.{Reads, ReadsAs, IsCaused, IsErrorOf, IsWrong, error_of, tells_unread};
 
 use crate::errors::{ReadError, Refusal};
 use crate::files::file_in;
@@ -52,16 +53,27 @@ fn error_of(table: Table, refusal: TableRefusal) -> ReadError
     }
 }
 
-/// The table of a folder, as the bytes of its file are read. A file that is too long is not looked at.
+/// A table of a folder, and the bytes that it was read from.
+#[derive(Drop)]
+pub(crate) struct ReadTable<T: Drop> {
+    /// The bytes of its file.
+    pub(crate) bytes: Bytes,
+    /// The table.
+    pub(crate) table: T,
+}
+
+/// The table of a folder, as the bytes of its file are read, and these bytes. A file that is too long is not looked at.
 #[tactic(auto, using(crate::proofs::Refusing::refused), unfolding(crate::specs::Tables::read_by))]
 pub(crate) fn table_in<F: Folder, T: DayTable>(
     alloc: Global,
     folder: &mut F,
     dir: &str,
-) -> Result<T, ReadError>
+) -> Result<ReadTable<T>, ReadError>
     ensures told { (files : Files) → F.holds folder.old ≡ Some files
-        → Reads (λ other. other ≡ T.table) result (read_by T.reading files dir.now T.table) }
-    ensures within { IfOk result T.is_within }
+        → ReadsAs (λ read. read.table) (λ other. other ≡ T.table) result
+        (read_by T.reading files dir.now T.table) }
+    ensures within { IfOk result (λ read. T.is_within read.table) }
+    ensures kept { IfOk result (IsReadTable T.reading) }
     ensures says { IfErr result (IsErrorOf (λ other. other ≡ T.table)) }
     ensures caused { IfErr result (IsCaused F.may_fail F.faults F.taken dir.now folder.old folder.new) }
     ensures fault_counted { F.counts_failed ≡ true
@@ -70,7 +82,7 @@ pub(crate) fn table_in<F: Folder, T: DayTable>(
 {
     let bytes = bytes_of(alloc, folder, dir, T::table())?;
     match T::read(alloc, bytes.items()) {
-        Ok(table) => Ok(table),
+        Ok(table) => Ok(ReadTable { bytes, table }),
         Err(refusal) => Err(error_of(T::table(), refusal)),
     }
 }

@@ -13,7 +13,7 @@ returns-in_err-trips-clause-told g c = λ files held.
 pub returns-in_err-links-clause-told : goal.returns-in_err-links-clause-told
 returns-in_err-links-clause-told g c = λ files held.
     let units = units_read files c.args.dir.now c.args.units (c.requires.read files held) in
-    let read4 = is_read files c.args.dir.now table.Trips c.in_ok-trips.trips (c.in_ok-trips.ensures.told files held) in
+    let read4 = is_read files c.args.dir.now table.Trips c.in_ok-trips.trips.table (c.in_ok-trips.ensures.told files held) in
     let held4 = c.table_in.ensures.only_reads.same ∙ held in
     let ended = table_ended files c.args.dir.now table.Links c.in_err-links.field-0.0 (λ e. cc) (units (table.Trips ∷ []) (read4, tt)) (c.in_err-links.ensures.told files held4) in
     search rules
@@ -21,9 +21,9 @@ returns-in_err-links-clause-told g c = λ files held.
 pub returns-in_err-weights-clause-told : goal.returns-in_err-weights-clause-told
 returns-in_err-weights-clause-told g c = λ files held.
     let units = units_read files c.args.dir.now c.args.units (c.requires.read files held) in
-    let read4 = is_read files c.args.dir.now table.Trips c.in_ok-trips.trips (c.in_ok-trips.ensures.told files held) in
+    let read4 = is_read files c.args.dir.now table.Trips c.in_ok-trips.trips.table (c.in_ok-trips.ensures.told files held) in
     let held4 = c.table_in.ensures.only_reads.same ∙ held in
-    let read5 = is_read files c.args.dir.now table.Links c.in_ok-links.links (c.in_ok-links.ensures.told files held4) in
+    let read5 = is_read files c.args.dir.now table.Links c.in_ok-links.links.table (c.in_ok-links.ensures.told files held4) in
     let held5 = c.table_in-2.ensures.only_reads.same ∙ held4 in
     let ended = table_ended files c.args.dir.now table.Weights c.in_err-weights.field-0.0 (λ e. cc) (units (table.Trips ∷ table.Links ∷ []) (read4, (read5, tt))) (c.in_err-weights.ensures.told files held5) in
     search rules
