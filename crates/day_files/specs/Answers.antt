@@ -44,12 +44,11 @@ IsCaused may_fail faults taken dir before after (Refused (TooLong table)) =
     RosePast MOST_TABLE_BYTES (taken before) (taken after)
 IsCaused may_fail faults taken dir before after _ = ⊤
 
--- whether a file is said to be one that could not be read
-abbrev pub tells_unread : {Y : Type 0} → Result Y ReadError → Bool
-tells_unread (Ok y) = false
-tells_unread (Err (CannotRead table)) = true
-tells_unread (Err (Refused why)) = false
-tells_unread (Err NoMemory) = false
+-- whether an error is that a file could not be read
+abbrev pub is_unread : ReadError → Bool
+is_unread (CannotRead table) = true
+is_unread (Refused why) = false
+is_unread NoMemory = false
 
 -- bytes that are no longer than a table may be, and of which the reader of the table gives this refusal
 pub record AreRefused (table : Table) (bytes : List ℕ) (why : TableRefusal) : Type 0 where

@@ -1,5 +1,5 @@
 -- One file of a folder, read whole: its path, what is answered of it, and what a refusal is caused by.
-use Rattle.std.specs.Prelude.{ℕ, ◌≡◌, ◌<◌, ◌≤◌, List, ◌++◌, codes, length, Bool, IsTrue, Result, Ok, Err, ⊤}
+use Rattle.std.specs.Prelude.{ℕ, ◌≡◌, ◌<◌, ◌≤◌, List, ◌++◌, codes, length, Bool, false, IsTrue, Result, Ok, Err, ⊤}
 use Rattle.rail_io.specs.Folders.{Files, Rose, RosePast, file_at}
 use Rattle.rail_io.specs.declared.whole.FileRefusal.{FileRefusal}
 use Rattle.rail_io.specs.declared.whole.FileRefusal.TheVariants.{NoMemory, ReadFault, TooLong}
@@ -29,6 +29,11 @@ IsFileCaused may_fail faults taken path limit before after ReadFault =
     Rose (faults before) (faults after) × IsTrue (may_fail before path)
 IsFileCaused may_fail faults taken path limit before after TooLong = RosePast limit (taken before) (taken after)
 IsFileCaused may_fail faults taken path limit before after NoMemory = ⊤
+
+-- whether what a call answers is an error that says that a file could not be read, as these errors tell
+abbrev pub tells_unread : {E Y : Type 0} → (E → Bool) → Result Y E → Bool
+tells_unread is_unread (Ok y) = false
+tells_unread is_unread (Err error) = is_unread error
 
 -- A folder below another: what its path and then a name lead to, the other's path leads to by the two names together.
 abbrev pub PathsNest : Type 0

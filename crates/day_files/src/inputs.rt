@@ -8,12 +8,13 @@ ghost use Rattle.timetable.specs.Build.{day_of};
 ghost use Rattle.timetable.specs.DayTables.{IsDayOfBytes};
 ghost use Rattle.timetable.specs.Plans.{plan_of};
 ghost use Rattle.timetable.specs.Running.{IsPlan};
+ghost use Rattle.day_files.specs.OneFile.{tells_unread};
 ghost use Rattle.day_files.specs.Tables.{AreTables, IsMadeDay, IsMadePlan};
 ghost use Rattle.day_files.specs.UnitTables.{AreUnitTables, AreUnitTablesIn};
 ghost use Rattle.day_files.specs.Kept.{AreReadFrom};
 ghost use Rattle.day_files.specs.Inputs.{as_day, as_plan, day_in, inputs_in, tables_in};
 ghost use Rattle.day_files.specs.Order.{Reaches};
-ghost use Rattle.day_files.specs.Answers.{Reads, ReadsAs, IsCaused, IsMade, IsErrorOf, tells_unread};
+ghost use Rattle.day_files.specs.Answers.{Reads, ReadsAs, IsCaused, IsMade, IsErrorOf, is_unread};
 
 use crate::errors::{ReadError, Refusal};
 use crate::tables::{ReadTable, table_in};
@@ -52,7 +53,7 @@ fn tables_in<F: Folder>(alloc: Global, folder: &mut F, dir: &str) -> Result<Read
     ensures says { IfErr result (IsErrorOf (λ table. table ≢ Plan)) }
     ensures caused { IfErr result (IsCaused F.may_fail F.faults F.taken dir.now folder.old folder.new) }
     ensures fault_counted { F.counts_failed ≡ true
-        → F.faults folder.new ≡ faults_after (tells_unread result) (F.faults folder.old) }
+        → F.faults folder.new ≡ faults_after (tells_unread is_unread result) (F.faults folder.old) }
     ensures only_reads { OnlyReads F.holds F.may_fail F.faults F.taken folder.old folder.new }
 {
     let units = UnitTables {
@@ -93,7 +94,7 @@ fn tables_with<F: Folder>(
     ensures says { IfErr result (IsErrorOf (λ table. table ≢ Plan)) }
     ensures caused { IfErr result (IsCaused F.may_fail F.faults F.taken dir.now folder.old folder.new) }
     ensures fault_counted { F.counts_failed ≡ true
-        → F.faults folder.new ≡ faults_after (tells_unread result) (F.faults folder.old) }
+        → F.faults folder.new ≡ faults_after (tells_unread is_unread result) (F.faults folder.old) }
     ensures only_reads { OnlyReads F.holds F.may_fail F.faults F.taken folder.old folder.new }
 {
     let trips = table_in(alloc, folder, dir)?;
@@ -180,7 +181,7 @@ pub fn day_in<F: Folder>(alloc: Global, folder: &mut F, dir: &str) -> Result<Ins
     ensures says { IfErr result (IsErrorOf (λ table. table ≢ Plan)) }
     ensures caused { IfErr result (IsCaused F.may_fail F.faults F.taken dir.now folder.old folder.new) }
     ensures fault_counted { F.counts_failed ≡ true
-        → F.faults folder.new ≡ faults_after (tells_unread result) (F.faults folder.old) }
+        → F.faults folder.new ≡ faults_after (tells_unread is_unread result) (F.faults folder.old) }
     ensures only_reads { OnlyReads F.holds F.may_fail F.faults F.taken folder.old folder.new }
 {
     let read = tables_in(alloc, folder, dir)?;
@@ -215,7 +216,7 @@ pub fn day_with_bytes_in<F: Folder>(
     ensures says { IfErr result (IsErrorOf (λ table. table ≢ Plan)) }
     ensures caused { IfErr result (IsCaused F.may_fail F.faults F.taken dir.now folder.old folder.new) }
     ensures fault_counted { F.counts_failed ≡ true
-        → F.faults folder.new ≡ faults_after (tells_unread result) (F.faults folder.old) }
+        → F.faults folder.new ≡ faults_after (tells_unread is_unread result) (F.faults folder.old) }
     ensures only_reads { OnlyReads F.holds F.may_fail F.faults F.taken folder.old folder.new }
 {
     let ReadTables { bytes, tables } = tables_in(alloc, folder, dir)?;
@@ -250,7 +251,7 @@ pub fn inputs_in<F: Folder>(alloc: Global, folder: &mut F, dir: &str) -> Result<
     ensures says { IfErr result (IsErrorOf (λ _. ⊤)) }
     ensures caused { IfErr result (IsCaused F.may_fail F.faults F.taken dir.now folder.old folder.new) }
     ensures fault_counted { F.counts_failed ≡ true
-        → F.faults folder.new ≡ faults_after (tells_unread result) (F.faults folder.old) }
+        → F.faults folder.new ≡ faults_after (tells_unread is_unread result) (F.faults folder.old) }
     ensures only_reads { OnlyReads F.holds F.may_fail F.faults F.taken folder.old folder.new }
 {
     let instance = day_in(alloc, folder, dir)?;

@@ -2,9 +2,10 @@
 
 ghost use Rattle.std.specs.Prelude.{◌≡◌, true, ◌≤◌, ℕ, length, List, Some, IfOk, IfErr};
 ghost use Rattle.rail_io.specs.Folders.{Files, OnlyReads, faults_after};
+ghost use Rattle.day_files.specs.OneFile.{tells_unread};
 ghost use Rattle.day_files.specs.Tables.{bytes_in, read_by};
 ghost use Rattle.day_files.specs.Kept.{IsReadTable};
-ghost use Rattle.day_files.specs.Answers.{Reads, ReadsAs, IsCaused, IsErrorOf, IsWrong, error_of, tells_unread};
+ghost use Rattle.day_files.specs.Answers.{Reads, ReadsAs, IsCaused, IsErrorOf, IsWrong, error_of, is_unread};
 
 use crate::errors::{ReadError, Refusal};
 use crate::files::file_in;
@@ -30,7 +31,7 @@ fn bytes_of<F: Folder>(
     ensures says { IfErr result (IsErrorOf (λ other. other ≡ table)) }
     ensures caused { IfErr result (IsCaused F.may_fail F.faults F.taken dir.now folder.old folder.new) }
     ensures fault_counted { F.counts_failed ≡ true
-        → F.faults folder.new ≡ faults_after (tells_unread result) (F.faults folder.old) }
+        → F.faults folder.new ≡ faults_after (tells_unread is_unread result) (F.faults folder.old) }
     ensures only_reads { OnlyReads F.holds F.may_fail F.faults F.taken folder.old folder.new }
 {
     match file_in(alloc, folder, dir, file_name(table), MOST_TABLE_BYTES) {
@@ -77,7 +78,7 @@ pub(crate) fn table_in<F: Folder, T: DayTable>(
     ensures says { IfErr result (IsErrorOf (λ other. other ≡ T.table)) }
     ensures caused { IfErr result (IsCaused F.may_fail F.faults F.taken dir.now folder.old folder.new) }
     ensures fault_counted { F.counts_failed ≡ true
-        → F.faults folder.new ≡ faults_after (tells_unread result) (F.faults folder.old) }
+        → F.faults folder.new ≡ faults_after (tells_unread is_unread result) (F.faults folder.old) }
     ensures only_reads { OnlyReads F.holds F.may_fail F.faults F.taken folder.old folder.new }
 {
     let bytes = bytes_of(alloc, folder, dir, T::table())?;

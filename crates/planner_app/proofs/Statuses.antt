@@ -25,7 +25,7 @@ use Rattle.statuses.specs.Written.{CountsFailedReads}
 use Rattle.run_documents.specs.Planning.{EndsPlanning}
 use Rattle.planner_app.specs.Statuses.{EndsCheck, EndsReport, EndsSimulation, EndsTrial}
 use Rattle.statuses.specs.Written.{IsUndisturbed, Whole, Part, Nothing}
-use Rattle.planner_app.specs.Statuses.{tells_unread, status_of, status_of_verdict, WroteOutcome}
+use Rattle.planner_app.specs.Statuses.{is_unread, status_of, status_of_verdict, WroteOutcome}
 use Rattle.planner_app.proofs.Endings.{check_ends, planning_ends, simulation_ends}
 use Rattle.planner_app.proofs.ReportEndings.{report_ends, trial_ended}
 
@@ -84,7 +84,7 @@ usage_by NoMemory e = absurd (omega (arith, e))
 
 -- an outcome says that a file could not be read, and has status 5, or it doesn't, and has another, which is never 6
 abbrev IsToldByFive : Outcome → Type 0
-IsToldByFive outcome = ((tells_unread outcome ≡ true) × (status_of outcome ≡ 5)) ⊎ ((tells_unread outcome ≡ false) × (status_of outcome ≢ 5) × (status_of outcome ≢ 6))
+IsToldByFive outcome = ((is_unread outcome ≡ true) × (status_of outcome ≡ 5)) ⊎ ((is_unread outcome ≡ false) × (status_of outcome ≢ 5) × (status_of outcome ≢ 6))
 
 low_head : (head : Head) (n : ℕ) → status_said head ≡ n → n ≤ 4
 low_head (Optimal cost) n e = omega (arith, e)
@@ -110,13 +110,13 @@ unread_is_five NoMemory = inr (refl, λ five. omega (arith, five), λ six. omega
 
 -- the status tells of the outcome whether a read failed
 pub counts_reads : (outcome : Outcome) (status before after : ℕ) (written written' : Option (List ℕ)) (faults faults' : ℕ)
-    → WroteOutcome outcome status written written' faults faults' → after ≡ faults_after (tells_unread outcome) before → CountsFailedReads status before after
+    → WroteOutcome outcome status written written' faults faults' → after ≡ faults_after (is_unread outcome) before → CountsFailedReads status before after
 counts_reads outcome status before after written written' faults faults' wrote counts = by (unread_is_five outcome) wrote
   where
-    failed : tells_unread outcome ≡ true → after ≡ faults_after true before
+    failed : is_unread outcome ≡ true → after ≡ faults_after true before
     failed unread = counts ∙ ap (λ (failed : Bool). faults_after failed before) unread
 
-    same : tells_unread outcome ≡ false → after ≡ before
+    same : is_unread outcome ≡ false → after ≡ before
     same read = counts ∙ ap (λ (failed : Bool). faults_after failed before) read
 
     by : IsToldByFive outcome → WroteOutcome outcome status written written' faults faults' → CountsFailedReads status before after

@@ -1,6 +1,6 @@
 -- The status that a run ends with, what it wrote, and how many calls failed.
-use Rattle.std.specs.Prelude.{ℕ, ◌≡◌, ◌≢◌, ◌⊎◌, ◌<◌, ◌↔◌, List, length, Option, Bool, true, false, IsTrue}
-use Rattle.std.specs.Prelude.{Result, Ok, Err}
+use Rattle.std.specs.Prelude.{ℕ, ◌≡◌, ◌⊎◌, ◌<◌, ◌↔◌, List, length, Option, Bool, true, false, IsTrue}
+use Rattle.std.specs.Prelude.{Ok, Err}
 use Rattle.rail_base.specs.declared.limits.TheConstants.{MOST_FILE_BYTES}
 use Rattle.rail_io.specs.Folders.{Files}
 use Rattle.rail_io.specs.Sinks.{Appends}
@@ -14,7 +14,6 @@ use Rattle.answer_text.specs.declared.answer.Answer.{Answer}
 use Rattle.answer_text.specs.declared.refusal.AnswerRefusal.{AnswerRefusal}
 use Rattle.answer_text.specs.Grammar.{IsRefused}
 use Rattle.answer_text.specs.Limits.{has_plan}
-use Rattle.answer_text.specs.Texts.{text_of}
 use Rattle.trial_day.specs.Trial.{trial_tables_of}
 use Rattle.answer_check.specs.declared.checking.AnswerVerdict.{AnswerVerdict}
 use Rattle.answer_check.specs.declared.checking.AnswerVerdict.TheVariants.{Valid}
@@ -25,7 +24,7 @@ use Rattle.run_documents.specs.declared.outcome.Outcome.{Outcome}
 use Rattle.run_documents.specs.declared.outcome.Outcome.TheVariants.{Planned, Tried, Runs, Stops, Checked, Reported}
 use Rattle.run_documents.specs.declared.outcome.Outcome.TheVariants.{NoPlan, Usage, Refused, CannotRead}
 use Rattle.run_documents.specs.declared.outcome.Outcome.TheVariants.{NoAnswer, NoMemory}
-use Rattle.run_documents.specs.AnswerFiles.{answer_bytes}
+use Rattle.run_documents.specs.AnswerFiles.{answer_bytes, is_unread as answer_unread}
 use Rattle.run_documents.specs.Texts.{IsDocument}
 use Rattle.run_documents.specs.TrialTexts.{trial_text}
 use Rattle.planner_app.specs.declared.reports.ReportKind.{ReportKind}
@@ -111,15 +110,10 @@ status_of (NoAnswer other) = 3
 status_of NoMemory = 7
 
 -- whether an outcome is that a file could not be read
-abbrev pub tells_unread : Outcome → Bool
-tells_unread (CannotRead table) = true
-tells_unread (NoAnswer answer_error.CannotRead) = true
-tells_unread other = false
-
--- whether a reading ends with the outcome that a file could not be read
-abbrev pub leaves_unread : {A : Type 0} → Result A Outcome → Bool
-leaves_unread (Ok read) = false
-leaves_unread (Err outcome) = tells_unread outcome
+abbrev pub is_unread : Outcome → Bool
+is_unread (CannotRead table) = true
+is_unread (NoAnswer error) = answer_unread error
+is_unread other = false
 
 -- What was written of an outcome's document, and the status that says so.
 abbrev pub WroteOutcome : Outcome → ℕ → Option (List ℕ) → Option (List ℕ) → ℕ → ℕ → Type 0

@@ -3,10 +3,11 @@
 ghost use Rattle.std.specs.Prelude.{ℕ, true, List, ◌≡◌, Some, IfOk, IfErr};
 ghost use Rattle.rail_base.specs.declared.limits.TheConstants.{MOST_NODES};
 ghost use Rattle.rail_io.specs.Folders.{Files, OnlyReads, faults_after};
+ghost use Rattle.day_files.specs.OneFile.{tells_unread};
 ghost use Rattle.day_files.specs.Tables.{IsMadeDay};
 ghost use Rattle.answer_text.specs.Limits.{IsWithin};
 ghost use Rattle.planner_app.specs.Outcomes.{AreAnswered, AskAbout, IsOutcome, reads_answer};
-ghost use Rattle.planner_app.specs.Statuses.{leaves_unread};
+ghost use Rattle.planner_app.specs.Statuses.{is_unread};
 
 use answer_text::Answer;
 use day_files::day_in;
@@ -43,7 +44,7 @@ pub(crate) fn answered_in<F: Folder>(
         → reads_answer about.named ≡ true
         → IsOutcome F.holds F.may_fail F.faults F.taken words folder.old folder.new outcome) }
     ensures fault_counted { F.counts_failed ≡ true
-        → F.faults folder.new ≡ faults_after (leaves_unread result) (F.faults folder.old) }
+        → F.faults folder.new ≡ faults_after (tells_unread is_unread result) (F.faults folder.old) }
     ensures only_reads { OnlyReads F.holds F.may_fail F.faults F.taken folder.old folder.new }
 {
     let instance = match day_in(alloc, folder, dir) {

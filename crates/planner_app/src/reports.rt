@@ -8,7 +8,7 @@ ghost use Rattle.answer_text.specs.Limits.{has_plan};
 ghost use Rattle.planner_app.specs.Outcomes.{AskToReport, IsOutcome};
 ghost use Rattle.planner_app.specs.ReportOutcomes.{IsReportOutcome};
 ghost use Rattle.planner_app.specs.ReportTexts.{report_text};
-ghost use Rattle.planner_app.specs.Statuses.{tells_unread};
+ghost use Rattle.planner_app.specs.Statuses.{is_unread};
 
 use crate::answered::{Answered, answered_in};
 use answer_check::{AnswerVerdict, picks_of_plan, verdict_on};
@@ -42,7 +42,7 @@ pub(crate) fn reported<F: Folder>(
         → IsOutcome F.holds F.may_fail F.faults F.taken words folder.old folder.new result }
     ensures only_reads { OnlyReads F.holds F.may_fail F.faults F.taken folder.old folder.new }
     ensures fault_counted { F.counts_failed ≡ true
-        → F.faults folder.new ≡ faults_after (tells_unread result) (F.faults folder.old) }
+        → F.faults folder.new ≡ faults_after (is_unread result) (F.faults folder.old) }
 {
     let Answered { instance, answer } = match answered_in(alloc, folder, dir) {
         Ok(answered) => answered,

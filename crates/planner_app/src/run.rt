@@ -9,7 +9,7 @@ ghost use Rattle.trial_day.specs.Trial.{IsTrialSize};
 ghost use Rattle.planner_app.specs.Advice.{AreAskedFor};
 ghost use Rattle.planner_app.specs.Outcomes.{AskAbout, AskToCheck, AskToPlan, AskToSimulate, Grants, IsOutcome};
 ghost use Rattle.planner_app.specs.ReportOutcomes.{IsCheckOutcome, IsPlanOutcome, IsRunOutcome, IsTrialOutcome};
-ghost use Rattle.planner_app.specs.Statuses.{tells_unread};
+ghost use Rattle.planner_app.specs.Statuses.{is_unread};
 
 use crate::answered::answered_in;
 use crate::reports::{ReportKind, reported};
@@ -53,7 +53,7 @@ pub(crate) fn outcome_of<F: Folder>(
     // The folder.
     ensures only_reads { OnlyReads F.holds F.may_fail F.faults F.taken folder.old folder.new }
     ensures fault_counted { F.counts_failed ≡ true
-        → F.faults folder.new ≡ faults_after (tells_unread result) (F.faults folder.old) }
+        → F.faults folder.new ≡ faults_after (is_unread result) (F.faults folder.old) }
     ensures untouched { ((dir : List ℕ) → ¬ AskAbout words.now dir) → folder.new ≡ folder.old }
 {
     match read_words(alloc, words) {
@@ -99,7 +99,7 @@ fn planned<F: Folder>(
     // The folder.
     ensures only_reads { OnlyReads F.holds F.may_fail F.faults F.taken folder.old folder.new }
     ensures fault_counted { F.counts_failed ≡ true
-        → F.faults folder.new ≡ faults_after (tells_unread result) (F.faults folder.old) }
+        → F.faults folder.new ≡ faults_after (is_unread result) (F.faults folder.old) }
 
     // The advisors.
     ensures advisors { AreTheSame advisors.old.items advisors.new.items identity }
@@ -127,7 +127,7 @@ fn planned_day(
 
     // What it comes to.
     ensures outcome { IsPlanOutcome instance.now nodes result }
-    ensures read { tells_unread result ≡ false }
+    ensures read { is_unread result ≡ false }
 
     // The advisors.
     ensures advisors { AreTheSame advisors.old.items advisors.new.items identity }
@@ -182,7 +182,7 @@ fn simulated<F: Folder>(alloc: Global, folder: &mut F, dir: &str) -> Outcome
         → IsOutcome F.holds F.may_fail F.faults F.taken words folder.old folder.new result }
     ensures only_reads { OnlyReads F.holds F.may_fail F.faults F.taken folder.old folder.new }
     ensures fault_counted { F.counts_failed ≡ true
-        → F.faults folder.new ≡ faults_after (tells_unread result) (F.faults folder.old) }
+        → F.faults folder.new ≡ faults_after (is_unread result) (F.faults folder.old) }
 {
     match inputs_in(alloc, folder, dir) {
         Ok(inputs) => simulated_plan(alloc, &inputs.instance, &inputs.plan),
@@ -194,7 +194,7 @@ fn simulated<F: Folder>(alloc: Global, folder: &mut F, dir: &str) -> Outcome
 fn simulated_plan(alloc: Global, instance: &Instance, plan: &NamedPlan) -> Outcome
     requires { IsPlan instance.now plan.now }
     ensures outcome { IsRunOutcome instance.now plan.now result }
-    ensures read { tells_unread result ≡ false }
+    ensures read { is_unread result ≡ false }
 {
     match simulate(alloc, instance, plan) {
         Ok(ran) => Outcome::Runs(ran.cost),
@@ -209,7 +209,7 @@ fn checked<F: Folder>(alloc: Global, folder: &mut F, dir: &str) -> Outcome
         → IsOutcome F.holds F.may_fail F.faults F.taken words folder.old folder.new result }
     ensures only_reads { OnlyReads F.holds F.may_fail F.faults F.taken folder.old folder.new }
     ensures fault_counted { F.counts_failed ≡ true
-        → F.faults folder.new ≡ faults_after (tells_unread result) (F.faults folder.old) }
+        → F.faults folder.new ≡ faults_after (is_unread result) (F.faults folder.old) }
 {
     match answered_in(alloc, folder, dir) {
         Ok(answered) => checked_answer(alloc, &answered.instance, &answered.answer),
@@ -221,7 +221,7 @@ fn checked<F: Folder>(alloc: Global, folder: &mut F, dir: &str) -> Outcome
 fn checked_answer(alloc: Global, instance: &Instance, answer: &Answer) -> Outcome
     requires { length answer.now.runs ≤ MOST_TRIPS }
     ensures outcome { IsCheckOutcome instance.now answer.now result }
-    ensures read { tells_unread result ≡ false }
+    ensures read { is_unread result ≡ false }
 {
     match verdict_on(alloc, instance, answer) {
         Ok(verdict) => Outcome::Checked {

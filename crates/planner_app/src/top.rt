@@ -11,7 +11,7 @@ ghost use Rattle.planner_app.specs.Outcomes.{AskToTry, Grants, IsOutcome};
 ghost use Rattle.run_documents.specs.Planning.{EndsPlanning};
 ghost use Rattle.planner_app.specs.Statuses.{EndsCheck, EndsReport, EndsSimulation, EndsTrial};
 ghost use Rattle.statuses.specs.Written.{CountsFailedReads, CountsFailedWrites, IsStatus, IsUndisturbed};
-ghost use Rattle.planner_app.specs.Statuses.{WroteOutcome, status_of, status_of_verdict, tells_unread};
+ghost use Rattle.planner_app.specs.Statuses.{WroteOutcome, status_of, status_of_verdict, is_unread};
 
 use crate::run::outcome_of;
 use advisors::Advisor;
@@ -146,7 +146,7 @@ pub fn railplan<F: Folder, K: Sink>(
         × IsOutcome F.holds F.may_fail F.faults F.taken words.now folder.old folder.new outcome
         × WroteOutcome outcome result (K.written out.old) (K.written out.new) (K.faults out.old) (K.faults out.new)
         × (F.counts_failed ≡ true
-        → F.faults folder.new ≡ faults_after (tells_unread outcome) (F.faults folder.old))
+        → F.faults folder.new ≡ faults_after (is_unread outcome) (F.faults folder.old))
         × ((nodes rounds : ℕ) → Grants words.now nodes rounds
         → AreAskedFor rounds outcome advisors.old.items advisors.new.items asked has_quit) }
 

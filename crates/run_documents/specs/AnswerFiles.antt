@@ -2,7 +2,6 @@
 use Rattle.std.specs.Prelude.{ℕ, ◌≡◌, ◌<◌, ◌≤◌, List, length, codes, Bool, true, false, IsTrue, Result, ⊤}
 use Rattle.std.specs.Prelude.{Ok, Err}
 use Rattle.rail_base.specs.declared.limits.TheConstants.{MOST_FILE_BYTES}
-use Rattle.rail_base.specs.declared.memory.NoMemory.{NoMemory}
 use Rattle.rail_io.specs.Folders.{Files, Rose, RosePast, file_at}
 use Rattle.day_files.specs.OneFile.{path_in}
 use Rattle.answer_text.specs.declared.answer.Answer.{Answer}
@@ -47,13 +46,11 @@ abbrev pub ReadsAnswer : Files → List ℕ → Result Answer AnswerError → Ty
 ReadsAnswer files dir (Ok answer) = IsAnswerOf (answer_bytes files dir) answer
 ReadsAnswer files dir (Err error) = IsWrongAnswer files dir error
 
--- whether the answer's file is said to be one that could not be read
-abbrev pub tells_unread : Result (Result Answer AnswerError) NoMemory → Bool
-tells_unread (Ok (Ok answer)) = false
-tells_unread (Ok (Err CannotRead)) = true
-tells_unread (Ok (Err TooLong)) = false
-tells_unread (Ok (Err (Refused refusal))) = false
-tells_unread (Err error) = false
+-- whether an error is that the answer's file could not be read
+abbrev pub is_unread : AnswerError → Bool
+is_unread CannotRead = true
+is_unread TooLong = false
+is_unread (Refused refusal) = false
 
 -- What an error says whatever the folder tells: the file could not be read only where the count of faults rose and a
 -- read of it may fail; it was too long only where more bytes were taken than an answer may have, or the count of them

@@ -2,10 +2,10 @@
 
 ghost use Rattle.std.specs.Prelude.{◌≡◌, true, ◌≤◌, Some, IfOk, IfErr, length};
 ghost use Rattle.rail_io.specs.Folders.{Files, OnlyReads, faults_after};
+ghost use Rattle.day_files.specs.OneFile.{tells_unread};
 ghost use Rattle.answer_text.specs.Limits.{IsWithin};
 ghost use Rattle.rail_base.specs.declared.limits.TheConstants.{MOST_FILE_BYTES, MOST_NODES};
-ghost use Rattle.run_documents.specs.AnswerFiles.{AreRefusedFor, IsAnswerCaused, IsAnswerOf, ReadsAnswer};
-ghost use Rattle.run_documents.specs.AnswerFiles.{tells_unread};
+ghost use Rattle.run_documents.specs.AnswerFiles.{AreRefusedFor, IsAnswerCaused, IsAnswerOf, ReadsAnswer, is_unread};
 
 use answer_text::{Answer, AnswerRefusal, read};
 use day_files::file_in;
@@ -51,8 +51,9 @@ pub fn answer_in<F: Folder>(
     ensures within { IfOk result (λ read. IfOk read (IsWithin MOST_NODES)) }
     ensures caused { IfOk result (λ read.
         IfErr read (IsAnswerCaused F.may_fail F.faults F.taken dir.now folder.old folder.new)) }
-    ensures fault_counted { F.counts_failed ≡ true
-        → F.faults folder.new ≡ faults_after (tells_unread result) (F.faults folder.old) }
+    ensures fault_counted { F.counts_failed ≡ true → IfOk result (λ read.
+        F.faults folder.new ≡ faults_after (tells_unread is_unread read) (F.faults folder.old)) }
+    ensures unfaulted { F.counts_failed ≡ true → IfErr result (λ _. F.faults folder.new ≡ F.faults folder.old) }
     ensures only_reads { OnlyReads F.holds F.may_fail F.faults F.taken folder.old folder.new }
 {
     let bytes = match file_in(alloc, folder, dir, ANSWER_FILE, MOST_FILE_BYTES) {
