@@ -13,6 +13,6 @@ mod reading;
 pub mod refusal;
 
 pub use answer::{Answer, Head, Runs};
-pub use printing::{print, write_head};
+pub use printing::{print, write_head, write_nodes, write_run};
 pub use reading::read;
 pub use refusal::AnswerRefusal;

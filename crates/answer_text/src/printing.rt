@@ -60,8 +60,9 @@ fn write_runs(text: &mut String, runs: &[UnitList]) -> Result<(), NoMemory>
     Ok(())
 }
 
-/// Adds the units of one trip.
-fn write_run(text: &mut String, trip: usize, units: &UnitList) -> Result<(), NoMemory>
+/// Adds the line of the units that run a trip, by the trip's number: its units, front to rear, with its line feed. The
+/// error is want of memory, after which the text is of no use.
+pub fn write_run(text: &mut String, trip: usize, units: &UnitList) -> Result<(), NoMemory>
     ensures { OnOk result (Adds (string_bytes text.old) (string_bytes text.new) (run_line trip units.now ∷ [])) }
 {
     write!(text, "run {trip}")?;
@@ -72,8 +73,9 @@ fn write_run(text: &mut String, trip: usize, units: &UnitList) -> Result<(), NoM
     Ok(())
 }
 
-/// Adds the nodes of a tree.
-fn write_nodes(text: &mut String, tree: &Tree) -> Result<(), NoMemory>
+/// Adds the lines of the nodes of a tree, in its order, each with its line feed. The error is want of memory, after
+/// which the text is of no use.
+pub fn write_nodes(text: &mut String, tree: &Tree) -> Result<(), NoMemory>
     ensures { OnOk result (Adds (string_bytes text.old) (string_bytes text.new) (node_lines tree.now)) }
 {
     for node in 0..tree.len() {
