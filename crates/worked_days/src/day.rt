@@ -212,35 +212,37 @@ fn add(
     Ok(files.push(MemoryFile::new(alloc, path, bytes)?)?)
 }
 
-/// Adds the files of a day that are there.
+/// Adds the files of a day in a folder that are there.
 fn add_day(
     rt: &impl Abort,
     alloc: Global,
     files: &mut Vec<MemoryFile>,
+    dir: &str,
     day: &Day,
 ) -> Result<(), NoMemory> {
     let rows = [
-        ("day/types.csv", day.types),
-        ("day/stations.csv", day.stations),
-        ("day/stock.csv", day.stock),
-        ("day/trips.csv", day.trips),
-        ("day/links.csv", day.links),
-        ("day/weights.csv", day.weights),
-        ("day/plan.csv", day.plan),
-        ("day/answer.txt", day.answer),
+        ("types.csv", day.types),
+        ("stations.csv", day.stations),
+        ("stock.csv", day.stock),
+        ("trips.csv", day.trips),
+        ("links.csv", day.links),
+        ("weights.csv", day.weights),
+        ("plan.csv", day.plan),
+        ("answer.txt", day.answer),
     ];
-    for (path, text) in &rows {
+    for (name, text) in &rows {
         if let Some(text) = text {
-            add(rt, alloc, files, path, text.as_bytes())?;
+            let path = format!(in alloc; "{dir}/{name}")?;
+            add(rt, alloc, files, path.as_str(), text.as_bytes())?;
         }
     }
     Ok(())
 }
 
-/// The files of a day that are there.
+/// The files of a day in the folder `day` that are there.
 fn files_of(rt: &impl Abort, alloc: Global, day: &Day) -> Result<Vec<MemoryFile>, NoMemory> {
     let mut files = Vec::new(alloc);
-    add_day(rt, alloc, &mut files, day)?;
+    add_day(rt, alloc, &mut files, "day", day)?;
     Ok(files)
 }
 
@@ -253,6 +255,18 @@ pub(crate) fn folder_of(
 ) -> Result<MemoryFolder, NoMemory> {
     let files = files_of(rt, alloc, day)?;
     MemoryFolder::new(alloc, files, failing)
+}
+
+/// A folder with a day in a folder of it.
+pub(crate) fn folder_with_day_at(
+    rt: &impl Abort,
+    alloc: Global,
+    dir: &str,
+    day: &Day,
+) -> Result<MemoryFolder, NoMemory> {
+    let mut files = Vec::new(alloc);
+    add_day(rt, alloc, &mut files, dir, day)?;
+    MemoryFolder::new(alloc, files, Vec::new(alloc))
 }
 
 /// The folder of a day, whose reads never fail.
@@ -276,7 +290,7 @@ pub(crate) fn folder_with_bytes(
 ) -> Result<MemoryFolder, NoMemory> {
     let mut files = Vec::new(alloc);
     add(rt, alloc, &mut files, path, bytes)?;
-    add_day(rt, alloc, &mut files, day)?;
+    add_day(rt, alloc, &mut files, "day", day)?;
     MemoryFolder::new(alloc, files, Vec::new(alloc))
 }
 

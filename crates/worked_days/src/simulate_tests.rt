@@ -2,7 +2,7 @@
 
 use crate::day::{
     Day, bytewise_sink, expect_ample, expect_document, expect_run, expect_simulated, folder_of,
-    two_trips, two_types,
+    folder_with_day_at, two_trips, two_types,
 };
 use rail_base::NoMemory;
 use rail_io::MemorySink;
@@ -35,6 +35,22 @@ fn a_unit_that_is_ready_in_time_runs(rt: HostRuntime) -> Result<(), Fail> {
         .with_plan("trip,units\nT1,0 1\nT2,1 0\n");
     let stops = "stops: unit 1 is not ready for trip 1\n";
     expect_document(&rt, alloc, &both, 1, stops)?;
+    Ok(())
+}
+
+#[test]
+fn a_day_may_lie_below_another_folder(rt: HostRuntime) -> Result<(), Fail> {
+    let alloc = rt.alloc();
+    let mut folder = folder_with_day_at(&rt, alloc, "week/2", &two_trips())?;
+    let rows = [
+        ("week/2", 0, "runs 60\n"),
+        ("week", 5, "cannot read types.csv\n"),
+        ("2", 5, "cannot read types.csv\n"),
+    ];
+    for (dir, status, document) in rows {
+        let words = ["railplan", "simulate", dir];
+        expect_ample(&rt, alloc, &words, &mut folder, status, document)?;
+    }
     Ok(())
 }
 
