@@ -22,8 +22,7 @@ pub fn path_in(alloc: Global, dir: &str, name: &str) -> Result<String, NoMemory>
 /// The bytes of the file of this name in a folder, where it has at most `limit`; what is answered is never longer. The
 /// limit is at most that of a file of any kind.
 ///
-/// - `ReadFault`: a read failed: the count of faults rose or stands at its last value, and a read of that file may
-///   fail.
+/// - `ReadFault`: the count of faults rose or stands at its last value, and a read of that file may fail.
 /// - `TooLong`: more than `limit` bytes were handed out, or their count had reached 2^63; where the folder tells what
 ///   it holds, the file is longer.
 /// - `NoMemory`: want of memory.
