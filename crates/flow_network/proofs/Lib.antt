@@ -1,0 +1,4 @@
+pub mod Reaching
+pub mod Pushing
+pub mod Cutting
+pub mod Largest

@@ -1,0 +1,4 @@
+pub mod Flows
+pub mod Steps
+pub mod NetworkParts
+pub mod Laws
