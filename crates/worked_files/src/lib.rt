@@ -1,9 +1,11 @@
-//! Worked files: examples of the public calls on files, the disk, the standard output, rows of tables and compositions,
-//! as tests.
+//! Worked files: examples of the public calls on files, the disk, the standard output, rows of tables, compositions and
+//! days that bytes make, as tests.
 #![tactic(auto)]
 
 #[cfg(test)]
 mod composition_tests;
+#[cfg(test)]
+mod day_tests;
 #[cfg(test)]
 mod file_tests;
 #[cfg(test)]

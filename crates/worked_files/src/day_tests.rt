@@ -1,0 +1,130 @@
+//! The tables of a day as bytes, the names in the day that they make, and the day without some of its trips.
+
+ghost use Rattle.std.specs.Prelude.{◌≡◌, ◌<◌, ◌≤◌, Some, length, IfOk};
+ghost use Rattle.rail_csv.specs.Tables.{AreShort};
+ghost use Rattle.timetable.specs.DayTables.{IsDayOfBytes};
+
+use rail_base::limits::MOST_TABLE_BYTES;
+use rail_base::{Bytes, LinkNo, StationNo, TripNo};
+use rail_csv::{Table, TableBytes};
+use std::alloc::Global;
+use std::test::Fail;
+use timetable::laws::names_are_found;
+use timetable::{Instance, tables_of};
+
+/// The train of T1 is split over T2 and T3, and that of T4 turns round into T5.
+const LINKS: &[u8] = b"kind,arriving,arriving2,departing,departing2,reverse,uncouple,couple\n\
+    split,T1,,T2,T3,no,none,none\nturn,T4,,T5,,yes,none,none\n";
+
+/// These bytes as those of a table, which has no more than a table may have: more of them fail the test.
+fn table(alloc: Global, bytes: &[u8]) -> Result<Bytes, Fail>
+    ensures { IfOk result (λ table. length table ≤ MOST_TABLE_BYTES) }
+{
+    if bytes.len() as u64 > MOST_TABLE_BYTES {
+        return Err(Fail::new("a table is too long"));
+    }
+    Ok(Bytes::of(bytes.to_vec(alloc)?))
+}
+
+/// The tables of a day with five trips and these links.
+fn five_trips(alloc: Global, links: &[u8]) -> Result<TableBytes, Fail>
+    ensures { IfOk result AreShort }
+{
+    let types = table(
+        alloc,
+        b"type,carriages,seats,metres,family\nA,3,200,80,regional\n",
+    )?;
+    let stations = table(
+        alloc,
+        b"station,platform,reallocation\nX,240,30\nY,240,30\nZ,240,30\n",
+    )?;
+    let stock = table(alloc, b"station,type,start,end\nX,A,2,0\nY,A,0,2\n")?;
+    let trips = table(
+        alloc,
+        b"trip,from,departure,to,arrival,km,demand\n\
+        T1,X,08:00,Y,09:00,10,300\nT2,Y,09:10,Z,10:00,10,300\nT3,Y,09:20,Z,10:10,10,300\n\
+        T4,Z,10:50,X,11:50,10,300\nT5,X,12:00,Y,13:00,10,300\n",
+    )?;
+    let weights = table(alloc, b"carriage,shortage,shunting\n1,1,100\n")?;
+    Ok(TableBytes {
+        types,
+        stations,
+        stock,
+        trips,
+        links: table(alloc, links)?,
+        weights,
+    })
+}
+
+/// The day that these bytes make. A table or a day that is refused fails the test.
+fn day_of(alloc: Global, bytes: &TableBytes) -> Result<Instance, Fail>
+    requires { AreShort bytes.now }
+    ensures { IfOk result (λ day. IsDayOfBytes bytes.now day) }
+{
+    let tables = tables_of(alloc, bytes)?;
+    let day = Instance::build(alloc, tables)?;
+    Ok(day)
+}
+
+/// The number of the trip that has the name of a trip: its own number, since names are apart.
+fn number_by_name(day: &Instance, trip: TripNo) -> Option<TripNo>
+    requires { trip < length day.now.trips }
+    ensures { result ≡ Some trip }
+{
+    day.is_sound();
+    names_are_found();
+    day.find_trip(day.trip(trip).name.as_str())
+}
+
+#[test]
+fn names_lead_to_numbers(rt: HostRuntime) -> Result<(), Fail> {
+    let day = day_of(rt.alloc(), &five_trips(rt.alloc(), LINKS)?)?;
+    assert!(rt; day.find_station("Z") == Some(StationNo(2)));
+    assert!(rt; day.find_station("z").is_none());
+    assert!(rt; day.find_trip("T4") == Some(TripNo(3)));
+    assert!(rt; day.find_trip("").is_none());
+    for number in 0..day.trips() {
+        let trip = TripNo(number);
+        assert!(rt; number_by_name(&day, trip) == Some(trip));
+    }
+    Ok(())
+}
+
+#[test]
+fn a_wrong_table_is_told(rt: HostRuntime) -> Result<(), Fail> {
+    let bytes = five_trips(rt.alloc(), b"kind\n")?;
+    match tables_of(rt.alloc(), &bytes) {
+        Ok(_) => assert!(rt; false, "the header of the links is wrong"),
+        Err(wrong) => assert!(rt; matches!(wrong.table, Table::Links)),
+    }
+    Ok(())
+}
+
+/// Whether a turn that leads from one of these trips to the other is the one link of a day.
+fn has_turn_alone(day: &Instance, from: u32, to: u32) -> bool {
+    if day.links() != 1 {
+        return false;
+    }
+    let kind = day.link(LinkNo(0)).kind;
+    kind.second().is_none() && kind.leads(TripNo(from), TripNo(to))
+}
+
+#[test]
+fn a_day_without_some_trips(rt: HostRuntime) -> Result<(), Fail> {
+    let bytes = five_trips(rt.alloc(), LINKS)?;
+    let day = day_of(rt.alloc(), &bytes)?;
+    let later = day.without_trips(rt.alloc(), &bytes, &[TripNo(2)])?;
+    assert!(rt; later.trips() == 4);
+    assert!(rt; later.units() == 2);
+    assert!(rt; later.find_trip("T3").is_none());
+    assert!(rt; later.find_trip("T4") == Some(TripNo(2)));
+    assert!(rt; has_turn_alone(&later, 2, 3));
+    let first = day.without_trips(rt.alloc(), &bytes, &[TripNo(1), TripNo(0)])?;
+    assert!(rt; first.trips() == 3);
+    assert!(rt; has_turn_alone(&first, 1, 2));
+    let left = day.trips_left(rt.alloc(), &[TripNo(1), TripNo(0)])?;
+    assert!(rt; left.as_slice() == [TripNo(2), TripNo(3), TripNo(4)].as_slice());
+    let none = day.without_trips(rt.alloc(), &bytes, &[TripNo(4), TripNo(1)])?;
+    assert!(rt; none.links() == 0);
+    Ok(())
+}
