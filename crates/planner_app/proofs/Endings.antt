@@ -31,6 +31,7 @@ use Rattle.planner_app.specs.declared.reports.ReportKind.{ReportKind}
 use Rattle.planner_app.specs.declared.reports.ReportKind.TheVariants as report
 use Rattle.planner_app.specs.Outcomes.{AreAnswered, AskAbout, AskToCheck, AskToPlan, AskToReport, AskToSimulate}
 use Rattle.planner_app.specs.Outcomes.{OfDay, OfDayAndPlan, PlanRuns, Says, command_for, folder_of, reads_plan}
+use Rattle.run_documents.specs.Lines.{refused_line}
 use Rattle.run_documents.specs.Planning.{EndsPlanning}
 use Rattle.planner_app.specs.Statuses.{EndsCheck, EndsSimulation, IsAnswerFileRefused, IsAnswerRefusedIn}
 use Rattle.statuses.specs.Written.{IsUndisturbed}
@@ -275,9 +276,11 @@ module _ (words : List (List ℕ)) (files : Files) (dir : List ℕ) where
   -- ---- a day is planned
 
   module _ (nodes rounds : ℕ) (asked : AskToPlan words dir nodes rounds) (before after : Option (List ℕ)) where
-    planned_refused : (why : Refusal) → day_in files dir ≡ Err why → EndsPlanning files dir nodes 3 before after
-    planned_refused why refused = record {
+    planned_refused : (why : Refusal) → day_in files dir ≡ Err why → Appends (refused_line why) before after
+        → EndsPlanning refused_line files dir nodes 3 before after
+    planned_refused why refused written = record {
       refused = (λ e. (why, refused), λ said. refl);
+      told = λ three. (why, refused, written);
       answered = λ other. absurd (other refl);
     }
 
@@ -293,9 +296,11 @@ module _ (words : List (List ℕ)) (files : Files) (dir : List ℕ) where
         let same = one_command words (command.Plan other n k) (command.Plan dir nodes rounds) asked' asked in (cc, cc)
 
     planned_answered : (day : Day) (answer : Answer) → day_in files dir ≡ Ok day → IsHeadline day nodes answer
-        → Appends (text_of answer) before after → EndsPlanning files dir nodes (status_said answer.head) before after
+        → Appends (text_of answer) before after
+        → EndsPlanning refused_line files dir nodes (status_said answer.head) before after
     planned_answered day answer accepted headline written = record {
       refused = (λ e. absurd (never_refused answer.head e), λ said. absurd (day_or_not day said.0 accepted said.1));
+      told = λ three. absurd (never_refused answer.head three);
       answered = λ other. (
         day,
         accepted,
@@ -304,12 +309,13 @@ module _ (words : List (List ℕ)) (files : Files) (dir : List ℕ) where
     }
 
     pub planning_ends : (it : Outcome) → Says words files it → (text : List ℕ) → IsDocument it text → Appends text before after
-        → IsUndisturbed (status_of it) → EndsPlanning files dir nodes (status_of it) before after
+        → IsUndisturbed (status_of it) → EndsPlanning refused_line files dir nodes (status_of it) before after
     planning_ends it says text is written undisturbed = by it says text is written undisturbed
         (is_allowed words files (command.Plan dir nodes rounds) asked it says)
       where
         by : (it : Outcome) → Says words files it → (text : List ℕ) → IsDocument it text → Appends text before after
-            → IsUndisturbed (status_of it) → IsAllowed it 0 → EndsPlanning files dir nodes (status_of it) before after
+            → IsUndisturbed (status_of it) → IsAllowed it 0
+            → EndsPlanning refused_line files dir nodes (status_of it) before after
         by (outcome.Planned answer) says text is written undisturbed allowed =
             let same = same_plan says.1.dir says.1.nodes says.1.rounds says.1.asked in
             planned_answered says.0 answer (subst (λ (d : List ℕ). day_in files d ≡ Ok says.0) same.0 says.2)
@@ -327,6 +333,7 @@ module _ (words : List (List ℕ)) (files : Files) (dir : List ℕ) where
         by (outcome.Refused why) (OfDay other about plain refused) text is written undisturbed allowed =
             planned_refused why (subst (λ (d : List ℕ). day_in files d ≡ Err why)
             (about_folder words dir other (command.Plan dir nodes rounds) asked refl about) refused)
+            (subst (λ (t : List ℕ). Appends t before after) is written)
         by (outcome.CannotRead table) says text is written undisturbed allowed = absurd (undisturbed.0 refl)
         by outcome.NoMemory says text is written undisturbed allowed = absurd (undisturbed.2 refl)
         by (outcome.NoAnswer error) says text is written undisturbed allowed = absurd (omega (arith, allowed.0))

@@ -22,6 +22,7 @@ use Rattle.answer_check.specs.Headline.{status_said}
 use Rattle.planner_app.specs.Outcomes.{AskInVain, AskToCheck, AskToPlan, AskToReport, AskToSimulate, AskToTry, HasCause}
 use Rattle.planner_app.specs.Outcomes.{IsOutcome}
 use Rattle.statuses.specs.Written.{CountsFailedReads}
+use Rattle.run_documents.specs.Lines.{refused_line}
 use Rattle.run_documents.specs.Planning.{EndsPlanning}
 use Rattle.planner_app.specs.Statuses.{EndsCheck, EndsReport, EndsSimulation, EndsTrial}
 use Rattle.statuses.specs.Written.{IsUndisturbed, Whole, Part, Nothing}
@@ -177,11 +178,13 @@ module _ {F : Type 0} (holds : F → Option Files) (may_fail : F → List ℕ �
   own_undisturbed undisturbed = subst IsUndisturbed (sym (its_own undisturbed)) undisturbed
 
   pub ends_planning : (files : Files) (dir : List ℕ) (nodes rounds : ℕ) → holds before ≡ Some files
-      → AskToPlan words dir nodes rounds → IsUndisturbed status → EndsPlanning files dir nodes status written written'
+      → AskToPlan words dir nodes rounds → IsUndisturbed status
+      → EndsPlanning refused_line files dir nodes status written written'
   ends_planning files dir nodes rounds tells asked undisturbed = by wrote
     where
-      by : WroteOutcome outcome status written written' faults faults' → EndsPlanning files dir nodes status written written'
-      by (Whole text d appends e) = subst (λ (n : ℕ). EndsPlanning files dir nodes n written written') (sym e)
+      by : WroteOutcome outcome status written written' faults faults'
+          → EndsPlanning refused_line files dir nodes status written written'
+      by (Whole text d appends e) = subst (λ (n : ℕ). EndsPlanning refused_line files dir nodes n written written') (sym e)
           (planning_ends words files dir nodes rounds asked written written' outcome (is.told files tells) text d appends
           (own_undisturbed undisturbed))
       by (Part text d appends rose six) = absurd (undisturbed.1 six)

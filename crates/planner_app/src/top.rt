@@ -8,6 +8,7 @@ ghost use Rattle.planner_app.specs.declared.reports.ReportKind.{ReportKind};
 ghost use Rattle.planner_app.specs.Advice.{AreAskedFor};
 ghost use Rattle.planner_app.specs.Outcomes.{AskAbout, AskInVain, AskToCheck, AskToPlan, AskToReport, AskToSimulate};
 ghost use Rattle.planner_app.specs.Outcomes.{AskToTry, Grants, IsOutcome};
+ghost use Rattle.run_documents.specs.Lines.{refused_line};
 ghost use Rattle.run_documents.specs.Planning.{EndsPlanning};
 ghost use Rattle.planner_app.specs.Statuses.{EndsCheck, EndsReport, EndsSimulation, EndsTrial};
 ghost use Rattle.statuses.specs.Written.{CountsFailedReads, CountsFailedWrites, IsStatus, IsUndisturbed};
@@ -118,7 +119,7 @@ pub fn railplan<F: Folder, K: Sink>(
     // The headline, and the statuses of the other words and files, where the status is none of 5, 6 and 7.
     ensures plan { (files : Files) (dir : List ℕ) (nodes rounds : ℕ) → F.holds folder.old ≡ Some files
         → AskToPlan words.now dir nodes rounds → IsUndisturbed result
-        → EndsPlanning files dir nodes result (K.written out.old) (K.written out.new) }
+        → EndsPlanning refused_line files dir nodes result (K.written out.old) (K.written out.new) }
     ensures simulate { (files : Files) (dir : List ℕ) → F.holds folder.old ≡ Some files → AskToSimulate words.now dir
         → IsUndisturbed result → EndsSimulation files dir result }
     ensures check { (files : Files) (dir : List ℕ) → F.holds folder.old ≡ Some files → AskToCheck words.now dir
