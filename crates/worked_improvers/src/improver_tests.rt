@@ -5,8 +5,10 @@ ghost use Rattle.rail_base.specs.declared.limits.TheConstants.{MOST_BRANCHINGS};
 ghost use Rattle.branch_tree.specs.Regions.{IsOver};
 ghost use Rattle.transitions.specs.Edges.{AreGraphs};
 
+use crate::proposals::{multipliers_of, picks_of};
+use crate::scripts::{Call, CutNumbers, NO_MORE, Scripted};
 use advisors::Advisor;
-use branch_tree::{Cut, Multipliers, Region, Relaxation};
+use branch_tree::{Cut, Region, Relaxation};
 use improvers::{Improvement, Improver, NoImprover, Seen};
 use price_bound::DayBounds;
 use rail_base::limits::MOST_BRANCHINGS;
@@ -15,7 +17,7 @@ use sample_days::{ONE_LEFT, RING, Texts, day_of};
 use search::{Allowed, Found, solve_with};
 use std::alloc::{AllocError, Global};
 use std::test::Fail;
-use timetable::{Instance, Picks};
+use timetable::Instance;
 use transitions::Graphs;
 
 /// What an improver proposes at each of its calls, and how often it is asked about a node.
@@ -36,11 +38,7 @@ struct Proposing {
 
 impl Improver for Proposing {
     fn improve(&mut self, seen: &Seen<'_>, to: &mut Improvement) -> Result<bool, NoMemory> {
-        let mut multipliers = Multipliers::new(self.alloc)?;
-        for (index, value) in self.puts {
-            let _is_put = multipliers.put(*index, *value).is_ok();
-        }
-        to.multipliers = Some(multipliers);
+        to.multipliers = Some(multipliers_of(self.alloc, self.puts)?);
         for _time in 0..self.times {
             for picks in self.picks {
                 to.picks.push(picks_of(self.alloc, picks)?)?;
@@ -52,28 +50,6 @@ impl Improver for Proposing {
             comp: CompNo(comp),
         });
         Ok(seen.attempt < self.attempts)
-    }
-}
-
-/// These compositions, one for each trip.
-fn picks_of(alloc: Global, compositions: &[u32]) -> Result<Picks, NoMemory> {
-    let Ok(trips) = u32::try_from(compositions.len()) else {
-        return Err(NoMemory);
-    };
-    let mut picks = Picks::new(alloc, trips)?;
-    for trip in 0..trips {
-        set_pick(&mut picks, TripNo(trip), compositions.get(trip as usize));
-    }
-    Ok(picks)
-}
-
-/// Gives a trip a composition, where both are there.
-fn set_pick(picks: &mut Picks, trip: TripNo, comp: Option<&u32>) {
-    let Some(comp) = comp else {
-        return;
-    };
-    if trip.0 < picks.len() {
-        picks.set(trip, CompNo(*comp));
     }
 }
 
@@ -206,20 +182,120 @@ fn rubbish_changes_nothing(rt: HostRuntime) -> Result<(), Fail> {
     Ok(())
 }
 
-/// On the day where one unit is left at Y, with 30 at index 3, (AA, AA) has the priced value 120 + 30; it is no
-/// solution, and (AA, A) is one that costs 190. No branching is granted.
-#[test]
-fn good_picks_are_taken(rt: HostRuntime) -> Result<(), Fail> {
-    let alloc = rt.alloc();
-    let mut improver = Proposing {
-        alloc,
+/// A search with an improver that has a script: what it shows, and line by line what the improver is shown and what is
+/// found.
+struct Case {
+    about: &'static str,
+    texts: Texts<'static>,
+    branchings: u32,
+    script: &'static [Call],
+    told: &'static str,
+}
+
+/// Proposes at the root of the day where one unit is left at Y a cut in place of another, a plan and multipliers. Under
+/// 30 at index 3, (AA, AA) has 150, under 10 it has 130, and under 70 both it and the plan (AA, A) have 190.
+const ALL: &[Call] = &[
+    Call {
         puts: &[(3, 30)],
+        cut: CutNumbers::Only(1, 0),
+        more: true,
+        ..NO_MORE
+    },
+    Call {
+        puts: &[(3, 10)],
         picks: &[&[1, 1], &[1, 0], &[1, 0]],
-        times: 1,
-        cut: (0, 0),
-        attempts: 0,
-    };
-    let text = told_with(alloc, &ONE_LEFT, 0, &mut improver)?;
-    assert!(rt; text.as_str() == "bounded 150, plan 190, 0", "{text}");
+        cut: CutNumbers::AtMost(0, 0, 1),
+        more: true,
+    },
+    NO_MORE,
+    Call {
+        puts: &[(3, 70)],
+        more: true,
+        ..NO_MORE
+    },
+];
+
+/// Proposes multipliers of both hand-overs of the ring, under which the least value is 1270, and then the plan
+/// (AAA, AA, A, AAA), which costs as much.
+const CLOSED_BY_PLAN: &[Call] = &[
+    Call {
+        puts: &[(7, 500), (11, -470)],
+        more: true,
+        ..NO_MORE
+    },
+    Call {
+        picks: &[&[2, 1, 0, 2]],
+        more: true,
+        ..NO_MORE
+    },
+];
+
+/// Proposes the cut that leaves T3 of the ring A alone, and at that side a plan in which T3 has AA.
+const PLAN_FROM_ELSEWHERE: &[Call] = &[
+    Call {
+        cut: CutNumbers::Only(2, 0),
+        ..NO_MORE
+    },
+    Call {
+        picks: &[&[2, 0, 1, 2]],
+        more: true,
+        ..NO_MORE
+    },
+];
+
+/// Searches with improvers.
+const CASES: &[Case] = &[
+    // T1 has A alone at node 1, which a ray closes.
+    Case {
+        about: "what is proposed is used, until no more is wanted or the node is closed",
+        texts: ONE_LEFT,
+        branchings: 1,
+        script: ALL,
+        told: "node 0, attempt 0; left 2 2; kept 120 at; picks 1 1; slacks 2:-1 3:1; no plan; free from 2\n\
+            node 0, attempt 1; left 2 2; kept 150 at 3:30; picks 1 1; slacks 2:-1 3:1; no plan; free from 2\n\
+            node 0, attempt 2; left 2 2; kept 150 at 3:30; picks 1 1; slacks 2:-1 3:1; plan 190 by 1 0; free from 2\n\
+            node 2, attempt 0; left 1 2; kept 150 at 3:30; picks 1 1; slacks 2:-1 3:1; plan 190 by 1 0; free from 2\n\
+            optimal 190, 1",
+    },
+    Case {
+        about: "a plan closes the node",
+        texts: RING,
+        branchings: 0,
+        script: CLOSED_BY_PLAN,
+        told: "node 0, attempt 0; left 3 3 3 3; kept 300 at; picks 2 1 1 2; slacks 7:1 8:-1 10:1 11:-1; no plan; \
+            free from 4\n\
+            node 0, attempt 1; left 3 3 3 3; kept 1270 at 7:500 11:-470; picks 2 0 0 2; slacks 7:-1 8:1 10:-1 11:1; \
+            no plan; free from 4\n\
+            optimal 1270, 0",
+    },
+    // At node 1 the split leaves A for T3, and the join takes A, where T2 has AA. At node 2 the least is 1270.
+    Case {
+        about: "a plan need not lie in the node",
+        texts: RING,
+        branchings: 1,
+        script: PLAN_FROM_ELSEWHERE,
+        told: "node 0, attempt 0; left 3 3 3 3; kept 300 at; picks 2 1 1 2; slacks 7:1 8:-1 10:1 11:-1; no plan; \
+            free from 4\n\
+            node 1, attempt 0; left 3 3 1 3; kept 1240 at; picks 2 1 0 1; slacks 4:1 10:1 11:-1; no plan; \
+            free from 4\n\
+            node 1, attempt 1; left 3 3 1 3; kept 1240 at; picks 2 1 0 1; slacks 4:1 10:1 11:-1; \
+            plan 1270 by 2 0 1 2; free from 4\n\
+            bounded 1240, plan 1270, 1",
+    },
+];
+
+/// What the improver of a search is shown, and then what is found.
+fn told_of(alloc: Global, case: &Case) -> Result<String, Fail> {
+    let mut improver = Scripted::by(alloc, case.script);
+    let found = told_with(alloc, &case.texts, case.branchings, &mut improver)?;
+    Ok(format!(in alloc; "{}{}", improver.shown(), found)?)
+}
+
+#[test]
+fn what_is_proposed_is_used(rt: HostRuntime) -> Result<(), Fail> {
+    for case in CASES {
+        let text = told_of(rt.alloc(), case)?;
+        assert!(rt; text.as_str() == case.told, "{}:\n{text}", case.about);
+    }
     Ok(())
 }

@@ -1,5 +1,9 @@
-//! Worked searches with an improver, as tests: what it proposes changes nothing that is said, and a good plan is taken.
+//! Worked searches with an improver, as tests: what it is shown, and what is made of what it proposes.
 #![tactic(auto)]
 
 #[cfg(test)]
 mod improver_tests;
+#[cfg(test)]
+mod proposals;
+#[cfg(test)]
+mod scripts;
