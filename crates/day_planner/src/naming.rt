@@ -7,7 +7,6 @@ ghost use Rattle.transitions.specs.Edges.{AreGraphs};
 ghost use Rattle.answer_check.specs.ProvedTrees.{named_for};
 
 use rail_base::NoMemory;
-use rail_base::limits::{MOST_LINKS, MOST_TRIPS, MOST_UNITS};
 use std::alloc::Global;
 use std::marker::Model;
 use timetable::{Instance, NamedPlan, Picks};
