@@ -1,6 +1,8 @@
 //! The words that a program is started with.
 
-ghost use Rattle.std.specs.Prelude.{◌≡◌, [], ◌∷◌, IfErr, IfOk, map, string_bytes, take};
+ghost use Rattle.std.specs.Prelude.{◌≡◌, [], ◌∷◌, IfErr, IfOk, IsErr, map, string_bytes, take};
+ghost use Rattle.std.specs.IoError.{error_kind};
+ghost use Rattle.std.specs.declared.io.ErrorKind.TheVariants.{OutOfMemory};
 ghost use Rattle.std.specs.Vec.Iter.{into_iter_items};
 ghost use Rattle.rail_base.specs.declared.limits.TheConstants.{MOST_WORDS};
 
@@ -17,6 +19,7 @@ pub fn program_words(alloc: Global, args: io::Result<Args>, name: &str) -> Resul
     ensures told { IfOk args (λ args.
         IfOk result (λ words. words ≡ take MOST_WORDS (map string_bytes (into_iter_items args)))) }
     ensures name { IfErr args (λ _. IfOk result (λ words. words ≡ name.now ∷ [])) }
+    ensures wanting { IfErr args (λ error. error_kind error ≡ OutOfMemory → IsErr result) }
 {
     match args {
         Ok(args) => words_in(alloc, args),
