@@ -9,7 +9,8 @@ use rail_csv::digits_value;
 pub const MOST_WORD_DIGITS: usize = 10;
 
 /// The number of an option's value, and its usual number where it has none; there is nothing where the value is not 1
-/// to `MOST_WORD_DIGITS` digits of a number that is at most `most`. It takes no memory.
+/// to `MOST_WORD_DIGITS` digits of a number that is at most `most`. The usual number is at most `most` too. It takes no
+/// memory.
 #[tactic(auto, using(crate::proofs::Spelled::or_means))]
 pub fn option_number(text: Option<&str>, usual: u32, most: u32) -> Option<u32>
     requires { usual ≤ most }
