@@ -4,6 +4,8 @@
 #[cfg(test)]
 mod advised_tests;
 #[cfg(test)]
+mod byte_tests;
+#[cfg(test)]
 mod check_tests;
 #[cfg(test)]
 mod class_tests;
