@@ -19,7 +19,7 @@ pub enum Step {
     More,
     /// The subgradient is 0: the picks are a solution whose cost is the value.
     Met,
-    /// No picks are near the region.
+    /// No picks are near the region, or something is not of the relaxation's size.
     Empty,
 }
 
@@ -112,8 +112,8 @@ impl Ascent {
         self.advance(value, incumbent)
     }
 
-    /// Evaluates the bound at the whole multipliers, and its slacks; nothing where no picks are near the region. The
-    /// value is scaled.
+    /// Evaluates the bound at the whole multipliers, and its slacks; nothing where no picks are near the region, or
+    /// something is not of the relaxation's size. The value is scaled.
     fn evaluate<R: Relaxation>(&mut self, bounds: &mut R, region: &Region) -> Option<i128>
         ensures same { R.problem bounds.new ≡ R.problem bounds.old }
     {
@@ -144,7 +144,8 @@ impl Ascent {
             None => value,
         };
         let mut from = value;
-        if self.level.is_stale() {
+        let has_returned = self.level.is_stale();
+        if has_returned {
             self.level.lower(best, incumbent);
             copy(&mut self.scaled, &self.best_scaled);
             from = best;
@@ -152,7 +153,8 @@ impl Ascent {
         let deflected = self.directions.deflect(&self.scaled, &self.slack_at);
         let gap = self.level.target(best, incumbent).saturating_sub(from);
         self.directions.step(deflected.norm, gap, &mut self.scaled);
-        if deflected.is_zero {
+        // After a return the slacks are not those of the multipliers that are stepped from.
+        if deflected.is_zero && !has_returned {
             Step::Met
         } else {
             Step::More
