@@ -100,31 +100,53 @@ fn a_wrong_table_is_told(rt: HostRuntime) -> Result<(), Fail> {
     Ok(())
 }
 
-/// Whether a turn that leads from one of these trips to the other is the one link of a day.
-fn has_turn_alone(day: &Instance, from: u32, to: u32) -> bool {
-    if day.links() != 1 {
+/// Whether the first link of a day is a turn that leads from a trip to another one.
+fn has_turn_from(day: &Instance, from: u32) -> bool {
+    if day.links() == 0 {
         return false;
     }
     let kind = day.link(LinkNo(0)).kind;
-    kind.second().is_none() && kind.leads(TripNo(from), TripNo(to))
+    kind.second().is_none() && kind.leads_from() == TripNo(from)
+}
+
+/// The day without some of the five trips.
+fn day_without(alloc: Global, gone: &[TripNo]) -> Result<Instance, Fail> {
+    let bytes = five_trips(alloc, LINKS)?;
+    let day = day_of(alloc, &bytes)?;
+    let later = day.without_trips(alloc, &bytes, gone)?;
+    Ok(later)
+}
+
+/// The trips that are gone, how many are left, the number that T4 has then, and how many links are left: the turn from
+/// T4 alone, or none.
+const GONE: &[([u32; 2], u32, u32, u32)] = &[
+    ([2, 2], 4, 2, 1),
+    ([1, 0], 3, 1, 1),
+    ([4, 1], 3, 2, 0),
+];
+
+/// Whether a day has so many trips and links, and T4 has this number and the link leads on from it.
+fn is_left(day: &Instance, trips: u32, fourth: u32, links: u32) -> bool {
+    day.trips() == trips
+        && day.find_trip("T4") == Some(TripNo(fourth))
+        && day.links() == links
+        && (links == 0 || has_turn_from(day, fourth))
 }
 
 #[test]
-fn a_day_without_some_trips(rt: HostRuntime) -> Result<(), Fail> {
-    let bytes = five_trips(rt.alloc(), LINKS)?;
-    let day = day_of(rt.alloc(), &bytes)?;
-    let later = day.without_trips(rt.alloc(), &bytes, &[TripNo(2)])?;
-    assert!(rt; later.trips() == 4);
-    assert!(rt; later.units() == 2);
-    assert!(rt; later.find_trip("T3").is_none());
-    assert!(rt; later.find_trip("T4") == Some(TripNo(2)));
-    assert!(rt; has_turn_alone(&later, 2, 3));
-    let first = day.without_trips(rt.alloc(), &bytes, &[TripNo(1), TripNo(0)])?;
-    assert!(rt; first.trips() == 3);
-    assert!(rt; has_turn_alone(&first, 1, 2));
+fn days_without_some_trips(rt: HostRuntime) -> Result<(), Fail> {
+    for (gone, trips, fourth, links) in GONE {
+        let gone = [TripNo(gone[0]), TripNo(gone[1])];
+        let day = day_without(rt.alloc(), gone.as_slice())?;
+        assert!(rt; is_left(&day, *trips, *fourth, *links));
+    }
+    Ok(())
+}
+
+#[test]
+fn trips_that_are_left(rt: HostRuntime) -> Result<(), Fail> {
+    let day = day_of(rt.alloc(), &five_trips(rt.alloc(), LINKS)?)?;
     let left = day.trips_left(rt.alloc(), &[TripNo(1), TripNo(0)])?;
     assert!(rt; left.as_slice() == [TripNo(2), TripNo(3), TripNo(4)].as_slice());
-    let none = day.without_trips(rt.alloc(), &bytes, &[TripNo(4), TripNo(1)])?;
-    assert!(rt; none.links() == 0);
     Ok(())
 }
