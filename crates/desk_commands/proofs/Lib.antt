@@ -1,0 +1,4 @@
+-- words make one command at most
+pub mod OneCommand
+-- what words are read as
+pub mod Readings

@@ -1,0 +1,98 @@
+//! The command that the words of a command line make.
+
+ghost use Rattle.std.specs.Prelude.{ℕ, List, ◌≡◌, ◌≤◌, IfOk, codes, length, map};
+ghost use Rattle.plain_words.specs.Commands.{Reads};
+ghost use Rattle.plain_words.specs.Items.{positional_in, times};
+ghost use Rattle.desk_commands.specs.PlainForm.{IsPlainForm};
+ghost use Rattle.desk_commands.specs.Reading.{ReadsCommand, ReadsPlanning, SaysPlanning};
+
+use crate::planning::{MOST_EVALUATIONS, Planning, USUAL_EVALUATIONS, USUAL_NODES, USUAL_ROUNDS};
+use plain_words::{Form, GivenWords, Text, WordsRefusal, read_form, words_after};
+use rail_base::limits::{MOST_BRANCHINGS, MOST_ROUNDS};
+use rail_base::{NoMemory, Words};
+use std::alloc::Global;
+
+/// Reads the words of a command line, of which the first stands for the program's name and is not looked at.
+///
+/// After it comes the command word, and after that, in any mixture, its positional words in their order, which are not
+/// empty and don't begin with `-`, and each of its options at most once; one that has a value as two words
+/// (`--nodes 5`) or as one (`--nodes=5`). Numbers are 1 to 10 digits.
+///
+/// The command is `plan DIR [--nodes N] [--rounds K] [--evaluations E] [--progress]`. N is at most 4,000, and 200 where
+/// it is not given; K is at most 100, and else 0; E is at most 100,000, and else 500.
+///
+/// `NotUnderstood` comes exactly where the words are not of this form; `NoMemory` is want of memory.
+pub fn read_words(alloc: Global, words: &Words) -> Result<Planning, WordsRefusal>
+    ensures { Reads IsPlainForm words.now result }
+{
+    if words.len() < 2 {
+        return Err(WordsRefusal::NotUnderstood);
+    }
+    let rest = words_after(alloc, words, 2)?;
+    command_of(alloc, words.at(1), rest.as_slice())
+}
+
+/// The command of a command word and the words after it.
+fn command_of(alloc: Global, word: &str, rest: &[&str]) -> Result<Planning, WordsRefusal>
+    ensures { ReadsCommand word.now (map (λ word. word.now) rest.now) result }
+{
+    match word {
+        "plan" => plan(alloc, rest),
+        _ => Err(WordsRefusal::NotUnderstood),
+    }
+}
+
+/// The command `plan` of the words after it.
+fn plan(alloc: Global, rest: &[&str]) -> Result<Planning, WordsRefusal>
+    ensures { ReadsCommand (codes "plan") (map (λ word. word.now) rest.now) result }
+{
+    match planning(alloc, rest)? {
+        Some(planning) => Ok(planning),
+        None => Err(WordsRefusal::NotUnderstood),
+    }
+}
+
+/// How a day is to be planned, by the words after `plan`; nothing where they are not of its form. The error is want of
+/// memory.
+fn planning(alloc: Global, rest: &[&str]) -> Result<Option<Planning>, NoMemory>
+    ensures { IfOk result (ReadsPlanning (map (λ word. word.now) rest.now)) }
+{
+    let form = Form {
+        places: 1,
+        valued: &["--nodes", "--rounds", "--evaluations"],
+        flags: &["--progress"],
+    };
+    let Some(given) = read_form(alloc, &form, rest)? else {
+        return Ok(None);
+    };
+    planning_of(alloc, &given)
+}
+
+/// How a day is to be planned, by words that were taken apart; nothing where a number is none or over its limit. The
+/// error is want of memory.
+fn planning_of(alloc: Global, given: &GivenWords<'_>) -> Result<Option<Planning>, NoMemory>
+    requires places { length (positional_in given.now) ≡ 1 }
+    requires once { (name : List ℕ) → times name given.now ≤ 1 }
+    ensures { IfOk result (SaysPlanning given.now) }
+{
+    let Some(dir) = given.positional(0) else {
+        return Ok(None);
+    };
+    let Some(nodes) = given.number("--nodes", USUAL_NODES, MOST_BRANCHINGS) else {
+        return Ok(None);
+    };
+    let Some(rounds) = given.number("--rounds", USUAL_ROUNDS, MOST_ROUNDS) else {
+        return Ok(None);
+    };
+    let Some(evaluations) = given.number("--evaluations", USUAL_EVALUATIONS, MOST_EVALUATIONS)
+    else {
+        return Ok(None);
+    };
+    Ok(Some(Planning {
+        dir: Text::copy(alloc, dir)?,
+        nodes,
+        rounds: rounds as u8,
+        evaluations,
+        tells_progress: given.has("--progress"),
+    }))
+}
