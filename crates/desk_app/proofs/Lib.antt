@@ -1,0 +1,3 @@
+pub mod PlannedDays
+pub mod Statuses
+pub mod Endings

@@ -1,0 +1,54 @@
+-- The statuses of outcomes.
+use Rattle.std.proofs.Common.{◌≡◌, ◌≢◌, ◌≤◌, ◌⊎◌, inl, inr, ℕ, true, false, List, refl, sym, subst, arith}
+use Rattle.std.specs.Global.{Vec}
+use Rattle.std.specs.Prelude.{IfOk, Result, Ok, Err}
+use Rattle.rail_base.specs.declared.memory.NoMemory as memory
+use Rattle.statuses.specs.Written.{IsTextOf}
+use Rattle.answer_text.specs.declared.answer.Head.{Head}
+use Rattle.answer_text.specs.declared.answer.Head.TheVariants.{Optimal, Infeasible, Bounded, BoundedPlan}
+use Rattle.answer_check.specs.Headline.{status_said}
+use Rattle.desk_app.specs.declared.outcome.Outcome.{Outcome}
+use Rattle.desk_app.specs.declared.outcome.Outcome.TheVariants.{Planned, Usage, Refused, CannotRead, NoMemory}
+use Rattle.desk_app.specs.Documents.{IsDocument}
+use Rattle.desk_app.specs.Outcomes.{status_of, is_unread}
+
+-- what an answer says has no status but 0, 1 and 4
+pub record IsOfHead (n : ℕ) : Type 0 where
+  pub not_usage : n ≢ 2
+  pub not_refused : n ≢ 3
+  pub low : n ≤ 4
+
+pub head_status : (head : Head) → IsOfHead (status_said head)
+head_status (Optimal cost) = record { not_usage = λ e. omega (arith, e); not_refused = λ e. omega (arith, e); low = omega arith }
+head_status Infeasible = record { not_usage = λ e. omega (arith, e); not_refused = λ e. omega (arith, e); low = omega arith }
+head_status (Bounded bound) = record { not_usage = λ e. omega (arith, e); not_refused = λ e. omega (arith, e); low = omega arith }
+head_status (BoundedPlan bound cost) = record { not_usage = λ e. omega (arith, e); not_refused = λ e. omega (arith, e); low = omega arith }
+
+-- an outcome that has a document has a status that says of no write that it failed, and not that memory ran out
+pub few_with_document : (outcome : Outcome) (text : List ℕ) → IsDocument outcome text → status_of outcome ≤ 5
+few_with_document (Planned answer) text is = omega (arith, (head_status answer.head).low)
+few_with_document Usage text is = omega arith
+few_with_document (Refused why) text is = omega arith
+few_with_document (CannotRead read) text is = omega arith
+few_with_document NoMemory text is = absurd is
+
+pub few_where_made : (outcome : Outcome) (made : Result (Vec ℕ) memory.NoMemory) → IfOk made (λ text. IsDocument outcome text.items) → IfOk made (λ _. status_of outcome ≤ 5)
+few_where_made outcome (Ok text) is = few_with_document outcome text.items is
+few_where_made outcome (Err why) is = tt
+
+-- the text that was made is that of the outcome
+pub text_of_outcome : (outcome : Outcome) (made : Result (Vec ℕ) memory.NoMemory) → IfOk made (λ text. IsDocument outcome text.items) → (text : List ℕ) → IsTextOf made text → IsDocument outcome text
+text_of_outcome outcome (Ok document) is text same = subst (λ text. IsDocument outcome text) (sym same) is
+text_of_outcome outcome (Err why) is text none = absurd none
+
+-- an outcome says that a file could not be read, and has status 5; or it doesn't, and has another, which is never 6
+abbrev pub IsToldByFive : Outcome → Type 0
+IsToldByFive outcome = ((is_unread outcome ≡ true) × (status_of outcome ≡ 5)) ⊎ ((is_unread outcome ≡ false) × (status_of outcome ≢ 5) × (status_of outcome ≢ 6))
+
+pub unread_is_five : (outcome : Outcome) → IsToldByFive outcome
+unread_is_five (Planned answer) =
+    let low = (head_status answer.head).low in inr (refl, λ five. omega (arith, low, five), λ six. omega (arith, low, six))
+unread_is_five Usage = inr (refl, λ five. omega (arith, five), λ six. omega (arith, six))
+unread_is_five (Refused why) = inr (refl, λ five. omega (arith, five), λ six. omega (arith, six))
+unread_is_five (CannotRead read) = inl (refl, refl)
+unread_is_five NoMemory = inr (refl, λ five. omega (arith, five), λ six. omega (arith, six))

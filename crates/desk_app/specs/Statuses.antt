@@ -1,0 +1,64 @@
+-- The status that a run ends with, what it wrote, and how the folder, the sink and the advisors stand after it.
+use Rattle.std.specs.Prelude.{ℕ, ◌≡◌, ◌≤◌, ◌↔◌, ◌+◌, ◌*◌, List, Option, Bool, true, ⊤}
+use Rattle.rail_io.specs.Folders.{Files, OnlyReads, Rose}
+use Rattle.rail_io.specs.Sinks.{Appends}
+use Rattle.statuses.specs.Written.{CountsFailedReads, CountsFailedWrites, Wrote}
+use Rattle.search.specs.Questions.{AreAsked, AreTheSame, in_rounds}
+use Rattle.answer_check.specs.ProvedTrees.{open_leaves}
+use Rattle.desk_commands.specs.declared.planning.Planning.{Planning}
+use Rattle.desk_app.specs.declared.outcome.Outcome.{Outcome}
+use Rattle.desk_app.specs.declared.outcome.Outcome.TheVariants.{Planned, NoMemory}
+use Rattle.desk_app.specs.Documents.{IsDocument, usage_line}
+use Rattle.desk_app.specs.Outcomes.{AskInVain, AskToPlan, status_of}
+
+-- ---- what the words say of the status
+
+-- the status with which words end that are not understood, and what was written
+pub record EndsInUsage (words : List (List ℕ)) (status : ℕ) (before after : Option (List ℕ)) : Type 0 where
+  -- 2 exactly where the words are the plain form of no command
+  pub told : (status ≡ 2) ↔ AskInVain words
+  pub written : status ≡ 2 → Appends usage_line before after
+
+-- ---- whatever the words and the files say
+
+-- what was written of an outcome's document, and the status that says so
+abbrev pub WroteOutcome : Outcome → ℕ → Option (List ℕ) → Option (List ℕ) → ℕ → ℕ → Type 0
+WroteOutcome outcome status before after faults faults' =
+    Wrote (IsDocument outcome) (status_of outcome) status before after faults faults'
+
+-- The folder after a run that ended with this status: it was only read, and left alone where the words ask for no
+-- command; 5 comes only where its count of faults rose, and one that counts failed calls tells of one at most.
+pub record LeavesFolder {F : Type 0} (holds : F → Option Files) (may_fail : F → List ℕ → Bool) (faults taken : F → ℕ)
+    (counts_failed : Bool) (words : List (List ℕ)) (status : ℕ) (before after : F) : Type 0 where
+  pub only_reads : OnlyReads holds may_fail faults taken before after
+  pub untouched : AskInVain words → after ≡ before
+  pub unread : status ≡ 5 → Rose (faults before) (faults after)
+  pub failed_reads : counts_failed ≡ true → CountsFailedReads status (faults before) (faults after)
+
+-- The sink after a run that ended with this status: 6 comes only where its count of faults rose, with 7 nothing was
+-- written, and one that counts failed calls tells of one at most.
+pub record LeavesSink (counts_failed : Bool) (status : ℕ) (before after : Option (List ℕ)) (faults faults' : ℕ) : Type 0
+  where
+    pub unwritten : status ≡ 6 → Rose faults faults'
+    pub nothing : status ≡ 7 → after ≡ before
+    pub failed_writes : counts_failed ≡ true → CountsFailedWrites status faults faults'
+    pub lasting : faults ≤ faults'
+
+-- The advisors after a run: one of the same identity stands at each place. Where a day is planned, each was asked as
+-- often at most as its rounds come to at a root and both sides of each branching granted; without a command, none was.
+pub record LeavesAdvisors {A : Type 0} (words : List (List ℕ)) (before after : List A) (identity asked : A → ℕ)
+    (has_quit : A → Bool) : Type 0 where
+  pub same : AreTheSame before after identity
+  pub asked_within : (planning : Planning) → AskToPlan words planning
+      → AreAsked before after asked has_quit 0 (planning.rounds * (2 * planning.nodes + 1))
+  pub unasked : AskInVain words → after ≡ before
+
+-- Where an answer comes of so many rounds, each advisor that has not quit was asked, in all, at least as many times as
+-- the answer has branchings and open leaves, unless there are no rounds; and at most as many times a round as there are
+-- a root and both sides of each branching. Where no answer comes, other than for want of memory, none was asked.
+abbrev pub AreAskedFor : {A : Type 0} → ℕ → Outcome → List A → List A → (A → ℕ) → (A → Bool) → Type 0
+AreAskedFor rounds (Planned answer) before after asked has_quit =
+    AreAsked before after asked has_quit (in_rounds rounds (answer.branchings + open_leaves answer))
+    (rounds * (2 * answer.branchings + 1))
+AreAskedFor rounds NoMemory before after asked has_quit = ⊤
+AreAskedFor rounds other before after asked has_quit = after ≡ before

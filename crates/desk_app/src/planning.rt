@@ -1,0 +1,130 @@
+//! The command that plans a day.
+
+ghost use Rattle.std.specs.Prelude.{true, false, ◌≡◌, ◌≤◌, ◌+◌, ◌*◌, ◌^◌, All, IfOk};
+ghost use Rattle.rail_base.specs.declared.limits.TheConstants.{MOST_BRANCHINGS, MOST_ROUNDS};
+ghost use Rattle.rail_io.specs.Folders.{OnlyReads, faults_after};
+ghost use Rattle.search.specs.Questions.{AreAsked, AreTheSame, in_rounds};
+ghost use Rattle.answer_check.specs.Headline.{IsHeadline};
+ghost use Rattle.answer_check.specs.ProvedTrees.{open_leaves};
+ghost use Rattle.desk_app.specs.Outcomes.{IsDayOutcome, IsPlanOutcome, is_unread};
+ghost use Rattle.desk_app.specs.Statuses.{AreAskedFor};
+
+use crate::outcome::Outcome;
+use advisors::Advisor;
+use answer_text::Answer;
+use day_files::day_in;
+use day_improver::{DayImprover, Watcher};
+use day_planner::{Allowed, improved_answer_for};
+use desk_commands::Planning;
+use rail_base::NoMemory;
+use rail_io::Folder;
+use std::alloc::Global;
+use timetable::Instance;
+use transitions::Graphs;
+
+/// Plans the day of a folder, and tells a watcher how far the search has come, where that is asked for.
+pub(crate) fn planned<F: Folder, W: Watcher>(
+    alloc: Global,
+    folder: &mut F,
+    planning: &Planning,
+    advisors: &mut Vec<Box<dyn Advisor>>,
+    watcher: &mut W,
+) -> Outcome
+    // The grants, and the advisors before.
+    requires nodes { planning.now.nodes ≤ MOST_BRANCHINGS }
+    requires rounds { planning.now.rounds ≤ MOST_ROUNDS }
+    requires asked { All (λ advisor. asked advisor ≤ 2 ^ 62) advisors.old.items }
+
+    // What it comes to.
+    ensures outcome { IsPlanOutcome F.holds F.may_fail F.faults F.taken planning.now folder.old folder.new result }
+
+    // The folder.
+    ensures only_reads { OnlyReads F.holds F.may_fail F.faults F.taken folder.old folder.new }
+    ensures fault_counted { F.counts_failed ≡ true
+        → F.faults folder.new ≡ faults_after (is_unread result) (F.faults folder.old) }
+
+    // The advisors.
+    ensures advisors { AreTheSame advisors.old.items advisors.new.items identity }
+    ensures asked { AreAsked advisors.old.items advisors.new.items asked has_quit 0
+        (planning.now.rounds * (2 * planning.now.nodes + 1)) }
+    ensures asked_for { AreAskedFor planning.now.rounds result advisors.old.items advisors.new.items asked has_quit }
+{
+    match day_in(alloc, folder, planning.dir.as_str()) {
+        Ok(instance) => planned_day(alloc, &instance, planning, advisors, watcher),
+        Err(error) => Outcome::from(error),
+    }
+}
+
+/// Plans a day.
+fn planned_day<W: Watcher>(
+    alloc: Global,
+    instance: &Instance,
+    planning: &Planning,
+    advisors: &mut Vec<Box<dyn Advisor>>,
+    watcher: &mut W,
+) -> Outcome
+    // The grants, and the advisors before.
+    requires nodes { planning.now.nodes ≤ MOST_BRANCHINGS }
+    requires rounds { planning.now.rounds ≤ MOST_ROUNDS }
+    requires asked { All (λ advisor. asked advisor ≤ 2 ^ 62) advisors.old.items }
+
+    // What it comes to.
+    ensures outcome { IsDayOutcome instance.now planning.now.nodes result }
+    ensures read { is_unread result ≡ false }
+
+    // The advisors.
+    ensures advisors { AreTheSame advisors.old.items advisors.new.items identity }
+    ensures asked { AreAsked advisors.old.items advisors.new.items asked has_quit 0
+        (planning.now.rounds * (2 * planning.now.nodes + 1)) }
+    ensures asked_for { AreAskedFor planning.now.rounds result advisors.old.items advisors.new.items asked has_quit }
+{
+    match answer(alloc, instance, planning, advisors, watcher) {
+        Ok(answer) => Outcome::Planned(answer),
+        Err(NoMemory) => Outcome::NoMemory,
+    }
+}
+
+/// The answer to a day. The error is want of memory.
+fn answer<W: Watcher>(
+    alloc: Global,
+    instance: &Instance,
+    planning: &Planning,
+    advisors: &mut Vec<Box<dyn Advisor>>,
+    watcher: &mut W,
+) -> Result<Answer, NoMemory>
+    // The grants, and the advisors before.
+    requires nodes { planning.now.nodes ≤ MOST_BRANCHINGS }
+    requires rounds { planning.now.rounds ≤ MOST_ROUNDS }
+    requires asked { All (λ advisor. asked advisor ≤ 2 ^ 62) advisors.old.items }
+
+    // The answer.
+    ensures headline { IfOk result (IsHeadline instance.now planning.now.nodes) }
+
+    // The advisors.
+    ensures advisors { AreTheSame advisors.old.items advisors.new.items identity }
+    ensures asked { AreAsked advisors.old.items advisors.new.items asked has_quit 0
+        (planning.now.rounds * (2 * planning.now.nodes + 1)) }
+    ensures counted { IfOk result (λ answer. AreAsked advisors.old.items advisors.new.items asked has_quit
+        (in_rounds planning.now.rounds (answer.branchings + open_leaves answer))
+        (planning.now.rounds * (2 * answer.branchings + 1))) }
+{
+    let graphs = Graphs::build(alloc, instance)?;
+    let allowed = Allowed {
+        branchings: planning.nodes,
+        rounds: planning.rounds,
+    };
+    let evaluations = planning.evaluations;
+    if planning.tells_progress {
+        let mut improver = DayImprover::watched(
+            alloc,
+            instance,
+            &graphs,
+            &[],
+            evaluations,
+            watcher,
+        )?;
+        return improved_answer_for(alloc, instance, &graphs, allowed, &mut improver, advisors);
+    }
+    let mut improver = DayImprover::new(alloc, instance, &graphs, evaluations)?;
+    improved_answer_for(alloc, instance, &graphs, allowed, &mut improver, advisors)
+}

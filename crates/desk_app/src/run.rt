@@ -1,0 +1,49 @@
+//! From the words to the outcome.
+
+ghost use Rattle.std.specs.Prelude.{ℕ, true, ◌≡◌, ◌≤◌, ◌^◌, All, List};
+ghost use Rattle.rail_io.specs.Folders.{OnlyReads, faults_after};
+ghost use Rattle.desk_commands.specs.declared.planning.Planning.{Planning};
+ghost use Rattle.desk_app.specs.Outcomes.{AskInVain, AskToPlan, IsOutcome, is_unread};
+ghost use Rattle.desk_app.specs.Statuses.{AreAskedFor, LeavesAdvisors};
+
+use crate::outcome::Outcome;
+use crate::planning::planned;
+use advisors::Advisor;
+use day_improver::Watcher;
+use desk_commands::read_words;
+use plain_words::WordsRefusal;
+use rail_base::Words;
+use rail_io::Folder;
+use std::alloc::Global;
+
+/// What the words and the folder come to; a watcher is told how far a search has come, where the words ask for it.
+pub(crate) fn outcome_of<F: Folder, W: Watcher>(
+    alloc: Global,
+    words: &Words,
+    folder: &mut F,
+    advisors: &mut Vec<Box<dyn Advisor>>,
+    watcher: &mut W,
+) -> Outcome
+    // The advisors before.
+    requires asked { All (λ advisor. asked advisor ≤ 2 ^ 62) advisors.old.items }
+
+    // What it comes to.
+    ensures outcome { IsOutcome F.holds F.may_fail F.faults F.taken words.now folder.old folder.new result }
+
+    // The advisors.
+    ensures advisors { LeavesAdvisors words.now advisors.old.items advisors.new.items identity asked has_quit }
+    ensures asked_for { (planning : Planning) → AskToPlan words.now planning
+        → AreAskedFor planning.rounds result advisors.old.items advisors.new.items asked has_quit }
+
+    // The folder.
+    ensures only_reads { OnlyReads F.holds F.may_fail F.faults F.taken folder.old folder.new }
+    ensures fault_counted { F.counts_failed ≡ true
+        → F.faults folder.new ≡ faults_after (is_unread result) (F.faults folder.old) }
+    ensures untouched { AskInVain words.now → folder.new ≡ folder.old }
+{
+    match read_words(alloc, words) {
+        Ok(planning) => planned(alloc, folder, &planning, advisors, watcher),
+        Err(WordsRefusal::NotUnderstood) => Outcome::Usage,
+        Err(WordsRefusal::NoMemory) => Outcome::NoMemory,
+    }
+}

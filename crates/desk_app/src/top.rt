@@ -1,0 +1,140 @@
+//! The top call: it reads a folder, writes one document and answers a status.
+
+ghost use Rattle.std.specs.Prelude.{ℕ, true, List, ◌≡◌, ◌≤◌, ◌^◌, Some, All};
+ghost use Rattle.rail_io.specs.Folders.{Files, faults_after};
+ghost use Rattle.statuses.specs.Written.{CountsFailedWrites, IsStatus, IsUndisturbed};
+ghost use Rattle.run_documents.specs.Planning.{EndsPlanning};
+ghost use Rattle.desk_commands.specs.declared.planning.Planning.{Planning};
+ghost use Rattle.desk_app.specs.declared.outcome.Outcome.{Outcome};
+ghost use Rattle.desk_app.specs.Documents.{refused_line};
+ghost use Rattle.desk_app.specs.Outcomes.{AskToPlan, IsOutcome, is_unread};
+ghost use Rattle.desk_app.specs.Statuses.{AreAskedFor, EndsInUsage, LeavesAdvisors, LeavesFolder};
+ghost use Rattle.desk_app.specs.Statuses.{LeavesSink, WroteOutcome};
+
+use crate::document::document;
+use crate::outcome::Outcome;
+use crate::run::outcome_of;
+use advisors::Advisor;
+use day_improver::{NoWatcher, Watcher};
+use rail_base::Words;
+use rail_io::{Folder, Sink};
+use statuses::write_document;
+use std::alloc::Global;
+
+/// Writes the document of an outcome, made whole in memory before the first write, and answers the status.
+fn write_outcome<K: Sink>(alloc: Global, outcome: &Outcome, out: &mut K) -> u8
+    ensures wrote { WroteOutcome outcome.now result (K.written out.old) (K.written out.new) (K.faults out.old)
+        (K.faults out.new) }
+    ensures lasting { K.faults out.old ≤ K.faults out.new }
+    ensures failed_writes { K.counts_failed ≡ true → CountsFailedWrites result (K.faults out.old) (K.faults out.new) }
+{
+    write_document(document(alloc, outcome), outcome.status(), out)
+}
+
+/// Runs the command that the words name over a folder, writes one document to the sink and answers the status.
+///
+/// The first word stands for the program's name and is not looked at. Each command reads the six tables of a day,
+/// `types.csv`, `stations.csv`, `stock.csv`, `trips.csv`, `links.csv` and `weights.csv` in DIR.
+///
+/// - `plan DIR --nodes N --rounds K --evaluations E` plans the day by a search of at most N branchings, 200 where no N
+///   is given, and writes an answer: the plan of named units, its cost, and a tree that proves what is said of all
+///   other plans. The improver of days may take E bounds at the root, 500 where no E is given, and the advisors are
+///   asked for proposals in at most K rounds at each node, in none where no K is given. Whatever they propose, what the
+///   answer says is true.
+///
+/// The statuses:
+///
+/// - 0 comes exactly where the files are accepted, and the answer found is optimal.
+/// - 1 comes exactly where they are accepted, and the answer found is infeasible.
+/// - 2 comes exactly where the words are no command; the line `usage` is written.
+/// - 3 comes exactly where a file is refused; the line `refused FILE` is written.
+/// - 4 comes exactly where they are accepted, and the answer found is bounded: all granted branchings were made, and a
+///   leaf is open.
+/// - 5 comes only where the folder's count of faults rose in this call, or stands at its last value, 2^64 - 1; the line
+///   `cannot read FILE` is written.
+/// - 6 comes only where the sink's count of faults rose in this call, or stands there; a front of the document was
+///   written, and not all of it.
+/// - 7 is want of memory; nothing was written.
+///
+/// Each "exactly where" yields to statuses 5, 6 and 7. What is said of the files holds where the folder tells what it
+/// holds, and what is said of the document where the sink tells what was written. Where the folder counts its failed
+/// calls, at most one read of a run fails, and where the sink does, at most one write, unless a count comes to its last
+/// value: the write is told by status 6, and the read by 5, unless the status is 6 or 7.
+///
+/// Each advisor was asked at most 2^62 times before. Afterwards an advisor of the same identity stands at each place,
+/// and none was asked fewer times than before, whatever the status is. One that had quit stays so and is not asked.
+pub fn raildesk<F: Folder, K: Sink>(
+    alloc: Global,
+    words: &Words,
+    folder: &mut F,
+    out: &mut K,
+    advisors: &mut Vec<Box<dyn Advisor>>,
+) -> u8
+    requires asked { All (λ advisor. asked advisor ≤ 2 ^ 62) advisors.old.items }
+
+    // The headline, and the status of words that are no command, where the status is none of 5, 6 and 7.
+    ensures plan { (files : Files) (planning : Planning) → F.holds folder.old ≡ Some files
+        → AskToPlan words.now planning → IsUndisturbed result
+        → EndsPlanning refused_line files planning.dir planning.nodes result (K.written out.old) (K.written out.new) }
+    ensures usage { IsUndisturbed result → EndsInUsage words.now result (K.written out.old) (K.written out.new) }
+    ensures statuses { IsStatus result }
+
+    // What was written is the document of an outcome of these words and this folder, whose status is the result unless
+    // that is 6 or 7; and the advisors were asked as it tells.
+    ensures document { (outcome : Outcome)
+        × IsOutcome F.holds F.may_fail F.faults F.taken words.now folder.old folder.new outcome
+        × WroteOutcome outcome result (K.written out.old) (K.written out.new) (K.faults out.old) (K.faults out.new)
+        × (F.counts_failed ≡ true
+        → F.faults folder.new ≡ faults_after (is_unread outcome) (F.faults folder.old))
+        × ((planning : Planning) → AskToPlan words.now planning
+        → AreAskedFor planning.rounds outcome advisors.old.items advisors.new.items asked has_quit) }
+
+    // How the folder, the sink and the advisors are left, whatever the status is.
+    ensures folder { LeavesFolder F.holds F.may_fail F.faults F.taken F.counts_failed words.now result folder.old
+        folder.new }
+    ensures sink { LeavesSink K.counts_failed result (K.written out.old) (K.written out.new) (K.faults out.old)
+        (K.faults out.new) }
+    ensures advisors { LeavesAdvisors words.now advisors.old.items advisors.new.items identity asked has_quit }
+{
+    raildesk_watched(alloc, words, folder, out, advisors, &mut NoWatcher)
+}
+
+/// The same with a watcher, which is told how far a search has come, where the words ask for it by `--progress`. What
+/// it does with that is its own, and changes nothing of the document.
+pub fn raildesk_watched<F: Folder, K: Sink, W: Watcher>(
+    alloc: Global,
+    words: &Words,
+    folder: &mut F,
+    out: &mut K,
+    advisors: &mut Vec<Box<dyn Advisor>>,
+    watcher: &mut W,
+) -> u8
+    requires asked { All (λ advisor. asked advisor ≤ 2 ^ 62) advisors.old.items }
+
+    // The headline, and the status of words that are no command, where the status is none of 5, 6 and 7.
+    ensures plan { (files : Files) (planning : Planning) → F.holds folder.old ≡ Some files
+        → AskToPlan words.now planning → IsUndisturbed result
+        → EndsPlanning refused_line files planning.dir planning.nodes result (K.written out.old) (K.written out.new) }
+    ensures usage { IsUndisturbed result → EndsInUsage words.now result (K.written out.old) (K.written out.new) }
+    ensures statuses { IsStatus result }
+
+    // What was written is the document of an outcome of these words and this folder, whose status is the result unless
+    // that is 6 or 7; and the advisors were asked as it tells.
+    ensures document { (outcome : Outcome)
+        × IsOutcome F.holds F.may_fail F.faults F.taken words.now folder.old folder.new outcome
+        × WroteOutcome outcome result (K.written out.old) (K.written out.new) (K.faults out.old) (K.faults out.new)
+        × (F.counts_failed ≡ true
+        → F.faults folder.new ≡ faults_after (is_unread outcome) (F.faults folder.old))
+        × ((planning : Planning) → AskToPlan words.now planning
+        → AreAskedFor planning.rounds outcome advisors.old.items advisors.new.items asked has_quit) }
+
+    // How the folder, the sink and the advisors are left, whatever the status is.
+    ensures folder { LeavesFolder F.holds F.may_fail F.faults F.taken F.counts_failed words.now result folder.old
+        folder.new }
+    ensures sink { LeavesSink K.counts_failed result (K.written out.old) (K.written out.new) (K.faults out.old)
+        (K.faults out.new) }
+    ensures advisors { LeavesAdvisors words.now advisors.old.items advisors.new.items identity asked has_quit }
+{
+    let outcome = outcome_of(alloc, words, folder, advisors, watcher);
+    write_outcome(alloc, &outcome, out)
+}
