@@ -1,0 +1,11 @@
+//! The planner's desk at work: words, folders and sinks in memory, and what a run over them comes to, as tests.
+#![tactic(auto)]
+
+#[cfg(test)]
+mod desk;
+#[cfg(test)]
+mod plan_tests;
+#[cfg(test)]
+mod progress_tests;
+#[cfg(test)]
+mod words_tests;
