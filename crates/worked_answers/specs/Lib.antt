@@ -1,0 +1,2 @@
+-- what an answer, a plan and its past come to on other days
+pub mod OtherDays

@@ -1,0 +1,30 @@
+//! Answers as texts: the head, and the units of each trip.
+
+use answer_text::{Answer, Head};
+use std::alloc::{AllocError, Global};
+use std::test::Fail;
+
+/// An answer as a text: its head, and after a colon the units of each trip, each after a space, with a comma between two
+/// trips.
+pub(crate) fn told(alloc: Global, answer: Answer) -> Result<String, Fail> {
+    let mut text = String::new(alloc);
+    write_head(&mut text, answer.head)?;
+    let lists = answer.runs.into_items();
+    for place in 0..lists.len() {
+        write!(text, "{}", if place == 0 { ":" } else { "," })?;
+        for unit in lists[place].items() {
+            write!(text, " {}", unit.0)?;
+        }
+    }
+    Ok(text)
+}
+
+/// Writes what an answer says of all plans.
+fn write_head(text: &mut String, head: Head) -> Result<(), AllocError> {
+    match head {
+        Head::Optimal { cost } => write!(text, "optimal {}", cost.0),
+        Head::Infeasible => write!(text, "infeasible"),
+        Head::Bounded { bound } => write!(text, "bounded {}", bound.0),
+        Head::BoundedPlan { bound, cost } => { write!(text, "bounded {} plan {}", bound.0, cost.0) }
+    }
+}
