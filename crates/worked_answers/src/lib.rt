@@ -11,6 +11,8 @@ mod kept_tests;
 #[cfg(test)]
 mod other_days;
 #[cfg(test)]
+mod ready_tests;
+#[cfg(test)]
 mod region_naming;
 #[cfg(test)]
 mod telling;
