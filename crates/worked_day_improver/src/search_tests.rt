@@ -1,0 +1,219 @@
+//! What a search finds with the improver of days, and what a watcher is told meanwhile.
+
+ghost use Rattle.std.specs.Prelude.{◌≤◌};
+ghost use Rattle.rail_base.specs.declared.limits.TheConstants.{MOST_BRANCHINGS};
+ghost use Rattle.branch_tree.specs.Regions.{IsOver};
+ghost use Rattle.transitions.specs.Edges.{AreGraphs};
+
+use advisors::Advisor;
+use branch_tree::{Region, Relaxation};
+use day_improver::{DayImprover, Progress, Watcher};
+use improvers::{Improver, NoImprover};
+use price_bound::{Change, DayBounds};
+use rail_base::NoMemory;
+use rail_base::limits::MOST_BRANCHINGS;
+use sample_days::{TURN, Texts, day_of};
+use search::{Allowed, Found, solve_with};
+use std::alloc::{AllocError, Global};
+use std::test::Fail;
+use timetable::Instance;
+use transitions::Graphs;
+use trial_day::trial_instance;
+
+/// How a search ends, with what its plan costs or its bound, and how many branchings it made, as a text.
+fn text_of(alloc: Global, found: &Found) -> Result<String, AllocError> {
+    match found {
+        Found::Optimal { cost, tree, .. } => format!(in alloc;
+            "optimal {}, {}",
+            cost.0,
+            tree.branchings()
+        ),
+        Found::Infeasible { tree } => format!(in alloc; "infeasible, {}", tree.branchings()),
+        Found::Bounded { bound, tree, .. } => {
+            format!(in alloc; "bounded {}, {}", bound.0, tree.branchings())
+        }
+    }
+}
+
+/// What a search of a day finds with an improver and no advisor. So much as a test never grants is refused as want of
+/// memory is.
+fn found<I: Improver>(
+    alloc: Global,
+    day: &Instance,
+    graphs: &Graphs,
+    branchings: u32,
+    improver: &mut I,
+) -> Result<String, Fail>
+    requires { AreGraphs day.now graphs.now }
+{
+    let root = Region::root(alloc, day)?;
+    let bounds = DayBounds::new(alloc, day, graphs)?;
+    let found = found_by(
+        alloc,
+        bounds,
+        &root,
+        branchings.min(MOST_BRANCHINGS),
+        improver,
+    )?;
+    Ok(text_of(alloc, &found)?)
+}
+
+/// What is found in a root by a relaxation that it is over.
+fn found_by<R: Relaxation + Drop, I: Improver>(
+    alloc: Global,
+    mut bounds: R,
+    root: &Region,
+    branchings: u32,
+    improver: &mut I,
+) -> Result<Found, NoMemory>
+    requires over { IsOver (R.meanings (R.problem bounds)).trips (R.meanings (R.problem bounds)).catalogue root.now }
+    requires branchings { branchings ≤ MOST_BRANCHINGS }
+{
+    let mut advisors: Vec<Box<dyn Advisor>> = Vec::new(alloc);
+    let allowed = Allowed {
+        branchings,
+        rounds: 0,
+    };
+    solve_with(alloc, &mut bounds, root, allowed, improver, &mut advisors)
+}
+
+/// What is found with the improver of days.
+fn found_improved(
+    alloc: Global,
+    day: &Instance,
+    evaluations: u32,
+    branchings: u32,
+) -> Result<String, Fail> {
+    let graphs = Graphs::build(alloc, day)?;
+    let mut improver = DayImprover::new(alloc, day, &graphs, evaluations)?;
+    found(alloc, day, &graphs, branchings, &mut improver)
+}
+
+/// What is found without an improver.
+fn found_alone(alloc: Global, day: &Instance, branchings: u32) -> Result<String, Fail> {
+    let graphs = Graphs::build(alloc, day)?;
+    found(alloc, day, &graphs, branchings, &mut NoImprover)
+}
+
+/// A day on which one unit more is wanted at the end than there is at the start: no plan of it runs.
+const ONE_TOO_MANY: Texts<'static> = Texts {
+    stock: b"station,type,start,end\nX,A,2,3\n",
+    ..TURN
+};
+
+#[test]
+fn a_day_that_cannot_balance_ends_without_a_branching(rt: HostRuntime) -> Result<(), Fail> {
+    let alloc = rt.alloc();
+    let day = day_of(alloc, &ONE_TOO_MANY)?;
+    let text = found_improved(alloc, &day, 1, 0)?;
+    assert!(rt; text.as_str() == "infeasible, 0", "{text}");
+    Ok(())
+}
+
+/// The trial day of 20 trips has a plan of cost 4880, and none that costs less.
+#[test]
+fn plans_of_a_trial_day(rt: HostRuntime) -> Result<(), Fail> {
+    let alloc = rt.alloc();
+    let day = trial_instance(alloc, 7, 20)?;
+    let rows = [(40, 0, "bounded 4878, 0"), (40, 2, "optimal 4880, 1")];
+    for (evaluations, branchings, expected) in &rows {
+        let text = found_improved(alloc, &day, *evaluations, *branchings)?;
+        assert!(rt;
+            text.as_str() == *expected,
+            "{evaluations}, {branchings}: {text}"
+        );
+    }
+    Ok(())
+}
+
+#[test]
+fn no_evaluations_change_nothing(rt: HostRuntime) -> Result<(), Fail> {
+    let alloc = rt.alloc();
+    let day = trial_instance(alloc, 7, 10)?;
+    for branchings in 0..4 {
+        let alone = found_alone(alloc, &day, branchings)?;
+        let text = found_improved(alloc, &day, 0, branchings)?;
+        assert!(rt; text.as_str() == alone.as_str(), "{branchings}: {text}");
+    }
+    Ok(())
+}
+
+/// Keeps what it was told last, and counts how often it was told of a lower bound or a dearer plan than before.
+#[derive(Drop)]
+struct Last {
+    told: Option<Progress>,
+    fallen: u32,
+}
+
+impl Watcher for Last {
+    fn watch(&mut self, progress: &Progress) {
+        if let Some(before) = self.told
+            && (progress.bound < before.bound || is_dearer(progress, &before))
+        {
+            self.fallen = self.fallen.saturating_add(1);
+        }
+        self.told = Some(*progress);
+    }
+}
+
+/// Whether the best plan of one is none or costs more than that of another.
+fn is_dearer(progress: &Progress, before: &Progress) -> bool {
+    match (progress.plan, before.plan) {
+        (Some(plan), Some(known)) => plan.0 > known.0,
+        (None, Some(_)) => true,
+        _ => false,
+    }
+}
+
+/// Searches a day with its edges, with an improver of 40 evaluations that tells a watcher.
+fn search_watched(
+    alloc: Global,
+    day: &Instance,
+    graphs: &Graphs,
+    branchings: u32,
+    last: &mut Last,
+) -> Result<(), Fail>
+    requires { AreGraphs day.now graphs.now }
+{
+    let none: &[Change] = &[];
+    let mut improver = DayImprover::watched(alloc, day, graphs, none, 40, last)?;
+    let _text = found(alloc, day, graphs, branchings, &mut improver)?;
+    Ok(())
+}
+
+/// What a watcher was told last in a search of the trial day of 20 trips, as a text.
+fn told(alloc: Global, branchings: u32) -> Result<String, Fail> {
+    let day = trial_instance(alloc, 7, 20)?;
+    let graphs = Graphs::build(alloc, &day)?;
+    let mut last = Last {
+        told: None,
+        fallen: 0,
+    };
+    search_watched(alloc, &day, &graphs, branchings, &mut last)?;
+    Ok(text_of_last(alloc, &last)?)
+}
+
+/// What a watcher was told last, as a text.
+fn text_of_last(alloc: Global, last: &Last) -> Result<String, AllocError> {
+    let fallen = last.fallen;
+    match &last.told {
+        Some(told) => format!(in alloc;
+            "{} {} {} {:?} {:?}, {fallen} fell",
+            told.node, told.branchings, told.evaluations, told.bound, told.plan
+        ),
+        None => format!(in alloc; "nothing"),
+    }
+}
+
+#[test]
+fn a_watcher_is_told_how_far_the_search_has_come(rt: HostRuntime) -> Result<(), Fail> {
+    let rows = [
+        (0, "0 0 40 Some(Money(4878)) Some(Money(4880)), 0 fell"),
+        (2, "1 1 70 Some(Money(4878)) Some(Money(4880)), 0 fell"),
+    ];
+    for (branchings, expected) in &rows {
+        let text = told(rt.alloc(), *branchings)?;
+        assert!(rt; text.as_str() == *expected, "{branchings}: {text}");
+    }
+    Ok(())
+}
