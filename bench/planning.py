@@ -1,71 +1,139 @@
 #!/usr/bin/env python3
-"""Measures `railplan plan` on trial days that grow, and prints the figures as tables.
+"""Measures `raildesk plan` on realistic days, and prints the figures as tables.
 
-    planning.py BIN
+    planning.py RAILDESK RAILPLAN
 
-BIN is the program as `rt run` builds it. The planning.md beside it says what is measured.
+RAILDESK and RAILPLAN are the programs as `rt run` builds them. The planning.md beside it says what is measured.
 """
 import os
+import statistics
 import subprocess
 import sys
 import tempfile
+import time
 
-from simulate import clock
+import realistic_days
 
-# The trips of the days that grow, and the seed from which their demands are drawn.
-DAYS = (40, 100, 200, 400)
-SEED = 7
-
-
-def trial_day(folder, trips):
-    """The trial day of the seed and so many trips, as docs/trial_day.md tells."""
-    state = SEED % 2**31
-    rows, links = [], []
-    for pair in range(trips // 2):
-        start = 300 + 6 * pair
-        for name, origin, goal, leaves in ((f"F{pair}", "X", "Y", start), (f"R{pair}", "Y", "X", start + 60)):
-            state = (state * 1103515245 + 12345) % 2**31
-            demand = 100 + state // 65536 % 400
-            rows.append(f"{name},{origin},{clock(leaves)},{goal},{clock(leaves + 50)},40,{demand}")
-        links.append(f"turn,F{pair},,R{pair},,yes,rear,rear")
-    tables = {
-        "types.csv": ["type,carriages,seats,metres,family", "A,3,200,80,regional", "B,2,120,60,regional"],
-        "stations.csv": ["station,platform,reallocation", "X,240,15", "Y,240,15"],
-        "stock.csv": ["station,type,start,end", f"X,A,{trips},{trips}", f"X,B,{trips // 2},{trips // 2}"],
-        "trips.csv": ["trip,from,departure,to,arrival,km,demand", *rows],
-        "links.csv": ["kind,arriving,arriving2,departing,departing2,reverse,uncouple,couple", *links],
-        "weights.csv": ["carriage,shortage,shunting", "1,1,60"],
-    }
-    for name, lines in tables.items():
-        with open(os.path.join(folder, name), "w", encoding="utf-8") as file:
-            file.write("\n".join(lines) + "\n")
+KINDS = ("two", "three", "flat", "rigid", "scarce")
+# The days of real size, of the first seed; those that the tree is to close, and the small ones, of two seeds.
+SIZES, CLOSED, SMALL = (40, 100, 200, 400), (40, 100), (8, 12, 16, 20, 24)
+SEEDS = (1, 2)
+# A run that takes longer than so many seconds is ended.
+LIMIT = 60
 
 
-def planned(program, folder, nodes, rounds):
-    """The seconds of processor time of a run, its most memory in MB, its branchings and its second line."""
-    out = os.path.join(folder, "out.txt")
-    words = [program, "plan", folder, "--nodes", str(nodes), "--rounds", str(rounds)]
-    with open(out, "wb") as file:
-        child = subprocess.Popen(words, stdout=file)
-        _, _, usage = os.wait4(child.pid, 0)
-    with open(out, encoding="utf-8") as file:
-        lines = [file.readline().rstrip("\n") for _ in range(3)]
-    return usage.ru_utime + usage.ru_stime, usage.ru_maxrss / 1024, int(lines[2].split()[1]), lines[1]
+def day(folder, kind, trips, seed):
+    """The folder of a day, which is made if need be."""
+    place = os.path.join(folder, f"{kind}-{trips}-{seed}")
+    if not os.path.isdir(place):
+        realistic_days.make(kind, trips, seed, place)
+    return place
+
+
+def resident(process):
+    """The most memory in MB that a process has had so far."""
+    try:
+        with open(f"/proc/{process}/status", encoding="ascii") as file:
+            return max((int(line.split()[1]) / 1024 for line in file if line.startswith("VmHWM")), default=0)
+    except OSError:
+        return 0
+
+
+def run(words):
+    """What a command writes, the seconds of processor time that it takes, and its most memory in MB."""
+    with tempfile.TemporaryFile() as out:
+        child = subprocess.Popen(words, stdout=out)
+        memory, until = 0, time.monotonic() + LIMIT
+        while True:
+            memory = max(memory, resident(child.pid))
+            ended, _, usage = os.wait4(child.pid, os.WNOHANG)
+            if ended:
+                break
+            if time.monotonic() > until:
+                child.kill()
+            time.sleep(0.002)
+        out.seek(0)
+        return out.read().decode(), usage.ru_utime + usage.ru_stime, memory
+
+
+def head(text):
+    """The word, the bound and the plan of an answer."""
+    lines = text.split("\n")
+    words = lines[1].split() if len(lines) > 1 else ["none"]
+    numbers = [int(word) for word in words if word.isdigit()]
+    plan = numbers[-1] if words[0] == "optimal" or "plan" in words else None
+    return words[0], numbers[0] if numbers else None, plan
+
+
+def planned(program, place, *options):
+    """The answer to a day, with its time and its memory."""
+    text, seconds, memory = run([program, "plan", place, *options])
+    return text, *head(text), seconds, memory
+
+
+def is_valid(railplan, place, text):
+    with open(os.path.join(place, "answer.txt"), "w", encoding="utf-8") as file:
+        file.write(text)
+    return run([railplan, "check", place])[0].startswith("valid")
+
+
+def gap(bound, plan):
+    return 100 * (plan - bound) / plan
+
+
+def real_sizes(raildesk, railplan, folder):
+    """Plans and bounds without branchings; each answer is checked, and is the same in a second run."""
+    print("| Day | Bound | Plan | Gap, % | Seconds | Most memory, MB |\n|---|---|---|---|---|---|")
+    for trips in SIZES:
+        gaps = []
+        for kind in KINDS:
+            place = day(folder, kind, trips, 1)
+            text, _, bound, plan, seconds, memory = planned(raildesk, place, "--nodes", "0")
+            assert is_valid(railplan, place, text), place
+            assert planned(raildesk, place, "--nodes", "0")[0] == text, place
+            gaps.append(gap(bound, plan))
+            row = f"| {kind}-{trips} | {bound:,} | {plan:,} | {gaps[-1]:.2f} | {seconds:.2f} | {memory:.0f} |"
+            print(row, flush=True)
+        print(f"| mean of {trips} | | | {statistics.mean(gaps):.2f} | | |")
+
+
+def closed(raildesk, folder):
+    """How many days a tree of 200 branchings closes."""
+    print("\n| Trips | Days | Optimal | Mean gap of the others, % | Seconds, median and most |\n|---|---|---|---|---|")
+    for trips in CLOSED:
+        done, gaps, times = 0, [], []
+        for kind in KINDS:
+            for seed in SEEDS:
+                _, word, bound, plan, seconds, _ = planned(raildesk, day(folder, kind, trips, seed))
+                times.append(seconds)
+                if word == "optimal":
+                    done += 1
+                else:
+                    gaps.append(gap(bound, plan))
+        left = f"{statistics.mean(gaps):.2f}" if gaps else ""
+        print(f"| {trips} | {len(times)} | {done} | {left} | {statistics.median(times):.1f}, {max(times):.1f} |", flush=True)
+
+
+def small_days(raildesk, railplan, folder):
+    """Small days by both programs."""
+    print("\n| Trips | Days | `railplan`: optimal, median and most seconds | `raildesk`: the same |\n|---|---|---|---|")
+    for trips in SMALL:
+        cells = []
+        for program, options in ((railplan, ("--nodes", "4000", "--rounds", "100")), (raildesk, ())):
+            places = [day(folder, kind, trips, seed) for kind in KINDS for seed in SEEDS]
+            answers = [planned(program, place, *options) for place in places]
+            done = sum(word == "optimal" for _, word, *_ in answers)
+            times = [answer[4] for answer in answers]
+            cells.append(f"{done}, {statistics.median(times):.2f} and {max(times):.1f}")
+        print(f"| {trips} | {len(KINDS) * len(SEEDS)} | {' | '.join(cells)} |", flush=True)
 
 
 def main():
-    program = os.path.abspath(sys.argv[1])
-    print("| Trips | Branchings | Rounds | Seconds | a node, in ms | Most memory, MB | Second line |")
-    print("|---|---|---|---|---|---|---|")
-    for trips in DAYS:
-        with tempfile.TemporaryDirectory() as folder:
-            trial_day(folder, trips)
-            base = planned(program, folder, 0, 0)[0]
-            for nodes, rounds in ((200, 0), (4000, 0), (200, 20)):
-                seconds, memory, made, line = planned(program, folder, nodes, rounds)
-                each = 1000 * (seconds - base) / max(1, 2 * made)
-                row = f"| {trips} | {made} | {rounds} | {seconds:.2f} | {each:.2f} | {memory:.0f} | `{line}` |"
-                print(row, flush=True)
+    raildesk, railplan = (os.path.abspath(program) for program in sys.argv[1:3])
+    with tempfile.TemporaryDirectory() as folder:
+        real_sizes(raildesk, railplan, folder)
+        closed(raildesk, folder)
+        small_days(raildesk, railplan, folder)
 
 
 main()
