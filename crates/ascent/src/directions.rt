@@ -14,6 +14,8 @@ const SLACK_SCALE: i64 = 64;
 const MOST_SLACK: i64 = 4_400;
 /// How many sixteenths of the direction of a step go on into the next one.
 const DEFLECTION: i64 = 14;
+/// The same on long days.
+const DEFLECTION_ON_LONG_DAYS: i64 = 15;
 
 /// Directions by index, and what the slacks were on average.
 #[derive(Drop)]
@@ -24,6 +26,8 @@ pub(crate) struct Directions {
     average: Vec<i64>,
     /// The index from which on a multiplier may be negative.
     free_from: usize,
+    /// Whether the day is long.
+    is_long: bool,
 }
 
 /// What a step along a deflected direction asks for.
@@ -41,11 +45,13 @@ impl Directions {
         alloc: Global,
         indices: usize,
         free_from: usize,
+        is_long: bool,
     ) -> Result<Directions, NoMemory> {
         Ok(Directions {
             direction: vec![in alloc; 0; indices]?,
             average: vec![in alloc; 0; indices]?,
             free_from,
+            is_long,
         })
     }
 
@@ -95,7 +101,12 @@ impl Directions {
             );
         }
         if index < self.direction.len() {
-            let kept = self.direction[index].saturating_mul(DEFLECTION) / 16;
+            let deflection = if self.is_long {
+                DEFLECTION_ON_LONG_DAYS
+            } else {
+                DEFLECTION
+            };
+            let kept = self.direction[index].saturating_mul(deflection) / 16;
             let deflected = subgradient.saturating_add(kept);
             self.direction[index] = if is_held { deflected.max(0) } else { deflected };
         }

@@ -7,7 +7,7 @@ use crate::rounding::{ONE, SHIFT};
 pub(crate) struct Level {
     /// By how much the target is over the best value, scaled.
     pub height: i128,
-    /// How many steps in turn have gained less than an eighth of the level.
+    /// How many steps in turn have gained too little.
     pub stale: u32,
     /// How many such steps may come in turn.
     pub patience: u32,

@@ -12,6 +12,9 @@ use rail_base::{Money, NoMemory};
 use std::alloc::Global;
 use timetable::Picks;
 
+/// How many trips a day may have on which steps are to gain more, and forget their directions sooner.
+const MOST_TRIPS_OF_SHORT_DAYS: u32 = 200;
+
 /// What a step of an ascent came to.
 #[derive(Clone, Copy, PartialEq, Eq)]
 pub enum Step {
@@ -32,6 +35,7 @@ pub struct Ascent {
     slack_at: Vec<i64>,
     directions: Directions,
     level: Level,
+    is_long: bool,
     multipliers: Multipliers,
     picks: Picks,
     slacks: Slacks,
@@ -50,12 +54,14 @@ impl Ascent {
         patience: u32,
     ) -> Result<Ascent, NoMemory> {
         let indices = layout.indices;
+        let is_long = trips > MOST_TRIPS_OF_SHORT_DAYS;
         Ok(Ascent {
             scaled: vec![in alloc; 0; indices]?,
             whole: vec![in alloc; 0; indices]?,
             slack_at: vec![in alloc; 0; indices]?,
-            directions: Directions::new(alloc, indices, layout.free_from)?,
+            directions: Directions::new(alloc, indices, layout.free_from, is_long)?,
             level: Level::new(patience),
+            is_long,
             multipliers: Multipliers::new(alloc)?,
             picks: Picks::new(alloc, trips)?,
             slacks: Slacks::new(alloc)?,
@@ -97,9 +103,14 @@ impl Ascent {
         if before.is_none() {
             self.level.begin(value, incumbent);
         }
+        let enough = if self.is_long {
+            self.level.height / 16
+        } else {
+            self.level.height / 8
+        };
         let gained = match before {
             None => true,
-            Some(best) => value > best.saturating_add(self.level.height / 8),
+            Some(best) => value > best.saturating_add(enough),
         };
         self.level.count(gained);
         let is_best = match before {
