@@ -145,7 +145,7 @@ impl<'a, W: Watcher> DayImprover<'a, W> {
             evaluations,
             steps: 0,
             has_ended: false,
-            sight: Sight::new(),
+            sight: Sight::new(instance.handovers() != 0),
             watcher,
         })
     }

@@ -45,6 +45,8 @@ impl<W: Watcher> Watcher for &mut W {
 #[derive(Drop)]
 pub(crate) struct Sight {
     progress: Progress,
+    /// Whether the day has hand-overs. Then a side of a cut may leave out what its node still has.
+    has_handovers: bool,
     /// The left side that was shown last: the number of its branching and its bound. Its right side may follow.
     left: Option<Side>,
 }
@@ -57,8 +59,8 @@ struct Side {
 }
 
 impl Sight {
-    /// Nothing seen yet.
-    pub(crate) fn new() -> Sight {
+    /// Nothing seen yet of a day with hand-overs, or without any.
+    pub(crate) fn new(has_handovers: bool) -> Sight {
         Sight {
             progress: Progress {
                 node: 0,
@@ -67,6 +69,7 @@ impl Sight {
                 bound: None,
                 plan: None,
             },
+            has_handovers,
             left: None,
         }
     }
@@ -85,12 +88,12 @@ impl Sight {
         }
         if seen.node == 0 {
             self.raise_bound(seen.kept);
-        } else {
+        } else if !self.has_handovers {
             self.see_side(seen);
         }
     }
 
-    /// Takes note of a side of a branching.
+    /// Takes note of a side of a branching, on a day without hand-overs.
     ///
     /// A search branches the open node of the least bound, and makes its left side and then its right one, each under
     /// that node's multipliers. Under these the node's bound is the lower one of its sides, so where both are shown
