@@ -14,7 +14,7 @@ use Rattle.price_bound.proofs.ChangedPlans.{changed_solutions_bound_plans, no_ch
 use Rattle.price_bound.proofs.Planned.{plans_have_picks, plans_lie_in_roots}
 use Rattle.answer_text.specs.declared.answer.Head.{Head}
 use Rattle.answer_text.specs.Limits.{has_plan}
-use Rattle.answer_check.specs.Headline.{IsPlanAtCost, IsTrueOf}
+use Rattle.answer_check.specs.Headline.{RunsAtCost, IsTrueOf}
 use Rattle.answer_check.specs.RegionTruths.{ConcludedIsTrueIn, IsPlanWithin, IsTrueIn, TrueInRootsIsTrueOfDays}
 use Rattle.answer_check.specs.Validity.{HasPicks, conclusion_of}
 use Rattle.answer_check.proofs.Saying.{concluded_says, says_more}
@@ -71,13 +71,13 @@ module _ (day : Day) (sound : IsSoundDay day) where
   none_back none plan picks run = none plan run.by_picks.runs
 
   module _ (head : Head) (runs : List (List ℕ)) (picks : List ℕ) (planned : HasPicks day head runs picks) where
-    plan_there : (cost : ℤ) → IsPlanWithin day [] (root_of day) runs picks cost → IsPlanAtCost (stock_units day) day runs cost
+    plan_there : (cost : ℤ) → IsPlanWithin day [] (root_of day) runs picks cost → RunsAtCost (stock_units day) day runs cost
     plan_there cost plan = record {
       does_run = plan.does_run.by_picks.runs;
       costs = plan.costs ∙ ap pos (nothing_added (plan_cost day runs));
     }
 
-    plan_back : RunsByPicks day runs picks → (cost : ℤ) → IsPlanAtCost (stock_units day) day runs cost
+    plan_back : RunsByPicks day runs picks → (cost : ℤ) → RunsAtCost (stock_units day) day runs cost
         → IsPlanWithin day [] (root_of day) runs picks cost
     plan_back by cost plan = record {
       does_run = in_root runs picks by;
@@ -86,13 +86,13 @@ module _ (day : Day) (sound : IsSoundDay day) where
 
     there : IsTrueIn day [] (root_of day) head runs picks → IsTrueOf day head runs
     there said =
-        says_more (IsPlanWithin day [] (root_of day) runs picks) (IsPlanAtCost (stock_units day) day runs)
+        says_more (IsPlanWithin day [] (root_of day) runs picks) (RunsAtCost (stock_units day) day runs)
         (PlansInCostAtLeast day [] (root_of day)) (PlansCostAtLeast day) (NoPlanRunsIn day (root_of day)) (NoPlanRuns day)
         head (λ some cost plan. plan_there cost plan) bound_there none_there said
 
     back : IsTrueOf day head runs → IsTrueIn day [] (root_of day) head runs picks
     back said =
-        says_more (IsPlanAtCost (stock_units day) day runs) (IsPlanWithin day [] (root_of day) runs picks)
+        says_more (RunsAtCost (stock_units day) day runs) (IsPlanWithin day [] (root_of day) runs picks)
         (PlansCostAtLeast day) (PlansInCostAtLeast day [] (root_of day)) (NoPlanRuns day) (NoPlanRunsIn day (root_of day))
         head (λ some cost plan. plan_back (planned some) cost plan) bound_back none_back said
 

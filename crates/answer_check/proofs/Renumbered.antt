@@ -5,13 +5,13 @@ use Rattle.timetable.specs.Day.{Day, Units}
 use Rattle.timetable.specs.Renumbering.{IsRenumbering, RunsAlike, renumbered}
 use Rattle.timetable.specs.Running.{RunsOf}
 use Rattle.timetable.proofs.Renumbered.{renumbered_plans_run, units_are_renumbered_back}
-use Rattle.answer_check.specs.Headline.{IsPlanAtCost}
+use Rattle.answer_check.specs.Headline.{RunsAtCost}
 use Rattle.answer_check.specs.Laws.{RenumberedIsTrue}
 use Rattle.answer_check.proofs.Saying.{says_more}
 
 module _ (units others : Units) (number : ℕ → ℕ) (day : Day) (is : IsRenumbering units others number) where
-  plan_too : (runs : List (List ℕ)) (cost : ℤ) → IsPlanAtCost units day runs cost
-      → IsPlanAtCost others day (renumbered number runs) cost
+  plan_too : (runs : List (List ℕ)) (cost : ℤ) → RunsAtCost units day runs cost
+      → RunsAtCost others day (renumbered number runs) cost
   plan_too runs cost plan =
       let alike : RunsAlike units others number day runs =
       renumbered_plans_run units others number day runs is plan.does_run.is_plan in
@@ -34,7 +34,7 @@ module _ (units others : Units) (number : ℕ → ℕ) (day : Day) (is : IsRenum
 
 pub renumbered_is_true : RenumberedIsTrue
 renumbered_is_true units others number day head runs is said =
-    says_more (IsPlanAtCost units day runs) (IsPlanAtCost others day (renumbered number runs))
+    says_more (RunsAtCost units day runs) (RunsAtCost others day (renumbered number runs))
     (PlansOfUnitsCostAtLeast units day) (PlansOfUnitsCostAtLeast others day) (NoPlanOfUnitsRuns units day)
     (NoPlanOfUnitsRuns others day) head (λ some cost plan. plan_too units others number day is runs cost plan)
     (bound_too units others number day is) (none_too units others number day is) said

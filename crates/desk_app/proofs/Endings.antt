@@ -34,7 +34,7 @@ planning_ends files planning (Planned answer) says text is before after appends 
         record {
           answer = answer;
           headline = says.2;
-          says = refl;
+          status_fits = refl;
           written = subst (λ (t : List ℕ). Appends t before after) is appends;
         },
       );

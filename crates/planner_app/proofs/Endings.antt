@@ -304,7 +304,7 @@ module _ (words : List (List ℕ)) (files : Files) (dir : List ℕ) where
       answered = λ other. (
         day,
         accepted,
-        record { answer = answer; headline = headline; says = refl; written = written },
+        record { answer = answer; headline = headline; status_fits = refl; written = written },
       );
     }
 

@@ -177,7 +177,7 @@ module _ (words : List (List ℕ)) (seed trips nodes rounds : ℕ) (asked : AskT
         answered = record {
           answer = answer;
           headline = subst (λ (n : ℕ). IsHeadline is.day n answer) same.2 is.headline;
-          says = refl;
+          status_fits = refl;
           written = subst (λ (s : ℕ). Appends (trial_text s trips answer) before after) same.0
               (subst (λ (t : ℕ). Appends (trial_text seed' t answer) before after) same.1 written);
         };
