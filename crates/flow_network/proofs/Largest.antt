@@ -6,8 +6,8 @@ use Rattle.std.proofs.lemmas.Bool.{cases_Bool, cases_eq, cases_lt, cond-true, co
 use Rattle.std.proofs.lemmas.List.Elements.{All-head, All-tail}
 use Rattle.std.proofs.lemmas.List.Sums.{sum_by-cons}
 use Rattle.flow_network.specs.declared.network.Arc.{Arc}
-use Rattle.flow_network.specs.Flows.{Net, IsFlow, coming_to, empty, is_reached, leaving_from}
-use Rattle.flow_network.specs.Laws.{FlowsOutOfReachAreLargest}
+use Rattle.flow_network.specs.Flows.{Net, IsFlow, IsReach, capacity_out, coming_to, empty, is_reached, leaving_from}
+use Rattle.flow_network.specs.Laws.{FlowsFillTheirCut, FlowsOutOfReachAreLargest}
 
 -- ---- sums over arcs
 
@@ -207,18 +207,25 @@ module _ (r : ℕ → Bool) where
       ]
       by false false along against = omega arith
 
-pub flows_out_of_reach_are_largest : FlowsOutOfReachAreLargest
-flows_out_of_reach_are_largest net reached flow reach other same other_flow =
+pub flows_fill_their_cut : FlowsFillTheirCut
+flows_fill_their_cut net reached flow reach =
     let r : ℕ → Bool = is_reached reached in
     let here = balance r net flow reach.source reach.sink in
-    let there = balance r other other_flow (ap r same.source ∙ reach.source) (ap r same.sink ∙ reach.sink) in
     let all_full = sum_equal (λ a. if r a.from then a.flow else 0) (λ a. (if r a.to then a.flow else 0) + crossing r a) net.arcs
     (λ k d below. full r (get_or net.arcs k d) (flow.arcs k d below).within (reach.along k d below) (reach.against k d below)) in
     let parts = sum_add (λ a. if r a.to then a.flow else 0) (crossing r) net.arcs in
+    let out : leaving_from net.arcs net.source ≡ sum_by (crossing r) net.arcs = omega (arith, here, all_full, parts) in
+    out
+
+pub flows_out_of_reach_are_largest : FlowsOutOfReachAreLargest
+flows_out_of_reach_are_largest net reached flow reach other same other_flow =
+    let r : ℕ → Bool = is_reached reached in
+    let filled : leaving_from net.arcs net.source ≡ sum_by (crossing r) net.arcs = flows_fill_their_cut net reached flow reach in
+    let there = balance r other other_flow (ap r same.source ∙ reach.source) (ap r same.sink ∙ reach.sink) in
     let no_more = sum_least (λ a. if r a.from then a.flow else 0) (λ a. (if r a.to then a.flow else 0) + crossing r a) other.arcs
     (λ k d below. at_most r (get_or other.arcs k d) (other_flow.arcs k d below).within) in
     let other_parts = sum_add (λ a. if r a.to then a.flow else 0) (crossing r) other.arcs in
     let crosses : sum_by (crossing r) other.arcs ≡ sum_by (crossing r) net.arcs =
     sym (sum_mapped (crossing r) empty other.arcs (λ a. refl)) ∙ ap (sum_by (crossing r)) same.arcs ∙ sum_mapped (crossing r) empty net.arcs (λ a. refl) in
     let source : leaving_from other.arcs other.source ≡ leaving_from other.arcs net.source = ap (leaving_from other.arcs) same.source in
-    omega (arith, here, there, all_full, parts, no_more, other_parts, crosses, source)
+    omega (arith, filled, there, no_more, other_parts, crosses, source)

@@ -52,9 +52,8 @@ pub record IsSameNet (old new : Net) : Type 0 where
 abbrev pub is_reached : List Bool → ℕ → Bool
 is_reached reached node = get_or reached node false
 
--- The source is reached and the sink isn't; and no arc leads on from a node that is reached to one that isn't, along it
--- where it takes one unit more, or against it where it has one to give back. So all that may go from the nodes that are
--- reached to the others goes there, nothing comes back, and no flow is larger.
+-- A set of nodes, which are said to be reached: the source is, the sink isn't, and no arc leads on from one that is
+-- reached to one that isn't, along it where it takes one unit more, or against it where it has one to give back.
 pub record IsReach (net : Net) (reached : List Bool) : Type 0 where
   pub nodes : length reached ≡ net.nodes
   pub source : is_reached reached net.source ≡ true
@@ -63,3 +62,8 @@ pub record IsReach (net : Net) (reached : List Bool) : Type 0 where
       → is_reached reached arc.to ≡ true) net.arcs
   pub against : All (λ arc. is_reached reached arc.to ≡ true → 0 < arc.flow
       → is_reached reached arc.from ≡ true) net.arcs
+
+-- how much may go from the nodes that are reached to the others
+abbrev pub capacity_out : List Bool → List Arc → ℕ
+capacity_out reached arcs =
+    sum_by (λ arc. if is_reached reached arc.from then (if is_reached reached arc.to then 0 else arc.capacity) else 0) arcs

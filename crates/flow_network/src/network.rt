@@ -1,6 +1,6 @@
 //! A network of nodes and arcs, and a largest flow through it.
 
-ghost use Rattle.std.specs.Prelude.{ℕ, ◌≡◌, ◌≢◌, ◌<◌, ◌++◌, ◌∷◌, ◌^◌, [], length, IfOk, OnOk, slice_get, Some, true};
+ghost use Rattle.std.specs.Prelude.{ℕ, ◌≡◌, ◌≢◌, ◌<◌, ◌++◌, ◌∷◌, ◌^◌, [], length, IfOk, OnErr, OnOk, slice_get, Some, true};
 ghost use Rattle.flow_network.specs.Flows.{IsFlow, IsReach, IsSameNet, is_reached};
 ghost use Rattle.flow_network.specs.Steps.{has};
 
@@ -95,10 +95,11 @@ impl Network {
         requires from { from < self.old.nodes }
         requires to { to < self.old.nodes }
         requires not_to_source { to ≢ self.old.source }
-        ensures { OnOk result (self.new ≡ record self.old {
+        ensures added { OnOk result (self.new ≡ record self.old {
           arcs = self.old.arcs
               ++ record { from = from; to = to; capacity = capacity; flow = 0 } ∷ [];
         }) }
+        ensures unchanged { OnErr result (self.new ≡ self.old) }
     {
         self.arcs.push(Arc {
             from,
@@ -117,13 +118,13 @@ impl Network {
         self.arcs.as_slice()
     }
 
-    /// Makes the flow from the source to the sink as large as it can be, and tells which nodes the source reaches then:
-    /// along arcs that take one unit more, and against arcs that have one to give back. The sink isn't one of them, so
-    /// what may go from these nodes to the others bounds each flow, and all of it goes. The error is want of memory;
-    /// the network has some flow then.
+    /// Makes the flow from the source to the sink as large as it can be, and tells a set of nodes with the source and
+    /// without the sink from which no arc leads on: along it where it takes one unit more, or against it where it has
+    /// one to give back. So what may go from these nodes to the others bounds each flow, and all of it goes. The error
+    /// is want of memory; the network has some flow then.
     ///
-    /// It sends one unit at a time, and goes over the arcs for each, so it is for flows of some thousand units at the
-    /// most.
+    /// It sends one unit at a time, and goes over all arcs for each, up to as often as there are nodes, so it is for
+    /// flows of some hundred units.
     pub fn fill(&mut self, alloc: Global) -> Result<Reached, NoMemory>
         ensures same { IsSameNet self.old self.new }
         ensures flow { IsFlow self.new }
