@@ -1,4 +1,4 @@
--- What is known of every day that was accepted.
+-- What laws ask of a day; each day that was accepted has it.
 use Rattle.std.specs.Prelude.{ℕ, ◌+◌, ◌*◌, ◌<◌, ◌≤◌, ◌≡◌, length, List, [], ◌∷◌, ◌==◌, ◌&&◌, true, if◌then◌else◌, All}
 use Rattle.std.specs.Prelude.{IsTrue, Some, slice_get}
 use Rattle.rail_base.specs.declared.limits.TheConstants.{MOST_CARRIAGES, MOST_SEATS, MOST_FIRST_SEATS, MOST_METRES}
@@ -101,9 +101,10 @@ pub record HaveNames (day : Day) : Type 0 where
   pub stations : AreNamedApart (λ s. s.name) day.stations
   pub trips : AreNamedApart (λ t. t.name) day.trips
 
--- All that is known of a day that was accepted: it is within the limits, names are apart, each trip has one link on
--- each side at most, the trips of a link meet in time and at one station, no station has two stock rows of a type, and
--- some composition may run on each trip, of compositions that are not too many; so its multipliers are not too many.
+-- What laws ask of a day, and each day that was accepted has: no number is above its limit, names are apart, each trip
+-- has one link on each side at most, the trips of a link meet in time and at one station, no station has two stock rows
+-- of a type, and some composition may run on each trip, of compositions that are not too many; so its multipliers are
+-- not too many. The least values of the tables aren't among it: the tables that were accepted tell them.
 pub record IsSoundDay (day : Day) : Type 0 where
   pub limits : IsDay day
   pub names : HaveNames day
