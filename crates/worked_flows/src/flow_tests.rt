@@ -1,9 +1,10 @@
 //! Largest flows through networks by hand, and through drawn ones against all cuts.
 
-ghost use Rattle.std.specs.Prelude.{◌≡◌, ◌<◌, ◌^◌, IfOk};
+ghost use Rattle.std.specs.Prelude.{◌≡◌, ◌<◌, ◌≤◌, ◌^◌, length, IfOk};
 
-use flow_network::{Arc, Network};
+use flow_network::{Arc, Network, Reached};
 use std::alloc::Global;
+use std::process::Abort;
 use std::test::Fail;
 
 /// An arc by the nodes that it leaves and comes to, and how many units may go along it.
@@ -29,6 +30,12 @@ const BY_HAND: &[(usize, &[Row], u64)] = &[
         5,
         &[(0, 1, 2), (1, 2, 9), (2, 3, 9), (3, 1, 9), (3, 4, 1)],
         1,
+    ),
+    // An arc that leads back to its own node, and arcs out of the sink and into it.
+    (
+        4,
+        &[(0, 1, 3), (1, 1, 7), (1, 3, 2), (3, 2, 9), (2, 3, 1)],
+        2,
     ),
 ];
 
@@ -85,14 +92,45 @@ fn least_cut(arcs: &[Arc], nodes: usize) -> u64 {
     least
 }
 
+/// The number of the set of the nodes that are reached, of the first 32.
+fn set_of(reached: &Reached, nodes: usize) -> u32
+    requires { nodes ≤ length reached.now }
+{
+    let mut set = 0u32;
+    for node in 0..nodes {
+        if node < 32 && reached.has(node) {
+            set |= 1u32 << node;
+        }
+    }
+    set
+}
+
+/// Fills a network of so many nodes, and asserts that as many units are brought as are wanted, and that as many may go
+/// from the nodes that are reached to the others, of which the sink is one.
+fn expect_filled(
+    rt: &impl Abort,
+    alloc: Global,
+    mut network: Network,
+    nodes: usize,
+    wanted: u64,
+) -> Result<(), Fail>
+    requires some { 1 < nodes }
+    requires nodes { network.nodes ≡ nodes }
+{
+    let reached = network.fill(alloc)?;
+    let set = set_of(&reached, nodes);
+    assert_eq!(rt; brought(network.arcs()), wanted);
+    assert_eq!(rt; capacity_out(network.arcs(), set), wanted);
+    assert!(rt; !reached.has(nodes - 1));
+    Ok(())
+}
+
 #[test]
 fn flows_by_hand(rt: HostRuntime) -> Result<(), Fail> {
     for (nodes, rows, wanted) in BY_HAND {
-        if *nodes > 1 && *nodes < 64 {
-            let mut network = network_of(rt.alloc(), *nodes, rows)?;
-            let reached = network.fill(rt.alloc())?;
-            assert_eq!(rt; brought(network.arcs()), *wanted);
-            assert!(rt; !reached.has(*nodes - 1));
+        if *nodes > 1 && *nodes < 32 {
+            let network = network_of(rt.alloc(), *nodes, rows)?;
+            expect_filled(&rt, rt.alloc(), network, *nodes, *wanted)?;
         }
     }
     Ok(())
@@ -124,10 +162,9 @@ fn drawn_flows_against_all_cuts(rt: HostRuntime) -> Result<(), Fail> {
     for _network in 0..400u32 {
         let arcs = draw(&mut state, 16);
         let rows = drawn_rows(rt.alloc(), &mut state, arcs)?;
-        let mut network = network_of(rt.alloc(), 6, &rows)?;
-        let _reached = network.fill(rt.alloc())?;
-        let arcs = network.arcs();
-        assert_eq!(rt; brought(arcs), least_cut(arcs, 6));
+        let network = network_of(rt.alloc(), 6, &rows)?;
+        let least = least_cut(network.arcs(), 6);
+        expect_filled(&rt, rt.alloc(), network, 6, least)?;
     }
     Ok(())
 }
