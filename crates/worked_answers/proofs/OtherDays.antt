@@ -1,7 +1,7 @@
 -- What answers and plans come to on other days, by the laws.
 use Rattle.std.proofs.Common.{◌∙◌, arith}
 use Rattle.timetable.specs.Accepted.{IsDay, AreUnitsOf}
-use Rattle.timetable.specs.Day.{Units, stock_units, type_of}
+use Rattle.timetable.specs.Day.{stock_units, type_of}
 use Rattle.timetable.specs.DerivedDays.{OtherStockKeepsTimetables, old_number, with_stock, without_trips}
 use Rattle.timetable.specs.LinkCounts.{LinksCount, TripsCount}
 use Rattle.timetable.specs.Renumbering.{KthUnitsAreAmong, KthUnitsAreRenumbered, PlansRunAmong, kth_number}
@@ -10,7 +10,7 @@ use Rattle.inventory.specs.NamingLaws.{NamedPlansRun, NamesStay, PlansNameTheirP
 use Rattle.inventory.specs.ServingLaws.{PlansOfUnitsAreServed, StandAtStart, UnitsAreLeft, units_after}
 use Rattle.unit_duties.specs.LaterDays.{DaysWithoutAreLater, PlansNameTheirPastLater}
 use Rattle.answer_check.specs.Laws.{RenumberedIsTrue}
-use Rattle.worked_answers.specs.OtherDays.{AnswersHoldOfUnits, GoesOn, PastsAreTakenUp, PlansAreNamedAgain}
+use Rattle.worked_answers.specs.OtherDays.{AnswersHoldOfUnits, PastsAreTakenUp, PlansAreNamedAgain}
 use Rattle.worked_answers.specs.OtherDays.{PlansAreNamedWithout, PlansRunInLargerFleets, UnitsStayAtLinks}
 use Rattle.worked_answers.specs.OtherDays.{UnitsStayInTrains, WeeksGoOn, plan_with, plan_without}
 
