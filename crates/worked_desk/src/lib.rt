@@ -4,6 +4,8 @@
 #[cfg(test)]
 mod desk;
 #[cfg(test)]
+mod line_tests;
+#[cfg(test)]
 mod plan_tests;
 #[cfg(test)]
 mod progress_tests;
