@@ -50,17 +50,31 @@ fn the_status_is_that_of_the_answer(rt: HostRuntime) -> Result<(), Fail> {
     Ok(())
 }
 
-/// Asserts that without an improver the desk writes what the first program writes.
+/// Asserts that two runs on a day, each a program and its words, write the same and end with the same status.
 fn expect_alike(
+    rt: &impl Abort,
+    alloc: Global,
+    texts: &Texts<'_>,
+    first: (Program, &[&str]),
+    second: (Program, &[&str]),
+) -> Result<(), NoMemory> {
+    let mut folder = folder_of(rt, alloc, texts, &[])?;
+    let (status, answer) = said(rt, alloc, first.0, first.1, &mut folder)?;
+    let (found, out) = said(rt, alloc, second.0, second.1, &mut folder)?;
+    assert!(rt; out.written() == answer.written());
+    assert!(rt; found == status);
+    Ok(())
+}
+
+/// Asserts that without an improver the desk writes what the first program writes.
+fn expect_as_first(
     rt: &impl Abort,
     alloc: Global,
     texts: &Texts<'_>,
     nodes: &str,
     rounds: &str,
 ) -> Result<(), NoMemory> {
-    let mut folder = folder_of(rt, alloc, texts, &[])?;
     let first = ["plan", "day", "--nodes", nodes, "--rounds", rounds];
-    let (status, answer) = said(rt, alloc, Program::Railplan, &first, &mut folder)?;
     let second = [
         "plan",
         "day",
@@ -71,10 +85,13 @@ fn expect_alike(
         "--evaluations",
         "0",
     ];
-    let (found, out) = said(rt, alloc, Program::Raildesk, &second, &mut folder)?;
-    assert!(rt; out.written() == answer.written());
-    assert!(rt; found == status);
-    Ok(())
+    expect_alike(
+        rt,
+        alloc,
+        texts,
+        (Program::Railplan, &first),
+        (Program::Raildesk, &second),
+    )
 }
 
 #[test]
@@ -82,7 +99,7 @@ fn without_evaluations_it_is_the_first_program(rt: HostRuntime) -> Result<(), Fa
     for texts in &[TURN, ONE_LEFT, TWO_TYPES, RING, WANTED] {
         for nodes in &["0", "1", "3", "200"] {
             for rounds in &["0", "2", "20"] {
-                expect_alike(&rt, rt.alloc(), texts, *nodes, *rounds)?;
+                expect_as_first(&rt, rt.alloc(), texts, *nodes, *rounds)?;
             }
         }
     }
@@ -101,13 +118,49 @@ fn what_is_not_given_is_usual(rt: HostRuntime) -> Result<(), Fail> {
         "--evaluations",
         "500",
     ];
+    let short = ["plan", "day"];
     for texts in &[TURN, ONE_LEFT, TWO_TYPES, RING, WANTED] {
-        let mut folder = folder_of(&rt, rt.alloc(), texts, &[])?;
-        let (status, answer) = said(&rt, rt.alloc(), Program::Raildesk, &usual, &mut folder)?;
-        let short = ["plan", "day"];
-        let (found, out) = said(&rt, rt.alloc(), Program::Raildesk, &short, &mut folder)?;
-        assert!(rt; out.written() == answer.written());
-        assert!(rt; found == status);
+        expect_alike(
+            &rt,
+            rt.alloc(),
+            texts,
+            (Program::Raildesk, &usual),
+            (Program::Raildesk, &short),
+        )?;
+    }
+    Ok(())
+}
+
+/// How many evaluations are granted on the day where one unit is left at Y, and no branching is; the status then, and
+/// the second line of the answer. The bounds were worked out by another program, which takes the same steps.
+const GRANTED: [(&str, u8, &str); 5] = [
+    ("0", 4, "bounded 120"),
+    ("1", 4, "bounded 120 plan 190"),
+    ("2", 4, "bounded 160 plan 190"),
+    ("10", 4, "bounded 188 plan 190"),
+    ("500", 0, "optimal 190"),
+];
+
+#[test]
+fn evaluations_are_granted_whether_progress_is_told_or_not(rt: HostRuntime) -> Result<(), Fail> {
+    for (evaluations, status, head) in &GRANTED {
+        let words = [
+            "plan",
+            "day",
+            "--nodes",
+            "0",
+            "--evaluations",
+            *evaluations,
+            "--progress",
+        ];
+        expect_head(&rt, rt.alloc(), &ONE_LEFT, &words, *status, *head)?;
+        expect_alike(
+            &rt,
+            rt.alloc(),
+            &ONE_LEFT,
+            (Program::Raildesk, &words),
+            (Program::Raildesk, &words[..6]),
+        )?;
     }
     Ok(())
 }
@@ -123,55 +176,60 @@ fn expect_refused(
     expect(rt, alloc, texts, &["plan", "day"], 3, line.as_str())
 }
 
+/// Days of which a file is refused, and its name: each but the weights wrong by itself; a stock that is right by
+/// itself, but names a station that there isn't; and of two files that are wrong, the one that is read first.
+const REFUSED: [(Texts<'static>, &str); 7] = [
+    (
+        Texts {
+            types: b"type\n",
+            ..TURN
+        },
+        "types.csv",
+    ),
+    (
+        Texts {
+            stations: b"\xff\n",
+            ..TURN
+        },
+        "stations.csv",
+    ),
+    (Texts { stock: b"", ..TURN }, "stock.csv"),
+    (
+        Texts {
+            trips: b"kind,arriving,arriving2,departing,departing2,reverse,uncouple,couple\n",
+            ..TURN
+        },
+        "trips.csv",
+    ),
+    (
+        Texts {
+            links: b"trip,from,departure,to,arrival,km,demand\n",
+            ..TURN
+        },
+        "links.csv",
+    ),
+    (
+        Texts {
+            stock: b"station,type,start,end\nZ,A,2,2\n",
+            ..TURN
+        },
+        "stock.csv",
+    ),
+    (
+        Texts {
+            stations: b"\n",
+            trips: b"\n",
+            ..TURN
+        },
+        "stations.csv",
+    ),
+];
+
 #[test]
 fn a_file_that_is_refused_is_named(rt: HostRuntime) -> Result<(), Fail> {
-    let wrong: [(Texts<'_>, &str); 5] = [
-        (
-            Texts {
-                types: b"type\n",
-                ..TURN
-            },
-            "types.csv",
-        ),
-        (
-            Texts {
-                stations: b"\xff\n",
-                ..TURN
-            },
-            "stations.csv",
-        ),
-        (Texts { stock: b"", ..TURN }, "stock.csv"),
-        (
-            Texts {
-                trips: TURN.links,
-                ..TURN
-            },
-            "trips.csv",
-        ),
-        (
-            Texts {
-                links: TURN.trips,
-                ..TURN
-            },
-            "links.csv",
-        ),
-    ];
-    for (texts, file) in &wrong {
+    for (texts, file) in &REFUSED {
         expect_refused(&rt, rt.alloc(), texts, *file)?;
     }
-    // A file that is right by itself, but names a station that there isn't.
-    let unknown = Texts {
-        stock: b"station,type,start,end\nZ,A,2,2\n",
-        ..TURN
-    };
-    expect_refused(&rt, rt.alloc(), &unknown, "stock.csv")?;
-    // Of two files that are wrong, the one that is read first.
-    let both = Texts {
-        stations: b"\n",
-        trips: b"\n",
-        ..TURN
-    };
-    expect_refused(&rt, rt.alloc(), &both, "stations.csv")?;
     Ok(())
 }
 
