@@ -409,11 +409,16 @@ part_listed day (Split a b1 b2) r edge is = record {
   part = subst (λ (o : Option ℕ). IfSome o (λ part. part < length (compositions_of day))) (sym is.is_part) is.second.listed;
 }
 
--- the compositions of a link's edges are those of the day
+-- the edges of a link are allowed by it
+pub edge_at_allowed : (day : Day) (graphs : List (List Edge)) (l : ℕ) (edges : List Edge) (edge : Edge) → AreGraphs day graphs
+    → slice_get graphs l ≡ Some edges → Contains edges edge → IsEdge day l edge
+edge_at_allowed day graphs l edges edge are at there = ((are.each l edges at).exact edge).0 there
+
+-- and their compositions are those of the day
 pub edge_at_listed : (day : Day) (graphs : List (List Edge)) (l : ℕ) (edges : List Edge) (edge : Edge) → AreGraphs day graphs
     → slice_get graphs l ≡ Some edges → Contains edges edge → IsListed (length (compositions_of day)) edge
 edge_at_listed day graphs l edges edge are at there =
-    let is : IsEdge day l edge = ((are.each l edges at).exact edge).0 there in
+    let is : IsEdge day l edge = edge_at_allowed day graphs l edges edge are at there in
     part_listed day is.link.kind is.link.reverse edge is.kind
 
 -- ---- rows in two parts, the first of which has so many and one more

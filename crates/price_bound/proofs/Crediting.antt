@@ -10,10 +10,10 @@ use Rattle.timetable.proofs.Picking.{types_known}
 use Rattle.branch_tree.specs.declared.multipliers.Entry.{Entry}
 use Rattle.price_bound.specs.declared.price_tables.PriceTables.{PriceTables}
 use Rattle.price_bound.specs.CellSizes.{IsSmall, most_units_price}
-use Rattle.price_bound.specs.Credits.{AreCredits, AreRowsBut, AreSumsBelow, AreSumsIn, put_in, sum_in}
+use Rattle.price_bound.specs.Credits.{AreCredits, AreDebits, AreRowsBut, AreSumsBelow, AreSumsIn, put_in, sum_in}
 use Rattle.price_bound.specs.PriceTables.{ArePrices, HasSize, amount_at}
 use Rattle.price_bound.proofs.Steps.{entry_below}
-use Rattle.price_bound.proofs.Summing.{giving_is, types_below}
+use Rattle.price_bound.proofs.Summing.{giving_is, taking_is, types_below}
 
 -- ---- one amount changed
 
@@ -86,7 +86,7 @@ below_more day amounts table new trip done here others t lt = elim (cases_eq t t
       }
 ]
 
--- ---- the credits
+-- ---- the credits and the debits
 
 known : (day : Day) (c : ℕ) → c < length (compositions_of day) → All (λ m. m < length day.types) (composition_at day c)
 known day c below =
@@ -94,12 +94,20 @@ known day c below =
     subst (All (λ (m : ℕ). m < length day.types)) (sym (ap (λ (o : Option (List ℕ)). unwrap_or o []) at))
     (types_below day.types ms (types_known day.types (greatest_platform day) c ms at))
 
-pub credits_are : (day : Day) (entries : List Entry) (tables : PriceTables) (table : List (List ℤ)) → ArePrices day entries tables
-    → HasSize (length day.trips) (length (compositions_of day)) table → AreSumsBelow day tables.gives (length day.trips) table
-    → AreCredits day entries table
-credits_are day entries tables table prices size sums = record {
-  sized = size;
-  values = λ t c lt below. (sums t lt).values c below
-      ∙ giving_is day entries tables prices t lt (composition_at day c) (known day c below);
-  small = λ t c lt below. (sums t lt).small c below;
-}
+module _ (day : Day) (entries : List Entry) (tables : PriceTables) (table : List (List ℤ)) (prices : ArePrices day entries tables)
+    (size : HasSize (length day.trips) (length (compositions_of day)) table) where
+  pub credits_are : AreSumsBelow day tables.gives (length day.trips) table → AreCredits day entries table
+  credits_are sums = record {
+    sized = size;
+    values = λ t c lt below. (sums t lt).values c below
+        ∙ giving_is day entries tables prices t lt (composition_at day c) (known day c below);
+    small = λ t c lt below. (sums t lt).small c below;
+  }
+
+  pub debits_are : AreSumsBelow day tables.takes (length day.trips) table → AreDebits day entries table
+  debits_are sums = record {
+    sized = size;
+    values = λ t c lt below. (sums t lt).values c below
+        ∙ taking_is day entries tables prices t lt (composition_at day c) (known day c below);
+    small = λ t c lt below. (sums t lt).small c below;
+  }

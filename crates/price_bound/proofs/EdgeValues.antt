@@ -33,15 +33,15 @@ use Rattle.timetable.proofs.WholeTurns.{have_parts}
 use Rattle.transitions.specs.declared.edge.Edge.{Edge}
 use Rattle.transitions.specs.declared.edge.Shunt.{Shunt}
 use Rattle.transitions.specs.declared.edge.Shunt.TheVariants.{Keep, Uncouple, Couple, Exchange}
-use Rattle.transitions.specs.Edges.{IsKindEdge}
+use Rattle.transitions.specs.Edges.{IsKindEdge, IsTurnEdge}
 use Rattle.transitions.specs.Turns.{shunt_by_units, shunt_of, turn_shunt}
 use Rattle.branch_tree.specs.declared.multipliers.Entry.{Entry}
 use Rattle.branch_tree.specs.declared.relaxation.Weight.{Weight}
 use Rattle.branch_tree.specs.declared.relaxation.Weight.TheVariants.{Cost, NoCost}
 use Rattle.branch_tree.specs.IntSums.{int_sum}
 use Rattle.branch_tree.specs.Meanings.{weighted}
-use Rattle.price_bound.specs.EdgeValues.{coupled, edge_value, part_multiplier, part_value, shunt_cost, stayed, stays_by}
-use Rattle.price_bound.specs.EdgeValues.{turn_value}
+use Rattle.price_bound.specs.EdgeValues.{coupled, coupling_value, edge_value, part_multiplier, part_value, shunt_cost}
+use Rattle.price_bound.specs.EdgeValues.{stayed, stays_by, turn_value}
 use Rattle.price_bound.specs.FollowingPicks.{part_by}
 use Rattle.price_bound.specs.Regrouped.{of_handover, part_price, value_at_link}
 use Rattle.price_bound.specs.YardPrices.{by_place, giving, taking, yard_price}
@@ -323,3 +323,40 @@ module _ (day : Day) (entries : List Entry) (weight : Weight) (lists : List (Lis
   pub edge_is : (edge : Edge) → IsKindEdge day link.kind link.reverse edge → list_of lists (leads_from link.kind) ≡ composition_at day edge.from
       → list_of lists (leads_to link.kind) ≡ composition_at day edge.to → value_at_link day entries weight lists l link ≡ edge_value day entries weight l link.kind edge
   edge_is edge is from to = kind_is link.kind link.reverse edge refl is from to
+
+-- ---- turns that couple units and uncouple none
+
+none_given : (bg bt : Bool) (given taken units : ℕ)
+    → (if bg then (if bt then Keep else Couple taken) else (if bt then Uncouple given else Exchange given taken)) ≡ Couple units → bg ≡ true
+none_given true bt given taken units e = refl
+none_given false true given taken units e = absurd cc
+none_given false false given taken units e = absurd cc
+
+sum_of_none : (f : ℕ → ℤ) (xs : List ℕ) → length xs ≡ 0 → int_sum f xs ≡ pos 0
+sum_of_none f [] none = refl
+sum_of_none f (x ∷ xs) none = absurd (omega (arith, none))
+
+-- such a turn takes what departs and had not arrived
+pub coupling_is : (day : Day) (entries : List Entry) (weight : Weight) (r : Bool) (a b : ℕ) (u c : End) (x : Bool) (edge : Edge) (units : ℕ)
+    → IsTurnEdge day r a b u c x edge → edge.shunt ≡ Couple units → turn_value day entries weight a b c edge ≡ coupling_value day entries weight b edge
+unfolding turn_shunt
+coupling_is day entries weight r a b u c x edge units is couples =
+    let from : List ℕ = composition_at day edge.from in
+    let to : List ℕ = composition_at day edge.to in
+    let (parts, there, shunt) = found shunt_of (turn_parts itself u c x (turned r from) to) edge.shunt is.rule in
+    let none : length parts.given ≡ 0 = eqb-true (length parts.given) 0
+    (none_given (length parts.given == 0) (length parts.taken == 0) (length parts.given) (length parts.taken) units (shunt ∙ couples)) in
+    let arrived = λ (f : ℕ → ℤ). sym (sum_turned f r from) ∙ given_sum day u c x (turned r from) to parts there f in
+    let stays : stays_by day c edge ≡ parts.kept = stays_are day u c x (turned r from) to parts there edge.shunt shunt in
+    let take : ℕ → ℤ = yard_price day entries (from_of day b) (leaves day b) in
+    let give : ℕ → ℤ = yard_price day entries (to_of day a) (ready_at day a) in
+    all (weighted weight (pos (shunt_cost day edge.shunt))) (weighted weight (pos day.weights.shunting))
+    (int_sum take to) (int_sum take (stays_by day c edge)) (int_sum take from) (int_sum take parts.kept) (int_sum take parts.given)
+    (int_sum give (stays_by day c edge)) (int_sum give from) (int_sum give parts.kept) (int_sum give parts.given)
+    (ap (λ (s : Shunt). weighted weight (pos (shunt_cost day s))) couples)
+    (arrived take) (arrived give) (ap (int_sum take) stays) (ap (int_sum give) stays)
+    (sum_of_none take parts.given none) (sum_of_none give parts.given none)
+  where
+    all : (w w' t ts tf tk tg gs gf gk gg : ℤ) → w ≡ w' → tf ≡ tk +ℤ tg → gf ≡ gk +ℤ gg → ts ≡ tk → gs ≡ gk → tg ≡ pos 0 → gg ≡ pos 0
+        → w +ℤ (t -ℤ ts) -ℤ (gf -ℤ gs) ≡ w' +ℤ (t -ℤ tf)
+    all w w' t ts tf tk tg gs gf gk gg e f g h i j k = omega (arith, ints, e, f, g, h, i, j, k)

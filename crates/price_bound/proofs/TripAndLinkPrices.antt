@@ -9,6 +9,8 @@ use Rattle.timetable.specs.Compositions.{compositions_of, composition_at}
 use Rattle.timetable.specs.Day.{Day}
 use Rattle.timetable.specs.Handovers.{second_of}
 use Rattle.transitions.specs.declared.edge.Edge.{Edge}
+use Rattle.transitions.specs.declared.edge.Shunt.TheVariants.{Couple}
+use Rattle.transitions.specs.Edges.{IsEdge, IsKindEdge, IsTurnEdge}
 use Rattle.branch_tree.specs.declared.multipliers.Entry.{Entry}
 use Rattle.price_bound.specs.declared.priced.Pricing.{Pricing}
 use Rattle.price_bound.specs.declared.turn_prices.TurnPrices.{TurnPrices}
@@ -17,16 +19,30 @@ use Rattle.price_bound.specs.TripAndLinkPrices.{IsForTurn}
 use Rattle.price_bound.specs.CellSizes.{IsSmall, most_price, most_units_price}
 use Rattle.price_bound.specs.ChainStages.{Priced, part_is_in, price_by_link, price_of}
 use Rattle.price_bound.specs.Costs.{IsCostOf, cost_in}
-use Rattle.price_bound.specs.Credits.{AreSmallAmounts, sum_in}
-use Rattle.price_bound.specs.EdgeValues.{edge_value, part_multiplier, turn_value}
+use Rattle.price_bound.specs.Credits.{AreSmallAmounts, AreUnitPrices, sum_in}
+use Rattle.price_bound.specs.EdgeValues.{coupling_value, edge_value, part_multiplier, turn_value}
 use Rattle.price_bound.specs.Pricing.{ArePriced, priced_by}
 use Rattle.price_bound.specs.Regrouped.{second_price}
 use Rattle.price_bound.specs.YardPrices.{giving, taking}
 use Rattle.price_bound.proofs.Adding.{small_more}
+use Rattle.price_bound.proofs.EdgeValues.{coupling_is}
 use Rattle.price_bound.proofs.Filling.{are_few, part_small, second_small}
 use Rattle.price_bound.proofs.Summing.{giving_is, gives_small, taking_is, takes_small}
 
 -- ---- rows of tables
+
+-- a row of credits or debits
+module _ (day : Day) (price : ℕ → List ℕ → ℤ) (table : List (List ℤ)) (is : AreUnitPrices day price table) (t : ℕ)
+    (known : t < length day.trips) (row : List ℤ) (at : row ≡ get_or table t []) where
+  pub unit_price_at : (comp : ℕ) → comp < length (compositions_of day) → get_or row comp (pos 0) ≡ price t (composition_at day comp)
+  unit_price_at comp below = ap (λ (amounts : List ℤ). get_or amounts comp (pos 0)) at ∙ is.values t comp known below
+
+  pub unit_price_small : (comp : ℕ) → comp < length (compositions_of day) → IsSmall most_units_price (get_or row comp (pos 0))
+  unit_price_small comp below =
+      subst (λ (amounts : List ℤ). IsSmall most_units_price (get_or amounts comp (pos 0))) (sym at) (is.small t comp known below)
+
+  pub unit_prices_long : length row ≡ length (compositions_of day)
+  unit_prices_long = ap length at ∙ is.sized.widths t known
 
 module _ (pricing : Pricing) (is : ArePriced pricing) (t : ℕ) (known : t < length pricing.instance.now.trips) where
   abbrev day : Day
@@ -46,20 +62,6 @@ module _ (pricing : Pricing) (is : ArePriced pricing) (t : ℕ) (known : t < len
 
   pub costs_long : (row : List ℤ) → row ≡ get_or pricing.costs.now t [] → length row ≡ comps
   costs_long row at = ap length at ∙ is.costs.sized.widths t known
-
-  pub credit_at : (row : List ℤ) → row ≡ get_or pricing.credits.now t [] → (comp : ℕ) → comp < comps
-      → get_or row comp (pos 0) ≡ giving day entries t (composition_at day comp)
-  credit_at row at comp below =
-      ap (λ (amounts : List ℤ). get_or amounts comp (pos 0)) at ∙ is.credits.values t comp known below
-
-  pub credit_small : (row : List ℤ) → row ≡ get_or pricing.credits.now t [] → (comp : ℕ) → comp < comps
-      → IsSmall most_units_price (get_or row comp (pos 0))
-  credit_small row at comp below =
-      subst (λ (amounts : List ℤ). IsSmall most_units_price (get_or amounts comp (pos 0))) (sym at)
-      (is.credits.small t comp known below)
-
-  pub credits_long : (row : List ℤ) → row ≡ get_or pricing.credits.now t [] → length row ≡ comps
-  credits_long row at = ap length at ∙ is.credits.sized.widths t known
 
   pub second_at : (row : List ℤ) → row ≡ get_or pricing.tables.now.seconds t [] → (comp : ℕ) → comp < comps
       → get_or row comp (pos 0) ≡ second_price day entries t comp
@@ -142,3 +144,26 @@ turn_priced prices is edge =
     let priced : Priced = priced_by prices.pricing.now in
     ap (λ (o : Option Link). price_by_link priced prices.link o edge) is.turn.at
     ∙ ap (λ (kind : LinkKind). by_kind priced prices.link kind edge) is.turn.is
+
+-- an edge of a turn is allowed by the turn's rule
+turn_edge : (prices : TurnPrices) (is : IsForTurn prices) (edge : Edge) → IsEdge prices.pricing.now.instance.now prices.link edge
+    → IsTurnEdge prices.pricing.now.instance.now is.turn.link.reverse prices.turn.arriving prices.turn.departing is.turn.uncouple
+    prices.turn.couple is.turn.exchange edge
+turn_edge prices is edge allowed =
+    let day : Day = prices.pricing.now.instance.now in
+    let some : Some allowed.link ≡ Some is.turn.link = sym allowed.at ∙ is.turn.at in
+    let same : allowed.link ≡ is.turn.link = cc in
+    subst (λ (kind : LinkKind). IsKindEdge day kind is.turn.link.reverse edge) is.turn.is
+    (subst (λ (link : Link). IsKindEdge day link.kind link.reverse edge) same allowed.kind)
+
+-- where it couples units and uncouples none, it is priced by what departs and had not arrived
+pub coupling_priced : (prices : TurnPrices) → IsForTurn prices → (edge : Edge)
+    → IsEdge prices.pricing.now.instance.now prices.link edge → (units : ℕ) → edge.shunt ≡ Couple units
+    → price_of (priced_by prices.pricing.now) (Some prices.link) edge
+    ≡ Some (coupling_value prices.pricing.now.instance.now prices.pricing.now.multipliers.now prices.pricing.now.weight
+    prices.turn.departing edge)
+coupling_priced prices is edge allowed units couples =
+    turn_priced prices is edge
+    ∙ ap (λ (value : ℤ). Some value) (coupling_is prices.pricing.now.instance.now prices.pricing.now.multipliers.now
+    prices.pricing.now.weight is.turn.link.reverse prices.turn.arriving prices.turn.departing is.turn.uncouple prices.turn.couple
+    is.turn.exchange edge units (turn_edge prices is edge allowed) couples)

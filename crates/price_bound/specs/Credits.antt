@@ -1,4 +1,5 @@
--- Credits: for each trip and composition the price of the composition's units, where the trip gives them.
+-- Credits and debits: for each trip and composition the price of the composition's units, where the trip gives them,
+-- and where it takes them.
 use Rattle.std.specs.Prelude.{ℕ, ◌≡◌, ◌≢◌, ◌<◌, List, [], length, get_or, set, ℤ, pos}
 use Rattle.timetable.specs.Compositions.{compositions_of, composition_at}
 use Rattle.timetable.specs.Day.{Day}
@@ -6,7 +7,7 @@ use Rattle.branch_tree.specs.declared.multipliers.Entry.{Entry}
 use Rattle.branch_tree.specs.IntSums.{int_sum}
 use Rattle.price_bound.specs.CellSizes.{IsSmall, most_price, most_units_price}
 use Rattle.price_bound.specs.PriceTables.{HasSize, amount_at}
-use Rattle.price_bound.specs.YardPrices.{giving}
+use Rattle.price_bound.specs.YardPrices.{giving, taking}
 
 -- a table with another amount in a row and a column
 abbrev pub put_in : ℕ → ℕ → ℤ → List (List ℤ) → List (List ℤ)
@@ -34,10 +35,17 @@ AreSumsBelow day amounts trips table =
 abbrev pub AreRowsBut : ℕ → List (List ℤ) → List (List ℤ) → Type 0
 AreRowsBut t table new = (other : ℕ) → other ≢ t → get_or new other [] ≡ get_or table other []
 
--- the credits under multipliers
-pub record AreCredits (day : Day) (entries : List Entry) (table : List (List ℤ)) : Type 0 where
+-- a table has for each trip and composition a price of the composition's units
+pub record AreUnitPrices (day : Day) (price : ℕ → List ℕ → ℤ) (table : List (List ℤ)) : Type 0 where
   pub sized : HasSize (length day.trips) (length (compositions_of day)) table
   pub values : (t c : ℕ) → t < length day.trips → c < length (compositions_of day)
-      → amount_at table t c ≡ giving day entries t (composition_at day c)
+      → amount_at table t c ≡ price t (composition_at day c)
   pub small : (t c : ℕ) → t < length day.trips → c < length (compositions_of day)
       → IsSmall most_units_price (amount_at table t c)
+
+-- the credits under multipliers, and the debits
+abbrev pub AreCredits : Day → List Entry → List (List ℤ) → Type 0
+AreCredits day entries table = AreUnitPrices day (giving day entries) table
+
+abbrev pub AreDebits : Day → List Entry → List (List ℤ) → Type 0
+AreDebits day entries table = AreUnitPrices day (taking day entries) table

@@ -17,6 +17,7 @@ pub record IsRoomFor (day : Day) (changes : List Change) (room : Workspace) : Ty
   pub costs : AreCosts day changes room.costs
   pub tables : AreSized day room.tables
   pub credits : HasSize (length day.trips) (length (compositions_of day)) room.credits
+  pub debits : HasSize (length day.trips) (length (compositions_of day)) room.debits
   pub rows : HaveRoom (length day.trips) (length (compositions_of day)) room.rows
   pub choice : length room.choice ≡ length day.trips
 

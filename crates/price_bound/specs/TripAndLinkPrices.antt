@@ -28,7 +28,7 @@ pub record IsForTrip (worths : TripWorths) : Type 0 where
   pub costs : worths.costs.now ≡ get_or worths.pricing.now.costs.now worths.trip []
   pub weight : worths.weight ≡ worths.pricing.now.weight
   pub begins : worths.begins ≡ is_none (incoming worths.pricing.now.instance.now worths.trip)
-  pub takes : worths.takes.now ≡ get_or worths.pricing.now.tables.now.takes worths.trip []
+  pub debits : worths.debits.now ≡ get_or worths.pricing.now.debits.now worths.trip []
   pub ends : worths.ends ≡ is_none (outgoing worths.pricing.now.instance.now worths.trip)
   pub credits : worths.credits.now ≡ get_or worths.pricing.now.credits.now worths.trip []
   pub seconds : worths.seconds.now ≡ get_or worths.pricing.now.tables.now.seconds worths.trip []
@@ -54,6 +54,7 @@ pub record IsForTurn (prices : TurnPrices) : Type 0 where
   pub takes : prices.takes.now ≡ get_or prices.pricing.now.tables.now.takes prices.turn.departing []
   pub gives : prices.gives.now ≡ get_or prices.pricing.now.tables.now.gives prices.turn.arriving []
   pub credits : prices.credits.now ≡ get_or prices.pricing.now.credits.now prices.turn.arriving []
+  pub debits : prices.debits.now ≡ get_or prices.pricing.now.debits.now prices.turn.departing []
 
 -- the price of the units that come with an edge of a turn, where they are taken, less their price where they would be
 -- given

@@ -5,7 +5,7 @@ ghost use Rattle.std.specs.Prelude.{ℕ, ◌≡◌, ◌<◌, ◌≤◌, ◌+◌,
 ghost use Rattle.std.specs.Prelude.{IfSome, is_none, slice_get};
 ghost use Rattle.timetable.specs.Compositions.{compositions_of};
 ghost use Rattle.timetable.specs.Links.{outgoing};
-ghost use Rattle.transitions.specs.Edges.{AreGraphs};
+ghost use Rattle.transitions.specs.Edges.{AreGraphs, IsEdge};
 ghost use Rattle.price_bound.specs.CellRows.{HaveRoom, HaveRoomFor, chain_rows, comps_of, edges_offered, last_row_on};
 ghost use Rattle.price_bound.specs.CellRows.{offered_on, put_along, row_on};
 ghost use Rattle.price_bound.specs.CellSizes.{AreSmallCells, AreSmallOffers, IsSmall, IsSmallStep, most_ahead};
@@ -251,6 +251,7 @@ fn offer_edges_at<P: EdgePrices>(prices: &P, edges: &[Edge], row: &mut CellRow, 
 fn offer_at<P: EdgePrices>(prices: &P, edge: &Edge, ahead: &CellRow) -> Option<Cell>
     requires prices { P.are_of_link prices.now }
     requires edge { IsListed (comps_of (P.priced prices.now)) edge.now }
+    requires allowed { IsEdge (P.priced prices.now).day (P.link prices.now) edge.now }
     requires ahead { length ahead.now ≡ comps_of (P.priced prices.now) }
     requires small { AreSmallCells most_ahead ahead.now }
     ensures value { result ≡ offer_by edge.now.to

@@ -1,6 +1,7 @@
 //! What prices the edges of a link, whatever its kind.
 
 ghost use Rattle.std.specs.Prelude.{ℕ, ◌≡◌, IfSome, Some, option_map};
+ghost use Rattle.transitions.specs.Edges.{IsEdge};
 ghost use Rattle.price_bound.specs.CellRows.{comps_of};
 ghost use Rattle.price_bound.specs.CellSizes.{IsSmall, most_edge_price};
 ghost use Rattle.price_bound.specs.ChainStages.{Priced, price_of};
@@ -24,6 +25,7 @@ pub(crate) trait EdgePrices {
     fn price(&self, edge: &Edge) -> Option<Amount>
         requires is { are_of_link self.now }
         requires edge { IsListed (comps_of (priced self.now)) edge.now }
+        requires allowed { IsEdge (priced self.now).day (link self.now) edge.now }
         ensures value { option_map (λ price. price.0) result
             ≡ price_of (priced self.now) (Some (link self.now)) edge.now }
         ensures small { IfSome result (λ price. IsSmall most_edge_price price.0) };

@@ -56,6 +56,7 @@ pub(crate) fn put_prices(room: &mut Workspace, asked: &Asked<'_>, guide: &mut Pr
     prove!(asked.instance.links() as usize <= MOST_LINKS);
     room.tables.fill(asked.instance, asked.multipliers);
     fill_sums(asked.instance, &room.tables.gives, &mut room.credits);
+    fill_sums(asked.instance, &room.tables.takes, &mut room.debits);
     let pricing = Pricing {
         instance: asked.instance,
         graphs: asked.graphs,
@@ -66,6 +67,7 @@ pub(crate) fn put_prices(room: &mut Workspace, asked: &Asked<'_>, guide: &mut Pr
         costs: &room.costs,
         tables: &room.tables,
         credits: &room.credits,
+        debits: &room.debits,
     };
     put_all(&pricing, &mut room.rows, guide);
 }

@@ -29,4 +29,6 @@ pub(crate) struct Pricing<'a> {
     pub tables: &'a PriceTables,
     /// The price of each composition's units, where a trip gives them.
     pub credits: &'a AmountTable,
+    /// The price of each composition's units, where a trip takes them.
+    pub debits: &'a AmountTable,
 }

@@ -5,8 +5,8 @@ ghost use Rattle.std.specs.Prelude.{slice_get};
 ghost use Rattle.timetable.specs.Compositions.{compositions_of, composition_at};
 ghost use Rattle.branch_tree.specs.Meanings.{weighted};
 ghost use Rattle.price_bound.specs.TripAndLinkPrices.{IsForTurn, IsTurnOf, coupled_price_of};
-ghost use Rattle.price_bound.specs.CellSizes.{IsSmall, most_units_price, most_cost};
-ghost use Rattle.price_bound.specs.EdgeValues.{came, coupled, shunt_cost, turn_value};
+ghost use Rattle.price_bound.specs.CellSizes.{IsSmall, most_cost, most_edge_price, most_units_price};
+ghost use Rattle.price_bound.specs.EdgeValues.{came, coupled, coupling_value, shunt_cost, turn_value};
 ghost use Rattle.price_bound.specs.Pricing.{ArePriced, IsListed, priced_by};
 ghost use Rattle.price_bound.specs.YardPrices.{giving, taking};
 
@@ -47,6 +47,8 @@ pub(crate) struct TurnPrices<'a> {
     pub gives: &'a [i64],
     /// The price of each composition's units, where the arriving trip gives them.
     pub credits: &'a [i64],
+    /// The price of each composition's units, where the departing trip takes them.
+    pub debits: &'a [i64],
 }
 
 impl<'a> TurnPrices<'a> {
@@ -60,14 +62,16 @@ impl<'a> TurnPrices<'a> {
         ensures is { IsForTurn result }
     {
         let arriving = turn.arriving.place();
+        let departing = turn.departing.place();
         TurnPrices {
             pricing,
             link,
             turn,
             shunting: weighted(pricing.weight, shunting_cost(pricing.instance)),
-            takes: pricing.tables.takes.row(turn.departing.place()).items(),
+            takes: pricing.tables.takes.row(departing).items(),
             gives: pricing.tables.gives.row(arriving).items(),
             credits: pricing.credits.row(arriving).items(),
+            debits: pricing.debits.row(departing).items(),
         }
     }
 
@@ -98,6 +102,18 @@ impl<'a> TurnPrices<'a> {
         amount_for(self.credits, comp)
     }
 
+    /// The price of a composition's units, where the departing trip takes them.
+    fn debit(&self, comp: CompNo) -> Amount
+        requires is { IsForTurn self.now }
+        requires comp { comp < length (compositions_of self.now.pricing.now.instance.now) }
+        ensures value { result.0 ≡ taking self.now.pricing.now.instance.now
+            self.now.pricing.now.multipliers.now self.now.turn.departing
+            (composition_at self.now.pricing.now.instance.now comp) }
+        ensures small { IsSmall most_units_price result.0 }
+    {
+        amount_for(self.debits, comp)
+    }
+
     /// The price of the units that come with an edge, where the departing trip takes them, less their price where the
     /// arriving trip gives them.
     fn coupled_price(&self, edge: &Edge) -> Amount
@@ -118,6 +134,36 @@ impl<'a> TurnPrices<'a> {
         );
         minus(sum_in(self.takes, came), sum_in(self.gives, came))
     }
+
+    /// What an edge is priced, by the units that come with it.
+    fn parted_price(&self, edge: &Edge) -> Amount
+        requires is { IsForTurn self.now }
+        requires edge { IsListed (length (compositions_of self.now.pricing.now.instance.now)) edge.now }
+        ensures value { result.0 ≡ turn_value self.now.pricing.now.instance.now self.now.pricing.now.multipliers.now
+            self.now.pricing.now.weight self.now.turn.arriving self.now.turn.departing self.now.turn.couple edge.now }
+        ensures small { IsSmall most_edge_price result.0 }
+    {
+        let cost = self.shunt_cost(edge.shunt);
+        let before = self.credit(edge.from);
+        let after = self.credit(edge.to);
+        let coupled_price = self.coupled_price(edge);
+        let credit_difference = minus(before, after);
+        let cost_less_credits = minus(cost, credit_difference);
+        plus(cost_less_credits, coupled_price)
+    }
+
+    /// What an edge is priced that couples units and uncouples none: it takes what departs and had not arrived.
+    fn coupling_price(&self, edge: &Edge) -> Amount
+        requires is { IsForTurn self.now }
+        requires edge { IsListed (length (compositions_of self.now.pricing.now.instance.now)) edge.now }
+        ensures value { result.0 ≡ coupling_value self.now.pricing.now.instance.now
+            self.now.pricing.now.multipliers.now self.now.pricing.now.weight self.now.turn.departing edge.now }
+        ensures small { IsSmall most_edge_price result.0 }
+    {
+        let arrived = self.debit(edge.from);
+        let departing = self.debit(edge.to);
+        plus(self.shunting, minus(departing, arrived))
+    }
 }
 
 impl<'a> EdgePrices for TurnPrices<'a> {
@@ -130,13 +176,10 @@ impl<'a> EdgePrices for TurnPrices<'a> {
     /// What an edge of the turn is priced: the cost of shunting, and the price of the units that are taken less that of
     /// the units that are given.
     fn price(&self, edge: &Edge) -> Option<Amount> {
-        let cost = self.shunt_cost(edge.shunt);
-        let before = self.credit(edge.from);
-        let after = self.credit(edge.to);
-        let coupled_price = self.coupled_price(edge);
-        let credit_difference = minus(before, after);
-        let cost_less_credits = minus(cost, credit_difference);
-        Some(plus(cost_less_credits, coupled_price))
+        match edge.shunt {
+            Shunt::Couple { .. } => Some(self.coupling_price(edge)),
+            _ => Some(self.parted_price(edge)),
+        }
     }
 }
 

@@ -40,6 +40,8 @@ pub(crate) struct Workspace {
     pub tables: PriceTables,
     /// For each trip and composition the price of the composition's units, where the trip gives them.
     pub credits: AmountTable,
+    /// For each trip and composition the price of the composition's units, where the trip takes them.
+    pub debits: AmountTable,
     /// The cells of one chain.
     pub rows: ChainRows,
     /// The picks that are found.
@@ -61,12 +63,14 @@ impl Workspace {
         let mut costs = AmountTable::new(alloc, trips, comps)?;
         fill_costs(instance, changes, &mut costs);
         let credits = AmountTable::new(alloc, trips, comps)?;
+        let debits = AmountTable::new(alloc, trips, comps)?;
         let rows = ChainRows::new(alloc, instance)?;
         let tables = PriceTables::new(alloc, instance)?;
         Ok(Workspace {
             costs,
             tables,
             credits,
+            debits,
             rows,
             choice,
         })
@@ -103,6 +107,7 @@ impl Workspace {
         prove!(instance.links() as usize <= MOST_LINKS);
         self.tables.fill(instance, multipliers);
         fill_sums(instance, &self.tables.gives, &mut self.credits);
+        fill_sums(instance, &self.tables.takes, &mut self.debits);
         let pricing = Pricing {
             instance,
             graphs,
@@ -113,6 +118,7 @@ impl Workspace {
             costs: &self.costs,
             tables: &self.tables,
             credits: &self.credits,
+            debits: &self.debits,
         };
         match first_paths(&pricing, &mut self.rows, &mut self.choice) {
             Some(value) => {

@@ -44,8 +44,8 @@ pub(crate) struct TripWorths<'a> {
     pub weight: Weight,
     /// Whether no link leads into the trip, so that it takes all its units.
     pub begins: bool,
-    /// The price of a unit of each type that the trip takes.
-    pub takes: &'a [i64],
+    /// The price of each composition's units, where the trip takes them.
+    pub debits: &'a [i64],
     /// Whether no link leads on from the trip, so that it gives all its units.
     pub ends: bool,
     /// The price of each composition's units, where the trip gives them.
@@ -71,7 +71,7 @@ impl<'a> TripWorths<'a> {
             costs: pricing.costs.row(row).items(),
             weight: pricing.weight,
             begins: pricing.instance.incoming(trip).is_none(),
-            takes: pricing.tables.takes.row(row).items(),
+            debits: pricing.debits.row(row).items(),
             ends: pricing.instance.outgoing(trip).is_none(),
             credits: pricing.credits.row(row).items(),
             seconds: pricing.tables.seconds.row(row).items(),
@@ -140,7 +140,7 @@ impl<'a> TripWorths<'a> {
         if !self.begins {
             return Amount(0);
         }
-        sum_in(self.takes, types_of(self.pricing.instance, comp))
+        amount_for(self.debits, comp)
     }
 
     /// The price of a composition's units, where no link leads on from the trip.

@@ -3,13 +3,20 @@ use Rattle.std.proofs.Common.{◌≡◌, ℕ, suc, ◌+◌, Some, Option, get_or
 use Rattle.price_bound.specs.CellRows.{comps_of}
 use Rattle.price_bound.specs.ChainStages.{Priced}
 use Rattle.price_bound.specs.Pricing.{IsListed}
-use Rattle.price_bound.proofs.ChainCells.{HaveOffered, edge_at_listed, offered_more}
+use Rattle.price_bound.proofs.ChainCells.{HaveOffered, edge_at_allowed, edge_at_listed, offered_more}
 use Rattle.price_bound.proofs.chain_rows.offer_edges_at.Goals as goal
 
 pub offer_at-offer-requires-clause-edge : goal.offer_at-offer-requires-clause-edge
 offer_at-offer-requires-clause-edge g c =
     let priced : Priced = g.P.EdgePrices.priced c.args.prices.now in
     edge_at_listed priced.day priced.graphs (g.P.EdgePrices.link c.args.prices.now) c.args.edges.now
+    c.index-edges-place.result c.requires.graphs c.requires.edges
+    (c.loop-place.place, c.loop-place-test.true, sym c.index-edges-place.is)
+
+pub offer_at-offer-requires-clause-allowed : goal.offer_at-offer-requires-clause-allowed
+offer_at-offer-requires-clause-allowed g c =
+    let priced : Priced = g.P.EdgePrices.priced c.args.prices.now in
+    edge_at_allowed priced.day priced.graphs (g.P.EdgePrices.link c.args.prices.now) c.args.edges.now
     c.index-edges-place.result c.requires.graphs c.requires.edges
     (c.loop-place.place, c.loop-place-test.true, sym c.index-edges-place.is)
 

@@ -5,15 +5,20 @@ use Rattle.price_bound.specs.ChainStages.{Priced}
 use Rattle.price_bound.specs.ChangedDays.{changed_day, changed_meanings}
 use Rattle.price_bound.specs.FirstPaths.{AreFound}
 use Rattle.price_bound.proofs.Bounding.{found_bound, none_bound}
-use Rattle.price_bound.proofs.Crediting.{credits_are}
+use Rattle.price_bound.proofs.Crediting.{credits_are, debits_are}
 use Rattle.price_bound.proofs.DayPrices.{day_priced}
-use Rattle.price_bound.proofs.Summing.{gives_small}
+use Rattle.price_bound.proofs.Summing.{gives_small, takes_small}
 use Rattle.price_bound.proofs.workspaces.Workspace.bound.Goals as goal
 
 pub fill_sums-requires-clause-small : goal.fill_sums-requires-clause-small
 fill_sums-requires-clause-small c t lt =
     gives_small c.args.instance.now c.args.multipliers.now c.fill.new.self c.fill.ensures t
     (omega (arith, lt, c.fill.ensures.sized.gives.height)) c.entries.ensures.multipliers
+
+pub fill_sums-requires-2-clause-small : goal.fill_sums-requires-2-clause-small
+fill_sums-requires-2-clause-small c t lt =
+    takes_small c.args.instance.now c.args.multipliers.now c.fill.new.self c.fill.ensures t
+    (omega (arith, lt, c.fill.ensures.sized.takes.height)) c.entries.ensures.multipliers
 
 pub first_paths-requires-clause-priced : goal.first_paths-requires-clause-priced
 first_paths-requires-clause-priced c = record {
@@ -23,6 +28,8 @@ first_paths-requires-clause-priced c = record {
   prices = c.fill.ensures;
   credits = credits_are c.args.instance.now c.args.multipliers.now c.fill.new.self c.fill_sums.new.sums c.fill.ensures
       c.fill_sums.ensures.room c.fill_sums.ensures.sums;
+  debits = debits_are c.args.instance.now c.args.multipliers.now c.fill.new.self c.fill_sums-2.new.sums c.fill.ensures
+      c.fill_sums-2.ensures.room c.fill_sums-2.ensures.sums;
   over = c.requires.region;
 }
 
