@@ -1,13 +1,27 @@
 -- A table that is filled row by row with costs has the costs of a day.
-use Rattle.std.proofs.Common.{ℕ, ◌+◌, ◌<◌, List, length, get_or, sym, subst, arith, ℤ, pos, inl, inr}
+use Rattle.std.proofs.Common.{◌≡◌, ℕ, ◌+◌, ◌<◌, List, length, get_or, Some, None, ap, sym, ◌∙◌, subst, arith, ℤ, pos, inl, inr}
+use Rattle.std.specs.Prelude.{if◌then◌else◌}
 use Rattle.std.proofs.lemmas.Bool.{cases_eq}
-use Rattle.timetable.specs.Compositions.{compositions_of}
+use Rattle.timetable.specs.Admissible.{is_admissible}
+use Rattle.timetable.specs.Compositions.{compositions_of, composition_at}
+use Rattle.timetable.specs.Cost.{trip_cost}
 use Rattle.timetable.specs.Day.{Day}
 use Rattle.price_bound.specs.declared.changes.Change.{Change}
+use Rattle.price_bound.specs.Changes.{change_cost, changed_cost}
 use Rattle.price_bound.specs.Costs.{AreCostsBelow, AreCostsIn, IsCostOf}
 use Rattle.price_bound.specs.Credits.{AreRowsBut, put_in}
 use Rattle.price_bound.specs.PriceTables.{HasSize, amount_at}
 use Rattle.price_bound.proofs.Crediting.{put_beside, put_here}
+
+-- a cost under some changes is that under others by which the composition costs the same
+pub cost_is : (day : Day) (some changes : List Change) (t comp : ℕ) (amount : ℤ) → change_cost some t comp ≡ change_cost changes t comp
+    → IsCostOf day some t comp amount → IsCostOf day changes t comp amount
+unfolding changed_cost
+cost_is day some changes t comp amount same is = record {
+  is = is.is ∙ ap (λ (more : ℕ). if is_admissible day t (composition_at day comp)
+      then Some (pos (trip_cost day t (composition_at day comp) + more)) else None) same;
+  small = is.small;
+}
 
 module _ (day : Day) (changes : List Change) where
   -- one cost more

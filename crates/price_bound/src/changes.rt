@@ -1,6 +1,6 @@
 //! Changes: what it costs to give trips other compositions than bases.
 
-ghost use Rattle.std.specs.Prelude.{◌≡◌, ◌<◌, ◌==◌, if◌then◌else◌, All, length, pos};
+ghost use Rattle.std.specs.Prelude.{ℕ, ◌≡◌, ◌<◌, ◌==◌, if◌then◌else◌, All, length, pos};
 ghost use Rattle.price_bound.specs.CellSizes.{IsSmall, most_number, most_value};
 ghost use Rattle.price_bound.specs.ChangedDays.{added_cost, own_cost};
 ghost use Rattle.price_bound.specs.Changes.{change_cost};
@@ -18,6 +18,18 @@ pub struct Change {
     pub base: CompNo,
     /// What is added with another one, in the unit of the weights; at most 1,000,000.
     pub cost: u32,
+}
+
+/// The changes from that of a trip on, by which its compositions cost the same; none where the trip has no change.
+pub(crate) fn changes_from(changes: &[Change], trip: TripNo) -> &[Change]
+    ensures { (comp : ℕ) → change_cost result.now trip comp ≡ change_cost changes.now trip comp }
+{
+    for place in 0..changes.len() {
+        if changes[place].trip == trip {
+            return &changes[place..];
+        }
+    }
+    &changes[..0]
 }
 
 /// What the change of a trip costs with a composition: 0 with its base, and 0 where the trip has no change.

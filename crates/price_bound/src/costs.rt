@@ -12,7 +12,7 @@ ghost use Rattle.price_bound.specs.Credits.{AreRowsBut};
 ghost use Rattle.price_bound.specs.PriceTables.{HasSize};
 
 use crate::amounts::AmountTable;
-use crate::changes::{Change, change_cost};
+use crate::changes::{Change, change_cost, changes_from};
 use crate::worths::{Amount, types_of};
 use cost_model::trip_cost;
 use rail_base::{CompNo, TripNo};
@@ -40,8 +40,9 @@ fn fill_row(instance: &Instance, changes: &[Change], trip: TripNo, costs: &mut A
     ensures costs { AreCostsIn instance.now changes.now trip (length (compositions_of instance.now)) costs.new }
     ensures others { AreRowsBut trip costs.old costs.new }
 {
+    let of_trip = changes_from(changes, trip);
     for comp in 0..instance.catalogue().len() {
-        let cost = cost_of(instance, changes, trip, CompNo(comp));
+        let cost = cost_of(instance, of_trip, trip, CompNo(comp));
         costs.put(trip.place(), comp as usize, cost);
     }
 }
