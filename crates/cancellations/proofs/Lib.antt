@@ -1,0 +1,7 @@
+pub mod Passing
+mod Numbers
+mod Rows
+mod Tables
+mod Reading
+mod RowTrips
+mod RowsRead
