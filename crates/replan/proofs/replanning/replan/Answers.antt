@@ -1,0 +1,11 @@
+use Rattle.std.proofs.Common.{◌+◌, ◌*◌}
+use Rattle.search.proofs.Asking.{are_unasked}
+use Rattle.replan.proofs.replanning.replan.Goals as goal
+
+pub returns-in_err-rest-clause-asked : goal.returns-in_err-rest-clause-asked
+returns-in_err-rest-clause-asked g c = are_unasked _ _
+    (c.args.allowed.rounds * (2 * c.args.allowed.branchings + 1)) c.args.advisors.now.items
+
+pub returns-in_err-graphs-clause-asked : goal.returns-in_err-graphs-clause-asked
+returns-in_err-graphs-clause-asked g c = are_unasked _ _
+    (c.args.allowed.rounds * (2 * c.args.allowed.branchings + 1)) c.args.advisors.now.items
