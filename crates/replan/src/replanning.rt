@@ -1,7 +1,8 @@
 //! From a disturbed day to a proved answer: a plan that keeps what has happened, its price, and what is proved of every
 //! other plan that does.
 
-ghost use Rattle.std.specs.Prelude.{◌≡◌, ◌≤◌, ◌+◌, ◌*◌, ◌^◌, [], All, IfOk, IfErr, MatchBool, is_some, length, unwrap_or};
+ghost use Rattle.std.specs.Prelude.{◌≡◌, ◌≤◌, ◌+◌, ◌*◌, ◌^◌, [], All, IfOk, IfErr, MatchBool, is_some, length};
+ghost use Rattle.std.specs.Prelude.{unwrap_or};
 ghost use Rattle.rail_base.specs.declared.limits.TheConstants.{MOST_BRANCHINGS, MOST_ROUNDS, MOST_TRIPS};
 ghost use Rattle.timetable.specs.Running as running;
 ghost use Rattle.transitions.specs.Edges.{AreGraphs};
@@ -46,9 +47,9 @@ pub struct Replanned {
 ///
 /// The plan that is answered runs in the later day and agrees with the past: each trip that has left keeps its very
 /// units, and each frozen one their types: one that has left, or to which a link of the later day leads from one that
-/// has arrived. What is said of the price of every such plan, or that there is none, is true of all plans of named units
-/// that run in the later day and agree with the past. It is `bounded` exactly where all branchings that are granted were
-/// made and a leaf is open.
+/// has arrived. What is said of the price of every such plan, or that there is none, is true of all plans of named
+/// units that run in the later day and agree with the past. It is `bounded` exactly where all branchings that are
+/// granted were made and a leaf is open.
 ///
 /// At most 4,000 branchings are allowed and at most 100 rounds; each advisor was asked at most 2^63 times before.
 /// Afterwards an advisor of the same identity stands at each place, whatever the answer is, and they are asked as
