@@ -1,12 +1,12 @@
 -- What leaves the source crosses from the nodes that are reached to the others, so it is at most what may go there.
-use Rattle.std.proofs.Common.{◌≡◌, ◌≢◌, ℕ, zero, suc, ◌+◌, ◌≤◌, ◌<◌, Bool, true, false, List, [], ◌∷◌, get_or, map, refl, sym, ap, ◌∙◌, arith, inl, inr}
+use Rattle.std.proofs.Common.{◌≡◌, ◌≢◌, ℕ, zero, suc, ◌+◌, ◌≤◌, ◌<◌, Bool, true, false, List, [], ◌∷◌, get_or, map, refl, sym, ap, ◌∙◌, arith, inl, inr, ◌⊎◌}
 use Rattle.std.specs.Prelude.{if◌then◌else◌, ◌==◌}
 use Rattle.std.specs.List.{All, sum_by}
 use Rattle.std.proofs.lemmas.Bool.{cases_Bool, cases_eq, cases_lt, cond-true, cond-false, eq-eqb, eqb-true, false≢true}
 use Rattle.std.proofs.lemmas.List.Elements.{All-head, All-tail}
 use Rattle.std.proofs.lemmas.List.Sums.{sum_by-cons}
 use Rattle.flow_network.specs.declared.network.Arc.{Arc}
-use Rattle.flow_network.specs.Flows.{Net, IsFlow, IsReach, capacity_out, coming_to, empty, is_reached, leaving_from}
+use Rattle.flow_network.specs.Flows.{Net, IsFlow, coming_to, empty, is_reached, leaving_from}
 use Rattle.flow_network.specs.Laws.{FlowsFillTheirCut, FlowsOutOfReachAreLargest}
 
 -- ---- sums over arcs
@@ -88,7 +88,7 @@ nodes_of_arcs g (a ∷ arcs) n =
 
 module _ (r : ℕ → Bool) where
   -- what leaves or comes to them, arc by arc
-  abbrev some_of : (Arc → ℕ) → List Arc → ℕ
+  abbrev pub some_of : (Arc → ℕ) → List Arc → ℕ
   some_of end arcs = sum_by (λ a. if r (end a) then a.flow else 0) arcs
 
   at_nodes : (end : Arc → ℕ) (arcs : List Arc) (n : ℕ) → All (λ a. end a < n) arcs → nodes_sum (λ k. if r k then sum_by (λ a. if end a == k then a.flow else 0) arcs else 0) n ≡ some_of end arcs
@@ -178,8 +178,19 @@ module _ (r : ℕ → Bool) where
         let here = cond-true {A = ℕ} (net.source == net.source) value 0 (eq-eqb net.source net.source refl) in
         omega (arith, comes, leaves, all, parts, source, here)
 
+  -- nodes without the source and the sink give on what comes to them
+  pub kept_in : (net : Net) → IsFlow net → r net.source ≡ false → r net.sink ≡ false → some_of (λ a. a.to) net.arcs ≡ some_of (λ a. a.from) net.arcs
+  kept_in net flow starts ends =
+      sym (at_nodes (λ a. a.to) net.arcs net.nodes (λ k d below. (flow.arcs k d below).to))
+      ∙ nodes_same (λ n. if r n then coming_to net.arcs n else 0) (λ n. if r n then leaving_from net.arcs n else 0) net.nodes (λ n below. each n (cases_Bool (r n)))
+      ∙ at_nodes (λ a. a.from) net.arcs net.nodes (λ k d below. (flow.arcs k d below).from)
+    where
+      each : (n : ℕ) → (r n ≡ true) ⊎ (r n ≡ false) → (if r n then coming_to net.arcs n else 0) ≡ (if r n then leaving_from net.arcs n else 0)
+      each n (inl inside) = ap (λ (m : ℕ). if r n then m else 0) (flow.kept n (λ e. false≢true (sym starts ∙ ap r (sym e) ∙ inside)) (λ e. false≢true (sym ends ∙ ap r (sym e) ∙ inside)))
+      each n (inr outside) = cond-false {A = ℕ} (r n) (coming_to net.arcs n) 0 outside ∙ sym (cond-false {A = ℕ} (r n) (leaving_from net.arcs n) 0 outside)
+
   -- what may go from the nodes that are reached to the others
-  abbrev crossing : Arc → ℕ
+  abbrev pub crossing : Arc → ℕ
   crossing a = if r a.from then (if r a.to then 0 else a.capacity) else 0
 
   at_most : (a : Arc) → a.flow ≤ a.capacity → (if r a.from then a.flow else 0) ≤ (if r a.to then a.flow else 0) + crossing a
@@ -207,6 +218,15 @@ module _ (r : ℕ → Bool) where
       ]
       by false false along against = omega arith
 
+-- no flow brings more than may go from nodes with the source and without the sink to the others
+pub cuts_bound_flows : (net : Net) (r : ℕ → Bool) → IsFlow net → r net.source ≡ true → r net.sink ≡ false → leaving_from net.arcs net.source ≤ sum_by (crossing r) net.arcs
+cuts_bound_flows net r flow starts ends =
+    let here = balance r net flow starts ends in
+    let no_more = sum_least (λ a. if r a.from then a.flow else 0) (λ a. (if r a.to then a.flow else 0) + crossing r a) net.arcs
+    (λ k d below. at_most r (get_or net.arcs k d) (flow.arcs k d below).within) in
+    let parts = sum_add (λ a. if r a.to then a.flow else 0) (crossing r) net.arcs in
+    omega (arith, here, no_more, parts)
+
 pub flows_fill_their_cut : FlowsFillTheirCut
 flows_fill_their_cut net reached flow reach =
     let r : ℕ → Bool = is_reached reached in
@@ -221,11 +241,8 @@ pub flows_out_of_reach_are_largest : FlowsOutOfReachAreLargest
 flows_out_of_reach_are_largest net reached flow reach other same other_flow =
     let r : ℕ → Bool = is_reached reached in
     let filled : leaving_from net.arcs net.source ≡ sum_by (crossing r) net.arcs = flows_fill_their_cut net reached flow reach in
-    let there = balance r other other_flow (ap r same.source ∙ reach.source) (ap r same.sink ∙ reach.sink) in
-    let no_more = sum_least (λ a. if r a.from then a.flow else 0) (λ a. (if r a.to then a.flow else 0) + crossing r a) other.arcs
-    (λ k d below. at_most r (get_or other.arcs k d) (other_flow.arcs k d below).within) in
-    let other_parts = sum_add (λ a. if r a.to then a.flow else 0) (crossing r) other.arcs in
+    let there = cuts_bound_flows other r other_flow (ap r same.source ∙ reach.source) (ap r same.sink ∙ reach.sink) in
     let crosses : sum_by (crossing r) other.arcs ≡ sum_by (crossing r) net.arcs =
     sym (sum_mapped (crossing r) empty other.arcs (λ a. refl)) ∙ ap (sum_by (crossing r)) same.arcs ∙ sum_mapped (crossing r) empty net.arcs (λ a. refl) in
     let source : leaving_from other.arcs other.source ≡ leaving_from other.arcs net.source = ap (leaving_from other.arcs) same.source in
-    omega (arith, filled, there, no_more, other_parts, crosses, source)
+    omega (arith, filled, there, crosses, source)

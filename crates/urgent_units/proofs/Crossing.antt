@@ -7,7 +7,7 @@ use Rattle.timetable.proofs.Sums.{sum_le}
 use Rattle.urgent_units.specs.declared.legs.Leg.{Leg}
 use Rattle.urgent_units.specs.Cuts.{is_in, is_left, goes_out}
 use Rattle.urgent_units.specs.Held.{is_held_from}
-use Rattle.urgent_units.specs.Legs.{TypeLegs}
+use Rattle.urgent_units.specs.Legs.{TypeLegs, end_of}
 use Rattle.urgent_units.specs.Moments.{minutes_at, moment_count, moment_of, over_at}
 use Rattle.urgent_units.proofs.ListSums.{over, tally}
 use Rattle.urgent_units.proofs.Moments.{Rise, Among, some_left, over_more, over_less, over_at_minute, minute_within}
@@ -18,11 +18,6 @@ use Rattle.urgent_units.proofs.Moments.{Rise, Among, some_left, over_more, over_
 abbrev pub InTurn : ℕ → ℕ → List Leg → Type 0
 InTurn at since [] = Unit {0}
 InTurn at since (leg ∷ legs) = (leg.from ≡ at) × (since ≤ leg.departs + 1) × (leg.departs < leg.ready) × InTurn leg.to (leg.ready + 1) legs
-
--- where they end
-abbrev pub end_of : ℕ → List Leg → ℕ
-end_of at [] = at
-end_of at (leg ∷ legs) = end_of leg.to legs
 
 -- ---- tests
 

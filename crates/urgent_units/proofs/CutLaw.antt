@@ -3,33 +3,31 @@ use Rattle.std.proofs.Common.{◌≡◌, ℕ, zero, suc, ◌+◌, ◌-◌, ◌�
 use Rattle.std.specs.Prelude.{if◌then◌else◌, ◌==◌, ◌&&◌, not, nat_lt, nat_le, filter}
 use Rattle.std.proofs.lemmas.Bool.{cases_Bool, cases_eq, cond-true, cond-false, eqb-true, eq-eqb, le-leb, false≢true}
 use Rattle.timetable.specs.Accepted.{IsDay, AreLinks, DoMeet}
-use Rattle.timetable.specs.Day.{Day, leaves, from_of, to_of, home_of, type_of, unit_count, ready_at, stock_units, stock_units}
-use Rattle.timetable.specs.Duties.{duty, ends_at, last_place, last_place_of}
-use Rattle.timetable.specs.Laws.{GoesOnTo}
+use Rattle.timetable.specs.Day.{Day, leaves, from_of, to_of, home_of, type_of, unit_count, ready_at}
+use Rattle.timetable.specs.Duties.{duty, last_place}
 use Rattle.timetable.specs.Lists.{count_of, below, sum_below, IsDistinct}
-use Rattle.timetable.specs.Running.{Runs, MayFollow, EachFollows, BeginsAt}
-use Rattle.timetable.proofs.OnePlace.{units_are_in_one_place}
+use Rattle.timetable.specs.Running.{Runs}
 use Rattle.timetable.proofs.Ones.{one_same, one_other}
 use Rattle.timetable.proofs.Sums.{sum_same, sum_add, sum_le, sum_zero}
-use Rattle.inventory.proofs.OnDuty.{duty_within}
 use Rattle.urgent_units.specs.declared.legs.Leg.{Leg}
 use Rattle.urgent_units.specs.declared.legs.UnitLegs.{UnitLegs}
 use Rattle.urgent_units.specs.declared.wish.Wish.{Wish}
 use Rattle.urgent_units.specs.Cuts.{is_in, is_left, goes_out, legs_out, held_out, held_out_at, cut_value, value_of}
 use Rattle.urgent_units.specs.Held.{is_held, is_held_from, held}
 use Rattle.urgent_units.specs.Laws.{CutsBoundNamings}
-use Rattle.urgent_units.specs.Legs.{TypeLegs, leg_of, legs_of, legs_of_unit, unit_legs, all_legs, stays}
+use Rattle.urgent_units.specs.Legs.{TypeLegs, leg_of, legs_of, legs_of_unit, unit_legs, all_legs, stays, end_of}
 use Rattle.urgent_units.specs.Moments.{minutes_at, moment_count, moment_of, over_after, over_at}
 use Rattle.urgent_units.specs.Namings.{IsNaming, brought}
 use Rattle.urgent_units.specs.Runs.{runs_of}
 use Rattle.urgent_units.specs.Wishes.{IsWish}
 use Rattle.urgent_units.proofs.Begun.{of_runs}
-use Rattle.urgent_units.proofs.Crossing.{InTurn, Events, end_of, crosses, held_counts, leaving, waiting, wait_at}
+use Rattle.urgent_units.proofs.Crossing.{InTurn, Events, crosses, held_counts, leaving, waiting, wait_at}
 use Rattle.urgent_units.proofs.EventMinutes.{minutes_rise, departs_at, ready_at_moment}
-use Rattle.urgent_units.proofs.InTurn.{AreTrips, AtStations, in_turn, end_of_trips, at_stations}
+use Rattle.urgent_units.proofs.InTurn.{AtStations}
 use Rattle.urgent_units.proofs.LabelSums.{legs_sum, legs_agree, over-filter}
 use Rattle.urgent_units.proofs.ListSums.{over, tally, counted_over, over-map, over-flat_map, over_same, over_le, over_add, over_sum_below}
 use Rattle.urgent_units.proofs.Moments.{Rise}
+use Rattle.urgent_units.proofs.UnitTurns.{legs_in_turn}
 
 -- ---- some of many
 
@@ -38,7 +36,7 @@ module _ (f : ℕ → ℕ) where
   picked u [] = 0
   picked u (w ∷ ws) = (if w == u then f u else 0) + picked u ws
 
-  picked_none : (u : ℕ) (ws : List ℕ) → count_of u ws ≡ 0 → picked u ws ≡ 0
+  pub picked_none : (u : ℕ) (ws : List ℕ) → count_of u ws ≡ 0 → picked u ws ≡ 0
   picked_none u [] none = refl
   picked_none u (w ∷ ws) none = elim (cases_Bool (w == u)) [
     | inl same ↦ absurd (let here = one_same w u (eqb-true w u same) in omega (arith, none, here))
@@ -155,33 +153,9 @@ module _ (day : Day) (plan other : List (List ℕ)) (wish : Wish) (cut : List (L
   abbrev pub its_legs : ℕ → List Leg
   its_legs u = legs_of_unit day other u
 
-  duty_known : (u : ℕ) (ts : List ℕ) → ((t : ℕ) → 1 ≤ count_of t ts → t < length day.trips) → AreTrips day ts
-  duty_known u [] known = tt
-  duty_known u (t ∷ ts) known = (known t (let here = one_same t t refl in omega (arith, here)), duty_known u ts (λ x c. known x (omega (arith, c))))
-
   -- its legs leave one after another from home, and end at its last place
   pub unit_in_turn : (p : List (List ℕ)) → Runs day p → (u : ℕ) → u < unit_count day → InTurn (home_of day u) 0 (legs_of_unit day p u) × (end_of (home_of day u) (legs_of_unit day p u) ≡ last_place day p u) × AtStations day is_day.timetable.time p u (legs_of_unit day p u)
-  unfolding last_place_of
-  unit_in_turn p p_runs u known = on (duty day p u) refl
-    where
-      on : (ts : List ℕ) → duty day p u ≡ ts → InTurn (home_of day u) 0 (legs_of_unit day p u) × (end_of (home_of day u) (legs_of_unit day p u) ≡ ends_at day (home_of day u) (duty day p u)) × AtStations day is_day.timetable.time p u (legs_of_unit day p u)
-      on [] is =
-          let legs : List ℕ → List Leg = λ ts. map (leg_of day) (runs_of (stays day p u) ts) in (
-            subst (λ (ts : List ℕ). InTurn (home_of day u) 0 (legs ts)) (sym is) tt,
-            subst (λ (ts : List ℕ). end_of (home_of day u) (legs ts) ≡ ends_at day (home_of day u) ts) (sym is) refl,
-            subst (λ (ts : List ℕ). AtStations day is_day.timetable.time p u (legs ts)) (sym is) tt,
-          )
-      on (t ∷ ts) is =
-          let legs : List ℕ → List Leg = λ ts. map (leg_of day) (runs_of (stays day p u) ts) in
-          let place = units_are_in_one_place (stock_units day) day p u is_day.timetable links meet p_runs known in
-          let trips : AreTrips day (t ∷ ts) = duty_known u (t ∷ ts) (λ x c. duty_within day p is_day links p_runs u x (subst (λ (xs : List ℕ). 1 ≤ count_of x xs) (sym is) c)) in
-          let begins : from_of day t ≡ home_of day u = subst (λ (xs : List ℕ). BeginsAt day (home_of day u) xs) is (p_runs.homes u known) in (
-            subst (λ (xs : List ℕ). InTurn (home_of day u) 0 (legs xs)) (sym is)
-                (in_turn day is_day.timetable.time p u ts t (home_of day u) 0 begins (omega arith) trips
-                (subst (λ (xs : List ℕ). EachFollows (MayFollow day p u) xs) is (p_runs.follows u known)) (subst (λ (xs : List ℕ). EachFollows (GoesOnTo day) xs) is place.follows)),
-            subst (λ (xs : List ℕ). end_of (home_of day u) (legs xs) ≡ ends_at day (home_of day u) xs) (sym is) (end_of_trips day is_day.timetable.time p u ts t (home_of day u)),
-            subst (λ (xs : List ℕ). AtStations day is_day.timetable.time p u (legs xs)) (sym is) (at_stations day is_day.timetable.time p u is_day.timetable.origin is_day.timetable.goal ts t trips),
-          )
+  unit_in_turn p p_runs u known = legs_in_turn day is_day links meet p p_runs u known
 
   -- each of its legs leaves and is ready at a moment, since the given plan has such a leg too
   pub events : (ls : List Leg) → ((h : ℕ → ℕ → ℕ → ℕ → ℕ) → over (of_leg h) ls ≤ all_sum day plan m h) → AtStations day is_day.timetable.time other 0 ls → Events all cut rises ls
@@ -260,16 +234,16 @@ module _ (day : Day) (plan other : List (List ℕ)) (wish : Wish) (cut : List (L
       agree out ∙ sym (over_all_legs day plan m (of_leg out)) ∙ counted_over (goes_out all cut) (all_legs all)
 
   -- how many units of the type are held, of a plan
-  abbrev held_of : List (List ℕ) → ℕ → ℕ → ℕ
+  abbrev pub held_of : List (List ℕ) → ℕ → ℕ → ℕ
   held_of p s o = over (λ u. tally (is_held_from (home_of day u) 0 (legs_of_unit day p u) s o)) units
 
-  abbrev out_by : ℕ → ℕ → ℕ → ℕ → ℕ → ℕ → ℕ
+  abbrev pub out_by : ℕ → ℕ → ℕ → ℕ → ℕ → ℕ → ℕ
   out_by s o from departs to ready = tally (from == s && nat_lt departs o)
 
-  abbrev in_by : ℕ → ℕ → ℕ → ℕ → ℕ → ℕ → ℕ
+  abbrev pub in_by : ℕ → ℕ → ℕ → ℕ → ℕ → ℕ → ℕ
   in_by s o from departs to ready = tally (to == s && nat_lt ready o)
 
-  held_sum : (p : List (List ℕ)) → Runs day p → (s o : ℕ)
+  pub held_sum : (p : List (List ℕ)) → Runs day p → (s o : ℕ)
       → held_of p s o + all_sum day p m (out_by s o) ≡ over (λ u. tally (home_of day u == s && nat_le 0 o)) units + all_sum day p m (in_by s o)
   held_sum p p_runs s o =
       sym (over_add (λ u. tally (is_held_from (home_of day u) 0 (legs_of_unit day p u) s o)) (λ u. over (of_leg (out_by s o)) (legs_of_unit day p u)) units)
@@ -281,7 +255,7 @@ module _ (day : Day) (plan other : List (List ℕ)) (wish : Wish) (cut : List (L
   held_same : (s o : ℕ) → held_of other s o ≡ held_of plan s o
   held_same s o = omega (arith, held_sum other naming.runs s o, held_sum plan runs s o, agree (out_by s o), agree (in_by s o))
 
-  held_is : (s k : ℕ) → held_of plan s (over_at all s k) ≡ held all s k
+  pub held_is : (s k : ℕ) → held_of plan s (over_at all s k) ≡ held all s k
   unfolding held
   held_is s k =
       sym (over-map (λ (unit : UnitLegs). tally (is_held unit s (over_at all s k))) (unit_legs day plan) units)

@@ -7,9 +7,9 @@ use Rattle.timetable.specs.Duties.{ends_at}
 use Rattle.timetable.specs.Laws.{GoesOnTo}
 use Rattle.timetable.specs.Running.{EachFollows, MayFollow}
 use Rattle.urgent_units.specs.declared.legs.Leg.{Leg}
-use Rattle.urgent_units.specs.Legs.{leg_of, stays}
+use Rattle.urgent_units.specs.Legs.{leg_of, stays, end_of}
 use Rattle.urgent_units.specs.Runs.{runs_of, with_trip}
-use Rattle.urgent_units.proofs.Crossing.{InTurn, end_of}
+use Rattle.urgent_units.proofs.Crossing.{InTurn}
 
 -- ---- the first run of a list of trips begins with the first trip
 

@@ -118,7 +118,7 @@ module _ (day : Day) (plan : List (List ℕ)) (is_day : IsDay day) (links : AreL
   pub holds : AllHold (type_of day) day plan
   holds = record { holds = runs.links }
 
-  abbrev Keeps : ℕ → ℕ → ℕ → Type 0
+  abbrev pub Keeps : ℕ → ℕ → ℕ → Type 0
   Keeps u a b = 1 ≤ count_of u (kept day plan a b)
 
   abbrev Takes : ℕ → ℕ → Type 0
@@ -130,7 +130,7 @@ module _ (day : Day) (plan : List (List ℕ)) (is_day : IsDay day) (links : AreL
   keeps_places : (u a b : ℕ) → count_of u (kept day plan a b) ≡ count_of u (going_on day types a b (list_of plan a))
   keeps_places u a b = ap (count_of u) (kept_is day types links (type_of day) plan types_are holds a b)
 
-  one_way : (u a b c : ℕ) → Keeps u a b → Keeps u a c → b ≡ c
+  pub one_way : (u a b c : ℕ) → Keeps u a b → Keeps u a c → b ≡ c
   one_way u a b c kb kc =
       let us = list_of plan a in
       let g : Goes day types a = goes day types links a in
@@ -153,6 +153,20 @@ module _ (day : Day) (plan : List (List ℕ)) (is_day : IsDay day) (links : AreL
             | inr not2 ↦ (let none = g.others u b us not1 not2 in omega (arith, none, atb, kb))
           ]
         ])
+      ]
+
+  -- a unit that is kept from a trip is on it
+  pub kept_on_trip : (a b u : ℕ) → Keeps u a b → 1 ≤ count_of u (list_of plan a)
+  kept_on_trip a b u kept =
+      let at = keeps_places u a b in
+      let g : Goes day types a = goes day types links a in
+      let total = g.total u (list_of plan a) in
+      elim (cases_eq b g.first) [
+        | inl first ↦ (let e = ap (λ (x : ℕ). count_of u (going_on day types a x (list_of plan a))) first in omega (arith, total, e, at, kept))
+        | inr not1 ↦ elim (cases_eq b g.second) [
+          | inl second ↦ (let e = ap (λ (x : ℕ). count_of u (going_on day types a x (list_of plan a))) second in omega (arith, total, e, at, kept))
+          | inr not2 ↦ absurd (let none = g.others u b (list_of plan a) not1 not2 in omega (arith, none, at, kept))
+        ]
       ]
 
   along : (u p : ℕ) (ts : List ℕ) → duty day plan u ≡ p ∷ ts → Along (stays day plan u) (Keeps u) (Takes u) (Gives u) p ts

@@ -12,6 +12,7 @@ pub mod RunLaw
 pub mod Begun
 pub mod Labels
 pub mod LabelSums
+pub mod UnitTurns
 pub mod CutLaw
 pub mod LegLists
 pub mod LegLimits
@@ -20,3 +21,18 @@ pub mod Parts
 pub mod OverMoments
 pub mod CutMoments
 pub mod WishedUnits
+pub mod RunsApart
+pub mod DutyParts
+pub mod Renamed
+pub mod Exchanged
+pub mod CutNodes
+pub mod NetworkCapacity
+pub mod Added
+pub mod LegsAhead
+pub mod UnderWays
+pub mod FirstToLeave
+pub mod FlowSums
+pub mod Marks
+pub mod StartSums
+pub mod EndSums
+pub mod BestNaming

@@ -1,7 +1,7 @@
 -- The legs of the units of a type. A leg is a longest run of trips in a unit's duty, each kept into the next. It leaves
 -- where and when its first trip does, and the unit is ready where its last trip arrives, once the reallocation time is
 -- over there.
-use Rattle.std.specs.Prelude.{ℕ, List, length, map, Bool, ◌==◌, filter}
+use Rattle.std.specs.Prelude.{ℕ, List, [], ◌∷◌, length, map, Bool, ◌==◌, filter}
 use Rattle.std.specs.List.{flat_map}
 use Rattle.timetable.specs.Day.{Day, leaves, from_of, to_of, home_of, type_of, unit_count, ready_at}
 use Rattle.timetable.specs.Duties.{duty}
@@ -48,3 +48,8 @@ legs_of day plan m = record {
 -- the legs of all these units
 abbrev pub all_legs : TypeLegs → List Leg
 all_legs legs = flat_map (λ unit. unit.legs) legs.units
+
+-- where legs that leave one after another end, beginning at a station
+abbrev pub end_of : ℕ → List Leg → ℕ
+end_of at [] = at
+end_of at (leg ∷ legs) = end_of leg.to legs

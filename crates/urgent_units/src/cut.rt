@@ -1,10 +1,16 @@
 //! Yard cuts: sets of moments of the stations.
 
 ghost use Rattle.std.specs.Prelude.{ℕ, ◌≡◌, ◌<◌, ◌⊎◌, Bool, false, true, length, replicate, slice_set, IfOk, IsTrue};
-ghost use Rattle.std.specs.Prelude.{◌↔◌};
+ghost use Rattle.std.specs.Prelude.{◌↔◌, ◌+◌};
+ghost use Rattle.flow_network.specs.Flows.{is_reached};
+ghost use Rattle.timetable.specs.Lists.{listed};
 ghost use Rattle.urgent_units.specs.Cuts.{HasMoments, is_in, moments_in};
+ghost use Rattle.urgent_units.specs.Moments.{moment_count};
+ghost use Rattle.urgent_units.specs.YardNetwork.{node_of, reached_cut, source_of};
 
 use crate::legs::Legs;
+use crate::yard_network::node_of;
+use flow_network::Reached;
 use rail_base::{NoMemory, StationNo};
 use std::alloc::Global;
 use std::marker::Model;
@@ -57,6 +63,25 @@ fn no_flags(alloc: Global, moments: u32) -> Result<Flags, NoMemory>
     })
 }
 
+/// For each moment of a station whether its node is reached.
+fn reached_flags(
+    alloc: Global,
+    legs: &Legs,
+    station: StationNo,
+    reached: &Reached,
+) -> Result<Flags, NoMemory>
+    requires station { station < legs.now.stations }
+    requires nodes { length reached.now ≡ source_of legs.now + 1 }
+    ensures { IfOk result (λ flags. flags
+        ≡ listed (λ k. is_reached reached.now (node_of legs.now station k)) (moment_count legs.now station)) }
+{
+    let mut flags = Vec::new(alloc);
+    for moment in 0..legs.moments(station) {
+        flags.push(reached.has(node_of(legs, station, moment)))?;
+    }
+    Ok(Flags { flags })
+}
+
 impl YardCut {
     /// The empty set of moments of these legs. The error is want of memory.
     pub fn new(alloc: Global, legs: &Legs) -> Result<YardCut, NoMemory>
@@ -66,6 +91,23 @@ impl YardCut {
         let mut stations = Vec::new(alloc);
         for number in 0..legs.stations() {
             stations.push(no_flags(alloc, legs.moments(StationNo(number)))?)?;
+        }
+        Ok(YardCut { stations })
+    }
+
+    /// The set of the moments whose nodes are reached. The error is want of memory.
+    #[tactic(auto, unfolding(crate::specs::YardNetwork::reached_cut))]
+    pub(crate) fn of_reached(
+        alloc: Global,
+        legs: &Legs,
+        reached: &Reached,
+    ) -> Result<YardCut, NoMemory>
+        requires { length reached.now ≡ source_of legs.now + 1 }
+        ensures { IfOk result (λ cut. cut ≡ reached_cut legs.now reached.now) }
+    {
+        let mut stations = Vec::new(alloc);
+        for number in 0..legs.stations() {
+            stations.push(reached_flags(alloc, legs, StationNo(number), reached)?)?;
         }
         Ok(YardCut { stations })
     }

@@ -2,6 +2,7 @@
 //!
 //! Each law is the contract of a function that does nothing.
 
+ghost use Rattle.urgent_units.specs.Exchanges.{ExchangedPlansRun};
 ghost use Rattle.urgent_units.specs.Laws.{CutsBoundNamings, HeldUnitsAreReady, MomentsAreEvents, RunsAreLongest};
 
 /// The legs of a unit are the longest runs of trips in its duty of which each is kept into the next, and no other runs
@@ -27,4 +28,11 @@ pub fn held_units_are_ready()
 /// worth: no plan that runs and has the same types on every trip.
 pub fn cuts_bound_namings()
     ensures law { CutsBoundNamings }
+{}
+
+/// Two units of one type that stand ready in the yard of one station at a minute may exchange all trips that leave from
+/// then on: a plan that runs still does, with the same types on every trip, and each of the two has the legs of the
+/// other from that minute on.
+pub fn exchanged_plans_run()
+    ensures law { ExchangedPlansRun }
 {}

@@ -153,8 +153,9 @@ impl Legs {
 
     /// What a cut is worth: how many urgent units' homes have a moment 0 that isn't in it; and how many legs leave at a
     /// moment in it and are ready at one that isn't; and how many units are held at the moments in it whose next moment
-    /// isn't in it. Nothing where the depot's last moment is in the cut. The wish is one of the day, the day is that of
-    /// the legs, and the cut has their moments.
+    /// isn't in it. There is no value where the depot's last moment is in the cut. The wish is one of the day, the day
+    /// has as many stations as the legs, and the cut has their moments. It bounds namings where the legs are those of a
+    /// plan of this day that runs, of the wish's type.
     #[tactic(auto, unfolding(crate::specs::Cuts::value_of, crate::specs::Cuts::cut_value))]
     pub fn value(&self, instance: &Instance, wish: &Wish, cut: &YardCut) -> Option<u32>
         requires wish { IsWish instance.now wish.now }
@@ -170,7 +171,7 @@ impl Legs {
     }
 
     /// That the legs are within the limits of a day. It does nothing.
-    fn limits(&self)
+    pub(crate) fn limits(&self)
         ensures { AreLegs self.now }
     {
         let _ = self.units.len();

@@ -2,15 +2,20 @@
 //! the compositions stand, and units are swapped with others of their type while both are in one yard.
 #![tactic(auto)]
 
+mod best_naming;
 mod cut;
 pub mod laws;
 mod leg_lists;
 mod legs;
 mod refusal;
+mod swaps;
 mod wish;
 mod wish_table;
+mod yard_flow;
+mod yard_network;
 
+pub use best_naming::{Swapped, urgent};
 pub use cut::YardCut;
-pub use legs::{Leg, Legs, UnitLegs};
-pub use refusal::WishRefusal;
+pub use legs::{Leg, LegList, Legs, UnitLegs};
+pub use refusal::{UrgentRefusal, WishRefusal};
 pub use wish::{Wish, WishUnits};

@@ -1,5 +1,6 @@
-//! Why a wish is refused.
+//! Why a wish is refused, and why no units are swapped.
 
+use day_simulator::StepFault;
 use rail_base::NoMemory;
 use std::alloc::AllocFailed;
 use thiserror::Error;
@@ -42,5 +43,27 @@ impl<T: Drop> From<AllocFailed<T>> for WishRefusal {
 
     fn from(_error: AllocFailed<T>) -> WishRefusal {
         WishRefusal::NoMemory
+    }
+}
+
+/// Why no units are swapped.
+#[derive(Clone, Copy, Debug, Error)]
+pub enum UrgentRefusal {
+    /// The plan that was given stops: the first fault in the fixed order of the day's events.
+    #[error("the day stops")]
+    Stops(StepFault),
+    /// Want of memory.
+    #[error("out of memory")]
+    NoMemory,
+}
+
+impl From<NoMemory> for UrgentRefusal {
+    ghost use Rattle.std.specs.Prelude.{◌≡◌};
+    ghost use Rattle.urgent_units.specs.declared.refusal.UrgentRefusal.TheVariants as refusals;
+
+    ghost from_gives = { λ _ e. e ≡ refusals.NoMemory };
+
+    fn from(_error: NoMemory) -> UrgentRefusal {
+        UrgentRefusal::NoMemory
     }
 }
