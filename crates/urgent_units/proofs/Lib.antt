@@ -36,3 +36,4 @@ pub mod Marks
 pub mod StartSums
 pub mod EndSums
 pub mod BestNaming
+pub mod Decided

@@ -5,6 +5,8 @@ use Rattle.timetable.specs.Accepted.{IsDay, AreLinks, DoMeet}
 use Rattle.timetable.specs.Day.{Day}
 use Rattle.timetable.specs.Running.{Runs}
 use Rattle.urgent_units.specs.declared.legs.UnitLegs.{UnitLegs}
+use Rattle.urgent_units.specs.declared.refusal.WishRefusal.{WishRefusal}
+use Rattle.urgent_units.specs.declared.refusal.WishRefusal.TheVariants.{NoMemory}
 use Rattle.urgent_units.specs.declared.wish.Wish.{Wish}
 use Rattle.urgent_units.specs.Cuts.{value_of}
 use Rattle.urgent_units.specs.Held.{IsHeld, is_held}
@@ -12,7 +14,16 @@ use Rattle.urgent_units.specs.Legs.{TypeLegs, legs_of, all_legs}
 use Rattle.urgent_units.specs.Moments.{AreEventMinutes, minutes_at}
 use Rattle.urgent_units.specs.Namings.{IsNaming, brought}
 use Rattle.urgent_units.specs.Runs.{AreLongestRuns, runs_of}
-use Rattle.urgent_units.specs.Wishes.{IsWish}
+use Rattle.urgent_units.specs.Wishes.{IsWish, IsWishOf, IsWishRefusal}
+
+-- a table says one wish, and then is refused for nothing but want of memory
+pub record IsDecided (day : Day) (bytes : List ℕ) : Type 0 where
+  pub one : (wish other : Wish) → IsWishOf day bytes wish → IsWishOf day bytes other → wish ≡ other
+  pub refused : (wish : Wish) (refusal : WishRefusal) → IsWishOf day bytes wish → IsWishRefusal day bytes refusal
+      → refusal ≡ NoMemory
+
+abbrev pub TablesAreDecided : Type 0
+TablesAreDecided = (day : Day) (bytes : List ℕ) → IsDecided day bytes
 
 -- lists of trips are the longest runs of trips exactly where this holds of them
 abbrev pub RunsAreLongest : Type 0

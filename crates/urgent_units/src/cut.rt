@@ -122,6 +122,21 @@ impl YardCut {
         self.stations[station.place()].flags[moment as usize]
     }
 
+    /// How many stations there are.
+    pub fn stations(&self) -> usize
+        ensures { result ≡ length self.now }
+    {
+        self.stations.len()
+    }
+
+    /// For each moment of a station, whether it is in the set. There is such a station.
+    pub fn flags(&self, station: usize) -> &[bool]
+        requires { station < length self.now }
+        ensures { result.now ≡ moments_in self.now station }
+    {
+        self.stations[station].flags.as_slice()
+    }
+
     /// Puts a moment of a station into the set, and no other. There is such a station, and it has such a moment.
     #[tactic(auto, unfolding(crate::specs::Cuts::is_in))]
     pub fn put(&mut self, station: StationNo, moment: u32)

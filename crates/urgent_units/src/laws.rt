@@ -4,6 +4,13 @@
 
 ghost use Rattle.urgent_units.specs.Exchanges.{ExchangedPlansRun};
 ghost use Rattle.urgent_units.specs.Laws.{CutsBoundNamings, HeldUnitsAreReady, MomentsAreEvents, RunsAreLongest};
+ghost use Rattle.urgent_units.specs.Laws.{TablesAreDecided};
+
+/// A table of urgent units of a day says one wish at most, and where it says one it is refused for nothing but want of
+/// memory.
+pub fn tables_are_decided()
+    ensures law { TablesAreDecided }
+{}
 
 /// The legs of a unit are the longest runs of trips in its duty of which each is kept into the next, and no other runs
 /// are.
