@@ -1,72 +1,29 @@
 -- How a run ends, by what it came to and what was written of it.
-use Rattle.std.proofs.Common.{◌≡◌, ◌≢◌, ◌≤◌, inl, inr, ℕ, Bool, true, false, List, Option, Some, ap, refl, sym, ◌∙◌, subst, arith}
+use Rattle.std.proofs.Common.{◌≡◌, ◌≢◌, ◌≤◌, inl, inr, ℕ, Bool, true, false, List, Option, Some, ap, sym, ◌∙◌, subst, arith}
 use Rattle.rail_io.specs.Folders.{Files, OnlyReads, Rose, faults_after}
 use Rattle.rail_io.specs.Sinks.{Appends}
 use Rattle.statuses.specs.Written.{CountsFailedReads, CountsFailedWrites, IsStatus, IsUndisturbed, Whole, Part, Nothing}
 use Rattle.run_documents.specs.Planning.{EndsPlanning}
+use Rattle.desk_commands.specs.declared.command.Command.{Command}
+use Rattle.desk_commands.specs.declared.command.Command.TheVariants as command
 use Rattle.desk_commands.specs.declared.planning.Planning.{Planning}
-use Rattle.desk_commands.proofs.OneCommand.{one_planning}
+use Rattle.desk_commands.specs.declared.swapping.Swapping.{Swapping}
+use Rattle.desk_commands.specs.PlainForm.{IsPlainForm}
+use Rattle.desk_commands.proofs.OneCommand.{one_command}
 use Rattle.desk_app.specs.declared.outcome.Outcome.{Outcome}
-use Rattle.desk_app.specs.declared.outcome.Outcome.TheVariants.{Planned, Usage, Refused, CannotRead, NoMemory}
-use Rattle.desk_app.specs.Documents.{IsDocument, refused_line, usage_line}
-use Rattle.desk_app.specs.Outcomes.{AskInVain, AskToPlan, IsOutcome, IsPlanOutcome, PlanSays, PlanStands, OfPlan, InVain, Unread}
+use Rattle.desk_app.specs.declared.outcome.Outcome.TheVariants.{NoMemory}
+use Rattle.desk_app.specs.Documents.{IsDocument, table_refused_line, usage_line}
+use Rattle.desk_app.specs.Outcomes.{AskInVain, AskToPlan, AskToSwap, ComesTo, IsOutcome, OfCommand, InVain, Unread}
 use Rattle.desk_app.specs.Outcomes.{status_of, is_unread}
 use Rattle.desk_app.specs.Statuses.{EndsInUsage, LeavesFolder, LeavesSink, WroteOutcome}
-use Rattle.desk_app.proofs.Statuses.{IsToldByFive, few_with_document, head_status, unread_is_five}
+use Rattle.desk_app.specs.SwapEndings.{EndsSwapping}
+use Rattle.desk_app.proofs.Statuses.{IsToldByFive, few_with_document, unread_is_five}
+use Rattle.desk_app.proofs.PlannedDays.{IsOfCommand, plan_status, planning_ends}
+use Rattle.desk_app.proofs.SwappedUnits.{swap_status, swapping_ends}
 
 -- want of memory has no document
 no_document : (outcome : Outcome) (text : List ℕ) → outcome ≡ NoMemory → IsDocument outcome text → ⊥
 no_document outcome text is document = subst (λ (it : Outcome). IsDocument it text) is document
-
--- ---- a day that is planned
-
-planning_ends : (files : Files) (planning : Planning) (outcome : Outcome) → PlanSays planning files outcome → (text : List ℕ) → IsDocument outcome text
-    → (before after : Option (List ℕ)) → Appends text before after → IsUndisturbed (status_of outcome)
-    → EndsPlanning refused_line files planning.dir planning.nodes (status_of outcome) before after
-planning_ends files planning (Planned answer) says text is before after appends undisturbed =
-    let head = head_status answer.head in
-    record {
-      refused = (λ three. absurd (head.not_refused three), λ said. absurd (let one = says.1 in let other = said.1 in cc));
-      told = λ three. absurd (head.not_refused three);
-      answered = λ _. (
-        says.0,
-        says.1,
-        record {
-          answer = answer;
-          headline = says.2;
-          status_fits = refl;
-          written = subst (λ (t : List ℕ). Appends t before after) is appends;
-        },
-      );
-    }
-planning_ends files planning (Refused why) says text is before after appends undisturbed = record {
-  refused = (λ three. (why, says), λ said. refl);
-  told = λ three. (why, says, subst (λ (t : List ℕ). Appends t before after) is appends);
-  answered = λ other. absurd (other refl);
-}
-planning_ends files planning (CannotRead read) says text is before after appends undisturbed = absurd (undisturbed.0 refl)
-planning_ends files planning NoMemory says text is before after appends undisturbed = absurd (undisturbed.2 refl)
-planning_ends files planning Usage says text is before after appends undisturbed = absurd says
-
--- a day that is planned doesn't end as words do that are not understood
-not_usage : {F : Type 0} (may_fail : F → List ℕ → Bool) (faults taken : F → ℕ) (planning : Planning) (before after : F) (outcome : Outcome)
-    → PlanStands may_fail faults taken planning before after outcome → status_of outcome ≢ 2
-not_usage may_fail faults taken planning before after (Planned answer) stands two = (head_status answer.head).not_usage two
-not_usage may_fail faults taken planning before after (Refused why) stands two = omega (arith, two)
-not_usage may_fail faults taken planning before after (CannotRead read) stands two = omega (arith, two)
-not_usage may_fail faults taken planning before after NoMemory stands two = omega (arith, two)
-not_usage may_fail faults taken planning before after Usage stands two = stands
-
--- a file could not be read only where the folder's count of faults rose
-rose_by : {F : Type 0} (may_fail : F → List ℕ → Bool) (faults taken : F → ℕ) (planning : Planning) (before after : F) (outcome : Outcome)
-    → PlanStands may_fail faults taken planning before after outcome → status_of outcome ≡ 5 → Rose (faults before) (faults after)
-rose_by may_fail faults taken planning before after (Planned answer) stands five = absurd (omega (arith, (head_status answer.head).low, five))
-rose_by may_fail faults taken planning before after (Refused why) stands five = absurd (omega (arith, five))
-rose_by may_fail faults taken planning before after (CannotRead read) stands five = stands.1.0
-rose_by may_fail faults taken planning before after NoMemory stands five = absurd (omega (arith, five))
-rose_by may_fail faults taken planning before after Usage stands five = absurd stands
-
--- ---- a run
 
 module _ {F : Type 0} (holds : F → Option Files) (may_fail : F → List ℕ → Bool) (counted taken : F → ℕ) (words : List (List ℕ)) (before after : F)
     (outcome : Outcome) (status : ℕ) (written written' : Option (List ℕ)) (faults faults' : ℕ)
@@ -74,27 +31,45 @@ module _ {F : Type 0} (holds : F → Option Files) (may_fail : F → List ℕ �
   abbrev Wrote' : Type 0
   Wrote' = WroteOutcome outcome status written written' faults faults'
 
-  -- the outcome of words that ask to plan a day
-  of_plan : (planning : Planning) → AskToPlan words planning → (outcome ≡ NoMemory → ⊥)
-      → IsPlanOutcome holds may_fail counted taken planning before after outcome
-  of_plan planning asked made = by is
+  abbrev Comes : Command → Type 0
+  Comes named = ComesTo holds may_fail counted taken named before after outcome
+
+  -- what a command has no status for, and what its status tells
+  status_fits : (named : Command) → Comes named → IsOfCommand outcome (Rose (counted before) (counted after))
+  status_fits (command.Plan planning) comes = plan_status holds may_fail counted taken planning before after outcome comes
+  status_fits (command.Urgent swapping) comes = swap_status holds may_fail counted taken swapping.dir before after outcome comes
+
+  -- the outcome of words that ask for a command
+  of_command : (named : Command) → IsPlainForm words named → (outcome ≡ NoMemory → ⊥) → Comes named
+  of_command named asked made = by is
     where
-      by : IsOutcome holds may_fail counted taken words before after outcome → IsPlanOutcome holds may_fail counted taken planning before after outcome
-      by (OfPlan other asked' comes) =
-          subst (λ (it : Planning). IsPlanOutcome holds may_fail counted taken it before after outcome)
-          (one_planning words other planning asked' asked) comes
-      by (InVain vain usage) = absurd (vain planning asked)
+      by : IsOutcome holds may_fail counted taken words before after outcome → Comes named
+      by (OfCommand other asked' comes) = subst (λ (it : Command). Comes it) (one_command words other named asked' asked) comes
+      by (InVain vain usage) = absurd (vain named asked)
       by (Unread none) = absurd (made none)
 
   pub ends_planning : (files : Files) (planning : Planning) → holds before ≡ Some files → AskToPlan words planning → IsUndisturbed status
-      → EndsPlanning refused_line files planning.dir planning.nodes status written written'
+      → EndsPlanning table_refused_line files planning.dir planning.nodes status written written'
   ends_planning files planning tells asked undisturbed = by wrote
     where
-      by : Wrote' → EndsPlanning refused_line files planning.dir planning.nodes status written written'
+      by : Wrote' → EndsPlanning table_refused_line files planning.dir planning.nodes status written written'
       by (Whole text document appends e) =
-          subst (λ (n : ℕ). EndsPlanning refused_line files planning.dir planning.nodes n written written') (sym e)
-          (planning_ends files planning outcome
-          ((of_plan planning asked (λ none. no_document outcome text none document)).told files tells) text document
+          subst (λ (n : ℕ). EndsPlanning table_refused_line files planning.dir planning.nodes n written written') (sym e)
+          (planning_ends holds may_fail counted taken planning before after outcome
+          (of_command (command.Plan planning) asked (λ none. no_document outcome text none document)) files tells text document
+          written written' appends (subst IsUndisturbed e undisturbed))
+      by (Part text document appends rose six) = absurd (undisturbed.1 six)
+      by (Nothing kept seven) = absurd (undisturbed.2 seven)
+
+  pub ends_swapping : (files : Files) (swapping : Swapping) → holds before ≡ Some files → AskToSwap words swapping → IsUndisturbed status
+      → EndsSwapping files swapping.dir status written written'
+  ends_swapping files swapping tells asked undisturbed = by wrote
+    where
+      by : Wrote' → EndsSwapping files swapping.dir status written written'
+      by (Whole text document appends e) =
+          subst (λ (n : ℕ). EndsSwapping files swapping.dir n written written') (sym e)
+          (swapping_ends holds may_fail counted taken swapping.dir before after outcome
+          (of_command (command.Urgent swapping) asked (λ none. no_document outcome text none document)) files tells text document
           written written' appends (subst IsUndisturbed e undisturbed))
       by (Part text document appends rose six) = absurd (undisturbed.1 six)
       by (Nothing kept seven) = absurd (undisturbed.2 seven)
@@ -104,9 +79,9 @@ module _ {F : Type 0} (holds : F → Option Files) (may_fail : F → List ℕ �
     where
       of : (text : List ℕ) → IsDocument outcome text → Appends text written written' → status ≡ status_of outcome
           → IsOutcome holds may_fail counted taken words before after outcome → EndsInUsage words status written written'
-      of text document appends e (OfPlan planning asked comes) =
-          let other : status ≢ 2 = λ two. not_usage may_fail counted taken planning before after outcome comes.stands (sym e ∙ two) in
-          record { told = (λ two. absurd (other two), λ vain. absurd (vain planning asked)); written = λ two. absurd (other two) }
+      of text document appends e (OfCommand named asked comes) =
+          let other : status ≢ 2 = λ two. (status_fits named comes).not_usage (sym e ∙ two) in
+          record { told = (λ two. absurd (other two), λ vain. absurd (vain named asked)); written = λ two. absurd (other two) }
       of text document appends e (InVain vain usage) =
           let line : text ≡ usage_line = subst (λ (it : Outcome). IsDocument it text) usage document in
           record {
@@ -134,7 +109,7 @@ module _ {F : Type 0} (holds : F → Option Files) (may_fail : F → List ℕ �
   rose_of five = by is
     where
       by : IsOutcome holds may_fail counted taken words before after outcome → Rose (counted before) (counted after)
-      by (OfPlan planning asked comes) = rose_by may_fail counted taken planning before after outcome comes.stands five
+      by (OfCommand named asked comes) = (status_fits named comes).unread five
       by (InVain vain usage) = absurd (omega (arith, five, ap status_of usage))
       by (Unread none) = absurd (omega (arith, five, ap status_of none))
 

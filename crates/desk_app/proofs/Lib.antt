@@ -1,3 +1,5 @@
-pub mod PlannedDays
 pub mod Statuses
+pub mod PlannedDays
+pub mod SwappedUnits
+pub mod Written
 pub mod Endings

@@ -1,58 +1,150 @@
--- What the planning of a folder's day comes to.
-use Rattle.std.proofs.Common.{◌≡◌, ◌+◌, ◌*◌, ℕ, Bool, List, Option, Some, Ok, Err, refl, sym, subst}
-use Rattle.std.specs.Prelude.{◌≢◌}
+-- What the planning of a folder's day comes to, and how advisors are asked by the command of the words.
+use Rattle.std.proofs.Common.{◌≡◌, ◌≢◌, ◌+◌, ◌*◌, ℕ, Bool, true, false, List, Option, Some, Ok, Err, refl, sym, ap, subst, arith}
 use Rattle.rail_csv.specs.declared.rows.Table.TheVariants as table
-use Rattle.rail_io.specs.Folders.{Files}
+use Rattle.rail_io.specs.Folders.{Files, Rose}
+use Rattle.rail_io.specs.Sinks.{Appends}
+use Rattle.statuses.specs.Written.{IsUndisturbed}
 use Rattle.timetable.specs.Day.{Day}
-use Rattle.day_files.specs.declared.errors.ReadError.{ReadError}
-use Rattle.day_files.specs.declared.errors.ReadError.TheVariants as read_error
-use Rattle.day_files.specs.Answers.{Reads, IsCaused, IsErrorOf}
+use Rattle.day_files.specs.Answers.{IsCaused, IsErrorOf, Reads}
 use Rattle.day_files.specs.Inputs.{day_in}
 use Rattle.day_files.specs.Order.{Reaches}
 use Rattle.day_files.specs.Tables.{IsMadeDay}
+use Rattle.run_documents.specs.Planning.{EndsPlanning}
 use Rattle.search.specs.Questions.{AreAsked, AreTheSame}
 use Rattle.search.proofs.Asking.{are_unasked}
+use Rattle.day_files.specs.declared.errors.ReadError.{ReadError}
+use Rattle.day_files.specs.declared.errors.ReadError.TheVariants as read_error
+use Rattle.desk_commands.specs.declared.command.Command.{Command}
+use Rattle.desk_commands.specs.declared.command.Command.TheVariants as command
 use Rattle.desk_commands.specs.declared.planning.Planning.{Planning}
-use Rattle.desk_commands.proofs.OneCommand.{one_planning}
+use Rattle.desk_commands.specs.PlainForm.{IsPlainForm}
+use Rattle.desk_commands.proofs.OneCommand.{one_command, one_planning}
 use Rattle.desk_app.specs.declared.outcome.Outcome.{Outcome}
-use Rattle.desk_app.specs.declared.outcome.Outcome.TheVariants.{Planned, Usage, Refused, CannotRead, NoMemory}
-use Rattle.desk_app.specs.Outcomes.{AskToPlan, IsDayOutcome, IsPlanOutcome, outcome_of_error}
-use Rattle.desk_app.specs.Statuses.{AreAskedFor, LeavesAdvisors}
+use Rattle.desk_app.specs.declared.outcome.Outcome.TheVariants.{Planned, Swapped, Stops, Usage, Refused, CannotRead, NoMemory}
+use Rattle.desk_app.specs.Documents.{IsDocument, table_refused_line}
+use Rattle.desk_app.specs.Outcomes.{AskToPlan, status_of}
+use Rattle.desk_app.specs.PlanOutcomes.{IsDayOutcome, IsPlanOutcome, NoDay, OfDay}
+use Rattle.desk_app.specs.ReadErrors.{outcome_of_error}
+use Rattle.desk_app.specs.Statuses.{AreAskedFor, LeavesAdvisors, asks_advisors, most_asked}
+use Rattle.desk_app.proofs.Statuses.{head_status}
 
-module _ {F : Type 0} (holds : F → Option Files) (may_fail : F → List ℕ → Bool) (faults taken : F → ℕ) (planning : Planning) (before after : F) where
-  abbrev Comes : Outcome → Type 0
-  Comes it = IsPlanOutcome holds may_fail faults taken planning before after it
+-- ---- the status of a command
 
-  no_memory : Comes NoMemory
-  no_memory = record { told = λ files tells. tt; stands = tt }
+-- an outcome of a command: it isn't that the words are not understood, and it tells of a file that could not be read
+-- only where the folder's count of faults rose
+pub record IsOfCommand (it : Outcome) (DidRise : Type 0) : Type 0 where
+  pub not_usage : status_of it ≢ 2
+  pub unread : status_of it ≡ 5 → DidRise
 
-  -- an error of the tables is an outcome
-  error_comes : (error : ReadError) → ((files : Files) → holds before ≡ Some files → Reads {Y = Day} (Reaches files planning.dir) (Err error) (day_in files planning.dir))
-      → IsErrorOf (λ read. read ≢ table.Plan) error → IsCaused may_fail faults taken planning.dir before after error
-      → Comes (outcome_of_error error)
-  error_comes (read_error.Refused why) told says caused = record { told = told; stands = (says, caused) }
-  error_comes (read_error.CannotRead read) told says caused = record { told = told; stands = (says, caused) }
-  error_comes read_error.NoMemory told says caused = no_memory
+-- that of an error of the tables
+pub error_status : {F : Type 0} (may_fail : F → List ℕ → Bool) (faults taken : F → ℕ) (dir : List ℕ) (before after : F) (error : ReadError)
+    → IsCaused may_fail faults taken dir before after error → IsOfCommand (outcome_of_error error) (Rose (faults before) (faults after))
+error_status may_fail faults taken dir before after (read_error.Refused why) caused =
+    record { not_usage = λ two. omega (arith, two); unread = λ five. absurd (omega (arith, five)) }
+error_status may_fail faults taken dir before after (read_error.CannotRead read) caused =
+    record { not_usage = λ two. omega (arith, two); unread = λ five. caused.0 }
+error_status may_fail faults taken dir before after read_error.NoMemory caused =
+    record { not_usage = λ two. omega (arith, two); unread = λ five. absurd (omega (arith, five)) }
 
-  pub unread_comes : (error : ReadError) (it : Outcome) (dir : List ℕ) → dir ≡ planning.dir → it ≡ outcome_of_error error
+pub made_of : (error : ReadError) (it : Outcome) (DidRise : Type 0) → it ≡ outcome_of_error error → IsOfCommand (outcome_of_error error) DidRise
+    → IsOfCommand it DidRise
+made_of error it DidRise is status = subst (λ (it : Outcome). IsOfCommand it DidRise) (sym is) status
+
+day_status : (day : Day) (nodes : ℕ) (it : Outcome) (DidRise : Type 0) → IsDayOutcome day nodes it → IsOfCommand it DidRise
+day_status day nodes (Planned answer) DidRise is =
+    let head = head_status answer.head in
+    record { not_usage = head.not_usage; unread = λ five. absurd (omega (arith, head.low, five)) }
+day_status day nodes NoMemory DidRise is = record { not_usage = λ two. omega (arith, two); unread = λ five. absurd (omega (arith, five)) }
+day_status day nodes (Swapped swapped) DidRise is = absurd is
+day_status day nodes Stops DidRise is = absurd is
+day_status day nodes Usage DidRise is = absurd is
+day_status day nodes (Refused file) DidRise is = absurd is
+day_status day nodes (CannotRead file) DidRise is = absurd is
+
+-- ---- what the planning of a day comes to
+
+module _ {F : Type 0} (holds : F → Option Files) (may_fail : F → List ℕ → Bool) (faults taken : F → ℕ) (planning : Planning) (before after : F) (dir : List ℕ)
+    (here : dir ≡ planning.dir) where
+  -- an error of the tables
+  pub no_day : (error : ReadError) (it : Outcome) → it ≡ outcome_of_error error
       → ((files : Files) → holds before ≡ Some files → Reads {Y = Day} (Reaches files dir) (Err error) (day_in files dir))
-      → IsErrorOf (λ read. read ≢ table.Plan) error → IsCaused may_fail faults taken dir before after error → Comes it
-  unread_comes error it dir here is told says caused =
-      subst (λ (it : Outcome). Comes it) (sym is) (error_comes error
-      (λ files tells. subst (λ (d : List ℕ). Reads {Y = Day} (Reaches files d) (Err error) (day_in files d)) here (told files tells)) says
-      (subst (λ (d : List ℕ). IsCaused may_fail faults taken d before after error) here caused))
+      → IsErrorOf (λ read. read ≢ table.Plan) error → IsCaused may_fail faults taken dir before after error
+      → IsPlanOutcome holds may_fail faults taken planning before after it
+  no_day error it is told says caused =
+      NoDay error
+      (record {
+        told = λ files tells. subst (λ (d : List ℕ). Reads {Y = Day} (Reaches files d) (Err error) (day_in files d)) here (told files tells);
+        says = says;
+        caused = subst (λ (d : List ℕ). IsCaused may_fail faults taken d before after error) here caused;
+      })
+      is
 
-  -- a day that is planned is an outcome
-  pub day_comes : (day : Day) (it : Outcome) (dir : List ℕ) → dir ≡ planning.dir → IsMadeDay day
-      → ((files : Files) → holds before ≡ Some files → day_in files dir ≡ Ok day) → IsDayOutcome day planning.nodes it → Comes it
-  day_comes day (Planned answer) dir here made told is = record {
-    told = λ files tells. (day, subst (λ (d : List ℕ). day_in files d ≡ Ok day) here (told files tells), is);
-    stands = (day, made, is);
-  }
-  day_comes day NoMemory dir here made told is = no_memory
-  day_comes day Usage dir here made told is = absurd is
-  day_comes day (Refused why) dir here made told is = absurd is
-  day_comes day (CannotRead read) dir here made told is = absurd is
+  -- a day that was planned
+  pub day_planned : (day : Day) (it : Outcome) → IsMadeDay day → ((files : Files) → holds before ≡ Some files → day_in files dir ≡ Ok day)
+      → IsDayOutcome day planning.nodes it → IsPlanOutcome holds may_fail faults taken planning before after it
+  day_planned day it made told is =
+      OfDay day
+      (record { made = made; told = λ files tells. subst (λ (d : List ℕ). day_in files d ≡ Ok day) here (told files tells) }) is
+
+-- ---- how the planning of a day ends
+
+-- a refused table ends it
+ended_by_error : (files : Files) (planning : Planning) (error : ReadError) → Reads {Y = Day} (Reaches files planning.dir) (Err error) (day_in files planning.dir)
+    → (text : List ℕ) → IsDocument (outcome_of_error error) text → (written written' : Option (List ℕ)) → Appends text written written'
+    → IsUndisturbed (status_of (outcome_of_error error))
+    → EndsPlanning table_refused_line files planning.dir planning.nodes (status_of (outcome_of_error error)) written written'
+ended_by_error files planning (read_error.Refused why) said text is written written' appends undisturbed = record {
+  refused = (λ three. (why, said), λ other. refl);
+  told = λ three. (why, said, subst (λ (t : List ℕ). Appends t written written') is appends);
+  answered = λ other. absurd (other refl);
+}
+ended_by_error files planning (read_error.CannotRead read) said text is written written' appends undisturbed = absurd (undisturbed.0 refl)
+ended_by_error files planning read_error.NoMemory said text is written written' appends undisturbed = absurd (undisturbed.2 refl)
+
+-- and so does an answer
+ended_by_day : (files : Files) (planning : Planning) (day : Day) → day_in files planning.dir ≡ Ok day → (it : Outcome) → IsDayOutcome day planning.nodes it
+    → (text : List ℕ) → IsDocument it text → (written written' : Option (List ℕ)) → Appends text written written' → IsUndisturbed (status_of it)
+    → EndsPlanning table_refused_line files planning.dir planning.nodes (status_of it) written written'
+ended_by_day files planning day accepted (Planned answer) meets text is written written' appends undisturbed =
+    let head = head_status answer.head in
+    record {
+      refused = (λ three. absurd (head.not_refused three), λ said. absurd (let other = said.1 in cc));
+      told = λ three. absurd (head.not_refused three);
+      answered = λ _. (
+        day,
+        accepted,
+        record {
+          answer = answer;
+          headline = meets;
+          status_fits = refl;
+          written = subst (λ (t : List ℕ). Appends t written written') is appends;
+        },
+      );
+    }
+ended_by_day files planning day accepted NoMemory meets text is written written' appends undisturbed = absurd (undisturbed.2 refl)
+ended_by_day files planning day accepted (Swapped swapped) meets text is written written' appends undisturbed = absurd meets
+ended_by_day files planning day accepted Stops meets text is written written' appends undisturbed = absurd meets
+ended_by_day files planning day accepted Usage meets text is written written' appends undisturbed = absurd meets
+ended_by_day files planning day accepted (Refused file) meets text is written written' appends undisturbed = absurd meets
+ended_by_day files planning day accepted (CannotRead file) meets text is written written' appends undisturbed = absurd meets
+
+module _ {F : Type 0} (holds : F → Option Files) (may_fail : F → List ℕ → Bool) (faults taken : F → ℕ) (planning : Planning) (before after : F) (it : Outcome) where
+  pub plan_status : IsPlanOutcome holds may_fail faults taken planning before after it → IsOfCommand it (Rose (faults before) (faults after))
+  plan_status (NoDay error read is) =
+      made_of error it (Rose (faults before) (faults after)) is (error_status may_fail faults taken planning.dir before after error read.caused)
+  plan_status (OfDay day read is) = day_status day planning.nodes it (Rose (faults before) (faults after)) is
+
+  pub planning_ends : IsPlanOutcome holds may_fail faults taken planning before after it → (files : Files) → holds before ≡ Some files
+      → (text : List ℕ) → IsDocument it text → (written written' : Option (List ℕ)) → Appends text written written' → IsUndisturbed (status_of it)
+      → EndsPlanning table_refused_line files planning.dir planning.nodes (status_of it) written written'
+  planning_ends (NoDay error read is) files tells text document written written' appends undisturbed =
+      subst (λ (it : Outcome). EndsPlanning table_refused_line files planning.dir planning.nodes (status_of it) written written') (sym is)
+      (ended_by_error files planning error (read.told files tells) text (subst (λ (it : Outcome). IsDocument it text) is document) written written' appends
+      (subst (λ (it : Outcome). IsUndisturbed (status_of it)) is undisturbed))
+  planning_ends (OfDay day read is) files tells text document written written' appends undisturbed =
+      ended_by_day files planning day (read.told files tells) it is text document written written' appends undisturbed
+
+-- ---- the advisors
 
 -- where no day is read, no advisor is asked
 pub none_asked_for : {A : Type 0} (asked : A → ℕ) (has_quit : A → Bool) (rounds : ℕ) (error : ReadError) (it : Outcome)
@@ -65,15 +157,13 @@ none_asked_for asked has_quit rounds error it advisors is =
     by (read_error.Refused why) = refl
     by read_error.NoMemory = tt
 
--- ---- the advisors
-
 module _ {A : Type 0} (identity asked : A → ℕ) (has_quit : A → Bool) (words : List (List ℕ)) where
-  -- advisors that no command was to ask
+  -- advisors that were not asked
   pub left_alone : (advisors : List A) → LeavesAdvisors words advisors advisors identity asked has_quit
   left_alone advisors = record {
     same = refl;
-    asked_within = λ planning form. are_unasked asked has_quit (planning.rounds * (2 * planning.nodes + 1)) advisors;
-    unasked = λ vain. refl;
+    asked_within = λ named form. are_unasked asked has_quit (most_asked named) advisors;
+    unasked = λ none. refl;
   }
 
   module _ (planning : Planning) (form : AskToPlan words planning) (before after : List A) where
@@ -82,10 +172,10 @@ module _ {A : Type 0} (identity asked : A → ℕ) (has_quit : A → Bool) (word
         → LeavesAdvisors words before after identity asked has_quit
     leaves same within = record {
       same = same;
-      asked_within = λ other given.
-          subst (λ (it : Planning). AreAsked before after asked has_quit 0 (it.rounds * (2 * it.nodes + 1)))
-          (one_planning words planning other form given) within;
-      unasked = λ vain. absurd (vain planning form);
+      asked_within = λ named given.
+          subst (λ (it : Command). AreAsked before after asked has_quit 0 (most_asked it))
+          (one_command words (command.Plan planning) named form given) within;
+      unasked = λ none. let asks : true ≡ false = none (command.Plan planning) form in absurd cc;
     }
 
 -- how they were asked for an answer, by whichever planning the words ask for
@@ -94,3 +184,10 @@ pub asked_for : {A : Type 0} (asked : A → ℕ) (has_quit : A → Bool) (words 
     → AreAskedFor other.rounds it before after asked has_quit
 asked_for asked has_quit words planning other form given it before after is =
     subst (λ (p : Planning). AreAskedFor p.rounds it before after asked has_quit) (one_planning words planning other form given) is
+
+-- words that ask to plan a day are those of no other command
+pub no_plan : (words : List (List ℕ)) (named : Command) (planning : Planning) → IsPlainForm words named → asks_advisors named ≡ false
+    → AskToPlan words planning → ⊥
+no_plan words named planning form none given =
+    let same : named ≡ command.Plan planning = one_command words named (command.Plan planning) form given in
+    let asks : asks_advisors named ≡ true = ap asks_advisors same in cc

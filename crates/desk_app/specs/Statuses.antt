@@ -1,15 +1,18 @@
 -- The status that a run ends with, what it wrote, and how the folder, the sink and the advisors stand after it.
-use Rattle.std.specs.Prelude.{ℕ, ◌≡◌, ◌≤◌, ◌↔◌, ◌+◌, ◌*◌, List, Option, Bool, true, ⊤}
+use Rattle.std.specs.Prelude.{ℕ, ◌≡◌, ◌≤◌, ◌↔◌, ◌+◌, ◌*◌, List, Option, Bool, true, false, ⊤}
 use Rattle.rail_io.specs.Folders.{Files, OnlyReads, Rose}
 use Rattle.rail_io.specs.Sinks.{Appends}
 use Rattle.statuses.specs.Written.{CountsFailedReads, CountsFailedWrites, Wrote}
 use Rattle.search.specs.Questions.{AreAsked, AreTheSame, in_rounds}
 use Rattle.answer_check.specs.ProvedTrees.{open_leaves}
-use Rattle.desk_commands.specs.declared.planning.Planning.{Planning}
+use Rattle.desk_commands.specs.declared.command.Command.{Command}
+use Rattle.desk_commands.specs.declared.command.Command.TheVariants as command
+use Rattle.desk_commands.specs.PlainForm.{IsPlainForm}
 use Rattle.desk_app.specs.declared.outcome.Outcome.{Outcome}
-use Rattle.desk_app.specs.declared.outcome.Outcome.TheVariants.{Planned, NoMemory}
+use Rattle.desk_app.specs.declared.outcome.Outcome.TheVariants.{Planned, Swapped, Stops, Usage, Refused, CannotRead}
+use Rattle.desk_app.specs.declared.outcome.Outcome.TheVariants.{NoMemory}
 use Rattle.desk_app.specs.Documents.{IsDocument, usage_line}
-use Rattle.desk_app.specs.Outcomes.{AskInVain, AskToPlan, status_of}
+use Rattle.desk_app.specs.Outcomes.{AskInVain, status_of}
 
 -- ---- what the words say of the status
 
@@ -44,14 +47,26 @@ pub record LeavesSink (counts_failed : Bool) (status : ℕ) (before after : Opti
     pub failed_writes : counts_failed ≡ true → CountsFailedWrites status faults faults'
     pub lasting : faults ≤ faults'
 
--- The advisors after a run: one of the same identity stands at each place. Where a day is planned, each was asked as
--- often at most as its rounds come to at a root and both sides of each branching granted; without a command, none was.
+-- ---- the advisors
+
+-- whether a command asks advisors
+abbrev pub asks_advisors : Command → Bool
+asks_advisors (command.Plan planning) = true
+asks_advisors (command.Urgent swapping) = false
+
+-- how often a command asks each of them at most: its rounds at a root and at both sides of each branching granted
+abbrev pub most_asked : Command → ℕ
+most_asked (command.Plan planning) = planning.rounds * (2 * planning.nodes + 1)
+most_asked (command.Urgent swapping) = 0
+
+-- The advisors after a run: one of the same identity stands at each place, and each was asked as often at most as the
+-- words grant. They are left as they are by words that ask for no command, or for one that asks none of them.
 pub record LeavesAdvisors {A : Type 0} (words : List (List ℕ)) (before after : List A) (identity asked : A → ℕ)
     (has_quit : A → Bool) : Type 0 where
   pub same : AreTheSame before after identity
-  pub asked_within : (planning : Planning) → AskToPlan words planning
-      → AreAsked before after asked has_quit 0 (planning.rounds * (2 * planning.nodes + 1))
-  pub unasked : AskInVain words → after ≡ before
+  pub asked_within : (named : Command) → IsPlainForm words named
+      → AreAsked before after asked has_quit 0 (most_asked named)
+  pub unasked : ((named : Command) → IsPlainForm words named → asks_advisors named ≡ false) → after ≡ before
 
 -- Where an answer comes of so many rounds, each advisor that has not quit was asked, in all, at least as many times as
 -- the answer has branchings and open leaves, unless there are no rounds; and at most as many times a round as there are
@@ -60,5 +75,9 @@ abbrev pub AreAskedFor : {A : Type 0} → ℕ → Outcome → List A → List A 
 AreAskedFor rounds (Planned answer) before after asked has_quit =
     AreAsked before after asked has_quit (in_rounds rounds (answer.branchings + open_leaves answer))
     (rounds * (2 * answer.branchings + 1))
+AreAskedFor rounds (Swapped swapped) before after asked has_quit = after ≡ before
+AreAskedFor rounds Stops before after asked has_quit = after ≡ before
+AreAskedFor rounds Usage before after asked has_quit = after ≡ before
+AreAskedFor rounds (Refused file) before after asked has_quit = after ≡ before
+AreAskedFor rounds (CannotRead file) before after asked has_quit = after ≡ before
 AreAskedFor rounds NoMemory before after asked has_quit = ⊤
-AreAskedFor rounds other before after asked has_quit = after ≡ before

@@ -3,12 +3,16 @@
 #![tactic(auto)]
 
 pub mod document;
+pub mod files;
 pub mod outcome;
 mod planning;
 pub mod progress;
 mod run;
+mod swapped_text;
+mod swapping;
 mod top;
 
+pub use files::DeskFile;
 pub use outcome::Outcome;
 pub use progress::ProgressLines;
 pub use top::{raildesk, raildesk_watched};

@@ -3,37 +3,43 @@
 ghost use Rattle.std.specs.Prelude.{◌≡◌};
 ghost use Rattle.desk_app.specs.Outcomes.{status_of};
 
+use crate::files::DeskFile;
 use answer_text::Answer;
-use day_files::{ReadError, Refusal};
-use rail_csv::Table;
+use day_files::ReadError;
 use run_documents::status_said;
-use statuses::{NO_MEMORY, REFUSED, UNREAD, USAGE};
+use statuses::{FAILURE, NO_MEMORY, REFUSED, SUCCESS, UNREAD, USAGE};
+use urgent_units::Swapped;
 
 /// What a run comes to: the document that it writes and the status that it ends with follow from it.
 #[derive(Drop)]
 pub enum Outcome {
     /// The day is planned, and this is the answer to it.
     Planned(Answer),
+    /// Units of the plan are swapped: a plan that brings as many urgent ones to the depot as can be, and a cut that
+    /// shows that no other brings more.
+    Swapped(Swapped),
+    /// The plan doesn't run.
+    Stops,
     /// The words are not understood.
     Usage,
-    /// There is no day: a file is refused.
-    Refused(Refusal),
-    /// There is no day: the file of this table could not be read.
-    CannotRead(Table),
+    /// This file is refused.
+    Refused(DeskFile),
+    /// This file could not be read.
+    CannotRead(DeskFile),
     /// Memory ran out; there is no document.
     NoMemory,
 }
 
 impl From<ReadError> for Outcome {
     ghost use Rattle.std.specs.Prelude.{◌≡◌};
-    ghost use Rattle.desk_app.specs.Outcomes.{outcome_of_error};
+    ghost use Rattle.desk_app.specs.ReadErrors.{outcome_of_error};
 
     ghost from_gives = { λ error outcome. outcome ≡ outcome_of_error error };
 
     fn from(error: ReadError) -> Outcome {
         match error {
-            ReadError::Refused(refusal) => Outcome::Refused(refusal),
-            ReadError::CannotRead(table) => Outcome::CannotRead(table),
+            ReadError::Refused(refusal) => Outcome::Refused(DeskFile::OfTable(refusal.table())),
+            ReadError::CannotRead(table) => Outcome::CannotRead(DeskFile::OfTable(table)),
             ReadError::NoMemory => Outcome::NoMemory,
         }
     }
@@ -46,6 +52,8 @@ impl Outcome {
     {
         match self {
             Outcome::Planned(answer) => status_said(answer.head),
+            Outcome::Swapped(_) => SUCCESS,
+            Outcome::Stops => FAILURE,
             Outcome::Usage => USAGE,
             Outcome::Refused(_) => REFUSED,
             Outcome::CannotRead(_) => UNREAD,

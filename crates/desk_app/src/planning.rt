@@ -6,7 +6,8 @@ ghost use Rattle.rail_io.specs.Folders.{OnlyReads, faults_after};
 ghost use Rattle.search.specs.Questions.{AreAsked, AreTheSame, in_rounds};
 ghost use Rattle.answer_check.specs.Headline.{IsHeadline};
 ghost use Rattle.answer_check.specs.ProvedTrees.{open_leaves};
-ghost use Rattle.desk_app.specs.Outcomes.{IsDayOutcome, IsPlanOutcome, is_unread};
+ghost use Rattle.desk_app.specs.Outcomes.{is_unread};
+ghost use Rattle.desk_app.specs.PlanOutcomes.{IsDayOutcome, IsPlanOutcome};
 ghost use Rattle.desk_app.specs.Statuses.{AreAskedFor};
 
 use crate::outcome::Outcome;

@@ -8,9 +8,10 @@ ghost use Rattle.desk_app.specs.Statuses.{AreAskedFor, LeavesAdvisors};
 
 use crate::outcome::Outcome;
 use crate::planning::planned;
+use crate::swapping::swapped;
 use advisors::Advisor;
 use day_improver::Watcher;
-use desk_commands::read_words;
+use desk_commands::{Command, read_words};
 use plain_words::WordsRefusal;
 use rail_base::Words;
 use rail_io::Folder;
@@ -42,7 +43,8 @@ pub(crate) fn outcome_of<F: Folder, W: Watcher>(
     ensures untouched { AskInVain words.now → folder.new ≡ folder.old }
 {
     match read_words(alloc, words) {
-        Ok(planning) => planned(alloc, folder, &planning, advisors, watcher),
+        Ok(Command::Plan(planning)) => planned(alloc, folder, &planning, advisors, watcher),
+        Ok(Command::Urgent(swapping)) => swapped(alloc, folder, swapping.dir.as_str()),
         Err(WordsRefusal::NotUnderstood) => Outcome::Usage,
         Err(WordsRefusal::NoMemory) => Outcome::NoMemory,
     }

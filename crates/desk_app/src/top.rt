@@ -5,11 +5,13 @@ ghost use Rattle.rail_io.specs.Folders.{Files, faults_after};
 ghost use Rattle.statuses.specs.Written.{CountsFailedWrites, IsStatus, IsUndisturbed};
 ghost use Rattle.run_documents.specs.Planning.{EndsPlanning};
 ghost use Rattle.desk_commands.specs.declared.planning.Planning.{Planning};
+ghost use Rattle.desk_commands.specs.declared.swapping.Swapping.{Swapping};
 ghost use Rattle.desk_app.specs.declared.outcome.Outcome.{Outcome};
-ghost use Rattle.desk_app.specs.Documents.{refused_line};
-ghost use Rattle.desk_app.specs.Outcomes.{AskToPlan, IsOutcome, is_unread};
+ghost use Rattle.desk_app.specs.Documents.{table_refused_line};
+ghost use Rattle.desk_app.specs.Outcomes.{AskToPlan, AskToSwap, IsOutcome, is_unread};
 ghost use Rattle.desk_app.specs.Statuses.{AreAskedFor, EndsInUsage, LeavesAdvisors, LeavesFolder};
 ghost use Rattle.desk_app.specs.Statuses.{LeavesSink, WroteOutcome};
+ghost use Rattle.desk_app.specs.SwapEndings.{EndsSwapping};
 
 use crate::document::document;
 use crate::outcome::Outcome;
@@ -41,15 +43,21 @@ fn write_outcome<K: Sink>(alloc: Global, outcome: &Outcome, out: &mut K) -> u8
 ///   other plans. The improver of days may take E bounds at the root, 500 where no E is given, and the advisors are
 ///   asked for proposals in at most K rounds at each node, in none where no K is given. Whatever they propose, what the
 ///   answer says is true.
+/// - `urgent DIR` reads `plan.csv` as well, and where the plan runs, `urgent.csv`: units that are urgent, and the depot
+///   where they are to end the day. It swaps units, so that as many urgent ones as can be end the day there, and writes
+///   how many these are, the plan that brings them, which has the same types on every trip, and a yard cut that shows
+///   that no plan which runs with these types brings more. It asks no advisor.
 ///
 /// The statuses:
 ///
-/// - 0 comes exactly where the files are accepted, and the answer found is optimal.
-/// - 1 comes exactly where they are accepted, and the answer found is infeasible.
+/// - 0 comes exactly where the files that the command reads are accepted, and the answer found is optimal, or the plan
+///   runs whose units are to be swapped.
+/// - 1 comes exactly where the tables are accepted and the answer found is infeasible, or where they and the plan are
+///   accepted and the plan doesn't run: then the line `stops` is written, and no file is read after that of the plan.
 /// - 2 comes exactly where the words are no command; the line `usage` is written.
 /// - 3 comes exactly where a file is refused; the line `refused FILE` is written.
-/// - 4 comes exactly where they are accepted, and the answer found is bounded: all granted branchings were made, and a
-///   leaf is open.
+/// - 4 comes exactly where the tables are accepted, and the answer found is bounded: all granted branchings were made,
+///   and a leaf is open.
 /// - 5 comes only where the folder's count of faults rose in this call, or stands at its last value, 2^64 - 1; the line
 ///   `cannot read FILE` is written.
 /// - 6 comes only where the sink's count of faults rose in this call, or stands there; a front of the document was
@@ -72,10 +80,15 @@ pub fn raildesk<F: Folder, K: Sink>(
 ) -> u8
     requires asked { All (λ advisor. asked advisor ≤ 2 ^ 62) advisors.old.items }
 
-    // The headline, and the status of words that are no command, where the status is none of 5, 6 and 7.
+    // The headline, how units are swapped, and the status of words that are no command, where the status is none of 5,
+    // 6 and 7.
     ensures plan { (files : Files) (planning : Planning) → F.holds folder.old ≡ Some files
         → AskToPlan words.now planning → IsUndisturbed result
-        → EndsPlanning refused_line files planning.dir planning.nodes result (K.written out.old) (K.written out.new) }
+        → EndsPlanning table_refused_line files planning.dir planning.nodes result (K.written out.old)
+        (K.written out.new) }
+    ensures urgent { (files : Files) (swapping : Swapping) → F.holds folder.old ≡ Some files
+        → AskToSwap words.now swapping → IsUndisturbed result
+        → EndsSwapping files swapping.dir result (K.written out.old) (K.written out.new) }
     ensures usage { IsUndisturbed result → EndsInUsage words.now result (K.written out.old) (K.written out.new) }
     ensures statuses { IsStatus result }
 
@@ -111,10 +124,15 @@ pub fn raildesk_watched<F: Folder, K: Sink, W: Watcher>(
 ) -> u8
     requires asked { All (λ advisor. asked advisor ≤ 2 ^ 62) advisors.old.items }
 
-    // The headline, and the status of words that are no command, where the status is none of 5, 6 and 7.
+    // The headline, how units are swapped, and the status of words that are no command, where the status is none of 5,
+    // 6 and 7.
     ensures plan { (files : Files) (planning : Planning) → F.holds folder.old ≡ Some files
         → AskToPlan words.now planning → IsUndisturbed result
-        → EndsPlanning refused_line files planning.dir planning.nodes result (K.written out.old) (K.written out.new) }
+        → EndsPlanning table_refused_line files planning.dir planning.nodes result (K.written out.old)
+        (K.written out.new) }
+    ensures urgent { (files : Files) (swapping : Swapping) → F.holds folder.old ≡ Some files
+        → AskToSwap words.now swapping → IsUndisturbed result
+        → EndsSwapping files swapping.dir result (K.written out.old) (K.written out.new) }
     ensures usage { IsUndisturbed result → EndsInUsage words.now result (K.written out.old) (K.written out.new) }
     ensures statuses { IsStatus result }
 

@@ -1,14 +1,18 @@
 -- Words are the plain form of one command at most, whose numbers are within their limits.
-use Rattle.std.proofs.Common.{◌≡◌, ℕ, ◌≤◌, Bool, List, [], ◌∷◌, Some, None, ap, sym, subst, ◌∙◌, arith}
+use Rattle.std.proofs.Common.{◌≡◌, ℕ, ◌≤◌, Bool, List, [], ◌∷◌, Some, None, ap, refl, sym, subst, ◌∙◌, arith}
 use Rattle.std.specs.Prelude.{codes}
 use Rattle.rail_base.specs.declared.limits.TheConstants.{MOST_BRANCHINGS, MOST_ROUNDS}
 use Rattle.plain_words.specs.Items.{Form, IsPlain, Item, WordList, values_in}
 use Rattle.plain_words.specs.Numbers.{IsOption}
 use Rattle.plain_words.specs.Reading.{items_from}
 use Rattle.plain_words.proofs.Made.{taken}
+use Rattle.desk_commands.specs.declared.command.Command.{Command}
+use Rattle.desk_commands.specs.declared.command.Command.TheVariants.{Plan, Urgent}
 use Rattle.desk_commands.specs.declared.planning.Planning.{Planning}
-use Rattle.desk_commands.specs.declared.planning.TheConstants.{MOST_EVALUATIONS, USUAL_EVALUATIONS, USUAL_NODES, USUAL_ROUNDS}
-use Rattle.desk_commands.specs.PlainForm.{IsPlainForm, IsPlanning, plan_form}
+use Rattle.desk_commands.specs.declared.planning.TheConstants.{MOST_EVALUATIONS, USUAL_EVALUATIONS_OF_PLAN}
+use Rattle.desk_commands.specs.declared.planning.TheConstants.{USUAL_NODES_OF_PLAN, USUAL_ROUNDS_OF_PLAN}
+use Rattle.desk_commands.specs.declared.swapping.Swapping.{Swapping}
+use Rattle.desk_commands.specs.PlainForm.{IsMeant, IsPlainForm, IsPlanning, IsSwapping, command_word, form_for}
 
 -- words are of a form as one list of items at most
 pub one_list : (form : Form) (words : WordList) (one other : List Item) → IsPlain form words one → IsPlain form words other
@@ -32,28 +36,63 @@ made_alike : (d d' : List ℕ) (n n' k k' e e' : ℕ) (p p' : Bool) → d ≡ d'
     (record { dir = d'; nodes = n'; rounds = k'; evaluations = e'; tells_progress = p' })
 made_alike d d' n n' k k' e e' p p' dirs nodes rounds evaluations progress = cc
 
-pub one_planning_of : (items : List Item) (one other : Planning) → IsPlanning items one → IsPlanning items other → one ≡ other
+one_planning_of : (items : List Item) (one other : Planning) → IsPlanning items one → IsPlanning items other → one ≡ other
 one_planning_of items one other first second =
     let dirs : ◌≡◌ {A = List (List ℕ)} (one.dir ∷ []) (other.dir ∷ []) = sym first.dir ∙ second.dir in
     let dir : one.dir ≡ other.dir = cc in
     made_alike one.dir other.dir one.nodes other.nodes one.rounds other.rounds one.evaluations other.evaluations
     one.tells_progress other.tells_progress dir
-    (one_number USUAL_NODES MOST_BRANCHINGS (values_in (codes "--nodes") items) one.nodes other.nodes first.nodes second.nodes)
-    (one_number USUAL_ROUNDS MOST_ROUNDS (values_in (codes "--rounds") items) one.rounds other.rounds first.rounds second.rounds)
-    (one_number USUAL_EVALUATIONS MOST_EVALUATIONS (values_in (codes "--evaluations") items) one.evaluations other.evaluations
+    (one_number USUAL_NODES_OF_PLAN MOST_BRANCHINGS (values_in (codes "--nodes") items) one.nodes other.nodes first.nodes second.nodes)
+    (one_number USUAL_ROUNDS_OF_PLAN MOST_ROUNDS (values_in (codes "--rounds") items) one.rounds other.rounds first.rounds second.rounds)
+    (one_number USUAL_EVALUATIONS_OF_PLAN MOST_EVALUATIONS (values_in (codes "--evaluations") items) one.evaluations other.evaluations
     first.evaluations second.evaluations)
     (first.progress ∙ sym second.progress)
 
-pub one_planning : (words : WordList) (one other : Planning) → IsPlainForm words one → IsPlainForm words other → one ≡ other
-one_planning words one other first second =
-    let lists : ◌≡◌ {A = WordList} (first.program ∷ codes "plan" ∷ first.rest) (second.program ∷ codes "plan" ∷ second.rest) =
+-- and the swappings of one folder
+swapped_alike : (d d' : List ℕ) → d ≡ d' → ◌≡◌ {A = Swapping} (record { dir = d }) (record { dir = d' })
+swapped_alike d d' dirs = cc
+
+one_swapping_of : (items : List Item) (one other : Swapping) → IsSwapping items one → IsSwapping items other → one ≡ other
+one_swapping_of items one other first second =
+    let dirs : ◌≡◌ {A = List (List ℕ)} (one.dir ∷ []) (other.dir ∷ []) = sym first ∙ second in
+    let dir : one.dir ≡ other.dir = cc in
+    swapped_alike one.dir other.dir dir
+
+-- items mean one command of a word at most
+one_meant : (items : List Item) (one other : Command) → command_word one ≡ command_word other → IsMeant items one → IsMeant items other
+    → one ≡ other
+one_meant items (Plan one) (Plan other) words first second = ap Plan (one_planning_of items one other first second)
+one_meant items (Plan one) (Urgent other) words first second = absurd cc
+one_meant items (Urgent one) (Plan other) words first second = absurd cc
+one_meant items (Urgent one) (Urgent other) words first second = ap Urgent (one_swapping_of items one other first second)
+
+-- commands of one word have one form
+one_form : (one other : Command) → command_word one ≡ command_word other → form_for one ≡ form_for other
+one_form (Plan one) (Plan other) words = refl
+one_form (Plan one) (Urgent other) words = absurd cc
+one_form (Urgent one) (Plan other) words = absurd cc
+one_form (Urgent one) (Urgent other) words = refl
+
+pub one_command : (words : WordList) (one other : Command) → IsPlainForm words one → IsPlainForm words other → one ≡ other
+one_command words one other first second =
+    let lists : ◌≡◌ {A = WordList} (first.program ∷ command_word one ∷ first.rest) (second.program ∷ command_word other ∷ second.rest) =
     sym first.written ∙ second.written in
     let rest : first.rest ≡ second.rest = cc in
-    let items : second.items ≡ first.items =
-    one_list plan_form second.rest second.items first.items second.plain
-    (subst (λ (words : WordList). IsPlain plan_form words first.items) rest first.plain) in
-    one_planning_of first.items one other first.meant
-    (subst (λ (items : List Item). IsPlanning items other) items second.meant)
+    let word : command_word one ≡ command_word other = cc in
+    let form : form_for one ≡ form_for other = one_form one other word in
+    let moved : IsPlain (form_for other) second.rest first.items =
+    subst (λ (form : Form). IsPlain form second.rest first.items) form
+    (subst (λ (words : WordList). IsPlain (form_for one) words first.items) rest first.plain) in
+    let items : second.items ≡ first.items = one_list (form_for other) second.rest second.items first.items second.plain moved in
+    one_meant first.items one other word first.meant (subst (λ (items : List Item). IsMeant items other) items second.meant)
+
+pub one_planning : (words : WordList) (one other : Planning) → IsPlainForm words (Plan one) → IsPlainForm words (Plan other) → one ≡ other
+one_planning words one other first second =
+    let both : Plan one ≡ Plan other = one_command words (Plan one) (Plan other) first second in cc
+
+pub one_swapping : (words : WordList) (one other : Swapping) → IsPlainForm words (Urgent one) → IsPlainForm words (Urgent other) → one ≡ other
+one_swapping words one other first second =
+    let both : Urgent one ≡ Urgent other = one_command words (Urgent one) (Urgent other) first second in cc
 
 -- ---- what may be granted
 
@@ -63,8 +102,8 @@ number_within usual most [] number fits is = omega (arith, fits, is)
 number_within usual most (text ∷ []) number fits is = is.limit
 number_within usual most (text ∷ again ∷ texts) number fits is = absurd is
 
-pub nodes_within : (words : WordList) (planning : Planning) → IsPlainForm words planning → planning.nodes ≤ MOST_BRANCHINGS
-nodes_within words planning form = number_within USUAL_NODES MOST_BRANCHINGS _ planning.nodes (omega arith) form.meant.nodes
+pub nodes_within : (words : WordList) (planning : Planning) → IsPlainForm words (Plan planning) → planning.nodes ≤ MOST_BRANCHINGS
+nodes_within words planning form = number_within USUAL_NODES_OF_PLAN MOST_BRANCHINGS _ planning.nodes (omega arith) form.meant.nodes
 
-pub rounds_within : (words : WordList) (planning : Planning) → IsPlainForm words planning → planning.rounds ≤ MOST_ROUNDS
-rounds_within words planning form = number_within USUAL_ROUNDS MOST_ROUNDS _ planning.rounds (omega arith) form.meant.rounds
+pub rounds_within : (words : WordList) (planning : Planning) → IsPlainForm words (Plan planning) → planning.rounds ≤ MOST_ROUNDS
+rounds_within words planning form = number_within USUAL_ROUNDS_OF_PLAN MOST_ROUNDS _ planning.rounds (omega arith) form.meant.rounds

@@ -1,71 +1,71 @@
 -- What words are read as.
 use Rattle.std.proofs.Common.{◌≡◌, ◌<◌, ℕ, List, [], ◌∷◌, Option, Some, Result, Ok, Err, length, drop, refl, ap, subst, inl, inr, arith}
-use Rattle.std.specs.Prelude.{codes, slice_get}
-use Rattle.desk_commands.specs.declared.planning.Planning.{Planning}
+use Rattle.std.specs.Prelude.{slice_get}
 use Rattle.plain_words.specs.declared.refusal.WordsRefusal.{WordsRefusal}
 use Rattle.plain_words.specs.declared.refusal.WordsRefusal.TheVariants.{NotUnderstood, NoMemory}
 use Rattle.plain_words.specs.Commands.{Reads}
 use Rattle.plain_words.specs.Items.{IsPlain, WordList}
-use Rattle.desk_commands.specs.PlainForm.{IsPlainForm, plan_form}
+use Rattle.desk_commands.specs.declared.command.Command.{Command}
+use Rattle.desk_commands.specs.PlainForm.{IsPlainForm, command_word, form_for}
 use Rattle.desk_commands.specs.Reading.{ReadsCommand}
-use Rattle.desk_commands.proofs.OneCommand.{one_planning}
+use Rattle.desk_commands.proofs.OneCommand.{one_command}
 
 -- ---- the words after the program's name
 
 -- words of the plain form have a program's name and a command word
 pub few_words : (words : WordList) → length words < 2 → Reads IsPlainForm words (Err NotUnderstood)
 few_words words few = record {
-  understood = λ planning e. absurd cc;
-  refused = λ e planning form. too_few planning form;
-  given = λ planning form. absurd (too_few planning form);
+  understood = λ command e. absurd cc;
+  refused = λ e command form. too_few command form;
+  given = λ command form. absurd (too_few command form);
 }
   where
-    too_few : (planning : Planning) → IsPlainForm words planning → ⊥
-    too_few planning form =
-        let many : length words ≡ length (form.program ∷ codes "plan" ∷ form.rest) = ap length form.written in
+    too_few : (command : Command) → IsPlainForm words command → ⊥
+    too_few command form =
+        let many : length words ≡ length (form.program ∷ command_word command ∷ form.rest) = ap length form.written in
         omega (arith, many, few)
 
 -- the words of a command word and the words after it
-pub reads : (words : WordList) (word : List ℕ) (rest : WordList) (result : Result Planning WordsRefusal)
+pub reads : (words : WordList) (word : List ℕ) (rest : WordList) (result : Result Command WordsRefusal)
     → slice_get words 1 ≡ Some word → rest ≡ drop 2 words → ReadsCommand word rest result → Reads IsPlainForm words result
 reads [] word rest result second after read = absurd cc
 reads (program ∷ []) word rest result second after read = absurd cc
-reads (program ∷ next ∷ others) word rest (Ok planning) second after read = record {
-  understood = λ other e. let same : planning ≡ other = cc in subst (λ (it : Planning). IsPlainForm (program ∷ next ∷ others) it) same form;
+reads (program ∷ next ∷ others) word rest (Ok command) second after read = record {
+  understood = λ other e. let same : command ≡ other = cc in subst (λ (it : Command). IsPlainForm (program ∷ next ∷ others) it) same form;
   refused = λ e other form. absurd cc;
-  given = λ other given. inl (ap Ok (one_planning (program ∷ next ∷ others) planning other form given));
+  given = λ other given. inl (ap Ok (one_command (program ∷ next ∷ others) command other form given));
 }
   where
-    written : program ∷ next ∷ others ≡ program ∷ codes "plan" ∷ rest
+    written : program ∷ next ∷ others ≡ program ∷ command_word command ∷ rest
     written =
         let same : ◌≡◌ {A = Option (List ℕ)} (Some next) (Some word) = second in
-        let is : word ≡ codes "plan" = read.0 in
+        let is : word ≡ command_word command = read.0 in
         let tail : rest ≡ others = after in
         cc
 
-    form : IsPlainForm (program ∷ next ∷ others) planning
+    form : IsPlainForm (program ∷ next ∷ others) command
     form = record { program = program; rest = rest; items = read.1; written = written; plain = read.2; meant = read.3 }
 reads (program ∷ next ∷ others) word rest (Err NotUnderstood) second after read = record {
-  understood = λ planning e. absurd cc;
-  refused = λ e planning form. never planning form;
-  given = λ planning form. absurd (never planning form);
+  understood = λ command e. absurd cc;
+  refused = λ e command form. never command form;
+  given = λ command form. absurd (never command form);
 }
   where
-    never : (planning : Planning) → IsPlainForm (program ∷ next ∷ others) planning → ⊥
-    never planning form =
-        let lists : ◌≡◌ {A = WordList} (program ∷ next ∷ others) (form.program ∷ codes "plan" ∷ form.rest) = form.written in
+    never : (command : Command) → IsPlainForm (program ∷ next ∷ others) command → ⊥
+    never command form =
+        let lists : ◌≡◌ {A = WordList} (program ∷ next ∷ others) (form.program ∷ command_word command ∷ form.rest) = form.written in
         let same : ◌≡◌ {A = Option (List ℕ)} (Some next) (Some word) = second in
-        let is : word ≡ codes "plan" = cc in
+        let is : word ≡ command_word command = cc in
         let tail : rest ≡ others = after in
         let whole : form.rest ≡ rest = cc in
-        read planning form.items is (subst (λ (words : WordList). IsPlain plan_form words form.items) whole form.plain) form.meant
+        read command form.items is (subst (λ (words : WordList). IsPlain (form_for command) words form.items) whole form.plain) form.meant
 reads (program ∷ next ∷ others) word rest (Err NoMemory) second after read = record {
-  understood = λ planning e. absurd cc;
-  refused = λ e planning form. absurd cc;
-  given = λ planning form. inr refl;
+  understood = λ command e. absurd cc;
+  refused = λ e command form. absurd cc;
+  given = λ command form. inr refl;
 }
 
--- ---- `plan`
+-- ---- a folder
 
 -- one word that is the first is all words
 pub one_word : (words : WordList) (dir : List ℕ) → length words ≡ 1 → slice_get words 0 ≡ Some dir → words ≡ dir ∷ []

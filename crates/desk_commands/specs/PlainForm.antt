@@ -1,11 +1,14 @@
--- The plain form: how the command `plan` is written as words.
+-- The plain form: how a command is written as words.
 use Rattle.std.specs.Prelude.{ℕ, ◌≡◌, List, [], ◌∷◌, codes, nat_le}
 use Rattle.rail_base.specs.declared.limits.TheConstants.{MOST_BRANCHINGS, MOST_ROUNDS}
 use Rattle.plain_words.specs.Items.{Form, IsPlain, Item, WordList, positional_in, times, values_in}
 use Rattle.plain_words.specs.Numbers.{IsOption}
+use Rattle.desk_commands.specs.declared.command.Command.{Command}
+use Rattle.desk_commands.specs.declared.command.Command.TheVariants.{Plan, Urgent}
 use Rattle.desk_commands.specs.declared.planning.Planning.{Planning}
-use Rattle.desk_commands.specs.declared.planning.TheConstants.{MOST_EVALUATIONS, USUAL_EVALUATIONS, USUAL_NODES}
-use Rattle.desk_commands.specs.declared.planning.TheConstants.{USUAL_ROUNDS}
+use Rattle.desk_commands.specs.declared.planning.TheConstants.{MOST_EVALUATIONS, USUAL_EVALUATIONS_OF_PLAN}
+use Rattle.desk_commands.specs.declared.planning.TheConstants.{USUAL_NODES_OF_PLAN, USUAL_ROUNDS_OF_PLAN}
+use Rattle.desk_commands.specs.declared.swapping.Swapping.{Swapping}
 
 -- ---- what stands after the command word
 
@@ -16,25 +19,45 @@ plan_form = record {
   flags = codes "--progress" ∷ [];
 }
 
+-- a folder and no options
+abbrev pub folder_form : Form
+folder_form = record { places = 1; valued = []; flags = [] }
+
+abbrev pub form_for : Command → Form
+form_for (Plan planning) = plan_form
+form_for (Urgent swapping) = folder_form
+
 -- ---- what it says
 
 -- how a day is to be planned: its folder, what is granted, and whether the progress is told
 pub record IsPlanning (items : List Item) (planning : Planning) : Type 0 where
   pub dir : positional_in items ≡ planning.dir ∷ []
-  pub nodes : IsOption USUAL_NODES MOST_BRANCHINGS (values_in (codes "--nodes") items) planning.nodes
-  pub rounds : IsOption USUAL_ROUNDS MOST_ROUNDS (values_in (codes "--rounds") items) planning.rounds
-  pub evaluations : IsOption USUAL_EVALUATIONS MOST_EVALUATIONS (values_in (codes "--evaluations") items)
+  pub nodes : IsOption USUAL_NODES_OF_PLAN MOST_BRANCHINGS (values_in (codes "--nodes") items) planning.nodes
+  pub rounds : IsOption USUAL_ROUNDS_OF_PLAN MOST_ROUNDS (values_in (codes "--rounds") items) planning.rounds
+  pub evaluations : IsOption USUAL_EVALUATIONS_OF_PLAN MOST_EVALUATIONS (values_in (codes "--evaluations") items)
       planning.evaluations
   pub progress : planning.tells_progress ≡ nat_le 1 (times (codes "--progress") items)
 
+-- of which day the units are to be swapped
+abbrev pub IsSwapping : List Item → Swapping → Type 0
+IsSwapping items swapping = positional_in items ≡ swapping.dir ∷ []
+
+abbrev pub IsMeant : List Item → Command → Type 0
+IsMeant items (Plan planning) = IsPlanning items planning
+IsMeant items (Urgent swapping) = IsSwapping items swapping
+
 -- ---- the command
 
--- The words are the plain form of `plan`: any word for the program's name, the command word, and after it, in any
--- mixture, the folder and the options.
-pub record IsPlainForm (words : WordList) (planning : Planning) : Type 0 where
+abbrev pub command_word : Command → List ℕ
+command_word (Plan planning) = codes "plan"
+command_word (Urgent swapping) = codes "urgent"
+
+-- The words are the plain form of the command: any word for the program's name, the command word, and after it words of
+-- the command's form, which mean it.
+pub record IsPlainForm (words : WordList) (command : Command) : Type 0 where
   pub program : List ℕ
   pub rest : WordList
   pub items : List Item
-  pub written : words ≡ program ∷ codes "plan" ∷ rest
-  pub plain : IsPlain plan_form rest items
-  pub meant : IsPlanning items planning
+  pub written : words ≡ program ∷ command_word command ∷ rest
+  pub plain : IsPlain (form_for command) rest items
+  pub meant : IsMeant items command

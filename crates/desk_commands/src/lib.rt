@@ -1,9 +1,13 @@
-//! The command of the planner's desk, and the words of a command line that make it.
+//! The commands of the planner's desk, and the words of a command line that make them.
 #![tactic(auto)]
 
+pub mod command;
 pub mod laws;
 pub mod planning;
 pub mod reading;
+pub mod swapping;
 
+pub use command::Command;
 pub use planning::Planning;
 pub use reading::read_words;
+pub use swapping::Swapping;

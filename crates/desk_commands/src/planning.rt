@@ -19,9 +19,9 @@ pub struct Planning {
 
 /// Evaluations of the bound that an improver may be granted at the root.
 pub const MOST_EVALUATIONS: u32 = 100_000;
-/// Branchings that are granted where the words say nothing of them.
-pub const USUAL_NODES: u32 = 200;
-/// Rounds of advice at each node where the words say nothing of them.
-pub const USUAL_ROUNDS: u32 = 0;
-/// Evaluations that the improver may take at the root where the words say nothing of them.
-pub const USUAL_EVALUATIONS: u32 = 500;
+/// Branchings that `plan` is granted where the words say nothing of them.
+pub const USUAL_NODES_OF_PLAN: u32 = 200;
+/// Rounds of advice at each node of `plan` where the words say nothing of them.
+pub const USUAL_ROUNDS_OF_PLAN: u32 = 0;
+/// Evaluations that the improver of `plan` may take at the root where the words say nothing of them.
+pub const USUAL_EVALUATIONS_OF_PLAN: u32 = 500;

@@ -3,10 +3,15 @@
 ghost use Rattle.std.specs.Prelude.{ℕ, List, ◌≡◌, ◌≤◌, IfOk, codes, length, map};
 ghost use Rattle.plain_words.specs.Commands.{Reads};
 ghost use Rattle.plain_words.specs.Items.{positional_in, times};
-ghost use Rattle.desk_commands.specs.PlainForm.{IsPlainForm};
-ghost use Rattle.desk_commands.specs.Reading.{ReadsCommand, ReadsPlanning, SaysPlanning};
+ghost use Rattle.desk_commands.specs.PlainForm.{IsPlainForm, IsPlanning, IsSwapping, folder_form, plan_form};
+ghost use Rattle.desk_commands.specs.Reading.{ReadsAs, ReadsCommand, SaysAs};
 
-use crate::planning::{MOST_EVALUATIONS, Planning, USUAL_EVALUATIONS, USUAL_NODES, USUAL_ROUNDS};
+use crate::command::Command;
+use crate::planning::{
+    MOST_EVALUATIONS, Planning, USUAL_EVALUATIONS_OF_PLAN, USUAL_NODES_OF_PLAN,
+    USUAL_ROUNDS_OF_PLAN,
+};
+use crate::swapping::Swapping;
 use plain_words::{Form, GivenWords, Text, WordsRefusal, read_form, words_after};
 use rail_base::limits::{MOST_BRANCHINGS, MOST_ROUNDS};
 use rail_base::{NoMemory, Words};
@@ -18,11 +23,12 @@ use std::alloc::Global;
 /// empty and don't begin with `-`, and each of its options at most once; one that has a value as two words
 /// (`--nodes 5`) or as one (`--nodes=5`). Numbers are 1 to 10 digits.
 ///
-/// The command is `plan DIR [--nodes N] [--rounds K] [--evaluations E] [--progress]`. N is at most 4,000, and 200 where
-/// it is not given; K is at most 100, and else 0; E is at most 100,000, and else 500.
+/// - `plan DIR [--nodes N] [--rounds K] [--evaluations E] [--progress]`. N is at most 4,000, and 200 where it is not
+///   given; K is at most 100, and else 0; E is at most 100,000, and else 500.
+/// - `urgent DIR`.
 ///
 /// `NotUnderstood` comes exactly where the words are not of this form; `NoMemory` is want of memory.
-pub fn read_words(alloc: Global, words: &Words) -> Result<Planning, WordsRefusal>
+pub fn read_words(alloc: Global, words: &Words) -> Result<Command, WordsRefusal>
     ensures { Reads IsPlainForm words.now result }
 {
     if words.len() < 2 {
@@ -33,21 +39,32 @@ pub fn read_words(alloc: Global, words: &Words) -> Result<Planning, WordsRefusal
 }
 
 /// The command of a command word and the words after it.
-fn command_of(alloc: Global, word: &str, rest: &[&str]) -> Result<Planning, WordsRefusal>
+fn command_of(alloc: Global, word: &str, rest: &[&str]) -> Result<Command, WordsRefusal>
     ensures { ReadsCommand word.now (map (λ word. word.now) rest.now) result }
 {
     match word {
         "plan" => plan(alloc, rest),
+        "urgent" => urgent(alloc, rest),
         _ => Err(WordsRefusal::NotUnderstood),
     }
 }
 
 /// The command `plan` of the words after it.
-fn plan(alloc: Global, rest: &[&str]) -> Result<Planning, WordsRefusal>
+fn plan(alloc: Global, rest: &[&str]) -> Result<Command, WordsRefusal>
     ensures { ReadsCommand (codes "plan") (map (λ word. word.now) rest.now) result }
 {
     match planning(alloc, rest)? {
-        Some(planning) => Ok(planning),
+        Some(planning) => Ok(Command::Plan(planning)),
+        None => Err(WordsRefusal::NotUnderstood),
+    }
+}
+
+/// The command `urgent` of the words after it.
+fn urgent(alloc: Global, rest: &[&str]) -> Result<Command, WordsRefusal>
+    ensures { ReadsCommand (codes "urgent") (map (λ word. word.now) rest.now) result }
+{
+    match swapping(alloc, rest)? {
+        Some(swapping) => Ok(Command::Urgent(swapping)),
         None => Err(WordsRefusal::NotUnderstood),
     }
 }
@@ -55,7 +72,7 @@ fn plan(alloc: Global, rest: &[&str]) -> Result<Planning, WordsRefusal>
 /// How a day is to be planned, by the words after `plan`; nothing where they are not of its form. The error is want of
 /// memory.
 fn planning(alloc: Global, rest: &[&str]) -> Result<Option<Planning>, NoMemory>
-    ensures { IfOk result (ReadsPlanning (map (λ word. word.now) rest.now)) }
+    ensures { IfOk result (ReadsAs plan_form IsPlanning (map (λ word. word.now) rest.now)) }
 {
     let form = Form {
         places: 1,
@@ -73,19 +90,19 @@ fn planning(alloc: Global, rest: &[&str]) -> Result<Option<Planning>, NoMemory>
 fn planning_of(alloc: Global, given: &GivenWords<'_>) -> Result<Option<Planning>, NoMemory>
     requires places { length (positional_in given.now) ≡ 1 }
     requires once { (name : List ℕ) → times name given.now ≤ 1 }
-    ensures { IfOk result (SaysPlanning given.now) }
+    ensures { IfOk result (SaysAs IsPlanning given.now) }
 {
     let Some(dir) = given.positional(0) else {
         return Ok(None);
     };
-    let Some(nodes) = given.number("--nodes", USUAL_NODES, MOST_BRANCHINGS) else {
+    let Some(nodes) = given.number("--nodes", USUAL_NODES_OF_PLAN, MOST_BRANCHINGS) else {
         return Ok(None);
     };
-    let Some(rounds) = given.number("--rounds", USUAL_ROUNDS, MOST_ROUNDS) else {
+    let Some(rounds) = given.number("--rounds", USUAL_ROUNDS_OF_PLAN, MOST_ROUNDS) else {
         return Ok(None);
     };
-    let Some(evaluations) = given.number("--evaluations", USUAL_EVALUATIONS, MOST_EVALUATIONS)
-    else {
+    let usual = USUAL_EVALUATIONS_OF_PLAN;
+    let Some(evaluations) = given.number("--evaluations", usual, MOST_EVALUATIONS) else {
         return Ok(None);
     };
     Ok(Some(Planning {
@@ -95,4 +112,32 @@ fn planning_of(alloc: Global, given: &GivenWords<'_>) -> Result<Option<Planning>
         evaluations,
         tells_progress: given.has("--progress"),
     }))
+}
+
+/// Of which day the units are to be swapped, by the words after `urgent`; nothing where they are not of its form. The
+/// error is want of memory.
+fn swapping(alloc: Global, rest: &[&str]) -> Result<Option<Swapping>, NoMemory>
+    ensures { IfOk result (ReadsAs folder_form IsSwapping (map (λ word. word.now) rest.now)) }
+{
+    let form = Form {
+        places: 1,
+        valued: &[],
+        flags: &[],
+    };
+    let Some(given) = read_form(alloc, &form, rest)? else {
+        return Ok(None);
+    };
+    swapping_of(alloc, &given)
+}
+
+/// Of which day the units are to be swapped, by words that were taken apart. The error is want of memory.
+fn swapping_of(alloc: Global, given: &GivenWords<'_>) -> Result<Option<Swapping>, NoMemory>
+    requires places { length (positional_in given.now) ≡ 1 }
+    ensures { IfOk result (SaysAs IsSwapping given.now) }
+{
+    let Some(dir) = given.positional(0) else {
+        return Ok(None);
+    };
+    let dir = Text::copy(alloc, dir)?;
+    Ok(Some(Swapping { dir }))
 }

@@ -42,7 +42,22 @@ pub(crate) fn folder_of(
     texts: &Texts<'_>,
     failing: &[u64],
 ) -> Result<MemoryFolder, NoMemory> {
-    let files = files_of(rt, alloc, texts)?;
+    folder_with(rt, alloc, texts, &[], failing)
+}
+
+/// The same with more files, by their paths.
+pub(crate) fn folder_with(
+    rt: &impl Abort,
+    alloc: Global,
+    texts: &Texts<'_>,
+    more: &[(&str, &[u8])],
+    failing: &[u64],
+) -> Result<MemoryFolder, NoMemory> {
+    let mut files = files_of(rt, alloc, texts)?;
+    for (path, bytes) in more {
+        assert!(rt; is_name(path.as_bytes()));
+        files.push(MemoryFile::new(alloc, *path, *bytes)?)?;
+    }
     MemoryFolder::new(alloc, files, failing.to_vec(alloc)?)
 }
 

@@ -10,4 +10,6 @@ mod plan_tests;
 #[cfg(test)]
 mod progress_tests;
 #[cfg(test)]
+mod urgent_tests;
+#[cfg(test)]
 mod words_tests;

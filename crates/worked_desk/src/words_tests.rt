@@ -61,6 +61,10 @@ const OTHER_WORDS: &[&[&str]] = &[
     &["plan", "day", "--progress=yes"],
     &["plan", "day", "--change", "5"],
     &["plan", "day", "--help"],
+    &["urgent"],
+    &["urgent", "day", "day"],
+    &["urgent", "day", "--nodes", "5"],
+    &["urgent", "day", "--progress"],
 ];
 
 #[test]

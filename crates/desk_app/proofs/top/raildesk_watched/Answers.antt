@@ -1,10 +1,14 @@
 use Rattle.std.proofs.Common.{rules}
-use Rattle.desk_app.proofs.Endings.{ends_in_usage, ends_planning, is_status, leaves_folder, leaves_sink}
+use Rattle.desk_app.proofs.Endings.{ends_in_usage, ends_planning, ends_swapping, is_status, leaves_folder, leaves_sink}
 use Rattle.desk_app.proofs.top.raildesk_watched.Goals as goal
 
 pub returns-clause-plan : goal.returns-clause-plan
 returns-clause-plan g c files planning =
     ends_planning _ _ _ _ _ _ _ _ _ _ _ _ _ c.outcome_of-outcome.ensures.outcome c.write_outcome.ensures.wrote files planning
+
+pub returns-clause-urgent : goal.returns-clause-urgent
+returns-clause-urgent g c files swapping =
+    ends_swapping _ _ _ _ _ _ _ _ _ _ _ _ _ c.outcome_of-outcome.ensures.outcome c.write_outcome.ensures.wrote files swapping
 
 pub returns-clause-usage : goal.returns-clause-usage
 returns-clause-usage g c =

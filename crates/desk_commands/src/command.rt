@@ -1,0 +1,13 @@
+//! The commands of the planner's desk.
+
+use crate::planning::Planning;
+use crate::swapping::Swapping;
+
+/// What the planner's desk is asked to do.
+#[derive(Drop)]
+pub enum Command {
+    /// Plan the day of a folder.
+    Plan(Planning),
+    /// Swap units of the plan of a folder, so that as many urgent ones as can be end the day at a depot.
+    Urgent(Swapping),
+}
