@@ -1,0 +1,2 @@
+-- the document of the answer to a disturbed day
+pub mod ReplanLines
