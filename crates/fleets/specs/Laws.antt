@@ -1,0 +1,39 @@
+-- What is so of fleets and of the days with them.
+use Rattle.std.specs.Prelude.{ℕ, ◌≡◌, ◌<◌, ◌+◌, ◌*◌, List, length, map, slice_index, Ok}
+use Rattle.timetable.specs.declared.building.tables.Tables.{Tables}
+use Rattle.timetable.specs.Build.{day_of}
+use Rattle.timetable.specs.Cost.{plan_cost}
+use Rattle.timetable.specs.Day.{Day, types_of, wanted_of}
+use Rattle.timetable.specs.Running.{Runs}
+use Rattle.timetable.specs.Starts.{start_of}
+use Rattle.fleets.specs.Fleets.{IsFleet, IsNowhereAbove, tables_with, with_fleet}
+
+-- where tables make a day, they make the day with a fleet of it once the stock rows are those of the fleet
+abbrev pub TablesMakeDaysOfFleets : Type 0
+TablesMakeDaysOfFleets = (tables : Tables) (day : Day) (fleet : List ℕ) → day_of tables ≡ Ok day → IsFleet day fleet
+    → day_of (tables_with day fleet tables) ≡ Ok (with_fleet fleet day)
+
+-- at a station the day with a fleet begins and is to end with as many units of a type as the fleet has there
+pub record StandAt (day : Day) (fleet : List ℕ) (s m : ℕ) : Type 0 where
+  pub at_start : start_of (with_fleet fleet day) s m ≡ slice_index fleet (s * length day.types + m)
+  pub at_end : wanted_of (with_fleet fleet day) s m ≡ slice_index fleet (s * length day.types + m)
+
+abbrev pub FleetsStand : Type 0
+FleetsStand = (day : Day) (fleet : List ℕ) (s m : ℕ) → IsFleet day fleet → s < length day.stations
+    → m < length day.types → StandAt day fleet s m
+
+-- a fleet that has nowhere more units than a fleet of a day is one too
+abbrev pub SmallerFleetsFit : Type 0
+SmallerFleetsFit = (day : Day) (small large : List ℕ) → IsFleet day large → IsNowhereAbove small large → IsFleet day small
+
+-- a plan of the day with a fleet runs, and has the types and the cost of another plan
+pub record RunsAlikeWith (day : Day) (small large : List ℕ) (plan : List (List ℕ)) : Type 0 where
+  pub other : List (List ℕ)
+  pub does_run : Runs (with_fleet large day) other
+  pub types : map (types_of (with_fleet large day)) other ≡ map (types_of (with_fleet small day)) plan
+  pub cost : plan_cost (with_fleet large day) other ≡ plan_cost (with_fleet small day) plan
+
+-- A plan that runs on the day with one fleet gives such a plan on the day with any fleet that has nowhere fewer units.
+abbrev pub PlansRunWithMoreUnits : Type 0
+PlansRunWithMoreUnits = (day : Day) (small large : List ℕ) (plan : List (List ℕ)) → IsNowhereAbove small large
+    → Runs (with_fleet small day) plan → RunsAlikeWith day small large plan
