@@ -5,3 +5,4 @@ pub mod Standing
 pub mod MoreUnits
 pub mod OwnFleets
 pub mod Rows
+pub mod SoundFleets

@@ -1,6 +1,7 @@
 -- What is so of fleets and of the days with them.
 use Rattle.std.specs.Prelude.{ℕ, ◌≡◌, ◌<◌, ◌+◌, ◌*◌, List, length, map, slice_index, Ok}
 use Rattle.timetable.specs.declared.building.tables.Tables.{Tables}
+use Rattle.timetable.specs.Accepted.{IsSoundDay}
 use Rattle.timetable.specs.Build.{day_of}
 use Rattle.timetable.specs.Cost.{plan_cost}
 use Rattle.timetable.specs.Day.{Day, types_of, wanted_of}
@@ -25,6 +26,10 @@ FleetsStand = (day : Day) (fleet : List ℕ) (s m : ℕ) → IsFleet day fleet �
 -- a fleet that has nowhere more units than a fleet of a day is one too
 abbrev pub SmallerFleetsFit : Type 0
 SmallerFleetsFit = (day : Day) (small large : List ℕ) → IsFleet day large → IsNowhereAbove small large → IsFleet day small
+
+-- The day with a fleet of an accepted day is as the laws on days ask for it.
+abbrev pub DaysOfFleetsAreSound : Type 0
+DaysOfFleetsAreSound = (day : Day) (fleet : List ℕ) → IsSoundDay day → IsFleet day fleet → IsSoundDay (with_fleet fleet day)
 
 -- a plan of the day with a fleet runs, and has the types and the cost of another plan
 pub record RunsAlikeWith (day : Day) (small large : List ℕ) (plan : List (List ℕ)) : Type 0 where

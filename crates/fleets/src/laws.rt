@@ -2,7 +2,8 @@
 //!
 //! Each law is the contract of a function that does nothing.
 
-ghost use Rattle.fleets.specs.Laws.{FleetsStand, PlansRunWithMoreUnits, SmallerFleetsFit, TablesMakeDaysOfFleets};
+ghost use Rattle.fleets.specs.Laws.{DaysOfFleetsAreSound, FleetsStand, PlansRunWithMoreUnits, SmallerFleetsFit};
+ghost use Rattle.fleets.specs.Laws.{TablesMakeDaysOfFleets};
 
 /// Where tables make a day, they make the day with a fleet of it once the stock rows are those of the fleet.
 pub fn tables_make_days_of_fleets()
@@ -18,6 +19,11 @@ pub fn fleets_stand()
 /// A fleet that has nowhere more units than a fleet of a day is a fleet of the day.
 pub fn smaller_fleets_fit()
     ensures law { SmallerFleetsFit }
+{}
+
+/// The day with a fleet of an accepted day is sound, as the accepted day is: of it holds what the laws on days ask for.
+pub fn days_of_fleets_are_sound()
+    ensures law { DaysOfFleetsAreSound }
 {}
 
 /// A plan that runs on the day with one fleet gives a plan that runs on the day with any fleet that has nowhere fewer
