@@ -1,5 +1,5 @@
 -- A plan that runs with the units of a fleet runs with more.
-use Rattle.std.proofs.Common.{◌≡◌, ◌∙◌, ℕ, ◌+◌, ◌/◌, ◌%◌, ◌≤◌, List, [], ◌∷◌, length, sym, arith}
+use Rattle.std.proofs.Common.{refl, ◌≡◌, ◌∙◌, ℕ, ◌+◌, ◌/◌, ◌%◌, ◌≤◌, List, [], ◌∷◌, length, sym, arith}
 use Rattle.std.proofs.Common.{Bool, true, false}
 use Rattle.std.specs.Prelude.{◌==◌, ◌&&◌, if◌then◌else◌}
 use Rattle.timetable.specs.Day.{Day, Units, stock_units, wanted_of}
@@ -66,6 +66,8 @@ module _ (day : Day) where
         same ∙ sym (wanted_is (length day.types) 0 s m large) in
         record {
           other = other;
+          number = kth_number few more;
+          is = refl;
           does_run = (runs_in_parts more (with_fleet large day) other).1 (alike.runs parts.0, ends);
           types = alike.types;
           cost = alike.cost;

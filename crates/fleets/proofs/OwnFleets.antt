@@ -1,5 +1,5 @@
 -- The units of a day's own stock are a fleet of it.
-use Rattle.std.proofs.Common.{◌≡◌, ◌∙◌, ℕ, zero, suc, ◌+◌, ◌*◌, ◌/◌, ◌%◌, ◌≤◌, List, [], ◌∷◌, ◌++◌, length, refl, sym, arith}
+use Rattle.std.proofs.Common.{◌<◌, ◌≡◌, ◌∙◌, ℕ, zero, suc, ◌+◌, ◌*◌, ◌/◌, ◌%◌, ◌≤◌, List, [], ◌∷◌, ◌++◌, length, refl, sym, arith}
 use Rattle.std.proofs.Common.{Bool, true, false, inl, inr}
 use Rattle.std.specs.Prelude.{◌==◌, ◌&&◌, if◌then◌else◌}
 use Rattle.std.proofs.lemmas.Bool.{cases_Bool, and_parts, eqb-true, cond-true, cond-false}
@@ -9,10 +9,14 @@ use Rattle.timetable.specs.Build.{starts_of}
 use Rattle.timetable.specs.Day.{Day, unit_count}
 use Rattle.timetable.specs.Lists.{listed, sum_below}
 use Rattle.timetable.specs.Starts.{start_in, start_of}
-use Rattle.timetable.proofs.Listing.{length-listed}
+use Rattle.timetable.proofs.Listing.{length-listed, get_listed}
 use Rattle.timetable.proofs.NumberedUnits.{units_are_numbered}
 use Rattle.fleets.specs.Fleets.{fleet_size, IsFleet, own_fleet, start_at}
+use Rattle.fleets.specs.Laws.{OwnFleetsStand}
 use Rattle.fleets.proofs.Places.{one_place}
+use Rattle.std.proofs.Math.Nat.{mul-le-mul_right, suc-mul}
+use Rattle.std.proofs.lemmas.Nat.{div-mul-add, mod-mul-add}
+use Rattle.std.proofs.lemmas.Option.{get_or_from_slice_get}
 
 size-append : (some others : List ℕ) → fleet_size (some ++ others) ≡ fleet_size some + fleet_size others
 size-append [] others = omega arith
@@ -87,3 +91,12 @@ own_fleet_fits day few =
     let rows : sum_below (start_at day) places ≤ starts_of day.stock = all_rows (length day.types) day.stock places in
     let count = (units_are_numbered day).all in
     record { each = length-listed (start_at day) places; few = omega (arith, size, rows, count, few) }
+
+pub own_fleets_stand : OwnFleetsStand
+own_fleets_stand day s m station unit_type =
+    let types : ℕ = length day.types in
+    let place : ℕ = s * types + m in
+    let most : suc s * types ≤ length day.stations * types = mul-le-mul_right {m = suc s} {n = length day.stations} types (omega arith) in
+    let within : place < length day.stations * types = omega (arith, most, suc-mul s types) in
+    get_or_from_slice_get (own_fleet day) place (start_at day place) 0 (get_listed (start_at day) (length day.stations * types) place within)
+    ∙ (λ i. start_of day (div-mul-add s types m unit_type i) (mod-mul-add s types m unit_type i))

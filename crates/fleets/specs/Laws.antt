@@ -5,14 +5,20 @@ use Rattle.timetable.specs.Accepted.{IsSoundDay}
 use Rattle.timetable.specs.Build.{day_of}
 use Rattle.timetable.specs.Cost.{plan_cost}
 use Rattle.timetable.specs.Day.{Day, types_of, wanted_of}
+use Rattle.timetable.specs.Renumbering.{renumbered}
 use Rattle.timetable.specs.Running.{Runs}
 use Rattle.timetable.specs.Starts.{start_of}
-use Rattle.fleets.specs.Fleets.{IsFleet, IsNowhereAbove, tables_with, with_fleet}
+use Rattle.fleets.specs.Fleets.{IsFleet, IsNowhereAbove, own_fleet, tables_with, with_fleet}
 
 -- where tables make a day, they make the day with a fleet of it once the stock rows are those of the fleet
 abbrev pub TablesMakeDaysOfFleets : Type 0
 TablesMakeDaysOfFleets = (tables : Tables) (day : Day) (fleet : List ℕ) → day_of tables ≡ Ok day → IsFleet day fleet
     → day_of (tables_with day fleet tables) ≡ Ok (with_fleet fleet day)
+
+-- a day's own fleet has at a station as many units of a type as start the day there
+abbrev pub OwnFleetsStand : Type 0
+OwnFleetsStand = (day : Day) (s m : ℕ) → s < length day.stations → m < length day.types
+    → slice_index (own_fleet day) (s * length day.types + m) ≡ start_of day s m
 
 -- at a station the day with a fleet begins and is to end with as many units of a type as the fleet has there
 pub record StandAt (day : Day) (fleet : List ℕ) (s m : ℕ) : Type 0 where
@@ -25,15 +31,20 @@ FleetsStand = (day : Day) (fleet : List ℕ) (s m : ℕ) → IsFleet day fleet �
 
 -- a fleet that has nowhere more units than a fleet of a day is one too
 abbrev pub SmallerFleetsFit : Type 0
-SmallerFleetsFit = (day : Day) (small large : List ℕ) → IsFleet day large → IsNowhereAbove small large → IsFleet day small
+SmallerFleetsFit = (day : Day) (small large : List ℕ) → IsFleet day large → IsNowhereAbove small large
+    → IsFleet day small
 
 -- The day with a fleet of an accepted day is as the laws on days ask for it.
 abbrev pub DaysOfFleetsAreSound : Type 0
-DaysOfFleetsAreSound = (day : Day) (fleet : List ℕ) → IsSoundDay day → IsFleet day fleet → IsSoundDay (with_fleet fleet day)
+DaysOfFleetsAreSound = (day : Day) (fleet : List ℕ) → IsSoundDay day → IsFleet day fleet
+    → IsSoundDay (with_fleet fleet day)
 
--- a plan of the day with a fleet runs, and has the types and the cost of another plan
+-- a plan of the day with a fleet runs, and is another plan with other numbers of its units: so it has the types and the
+-- cost of that plan
 pub record RunsAlikeWith (day : Day) (small large : List ℕ) (plan : List (List ℕ)) : Type 0 where
   pub other : List (List ℕ)
+  pub number : ℕ → ℕ
+  pub is : other ≡ renumbered number plan
   pub does_run : Runs (with_fleet large day) other
   pub types : map (types_of (with_fleet large day)) other ≡ map (types_of (with_fleet small day)) plan
   pub cost : plan_cost (with_fleet large day) other ≡ plan_cost (with_fleet small day) plan

@@ -2,12 +2,18 @@
 //!
 //! Each law is the contract of a function that does nothing.
 
-ghost use Rattle.fleets.specs.Laws.{DaysOfFleetsAreSound, FleetsStand, PlansRunWithMoreUnits, SmallerFleetsFit};
-ghost use Rattle.fleets.specs.Laws.{TablesMakeDaysOfFleets};
+ghost use Rattle.fleets.specs.Laws.{DaysOfFleetsAreSound, FleetsStand, OwnFleetsStand, PlansRunWithMoreUnits};
+ghost use Rattle.fleets.specs.Laws.{SmallerFleetsFit, TablesMakeDaysOfFleets};
 
 /// Where tables make a day, they make the day with a fleet of it once the stock rows are those of the fleet.
 pub fn tables_make_days_of_fleets()
     ensures law { TablesMakeDaysOfFleets }
+{}
+
+/// The units of a day's stock at its start, as a fleet, are at each station and of each type as many as start the day
+/// there.
+pub fn own_fleets_stand()
+    ensures law { OwnFleetsStand }
 {}
 
 /// On the day with a fleet of it as many units of each type stand at each station at the start as the fleet has there,
