@@ -1,0 +1,8 @@
+pub mod Beginning
+pub mod Weeks
+pub mod Alike
+pub mod NamedDays
+pub mod PlacedUnits
+pub mod Reading
+pub mod LateTrips
+pub mod Faults
