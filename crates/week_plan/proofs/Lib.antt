@@ -1,0 +1,4 @@
+pub mod AskedDays
+pub mod Answered
+pub mod WeekHeads
+pub mod Refusals
