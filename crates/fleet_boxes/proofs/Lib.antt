@@ -1,0 +1,4 @@
+pub mod Parts
+pub mod Costs
+pub mod CostSums
+pub mod Walking

@@ -1,0 +1,4 @@
+pub mod Prices
+pub mod Boxes
+pub mod ProvedBoxes
+pub mod Laws
