@@ -1,5 +1,5 @@
 #!/usr/bin/env python3
-"""Measures the bounds of days against the same recursion in C, and prints the figures as tables of ratios.
+"""Measures the bounds of days against plain C, and prints the figures as tables of ratios.
 
     bound.py program > src/main.rt     the program that is measured
     bound.py BIN C                     the figures; BIN is that program as `rt run` builds it, C is bound.c, compiled
