@@ -2,6 +2,8 @@
 #![tactic(auto)]
 
 #[cfg(test)]
+mod drawn_tests;
+#[cfg(test)]
 mod swap_tests;
 #[cfg(test)]
 mod wish_tests;
