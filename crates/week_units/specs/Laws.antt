@@ -1,12 +1,13 @@
--- What ties week plans to the plans of single days.
-use Rattle.std.specs.Prelude.{ℕ, ◌+◌, ◌≡◌, List, [], ◌∷◌}
+-- What ties week plans to the plans of single days, and when a trip is late.
+use Rattle.std.specs.Prelude.{ℕ, ◌+◌, ◌<◌, ◌≤◌, ◌≡◌, ◌↔◌, List, [], ◌∷◌, length}
 use Rattle.std.specs.List.{AllZip}
 use Rattle.timetable.specs.Cost.{plan_cost, plan_cost_of}
-use Rattle.timetable.specs.Day.{Day, Units}
+use Rattle.timetable.specs.Day.{Day, Units, leaves, ready_at}
 use Rattle.timetable.specs.Running.{Runs}
 use Rattle.week_units.specs.Names.{AreNamesDayByDay, each_by_name}
 use Rattle.week_units.specs.WeekPlans.{WeekRuns, week_cost, week_units}
-use Rattle.week_units.specs.Weeks.{AreWeek}
+use Rattle.week_units.specs.declared.refusal.WeekRefusal.{WeekRefusal}
+use Rattle.week_units.specs.Weeks.{AreWeek, IsFirstFault, IsLate}
 
 -- ---- from the days to the week
 
@@ -37,3 +38,18 @@ pub record HasDayPlan (units : Units) (day : Day) (plan : List (List ℕ)) : Typ
 abbrev pub WeeksMakeDayPlans : Type 0
 WeeksMakeDayPlans = (days : List Day) (plans : List (List (List ℕ))) → AreWeek days → WeekRuns days plans
     → AllZip (HasDayPlan (week_units days)) days plans
+
+-- ---- which days make a week
+
+-- A trip of the day before is in time exactly where what it gives is ready at the departure of each trip of the day,
+-- 1,440 minutes being from the start of a day to that of the next; and, where the day has no trip, as it begins.
+pub record IsInTime (before day : Day) (t : ℕ) : Type 0 where
+  pub for_each : (b : ℕ) → b < length day.trips → ready_at before t ≤ 1440 + leaves day b
+  pub at_start : length day.trips ≡ 0 → ready_at before t ≤ 1440
+
+abbrev pub LateTripsAreReadyTooLate : Type 0
+LateTripsAreReadyTooLate = (before day : Day) (t : ℕ) → (¬ IsLate before day t) ↔ IsInTime before day t
+
+-- days that make a week have no first reason why they make none
+abbrev pub WeeksHaveNoFault : Type 0
+WeeksHaveNoFault = (days : List Day) (why : WeekRefusal) → AreWeek days → ¬ IsFirstFault days why

@@ -1,8 +1,9 @@
-//! What ties week plans to the plans of single days.
+//! What ties week plans to the plans of single days, and when a trip is late.
 //!
 //! A law is the contract of a function that does nothing.
 
-ghost use Rattle.week_units.specs.Laws.{NamedPlansMakeWeeks, WeeksMakeDayPlans};
+ghost use Rattle.week_units.specs.Laws.{LateTripsAreReadyTooLate, NamedPlansMakeWeeks, WeeksHaveNoFault};
+ghost use Rattle.week_units.specs.Laws.{WeeksMakeDayPlans};
 
 /// Plans that run on the days of a week, of the days' own units, are a week plan that runs once these are named, and it
 /// costs what they cost together.
@@ -15,4 +16,16 @@ pub fn named_plans_make_weeks()
 /// days' plans must together.
 pub fn weeks_make_day_plans()
     ensures law { WeeksMakeDayPlans }
+{}
+
+/// A trip of the day before is late exactly where what it gives is not ready at the departure of some trip of the day;
+/// or, where the day has no trip, not as it begins. The minutes of the day are counted from 1,440 on by the clock of the
+/// day before.
+pub fn late_trips_are_ready_too_late()
+    ensures law { LateTripsAreReadyTooLate }
+{}
+
+/// Days that make a week have no first reason why they make none.
+pub fn weeks_have_no_fault()
+    ensures law { WeeksHaveNoFault }
 {}
