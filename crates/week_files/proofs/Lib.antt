@@ -1,0 +1,2 @@
+-- the days that were read so far
+pub mod ReadDays

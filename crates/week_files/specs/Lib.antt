@@ -1,0 +1,2 @@
+-- the days of a week in a folder
+pub mod WeekFiles
