@@ -1,6 +1,6 @@
 -- Days are never refused for want of memory.
 use Rattle.std.proofs.Common.{ℕ, suc, List, [], ◌∷◌, inl, inr}
-use Rattle.std.specs.Prelude.{MatchOption}
+use Rattle.std.specs.Prelude.{MatchOption, None, Option, Some, ⊤}
 use Rattle.timetable.specs.Day.{Day}
 use Rattle.week_units.specs.declared.refusal.WeekRefusal.{WeekRefusal}
 use Rattle.week_units.specs.declared.refusal.WeekRefusal.TheVariants.{TypesDiffer, StationsDiffer, NightDiffers, LateTrip, NoMemory}
@@ -24,3 +24,8 @@ fault_is_said days (StationsDiffer day) fault = fault
 fault_is_said days (NightDiffers day station unit_type end start) fault = fault
 fault_is_said days (LateTrip day trip) fault = fault
 fault_is_said days NoMemory fault = absurd (never_memory days fault)
+
+-- what is so anyway is so where a fault is said
+pub so_anyway : {P : Type 0} → (said : Option WeekRefusal) → P → MatchOption said ⊤ (λ _. P)
+so_anyway None so = tt
+so_anyway (Some why) so = so

@@ -1,7 +1,7 @@
 //! From the days of a week to its answer.
 
 ghost use Rattle.std.specs.Prelude.{All, ◌≡◌, ◌≤◌, ◌+◌, ◌*◌, ◌^◌, IfErr, IfOk, IsTrue, MatchOption};
-ghost use Rattle.std.specs.Prelude.{false, length};
+ghost use Rattle.std.specs.Prelude.{false, length, ⊤};
 ghost use Rattle.std.specs.List.{AllZip};
 ghost use Rattle.rail_base.specs.declared.limits.TheConstants.{MOST_BRANCHINGS, MOST_ROUNDS, MOST_TRIPS};
 ghost use Rattle.timetable.specs.Running.{Runs};
@@ -30,8 +30,8 @@ use week_units::{WeekNames, WeekRefusal, names, week_fault};
 /// `rounds` in how many rounds the advisors may be asked at a node, at most 100, and `evaluations` how many evaluations
 /// of the bound the improver may take at a root, none where it is not to be asked.
 ///
-/// Days that make no week are refused for the first reason why they make none, before any is planned. Each advisor was
-/// asked at most 2^62 times before. Afterwards one of the same identity stands at each place, whatever the answer is.
+/// Days that make no week are refused for the first reason why they make none, before any is planned or an advisor is
+/// asked. Each advisor was asked at most 2^62 times before. Afterwards one of the same identity stands at each place, whatever the answer is.
 /// Any other error than that of such days is want of memory.
 pub fn week(
     alloc: Global,
@@ -51,12 +51,15 @@ pub fn week(
     ensures answer { IfOk result (IsWeekAnswer days.now grant) }
     ensures refusal { IfErr result (λ why. MatchOption (fault_said why) (AreWeek days.now) (IsFirstFault days.now)) }
 
-    // The advisors: that one of the same identity stands at each place, and how often it was asked.
+    // The advisors: that one of the same identity stands at each place, and how often it was asked; none was, where days
+    // are refused.
     ensures advisors { AreTheSame advisors.old.items advisors.new.items identity }
     ensures asked { AreAsked advisors.old.items advisors.new.items asked has_quit 0
         (MOST_DAYS * (rounds * (2 * grant + 1))) }
     ensures counted { IfOk result (λ week. AreAsked advisors.old.items advisors.new.items asked has_quit
         (least_asked rounds week.days) (most_asked rounds week.days)) }
+    ensures unasked { IfErr result (λ why. MatchOption (fault_said why) ⊤
+        (λ _. advisors.new.items ≡ advisors.old.items)) }
 {
     if let Some(fault) = week_fault(days) {
         return Err(fault);

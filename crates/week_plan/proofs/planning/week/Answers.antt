@@ -1,4 +1,4 @@
-use Rattle.std.proofs.Common.{◌≡◌, ◌∙◌, ◌+◌, ◌*◌, ◌≤◌, List, All, ap, arith, false, length, rules, subst, sym, IsTrue}
+use Rattle.std.proofs.Common.{◌≡◌, ◌∙◌, ◌+◌, ◌*◌, ◌≤◌, List, All, ap, arith, false, length, refl, rules, subst, sym, IsTrue}
 use Rattle.std.specs.Prelude.{MatchOption}
 use Rattle.std.specs.List.{AllZip}
 use Rattle.rail_base.specs.declared.limits.TheConstants.{MOST_TRIPS}
@@ -14,13 +14,17 @@ use Rattle.week_units.specs.WeekPlans.{week_units}
 use Rattle.week_plan.specs.Amounts.{IsHeadUpTo}
 use Rattle.week_plan.specs.DayAnswers.{AreDayAnswers, least_asked, most_asked, plans_in}
 use Rattle.week_plan.specs.Heads.{head_of}
+use Rattle.week_plan.specs.WeekAnswers.{fault_said}
 use Rattle.week_plan.proofs.Answered.{few_runs, heads_within, no_more_answers}
-use Rattle.week_plan.proofs.Refusals.{fault_is_said}
+use Rattle.week_plan.proofs.Refusals.{fault_is_said, so_anyway}
 use Rattle.week_plan.proofs.WeekHeads.{is_week_answer, plans_run}
 use Rattle.week_plan.proofs.planning.week.Goals as goal
 
 pub returns-in-Some-clause-refusal : goal.returns-in-Some-clause-refusal
 returns-in-Some-clause-refusal g c = fault_is_said c.args.days.now c.in-Some.fault c.in-Some.ensures
+
+pub returns-in-Some-clause-unasked : goal.returns-in-Some-clause-unasked
+returns-in-Some-clause-unasked g c = so_anyway (fault_said c.in-Some.fault) refl
 
 pub returns-in-Some-clause-asked : goal.returns-in-Some-clause-asked
 returns-in-Some-clause-asked g c = are_unasked _ _ (7 * (c.args.rounds * (2 * c.args.grant + 1))) c.args.advisors.now.items
