@@ -1,0 +1,2 @@
+-- lines of things that are counted, one more at a time
+mod Counted

@@ -1,0 +1,2 @@
+-- the document, line by line
+pub mod WeekLines
