@@ -124,7 +124,7 @@ pub record AreWeighed (stage : Stage) (most : ℕ) (old : List (Option Cell)) (c
   pub rest : (k : ℕ) → comp ≤ k → get_or row k None ≡ get_or old k None
   pub small : IsSmallStep most old row
 
-with_worth_small : (bound most : ℕ) (worth : Option ℤ) (cell : Option Cell) → IfSome worth (IsSmall most)
+pub with_worth_small : (bound most : ℕ) (worth : Option ℤ) (cell : Option Cell) → IfSome worth (IsSmall most)
     → IfSome cell (λ it. IsSmall bound it.value) → IfSome (with_worth worth cell) (λ it. IsSmall (bound + most) it.value)
 with_worth_small bound most None cell few small = tt
 with_worth_small bound most (Some worth) None few small = tt
@@ -201,7 +201,7 @@ pub nothing_ahead : (to : ℕ) (price : Option ℤ) (ahead : Option Cell) → ah
 nothing_ahead to None ahead none = refl
 nothing_ahead to (Some price) ahead none = sym (ap (offer_by to (Some price)) none)
 
-fold_more : {A B : Type 0} (f : B → A → B) (z : B) (xs : List A) (i : ℕ) (d : A) → i < length xs
+pub fold_more : {A B : Type 0} (f : B → A → B) (z : B) (xs : List A) (i : ℕ) (d : A) → i < length xs
     → fold f z (take (suc i) xs) ≡ f (fold f z (take i xs)) (get_or xs i d)
 fold_more f z [] i d below = absurd (omega (arith, below))
 fold_more f z (x ∷ xs) zero d below = refl

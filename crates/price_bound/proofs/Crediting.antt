@@ -88,7 +88,7 @@ below_more day amounts table new trip done here others t lt = elim (cases_eq t t
 
 -- ---- the credits and the debits
 
-known : (day : Day) (c : ℕ) → c < length (compositions_of day) → All (λ m. m < length day.types) (composition_at day c)
+pub known : (day : Day) (c : ℕ) → c < length (compositions_of day) → All (λ m. m < length day.types) (composition_at day c)
 known day c below =
     let (ms, at) = entry_below (compositions_of day) c below in
     subst (All (λ (m : ℕ). m < length day.types)) (sym (ap (λ (o : Option (List ℕ)). unwrap_or o []) at))

@@ -41,7 +41,7 @@ use Rattle.branch_tree.specs.declared.relaxation.Weight.TheVariants.{Cost, NoCos
 use Rattle.branch_tree.specs.IntSums.{int_sum}
 use Rattle.branch_tree.specs.Meanings.{weighted}
 use Rattle.price_bound.specs.EdgeValues.{coupled, coupling_value, edge_value, part_multiplier, part_value, shunt_cost}
-use Rattle.price_bound.specs.EdgeValues.{stayed, stays_by, turn_value}
+use Rattle.price_bound.specs.EdgeValues.{stayed, stays_by, turn_value, uncoupling_value}
 use Rattle.price_bound.specs.FollowingPicks.{part_by}
 use Rattle.price_bound.specs.Regrouped.{of_handover, part_price, value_at_link}
 use Rattle.price_bound.specs.YardPrices.{by_place, giving, taking, yard_price}
@@ -324,13 +324,27 @@ module _ (day : Day) (entries : List Entry) (weight : Weight) (lists : List (Lis
       → list_of lists (leads_to link.kind) ≡ composition_at day edge.to → value_at_link day entries weight lists l link ≡ edge_value day entries weight l link.kind edge
   edge_is edge is from to = kind_is link.kind link.reverse edge refl is from to
 
--- ---- turns that couple units and uncouple none
+-- ---- turns that keep the units, uncouple alone or couple alone
 
 none_given : (bg bt : Bool) (given taken units : ℕ)
     → (if bg then (if bt then Keep else Couple taken) else (if bt then Uncouple given else Exchange given taken)) ≡ Couple units → bg ≡ true
 none_given true bt given taken units e = refl
 none_given false true given taken units e = absurd cc
 none_given false false given taken units e = absurd cc
+
+none_taken : (bg bt : Bool) (given taken units : ℕ)
+    → (if bg then (if bt then Keep else Couple taken) else (if bt then Uncouple given else Exchange given taken)) ≡ Uncouple units → bt ≡ true
+none_taken true true given taken units e = absurd cc
+none_taken true false given taken units e = absurd cc
+none_taken false true given taken units e = refl
+none_taken false false given taken units e = absurd cc
+
+none_shunted : (bg bt : Bool) (given taken : ℕ)
+    → (if bg then (if bt then Keep else Couple taken) else (if bt then Uncouple given else Exchange given taken)) ≡ Keep → (bg ≡ true) × (bt ≡ true)
+none_shunted true true given taken e = (refl, refl)
+none_shunted true false given taken e = absurd cc
+none_shunted false true given taken e = absurd cc
+none_shunted false false given taken e = absurd cc
 
 sum_of_none : (f : ℕ → ℤ) (xs : List ℕ) → length xs ≡ 0 → int_sum f xs ≡ pos 0
 sum_of_none f [] none = refl
@@ -360,3 +374,54 @@ coupling_is day entries weight r a b u c x edge units is couples =
     all : (w w' t ts tf tk tg gs gf gk gg : ℤ) → w ≡ w' → tf ≡ tk +ℤ tg → gf ≡ gk +ℤ gg → ts ≡ tk → gs ≡ gk → tg ≡ pos 0 → gg ≡ pos 0
         → w +ℤ (t -ℤ ts) -ℤ (gf -ℤ gs) ≡ w' +ℤ (t -ℤ tf)
     all w w' t ts tf tk tg gs gf gk gg e f g h i j k = omega (arith, ints, e, f, g, h, i, j, k)
+
+-- a turn that uncouples alone gives what arrived and does not depart
+pub uncoupling_is : (day : Day) (entries : List Entry) (weight : Weight) (r : Bool) (a b : ℕ) (u c : End) (x : Bool) (edge : Edge)
+    (units : ℕ) → IsTurnEdge day r a b u c x edge → edge.shunt ≡ Uncouple units
+    → turn_value day entries weight a b c edge ≡ uncoupling_value day entries weight a edge
+unfolding turn_shunt
+uncoupling_is day entries weight r a b u c x edge units is uncouples =
+    let from : List ℕ = composition_at day edge.from in
+    let to : List ℕ = composition_at day edge.to in
+    let (parts, there, shunt) = found shunt_of (turn_parts itself u c x (turned r from) to) edge.shunt is.rule in
+    let none : length parts.taken ≡ 0 = eqb-true (length parts.taken) 0
+    (none_taken (length parts.given == 0) (length parts.taken == 0) (length parts.given) (length parts.taken) units (shunt ∙ uncouples)) in
+    let departs = λ (f : ℕ → ℤ). taken_sum day u c x (turned r from) to parts there f in
+    let stays : stays_by day c edge ≡ parts.kept = stays_are day u c x (turned r from) to parts there edge.shunt shunt in
+    let take : ℕ → ℤ = yard_price day entries (from_of day b) (leaves day b) in
+    let give : ℕ → ℤ = yard_price day entries (to_of day a) (ready_at day a) in
+    all (weighted weight (pos (shunt_cost day edge.shunt))) (weighted weight (pos day.weights.shunting))
+    (int_sum take to) (int_sum take (stays_by day c edge)) (int_sum take parts.kept) (int_sum take parts.taken)
+    (int_sum give from) (int_sum give to) (int_sum give (stays_by day c edge)) (int_sum give parts.kept) (int_sum give parts.taken)
+    (ap (λ (s : Shunt). weighted weight (pos (shunt_cost day s))) uncouples)
+    (departs take) (departs give) (ap (int_sum take) stays) (ap (int_sum give) stays)
+    (sum_of_none take parts.taken none) (sum_of_none give parts.taken none)
+  where
+    all : (w w' tt ts tk tn gf gt gs gk gn : ℤ) → w ≡ w' → tt ≡ tk +ℤ tn → gt ≡ gk +ℤ gn → ts ≡ tk → gs ≡ gk → tn ≡ pos 0 → gn ≡ pos 0
+        → w +ℤ (tt -ℤ ts) -ℤ (gf -ℤ gs) ≡ w' -ℤ (gf -ℤ gt)
+    all w w' tt ts tk tn gf gt gs gk gn e f g h i j k = omega (arith, ints, e, f, g, h, i, j, k)
+
+-- a turn that keeps the units adds nothing
+pub keeping_is : (day : Day) (entries : List Entry) (weight : Weight) (r : Bool) (a b : ℕ) (u c : End) (x : Bool) (edge : Edge)
+    → IsTurnEdge day r a b u c x edge → edge.shunt ≡ Keep → turn_value day entries weight a b c edge ≡ pos 0
+unfolding turn_shunt
+keeping_is day entries weight r a b u c x edge is keeps =
+    let from : List ℕ = composition_at day edge.from in
+    let to : List ℕ = composition_at day edge.to in
+    let (parts, there, shunt) = found shunt_of (turn_parts itself u c x (turned r from) to) edge.shunt is.rule in
+    let both = none_shunted (length parts.given == 0) (length parts.taken == 0) (length parts.given) (length parts.taken) (shunt ∙ keeps) in
+    let given : length parts.given ≡ 0 = eqb-true (length parts.given) 0 both.0 in
+    let taken : length parts.taken ≡ 0 = eqb-true (length parts.taken) 0 both.1 in
+    let stays : stays_by day c edge ≡ parts.kept = stays_are day u c x (turned r from) to parts there edge.shunt shunt in
+    let take : ℕ → ℤ = yard_price day entries (from_of day b) (leaves day b) in
+    let give : ℕ → ℤ = yard_price day entries (to_of day a) (ready_at day a) in
+    all (weighted weight (pos (shunt_cost day edge.shunt))) (int_sum take to) (int_sum take (stays_by day c edge)) (int_sum take parts.kept)
+    (int_sum take parts.taken) (int_sum give from) (int_sum give (stays_by day c edge)) (int_sum give parts.kept) (int_sum give parts.given)
+    (ap (λ (s : Shunt). weighted weight (pos (shunt_cost day s))) keeps ∙ weightless weight)
+    (taken_sum day u c x (turned r from) to parts there take)
+    (sym (sum_turned give r from) ∙ given_sum day u c x (turned r from) to parts there give)
+    (ap (int_sum take) stays) (ap (int_sum give) stays) (sum_of_none take parts.taken taken) (sum_of_none give parts.given given)
+  where
+    all : (w tt ts tk tn gf gs gk gn : ℤ) → w ≡ pos 0 → tt ≡ tk +ℤ tn → gf ≡ gk +ℤ gn → ts ≡ tk → gs ≡ gk → tn ≡ pos 0 → gn ≡ pos 0
+        → w +ℤ (tt -ℤ ts) -ℤ (gf -ℤ gs) ≡ pos 0
+    all w tt ts tk tn gf gs gk gn e f g h i j k = omega (arith, ints, e, f, g, h, i, j, k)

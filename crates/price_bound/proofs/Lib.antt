@@ -36,11 +36,13 @@ mod PutPaths
 mod DayPrices
 mod Summing
 mod Crediting
+mod FrontSums
 mod Costing
 mod TripAndLinkPrices
 mod Bounding
 mod ChainSteps
 mod ChainCells
+mod EdgeGroups
 mod Finding
 mod ChangedCosts
 pub mod ChangedRelaxation

@@ -9,7 +9,7 @@ use Rattle.timetable.specs.Compositions.{compositions_of, composition_at}
 use Rattle.timetable.specs.Day.{Day}
 use Rattle.timetable.specs.Handovers.{second_of}
 use Rattle.transitions.specs.declared.edge.Edge.{Edge}
-use Rattle.transitions.specs.declared.edge.Shunt.TheVariants.{Couple}
+use Rattle.transitions.specs.declared.edge.Shunt.TheVariants.{Keep, Uncouple, Couple}
 use Rattle.transitions.specs.Edges.{IsEdge, IsKindEdge, IsTurnEdge}
 use Rattle.branch_tree.specs.declared.multipliers.Entry.{Entry}
 use Rattle.price_bound.specs.declared.priced.Pricing.{Pricing}
@@ -21,11 +21,12 @@ use Rattle.price_bound.specs.ChainStages.{Priced, part_is_in, price_by_link, pri
 use Rattle.price_bound.specs.Costs.{IsCostOf, cost_in}
 use Rattle.price_bound.specs.Credits.{AreSmallAmounts, AreUnitPrices, sum_in}
 use Rattle.price_bound.specs.EdgeValues.{coupling_value, edge_value, part_multiplier, turn_value}
+use Rattle.price_bound.specs.EdgeValues.{uncoupling_value}
 use Rattle.price_bound.specs.Pricing.{ArePriced, priced_by}
 use Rattle.price_bound.specs.Regrouped.{second_price}
 use Rattle.price_bound.specs.YardPrices.{giving, taking}
 use Rattle.price_bound.proofs.Adding.{small_more}
-use Rattle.price_bound.proofs.EdgeValues.{coupling_is}
+use Rattle.price_bound.proofs.EdgeValues.{coupling_is, keeping_is, uncoupling_is}
 use Rattle.price_bound.proofs.Filling.{are_few, part_small, second_small}
 use Rattle.price_bound.proofs.Summing.{giving_is, gives_small, taking_is, takes_small}
 
@@ -156,14 +157,31 @@ turn_edge prices is edge allowed =
     subst (λ (kind : LinkKind). IsKindEdge day kind is.turn.link.reverse edge) is.turn.is
     (subst (λ (link : Link). IsKindEdge day link.kind link.reverse edge) same allowed.kind)
 
--- where it couples units and uncouples none, it is priced by what departs and had not arrived
-pub coupling_priced : (prices : TurnPrices) → IsForTurn prices → (edge : Edge)
-    → IsEdge prices.pricing.now.instance.now prices.link edge → (units : ℕ) → edge.shunt ≡ Couple units
-    → price_of (priced_by prices.pricing.now) (Some prices.link) edge
-    ≡ Some (coupling_value prices.pricing.now.instance.now prices.pricing.now.multipliers.now prices.pricing.now.weight
-    prices.turn.departing edge)
-coupling_priced prices is edge allowed units couples =
-    turn_priced prices is edge
-    ∙ ap (λ (value : ℤ). Some value) (coupling_is prices.pricing.now.instance.now prices.pricing.now.multipliers.now
-    prices.pricing.now.weight is.turn.link.reverse prices.turn.arriving prices.turn.departing is.turn.uncouple prices.turn.couple
-    is.turn.exchange edge units (turn_edge prices is edge allowed) couples)
+module _ (prices : TurnPrices) (is : IsForTurn prices) (edge : Edge) (allowed : IsEdge prices.pricing.now.instance.now prices.link edge) where
+  -- where it keeps the units, its price is 0
+  pub keeping_priced : edge.shunt ≡ Keep → price_of (priced_by prices.pricing.now) (Some prices.link) edge ≡ Some (pos 0)
+  keeping_priced keeps =
+      turn_priced prices is edge
+      ∙ ap (λ (value : ℤ). Some value) (keeping_is prices.pricing.now.instance.now prices.pricing.now.multipliers.now
+      prices.pricing.now.weight is.turn.link.reverse prices.turn.arriving prices.turn.departing is.turn.uncouple prices.turn.couple
+      is.turn.exchange edge (turn_edge prices is edge allowed) keeps)
+
+  -- where it uncouples alone, it is priced by what arrived and does not depart
+  pub uncoupling_priced : (units : ℕ) → edge.shunt ≡ Uncouple units → price_of (priced_by prices.pricing.now) (Some prices.link) edge
+      ≡ Some (uncoupling_value prices.pricing.now.instance.now prices.pricing.now.multipliers.now prices.pricing.now.weight
+      prices.turn.arriving edge)
+  uncoupling_priced units uncouples =
+      turn_priced prices is edge
+      ∙ ap (λ (value : ℤ). Some value) (uncoupling_is prices.pricing.now.instance.now prices.pricing.now.multipliers.now
+      prices.pricing.now.weight is.turn.link.reverse prices.turn.arriving prices.turn.departing is.turn.uncouple prices.turn.couple
+      is.turn.exchange edge units (turn_edge prices is edge allowed) uncouples)
+
+  -- where it couples alone, it is priced by what departs and had not arrived
+  pub coupling_priced : (units : ℕ) → edge.shunt ≡ Couple units → price_of (priced_by prices.pricing.now) (Some prices.link) edge
+      ≡ Some (coupling_value prices.pricing.now.instance.now prices.pricing.now.multipliers.now prices.pricing.now.weight
+      prices.turn.departing edge)
+  coupling_priced units couples =
+      turn_priced prices is edge
+      ∙ ap (λ (value : ℤ). Some value) (coupling_is prices.pricing.now.instance.now prices.pricing.now.multipliers.now
+      prices.pricing.now.weight is.turn.link.reverse prices.turn.arriving prices.turn.departing is.turn.uncouple prices.turn.couple
+      is.turn.exchange edge units (turn_edge prices is edge allowed) couples)

@@ -1,5 +1,5 @@
 -- Rows of cells while they are made, and picks along a chain.
-use Rattle.std.specs.Prelude.{ℕ, ◌≡◌, ◌<◌, List, [], ◌∷◌, length, get_or, set, fold, Option, None}
+use Rattle.std.specs.Prelude.{ℕ, ◌≡◌, ◌<◌, List, [], ◌∷◌, length, get_or, set, fold, replicate, Option, None}
 use Rattle.timetable.specs.Compositions.{compositions_of}
 use Rattle.timetable.specs.Links.{outgoing}
 use Rattle.price_bound.specs.declared.cells.Cell.{Cell}
@@ -21,6 +21,11 @@ abbrev pub edges_offered : Priced → Option ℕ → List (Option Cell) → List
 edges_offered priced link ahead row =
     fold (λ row edge. lower_at edge.from (offer_by edge.to (price_of priced link edge) (get_or ahead edge.to None)) row)
     row (edges_of priced link)
+
+-- what a composition has after the edges of a link offered their cells, where there was none before
+abbrev pub offered_from : Priced → Option ℕ → List (Option Cell) → ℕ → Option Cell
+offered_from priced link ahead comp =
+    get_or (edges_offered priced link ahead (replicate (length (compositions_of priced.day)) None)) comp None
 
 -- rows of so many compositions
 pub record HaveRoom (rows comps : ℕ) (table : List (List (Option Cell))) : Type 0 where

@@ -21,10 +21,14 @@ sum_in row types = int_sum (λ m. get_or row m (pos 0)) types
 abbrev pub AreSmallAmounts : List ℤ → Type 0
 AreSmallAmounts row = (m : ℕ) → m < length row → IsSmall most_price (get_or row m (pos 0))
 
--- a table has, in the columns of a row below a number, the sums over the types of compositions
-pub record AreSumsIn (day : Day) (amounts : List ℤ) (t comps : ℕ) (table : List (List ℤ)) : Type 0 where
-  pub values : (c : ℕ) → c < comps → amount_at table t c ≡ sum_in amounts (composition_at day c)
-  pub small : (c : ℕ) → c < comps → IsSmall most_units_price (amount_at table t c)
+-- a row has, in the columns below a number, the sums over the types of compositions
+pub record AreRowSums (day : Day) (amounts : List ℤ) (comps : ℕ) (row : List ℤ) : Type 0 where
+  pub values : (c : ℕ) → c < comps → get_or row c (pos 0) ≡ sum_in amounts (composition_at day c)
+  pub small : (c : ℕ) → c < comps → IsSmall most_units_price (get_or row c (pos 0))
+
+-- a row of a table has them
+abbrev pub AreSumsIn : Day → List ℤ → ℕ → ℕ → List (List ℤ) → Type 0
+AreSumsIn day amounts t comps table = AreRowSums day amounts comps (get_or table t [])
 
 -- it has them in the rows below a number
 abbrev pub AreSumsBelow : Day → List (List ℤ) → ℕ → List (List ℤ) → Type 0

@@ -53,6 +53,12 @@ turn_value day entries weight a b couple edge =
     +ℤ (taking day entries b (composition_at day edge.to) -ℤ taking day entries b (stays_by day couple edge))
     -ℤ (giving day entries a (composition_at day edge.from) -ℤ giving day entries a (stays_by day couple edge))
 
+-- the same where units are uncoupled and none coupled: a turn gives what arrived and does not depart
+abbrev pub uncoupling_value : Day → List Entry → Weight → ℕ → Edge → ℤ
+uncoupling_value day entries weight a edge =
+    weighted weight (pos day.weights.shunting)
+    -ℤ (giving day entries a (composition_at day edge.from) -ℤ giving day entries a (composition_at day edge.to))
+
 -- the same where units are coupled and none uncoupled: a turn takes what departs and had not arrived
 abbrev pub coupling_value : Day → List Entry → Weight → ℕ → Edge → ℤ
 coupling_value day entries weight b edge =

@@ -31,9 +31,11 @@ pub mod FirstPaths
 pub mod CellSizes
 pub mod YardTables
 pub mod PriceTables
+pub mod Fronts
 pub mod Credits
 pub mod Costs
 pub mod CellRows
+pub mod EdgeGroups
 pub mod Pricing
 pub mod TripAndLinkPrices
 pub mod Rooms

@@ -3,7 +3,6 @@
 
 ghost use Rattle.std.specs.Prelude.{ℕ, ◌≡◌, ◌<◌, ◌+◌, map, length, get_or, set, replicate, pos, IfOk, IfSome, Some};
 ghost use Rattle.std.specs.Prelude.{None, if◌then◌else◌, option_map, ◌+ℤ◌};
-ghost use Rattle.price_bound.specs.CellRows.{lower_at};
 ghost use Rattle.price_bound.specs.Paths.{entered, least_from, lower_cell, offer_by, with_worth};
 ghost use Rattle.price_bound.specs.CellSizes.{AreSmallCells, IsSmall, most_edge_price, most_offered, most_step};
 
@@ -82,15 +81,12 @@ impl CellRow {
         }
     }
 
-    /// Offers a cell to a composition, which is below `len`: it is taken where it is of lower value.
-    pub(crate) fn offer(&mut self, comp: CompNo, cell: Option<Cell>)
+    /// Changes the cell of a composition, which is below `len`.
+    pub(crate) fn put(&mut self, comp: CompNo, cell: Option<Cell>)
         requires { comp < length self.old }
-        ensures { self.new ≡ lower_at comp cell self.old }
+        ensures { self.new ≡ set self.old comp cell }
     {
-        let place = comp.place();
-        if is_lower(&cell, &self.cells[place]) {
-            self.cells[place] = cell;
-        }
+        self.cells[comp.place()] = cell;
     }
 
     /// Adds a worth to the cell of a composition, which is below `len`; where there is no worth, there is no cell then.
@@ -121,7 +117,7 @@ impl CellRow {
 }
 
 /// The first of two cells, unless the other is of lower value.
-fn lower_cell(cell: Option<Cell>, other: Option<Cell>) -> Option<Cell>
+pub(crate) fn lower_cell(cell: Option<Cell>, other: Option<Cell>) -> Option<Cell>
     ensures { result ≡ lower_cell cell other }
 {
     if is_lower(&other, &cell) {
@@ -154,7 +150,7 @@ pub(crate) fn offer_by(to: CompNo, price: Option<Amount>, ahead: Cell) -> Option
 }
 
 /// A cell with the worth of its composition.
-fn with_worth(worth: Option<Amount>, cell: Option<Cell>) -> Option<Cell>
+pub(crate) fn with_worth(worth: Option<Amount>, cell: Option<Cell>) -> Option<Cell>
     requires worth { IfSome worth (λ worth. IsSmall most_step worth.0) }
     requires cell { IfSome cell (λ cell. IsSmall most_offered cell.value) }
     ensures { result ≡ with_worth (option_map (λ worth. worth.0) worth) cell }

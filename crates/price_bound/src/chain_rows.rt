@@ -14,8 +14,9 @@ ghost use Rattle.price_bound.specs.ChainStages.{price_of, stage_of};
 ghost use Rattle.price_bound.specs.Paths.{begin_of, next_of, offer_by, path_from, with_worths};
 ghost use Rattle.price_bound.specs.Pricing.{ArePriced, IsListed, priced_by};
 
-use crate::cells::{Cell, CellRow, offer_by};
+use crate::cells::{Cell, CellRow};
 use crate::edge_prices::EdgePrices;
+use crate::least_edges::fill_by_edges;
 use crate::part_prices::PartPrices;
 use crate::priced::Pricing;
 use crate::turn_prices::{TurnPrices, TurnTrips};
@@ -182,37 +183,32 @@ fn fill_before(pricing: &Pricing<'_>, trip: TripNo, row: &mut CellRow, ahead: &C
     ensures row { row.new ≡ row_on (priced_by pricing.now) trip ahead.now }
     ensures small { IsSmallStep most_step ahead.now row.new }
 {
-    row.clear();
-    offer_all(pricing, trip, row, ahead);
-    weigh(pricing, trip, row);
-}
-
-/// Offers the cells of the edges that lead on from a trip.
-fn offer_all(pricing: &Pricing<'_>, trip: TripNo, row: &mut CellRow, ahead: &CellRow)
-    requires priced { ArePriced pricing.now }
-    requires trip { trip < length pricing.now.instance.now.trips }
-    requires row { length row.old ≡ comps_of (priced_by pricing.now) }
-    requires ahead { length ahead.now ≡ comps_of (priced_by pricing.now) }
-    requires small { AreSmallCells most_ahead ahead.now }
-    ensures row { row.new ≡ offered_on (priced_by pricing.now) trip ahead.now row.old }
-    ensures small { AreSmallOffers most_edge_price ahead.now row.old row.new }
-{
-    if let Some(link) = pricing.instance.outgoing(trip) {
-        offer_edges(pricing, link, row, ahead);
+    match pricing.instance.outgoing(trip) {
+        Some(link) => fill_by_link(pricing, trip, link, row, ahead),
+        None => row.clear(),
     }
 }
 
-/// Offers the cells of the edges of a link.
-fn offer_edges(pricing: &Pricing<'_>, link: LinkNo, row: &mut CellRow, ahead: &CellRow)
+/// Makes the row of a trip from which this link leads on.
+fn fill_by_link(
+    pricing: &Pricing<'_>,
+    trip: TripNo,
+    link: LinkNo,
+    row: &mut CellRow,
+    ahead: &CellRow,
+)
     requires priced { ArePriced pricing.now }
-    requires link { link < length pricing.now.instance.now.links }
+    requires trip { trip < length pricing.now.instance.now.trips }
+    requires link { outgoing pricing.now.instance.now trip ≡ Some link }
+    requires known { link < length pricing.now.instance.now.links }
     requires row { length row.old ≡ comps_of (priced_by pricing.now) }
     requires ahead { length ahead.now ≡ comps_of (priced_by pricing.now) }
     requires small { AreSmallCells most_ahead ahead.now }
-    ensures row { row.new ≡ edges_offered (priced_by pricing.now) (Some link) ahead.now row.old }
-    ensures small { AreSmallOffers most_edge_price ahead.now row.old row.new }
+    ensures row { row.new ≡ row_on (priced_by pricing.now) trip ahead.now }
+    ensures small { IsSmallStep most_step ahead.now row.new }
 {
     let edges = pricing.graphs.edges(link);
+    let worths = TripWorths::new(&*pricing, trip);
     let kind = &pricing.instance.link(link).kind;
     match kind.second() {
         None => {
@@ -221,50 +217,14 @@ fn offer_edges(pricing: &Pricing<'_>, link: LinkNo, row: &mut CellRow, ahead: &C
                 departing: kind.leads_to(),
                 couple: kind.coupling_end(),
             };
-            offer_edges_at(&TurnPrices::new(pricing, link, turn), edges, row, ahead);
+            let prices = TurnPrices::new(pricing, link, turn);
+            fill_by_edges(&prices, edges, &worths, row, ahead);
         }
         Some(second) => {
-            offer_edges_at(&PartPrices::new(pricing, link, second), edges, row, ahead);
+            let prices = PartPrices::new(pricing, link, second);
+            fill_by_edges(&prices, edges, &worths, row, ahead);
         }
     }
-}
-
-/// Offers the cells of the edges of a link, at their prices.
-fn offer_edges_at<P: EdgePrices>(prices: &P, edges: &[Edge], row: &mut CellRow, ahead: &CellRow)
-    requires prices { P.are_of_link prices.now }
-    requires graphs { AreGraphs (P.priced prices.now).day (P.priced prices.now).graphs }
-    requires edges { slice_get (P.priced prices.now).graphs (P.link prices.now) ≡ Some edges.now }
-    requires row { length row.old ≡ comps_of (P.priced prices.now) }
-    requires ahead { length ahead.now ≡ comps_of (P.priced prices.now) }
-    requires small { AreSmallCells most_ahead ahead.now }
-    ensures row { row.new ≡ edges_offered (P.priced prices.now) (Some (P.link prices.now)) ahead.now row.old }
-    ensures small { AreSmallOffers most_edge_price ahead.now row.old row.new }
-{
-    for place in 0..edges.len() {
-        let edge = &edges[place];
-        let offer = offer_at(prices, edge, ahead);
-        row.offer(edge.from, offer);
-    }
-}
-
-/// The cell that an edge of a link offers at its price, which is found only where there is a cell ahead of it.
-fn offer_at<P: EdgePrices>(prices: &P, edge: &Edge, ahead: &CellRow) -> Option<Cell>
-    requires prices { P.are_of_link prices.now }
-    requires edge { IsListed (comps_of (P.priced prices.now)) edge.now }
-    requires allowed { IsEdge (P.priced prices.now).day (P.link prices.now) edge.now }
-    requires ahead { length ahead.now ≡ comps_of (P.priced prices.now) }
-    requires small { AreSmallCells most_ahead ahead.now }
-    ensures value { result ≡ offer_by edge.now.to
-        (price_of (P.priced prices.now) (Some (P.link prices.now)) edge.now)
-        (get_or ahead.now edge.now.to None) }
-    ensures small { (bound : ℕ) → AreSmallCells bound ahead.now
-        → IfSome result (λ cell. IsSmall (bound + most_edge_price) cell.value) }
-{
-    let Some(cell) = ahead.get(edge.to) else {
-        return None;
-    };
-    let price = prices.price(edge);
-    offer_by(edge.to, price, cell)
 }
 
 /// Adds to each cell what its composition is worth.

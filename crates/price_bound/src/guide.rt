@@ -55,8 +55,18 @@ pub(crate) fn put_prices(room: &mut Workspace, asked: &Asked<'_>, guide: &mut Pr
     prove!(asked.multipliers.entries().len() <= MOST_ENTRIES);
     prove!(asked.instance.links() as usize <= MOST_LINKS);
     room.tables.fill(asked.instance, asked.multipliers);
-    fill_sums(asked.instance, &room.tables.gives, &mut room.credits);
-    fill_sums(asked.instance, &room.tables.takes, &mut room.debits);
+    fill_sums(
+        asked.instance,
+        &room.fronts,
+        &room.tables.gives,
+        &mut room.credits,
+    );
+    fill_sums(
+        asked.instance,
+        &room.fronts,
+        &room.tables.takes,
+        &mut room.debits,
+    );
     let pricing = Pricing {
         instance: asked.instance,
         graphs: asked.graphs,

@@ -7,6 +7,7 @@ ghost use Rattle.branch_tree.specs.Meanings.{weighted};
 ghost use Rattle.price_bound.specs.TripAndLinkPrices.{IsForTurn, IsTurnOf, coupled_price_of};
 ghost use Rattle.price_bound.specs.CellSizes.{IsSmall, most_cost, most_edge_price, most_units_price};
 ghost use Rattle.price_bound.specs.EdgeValues.{came, coupled, coupling_value, shunt_cost, turn_value};
+ghost use Rattle.price_bound.specs.EdgeValues.{uncoupling_value};
 ghost use Rattle.price_bound.specs.Pricing.{ArePriced, IsListed, priced_by};
 ghost use Rattle.price_bound.specs.YardPrices.{giving, taking};
 
@@ -152,6 +153,19 @@ impl<'a> TurnPrices<'a> {
         plus(cost_less_credits, coupled_price)
     }
 
+    /// What an edge is priced that uncouples units and couples none: it gives what arrived and does not depart.
+    fn uncoupling_price(&self, edge: &Edge) -> Amount
+        requires is { IsForTurn self.now }
+        requires edge { IsListed (length (compositions_of self.now.pricing.now.instance.now)) edge.now }
+        ensures value { result.0 ≡ uncoupling_value self.now.pricing.now.instance.now
+            self.now.pricing.now.multipliers.now self.now.pricing.now.weight self.now.turn.arriving edge.now }
+        ensures small { IsSmall most_edge_price result.0 }
+    {
+        let arrived = self.credit(edge.from);
+        let departing = self.credit(edge.to);
+        minus(self.shunting, minus(arrived, departing))
+    }
+
     /// What an edge is priced that couples units and uncouples none: it takes what departs and had not arrived.
     fn coupling_price(&self, edge: &Edge) -> Amount
         requires is { IsForTurn self.now }
@@ -177,8 +191,10 @@ impl<'a> EdgePrices for TurnPrices<'a> {
     /// the units that are given.
     fn price(&self, edge: &Edge) -> Option<Amount> {
         match edge.shunt {
+            Shunt::Keep => Some(Amount(0)),
+            Shunt::Uncouple { .. } => Some(self.uncoupling_price(edge)),
             Shunt::Couple { .. } => Some(self.coupling_price(edge)),
-            _ => Some(self.parted_price(edge)),
+            Shunt::Exchange { .. } => Some(self.parted_price(edge)),
         }
     }
 }

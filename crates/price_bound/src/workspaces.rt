@@ -21,6 +21,7 @@ use crate::chain_rows::ChainRows;
 use crate::changes::Change;
 use crate::costs::fill_costs;
 use crate::credits::fill_sums;
+use crate::fronts::{Front, fronts_of};
 use crate::price_tables::PriceTables;
 use crate::priced::Pricing;
 use crate::worths::added;
@@ -38,6 +39,8 @@ pub(crate) struct Workspace {
     pub costs: AmountTable,
     /// The prices under the multipliers of a bound.
     pub tables: PriceTables,
+    /// What compositions are made of.
+    pub fronts: Vec<Option<Front>>,
     /// For each trip and composition the price of the composition's units, where the trip gives them.
     pub credits: AmountTable,
     /// For each trip and composition the price of the composition's units, where the trip takes them.
@@ -62,6 +65,7 @@ impl Workspace {
         let comps = instance.catalogue().len() as usize;
         let mut costs = AmountTable::new(alloc, trips, comps)?;
         fill_costs(instance, changes, &mut costs);
+        let fronts = fronts_of(alloc, instance)?;
         let credits = AmountTable::new(alloc, trips, comps)?;
         let debits = AmountTable::new(alloc, trips, comps)?;
         let rows = ChainRows::new(alloc, instance)?;
@@ -69,6 +73,7 @@ impl Workspace {
         Ok(Workspace {
             costs,
             tables,
+            fronts,
             credits,
             debits,
             rows,
@@ -106,8 +111,13 @@ impl Workspace {
         prove!(instance.chains() as usize <= MOST_TRIPS);
         prove!(instance.links() as usize <= MOST_LINKS);
         self.tables.fill(instance, multipliers);
-        fill_sums(instance, &self.tables.gives, &mut self.credits);
-        fill_sums(instance, &self.tables.takes, &mut self.debits);
+        fill_sums(
+            instance,
+            &self.fronts,
+            &self.tables.gives,
+            &mut self.credits,
+        );
+        fill_sums(instance, &self.fronts, &self.tables.takes, &mut self.debits);
         let pricing = Pricing {
             instance,
             graphs,

@@ -230,7 +230,7 @@ pub(crate) fn sum_in(amounts: &[i64], types: &[TypeNo]) -> Amount
 }
 
 /// What there is for a type.
-fn amount_of(amounts: &[i64], unit_type: TypeNo) -> Amount
+pub(crate) fn amount_of(amounts: &[i64], unit_type: TypeNo) -> Amount
     requires { unit_type < length amounts.now }
     ensures { result.0 ≡ get_or amounts.now unit_type (pos 0) }
 {

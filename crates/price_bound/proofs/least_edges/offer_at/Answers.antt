@@ -4,7 +4,7 @@ use Rattle.price_bound.specs.ChainStages.{price_of}
 use Rattle.price_bound.specs.Paths.{offer_by}
 use Rattle.price_bound.proofs.Adding.{small_more}
 use Rattle.price_bound.proofs.ChainCells.{nothing_ahead}
-use Rattle.price_bound.proofs.chain_rows.offer_at.Goals as goal
+use Rattle.price_bound.proofs.least_edges.offer_at.Goals as goal
 
 pub get-requires : goal.get-requires
 get-requires g c = omega (arith, c.requires.edge.to, c.requires.ahead)

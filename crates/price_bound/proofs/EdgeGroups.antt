@@ -1,0 +1,276 @@
+-- The edges of a link by the composition that they lead from: where those of one begin, what they offer to it, and rows
+-- that are made of what each composition is offered.
+use Rattle.std.proofs.Common.{◌≡◌, ◌≢◌, ℕ, zero, suc, ◌+◌, ◌-◌, ◌<◌, ◌≤◌, List, [], ◌∷◌, length, get_or, set, take, replicate}
+use Rattle.std.proofs.Common.{Option, Some, None, ℤ, refl, sym, ap, ◌∙◌, subst, arith, inl, inr, slice_get, length-set, unwrap_or, ⊎_elim}
+use Rattle.std.specs.Prelude.{fold, IfSome}
+use Rattle.std.proofs.lemmas.Bool.{cases_eq, cases_lt}
+use Rattle.std.proofs.lemmas.List.{ext_get_or, get_or_default, get_or-replicate, get_or-set_same, get_or-set_other}
+use Rattle.std.proofs.lemmas.List.{get_or_past, length-replicate, take_all}
+use Rattle.timetable.specs.Links.{outgoing}
+use Rattle.transitions.specs.declared.edge.Edge.{Edge}
+use Rattle.transitions.specs.Edges.{AreGraphs, AreInOrder}
+use Rattle.price_bound.specs.declared.cells.Cell.{Cell}
+use Rattle.price_bound.specs.CellRows.{comps_of, edges_offered, offered_from, row_on}
+use Rattle.price_bound.specs.CellSizes.{AreSmallCells, IsSmall, IsSmallStep}
+use Rattle.price_bound.specs.ChainStages.{Priced, edges_of, price_of, stage_of, worth_of}
+use Rattle.price_bound.specs.EdgeGroups.{IsAtGroup, IsGroupPlace, IsInGroup}
+use Rattle.price_bound.specs.Paths.{Stage, lower_cell, offer_by, with_worth, with_worths}
+use Rattle.price_bound.proofs.Adding.{small_more}
+use Rattle.price_bound.proofs.ChainCells.{fold_more, length-offered, lower_small, offered_at, some_small, with_worth_small}
+use Rattle.price_bound.proofs.Rows.{get-with_worths}
+
+-- ---- where the edges from a composition begin
+
+-- where the edge at a place leads from a lower composition, so do those before it
+pub lower_before : (edges : List Edge) (comp place : ℕ) (e : Edge) → AreInOrder edges → place < length edges
+    → (get_or edges place e).from < comp → (k : ℕ) (d : Edge) → k < place + 1 → (get_or edges k d).from < comp
+lower_before edges comp place e order inside low k d less =
+    let same : get_or edges place d ≡ get_or edges place e = get_or_default edges place d e inside in
+    ⊎_elim
+    (λ before. elim (order k place d before inside) [
+      | inl lower ↦ omega (arith, lower, low, ap (λ (x : Edge). x.from) same)
+      | inr level ↦ omega (arith, level.0, low, ap (λ (x : Edge). x.from) same)
+    ])
+    (λ past. let at : k ≡ place = omega (arith, past, less) in
+    omega (arith, low, ap (λ (n : ℕ). (get_or edges n d).from) at, ap (λ (x : Edge). x.from) same))
+    (cases_lt k place)
+
+-- and where it leads from no lower one, neither do those after it
+pub no_lower_after : (edges : List Edge) (comp place : ℕ) (e : Edge) → AreInOrder edges → place < length edges
+    → comp ≤ (get_or edges place e).from → (k : ℕ) (d : Edge) → place ≤ k → k < length edges → comp ≤ (get_or edges k d).from
+no_lower_after edges comp place e order inside high k d from within =
+    let same : get_or edges place d ≡ get_or edges place e = get_or_default edges place d e inside in
+    ⊎_elim
+    (λ beyond. elim (order place k d beyond within) [
+      | inl lower ↦ omega (arith, lower, high, ap (λ (x : Edge). x.from) same)
+      | inr level ↦ omega (arith, level.0, high, ap (λ (x : Edge). x.from) same)
+    ])
+    (λ past. let at : k ≡ place = omega (arith, past, from) in
+    omega (arith, high, ap (λ (n : ℕ). (get_or edges n d).from) at, ap (λ (x : Edge). x.from) same))
+    (cases_lt place k)
+
+pub place_at : (edges : List Edge) (comp place : ℕ) → AreInOrder edges → IsAtGroup edges comp place → IsGroupPlace edges comp place
+place_at edges comp place order is = record {
+  within = omega (arith, is.within);
+  before = λ k d less. elim is.before [
+    | inl first ↦ absurd (omega (arith, first, less))
+    | inr low ↦ elim (cases_eq place 0) [
+      | inl first ↦ absurd (omega (arith, first, less))
+      | inr differ ↦ lower_before edges comp (place - 1) d order (omega (arith, is.within)) (low d) k d (omega (arith, less, differ))
+    ]
+  ];
+  after = λ k d from within. no_lower_after edges comp place d order is.within (is.here d) k d from within;
+}
+
+-- ---- what the edges from one composition offer to it
+
+some_edge : (edges : List Edge) → 0 < length edges → Edge
+some_edge [] some = absurd (omega (arith, some))
+some_edge (edge ∷ edges) some = edge
+
+module _ (priced : Priced) (link : Option ℕ) (ahead : List (Option Cell)) (old : List (Option Cell)) (edges : List Edge) (comp : ℕ) where
+  -- what it has after so many edges
+  abbrev pub has_after : ℕ → Option Cell
+  has_after i = get_or (fold (offered_at priced link ahead) old (take i edges)) comp None
+
+  length-after : (xs : List Edge) (row : List (Option Cell)) → length (fold (offered_at priced link ahead) row xs) ≡ length row
+  length-after [] row = refl
+  length-after (x ∷ xs) row = length-after xs (offered_at priced link ahead row x) ∙ length-set row x.from _
+
+  -- an edge from elsewhere changes nothing
+  pub elsewhere : (i : ℕ) (edge : Edge) → i < length edges → (get_or edges i edge).from ≢ comp → has_after (suc i) ≡ has_after i
+  elsewhere i edge below differ =
+      ap (λ (row : List (Option Cell)). get_or row comp None) (fold_more (offered_at priced link ahead) old edges i edge below)
+      ∙ get_or-set_other (fold (offered_at priced link ahead) old (take i edges)) (get_or edges i edge).from comp _ None (λ e. differ (sym e))
+
+  -- an edge from it offers its cell
+  pub one_offer : (i : ℕ) (edge : Edge) → i < length edges → edge ≡ get_or edges i edge → edge.from ≡ comp → comp < length old
+      → has_after (suc i) ≡ lower_cell (has_after i) (offer_by edge.to (price_of priced link edge) (get_or ahead edge.to None))
+  one_offer i edge below there here inside =
+      ap (λ (row : List (Option Cell)). get_or row comp None) (fold_more (offered_at priced link ahead) old edges i edge below)
+      ∙ sym (ap (λ (x : Edge). get_or (offered_at priced link ahead (fold (offered_at priced link ahead) old (take i edges)) x) comp None) there)
+      ∙ subst (λ (k : ℕ). get_or (offered_at priced link ahead (fold (offered_at priced link ahead) old (take i edges)) edge) k None
+      ≡ lower_cell (get_or (fold (offered_at priced link ahead) old (take i edges)) k None)
+      (offer_by edge.to (price_of priced link edge) (get_or ahead edge.to None))) here
+      (get_or-set_same (fold (offered_at priced link ahead) old (take i edges)) edge.from _ None
+      (omega (arith, here, inside, length-after (take i edges) old)))
+
+  -- so do any number of edges from elsewhere
+  pub all_elsewhere : (j i : ℕ) → i ≤ j → j ≤ length edges
+      → ((k : ℕ) (d : Edge) → i ≤ k → k < j → (get_or edges k d).from ≢ comp) → has_after j ≡ has_after i
+  all_elsewhere zero i le most differ = let same : i ≡ zero = omega (arith, le) in sym (ap has_after same)
+  all_elsewhere (suc j) i le most differ = elim (cases_eq i (suc j)) [
+    | inl same ↦ sym (ap has_after same)
+    | inr apart ↦
+        let edge : Edge = some_edge edges (omega (arith, most)) in
+        elsewhere j edge (omega (arith, most)) (λ e. differ j edge (omega (arith, le, apart)) (omega arith) e)
+        ∙ all_elsewhere j i (omega (arith, le, apart)) (omega (arith, most)) (λ k d from lt. differ k d from (omega (arith, lt)))
+  ]
+
+  -- before the edges from it nothing was offered to it; after them nothing is
+  pub at_begin : (begin : ℕ) → IsGroupPlace edges comp begin → has_after begin ≡ get_or old comp None
+  at_begin begin is = all_elsewhere begin 0 (omega arith) is.within (λ k d from lt e. absurd (omega (arith, is.before k d lt, e)))
+
+  pub at_end : (begin place : ℕ) → AreInOrder edges → IsGroupPlace edges comp begin → begin ≤ place → place ≤ length edges
+      → (IsInGroup edges comp place → ⊥) → get_or (fold (offered_at priced link ahead) old edges) comp None ≡ has_after place
+  at_end begin place order is from most out =
+      sym (ap (λ (xs : List Edge). get_or (fold (offered_at priced link ahead) old xs) comp None) (take_all (length edges) edges (omega arith)))
+      ∙ all_elsewhere (length edges) place most (omega arith) apart
+    where
+      apart : (k : ℕ) (d : Edge) → place ≤ k → k < length edges → (get_or edges k d).from ≢ comp
+      apart k d le lt same =
+          let inside : place < length edges = omega (arith, le, lt) in
+          let low : comp ≤ (get_or edges place d).from = is.after place d from inside in
+          let differs : (get_or edges place d).from ≢ comp =
+          (λ e. out (record { within = inside; here = λ x. ap (λ (y : Edge). y.from) (get_or_default edges place x d inside) ∙ e })) in
+          absurd (omega (arith, same, no_lower_after edges (suc comp) place d order inside (omega (arith, low, differs)) k d le lt))
+
+-- ---- the edges of a link
+
+pub edges_are : (priced : Priced) (l : ℕ) (edges : List Edge) → slice_get priced.graphs l ≡ Some edges → edges_of priced (Some l) ≡ edges
+edges_are priced l edges at = ap (λ (o : Option (List Edge)). unwrap_or o []) at
+
+pub edges_in_order : (priced : Priced) (l : ℕ) (edges : List Edge) → AreGraphs priced.day priced.graphs → slice_get priced.graphs l ≡ Some edges → AreInOrder edges
+edges_in_order priced l edges are at = (are.each l edges at).in_order
+
+abbrev none_row : Priced → List (Option Cell)
+none_row priced = replicate (comps_of priced) None
+
+-- the cells so far are those of the edges so far from a composition
+pub record IsLeastSoFar (priced : Priced) (l : ℕ) (edges : List Edge) (ahead : List (Option Cell)) (comp begin place : ℕ) (least : Option Cell) : Type 0 where
+  pub from : begin ≤ place
+  pub most : place ≤ length edges
+  pub cell : least ≡ get_or (fold (offered_at priced (Some l) ahead) (none_row priced) (take place edges)) comp None
+  pub small : (bound : ℕ) → AreSmallCells bound ahead → IfSome least (λ cell. IsSmall (bound + 13000000000000000) cell.value)
+
+pub least_begins : (priced : Priced) (l : ℕ) (edges : List Edge) (ahead : List (Option Cell)) (comp begin : ℕ) → comp < comps_of priced
+    → IsGroupPlace edges comp begin → IsLeastSoFar priced l edges ahead comp begin begin None
+least_begins priced l edges ahead comp begin below is = record {
+  from = omega arith;
+  most = is.within;
+  cell = sym (at_begin priced (Some l) ahead (none_row priced) edges comp begin is ∙ get_or-replicate (comps_of priced) comp None None below);
+  small = λ bound small. tt;
+}
+
+-- one edge from it more
+pub least_more : (priced : Priced) (l : ℕ) (edges : List Edge) (ahead : List (Option Cell)) (comp begin place : ℕ) (least : Option Cell)
+    → comp < comps_of priced → IsLeastSoFar priced l edges ahead comp begin place least → IsInGroup edges comp place
+    → (edge : Edge) → edge ≡ get_or edges place edge → (offer new : Option Cell)
+    → offer ≡ offer_by edge.to (price_of priced (Some l) edge) (get_or ahead edge.to None)
+    → ((bound : ℕ) → AreSmallCells bound ahead → IfSome offer (λ cell. IsSmall (bound + 13000000000000000) cell.value))
+    → new ≡ lower_cell least offer → IsLeastSoFar priced l edges ahead comp begin (suc place) new
+least_more priced l edges ahead comp begin place least listed done is edge there offer new offered small made = record {
+  from = omega (arith, done.from);
+  most = omega (arith, is.within);
+  cell = made ∙ ap (λ (o : Option Cell). lower_cell o offer) done.cell
+      ∙ ap (lower_cell (get_or (fold (offered_at priced (Some l) ahead) (none_row priced) (take place edges)) comp None)) offered
+      ∙ sym (one_offer priced (Some l) ahead (none_row priced) edges comp place edge is.within there
+      (ap (λ (x : Edge). x.from) there ∙ is.here edge) (omega (arith, listed, length-replicate {A = Option Cell} (comps_of priced) None)));
+  small = λ bound few. subst (λ (o : Option Cell). IfSome o (λ cell. IsSmall (bound + 13000000000000000) cell.value)) (sym made)
+      (lower_small (bound + 13000000000000000) least offer (done.small bound few) (small bound few));
+}
+
+-- ---- sizes
+
+pub some_more : (a b : ℕ) (o : Option Cell) → a ≤ b → IfSome o (λ cell. IsSmall a cell.value) → IfSome o (λ cell. IsSmall b cell.value)
+some_more a b None le small = tt
+some_more a b (Some cell) le small = small_more a b cell.value le small
+
+-- a worth on a trip from which a link leads on, after the price of an edge
+pub worth_step : (bound : ℕ) (worth : ℤ) (cell new : Option Cell) → new ≡ with_worth (Some worth) cell → IsSmall 8000000000000000 worth
+    → IfSome cell (λ it. IsSmall (bound + 13000000000000000) it.value) → IfSome new (λ it. IsSmall (bound + 21000000000000000) it.value)
+worth_step bound worth cell new is few small = subst (λ (o : Option Cell). IfSome o (λ it. IsSmall (bound + 21000000000000000) it.value)) (sym is)
+    (some_more (bound + 13000000000000000 + 8000000000000000) (bound + 21000000000000000) (with_worth (Some worth) cell) (omega arith)
+    (with_worth_small (bound + 13000000000000000) 8000000000000000 (Some worth) cell few small))
+
+pub least_ends : (priced : Priced) (l : ℕ) (edges : List Edge) (ahead : List (Option Cell)) (comp begin place : ℕ) (least : Option Cell)
+    → AreGraphs priced.day priced.graphs → slice_get priced.graphs l ≡ Some edges
+    → IsGroupPlace edges comp begin → IsLeastSoFar priced l edges ahead comp begin place least → (IsInGroup edges comp place → ⊥)
+    → least ≡ offered_from priced (Some l) ahead comp
+least_ends priced l edges ahead comp begin place least are at is done out =
+    done.cell
+    ∙ sym (at_end priced (Some l) ahead (none_row priced) edges comp begin place (edges_in_order priced l edges are at) is done.from done.most out)
+    ∙ sym (ap (λ (xs : List Edge). get_or (fold (offered_at priced (Some l) ahead) (none_row priced) xs) comp None) (edges_are priced l edges at))
+
+-- ---- a row that is made cell by cell
+
+abbrev pub cell_on : Priced → ℕ → List (Option Cell) → ℕ → Option Cell
+cell_on priced t ahead comp = with_worth (worth_of priced t comp) (offered_from priced (outgoing priced.day t) ahead comp)
+
+pub record IsFilled (priced : Priced) (t : ℕ) (ahead : List (Option Cell)) (comp : ℕ) (row : List (Option Cell)) : Type 0 where
+  pub long : length row ≡ comps_of priced
+  pub cells : (k : ℕ) → k < comp → get_or row k None ≡ cell_on priced t ahead k
+  pub small : (bound k : ℕ) → k < comp → AreSmallCells bound ahead
+      → IfSome (get_or row k None) (λ cell. IsSmall (bound + 21000000000000000) cell.value)
+
+pub filled_more : (priced : Priced) (t : ℕ) (ahead : List (Option Cell)) (comp : ℕ) (row new : List (Option Cell)) (cell : Option Cell)
+    → IsFilled priced t ahead comp row → comp < comps_of priced → new ≡ set row comp cell → cell ≡ cell_on priced t ahead comp
+    → ((bound : ℕ) → AreSmallCells bound ahead → IfSome cell (λ it. IsSmall (bound + 21000000000000000) it.value))
+    → IsFilled priced t ahead (suc comp) new
+filled_more priced t ahead comp row new cell done below is here small = subst (IsFilled priced t ahead (suc comp)) (sym is) (record {
+  long = length-set row comp cell ∙ done.long;
+  cells = λ k lt. elim (cases_eq k comp) [
+    | inl same ↦ subst (λ (i : ℕ). get_or (set row comp cell) i None ≡ cell_on priced t ahead i) (sym same)
+        (get_or-set_same row comp cell None (omega (arith, below, done.long)) ∙ here)
+    | inr differ ↦ get_or-set_other row comp k cell None differ ∙ done.cells k (omega (arith, lt, differ))
+  ];
+  small = λ bound k lt few. elim (cases_eq k comp) [
+    | inl same ↦ subst (λ (o : Option Cell). IfSome o (λ it. IsSmall (bound + 21000000000000000) it.value))
+        (sym (ap (λ (i : ℕ). get_or (set row comp cell) i None) same ∙ get_or-set_same row comp cell None (omega (arith, below, done.long))))
+        (small bound few)
+    | inr differ ↦ subst (λ (o : Option Cell). IfSome o (λ it. IsSmall (bound + 21000000000000000) it.value))
+        (sym (get_or-set_other row comp k cell None differ)) (done.small bound k (omega (arith, lt, differ)) few)
+  ];
+})
+
+length-with_worths : (stage : Stage) (comp : ℕ) (row : List (Option Cell)) → length (with_worths stage comp row) ≡ length row
+length-with_worths stage comp [] = refl
+length-with_worths stage comp (cell ∷ row) = ap suc (length-with_worths stage (suc comp) row)
+
+abbrev all_offered : Priced → ℕ → List (Option Cell) → List (Option Cell)
+all_offered priced t ahead = edges_offered priced (outgoing priced.day t) ahead (none_row priced)
+
+length_offered : (priced : Priced) (t : ℕ) (ahead : List (Option Cell)) → length (all_offered priced t ahead) ≡ comps_of priced
+length_offered priced t ahead =
+    length-offered priced (outgoing priced.day t) ahead (none_row priced) ∙ length-replicate {A = Option Cell} (comps_of priced) None
+
+row_long : (priced : Priced) (t : ℕ) (ahead : List (Option Cell)) → length (row_on priced t ahead) ≡ comps_of priced
+row_long priced t ahead = length-with_worths (stage_of priced t) 0 (all_offered priced t ahead) ∙ length_offered priced t ahead
+
+row_cell : (priced : Priced) (t : ℕ) (ahead : List (Option Cell)) (k : ℕ) → k < comps_of priced
+    → get_or (row_on priced t ahead) k None ≡ cell_on priced t ahead k
+row_cell priced t ahead k below =
+    let same : 0 + k ≡ k = omega arith in
+    get-with_worths (stage_of priced t) 0 (all_offered priced t ahead) k (omega (arith, below, length_offered priced t ahead))
+    ∙ ap (λ (i : ℕ). with_worth (worth_of priced t i) (get_or (all_offered priced t ahead) k None)) same
+
+pub filled_all : (priced : Priced) (t : ℕ) (ahead : List (Option Cell)) (comp : ℕ) (row : List (Option Cell))
+    → IsFilled priced t ahead comp row → comps_of priced ≤ comp → row ≡ row_on priced t ahead
+filled_all priced t ahead comp row done past = ext_get_or None row (row_on priced t ahead) (done.long ∙ sym (row_long priced t ahead))
+    (λ k lt. done.cells k (omega (arith, lt, past, done.long))
+    ∙ sym (row_cell priced t ahead k (omega (arith, lt, done.long))))
+
+pub filled_small : (priced : Priced) (t : ℕ) (ahead : List (Option Cell)) (comp : ℕ) (row : List (Option Cell))
+    → IsFilled priced t ahead comp row → comps_of priced ≤ comp → IsSmallStep 21000000000000000 ahead row
+filled_small priced t ahead comp row done past bound few k cell at = elim (cases_lt k (comps_of priced)) [
+  | inl below ↦ some_small (bound + 21000000000000000) (get_or row k None) cell (done.small bound k (omega (arith, below, past)) few) at
+  | inr out ↦ let none : None ≡ Some cell = sym (get_or_past row k None (omega (arith, out, done.long))) ∙ at in absurd cc
+]
+
+-- ---- a trip from which no link leads on
+
+pub worths_of_none : (stage : Stage) (at n : ℕ) → with_worths stage at (replicate n None) ≡ replicate n None
+worths_of_none stage at zero = refl
+worths_of_none stage at (suc n) =
+    ap (λ (cell : Option Cell). cell ∷ with_worths stage (suc at) (replicate n None)) (none (stage.worth at))
+    ∙ ap (λ (row : List (Option Cell)). None ∷ row) (worths_of_none stage (suc at) n)
+  where
+    none : (worth : Option _) → with_worth worth None ≡ None
+    none None = refl
+    none (Some worth) = refl
+
+pub row_of_none : (priced : Priced) (t : ℕ) (ahead : List (Option Cell)) → outgoing priced.day t ≡ None
+    → row_on priced t ahead ≡ replicate (comps_of priced) None
+row_of_none priced t ahead none =
+    ap (λ (link : Option ℕ). with_worths (stage_of priced t) 0 (edges_offered priced link ahead (none_row priced))) none
+    ∙ worths_of_none (stage_of priced t) 0 (comps_of priced)

@@ -1,0 +1,208 @@
+//! The cells of a trip, composition by composition, from the edges that lead on from each.
+//!
+//! The edges of a link stand in order of the composition that they lead from: those of one composition are found
+//! together, and those of a composition that the trip may not have are passed over.
+
+ghost use Rattle.std.specs.Prelude.{ℕ, ◌≡◌, ◌<◌, ◌≤◌, ◌+◌, ◌↔◌, IfSome, IsTrue, None, Some, get_or, length, replicate, slice_get};
+ghost use Rattle.timetable.specs.Links.{outgoing};
+ghost use Rattle.transitions.specs.Edges.{AreGraphs, AreInOrder, IsEdge};
+ghost use Rattle.price_bound.specs.CellRows.{comps_of, offered_from, row_on};
+ghost use Rattle.price_bound.specs.CellSizes.{AreSmallCells, IsSmall, IsSmallStep, most_ahead, most_edge_price, most_step};
+ghost use Rattle.price_bound.specs.ChainStages.{price_of, worth_of};
+ghost use Rattle.price_bound.specs.EdgeGroups.{IsAtGroup, IsGroupPlace, IsInGroup};
+ghost use Rattle.price_bound.specs.Paths.{offer_by, with_worth};
+ghost use Rattle.price_bound.specs.Pricing.{IsListed, priced_by};
+ghost use Rattle.price_bound.specs.TripAndLinkPrices.{IsForTrip};
+
+use crate::cells::{Cell, CellRow, lower_cell, offer_by, with_worth};
+use crate::edge_prices::EdgePrices;
+use crate::worths::TripWorths;
+use rail_base::CompNo;
+use transitions::Edge;
+
+/// What is found among the edges from one composition.
+#[derive(Clone, Copy)]
+pub(crate) struct Least {
+    /// The first cell of least value, if there is one.
+    pub cell: Option<Cell>,
+    /// Where the edges from a later composition are looked for first.
+    pub end: usize,
+}
+
+/// Makes the row of a trip from which a link leads on, by the edges of the link.
+pub(crate) fn fill_by_edges<P: EdgePrices>(
+    prices: &P,
+    edges: &[Edge],
+    worths: &TripWorths<'_>,
+    row: &mut CellRow,
+    ahead: &CellRow,
+)
+    requires prices { P.are_of_link prices.now }
+    requires graphs { AreGraphs (P.priced prices.now).day (P.priced prices.now).graphs }
+    requires edges { slice_get (P.priced prices.now).graphs (P.link prices.now) ≡ Some edges.now }
+    requires worths { IsForTrip worths.now }
+    requires priced { priced_by worths.now.pricing.now ≡ P.priced prices.now }
+    requires link { outgoing (P.priced prices.now).day worths.now.trip ≡ Some (P.link prices.now) }
+    requires row { length row.old ≡ comps_of (P.priced prices.now) }
+    requires ahead { length ahead.now ≡ comps_of (P.priced prices.now) }
+    requires small { AreSmallCells most_ahead ahead.now }
+    ensures row { row.new ≡ row_on (P.priced prices.now) worths.now.trip ahead.now }
+    ensures small { IsSmallStep most_step ahead.now row.new }
+{
+    let mut begin = 0;
+    for comp in 0..worths.pricing.instance.catalogue().len() {
+        let least = least_with_worth(prices, edges, worths, CompNo(comp), begin, ahead);
+        row.put(CompNo(comp), least.cell);
+        begin = least.end;
+    }
+}
+
+/// The cell of a composition: the first of least value among those of the edges from it, with what it is worth. The
+/// edges are looked for at a place first.
+fn least_with_worth<P: EdgePrices>(
+    prices: &P,
+    edges: &[Edge],
+    worths: &TripWorths<'_>,
+    comp: CompNo,
+    begin: usize,
+    ahead: &CellRow,
+) -> Least
+    requires prices { P.are_of_link prices.now }
+    requires graphs { AreGraphs (P.priced prices.now).day (P.priced prices.now).graphs }
+    requires edges { slice_get (P.priced prices.now).graphs (P.link prices.now) ≡ Some edges.now }
+    requires worths { IsForTrip worths.now }
+    requires priced { priced_by worths.now.pricing.now ≡ P.priced prices.now }
+    requires link { outgoing (P.priced prices.now).day worths.now.trip ≡ Some (P.link prices.now) }
+    requires comp { comp < comps_of (P.priced prices.now) }
+    requires ahead { length ahead.now ≡ comps_of (P.priced prices.now) }
+    requires small { AreSmallCells most_ahead ahead.now }
+    ensures cell { result.cell ≡ with_worth (worth_of (P.priced prices.now) worths.now.trip comp)
+        (offered_from (P.priced prices.now) (Some (P.link prices.now)) ahead.now comp) }
+    ensures small { (bound : ℕ) → AreSmallCells bound ahead.now
+        → IfSome result.cell (λ cell. IsSmall (bound + most_step) cell.value) }
+{
+    let Some(worth) = worths.worth(comp) else {
+        return Least {
+            cell: None,
+            end: begin,
+        };
+    };
+    let first = first_from(edges, comp, begin);
+    let least = least_from(prices, edges, comp, first, ahead);
+    Least {
+        cell: with_worth(Some(worth), least.cell),
+        end: least.end,
+    }
+}
+
+/// The first cell of least value among those of the edges from a composition, which begin at a place.
+fn least_from<P: EdgePrices>(
+    prices: &P,
+    edges: &[Edge],
+    comp: CompNo,
+    begin: usize,
+    ahead: &CellRow,
+) -> Least
+    requires prices { P.are_of_link prices.now }
+    requires graphs { AreGraphs (P.priced prices.now).day (P.priced prices.now).graphs }
+    requires edges { slice_get (P.priced prices.now).graphs (P.link prices.now) ≡ Some edges.now }
+    requires comp { comp < comps_of (P.priced prices.now) }
+    requires begin { IsGroupPlace edges.now comp begin }
+    requires ahead { length ahead.now ≡ comps_of (P.priced prices.now) }
+    requires small { AreSmallCells most_ahead ahead.now }
+    ensures cell { result.cell ≡ offered_from (P.priced prices.now) (Some (P.link prices.now)) ahead.now comp }
+    ensures small { (bound : ℕ) → AreSmallCells bound ahead.now
+        → IfSome result.cell (λ cell. IsSmall (bound + most_edge_price) cell.value) }
+{
+    let mut least = None;
+    let mut place = begin;
+    while is_in_group(edges, comp, place) {
+        let offer = offer_at(prices, &edges[place], ahead);
+        least = lower_cell(least, offer);
+        place += 1;
+    }
+    Least {
+        cell: least,
+        end: place,
+    }
+}
+
+/// The cell that an edge of a link offers at its price, which is found only where there is a cell ahead of it.
+fn offer_at<P: EdgePrices>(prices: &P, edge: &Edge, ahead: &CellRow) -> Option<Cell>
+    requires prices { P.are_of_link prices.now }
+    requires edge { IsListed (comps_of (P.priced prices.now)) edge.now }
+    requires allowed { IsEdge (P.priced prices.now).day (P.link prices.now) edge.now }
+    requires ahead { length ahead.now ≡ comps_of (P.priced prices.now) }
+    requires small { AreSmallCells most_ahead ahead.now }
+    ensures value { result ≡ offer_by edge.now.to
+        (price_of (P.priced prices.now) (Some (P.link prices.now)) edge.now)
+        (get_or ahead.now edge.now.to None) }
+    ensures small { (bound : ℕ) → AreSmallCells bound ahead.now
+        → IfSome result (λ cell. IsSmall (bound + most_edge_price) cell.value) }
+{
+    let Some(cell) = ahead.get(edge.to) else {
+        return None;
+    };
+    let price = prices.price(edge);
+    offer_by(edge.to, price, cell)
+}
+
+/// Whether the edge at a place is there and leads from this composition.
+fn is_in_group(edges: &[Edge], comp: CompNo, place: usize) -> bool
+    ensures { IsTrue result ↔ IsInGroup edges.now comp place }
+{
+    if place >= edges.len() {
+        return false;
+    }
+    let from = edges[place].from;
+    from.0 == comp.0
+}
+
+/// The place of the first edge that leads from no lower composition than this. It is looked for at a place first.
+fn first_from(edges: &[Edge], comp: CompNo, hint: usize) -> usize
+    requires { AreInOrder edges.now }
+    ensures { IsGroupPlace edges.now comp result }
+{
+    if begins_at(edges, comp, hint) {
+        return hint;
+    }
+    halved_from(edges, comp)
+}
+
+/// Whether the edge at a place is there and leads from no lower composition than this, and the edge before it, if there
+/// is one, from a lower one.
+fn begins_at(edges: &[Edge], comp: CompNo, place: usize) -> bool
+    ensures { IsTrue result → IsAtGroup edges.now comp place }
+{
+    if place >= edges.len() {
+        return false;
+    }
+    let from = edges[place].from;
+    if from.0 < comp.0 {
+        return false;
+    }
+    if place == 0 {
+        return true;
+    }
+    let before = edges[place - 1].from;
+    before.0 < comp.0
+}
+
+/// The place of the first edge that leads from no lower composition than this, by halving.
+fn halved_from(edges: &[Edge], comp: CompNo) -> usize
+    requires { AreInOrder edges.now }
+    ensures { IsGroupPlace edges.now comp result }
+{
+    let mut low = 0;
+    let mut high = edges.len();
+    while low < high {
+        let middle = low + (high - low) / 2;
+        let from = edges[middle].from;
+        if from.0 < comp.0 {
+            low = middle + 1;
+        } else {
+            high = middle;
+        }
+    }
+    low
+}
