@@ -1,15 +1,15 @@
 -- The rows of a chain while they are made, from its last trip to its first, and the path along them.
-use Rattle.std.proofs.Common.{◌≡◌, ◌≢◌, ℕ, zero, suc, ◌+◌, ◌++◌, ◌*◌, ◌<◌, ◌≤◌, List, [], ◌∷◌, length, get_or, set}
+use Rattle.std.proofs.Common.{◌≡◌, ℕ, zero, suc, ◌+◌, ◌++◌, ◌*◌, ◌<◌, ◌≤◌, List, [], ◌∷◌, length, get_or, set}
 use Rattle.std.proofs.Common.{replicate, map, take}
-use Rattle.std.proofs.Common.{drop, Option, Some, None, refl, sym, ap, ◌∙◌, subst, arith, ℤ, ◌+ℤ◌, pos, inl, inr, slice_get}
-use Rattle.std.proofs.Common.{length-set, Bool, true, false, cond, Contains}
-use Rattle.std.specs.Prelude.{fold, int_lt, is_none, option_map, IfSome}
+use Rattle.std.proofs.Common.{drop, Option, Some, None, refl, sym, ap, ◌∙◌, subst, arith, ℤ, ◌+ℤ◌, inl, inr, slice_get}
+use Rattle.std.proofs.Common.{length-set, length-drop, Bool, true, false, cond, Contains}
+use Rattle.std.specs.Prelude.{fold, int_lt, option_map, IfSome}
 use Rattle.std.proofs.Math.Seq.{drop-cons}
 use Rattle.std.proofs.lemmas.Bool.{cases_eq, cases_lt}
-use Rattle.std.proofs.lemmas.List.{append-nil, drop_all, get_or-append-add, get_or-replicate, get_or_append_left}
+use Rattle.std.proofs.lemmas.List.{drop_all, get_or-append-add, get_or-replicate, get_or_append_left}
 use Rattle.std.proofs.lemmas.List.{get_or_default, set-append_left, get_or-set_same, get_or-set_other, get_or-take}
 use Rattle.std.proofs.lemmas.List.{get_or_past}
-use Rattle.std.proofs.lemmas.List.{length-replicate, length-take-le, take_all}
+use Rattle.std.proofs.lemmas.List.{length-replicate}
 use Rattle.transitions.specs.declared.edge.Edge.{Edge}
 use Rattle.transitions.specs.Edges.{AreGraphs, IsEdge, IsKindEdge}
 use Rattle.timetable.specs.declared.day.records.LinkKind.{LinkKind}
@@ -18,13 +18,14 @@ use Rattle.timetable.specs.Compositions.{compositions_of}
 use Rattle.timetable.specs.Day.{Day}
 use Rattle.price_bound.specs.declared.cells.Cell.{Cell}
 use Rattle.price_bound.specs.declared.worths.Amount.{Amount}
-use Rattle.price_bound.specs.CellRows.{HaveRoom, edges_offered, lower_at, put_along}
-use Rattle.price_bound.specs.CellSizes.{AreSmallCells, IsSmall, IsSmallStep, most_worth}
+use Rattle.price_bound.specs.CellRows.{HaveRoom, all_bare, bare, chain_rows, comps_of, edges_offered, lower_at, put_along}
+use Rattle.price_bound.specs.CellRows.{row_on}
+use Rattle.price_bound.specs.CellSizes.{AreSmallCells, IsSmall, most_worth}
 use Rattle.price_bound.specs.ChainStages.{Priced, edges_of, price_of, stage_of, stages_of}
-use Rattle.price_bound.specs.Paths.{Stage, last_row, lower_cell, next_of, offer_by, row_before, row_by, rows_of}
+use Rattle.price_bound.specs.Paths.{Stage, begin_of, last_row, least_from, lower_cell, next_of, offer_by, offered, row_before, row_by, rows_of}
 use Rattle.price_bound.specs.Paths.{path_from, with_worth, with_worths}
 use Rattle.price_bound.specs.Pricing.{IsListed}
-use Rattle.price_bound.proofs.Adding.{small_more, small_total, small_zero}
+use Rattle.price_bound.proofs.Adding.{small_more, small_total}
 use Rattle.price_bound.proofs.Offers.{cell_is}
 use Rattle.price_bound.proofs.Rows.{length-row}
 
@@ -46,18 +47,6 @@ room_kept rows comps place row table long room = record {
 pub const_row : {X Y : Type 0} (y : Y) (xs : List X) → map (λ _. y) xs ≡ replicate (length xs) y
 const_row y [] = refl
 const_row y (x ∷ xs) = ap (λ (ys : List _). y ∷ ys) (const_row y xs)
-
-pub end_small : (bound n : ℕ) → AreSmallCells bound (replicate n (Some (record { value = pos 0; next = 0 })))
-end_small bound n comp cell at = elim (cases_lt comp n) [
-  | inl below ↦
-      let same : Some (record { value = pos 0; next = 0 }) ≡ Some cell =
-      sym (get_or-replicate n comp (Some (record { value = pos 0; next = 0 })) None below) ∙ at in
-      subst (IsSmall bound) (ap (λ (c : Cell). c.value) (cell_is (record { value = pos 0; next = 0 }) cell same)) (small_zero bound)
-  | inr past ↦
-      let none : None ≡ Some cell = sym (get_or_past (replicate n (Some (record { value = pos 0; next = 0 }))) comp None
-      (omega (arith, past, length-replicate {A = Option Cell} n (Some (record { value = pos 0; next = 0 }))))) ∙ at in
-      absurd (cc)
-]
 
 pub none_small : (bound n : ℕ) → AreSmallCells bound (replicate n None)
 none_small bound n comp cell at = elim (cases_lt comp n) [
@@ -91,38 +80,12 @@ lower_small bound (Some a) (Some b) p q = by (int_lt b.value a.value)
     by true = q
     by false = p
 
-pub set_small : (bound : ℕ) (row : List (Option Cell)) (comp : ℕ) (cell : Option Cell) → AreSmallCells bound row
-    → IfSome cell (λ it. IsSmall bound it.value) → AreSmallCells bound (set row comp cell)
-set_small bound row comp cell small new k it at = elim (cases_eq k comp) [
-  | inl same ↦ elim (cases_lt comp (length row)) [
-    | inl below ↦
-        some_small bound cell it new (sym (get_or-set_same row comp cell None below) ∙ subst (λ (i : ℕ). get_or (set row comp cell) i None ≡ Some it) same at)
-    | inr past ↦
-        let none : None ≡ Some it = sym (get_or_past (set row comp cell) k None (omega (arith, past, same, length-set row comp cell))) ∙ at in
-        absurd (cc)
-  ]
-  | inr differ ↦ small k it (sym (get_or-set_other row comp k cell None differ) ∙ at)
-]
-
--- a cell that is offered leaves the row small
-pub offered_small : (bound : ℕ) (row : List (Option Cell)) (comp : ℕ) (cell : Option Cell) → AreSmallCells bound row
-    → IfSome cell (λ it. IsSmall bound it.value) → AreSmallCells bound (lower_at comp cell row)
-offered_small bound row comp cell small new = set_small bound row comp (lower_cell (get_or row comp None) cell) small
-    (lower_small bound (get_or row comp None) cell (cell_small bound row comp small) new)
-
 -- ---- bounds that are higher
 
 pub cells_more : (a b : ℕ) (row : List (Option Cell)) → a ≤ b → AreSmallCells a row → AreSmallCells b row
 cells_more a b row le small comp cell at = small_more a b cell.value le (small comp cell at)
 
--- ---- a row that is weighed cell by cell
-
--- the cells so far have their worth, and the others are as they were
-pub record AreWeighed (stage : Stage) (most : ℕ) (old : List (Option Cell)) (comp : ℕ) (row : List (Option Cell)) : Type 0 where
-  pub cells : take comp row ++ with_worths stage comp (drop comp row) ≡ with_worths stage 0 old
-  pub long : length row ≡ length old
-  pub rest : (k : ℕ) → comp ≤ k → get_or row k None ≡ get_or old k None
-  pub small : IsSmallStep most old row
+-- ---- a cell with a worth
 
 pub with_worth_small : (bound most : ℕ) (worth : Option ℤ) (cell : Option Cell) → IfSome worth (IsSmall most)
     → IfSome cell (λ it. IsSmall bound it.value) → IfSome (with_worth worth cell) (λ it. IsSmall (bound + most) it.value)
@@ -130,69 +93,6 @@ with_worth_small bound most None cell few small = tt
 with_worth_small bound most (Some worth) None few small = tt
 with_worth_small bound most (Some worth) (Some it) few small =
     small_total most bound (bound + most) worth it.value (worth +ℤ it.value) (omega arith) refl few small
-
-one_cell : (F : List (Option Cell) → List (Option Cell)) (comp : ℕ) (row : List (Option Cell)) (cell : Option Cell)
-    → comp < length row → take (suc comp) (set row comp cell) ++ F (drop (suc comp) (set row comp cell))
-    ≡ take comp row ++ cell ∷ F (drop (suc comp) row)
-one_cell F comp [] cell below = absurd (omega (arith, below))
-one_cell F zero (c ∷ row) cell below = refl
-one_cell F (suc comp) (c ∷ row) cell below =
-    ap (λ (cs : List (Option Cell)). c ∷ cs) (one_cell F comp row cell (omega (arith, below)))
-
-module _ (stage : Stage) (most : ℕ) (old : List (Option Cell)) (comp : ℕ) (row new : List (Option Cell))
-    (done : AreWeighed stage most old comp row)
-    (below : comp < length row) (is : new ≡ set row comp (with_worth (stage.worth comp) (get_or row comp None)))
-    (small : IfSome (stage.worth comp) (IsSmall most)) where
-  abbrev cell : Option Cell
-  cell = with_worth (stage.worth comp) (get_or row comp None)
-
-  weighed_cells : take (suc comp) new ++ with_worths stage (suc comp) (drop (suc comp) new) ≡ with_worths stage 0 old
-  weighed_cells =
-      ap (λ (cs : List (Option Cell)). take (suc comp) cs ++ with_worths stage (suc comp) (drop (suc comp) cs)) is
-      ∙ one_cell (with_worths stage (suc comp)) comp row cell below
-      ∙ ap (λ (cs : List (Option Cell)). take comp row ++ with_worths stage comp cs) (sym (drop-cons row comp None below))
-      ∙ done.cells
-
-  others : (k : ℕ) → k ≢ comp → get_or new k None ≡ get_or row k None
-  others k differ = ap (λ (cs : List (Option Cell)). get_or cs k None) is ∙ get_or-set_other row comp k cell None differ
-
-  here_small : (bound : ℕ) → AreSmallCells bound old → IfSome (get_or row comp None) (λ it. IsSmall bound it.value)
-  here_small bound each = subst (λ (o : Option Cell). IfSome o (λ it. IsSmall bound it.value)) (sym (done.rest comp (omega arith)))
-      (cell_small bound old comp each)
-
-  weighed_small : IsSmallStep most old new
-  weighed_small bound each k it at = elim (cases_eq k comp) [
-    | inl same ↦ some_small (bound + most) cell it
-        (with_worth_small bound most (stage.worth comp) (get_or row comp None) small (here_small bound each))
-        (sym (get_or-set_same row comp cell None below)
-        ∙ sym (ap (λ (cs : List (Option Cell)). get_or cs comp None) is) ∙ subst (λ (i : ℕ). get_or new i None ≡ Some it) same at)
-    | inr differ ↦ done.small bound each k it (sym (others k differ) ∙ at)
-  ]
-
-  pub weighed_more : AreWeighed stage most old (suc comp) new
-  weighed_more = record {
-    cells = weighed_cells;
-    long = ap length is ∙ length-set row comp cell ∙ done.long;
-    rest = λ k le. others k (λ e. absurd (omega (arith, le, e))) ∙ done.rest k (omega (arith, le));
-    small = weighed_small;
-  }
-
-pub weighed_none : (stage : Stage) (most : ℕ) (old : List (Option Cell)) → AreWeighed stage most old 0 old
-weighed_none stage most old = record {
-  cells = refl;
-  long = refl;
-  rest = λ k le. refl;
-  small = λ bound each. cells_more bound (bound + most) old (omega arith) each;
-}
-
-pub weighed_all : (stage : Stage) (most : ℕ) (old : List (Option Cell)) (comp : ℕ) (row : List (Option Cell))
-    → AreWeighed stage most old comp row
-    → length row ≤ comp → row ≡ with_worths stage 0 old
-weighed_all stage most old comp row done past =
-    sym (append-nil row)
-    ∙ ap (λ (cs : List (Option Cell)). cs ++ []) (sym (take_all comp row past))
-    ∙ ap (λ (cs : List (Option Cell)). take comp row ++ with_worths stage comp cs) (sym (drop_all comp row past))
-    ∙ done.cells
 
 -- ---- edges that offer one after another
 
@@ -210,35 +110,6 @@ fold_more f z (x ∷ xs) (suc i) d below = fold_more f (f z x) xs i d (omega (ar
 abbrev pub offered_at : Priced → Option ℕ → List (Option Cell) → List (Option Cell) → Edge → List (Option Cell)
 offered_at priced link ahead row edge =
     lower_at edge.from (offer_by edge.to (price_of priced link edge) (get_or ahead edge.to None)) row
-
--- the edges so far have offered their cells
-pub record HaveOffered (priced : Priced) (link : Option ℕ) (edges : List Edge) (ahead old : List (Option Cell)) (i : ℕ)
-    (row : List (Option Cell)) : Type 0 where
-  pub cells : row ≡ fold (offered_at priced link ahead) old (take i edges)
-  pub long : length row ≡ length old
-  pub small : (bound : ℕ) → AreSmallCells bound ahead → AreSmallCells (bound + 13000000000000000) old
-      → AreSmallCells (bound + 13000000000000000) row
-
-module _ (priced : Priced) (link : Option ℕ) (edges : List Edge) (ahead old : List (Option Cell)) (i : ℕ) (row : List (Option Cell))
-    (done : HaveOffered priced link edges ahead old i row) (below : i < length edges) (edge : Edge)
-    (there : edge ≡ get_or edges i edge) (offer : Option Cell)
-    (offered : offer ≡ offer_by edge.to (price_of priced link edge) (get_or ahead edge.to None))
-    (offer_small : (bound : ℕ) → AreSmallCells bound ahead → IfSome offer (λ it. IsSmall (bound + 13000000000000000) it.value))
-    (new : List (Option Cell)) (is : new ≡ lower_at edge.from offer row) where
-  offered_cells : new ≡ fold (offered_at priced link ahead) old (take (suc i) edges)
-  offered_cells =
-      is ∙ ap (λ (o : Option Cell). lower_at edge.from o row) offered
-      ∙ ap (λ (cs : List (Option Cell)). offered_at priced link ahead cs edge) done.cells
-      ∙ ap (offered_at priced link ahead (fold (offered_at priced link ahead) old (take i edges))) there
-      ∙ sym (fold_more (offered_at priced link ahead) old edges i edge below)
-
-  pub offered_more : HaveOffered priced link edges ahead old (suc i) new
-  offered_more = record {
-    cells = offered_cells;
-    long = ap length is ∙ length-set row edge.from (lower_cell (get_or row edge.from None) offer) ∙ done.long;
-    small = λ bound first each. subst (AreSmallCells (bound + 13000000000000000)) (sym is)
-        (offered_small (bound + 13000000000000000) row edge.from offer (done.small bound first each) (offer_small bound first));
-  }
 
 pub length-offered : (priced : Priced) (link : Option ℕ) (ahead row : List (Option Cell))
     → length (edges_offered priced link ahead row) ≡ length row
@@ -268,38 +139,70 @@ worth_at most o worth is small = subst (λ (w : Option ℤ). IfSome w (IsSmall m
     by None few = tt
     by (Some it) few = few
 
--- where no link leads on, no cell is offered
-pub step_small : (priced : Priced) (link : Option ℕ) (ahead clear row new : List (Option Cell)) (n bound : ℕ) → clear ≡ replicate n None
-    → row ≡ edges_offered priced link ahead clear → AreSmallCells (bound + 13000000000000000) row
-    → IsSmallStep (most_worth (is_none link)) row new → AreSmallCells (bound + 21000000000000000) new
-step_small priced None ahead clear row new n bound none offered small weighed =
-    cells_more (0 + 14000000000000000) (bound + 21000000000000000) new (omega arith)
-    (weighed 0 (subst (AreSmallCells 0) (sym (offered ∙ none)) (none_small 0 n)))
-step_small priced (Some l) ahead clear row new n bound none offered small weighed =
-    cells_more (bound + 13000000000000000 + 8000000000000000) (bound + 21000000000000000) new (omega arith)
-    (weighed (bound + 13000000000000000) small)
+-- ---- rows that keep the values of cells alone
+
+pub get-bare : (row : List (Option Cell)) (k : ℕ) → get_or (all_bare row) k None ≡ bare (get_or row k None)
+get-bare [] k = refl
+get-bare (cell ∷ row) zero = refl
+get-bare (cell ∷ row) (suc k) = get-bare row k
+
+pub bare_small : (bound : ℕ) (o : Option Cell) → IfSome o (λ it. IsSmall bound it.value) → IfSome (bare o) (λ it. IsSmall bound it.value)
+bare_small bound None few = tt
+bare_small bound (Some cell) few = few
+
+-- an edge offers the value of what is ahead, wherever that leads
+offer_of_bare : (to : ℕ) (price : Option ℤ) (cell : Option Cell) → offer_by to price (bare cell) ≡ offer_by to price cell
+offer_of_bare to None cell = refl
+offer_of_bare to (Some price) None = refl
+offer_of_bare to (Some price) (Some cell) = refl
+
+pub row_of_bare : (n : ℕ) (stage : Stage) (ahead : List (Option Cell)) → row_before n stage (all_bare ahead) ≡ row_before n stage ahead
+row_of_bare n stage ahead = ap (with_worths stage 0) (each stage.edges (replicate n None))
+  where
+    each : (edges : List Edge) (row : List (Option Cell))
+        → fold (offered stage (all_bare ahead)) row edges ≡ fold (offered stage ahead) row edges
+    each [] row = refl
+    each (edge ∷ edges) row =
+        ap (λ (new : List (Option Cell)). fold (offered stage (all_bare ahead)) new edges)
+        (ap (λ (cell : Option Cell). lower_at edge.from cell row)
+        (ap (offer_by edge.to (stage.price edge)) (get-bare ahead edge.to)
+        ∙ offer_of_bare edge.to (stage.price edge) (get_or ahead edge.to None)))
+        ∙ each edges (offered stage ahead row edge)
+
+least_of_bare : (comp : ℕ) (best : Option Cell) (row : List (Option Cell)) → least_from comp best (all_bare row) ≡ least_from comp best row
+least_of_bare comp best [] = refl
+least_of_bare comp best (None ∷ row) = least_of_bare (suc comp) (lower_cell best None) row
+least_of_bare comp best (Some cell ∷ row) =
+    least_of_bare (suc comp) (lower_cell best (Some (record { value = cell.value; next = comp }))) row
+
+pub begin_of_bare : (rows : List (List (Option Cell))) → begin_of (map all_bare rows) ≡ begin_of rows
+begin_of_bare [] = refl
+begin_of_bare (row ∷ rows) = least_of_bare 0 None row
 
 -- ---- the rows of a chain, so far as they are made
 
 module _ (n : ℕ) (stage after : Stage) (stages : List Stage) where
   one_row : (place : ℕ) (table : List (List (Option Cell)))
-      → take (suc (length stages)) (drop (suc place) table) ≡ rows_of n (after ∷ stages)
-      → take (suc (suc (length stages))) (drop place (set table place (row_before n stage (get_or table (suc place) []))))
-      ≡ rows_of n (stage ∷ after ∷ stages)
+      → take (suc (length stages)) (drop (suc place) table) ≡ map all_bare (rows_of n (after ∷ stages))
+      → take (suc (suc (length stages))) (drop place (set table place (all_bare (row_before n stage (get_or table (suc place) [])))))
+      ≡ map all_bare (rows_of n (stage ∷ after ∷ stages))
   one_row place [] done = absurd (cc)
   one_row zero (x ∷ []) done = absurd (cc)
   one_row zero (x ∷ y ∷ table) done =
-      let tail : y ∷ take (length stages) table ≡ row_by n after (rows_of n stages) ∷ rows_of n stages = done in
-      let head : y ≡ row_by n after (rows_of n stages) = cc in
-      ap (λ (rows : List (List (Option Cell))). row_before n stage y ∷ rows) tail
-      ∙ ap (λ (row : List (Option Cell)). row_before n stage row ∷ rows_of n (after ∷ stages)) head
+      let tail : y ∷ take (length stages) table ≡ all_bare (row_by n after (rows_of n stages)) ∷ map all_bare (rows_of n stages) = done in
+      let head : y ≡ all_bare (row_by n after (rows_of n stages)) = cc in
+      ap (λ (rows : List (List (Option Cell))). all_bare (row_before n stage y) ∷ rows) tail
+      ∙ ap (λ (row : List (Option Cell)). all_bare (row_before n stage row) ∷ map all_bare (rows_of n (after ∷ stages))) head
+      ∙ ap (λ (row : List (Option Cell)). all_bare row ∷ map all_bare (rows_of n (after ∷ stages)))
+      (row_of_bare n stage (row_by n after (rows_of n stages)))
   one_row (suc place) (x ∷ table) done = one_row place table done
 
 -- the rows from a place on are those of the chain from there on, and the first of them is small
 pub record AreRowsFrom (priced : Priced) (chain : List ℕ) (place : ℕ) (table : List (List (Option Cell))) : Type 0 where
   pub rows : take (length (drop place chain)) (drop place table)
-      ≡ rows_of (length (compositions_of priced.day)) (stages_of priced (drop place chain))
+      ≡ map all_bare (rows_of (length (compositions_of priced.day)) (stages_of priced (drop place chain)))
   pub small : AreSmallCells (length (drop place chain) * 21000000000000000) (get_or table place [])
+  pub each : (k : ℕ) → place ≤ k → k < length chain → AreSmallCells 8500000000000000000 (get_or table k [])
 
 length-stages : (priced : Priced) (chain : List ℕ) → length (stages_of priced chain) ≡ length chain
 length-stages priced [] = refl
@@ -311,39 +214,52 @@ module _ (priced : Priced) (chain : List ℕ) (table : List (List (Option Cell))
 
   -- one row before the others
   more_rows : (t u : ℕ) (ts : List ℕ) (place : ℕ)
-      → take (length (u ∷ ts)) (drop (suc place) table) ≡ rows_of comps (stages_of priced (u ∷ ts))
-      → take (length (t ∷ u ∷ ts)) (drop place (set table place (row_before comps (stage_of priced t) (get_or table (suc place) []))))
-      ≡ rows_of comps (stages_of priced (t ∷ u ∷ ts))
+      → take (length (u ∷ ts)) (drop (suc place) table) ≡ map all_bare (rows_of comps (stages_of priced (u ∷ ts)))
+      → take (length (t ∷ u ∷ ts)) (drop place (set table place (all_bare (row_before comps (stage_of priced t) (get_or table (suc place) [])))))
+      ≡ map all_bare (rows_of comps (stages_of priced (t ∷ u ∷ ts)))
   more_rows t u ts place done =
       let long : length (stages_of priced ts) ≡ length ts = length-stages priced ts in
-      subst (λ (k : ℕ). take (suc (suc k)) (drop place (set table place (row_before comps (stage_of priced t) (get_or table (suc place) []))))
-      ≡ rows_of comps (stages_of priced (t ∷ u ∷ ts))) long
+      subst (λ (k : ℕ). take (suc (suc k)) (drop place (set table place (all_bare (row_before comps (stage_of priced t) (get_or table (suc place) [])))))
+      ≡ map all_bare (rows_of comps (stages_of priced (t ∷ u ∷ ts)))) long
       (one_row comps (stage_of priced t) (stage_of priced u) (stages_of priced ts) place table
-      (subst (λ (k : ℕ). take (suc k) (drop (suc place) table) ≡ rows_of comps (stages_of priced (u ∷ ts))) (sym long) done))
+      (subst (λ (k : ℕ). take (suc k) (drop (suc place) table) ≡ map all_bare (rows_of comps (stages_of priced (u ∷ ts)))) (sym long) done))
 
   pub rows_more : (place : ℕ) → suc place < length chain → AreRowsFrom priced chain (suc place) table
       → (new : List (List (Option Cell)))
-      → new ≡ set table place (row_before comps (stage_of priced (get_or chain place 0)) (get_or table (suc place) []))
+      → new ≡ set table place (all_bare (row_before comps (stage_of priced (get_or chain place 0)) (get_or table (suc place) [])))
       → ((bound : ℕ) → AreSmallCells bound (get_or table (suc place) [])
       → AreSmallCells (bound + 21000000000000000) (get_or new place []))
-      → AreRowsFrom priced chain place new
-  rows_more place below done new is small =
+      → length chain ≤ 400 → AreRowsFrom priced chain place new
+  rows_more place below done new is small few =
       let here : drop place chain ≡ get_or chain place 0 ∷ drop (suc place) chain = drop-cons chain place 0 (omega (arith, below)) in
       let next : drop (suc place) chain ≡ get_or chain (suc place) 0 ∷ drop (suc (suc place)) chain = drop-cons chain (suc place) 0 below in
       let both : drop place chain ≡ get_or chain place 0 ∷ get_or chain (suc place) 0 ∷ drop (suc (suc place)) chain =
       here ∙ ap (λ (ts : List ℕ). get_or chain place 0 ∷ ts) next in
       record {
-        rows = subst (λ (ts : List ℕ). take (length ts) (drop place new) ≡ rows_of comps (stages_of priced ts)) (sym both)
+        rows = subst (λ (ts : List ℕ). take (length ts) (drop place new) ≡ map all_bare (rows_of comps (stages_of priced ts))) (sym both)
             (subst (λ (rows : List (List (Option Cell))). take (length (get_or chain place 0 ∷ get_or chain (suc place) 0 ∷ drop (suc (suc place)) chain))
-            (drop place rows) ≡ rows_of comps (stages_of priced (get_or chain place 0 ∷ get_or chain (suc place) 0 ∷ drop (suc (suc place)) chain))) (sym is)
+            (drop place rows)
+            ≡ map all_bare (rows_of comps (stages_of priced (get_or chain place 0 ∷ get_or chain (suc place) 0 ∷ drop (suc (suc place)) chain)))) (sym is)
             (more_rows (get_or chain place 0) (get_or chain (suc place) 0) (drop (suc (suc place)) chain) place
-            (subst (λ (ts : List ℕ). take (length ts) (drop (suc place) table) ≡ rows_of comps (stages_of priced ts)) next done.rows)));
-        small = subst (λ (k : ℕ). AreSmallCells k (get_or new place [])) (size (length (drop (suc place) chain)) (length (drop place chain)) (ap length here))
-            (small (length (drop (suc place) chain) * 21000000000000000) done.small);
+            (subst (λ (ts : List ℕ). take (length ts) (drop (suc place) table) ≡ map all_bare (rows_of comps (stages_of priced ts))) next done.rows)));
+        small = here_small;
+        each = λ k from lt. elim (cases_eq k place) [
+          | inl same ↦ subst (λ (i : ℕ). AreSmallCells 8500000000000000000 (get_or new i [])) (sym same)
+              (cells_more (length (drop place chain) * 21000000000000000) 8500000000000000000 (get_or new place [])
+              (omega (arith, length-drop place chain, few)) here_small)
+          | inr differ ↦ subst (AreSmallCells 8500000000000000000)
+              (sym (ap (λ (rows : List (List (Option Cell))). get_or rows k []) is ∙ get_or-set_other table place k _ [] differ))
+              (done.each k (omega (arith, from, differ)) lt)
+        ];
       }
     where
       size : (a b : ℕ) → b ≡ suc a → a * 21000000000000000 + 21000000000000000 ≡ b * 21000000000000000
       size a b e = omega (arith, e)
+
+      here_small : AreSmallCells (length (drop place chain) * 21000000000000000) (get_or new place [])
+      here_small = subst (λ (k : ℕ). AreSmallCells k (get_or new place []))
+          (size (length (drop (suc place) chain)) (length (drop place chain)) (ap length (drop-cons chain place 0 (omega (arith, below)))))
+          (small (length (drop (suc place) chain) * 21000000000000000) done.small)
 
   -- the row of the last trip
   one_last : (place : ℕ) (row : List (Option Cell)) → place < length table → take 1 (drop place (set table place row)) ≡ row ∷ []
@@ -355,17 +271,21 @@ module _ (priced : Priced) (chain : List ℕ) (table : List (List (Option Cell))
       by (suc k) (x ∷ rows) lt = by k rows (omega (arith, lt))
 
   pub rows_last : (place : ℕ) → suc place ≡ length chain → place < length table → (new : List (List (Option Cell)))
-      → new ≡ set table place (last_row comps (stage_of priced (get_or chain place 0)))
+      → new ≡ set table place (all_bare (last_row comps (stage_of priced (get_or chain place 0))))
       → AreSmallCells 21000000000000000 (get_or new place []) → AreRowsFrom priced chain place new
   rows_last place last below new is small =
       let here : drop place chain ≡ get_or chain place 0 ∷ drop (suc place) chain = drop-cons chain place 0 (omega (arith, last)) in
       let none : drop (suc place) chain ≡ [] = drop_all (suc place) chain (omega (arith, last)) in
       let both : drop place chain ≡ get_or chain place 0 ∷ [] = here ∙ ap (λ (ts : List ℕ). get_or chain place 0 ∷ ts) none in
       record {
-        rows = subst (λ (ts : List ℕ). take (length ts) (drop place new) ≡ rows_of comps (stages_of priced ts)) (sym both)
+        rows = subst (λ (ts : List ℕ). take (length ts) (drop place new) ≡ map all_bare (rows_of comps (stages_of priced ts))) (sym both)
             (ap (λ (rows : List (List (Option Cell))). take 1 (drop place rows)) is
-            ∙ one_last place (last_row comps (stage_of priced (get_or chain place 0))) below);
+            ∙ one_last place (all_bare (last_row comps (stage_of priced (get_or chain place 0)))) below);
         small = subst (λ (k : ℕ). AreSmallCells k (get_or new place [])) (size (length (drop place chain)) (ap length both)) small;
+        each = λ k from lt.
+            let same : k ≡ place = omega (arith, from, lt, last) in
+            subst (λ (i : ℕ). AreSmallCells 8500000000000000000 (get_or new i [])) (sym same)
+            (cells_more 21000000000000000 8500000000000000000 (get_or new place []) (omega arith) small);
       }
     where
       size : (a : ℕ) → a ≡ 1 → 21000000000000000 ≡ a * 21000000000000000
@@ -373,22 +293,116 @@ module _ (priced : Priced) (chain : List ℕ) (table : List (List (Option Cell))
 
 -- ---- the path
 
-pub one_step : (chain : List ℕ) (rows : List (List (Option Cell))) (place comp : ℕ) (picks : List ℕ)
-    → place < length chain → length chain ≤ length rows
-    → put_along (drop place chain) (path_from (drop place (take (length chain) rows)) comp) picks
-    ≡ put_along (drop (suc place) chain)
-    (path_from (drop (suc place) (take (length chain) rows)) (next_of (get_or (get_or rows place []) comp None)))
-    (set picks (get_or chain place 0) comp)
-one_step chain rows place comp picks below enough =
-    let trips : drop place chain ≡ get_or chain place 0 ∷ drop (suc place) chain = drop-cons chain place 0 below in
-    let these : List (List (Option Cell)) = take (length chain) rows in
-    let left : drop place these ≡ get_or these place [] ∷ drop (suc place) these =
-    drop-cons these place [] (omega (arith, below, length-take-le (length chain) rows enough)) in
-    let row : get_or these place [] ≡ get_or rows place [] = get_or-take (length chain) rows place [] below in
-    ap (λ (ts : List ℕ). put_along ts (path_from (drop place these) comp) picks) trips
-    ∙ ap (λ (rs : List (List (Option Cell))). put_along (get_or chain place 0 ∷ drop (suc place) chain) (path_from rs comp) picks) left
-    ∙ ap (λ (r : List (Option Cell)). put_along (drop (suc place) chain) (path_from (drop (suc place) these) (next_of (get_or r comp None)))
-    (set picks (get_or chain place 0) comp)) row
+-- the rows of the last stages are the last rows
+drop_rows : (n : ℕ) (stages : List Stage) (k : ℕ) → drop k (rows_of n stages) ≡ rows_of n (drop k stages)
+drop_rows n stages zero = refl
+drop_rows n [] (suc k) = refl
+drop_rows n (stage ∷ stages) (suc k) = drop_rows n stages k
+
+drop_stages : (priced : Priced) (chain : List ℕ) (k : ℕ) → drop k (stages_of priced chain) ≡ stages_of priced (drop k chain)
+drop_stages priced chain zero = refl
+drop_stages priced [] (suc k) = refl
+drop_stages priced (t ∷ ts) (suc k) = drop_stages priced ts k
+
+module _ (priced : Priced) (chain : List ℕ) where
+  abbrev pub rows : List (List (Option Cell))
+  rows = chain_rows priced chain
+
+  rows_from : (place : ℕ) → drop place rows ≡ chain_rows priced (drop place chain)
+  rows_from place = drop_rows (comps_of priced) (stages_of priced chain) place ∙ ap (rows_of (comps_of priced)) (drop_stages priced chain place)
+
+  -- the row at a place, and those behind it
+  rows_at : (place : ℕ) → place < length chain
+      → drop place rows ≡ row_by (comps_of priced) (stage_of priced (get_or chain place 0)) (drop (suc place) rows) ∷ drop (suc place) rows
+  rows_at place below =
+      rows_from place
+      ∙ ap (chain_rows priced) (drop-cons chain place 0 below)
+      ∙ ap (λ (rest : List (List (Option Cell))). row_by (comps_of priced) (stage_of priced (get_or chain place 0)) rest ∷ rest) (sym (rows_from (suc place)))
+
+  first_after : (place : ℕ) (d : List (Option Cell)) → suc place < length chain
+      → (rest : List (List (Option Cell))) × (drop (suc place) rows ≡ get_or rows (suc place) [] ∷ rest)
+  first_after place d below = (drop (suc (suc place)) rows, drop-cons rows (suc place) [] (omega (arith, below, long)))
+    where
+      all : (stages : List Stage) → length (rows_of (comps_of priced) stages) ≡ length stages
+      all [] = refl
+      all (stage ∷ stages) = ap suc (all stages)
+
+      long : length rows ≡ length chain
+      long = all (stages_of priced chain) ∙ length-stages priced chain
+
+  -- where the table has the rows, the next composition is read off by the row ahead
+  pub next_by_row : (table : List (List (Option Cell))) (place comp : ℕ) → suc place < length chain
+      → take (length chain) table ≡ map all_bare rows
+      → next_of (get_or (row_on priced (get_or chain place 0) (get_or table (suc place) [])) comp None)
+      ≡ next_of (get_or (get_or rows place []) comp None)
+  next_by_row table place comp below is =
+      let t : ℕ = get_or chain place 0 in
+      let there = first_after place [] below in
+      let ahead : get_or table (suc place) [] ≡ all_bare (get_or rows (suc place) []) =
+      sym (get_or-take (length chain) table (suc place) [] below)
+      ∙ ap (λ (rs : List (List (Option Cell))). get_or rs (suc place) []) is
+      ∙ get-all_bare rows (suc place) in
+      let here : get_or rows place [] ≡ row_on priced t (get_or rows (suc place) []) =
+      first_of_drop rows place (rows_at place (omega (arith, below)))
+      ∙ ap (row_by (comps_of priced) (stage_of priced t)) there.1 in
+      ap (λ (row : List (Option Cell)). next_of (get_or row comp None))
+      (ap (row_on priced t) ahead ∙ row_of_bare (comps_of priced) (stage_of priced t) (get_or rows (suc place) []) ∙ sym here)
+    where
+      get-all_bare : (rs : List (List (Option Cell))) (k : ℕ) → get_or (map all_bare rs) k [] ≡ all_bare (get_or rs k [])
+      get-all_bare [] k = refl
+      get-all_bare (r ∷ rs) zero = refl
+      get-all_bare (r ∷ rs) (suc k) = get-all_bare rs k
+
+      first_of_drop : (rs : List (List (Option Cell))) (k : ℕ) {r : List (Option Cell)} {rest : List (List (Option Cell))}
+          → drop k rs ≡ r ∷ rest → get_or rs k [] ≡ r
+      first_of_drop [] zero is = absurd cc
+      first_of_drop [] (suc k) is = absurd cc
+      first_of_drop (x ∷ rs) zero is = cc
+      first_of_drop (x ∷ rs) (suc k) is = first_of_drop rs k is
+
+  -- one trip more has its composition
+  pub one_step : (place comp : ℕ) (picks : List ℕ) → place < length chain
+      → put_along (drop place chain) (path_from (drop place rows) comp) picks
+      ≡ put_along (drop (suc place) chain) (path_from (drop (suc place) rows) (next_of (get_or (get_or rows place []) comp None)))
+      (set picks (get_or chain place 0) comp)
+  one_step place comp picks below =
+      let trips : drop place chain ≡ get_or chain place 0 ∷ drop (suc place) chain = drop-cons chain place 0 below in
+      let left : drop place rows ≡ get_or rows place [] ∷ drop (suc place) rows = drop-cons rows place [] (omega (arith, below, long)) in
+      ap (λ (ts : List ℕ). put_along ts (path_from (drop place rows) comp) picks) trips
+      ∙ ap (λ (rs : List (List (Option Cell))). put_along (get_or chain place 0 ∷ drop (suc place) chain) (path_from rs comp) picks) left
+    where
+      all : (stages : List Stage) → length (rows_of (comps_of priced) stages) ≡ length stages
+      all [] = refl
+      all (stage ∷ stages) = ap suc (all stages)
+
+      long : length rows ≡ length chain
+      long = all (stages_of priced chain) ∙ length-stages priced chain
+
+  -- after the last trip any composition will do
+  last_step : (place comp other : ℕ) (picks : List ℕ) → length chain ≤ suc place
+      → put_along (drop (suc place) chain) (path_from (drop (suc place) rows) comp) picks
+      ≡ put_along (drop (suc place) chain) (path_from (drop (suc place) rows) other) picks
+  last_step place comp other picks last =
+      ap (λ (ts : List ℕ). put_along ts (path_from (drop (suc place) rows) comp) picks) none
+      ∙ sym (ap (λ (ts : List ℕ). put_along ts (path_from (drop (suc place) rows) other) picks) none)
+    where
+      none : drop (suc place) chain ≡ []
+      none = drop_all (suc place) chain last
+
+  pub path_more : (table : List (List (Option Cell))) (place comp new : ℕ) (picks : List ℕ) → place < length chain
+      → take (length chain) table ≡ map all_bare rows
+      → (suc place < length chain → new ≡ next_of (get_or (row_on priced (get_or chain place 0) (get_or table (suc place) [])) comp None))
+      → put_along (drop (suc place) chain) (path_from (drop (suc place) rows) new) (set picks (get_or chain place 0) comp)
+      ≡ put_along (drop place chain) (path_from (drop place rows) comp) picks
+  path_more table place comp new picks below is next = elim (cases_lt (suc place) (length chain)) [
+    | inl more ↦
+        ap (λ (c : ℕ). put_along (drop (suc place) chain) (path_from (drop (suc place) rows) c) (set picks (get_or chain place 0) comp))
+        (next more ∙ next_by_row table place comp more is)
+        ∙ sym (one_step place comp picks below)
+    | inr last ↦
+        last_step place new (next_of (get_or (get_or rows place []) comp None)) (set picks (get_or chain place 0) comp) last
+        ∙ sym (one_step place comp picks below)
+  ]
 
 -- ---- edges
 

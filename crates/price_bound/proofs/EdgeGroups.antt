@@ -1,22 +1,24 @@
 -- The edges of a link by the composition that they lead from: where those of one begin, what they offer to it, and rows
 -- that are made of what each composition is offered.
 use Rattle.std.proofs.Common.{◌≡◌, ◌≢◌, ℕ, zero, suc, ◌+◌, ◌-◌, ◌<◌, ◌≤◌, List, [], ◌∷◌, length, get_or, set, take, replicate}
-use Rattle.std.proofs.Common.{Option, Some, None, ℤ, refl, sym, ap, ◌∙◌, subst, arith, inl, inr, slice_get, length-set, unwrap_or, ⊎_elim}
-use Rattle.std.specs.Prelude.{fold, IfSome}
+use Rattle.std.proofs.Common.{Option, Some, None, ℤ, refl, sym, ap, ◌∙◌, subst, arith, inl, inr, slice_get, length-set, unwrap_or, ⊎_elim, pos}
+use Rattle.std.specs.Prelude.{Bool, fold, IfSome, option_map}
 use Rattle.std.proofs.lemmas.Bool.{cases_eq, cases_lt}
 use Rattle.std.proofs.lemmas.List.{ext_get_or, get_or_default, get_or-replicate, get_or-set_same, get_or-set_other}
-use Rattle.std.proofs.lemmas.List.{get_or_past, length-replicate, take_all}
+use Rattle.std.proofs.lemmas.List.{get_or_past, length-map, length-replicate, take_all}
 use Rattle.timetable.specs.Links.{outgoing}
 use Rattle.transitions.specs.declared.edge.Edge.{Edge}
 use Rattle.transitions.specs.Edges.{AreGraphs, AreInOrder}
 use Rattle.price_bound.specs.declared.cells.Cell.{Cell}
-use Rattle.price_bound.specs.CellRows.{comps_of, edges_offered, offered_from, row_on}
-use Rattle.price_bound.specs.CellSizes.{AreSmallCells, IsSmall, IsSmallStep}
+use Rattle.price_bound.specs.declared.worths.Amount.{Amount}
+use Rattle.price_bound.specs.CellRows.{all_bare, bare, comps_of, edges_offered, last_row_on, offered_from, row_on}
+use Rattle.price_bound.specs.CellSizes.{AreSmallCells, IsSmall, most_worth}
 use Rattle.price_bound.specs.ChainStages.{Priced, edges_of, price_of, stage_of, worth_of}
 use Rattle.price_bound.specs.EdgeGroups.{IsAtGroup, IsGroupPlace, IsInGroup}
 use Rattle.price_bound.specs.Paths.{Stage, lower_cell, offer_by, with_worth, with_worths}
-use Rattle.price_bound.proofs.Adding.{small_more}
-use Rattle.price_bound.proofs.ChainCells.{fold_more, length-offered, lower_small, offered_at, some_small, with_worth_small}
+use Rattle.price_bound.proofs.Adding.{small_more, small_zero}
+use Rattle.price_bound.proofs.ChainCells.{fold_more, get-bare, length-offered, lower_small, offered_at, some_small, with_worth_small}
+use Rattle.price_bound.proofs.ChainCells.{worth_at, worth_few}
 use Rattle.price_bound.proofs.Rows.{get-with_worths}
 
 -- ---- where the edges from a composition begin
@@ -194,68 +196,105 @@ least_ends priced l edges ahead comp begin place least are at is done out =
 
 -- ---- a row that is made cell by cell
 
-abbrev pub cell_on : Priced → ℕ → List (Option Cell) → ℕ → Option Cell
-cell_on priced t ahead comp = with_worth (worth_of priced t comp) (offered_from priced (outgoing priced.day t) ahead comp)
+-- the first cells of a row are these, but for where they lead, and each is small in some sense
+pub record IsFilled (n : ℕ) (cell : ℕ → Option Cell) (IsFew : Option Cell → Type 0) (comp : ℕ) (row : List (Option Cell)) : Type 0 where
+  pub long : length row ≡ n
+  pub cells : (k : ℕ) → k < comp → get_or row k None ≡ bare (cell k)
+  pub few : (k : ℕ) → k < comp → IsFew (get_or row k None)
 
-pub record IsFilled (priced : Priced) (t : ℕ) (ahead : List (Option Cell)) (comp : ℕ) (row : List (Option Cell)) : Type 0 where
-  pub long : length row ≡ comps_of priced
-  pub cells : (k : ℕ) → k < comp → get_or row k None ≡ cell_on priced t ahead k
-  pub small : (bound k : ℕ) → k < comp → AreSmallCells bound ahead
-      → IfSome (get_or row k None) (λ cell. IsSmall (bound + 21000000000000000) cell.value)
+module _ (n : ℕ) (cell : ℕ → Option Cell) (IsFew : Option Cell → Type 0) where
+  pub filled_none : (row : List (Option Cell)) → length row ≡ n → IsFilled n cell IsFew 0 row
+  filled_none row long = record {
+    long = long;
+    cells = λ k lt. absurd (omega (arith, lt));
+    few = λ k lt. absurd (omega (arith, lt));
+  }
 
-pub filled_more : (priced : Priced) (t : ℕ) (ahead : List (Option Cell)) (comp : ℕ) (row new : List (Option Cell)) (cell : Option Cell)
-    → IsFilled priced t ahead comp row → comp < comps_of priced → new ≡ set row comp cell → cell ≡ cell_on priced t ahead comp
-    → ((bound : ℕ) → AreSmallCells bound ahead → IfSome cell (λ it. IsSmall (bound + 21000000000000000) it.value))
-    → IsFilled priced t ahead (suc comp) new
-filled_more priced t ahead comp row new cell done below is here small = subst (IsFilled priced t ahead (suc comp)) (sym is) (record {
-  long = length-set row comp cell ∙ done.long;
-  cells = λ k lt. elim (cases_eq k comp) [
-    | inl same ↦ subst (λ (i : ℕ). get_or (set row comp cell) i None ≡ cell_on priced t ahead i) (sym same)
-        (get_or-set_same row comp cell None (omega (arith, below, done.long)) ∙ here)
-    | inr differ ↦ get_or-set_other row comp k cell None differ ∙ done.cells k (omega (arith, lt, differ))
-  ];
-  small = λ bound k lt few. elim (cases_eq k comp) [
-    | inl same ↦ subst (λ (o : Option Cell). IfSome o (λ it. IsSmall (bound + 21000000000000000) it.value))
-        (sym (ap (λ (i : ℕ). get_or (set row comp cell) i None) same ∙ get_or-set_same row comp cell None (omega (arith, below, done.long))))
-        (small bound few)
-    | inr differ ↦ subst (λ (o : Option Cell). IfSome o (λ it. IsSmall (bound + 21000000000000000) it.value))
-        (sym (get_or-set_other row comp k cell None differ)) (done.small bound k (omega (arith, lt, differ)) few)
-  ];
-})
+  pub filled_more : (comp : ℕ) (row new : List (Option Cell)) (here : Option Cell) → IsFilled n cell IsFew comp row → comp < n
+      → new ≡ set row comp (bare here) → here ≡ cell comp → IsFew (bare here) → IsFilled n cell IsFew (suc comp) new
+  filled_more comp row new here done below is same_cell few = subst (IsFilled n cell IsFew (suc comp)) (sym is) (record {
+    long = length-set row comp (bare here) ∙ done.long;
+    cells = λ k lt. elim (cases_eq k comp) [
+      | inl same ↦ subst (λ (i : ℕ). get_or (set row comp (bare here)) i None ≡ bare (cell i)) (sym same) (put ∙ ap bare same_cell)
+      | inr differ ↦ get_or-set_other row comp k (bare here) None differ ∙ done.cells k (omega (arith, lt, differ))
+    ];
+    few = λ k lt. elim (cases_eq k comp) [
+      | inl same ↦ subst IsFew (sym (ap (λ (i : ℕ). get_or (set row comp (bare here)) i None) same ∙ put)) few
+      | inr differ ↦ subst IsFew (sym (get_or-set_other row comp k (bare here) None differ)) (done.few k (omega (arith, lt, differ)))
+    ];
+  })
+    where
+      put : get_or (set row comp (bare here)) comp None ≡ bare here
+      put = get_or-set_same row comp (bare here) None (omega (arith, below, done.long))
+
+  pub filled_all : (comp : ℕ) (row whole : List (Option Cell)) → IsFilled n cell IsFew comp row → n ≤ comp → length whole ≡ n
+      → ((k : ℕ) → k < n → get_or whole k None ≡ cell k) → row ≡ all_bare whole
+  filled_all comp row whole done past long each = ext_get_or None row (all_bare whole) (done.long ∙ sym (length-map whole bare ∙ long))
+      (λ k lt. done.cells k (omega (arith, lt, past, done.long)) ∙ ap bare (sym (each k (omega (arith, lt, done.long)))) ∙ sym (get-bare whole k))
+
+  pub few_at : (comp : ℕ) (row : List (Option Cell)) (bound k : ℕ) (it : Cell) → IsFilled n cell IsFew comp row → n ≤ comp
+      → ((o : Option Cell) → IsFew o → IfSome o (λ found. IsSmall bound found.value)) → get_or row k None ≡ Some it → IsSmall bound it.value
+  few_at comp row bound k it done past few at = elim (cases_lt k n) [
+    | inl below ↦ some_small bound (get_or row k None) it (few (get_or row k None) (done.few k (omega (arith, below, past)))) at
+    | inr out ↦ let none : None ≡ Some it = sym (get_or_past row k None (omega (arith, out, done.long))) ∙ at in absurd cc
+  ]
 
 length-with_worths : (stage : Stage) (comp : ℕ) (row : List (Option Cell)) → length (with_worths stage comp row) ≡ length row
 length-with_worths stage comp [] = refl
 length-with_worths stage comp (cell ∷ row) = ap suc (length-with_worths stage (suc comp) row)
 
-abbrev all_offered : Priced → ℕ → List (Option Cell) → List (Option Cell)
-all_offered priced t ahead = edges_offered priced (outgoing priced.day t) ahead (none_row priced)
+-- ---- the cells of the rows of a day
 
-length_offered : (priced : Priced) (t : ℕ) (ahead : List (Option Cell)) → length (all_offered priced t ahead) ≡ comps_of priced
-length_offered priced t ahead =
-    length-offered priced (outgoing priced.day t) ahead (none_row priced) ∙ length-replicate {A = Option Cell} (comps_of priced) None
+abbrev pub cell_on : Priced → ℕ → List (Option Cell) → ℕ → Option Cell
+cell_on priced t ahead comp = with_worth (worth_of priced t comp) (offered_from priced (outgoing priced.day t) ahead comp)
 
-row_long : (priced : Priced) (t : ℕ) (ahead : List (Option Cell)) → length (row_on priced t ahead) ≡ comps_of priced
-row_long priced t ahead = length-with_worths (stage_of priced t) 0 (all_offered priced t ahead) ∙ length_offered priced t ahead
+abbrev pub last_cell_on : Priced → ℕ → ℕ → Option Cell
+last_cell_on priced t comp = with_worth (worth_of priced t comp) (Some (record { value = pos 0; next = 0 }))
 
-row_cell : (priced : Priced) (t : ℕ) (ahead : List (Option Cell)) (k : ℕ) → k < comps_of priced
-    → get_or (row_on priced t ahead) k None ≡ cell_on priced t ahead k
-row_cell priced t ahead k below =
-    let same : 0 + k ≡ k = omega arith in
-    get-with_worths (stage_of priced t) 0 (all_offered priced t ahead) k (omega (arith, below, length_offered priced t ahead))
-    ∙ ap (λ (i : ℕ). with_worth (worth_of priced t i) (get_or (all_offered priced t ahead) k None)) same
+-- a cell is a step from those ahead
+abbrev pub IsStepFrom : List (Option Cell) → Option Cell → Type 0
+IsStepFrom ahead o = (bound : ℕ) → AreSmallCells bound ahead → IfSome o (λ cell. IsSmall (bound + 21000000000000000) cell.value)
 
-pub filled_all : (priced : Priced) (t : ℕ) (ahead : List (Option Cell)) (comp : ℕ) (row : List (Option Cell))
-    → IsFilled priced t ahead comp row → comps_of priced ≤ comp → row ≡ row_on priced t ahead
-filled_all priced t ahead comp row done past = ext_get_or None row (row_on priced t ahead) (done.long ∙ sym (row_long priced t ahead))
-    (λ k lt. done.cells k (omega (arith, lt, past, done.long))
-    ∙ sym (row_cell priced t ahead k (omega (arith, lt, done.long))))
+abbrev pub IsOneStep : Option Cell → Type 0
+IsOneStep o = IfSome o (λ cell. IsSmall 21000000000000000 cell.value)
 
-pub filled_small : (priced : Priced) (t : ℕ) (ahead : List (Option Cell)) (comp : ℕ) (row : List (Option Cell))
-    → IsFilled priced t ahead comp row → comps_of priced ≤ comp → IsSmallStep 21000000000000000 ahead row
-filled_small priced t ahead comp row done past bound few k cell at = elim (cases_lt k (comps_of priced)) [
-  | inl below ↦ some_small (bound + 21000000000000000) (get_or row k None) cell (done.small bound k (omega (arith, below, past)) few) at
-  | inr out ↦ let none : None ≡ Some cell = sym (get_or_past row k None (omega (arith, out, done.long))) ∙ at in absurd cc
-]
+module _ (priced : Priced) (t : ℕ) (ahead : List (Option Cell)) where
+  abbrev all_offered : List (Option Cell)
+  all_offered = edges_offered priced (outgoing priced.day t) ahead (none_row priced)
+
+  length_offered : length all_offered ≡ comps_of priced
+  length_offered = length-offered priced (outgoing priced.day t) ahead (none_row priced) ∙ length-replicate {A = Option Cell} (comps_of priced) None
+
+  pub row_long : length (row_on priced t ahead) ≡ comps_of priced
+  row_long = length-with_worths (stage_of priced t) 0 all_offered ∙ length_offered
+
+  pub row_cell : (k : ℕ) → k < comps_of priced → get_or (row_on priced t ahead) k None ≡ cell_on priced t ahead k
+  row_cell k below =
+      let same : 0 + k ≡ k = omega arith in
+      get-with_worths (stage_of priced t) 0 all_offered k (omega (arith, below, length_offered))
+      ∙ ap (λ (i : ℕ). with_worth (worth_of priced t i) (get_or all_offered k None)) same
+
+module _ (priced : Priced) (t : ℕ) where
+  pub last_long : length (last_row_on priced t) ≡ comps_of priced
+  last_long = length-with_worths (stage_of priced t) 0 _ ∙ length-replicate {A = Option Cell} (comps_of priced) _
+
+  pub last_cell : (k : ℕ) → k < comps_of priced → get_or (last_row_on priced t) k None ≡ last_cell_on priced t k
+  last_cell k below =
+      let same : 0 + k ≡ k = omega arith in
+      get-with_worths (stage_of priced t) 0 (replicate (comps_of priced) (Some (record { value = pos 0; next = 0 }))) k
+      (omega (arith, below, length-replicate {A = Option Cell} (comps_of priced) (Some (record { value = pos 0; next = 0 }))))
+      ∙ ap (λ (i : ℕ). with_worth (worth_of priced t i) (get_or (replicate (comps_of priced) (Some (record { value = pos 0; next = 0 }))) k None)) same
+      ∙ ap (with_worth (worth_of priced t k)) (get_or-replicate (comps_of priced) k (Some (record { value = pos 0; next = 0 })) None below)
+
+-- a worth alone is small
+pub last_small : (ends : Bool) (worth : Option Amount) (cell : Option Cell) → IfSome worth (λ it. IsSmall (most_worth ends) it.0)
+    → cell ≡ with_worth (option_map (λ it. it.0) worth) (Some (record { value = pos 0; next = 0 }))
+    → IfSome cell (λ it. IsSmall 21000000000000000 it.value)
+last_small ends worth cell few is = subst (λ (o : Option Cell). IfSome o (λ it. IsSmall 21000000000000000 it.value)) (sym is)
+    (some_more (0 + most_worth ends) 21000000000000000 (with_worth (option_map (λ it. it.0) worth) (Some (record { value = pos 0; next = 0 })))
+    (omega (arith, worth_few ends))
+    (with_worth_small 0 (most_worth ends) (option_map (λ it. it.0) worth) (Some (record { value = pos 0; next = 0 }))
+    (worth_at (most_worth ends) worth (option_map (λ it. it.0) worth) refl few) (small_zero 0)))
 
 -- ---- a trip from which no link leads on
 
@@ -274,3 +313,28 @@ pub row_of_none : (priced : Priced) (t : ℕ) (ahead : List (Option Cell)) → o
 row_of_none priced t ahead none =
     ap (λ (link : Option ℕ). with_worths (stage_of priced t) 0 (edges_offered priced link ahead (none_row priced))) none
     ∙ worths_of_none (stage_of priced t) 0 (comps_of priced)
+
+pub bare_none : (n : ℕ) → all_bare (replicate n None) ≡ replicate n None
+bare_none zero = refl
+bare_none (suc n) = ap (λ (row : List (Option Cell)). None ∷ row) (bare_none n)
+
+-- a cell is that of the row of a trip from which a link leads on
+pub cell_read : (priced : Priced) (t l : ℕ) (ahead : List (Option Cell)) (comp : ℕ) (cell : Option Cell) → outgoing priced.day t ≡ Some l
+    → comp < comps_of priced → cell ≡ with_worth (worth_of priced t comp) (offered_from priced (Some l) ahead comp)
+    → cell ≡ get_or (row_on priced t ahead) comp None
+cell_read priced t l ahead comp cell leads below is =
+    is ∙ sym (ap (λ (link : Option ℕ). with_worth (worth_of priced t comp) (offered_from priced link ahead comp)) leads)
+    ∙ sym (row_cell priced t ahead comp below)
+
+pub past_next : (priced : Priced) (t : ℕ) (ahead : List (Option Cell)) (comp : ℕ) → comps_of priced ≤ comp
+    → get_or (row_on priced t ahead) comp None ≡ None
+past_next priced t ahead comp past = get_or_past (row_on priced t ahead) comp None (omega (arith, past, row_long priced t ahead))
+
+-- no composition follows where no link leads on, or the number is past the last
+pub none_next : (priced : Priced) (t : ℕ) (ahead : List (Option Cell)) (comp : ℕ) → outgoing priced.day t ≡ None
+    → get_or (row_on priced t ahead) comp None ≡ None
+none_next priced t ahead comp none = elim (cases_lt comp (comps_of priced)) [
+  | inl below ↦ ap (λ (row : List (Option Cell)). get_or row comp None) (row_of_none priced t ahead none)
+      ∙ get_or-replicate (comps_of priced) comp None None below
+  | inr past ↦ past_next priced t ahead comp past
+]

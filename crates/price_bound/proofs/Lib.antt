@@ -41,6 +41,7 @@ mod Costing
 mod TripAndLinkPrices
 mod Bounding
 mod ChainSteps
+mod CellValues
 mod ChainCells
 mod EdgeGroups
 mod Finding

@@ -1,8 +1,10 @@
 -- Rows of cells while they are made, and picks along a chain.
-use Rattle.std.specs.Prelude.{ℕ, ◌≡◌, ◌<◌, List, [], ◌∷◌, length, get_or, set, fold, replicate, Option, None}
+use Rattle.std.specs.Prelude.{ℕ, ◌≡◌, ◌<◌, List, [], ◌∷◌, length, get_or, set, fold, replicate, map, Option, None, Some}
+use Rattle.std.specs.Prelude.{if◌then◌else◌, int_lt, ℤ, pos, ◌<ℤ◌, ◌⊎◌, All}
 use Rattle.timetable.specs.Compositions.{compositions_of}
 use Rattle.timetable.specs.Links.{outgoing}
 use Rattle.price_bound.specs.declared.cells.Cell.{Cell}
+use Rattle.price_bound.specs.CellSizes.{AreSmallCells, most_ahead}
 use Rattle.price_bound.specs.ChainStages.{Priced, edges_of, price_of, stage_of, stages_of}
 use Rattle.price_bound.specs.Paths.{last_row, lower_cell, offer_by, row_before, rows_of}
 
@@ -22,6 +24,26 @@ edges_offered priced link ahead row =
     fold (λ row edge. lower_at edge.from (offer_by edge.to (price_of priced link edge) (get_or ahead edge.to None)) row)
     row (edges_of priced link)
 
+-- ---- rows that keep the values of cells alone
+
+-- a cell that leads nowhere, by its value; and by a number that stands for a value, or for none
+abbrev pub bare : Option Cell → Option Cell
+bare None = None
+bare (Some cell) = Some (record { value = cell.value; next = 0 })
+
+abbrev pub all_bare : List (Option Cell) → List (Option Cell)
+all_bare row = map bare row
+
+abbrev pub cell_in : ℤ → Option Cell
+cell_in value = if int_lt value (pos 9050000000000000000) then Some (record { value = value; next = 0 }) else None
+
+-- a number stands for a value, which is below the limit, or is the one that stands for none
+abbrev pub IsHeld : ℤ → Type 0
+IsHeld value = (value <ℤ pos 9050000000000000000) ⊎ (value ≡ pos 9100000000000000000)
+
+abbrev pub AreHeld : List ℤ → Type 0
+AreHeld values = All IsHeld values
+
 -- what a composition has after the edges of a link offered their cells, where there was none before
 abbrev pub offered_from : Priced → Option ℕ → List (Option Cell) → ℕ → Option Cell
 offered_from priced link ahead comp =
@@ -31,6 +53,10 @@ offered_from priced link ahead comp =
 pub record HaveRoom (rows comps : ℕ) (table : List (List (Option Cell))) : Type 0 where
   pub height : length table ≡ rows
   pub widths : (row : ℕ) → row < rows → length (get_or table row []) ≡ comps
+
+-- the cells of the first rows, of which there are so many, are small
+abbrev pub AreSmallBelow : ℕ → List (List (Option Cell)) → Type 0
+AreSmallBelow rows table = (place : ℕ) → place < rows → AreSmallCells most_ahead (get_or table place [])
 
 -- ---- of what is priced
 

@@ -3,6 +3,7 @@
 
 ghost use Rattle.std.specs.Prelude.{ℕ, ◌≡◌, ◌<◌, ◌+◌, map, length, get_or, set, replicate, pos, IfOk, IfSome, Some};
 ghost use Rattle.std.specs.Prelude.{None, if◌then◌else◌, option_map, ◌+ℤ◌};
+ghost use Rattle.price_bound.specs.CellRows.{AreHeld, IsHeld, bare, cell_in};
 ghost use Rattle.price_bound.specs.Paths.{entered, least_from, lower_cell, offer_by, with_worth};
 ghost use Rattle.price_bound.specs.CellSizes.{AreSmallCells, IsSmall, most_edge_price, most_offered, most_step};
 
@@ -20,19 +21,28 @@ pub(crate) struct Cell {
     pub next: CompNo,
 }
 
-/// The cells of one trip, by composition. A contract sees the list of them.
+/// What stands in a row for no cell.
+pub(crate) const NO_VALUE: i64 = 9_100_000_000_000_000_000;
+/// What the values of cells are below, in a row.
+const LIMIT: i64 = 9_050_000_000_000_000_000;
+
+/// The cells of one trip, by composition, of which the values alone are kept. A contract sees the list of them, each of
+/// which leads nowhere.
 #[derive(Drop)]
 pub(crate) struct CellRow {
-    cells: Vec<Option<Cell>>,
+    values: Vec<i64>,
 }
 
 impl Model for CellRow {
-    ghost use Rattle.std.specs.Prelude.{List, Option};
+    ghost use Rattle.std.specs.Prelude.{List, Option, map};
     ghost use Rattle.price_bound.specs.declared.cells.Cell.{Cell};
+    ghost use Rattle.price_bound.specs.CellRows.{AreHeld, cell_in};
 
     ghost Value = { List (Option Cell) };
 
-    ghost view = { λ a. a.cells.items };
+    ghost view = { λ a. map cell_in a.values.items };
+
+    ghost invariant = { λ a. AreHeld a.values.items };
 }
 
 impl CellRow {
@@ -41,7 +51,7 @@ impl CellRow {
         ensures { IfOk result (λ row. row ≡ replicate comps None) }
     {
         Ok(CellRow {
-            cells: vec![in alloc; None; comps]?,
+            values: vec![in alloc; NO_VALUE; comps]?,
         })
     }
 
@@ -49,7 +59,7 @@ impl CellRow {
     pub(crate) fn len(&self) -> usize
         ensures { result ≡ length self.now }
     {
-        self.cells.len()
+        self.values.len()
     }
 
     /// The cell of a composition, which is below `len`.
@@ -57,49 +67,33 @@ impl CellRow {
         requires { comp < length self.now }
         ensures { result ≡ get_or self.now comp None }
     {
-        self.cells[comp.place()]
+        cell_in(self.values[comp.place()])
+    }
+
+    /// The values of the cells, and `NO_VALUE` where there is none.
+    pub(crate) fn values(&self) -> &[i64]
+        ensures cells { map cell_in result.now ≡ self.now }
+        ensures held { AreHeld result.now }
+    {
+        &self.values
     }
 
     /// Takes all cells out.
     pub(crate) fn clear(&mut self)
         ensures { self.new ≡ map (λ _. None) self.old }
     {
-        for comp in 0..self.cells.len() {
-            self.cells[comp] = None;
-        }
-    }
-
-    /// Puts a cell of value 0 in place of each.
-    pub(crate) fn end(&mut self)
-        ensures { self.new ≡ map (λ _. Some (record { value = pos 0; next = 0 })) self.old }
-    {
-        for comp in 0..self.cells.len() {
-            self.cells[comp] = Some(Cell {
-                value: 0,
-                next: CompNo(0),
-            });
+        for comp in 0..self.values.len() {
+            self.values[comp] = NO_VALUE;
         }
     }
 
     /// Changes the cell of a composition, which is below `len`.
     pub(crate) fn put(&mut self, comp: CompNo, cell: Option<Cell>)
-        requires { comp < length self.old }
-        ensures { self.new ≡ set self.old comp cell }
-    {
-        self.cells[comp.place()] = cell;
-    }
-
-    /// Adds a worth to the cell of a composition, which is below `len`; where there is no worth, there is no cell then.
-    pub(crate) fn add(&mut self, comp: CompNo, worth: Option<Amount>)
         requires comp { comp < length self.old }
-        requires small { IfSome (get_or self.old comp None)
-            (λ cell. IsSmall most_offered cell.value) }
-        requires worth { IfSome worth (λ worth. IsSmall most_step worth.0) }
-        ensures { self.new ≡ set self.old comp
-            (with_worth (option_map (λ worth. worth.0) worth) (get_or self.old comp None)) }
+        requires small { IfSome cell (λ it. IsSmall most_offered it.value) }
+        ensures { self.new ≡ set self.old comp (bare cell) }
     {
-        let place = comp.place();
-        self.cells[place] = with_worth(worth, self.cells[place]);
+        self.values[comp.place()] = value_of(cell);
     }
 
     /// The least value of the cells, of which there are so many, with the first composition that has it in place of the
@@ -110,9 +104,35 @@ impl CellRow {
     {
         let mut least = None;
         for comp in 0..comps {
-            least = lower_cell(least, entered(CompNo(comp), self.cells[comp as usize]));
+            least = lower_cell(least, entered(CompNo(comp), self.get(CompNo(comp))));
         }
         least
+    }
+}
+
+/// The cell that stands in a row by this value.
+pub(crate) fn cell_in(value: i64) -> Option<Cell>
+    ensures { result ≡ cell_in value }
+{
+    if value < LIMIT {
+        Some(Cell {
+            value,
+            next: CompNo(0),
+        })
+    } else {
+        None
+    }
+}
+
+/// What stands in a row for a cell.
+fn value_of(cell: Option<Cell>) -> i64
+    requires { IfSome cell (λ it. IsSmall most_offered it.value) }
+    ensures cell { cell_in result ≡ bare cell }
+    ensures held { IsHeld result }
+{
+    match cell {
+        Some(cell) => cell.value,
+        None => NO_VALUE,
     }
 }
 

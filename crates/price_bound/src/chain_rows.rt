@@ -1,22 +1,21 @@
 //! The rows of cells of a chain, made from its last trip to its first; and the first path of least value, read off from
 //! the first trip on.
 
-ghost use Rattle.std.specs.Prelude.{ℕ, ◌≡◌, ◌<◌, ◌≤◌, ◌+◌, ◌*◌, [], length, get_or, set, take, All, IfOk, Some, None};
+ghost use Rattle.std.specs.Prelude.{ℕ, ◌≡◌, ◌<◌, ◌≤◌, ◌+◌, ◌*◌, [], length, get_or, map, set, take, All, IfOk, Some, None};
 ghost use Rattle.std.specs.Prelude.{IfSome, is_none, slice_get};
 ghost use Rattle.timetable.specs.Compositions.{compositions_of};
 ghost use Rattle.timetable.specs.Links.{outgoing};
 ghost use Rattle.transitions.specs.Edges.{AreGraphs, IsEdge};
-ghost use Rattle.price_bound.specs.CellRows.{HaveRoom, HaveRoomFor, chain_rows, comps_of, edges_offered, last_row_on};
-ghost use Rattle.price_bound.specs.CellRows.{offered_on, put_along, row_on};
+ghost use Rattle.price_bound.specs.CellRows.{AreSmallBelow, HaveRoom, HaveRoomFor, all_bare, chain_rows};
+ghost use Rattle.price_bound.specs.CellRows.{comps_of, last_row_on, put_along, row_on};
 ghost use Rattle.price_bound.specs.CellSizes.{AreSmallCells, AreSmallOffers, IsSmall, IsSmallStep, most_ahead};
 ghost use Rattle.price_bound.specs.CellSizes.{most_edge_price, most_offered, most_step, most_worth};
 ghost use Rattle.price_bound.specs.ChainStages.{price_of, stage_of};
 ghost use Rattle.price_bound.specs.Paths.{begin_of, next_of, offer_by, path_from, with_worths};
 ghost use Rattle.price_bound.specs.Pricing.{ArePriced, IsListed, priced_by};
 
-use crate::cells::{Cell, CellRow};
-use crate::edge_prices::EdgePrices;
-use crate::least_edges::fill_by_edges;
+use crate::cells::{Cell, CellRow, with_worth};
+use crate::least_edges::{fill_by_edges, least_with_worth};
 use crate::part_prices::PartPrices;
 use crate::priced::Pricing;
 use crate::turn_prices::{TurnPrices, TurnTrips};
@@ -64,8 +63,9 @@ impl ChainRows {
         requires known { All (λ trip. trip < length pricing.now.instance.now.trips) chain.now }
         requires room { HaveRoomFor (priced_by pricing.now) self.old }
         ensures room { HaveRoomFor (priced_by pricing.now) self.new }
-        ensures rows { take (length chain.now) self.new ≡ chain_rows (priced_by pricing.now) chain.now }
-        ensures small { AreSmallCells (length chain.now * most_step) (get_or self.new 0 []) }
+        ensures rows { take (length chain.now) self.new ≡ map all_bare (chain_rows (priced_by pricing.now) chain.now) }
+        ensures first { AreSmallCells (length chain.now * most_step) (get_or self.new 0 []) }
+        ensures small { AreSmallBelow (length chain.now) self.new }
     {
         fill_rows(pricing, chain, &mut self.rows);
     }
@@ -79,17 +79,46 @@ impl ChainRows {
         self.rows[0].least(comps)
     }
 
-    /// Gives the trips of a chain the compositions of the path that begins with one.
-    pub(crate) fn put_path(&self, chain: &[TripNo], begin: CompNo, choice: &mut Picks)
-        requires few { length chain.now ≤ length self.now }
-        requires known { All (λ trip. trip < length choice.old) chain.now }
-        ensures { choice.new ≡ put_along chain.now (path_from (take (length chain.now) self.now) begin) choice.old }
+    /// Gives the trips of a chain, whose rows are made, the compositions of the path that begins with one.
+    pub(crate) fn put_path(
+        &self,
+        pricing: &Pricing<'_>,
+        chain: &[TripNo],
+        begin: CompNo,
+        choice: &mut Picks,
+    )
+        requires priced { ArePriced pricing.now }
+        requires few { length chain.now ≤ length pricing.now.instance.now.trips }
+        requires known { All (λ trip. trip < length pricing.now.instance.now.trips) chain.now }
+        requires room { HaveRoomFor (priced_by pricing.now) self.now }
+        requires choice { length choice.old ≡ length pricing.now.instance.now.trips }
+        requires rows { take (length chain.now) self.now ≡ map all_bare (chain_rows (priced_by pricing.now) chain.now) }
+        requires small { AreSmallBelow (length chain.now) self.now }
+        ensures { choice.new
+            ≡ put_along chain.now (path_from (chain_rows (priced_by pricing.now) chain.now) begin) choice.old }
     {
         let mut comp = begin;
         for place in 0..chain.len() {
             choice.set(chain[place], comp);
-            comp = self.next(place, comp);
+            comp = self.next(pricing, chain, place, comp);
         }
+    }
+
+    /// The composition that follows one at a place of a chain, whose rows are made; that one itself at the last place.
+    fn next(&self, pricing: &Pricing<'_>, chain: &[TripNo], place: usize, comp: CompNo) -> CompNo
+        requires priced { ArePriced pricing.now }
+        requires few { length chain.now ≤ length pricing.now.instance.now.trips }
+        requires known { All (λ trip. trip < length pricing.now.instance.now.trips) chain.now }
+        requires room { HaveRoomFor (priced_by pricing.now) self.now }
+        requires small { AreSmallBelow (length chain.now) self.now }
+        requires place { place < length chain.now }
+        ensures { place + 1 < length chain.now → result ≡ next_of (get_or
+            (row_on (priced_by pricing.now) (get_or chain.now place 0) (get_or self.now (place + 1) [])) comp None) }
+    {
+        if place + 1 >= chain.len() {
+            return comp;
+        }
+        next_at(pricing, chain[place], comp, &self.rows[place + 1])
     }
 
     /// The value of the cell of a row and a composition, if there is one.
@@ -102,17 +131,60 @@ impl ChainRows {
             None => None,
         }
     }
+}
 
-    /// The composition to which the cell of a row and a composition leads; 0 where there is no cell.
-    fn next(&self, place: usize, comp: CompNo) -> CompNo
-        requires { place < length self.now }
-        ensures { result ≡ next_of (get_or (get_or self.now place []) comp None) }
-    {
-        let row = &self.rows[place];
-        if comp.place() >= row.len() {
-            return CompNo(0);
+/// The composition to which the cell of a composition leads, where the row of the next trip is ahead; 0 where there is
+/// no cell.
+fn next_at(pricing: &Pricing<'_>, trip: TripNo, comp: CompNo, ahead: &CellRow) -> CompNo
+    requires priced { ArePriced pricing.now }
+    requires trip { trip < length pricing.now.instance.now.trips }
+    requires ahead { length ahead.now ≡ comps_of (priced_by pricing.now) }
+    requires small { AreSmallCells most_ahead ahead.now }
+    ensures { result ≡ next_of (get_or (row_on (priced_by pricing.now) trip ahead.now) comp None) }
+{
+    if comp.0 >= pricing.instance.catalogue().len() {
+        return CompNo(0);
+    }
+    let Some(link) = pricing.instance.outgoing(trip) else {
+        return CompNo(0);
+    };
+    next_of(cell_by_link(pricing, trip, link, comp, ahead))
+}
+
+/// The cell of a composition of a trip from which this link leads on.
+fn cell_by_link(
+    pricing: &Pricing<'_>,
+    trip: TripNo,
+    link: LinkNo,
+    comp: CompNo,
+    ahead: &CellRow,
+) -> Option<Cell>
+    requires priced { ArePriced pricing.now }
+    requires trip { trip < length pricing.now.instance.now.trips }
+    requires link { outgoing pricing.now.instance.now trip ≡ Some link }
+    requires known { link < length pricing.now.instance.now.links }
+    requires comp { comp < comps_of (priced_by pricing.now) }
+    requires ahead { length ahead.now ≡ comps_of (priced_by pricing.now) }
+    requires small { AreSmallCells most_ahead ahead.now }
+    ensures { result ≡ get_or (row_on (priced_by pricing.now) trip ahead.now) comp None }
+{
+    let edges = pricing.graphs.edges(link);
+    let worths = TripWorths::new(&*pricing, trip);
+    let kind = &pricing.instance.link(link).kind;
+    match kind.second() {
+        None => {
+            let turn = TurnTrips {
+                arriving: kind.leads_from(),
+                departing: kind.leads_to(),
+                couple: kind.coupling_end(),
+            };
+            let prices = TurnPrices::new(pricing, link, turn);
+            least_with_worth(&prices, edges, &worths, comp, 0, ahead).cell
         }
-        next_of(row.get(comp))
+        Some(second) => {
+            let prices = PartPrices::new(pricing, link, second);
+            least_with_worth(&prices, edges, &worths, comp, 0, ahead).cell
+        }
     }
 }
 
@@ -134,8 +206,9 @@ fn fill_rows(pricing: &Pricing<'_>, chain: &[TripNo], rows: &mut [CellRow])
     requires known { All (λ trip. trip < length pricing.now.instance.now.trips) chain.now }
     requires room { HaveRoomFor (priced_by pricing.now) rows.old }
     ensures room { HaveRoomFor (priced_by pricing.now) rows.new }
-    ensures rows { take (length chain.now) rows.new ≡ chain_rows (priced_by pricing.now) chain.now }
-    ensures small { AreSmallCells (length chain.now * most_step) (get_or rows.new 0 []) }
+    ensures rows { take (length chain.now) rows.new ≡ map all_bare (chain_rows (priced_by pricing.now) chain.now) }
+    ensures first { AreSmallCells (length chain.now * most_step) (get_or rows.new 0 []) }
+    ensures small { AreSmallBelow (length chain.now) rows.new }
 {
     prove!(pricing.instance.trips() as usize <= MOST_TRIPS);
     let mut place = chain.len() - 1;
@@ -154,7 +227,8 @@ fn fill_place(pricing: &Pricing<'_>, trip: TripNo, rows: &mut [CellRow], place: 
     requires room { HaveRoomFor (priced_by pricing.now) rows.old }
     requires ahead { AreSmallCells most_ahead (get_or rows.old (place + 1) []) }
     ensures room { HaveRoomFor (priced_by pricing.now) rows.new }
-    ensures row { rows.new ≡ set rows.old place (row_on (priced_by pricing.now) trip (get_or rows.old (place + 1) [])) }
+    ensures row { rows.new ≡ set rows.old place
+        (all_bare (row_on (priced_by pricing.now) trip (get_or rows.old (place + 1) []))) }
     ensures small { IsSmallStep most_step (get_or rows.old (place + 1) []) (get_or rows.new place []) }
 {
     let (front, back) = rows.split_at_mut(place + 1);
@@ -166,11 +240,19 @@ fn fill_last(pricing: &Pricing<'_>, trip: TripNo, row: &mut CellRow)
     requires priced { ArePriced pricing.now }
     requires trip { trip < length pricing.now.instance.now.trips }
     requires row { length row.old ≡ comps_of (priced_by pricing.now) }
-    ensures row { row.new ≡ last_row_on (priced_by pricing.now) trip }
+    ensures row { row.new ≡ all_bare (last_row_on (priced_by pricing.now) trip) }
     ensures small { AreSmallCells most_step row.new }
 {
-    row.end();
-    weigh(pricing, trip, row);
+    let worths = TripWorths::new(&*pricing, trip);
+    for comp in 0..pricing.instance.catalogue().len() {
+        let worth = worths.worth(CompNo(comp));
+        let end = Cell {
+            value: 0,
+            next: CompNo(0),
+        };
+        let cell = with_worth(worth, Some(end));
+        row.put(CompNo(comp), cell);
+    }
 }
 
 /// Makes the row of a trip before that of the next trip of its chain.
@@ -180,7 +262,7 @@ fn fill_before(pricing: &Pricing<'_>, trip: TripNo, row: &mut CellRow, ahead: &C
     requires row { length row.old ≡ comps_of (priced_by pricing.now) }
     requires ahead { length ahead.now ≡ comps_of (priced_by pricing.now) }
     requires small { AreSmallCells most_ahead ahead.now }
-    ensures row { row.new ≡ row_on (priced_by pricing.now) trip ahead.now }
+    ensures row { row.new ≡ all_bare (row_on (priced_by pricing.now) trip ahead.now) }
     ensures small { IsSmallStep most_step ahead.now row.new }
 {
     match pricing.instance.outgoing(trip) {
@@ -204,7 +286,7 @@ fn fill_by_link(
     requires row { length row.old ≡ comps_of (priced_by pricing.now) }
     requires ahead { length ahead.now ≡ comps_of (priced_by pricing.now) }
     requires small { AreSmallCells most_ahead ahead.now }
-    ensures row { row.new ≡ row_on (priced_by pricing.now) trip ahead.now }
+    ensures row { row.new ≡ all_bare (row_on (priced_by pricing.now) trip ahead.now) }
     ensures small { IsSmallStep most_step ahead.now row.new }
 {
     let edges = pricing.graphs.edges(link);
@@ -224,21 +306,5 @@ fn fill_by_link(
             let prices = PartPrices::new(pricing, link, second);
             fill_by_edges(&prices, edges, &worths, row, ahead);
         }
-    }
-}
-
-/// Adds to each cell what its composition is worth.
-fn weigh(pricing: &Pricing<'_>, trip: TripNo, row: &mut CellRow)
-    requires priced { ArePriced pricing.now }
-    requires trip { trip < length pricing.now.instance.now.trips }
-    requires row { length row.old ≡ comps_of (priced_by pricing.now) }
-    requires small { AreSmallCells most_offered row.old }
-    ensures row { row.new ≡ with_worths (stage_of (priced_by pricing.now) trip) 0 row.old }
-    ensures small { IsSmallStep (most_worth (is_none (outgoing pricing.now.instance.now trip))) row.old row.new }
-{
-    let worths = TripWorths::new(&*pricing, trip);
-    for comp in 0..pricing.instance.catalogue().len() {
-        let worth = worths.worth(CompNo(comp));
-        row.add(CompNo(comp), worth);
     }
 }

@@ -6,7 +6,7 @@
 ghost use Rattle.std.specs.Prelude.{ℕ, ◌≡◌, ◌<◌, ◌≤◌, ◌+◌, ◌↔◌, IfSome, IsTrue, None, Some, get_or, length, replicate, slice_get};
 ghost use Rattle.timetable.specs.Links.{outgoing};
 ghost use Rattle.transitions.specs.Edges.{AreGraphs, AreInOrder, IsEdge};
-ghost use Rattle.price_bound.specs.CellRows.{comps_of, offered_from, row_on};
+ghost use Rattle.price_bound.specs.CellRows.{all_bare, comps_of, offered_from, row_on};
 ghost use Rattle.price_bound.specs.CellSizes.{AreSmallCells, IsSmall, IsSmallStep, most_ahead, most_edge_price, most_step};
 ghost use Rattle.price_bound.specs.ChainStages.{price_of, worth_of};
 ghost use Rattle.price_bound.specs.EdgeGroups.{IsAtGroup, IsGroupPlace, IsInGroup};
@@ -46,7 +46,7 @@ pub(crate) fn fill_by_edges<P: EdgePrices>(
     requires row { length row.old ≡ comps_of (P.priced prices.now) }
     requires ahead { length ahead.now ≡ comps_of (P.priced prices.now) }
     requires small { AreSmallCells most_ahead ahead.now }
-    ensures row { row.new ≡ row_on (P.priced prices.now) worths.now.trip ahead.now }
+    ensures row { row.new ≡ all_bare (row_on (P.priced prices.now) worths.now.trip ahead.now) }
     ensures small { IsSmallStep most_step ahead.now row.new }
 {
     let mut begin = 0;
@@ -59,7 +59,7 @@ pub(crate) fn fill_by_edges<P: EdgePrices>(
 
 /// The cell of a composition: the first of least value among those of the edges from it, with what it is worth. The
 /// edges are looked for at a place first.
-fn least_with_worth<P: EdgePrices>(
+pub(crate) fn least_with_worth<P: EdgePrices>(
     prices: &P,
     edges: &[Edge],
     worths: &TripWorths<'_>,

@@ -159,7 +159,7 @@ fn first_paths(pricing: &Pricing<'_>, rows: &mut ChainRows, choice: &mut Picks) 
         let Some(begin) = rows.begin(pricing.instance.catalogue().len()) else {
             return None;
         };
-        rows.put_path(trips, begin.next, choice);
+        rows.put_path(pricing, trips, begin.next, choice);
         value = with_begin(value, begin);
     }
     Some(value)

@@ -1,8 +1,8 @@
 -- The row at the place, before the row behind it.
 use Rattle.std.proofs.Common.{◌≡◌, ◌<◌, ◌+◌, ◌++◌, [], List, Option, length, get_or, set, sym, ap, ◌∙◌, subst, arith}
-use Rattle.std.proofs.lemmas.List.{get_or-set_same}
+use Rattle.std.proofs.lemmas.List.{get_or-set_same, length-map}
 use Rattle.price_bound.specs.declared.cells.Cell.{Cell}
-use Rattle.price_bound.specs.CellRows.{HaveRoomFor, comps_of, row_on}
+use Rattle.price_bound.specs.CellRows.{HaveRoomFor, all_bare, bare, comps_of, row_on}
 use Rattle.price_bound.specs.CellSizes.{AreSmallCells}
 use Rattle.price_bound.specs.ChainStages.{stage_of}
 use Rattle.price_bound.specs.Pricing.{priced_by}
@@ -34,7 +34,7 @@ pub returns-clause-room : goal.returns-clause-room
 returns-clause-room c =
     let below : c.args.place + 1 < length c.args.rows.now = omega (arith, c.requires.place, c.requires.room.height) in
     let long : length c.fill_before.new.row ≡ comps_of (priced_by c.args.pricing.now) =
-    ap length c.fill_before.ensures.row
+    ap length c.fill_before.ensures.row ∙ length-map _ bare
     ∙ length-row_before (comps_of (priced_by c.args.pricing.now)) (stage_of (priced_by c.args.pricing.now) c.args.trip) _ in
     subst (HaveRoomFor (priced_by c.args.pricing.now))
     (sym (row_put c.args.rows.now c.split_at_mut-front.result.0.now c.split_at_mut-front.result.1.now c.args.place
@@ -47,7 +47,8 @@ returns-clause-row c =
     let below : c.args.place + 1 < length c.args.rows.now = omega (arith, c.requires.place, c.requires.room.height) in
     row_put c.args.rows.now c.split_at_mut-front.result.0.now c.split_at_mut-front.result.1.now c.args.place
     c.split_at_mut-front.ensures.value c.split_at_mut-front.ensures.front_len below c.fill_before.new.row
-    ∙ ap (set c.args.rows.now c.args.place) (c.fill_before.ensures.row ∙ ap (row_on (priced_by c.args.pricing.now) c.args.trip)
+    ∙ ap (set c.args.rows.now c.args.place) (c.fill_before.ensures.row
+    ∙ ap (λ (ahead : List (Option Cell)). all_bare (row_on (priced_by c.args.pricing.now) c.args.trip ahead))
     (row_in_back c.args.rows.now c.split_at_mut-front.result.0.now c.split_at_mut-front.result.1.now c.args.place
     c.split_at_mut-front.ensures.value c.split_at_mut-front.ensures.front_len below c.index-back-0.result))
 

@@ -1,8 +1,8 @@
 -- The last row, and then one row more before the others.
 use Rattle.std.proofs.Common.{◌≡◌, ◌<◌, ◌≤◌, ◌+◌, ◌-◌, ◌*◌, ℕ, suc, [], List, length, drop, get_or, set, sym, ap, ◌∙◌}
 use Rattle.std.proofs.Common.{subst, arith, length-drop}
-use Rattle.std.proofs.lemmas.List.{get_or-set_same, get_or_read}
-use Rattle.price_bound.specs.CellRows.{comps_of, last_row_on, row_on}
+use Rattle.std.proofs.lemmas.List.{get_or-set_same, get_or_read, length-map}
+use Rattle.price_bound.specs.CellRows.{all_bare, bare, comps_of, last_row_on, row_on}
 use Rattle.price_bound.specs.CellSizes.{AreSmallCells}
 use Rattle.price_bound.specs.ChainStages.{stage_of}
 use Rattle.price_bound.specs.Pricing.{priced_by}
@@ -17,10 +17,10 @@ loop-place-init c =
     let below : place < length c.args.rows.now = omega (arith, within, c.requires.few, c.requires.room.height) in
     let trip : c.index-chain-place.result ≡ get_or chain place 0 =
     get_or_read chain place c.index-chain-place.result within c.index-chain-place.is 0 in
-    let row : c.fill_last.new.row ≡ last_row_on (priced_by c.args.pricing.now) (get_or chain place 0) =
-    c.fill_last.ensures.row ∙ ap (last_row_on (priced_by c.args.pricing.now)) trip in
+    let row : c.fill_last.new.row ≡ all_bare (last_row_on (priced_by c.args.pricing.now) (get_or chain place 0)) =
+    c.fill_last.ensures.row ∙ ap (λ (t : ℕ). all_bare (last_row_on (priced_by c.args.pricing.now) t)) trip in
     let long : length c.fill_last.new.row ≡ comps_of (priced_by c.args.pricing.now) =
-    ap length row ∙ length-last_row (comps_of (priced_by c.args.pricing.now)) (stage_of (priced_by c.args.pricing.now) (get_or chain place 0)) in
+    ap length row ∙ length-map _ bare ∙ length-last_row (comps_of (priced_by c.args.pricing.now)) (stage_of (priced_by c.args.pricing.now) (get_or chain place 0)) in
     record {
       below = within;
       room = room_kept (length c.args.pricing.now.instance.now.trips) (comps_of (priced_by c.args.pricing.now)) place
@@ -52,21 +52,29 @@ loop-place-preserved c =
     let done : AreRowsFrom (priced_by c.args.pricing.now) chain (suc place) c.loop-place.rows =
     subst (λ (k : ℕ). AreRowsFrom (priced_by c.args.pricing.now) chain k c.loop-place.rows) next c.loop-place.invariant.rows in
     let row : c.fill_place.new.rows
-    ≡ set c.loop-place.rows place (row_on (priced_by c.args.pricing.now) (get_or chain place 0) (get_or c.loop-place.rows (suc place) [])) =
+    ≡ set c.loop-place.rows place (all_bare (row_on (priced_by c.args.pricing.now) (get_or chain place 0) (get_or c.loop-place.rows (suc place) []))) =
     c.fill_place.ensures.row
-    ∙ (ap (λ (t : ℕ). set c.loop-place.rows place (row_on (priced_by c.args.pricing.now) t (get_or c.loop-place.rows (place + 1) []))) trip
-    ∙ ap (λ (k : ℕ). set c.loop-place.rows place (row_on (priced_by c.args.pricing.now) (get_or chain place 0) (get_or c.loop-place.rows k []))) one) in
+    ∙ (ap (λ (t : ℕ). set c.loop-place.rows place (all_bare (row_on (priced_by c.args.pricing.now) t (get_or c.loop-place.rows (place + 1) [])))) trip
+    ∙ ap (λ (k : ℕ). set c.loop-place.rows place (all_bare (row_on (priced_by c.args.pricing.now) (get_or chain place 0) (get_or c.loop-place.rows k [])))) one) in
     record {
       below = omega (arith, below);
       room = c.fill_place.ensures.room;
       rows = rows_more (priced_by c.args.pricing.now) chain c.loop-place.rows place below done c.fill_place.new.rows row
           (λ bound each. c.fill_place.ensures.small bound
-          (subst (λ (k : ℕ). AreSmallCells bound (get_or c.loop-place.rows k [])) (sym one) each));
+          (subst (λ (k : ℕ). AreSmallCells bound (get_or c.loop-place.rows k [])) (sym one) each))
+          (omega (arith, c.requires.few, c.trips.ensures.value, c.trips.ensures.few));
     }
+
+pub returns-clause-first : goal.returns-clause-first
+returns-clause-first c =
+    let first : c.loop-place.place ≡ 0 = omega (arith, c.loop-place-test.false) in
+    let from : AreRowsFrom (priced_by c.args.pricing.now) c.args.chain.now 0 c.loop-place.rows =
+    subst (λ (k : ℕ). AreRowsFrom (priced_by c.args.pricing.now) c.args.chain.now k c.loop-place.rows) first c.loop-place.invariant.rows in
+    from.small
 
 pub returns-clause-small : goal.returns-clause-small
 returns-clause-small c =
     let first : c.loop-place.place ≡ 0 = omega (arith, c.loop-place-test.false) in
     let from : AreRowsFrom (priced_by c.args.pricing.now) c.args.chain.now 0 c.loop-place.rows =
     subst (λ (k : ℕ). AreRowsFrom (priced_by c.args.pricing.now) c.args.chain.now k c.loop-place.rows) first c.loop-place.invariant.rows in
-    from.small
+    λ place below. from.each place (omega arith) below

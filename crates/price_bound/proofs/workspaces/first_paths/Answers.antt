@@ -1,5 +1,5 @@
 -- One chain more has its first path, or there is none.
-use Rattle.std.proofs.Common.{◌≡◌, ℕ, suc, ◌+◌, ◌*◌, ◌≤◌, List, Option, Some, None, length, take, ℤ, ◌+ℤ◌, ap, sym}
+use Rattle.std.proofs.Common.{◌≡◌, ℕ, suc, ◌+◌, ◌*◌, ◌≤◌, List, Some, None, length, take, ℤ, ◌+ℤ◌, ap, sym}
 use Rattle.std.proofs.Common.{subst, arith, ◌∙◌}
 use Rattle.timetable.specs.Chains.{chains_of}
 use Rattle.price_bound.specs.declared.cells.Cell.{Cell}
@@ -9,6 +9,7 @@ use Rattle.price_bound.proofs.Adding.{small_more}
 use Rattle.price_bound.specs.ChainStages.{AreFirstPaths}
 use Rattle.price_bound.specs.Paths.{begin_of, path_from}
 use Rattle.price_bound.specs.Pricing.{priced_by}
+use Rattle.price_bound.proofs.ChainCells.{begin_of_bare}
 use Rattle.price_bound.proofs.ChainSteps.{lacks, next_first, some_trip}
 use Rattle.price_bound.proofs.Finding.{begin_small, begin_taken, chain_few, value_small}
 use Rattle.price_bound.proofs.PutPaths.{length-put}
@@ -24,18 +25,15 @@ returns-in_default-clause-found c =
     let some : 1 ≤ length chain = some_trip (priced_by c.args.pricing.now) c.requires.priced.graphs_are c.chains-chain-end.ensures.whole
     c.loop-chain.chain chain c.chain-trips.ensures.value chain c.chain-trips.ensures.whole in
     let none : begin_of (chain_rows (priced_by c.args.pricing.now) chain) ≡ None =
-    ap begin_of (sym c.fill.ensures.rows) ∙ (begin_taken (length chain) c.fill.new.self some
+    sym (begin_of_bare (chain_rows (priced_by c.args.pricing.now) chain))
+    ∙ ap begin_of (sym c.fill.ensures.rows) ∙ (begin_taken (length chain) c.fill.new.self some
     ∙ (sym c.begin.ensures ∙ c.in_default.is)) in
     lacks (priced_by c.args.pricing.now) c.requires.priced.graphs_are c.chains-chain-end.ensures.whole c.loop-chain.chain chain
     c.chain-trips.ensures.value none
 
 pub put_path-requires-clause-few : goal.put_path-requires-clause-few
 put_path-requires-clause-few c =
-    omega (
-      arith,
-      c.fill.ensures.room.height,
-      chain_few c.args.pricing.now.instance.now c.loop-chain.chain c.chain-trips.result.now c.chain-trips.ensures.value,
-    )
+    chain_few c.args.pricing.now.instance.now c.loop-chain.chain c.chain-trips.result.now c.chain-trips.ensures.value
 
 pub with_begin-value-requires-clause-value : goal.with_begin-value-requires-clause-value
 with_begin-value-requires-clause-value c =
@@ -54,7 +52,7 @@ with_begin-value-requires-clause-begin c =
     ) in
     small_more (length chain * 21000000000000000) 1000000000000000000000000000000 c.in-Some.begin.value (omega (arith, few))
     (begin_small (length chain * 21000000000000000) c.fill.new.self c.in-Some.begin (sym c.begin.ensures ∙ c.in-Some.is)
-    c.fill.ensures.small)
+    c.fill.ensures.first)
 
 pub loop-chain-preserved : goal.loop-chain-preserved
 loop-chain-preserved c =
@@ -70,9 +68,10 @@ loop-chain-preserved c =
     let next : suc i ≡ i + 1 = omega arith in
     let there : begin_of c.fill.new.self ≡ Some begin = sym c.begin.ensures ∙ c.in-Some.is in
     let found : begin_of (chain_rows (priced_by c.args.pricing.now) chain) ≡ Some begin =
-    ap begin_of (sym c.fill.ensures.rows) ∙ (begin_taken (length chain) c.fill.new.self some ∙ there) in
+    sym (begin_of_bare (chain_rows (priced_by c.args.pricing.now) chain))
+    ∙ ap begin_of (sym c.fill.ensures.rows) ∙ (begin_taken (length chain) c.fill.new.self some ∙ there) in
     let put : c.put_path.new.choice ≡ put_along chain (path_from (chain_rows (priced_by c.args.pricing.now) chain) begin.next) picks =
-    c.put_path.ensures ∙ ap (λ (rows : List (List (Option Cell))). put_along chain (path_from rows begin.next) picks) c.fill.ensures.rows in
+    c.put_path.ensures in
     let first : AreFirstPaths (priced_by c.args.pricing.now) (take (suc i) (chains_of c.args.pricing.now.instance.now))
     (put_along chain (path_from (chain_rows (priced_by c.args.pricing.now) chain) begin.next) picks) (c.loop-chain.value.0 +ℤ begin.value) =
     next_first (priced_by c.args.pricing.now) c.requires.priced.graphs_are c.chains-chain-end.ensures.whole i chain
@@ -91,5 +90,5 @@ loop-chain-preserved c =
       small = subst (IsSmall ((i + 1) * 20000000000000000000)) (sym c.with_begin-value.ensures)
           (value_small i (length chain) (length c.args.pricing.now.instance.now.trips) c.loop-chain.value.0 begin.value
           c.loop-chain.invariant.small few most
-          (begin_small (length chain * 21000000000000000) c.fill.new.self begin there c.fill.ensures.small));
+          (begin_small (length chain * 21000000000000000) c.fill.new.self begin there c.fill.ensures.first));
     }

@@ -1,6 +1,7 @@
--- The cells so far are out.
-use Rattle.std.proofs.Common.{◌≡◌, ◌++◌, take, drop, map, None}
+-- The values so far are taken out.
+use Rattle.std.proofs.Common.{length}
+use Rattle.price_bound.proofs.CellValues.{IsCleared}
 use Rattle.price_bound.proofs.cells.CellRow.clear.Given as goal
 
 abbrev pub invariant-loop-comp : goal.invariant-loop-comp
-invariant-loop-comp l = take l.comp l.self-inside.cells.items ++ map (λ _. None) (drop l.comp l.self-inside.cells.items) ≡ map (λ _. None) l.fn.self
+invariant-loop-comp l = IsCleared (length l.fn.self) l.comp l.self-inside.values.items
