@@ -6,7 +6,8 @@ pub mod CheckTexts
 pub mod TrialTexts
 -- the document of what a run comes to
 pub mod Texts
--- what an error of the tables comes to
+-- what was read of a folder, and what an error of its tables comes to
+pub mod Readings
 pub mod Errors
 -- how the planning of a day ends
 pub mod Planning

@@ -8,6 +8,7 @@ pub mod Evaluating
 pub mod Working
 -- how often advisors are asked, and what they make of a node
 pub mod Asking
+pub mod Leaving
 pub mod Advising
 -- the cut of a node, and nodes from their work
 pub mod Choosing

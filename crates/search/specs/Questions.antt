@@ -1,5 +1,5 @@
 -- How the advisors of a search are asked.
-use Rattle.std.specs.Prelude.{ℕ, zero, suc, ◌+◌, ◌<◌, ◌≤◌, ◌^◌, ◌≡◌, List, [], ◌∷◌, length, get_or, map, All, Bool}
+use Rattle.std.specs.Prelude.{ℕ, zero, suc, ◌+◌, ◌*◌, ◌<◌, ◌≤◌, ◌^◌, ◌≡◌, List, [], ◌∷◌, length, get_or, map, All, Bool}
 use Rattle.std.specs.Prelude.{true, false}
 use Rattle.std.specs.List.{AllZip}
 
@@ -73,3 +73,13 @@ AreAskedOnce {A} before after asked has_quit enough places =
     (place : ℕ) → (none : A) → place < places → get_or enough place false ≡ false →
     has_quit (get_or after place none) ≡ false →
     asked (get_or after place none) ≡ asked (get_or before place none) + 1
+
+-- The advisors after a search that was granted so many branchings and rounds, or after none, where nothing was granted:
+-- one of the same identity stands at each place, and each was asked in each round at the root and at both sides of each
+-- branching at the most. They are left as they are where nothing was granted.
+pub record LeavesAdvisors {A : Type 0} (Grants : ℕ → ℕ → Type 0) (before after : List A) (identity asked : A → ℕ)
+    (has_quit : A → Bool) : Type 0 where
+  pub same : AreTheSame before after identity
+  pub asked_within : (branchings rounds : ℕ) → Grants branchings rounds
+      → AreAsked before after asked has_quit 0 (rounds * (2 * branchings + 1))
+  pub unasked : ((branchings rounds : ℕ) → ¬ Grants branchings rounds) → after ≡ before
