@@ -1,9 +1,8 @@
 -- What words ask for is one command, and its numbers are within their limits; where no day is read none is asked.
-use Rattle.std.proofs.Common.{◌≡◌, ℕ, ◌≤◌, List, [], ◌∷◌, Option, Some, inl, inr, sym, ap, ◌∙◌, arith, Bool, true}
-use Rattle.std.proofs.Common.{codes, false, refl, subst}
-use Rattle.std.proofs.lemmas.Bool.{both_ways}
+use Rattle.std.proofs.Common.{◌≡◌, ℕ, ◌≤◌, List, [], ◌∷◌, Option, Some, None, sym, ap, ◌∙◌, arith, Bool}
+use Rattle.std.proofs.Common.{codes, refl, subst}
+use Rattle.std.specs.Prelude.{◌+◌, ◌*◌}
 use Rattle.rail_base.specs.declared.limits.TheConstants.{MOST_BRANCHINGS, MOST_ROUNDS}
-use Rattle.trial_day.specs.Trial.{IsTrialSize}
 use Rattle.day_files.specs.declared.errors.ReadError.{ReadError}
 use Rattle.day_files.specs.declared.errors.ReadError.TheVariants.{CannotRead, Refused, NoMemory}
 use Rattle.run_documents.specs.declared.outcome.Outcome.{Outcome}
@@ -15,8 +14,12 @@ use Rattle.commands.specs.declared.command.TheConstants.{USUAL_NODES, USUAL_ROUN
 use Rattle.plain_words.specs.Numbers.{IsOption}
 use Rattle.commands.specs.PlainForm.{IsPlainForm, IsSearch}
 use Rattle.commands.proofs.Meanings.{plain_form}
+use Rattle.rail_io.specs.Folders.{Files}
+use Rattle.search.specs.Questions.{AreAsked, AreTheSame, LeavesAdvisors}
+use Rattle.search.proofs.Leaving.{left_as, left_by}
 use Rattle.planner_app.specs.Advice.{AreAskedFor}
-use Rattle.planner_app.specs.Outcomes.{AskAbout, AskToPlan, AskToTry, Grants, folder_of}
+use Rattle.planner_app.specs.Asked.{AskForNoFolder, Grants, HasGrant, IsWithinLimits, folder_of}
+use Rattle.planner_app.specs.Outcomes.{ComesTo}
 
 -- words are the plain form of one command at most
 pub one_command : (words : WordList) (one other : Command) → IsPlainForm words one → IsPlainForm words other → one ≡ other
@@ -24,13 +27,7 @@ one_command words one other first second =
     let both : ◌≡◌ {A = Option Command} (Some one) (Some other) = sym (plain_form words one first) ∙ plain_form words other second in
     cc
 
--- the folder of the words is that of their command
-pub about_folder : (words : WordList) (dir other : List ℕ) (named : Command) → IsPlainForm words named
-    → folder_of named ≡ Some dir → AskAbout words other → other ≡ dir
-about_folder words dir other named form is about =
-    let same : about.named ≡ named = one_command words about.named named about.asked form in
-    let both : ◌≡◌ {A = Option (List ℕ)} (Some other) (Some dir) = sym about.folder ∙ ap folder_of same ∙ is in
-    cc
+-- ---- the limits of its numbers
 
 option_within : (usual most : ℕ) (values : WordList) (number : ℕ) → usual ≤ most → IsOption usual most values number
     → number ≤ most
@@ -44,56 +41,53 @@ search_within n k nodes rounds is = (
   option_within USUAL_ROUNDS MOST_ROUNDS rounds k (omega arith) is.1,
 )
 
--- no more branchings and rounds are asked for than may be granted
-pub plan_within : (words : WordList) (dir : List ℕ) (nodes rounds : ℕ) → AskToPlan words dir nodes rounds
-    → (nodes ≤ MOST_BRANCHINGS) × (rounds ≤ MOST_ROUNDS)
-plan_within words dir nodes rounds form =
+-- no more branchings, rounds and trips are asked for than may be
+pub within_limits : (words : WordList) (named : Command) → IsPlainForm words named → IsWithinLimits named
+within_limits words (command.Plan dir nodes rounds) form =
     search_within nodes rounds (values_in (codes "--nodes") form.items) (values_in (codes "--rounds") form.items) form.meant.1
+within_limits words (command.Trial seed trips nodes rounds) form =
+    let both = search_within nodes rounds (values_in (codes "--nodes") form.items) (values_in (codes "--rounds") form.items) form.meant.1 in
+    (record { even = form.meant.0.even; some = form.meant.0.some; few = form.meant.0.trips_number.limit }, both.0, both.1)
+within_limits words (command.Simulate dir) form = tt
+within_limits words (command.Check dir) form = tt
+within_limits words (command.Duties dir) form = tt
+within_limits words (command.Yards dir) form = tt
+within_limits words (command.Costs dir) form = tt
 
-pub trial_within : (words : WordList) (seed trips nodes rounds : ℕ) → AskToTry words seed trips nodes rounds
-    → (nodes ≤ MOST_BRANCHINGS) × (rounds ≤ MOST_ROUNDS)
-trial_within words seed trips nodes rounds form =
-    search_within nodes rounds (values_in (codes "--nodes") form.items) (values_in (codes "--rounds") form.items) form.meant.1
+-- ---- words ask for what their command does
 
--- a trial day is asked for with as many trips as one may have
-pub trial_size : (words : WordList) (seed trips nodes rounds : ℕ) → AskToTry words seed trips nodes rounds → IsTrialSize trips
-trial_size words seed trips nodes rounds form =
-    record { even = form.meant.0.even; some = form.meant.0.some; few = form.meant.0.trips_number.limit }
+module _ (words : WordList) (named : Command) (form : IsPlainForm words named) where
+  granted : (nodes rounds : ℕ) → HasGrant named nodes rounds → Grants words nodes rounds
+  granted nodes rounds is = record { named = named; asked = form; granted = is }
 
--- words grant one number of branchings and of rounds
-pub plan_grants : (words : WordList) (dir : List ℕ) (nodes rounds n k : ℕ) → AskToPlan words dir nodes rounds
-    → Grants words n k → (nodes ≡ n) × (rounds ≡ k)
-plan_grants words dir nodes rounds n k form (inl other) =
-    let same = one_command words (command.Plan dir nodes rounds) (command.Plan other.0 n k) form other.1 in (cc, cc)
-plan_grants words dir nodes rounds n k form (inr other) =
-    let same = one_command words (command.Plan dir nodes rounds) (command.Trial other.0 other.1 n k) form other.2 in absurd cc
+  pub its_grant : (nodes rounds : ℕ) → Grants words nodes rounds → HasGrant named nodes rounds
+  its_grant nodes rounds is = subst (λ (it : Command). HasGrant it nodes rounds) (one_command words is.named named is.asked form) is.granted
 
-pub trial_grants : (words : WordList) (seed trips nodes rounds n k : ℕ) → AskToTry words seed trips nodes rounds
-    → Grants words n k → (nodes ≡ n) × (rounds ≡ k)
-trial_grants words seed trips nodes rounds n k form (inl other) =
-    let same = one_command words (command.Trial seed trips nodes rounds) (command.Plan other.0 n k) form other.1 in absurd cc
-trial_grants words seed trips nodes rounds n k form (inr other) =
-    let same = one_command words (command.Trial seed trips nodes rounds) (command.Trial other.0 other.1 n k) form other.2 in (cc, cc)
+  pub advisors_left : {A : Type 0} (identity asked : A → ℕ) (has_quit : A → Bool) (before after : List A)
+      → LeavesAdvisors (HasGrant named) before after identity asked has_quit → LeavesAdvisors (Grants words) before after identity asked has_quit
+  advisors_left identity asked has_quit before after leaves =
+      left_as (HasGrant named) (Grants words) identity asked has_quit before after granted its_grant leaves
 
-abbrev searches : Command → Bool
-searches (command.Plan dir nodes rounds) = true
-searches (command.Trial seed trips nodes rounds) = true
-searches (command.Simulate dir) = false
-searches (command.Check dir) = false
-searches (command.Duties dir) = false
-searches (command.Yards dir) = false
-searches (command.Costs dir) = false
+  pub no_folder : AskForNoFolder words → folder_of named ≡ None
+  no_folder none = none named form
 
--- words of a command that doesn't search grant nothing
-pub grants_nothing : (words : WordList) (named : Command) (n k : ℕ) → searches named ≡ false → IsPlainForm words named
-    → Grants words n k → ⊥
-grants_nothing words named n k none form (inl other) =
-    let same : named ≡ command.Plan other.0 n k = one_command words named (command.Plan other.0 n k) form other.1 in
-    both_ways (searches named) none (ap searches same)
-grants_nothing words named n k none form (inr other) =
-    let same : named ≡ command.Trial other.0 other.1 n k =
-    one_command words named (command.Trial other.0 other.1 n k) form other.2 in
-    both_ways (searches named) none (ap searches same)
+-- ---- what a command comes to
+
+-- a command that searches leaves the advisors as its one grant allows
+pub searched_by : {A : Type 0} (identity asked : A → ℕ) (has_quit : A → Bool) (named searching : Command) → named ≡ searching → (nodes rounds : ℕ)
+    → HasGrant searching nodes rounds → ((n k : ℕ) → HasGrant searching n k → (nodes ≡ n) × (rounds ≡ k)) → (before after : List A)
+    → AreTheSame before after identity → AreAsked before after asked has_quit 0 (rounds * (2 * nodes + 1))
+    → LeavesAdvisors (HasGrant named) before after identity asked has_quit
+searched_by identity asked has_quit named searching is nodes rounds granted only before after same within =
+    subst (λ (it : Command). LeavesAdvisors (HasGrant it) before after identity asked has_quit) (sym is)
+    (left_by (HasGrant searching) identity asked has_quit nodes rounds granted only before after same within)
+
+-- a command on a folder comes to what it does by another name of the folder
+pub comes_there : {F : Type 0} (holds : F → Option Files) (may_fail : F → List ℕ → Bool) (faults taken : F → ℕ) (old new : F) (it : Outcome)
+    (make : List ℕ → Command) (named : Command) (dir there : List ℕ) → there ≡ dir → named ≡ make dir
+    → ComesTo holds may_fail faults taken (make there) old new it → ComesTo holds may_fail faults taken named old new it
+comes_there holds may_fail faults taken old new it make named dir there here is comes =
+    subst (λ (c : Command). ComesTo holds may_fail faults taken c old new it) (ap make here ∙ sym is) comes
 
 -- where no day is read, no advisor is asked
 pub none_asked_for : {A : Type 0} (asked : A → ℕ) (has_quit : A → Bool) (rounds : ℕ) (error : ReadError) (it : Outcome)

@@ -1,24 +1,23 @@
 -- The outcome that words and files tell is one: the words ask for one command, and each thing that it reads is one.
-use Rattle.std.proofs.Common.{◌≡◌, ℕ, List, Bool, true, false, Option, Some, None, Result, Ok, Err}
-use Rattle.std.proofs.Common.{refl, sym, ap, subst, ◌∙◌, arith}
+use Rattle.std.proofs.Common.{◌≡◌, ◌≢◌, ℕ, List, Bool, false, Option, Some, Result, Ok, Err, refl, sym, ap, subst, ◌∙◌, arith}
 use Rattle.std.specs.Prelude.{ℤ, IsTrue}
 use Rattle.rail_base.specs.declared.numbers.Money.{Money}
+use Rattle.rail_csv.specs.declared.rows.Table.{Table}
 use Rattle.rail_io.specs.Folders.{Files}
-use Rattle.timetable.specs.Cost.{plan_cost}
 use Rattle.timetable.specs.Day.{Day}
 use Rattle.day_files.specs.declared.errors.Refusal.{Refusal}
+use Rattle.day_files.specs.declared.errors.ReadError.{ReadError}
+use Rattle.day_files.specs.declared.errors.ReadError.TheVariants as read_error
 use Rattle.day_files.specs.declared.inputs.Inputs.{Inputs}
+use Rattle.day_files.specs.Answers.{Reads}
 use Rattle.day_files.specs.Inputs.{day_in, inputs_in}
-use Rattle.day_simulator.specs.declared.events.StepFault.{StepFault}
-use Rattle.day_simulator.specs.Calls.{IsCost}
-use Rattle.day_simulator.specs.Finish.{simulation}
+use Rattle.day_files.specs.Order.{Reaches}
 use Rattle.answer_text.specs.declared.answer.Answer.{Answer}
 use Rattle.answer_text.specs.Limits.{has_plan}
 use Rattle.answer_text.proofs.Texts.{refusals_are_one}
 use Rattle.answer_check.specs.declared.checking.AnswerVerdict.{AnswerVerdict}
 use Rattle.answer_check.specs.declared.checking.AnswerVerdict.TheVariants.{Valid}
 use Rattle.answer_check.specs.Validity.{IsValid}
-use Rattle.answer_check.specs.Verdicts.{IsAnswerVerdict}
 use Rattle.answer_check.proofs.OneVerdict.{answer_verdicts_are_one}
 use Rattle.answer_check.proofs.Refuting.{only_valid}
 use Rattle.run_documents.specs.declared.answer_file.AnswerError.{AnswerError}
@@ -26,23 +25,29 @@ use Rattle.run_documents.specs.declared.answer_file.AnswerError.TheVariants as a
 use Rattle.run_documents.specs.declared.outcome.Outcome.{Outcome}
 use Rattle.run_documents.specs.declared.outcome.Outcome.TheVariants as outcome
 use Rattle.run_documents.specs.AnswerFiles.{IsAnswerOf, IsWrongAnswer, answer_bytes}
+use Rattle.run_documents.specs.Errors.{outcome_of_error}
 use Rattle.commands.specs.declared.command.Command.{Command}
 use Rattle.commands.specs.declared.command.Command.TheVariants as command
-use Rattle.commands.specs.PlainForm.{IsPlainForm}
 use Rattle.planner_app.specs.declared.reports.ReportKind.{ReportKind}
-use Rattle.planner_app.specs.Outcomes.{AreAnswered, AskAbout, AskInVain, AskToCheck, AskToReport, AskToSimulate}
-use Rattle.planner_app.specs.Outcomes.{IsPlanned, IsTried, OfDay, OfDayAndPlan, PlanRuns, Says}
-use Rattle.planner_app.specs.Outcomes.{command_for, folder_of, reads_answer, reads_plan}
-use Rattle.planner_app.specs.ReportTexts.{report_text}
+use Rattle.planner_app.specs.declared.reports.ReportKind.TheVariants as report
+use Rattle.planner_app.specs.DayOutcomes.{IsCheckOutcome, IsPlanOutcome, IsReportOutcome, IsRunOutcome, IsTrialOutcome, IsVerdictOn}
+use Rattle.planner_app.specs.DayOutcomes.{IsPlanned, NoMemoryToPlan, DoesRun, DoesStop, NoMemoryToRun, IsJudged, NoMemoryToCheck}
+use Rattle.planner_app.specs.DayOutcomes.{IsWrong, IsReported, HasNoPlan, NoMemoryToReport, IsTried, NoMemoryToTry}
+use Rattle.planner_app.specs.Outcomes.{ComesTo, IsOfAnswer, IsOutcome, OfCommand, InVain, Unread, NoDay, OfDay, NoInputs, OfInputs, NoAnswer, OfAnswer}
+use Rattle.planner_app.specs.Readings.{NoneRead, NoMemoryToRead}
+use Rattle.planner_app.specs.Readings.{NoDay as NoDayRead}
 use Rattle.planner_app.specs.Laws.{IsOfSearch, IsToldByFiles, OthersAreTold, OutcomesAreOne, SearchesAreApart}
-use Rattle.planner_app.proofs.Allowed.{code, report_code}
-use Rattle.planner_app.proofs.Asking.{about_folder, one_command}
-use Rattle.planner_app.proofs.Endings.{one_report}
-use Rattle.planner_app.proofs.Outcomes.{report_folder, report_reads}
+use Rattle.planner_app.proofs.Asking.{one_command}
 
 -- at most one outcome is told so
 abbrev IsOne : (Outcome → Type 0) → Type 0
-IsOne Tells = (one other : Outcome) → Tells one → Tells other → one ≡ other
+IsOne Tells = (one other : Outcome) → IsToldByFiles one → IsToldByFiles other → Tells one → Tells other → one ≡ other
+
+told_as : {it other : Outcome} → it ≡ other → IsToldByFiles it → IsToldByFiles other
+told_as is told = subst IsToldByFiles is told
+
+found_as : {it other : Outcome} → it ≡ other → IsOfSearch it → IsOfSearch other
+found_as is found = subst IsOfSearch is found
 
 -- ---- files are refused, or accepted
 
@@ -53,75 +58,71 @@ data IsRead (X : Type 0) (read : Result X Refusal) (Tells : X → Outcome → Ty
 
 one_read : (X : Type 0) (read : Result X Refusal) (Tells : X → Outcome → Type 0) → ((found : X) → IsOne (Tells found))
     → IsOne (IsRead X read Tells)
-one_read X read Tells each one other (NotAccepted why refused is) (NotAccepted why' refused' is') = cc
-one_read X read Tells each one other (NotAccepted why refused is) (Accepted found accepted tells) = absurd cc
-one_read X read Tells each one other (Accepted found accepted tells) (NotAccepted why refused is) = absurd cc
-one_read X read Tells each one other (Accepted found accepted tells) (Accepted found' accepted' tells') =
+one_read X read Tells each one other told told' (NotAccepted why refused is) (NotAccepted why' refused' is') = cc
+one_read X read Tells each one other told told' (NotAccepted why refused is) (Accepted found accepted tells) = absurd cc
+one_read X read Tells each one other told told' (Accepted found accepted tells) (NotAccepted why refused is) = absurd cc
+one_read X read Tells each one other told told' (Accepted found accepted tells) (Accepted found' accepted' tells') =
     let same : found' ≡ found = cc in
-    each found one other tells (subst (λ (x : X). Tells x other) same tells')
+    each found one other told told' tells (subst (λ (x : X). Tells x other) same tells')
 
--- ---- a plan is run
+-- ---- a day is planned, and a plan is run
 
--- the plan runs at a cost, or stops with a fault
-data IsRun (inputs : Inputs) (it : Outcome) : Type 0 where
-  Goes : (money : Money) → PlanRuns inputs → IsCost (plan_cost inputs.instance inputs.plan) money
-      → it ≡ outcome.Runs money → IsRun inputs it
-  Stops : (fault : StepFault) → ¬ (PlanRuns inputs) → simulation inputs.instance inputs.plan ≡ Err fault
-      → it ≡ outcome.Stops fault → IsRun inputs it
+none_planned : (day : Day) (nodes : ℕ) (it : Outcome) → IsToldByFiles it → IsPlanOutcome day nodes it → ⊥
+none_planned day nodes it told (IsPlanned answer headline is) = told_as is told
+none_planned day nodes it told (NoMemoryToPlan none) = told_as none told
+
+none_tried : (seed trips nodes : ℕ) (it : Outcome) → IsToldByFiles it → IsTrialOutcome seed trips nodes it → ⊥
+none_tried seed trips nodes it told (IsTried day made answer headline is) = told_as is told
+none_tried seed trips nodes it told (NoMemoryToTry none) = told_as none told
 
 -- a cost is one amount of money
 one_money : (money other : Money) → money.0 ≡ other.0 → outcome.Runs money ≡ outcome.Runs other
 one_money money other same = ap (λ (amount : ℤ). outcome.Runs (record { 0 = amount })) same
 
-one_run : (inputs : Inputs) → IsOne (IsRun inputs)
-one_run inputs one other (Goes money runs cost is) (Goes money' runs' cost' is') =
-    is ∙ one_money money money' (cost ∙ sym cost') ∙ sym is'
-one_run inputs one other (Goes money runs cost is) (Stops fault stops found is') = absurd (stops runs)
-one_run inputs one other (Stops fault stops found is) (Goes money runs cost is') = absurd (stops runs)
-one_run inputs one other (Stops fault stops found is) (Stops fault' stops' found' is') = cc
+one_run : (inputs : Inputs) → IsOne (IsRunOutcome inputs)
+one_run inputs one other told told' (DoesRun money at is) (DoesRun money' at' is') = is ∙ one_money money money' (at.cost ∙ sym at'.cost) ∙ sym is'
+one_run inputs one other told told' (DoesRun money at is) (DoesStop fault at' is') = absurd (at'.stops at.runs)
+one_run inputs one other told told' (DoesStop fault at is) (DoesRun money at' is') = absurd (at.stops at'.runs)
+one_run inputs one other told told' (DoesStop fault at is) (DoesStop fault' at' is') =
+    let first = at.first in let first' = at'.first in cc
+one_run inputs one other told told' (NoMemoryToRun none) comes = absurd (told_as none told)
+one_run inputs one other told told' (DoesRun money at is) (NoMemoryToRun none) = absurd (told_as none told')
+one_run inputs one other told told' (DoesStop fault at is) (NoMemoryToRun none) = absurd (told_as none told')
 
 -- ---- an answer is judged
 
--- the report, or that there is no plan to report on
-abbrev report_of : Bool → List ℕ → Outcome
-report_of true text = outcome.Reported text
-report_of false text = outcome.NoPlan
+module _ (day : Day) (answer : Answer) where
+  one_verdict : (one other : Outcome) (verdict verdict' : AnswerVerdict) → IsVerdictOn day answer verdict → IsVerdictOn day answer verdict'
+      → one ≡ outcome.Checked answer.head verdict → other ≡ outcome.Checked answer.head verdict' → one ≡ other
+  one_verdict one other verdict verdict' on on' is is' =
+      let same : verdict ≡ verdict' = answer_verdicts_are_one day answer verdict verdict' on.is on'.is in cc
 
-is_report : (planned : Bool) (text said : List ℕ) → IsTrue planned → text ≡ said
-    → outcome.Reported text ≡ report_of planned said
-is_report true text said holds is = cc
-is_report false text said holds is = absurd cc
+  one_check : IsOne (IsCheckOutcome day answer)
+  one_check one other told told' (IsJudged verdict on is) (IsJudged verdict' on' is') = one_verdict one other verdict verdict' on on' is is'
+  one_check one other told told' (NoMemoryToCheck none) comes = absurd (told_as none told)
+  one_check one other told told' (IsJudged verdict on is) (NoMemoryToCheck none) = absurd (told_as none told')
 
-is_no_plan : (planned : Bool) (said : List ℕ) → planned ≡ false → outcome.NoPlan ≡ report_of planned said
-is_no_plan true said none = absurd cc
-is_no_plan false said none = refl
+  -- a valid answer has no verdict but that it is valid
+  not_wrong : (verdict : AnswerVerdict) → IsVerdictOn day answer verdict → verdict ≢ Valid → IsValid day answer → ⊥
+  not_wrong verdict on wrong valid = wrong (only_valid day answer valid verdict on.is)
 
-module _ (words : List (List ℕ)) (dir : List ℕ) (day : Day) (answer : Answer) where
-  -- the verdict tells the outcome, or a report on a valid answer does
-  data IsJudged (it : Outcome) : Type 0 where
-    ByVerdict : (verdict : AnswerVerdict) → IsAnswerVerdict day answer verdict → (verdict ≡ Valid → AskToCheck words dir)
-        → it ≡ outcome.Checked answer.head verdict → IsJudged it
-    ByReport : (kind : ReportKind) → AskToReport words kind dir → IsValid day answer
-        → it ≡ report_of (has_plan answer.head) (report_text kind day answer.runs) → IsJudged it
+  true_or_false : (b : Bool) → IsTrue b → b ≡ false → ⊥
+  true_or_false b is none = cc
 
-  -- the verdict on a valid answer is not told where a report is asked for
-  not_told : (verdict : AnswerVerdict) → IsAnswerVerdict day answer verdict → (verdict ≡ Valid → AskToCheck words dir)
-      → (kind : ReportKind) → AskToReport words kind dir → IsValid day answer → ⊥
-  not_told verdict right alone kind asked valid =
-      let check = alone (only_valid day answer valid verdict right) in
-      let same = ap code (one_command words (command.Check dir) (command_for kind dir) check asked) in
-      omega (arith, same, (report_code kind dir).0)
-
-  one_judged : IsOne IsJudged
-  one_judged one other (ByVerdict verdict right alone is) (ByVerdict verdict' right' alone' is') =
-      let same : verdict ≡ verdict' = answer_verdicts_are_one day answer verdict verdict' right right' in cc
-  one_judged one other (ByVerdict verdict right alone is) (ByReport kind asked valid is') =
-      absurd (not_told verdict right alone kind asked valid)
-  one_judged one other (ByReport kind asked valid is) (ByVerdict verdict right alone is') =
-      absurd (not_told verdict right alone kind asked valid)
-  one_judged one other (ByReport kind asked valid is) (ByReport kind' asked' valid' is') =
-      let same : kind' ≡ kind = (one_report words kind kind' dir dir asked asked').0 in
-      is ∙ sym (subst (λ (k : ReportKind). other ≡ report_of (has_plan answer.head) (report_text k day answer.runs)) same is')
+  one_report : (kind : ReportKind) → IsOne (IsReportOutcome kind day answer)
+  one_report kind one other told told' (IsWrong verdict on wrong is) (IsWrong verdict' on' wrong' is') = one_verdict one other verdict verdict' on on' is is'
+  one_report kind one other told told' (IsWrong verdict on wrong is) (IsReported text of is') = absurd (not_wrong verdict on wrong of.valid)
+  one_report kind one other told told' (IsWrong verdict on wrong is) (HasNoPlan valid none is') = absurd (not_wrong verdict on wrong valid)
+  one_report kind one other told told' (IsReported text of is) (IsWrong verdict on wrong is') = absurd (not_wrong verdict on wrong of.valid)
+  one_report kind one other told told' (IsReported text of is) (IsReported text' of' is') = is ∙ ap outcome.Reported (of.is ∙ sym of'.is) ∙ sym is'
+  one_report kind one other told told' (IsReported text of is) (HasNoPlan valid none is') = absurd (true_or_false (has_plan answer.head) of.planned none)
+  one_report kind one other told told' (HasNoPlan valid none is) (IsWrong verdict on wrong is') = absurd (not_wrong verdict on wrong valid)
+  one_report kind one other told told' (HasNoPlan valid none is) (IsReported text of is') = absurd (true_or_false (has_plan answer.head) of.planned none)
+  one_report kind one other told told' (HasNoPlan valid none is) (HasNoPlan valid' none' is') = is ∙ sym is'
+  one_report kind one other told told' (NoMemoryToReport none) comes = absurd (told_as none told)
+  one_report kind one other told told' (IsWrong verdict on wrong is) (NoMemoryToReport none) = absurd (told_as none told')
+  one_report kind one other told told' (IsReported text of is) (NoMemoryToReport none) = absurd (told_as none told')
+  one_report kind one other told told' (HasNoPlan valid without is) (NoMemoryToReport none) = absurd (told_as none told')
 
 -- ---- an answer is refused, or read
 
@@ -144,185 +145,177 @@ module _ (files : Files) (dir : List ℕ) where
       ap answer_error.Refused (refusals_are_one bytes refusal refusal' wrong.refused wrong'.refused)
 
   -- nothing is wrong with it where it is read
-  not_wrong : (error : AnswerError) (answer : Answer) → IsToldByFiles (outcome.NoAnswer error)
+  wrong_or_read : (error : AnswerError) (answer : Answer) → IsToldByFiles (outcome.NoAnswer error)
       → IsWrongAnswer files dir error → IsAnswerOf bytes answer → ⊥
-  not_wrong answer_error.CannotRead answer told wrong is = told
-  not_wrong answer_error.TooLong answer told wrong is = omega (arith, wrong, is.few)
-  not_wrong (answer_error.Refused refusal) answer told wrong is = wrong.none answer is.text
+  wrong_or_read answer_error.CannotRead answer told wrong is = told
+  wrong_or_read answer_error.TooLong answer told wrong is = omega (arith, wrong, is.few)
+  wrong_or_read (answer_error.Refused refusal) answer told wrong is = wrong.none answer is.text
 
-  module _ (words : List (List ℕ)) (day : Day) where
-    -- what the words ask for reads an answer
-    abbrev AskForAnswer : Type 0
-    AskForAnswer = (named : Command) → IsPlainForm words named → reads_answer named ≡ true
+  -- what is wrong with the file of the answer tells the outcome, or what is found of the answer does
+  data IsAnswered (Tells : Answer → Outcome → Type 0) (it : Outcome) : Type 0 where
+    WrongFile : (error : AnswerError) → IsWrongAnswer files dir error → it ≡ outcome.NoAnswer error → IsAnswered Tells it
+    RightFile : (answer : Answer) → IsAnswerOf bytes answer → Tells answer it → IsAnswered Tells it
 
-    -- what is wrong with the file of the answer tells the outcome, or what is found of the answer does
-    data IsAnswered (it : Outcome) : Type 0 where
-      IsWrong : AskForAnswer → (error : AnswerError) → IsToldByFiles (outcome.NoAnswer error) → IsWrongAnswer files dir error
-          → it ≡ outcome.NoAnswer error → IsAnswered it
-      IsRight : AskForAnswer → (answer : Answer) → IsAnswerOf bytes answer → IsJudged words dir day answer it → IsAnswered it
+  one_answered : (Tells : Answer → Outcome → Type 0) → ((answer : Answer) → IsOne (Tells answer)) → IsOne (IsAnswered Tells)
+  one_answered Tells each one other told told' (WrongFile error wrong is) (WrongFile error' wrong' is') =
+      is ∙ ap outcome.NoAnswer (one_wrong error error' (told_as is told) (told_as is' told') wrong wrong') ∙ sym is'
+  one_answered Tells each one other told told' (WrongFile error wrong is) (RightFile answer right tells) =
+      absurd (wrong_or_read error answer (told_as is told) wrong right)
+  one_answered Tells each one other told told' (RightFile answer right tells) (WrongFile error wrong is) =
+      absurd (wrong_or_read error answer (told_as is told') wrong right)
+  one_answered Tells each one other told told' (RightFile answer right tells) (RightFile answer' right' tells') =
+      let same : answer' ≡ answer = right'.only answer right.text in
+      each answer one other told told' tells (subst (λ (a : Answer). Tells a other) same tells')
 
-    one_answered : IsOne IsAnswered
-    one_answered one other (IsWrong reads error told wrong is) (IsWrong reads' error' told' wrong' is') =
-        is ∙ ap outcome.NoAnswer (one_wrong error error' told told' wrong wrong') ∙ sym is'
-    one_answered one other (IsWrong reads error told wrong is) (IsRight reads' answer right judged) =
-        absurd (not_wrong error answer told wrong right)
-    one_answered one other (IsRight reads answer right judged) (IsWrong reads' error told wrong is) =
-        absurd (not_wrong error answer told wrong right)
-    one_answered one other (IsRight reads answer right judged) (IsRight reads' answer' right' judged') =
-        let same : answer' ≡ answer = right'.only answer right.text in
-        one_judged words dir day answer one other judged
-        (subst (λ (a : Answer). IsJudged words dir day a other) same judged')
+-- ---- by the command
 
--- ---- by the command of the words
+module _ (files : Files) where
+  -- the day of the files, and its answer, tell the outcome
+  abbrev ByAnswer : List ℕ → (Day → Answer → Outcome → Type 0) → Outcome → Type 0
+  ByAnswer dir Tells it = IsRead Day (day_in files dir) (λ day. IsAnswered files dir (Tells day)) it
 
-module _ (words : List (List ℕ)) (files : Files) where
-  abbrev OfInputs : List ℕ → Outcome → Type 0
-  OfInputs dir it = IsRead Inputs (inputs_in files dir) IsRun it
+  -- what the files tell of a command
+  abbrev OfFiles : Command → Outcome → Type 0
+  OfFiles (command.Plan dir nodes rounds) it = IsRead Day (day_in files dir) (λ day. IsPlanOutcome day nodes) it
+  OfFiles (command.Simulate dir) it = IsRead Inputs (inputs_in files dir) IsRunOutcome it
+  OfFiles (command.Check dir) it = ByAnswer dir IsCheckOutcome it
+  OfFiles (command.Duties dir) it = ByAnswer dir (IsReportOutcome report.Duties) it
+  OfFiles (command.Yards dir) it = ByAnswer dir (IsReportOutcome report.Yards) it
+  OfFiles (command.Costs dir) it = ByAnswer dir (IsReportOutcome report.Costs) it
+  OfFiles (command.Trial seed trips nodes rounds) it = IsTrialOutcome seed trips nodes it
 
-  abbrev OfTables : List ℕ → Outcome → Type 0
-  OfTables dir it = IsRead Day (day_in files dir) (IsAnswered files dir words) it
+  one_by_answer : (dir : List ℕ) (Tells : Day → Answer → Outcome → Type 0) → ((day : Day) (answer : Answer) → IsOne (Tells day answer))
+      → IsOne (ByAnswer dir Tells)
+  one_by_answer dir Tells each =
+      one_read Day (day_in files dir) (λ day. IsAnswered files dir (Tells day)) (λ day. one_answered files dir (Tells day) (each day))
 
-  -- the words ask for nothing, or the day and the plan of a folder tell the outcome, or its day and its answer do
-  data IsTold (it : Outcome) : Type 0 where
-    InVain : AskInVain words → it ≡ outcome.Usage → IsTold it
-    ByInputs : (dir : List ℕ) → AskToSimulate words dir → OfInputs dir it → IsTold it
-    ByTables : (dir : List ℕ) (about : AskAbout words dir) → reads_plan about.named ≡ false → OfTables dir it → IsTold it
-
-  -- the words of a run read a plan
-  not_plain : (dir other : List ℕ) → AskToSimulate words dir → (about : AskAbout words other) → reads_plan about.named ≡ false → ⊥
-  not_plain dir other asked about plain =
-      let same : about.named ≡ command.Simulate dir = one_command words about.named (command.Simulate dir) about.asked asked in
-      let reads : reads_plan about.named ≡ true = ap reads_plan same in cc
-
-  one_told : IsOne IsTold
-  one_told one other (InVain vain is) (InVain vain' is') = cc
-  one_told one other (InVain vain is) (ByInputs dir asked read) = absurd (vain (command.Simulate dir) asked)
-  one_told one other (InVain vain is) (ByTables dir about plain read) = absurd (vain about.named about.asked)
-  one_told one other (ByInputs dir asked read) (InVain vain is) = absurd (vain (command.Simulate dir) asked)
-  one_told one other (ByTables dir about plain read) (InVain vain is) = absurd (vain about.named about.asked)
-  one_told one other (ByInputs dir asked read) (ByTables dir' about plain read') = absurd (not_plain dir dir' asked about plain)
-  one_told one other (ByTables dir' about plain read) (ByInputs dir asked read') = absurd (not_plain dir dir' asked about plain)
-  one_told one other (ByInputs dir asked read) (ByInputs dir' asked' read') =
-      let commands = one_command words (command.Simulate dir') (command.Simulate dir) asked' asked in
-      let same : dir' ≡ dir = cc in
-      one_read Inputs (inputs_in files dir) IsRun one_run one other read (subst (λ (d : List ℕ). OfInputs d other) same read')
-  one_told one other (ByTables dir about plain read) (ByTables dir' about' plain' read') =
-      let same : dir' ≡ dir = about_folder words dir dir' about.named about.asked about.folder about' in
-      one_read Day (day_in files dir) (IsAnswered files dir words) (one_answered files dir words) one other read
-      (subst (λ (d : List ℕ). OfTables d other) same read')
-
-  -- ---- what is said is told
-
-  -- where the words ask for a command that reads an answer, each command that they ask for does
-  reads_here : (dir : List ℕ) (about : AskAbout words dir) → reads_answer about.named ≡ true
-      → (named : Command) → IsPlainForm words named → reads_answer named ≡ true
-  reads_here dir about reads named form = ap reads_answer (one_command words named about.named form about.asked) ∙ reads
-
-  -- no command reads a plan and an answer
-  not_both : (named : Command) → reads_answer named ≡ true → reads_plan named ≡ false
-  not_both (command.Plan dir nodes rounds) reads = refl
-  not_both (command.Simulate dir) reads = absurd cc
-  not_both (command.Check dir) reads = refl
-  not_both (command.Duties dir) reads = refl
-  not_both (command.Yards dir) reads = refl
-  not_both (command.Costs dir) reads = refl
-  not_both (command.Trial seed trips nodes rounds) reads = refl
-
-  by_answer : (it : Outcome) (dir : List ℕ) (about : AskAbout words dir) → reads_answer about.named ≡ true → (day : Day)
-      → day_in files dir ≡ Ok day → IsAnswered files dir words day it → IsTold it
-  by_answer it dir about reads day accepted answered =
-      ByTables dir about (not_both about.named reads) (Accepted day accepted answered)
-
-  by_report : (it : Outcome) (dir : List ℕ) (kind : ReportKind) → AskToReport words kind dir → (day : Day) (answer : Answer)
-      → AreAnswered files dir day answer → IsValid day answer
-      → it ≡ report_of (has_plan answer.head) (report_text kind day answer.runs) → IsTold it
-  by_report it dir kind asked day answer accepted valid is =
-      let about : AskAbout words dir = record { named = command_for kind dir; asked = asked; folder = report_folder kind dir } in
-      by_answer it dir about (report_reads kind dir) day accepted.of_tables
-      (IsRight (reads_here dir about (report_reads kind dir)) answer accepted.of_file (ByReport kind asked valid is))
-
-  is_told : (it : Outcome) → IsToldByFiles it → Says words files it → IsTold it
-  is_told (outcome.Runs money) told says =
-      ByInputs says.1.dir says.1.asked (Accepted says.0 says.1.accepted (Goes money says.2 says.3 refl))
-  is_told (outcome.Stops fault) told says =
-      ByInputs says.1.dir says.1.asked (Accepted says.0 says.1.accepted (Stops fault says.2 says.3 refl))
-  is_told (outcome.Checked head verdict) told says =
-      by_answer (outcome.Checked head verdict) says.dir says.asked says.reads says.day says.accepted.of_tables
-      (IsRight (reads_here says.dir says.asked says.reads) says.answer says.accepted.of_file
-      (ByVerdict verdict says.on.is says.alone (ap (λ h. outcome.Checked h verdict) says.on.says)))
-  is_told (outcome.Reported text) told says =
-      by_report (outcome.Reported text) says.dir says.kind says.asked says.day says.answer says.accepted says.of.valid
-      (is_report (has_plan says.answer.head) text (report_text says.kind says.day says.answer.runs) says.of.planned says.of.is)
-  is_told outcome.NoPlan told says =
-      by_report outcome.NoPlan says.dir says.kind says.asked says.day says.answer says.accepted says.valid
-      (is_no_plan (has_plan says.answer.head) (report_text says.kind says.day says.answer.runs) says.none)
-  is_told outcome.Usage told says = InVain says refl
-  is_told (outcome.Refused why) told (OfDayAndPlan dir asked refused) =
-      ByInputs dir asked (NotAccepted why refused refl)
-  is_told (outcome.Refused why) told (OfDay dir about plain refused) =
-      ByTables dir about plain (NotAccepted why refused refl)
-  is_told (outcome.NoAnswer error) told says =
-      by_answer (outcome.NoAnswer error) says.dir says.asked says.reads says.day says.accepted
-      (IsWrong (reads_here says.dir says.asked says.reads) error told says.wrong refl)
-  is_told (outcome.Planned answer) told says = absurd told
-  is_told (outcome.Tried seed trips answer) told says = absurd told
-  is_told (outcome.CannotRead table) told says = absurd told
-  is_told outcome.NoMemory told says = absurd told
+  one_of_files : (named : Command) → IsOne (OfFiles named)
+  one_of_files (command.Plan dir nodes rounds) =
+      one_read Day (day_in files dir) (λ day. IsPlanOutcome day nodes)
+      (λ day one other told told' comes comes'. absurd (none_planned day nodes one told comes))
+  one_of_files (command.Simulate dir) = one_read Inputs (inputs_in files dir) IsRunOutcome one_run
+  one_of_files (command.Check dir) = one_by_answer dir IsCheckOutcome one_check
+  one_of_files (command.Duties dir) = one_by_answer dir (IsReportOutcome report.Duties) (λ day answer. one_report day answer report.Duties)
+  one_of_files (command.Yards dir) = one_by_answer dir (IsReportOutcome report.Yards) (λ day answer. one_report day answer report.Yards)
+  one_of_files (command.Costs dir) = one_by_answer dir (IsReportOutcome report.Costs) (λ day answer. one_report day answer report.Costs)
+  one_of_files (command.Trial seed trips nodes rounds) = λ one other told told' comes comes'. absurd (none_tried seed trips nodes one told comes)
 
   -- ---- beside a search
 
-  -- where an answer to the day of a folder is found, its tables are accepted, and its answer is not read
-  not_planned : (it : Outcome) → IsTold it → (day : Day) (answer : Answer) (planned : IsPlanned words day answer)
-      → day_in files planned.dir ≡ Ok day → ⊥
-  not_planned it (InVain vain is) day answer planned accepted =
-      vain (command.Plan planned.dir planned.nodes planned.rounds) planned.asked
-  not_planned it (ByInputs dir asked read) day answer planned accepted =
-      let same = one_command words (command.Simulate dir) (command.Plan planned.dir planned.nodes planned.rounds) asked planned.asked in
-      absurd cc
-  not_planned it (ByTables dir about plain (NotAccepted why refused is)) day answer planned accepted =
-      let named : Command = command.Plan planned.dir planned.nodes planned.rounds in
-      let same : dir ≡ planned.dir = about_folder words planned.dir dir named planned.asked refl about in
-      let refused' : day_in files planned.dir ≡ Err why = subst (λ (d : List ℕ). day_in files d ≡ Err why) same refused in
-      cc
-  not_planned it (ByTables dir about plain (Accepted day' accepted' (IsWrong reads error told wrong is))) day answer planned accepted =
-      let read = reads (command.Plan planned.dir planned.nodes planned.rounds) planned.asked in absurd cc
-  not_planned it (ByTables dir about plain (Accepted day' accepted' (IsRight reads other right judged))) day answer planned accepted =
-      let read = reads (command.Plan planned.dir planned.nodes planned.rounds) planned.asked in absurd cc
+  no_search_runs : (inputs : Inputs) (it : Outcome) → IsOfSearch it → IsRunOutcome inputs it → ⊥
+  no_search_runs inputs it found (DoesRun money at is) = found_as is found
+  no_search_runs inputs it found (DoesStop fault at is) = found_as is found
+  no_search_runs inputs it found (NoMemoryToRun none) = found_as none found
 
-  -- where an answer to a trial day is found, no folder is read
-  not_tried : (it : Outcome) → IsTold it → (seed trips : ℕ) (answer : Answer) → IsTried words seed trips answer → ⊥
-  not_tried it (InVain vain is) seed trips answer tried = vain (command.Trial seed trips tried.nodes tried.rounds) tried.asked
-  not_tried it (ByInputs dir asked read) seed trips answer tried =
-      let same = one_command words (command.Simulate dir) (command.Trial seed trips tried.nodes tried.rounds) asked tried.asked in
-      absurd cc
-  not_tried it (ByTables dir about plain read) seed trips answer tried =
-      let same = one_command words about.named (command.Trial seed trips tried.nodes tried.rounds) about.asked tried.asked in
-      let folders : ◌≡◌ {A = Option (List ℕ)} (Some dir) None = sym about.folder ∙ ap folder_of same in cc
+  no_search_checks : (day : Day) (answer : Answer) (it : Outcome) → IsOfSearch it → IsCheckOutcome day answer it → ⊥
+  no_search_checks day answer it found (IsJudged verdict on is) = found_as is found
+  no_search_checks day answer it found (NoMemoryToCheck none) = found_as none found
 
--- ---- the law
+  no_search_reports : (kind : ReportKind) (day : Day) (answer : Answer) (it : Outcome) → IsOfSearch it → IsReportOutcome kind day answer it → ⊥
+  no_search_reports kind day answer it found (IsWrong verdict on wrong is) = found_as is found
+  no_search_reports kind day answer it found (IsReported text of is) = found_as is found
+  no_search_reports kind day answer it found (HasNoPlan valid none is) = found_as is found
+  no_search_reports kind day answer it found (NoMemoryToReport none) = found_as none found
 
-pub outcomes_are_one : OutcomesAreOne
-outcomes_are_one words files one other told told' says says' =
-    one_told words files one other (is_told words files one told says) (is_told words files other told' says')
+  no_search_by_answer : (dir : List ℕ) (Tells : Day → Answer → Outcome → Type 0) (it : Outcome) → IsOfSearch it
+      → ((day : Day) (answer : Answer) → Tells day answer it → ⊥) → ByAnswer dir Tells it → ⊥
+  no_search_by_answer dir Tells it found none (NotAccepted why refused is) = found_as is found
+  no_search_by_answer dir Tells it found none (Accepted day accepted (WrongFile error wrong is)) = found_as is found
+  no_search_by_answer dir Tells it found none (Accepted day accepted (RightFile answer right tells)) = none day answer tells
 
-pub searches_are_apart : SearchesAreApart
-searches_are_apart words files one other told found says says' = by other found says'
-  where
-    by : (other : Outcome) → IsOfSearch other → Says words files other → ⊥
-    by (outcome.Planned answer) found said =
-        not_planned words files one (is_told words files one told says) said.0 answer said.1 said.2
-    by (outcome.Tried seed trips answer) found said =
-        not_tried words files one (is_told words files one told says) seed trips answer said
-    by (outcome.Runs money) found said = found
-    by (outcome.Stops fault) found said = found
-    by (outcome.Checked head verdict) found said = found
-    by (outcome.Reported text) found said = found
-    by outcome.NoPlan found said = found
-    by outcome.Usage found said = found
-    by (outcome.Refused why) found said = found
-    by (outcome.CannotRead table) found said = found
-    by (outcome.NoAnswer error) found said = found
-    by outcome.NoMemory found said = found
+  apart : (named : Command) (one other : Outcome) → IsToldByFiles one → IsOfSearch other → OfFiles named one → OfFiles named other → ⊥
+  apart (command.Plan dir nodes rounds) one other told found (NotAccepted why refused is) (NotAccepted why' refused' is') = found_as is' found
+  apart (command.Plan dir nodes rounds) one other told found (NotAccepted why refused is) (Accepted day accepted comes) = cc
+  apart (command.Plan dir nodes rounds) one other told found (Accepted day accepted comes) tells = none_planned day nodes one told comes
+  apart (command.Simulate dir) one other told found tells (NotAccepted why refused is) = found_as is found
+  apart (command.Simulate dir) one other told found tells (Accepted inputs accepted comes) = no_search_runs inputs other found comes
+  apart (command.Check dir) one other told found tells tells' =
+      no_search_by_answer dir IsCheckOutcome other found (λ day answer. no_search_checks day answer other found) tells'
+  apart (command.Duties dir) one other told found tells tells' =
+      no_search_by_answer dir (IsReportOutcome report.Duties) other found (λ day answer. no_search_reports report.Duties day answer other found) tells'
+  apart (command.Yards dir) one other told found tells tells' =
+      no_search_by_answer dir (IsReportOutcome report.Yards) other found (λ day answer. no_search_reports report.Yards day answer other found) tells'
+  apart (command.Costs dir) one other told found tells tells' =
+      no_search_by_answer dir (IsReportOutcome report.Costs) other found (λ day answer. no_search_reports report.Costs day answer other found) tells'
+  apart (command.Trial seed trips nodes rounds) one other told found tells tells' = none_tried seed trips nodes one told tells
+
+-- ---- what a run comes to is told by the files
+
+-- neither that a table could not be read, nor that memory ran out, is meant
+record LeavesOut (Meant : Outcome → Type 0) : Type 0 where
+  pub unread : (table : Table) → ¬ Meant (outcome.CannotRead table)
+  pub memory : ¬ Meant outcome.NoMemory
+
+module _ {F : Type 0} (holds : F → Option Files) (may_fail : F → List ℕ → Bool) (faults taken : F → ℕ) (files : Files) (old new : F)
+    (tells : holds old ≡ Some files) (Meant : Outcome → Type 0) (leaves : LeavesOut Meant) (it : Outcome) (meant : Meant it) where
+  by_error : {X : Type 0} (read : Result X Refusal) (Tells : X → Outcome → Type 0) (dir : List ℕ) (error : ReadError)
+      → Reads {Y = X} (Reaches files dir) (Err error) read → it ≡ outcome_of_error error → IsRead X read Tells it
+  by_error read Tells dir (read_error.Refused why) said is = NotAccepted why said is
+  by_error read Tells dir (read_error.CannotRead table) said is = absurd (leaves.unread table (subst Meant is meant))
+  by_error read Tells dir read_error.NoMemory said is = absurd (leaves.memory (subst Meant is meant))
+
+  by_answer : (dir : List ℕ) (Tells : Day → Answer → Outcome → Type 0)
+      → IsOfAnswer holds may_fail faults taken dir (λ day answer. Tells day answer it) old new it → ByAnswer files dir Tells it
+  by_answer dir Tells (NoAnswer (NoDayRead unread)) =
+      by_error (day_in files dir) (λ day. IsAnswered files dir (Tells day)) dir unread.error (unread.of_tables.told files tells) unread.is
+  by_answer dir Tells (NoAnswer (NoneRead day read error wrong is)) = Accepted day (read.told files tells) (WrongFile error (wrong.told files tells) is)
+  by_answer dir Tells (NoAnswer (NoMemoryToRead none)) = absurd (leaves.memory (subst Meant none meant))
+  by_answer dir Tells (OfAnswer day answer read comes) = Accepted day (read.of_day.told files tells) (RightFile answer (read.told files tells) comes)
+
+  of_files : (named : Command) → ComesTo holds may_fail faults taken named old new it → OfFiles files named it
+  of_files (command.Plan dir nodes rounds) (NoDay unread) =
+      by_error (day_in files dir) (λ day. IsPlanOutcome day nodes) dir unread.error (unread.of_tables.told files tells) unread.is
+  of_files (command.Plan dir nodes rounds) (OfDay day read comes) = Accepted day (read.told files tells) comes
+  of_files (command.Simulate dir) (NoInputs error read is) =
+      by_error (inputs_in files dir) IsRunOutcome dir error (read.told files tells) is
+  of_files (command.Simulate dir) (OfInputs inputs read comes) = Accepted inputs (read.told files tells) comes
+  of_files (command.Check dir) comes = by_answer dir IsCheckOutcome comes
+  of_files (command.Duties dir) comes = by_answer dir (IsReportOutcome report.Duties) comes
+  of_files (command.Yards dir) comes = by_answer dir (IsReportOutcome report.Yards) comes
+  of_files (command.Costs dir) comes = by_answer dir (IsReportOutcome report.Costs) comes
+  of_files (command.Trial seed trips nodes rounds) comes = comes
+
+told_leaves : LeavesOut IsToldByFiles
+told_leaves = record { unread = λ table told. told; memory = λ told. told }
+
+found_leaves : LeavesOut IsOfSearch
+found_leaves = record { unread = λ table found. found; memory = λ found. found }
+
+-- ---- the laws
+
+module _ {F : Type 0} (holds : F → Option Files) (may_fail : F → List ℕ → Bool) (faults taken : F → ℕ)
+    {G : Type 0} (holds' : G → Option Files) (may_fail' : G → List ℕ → Bool) (faults' taken' : G → ℕ) where
+  pub outcomes_are_one : OutcomesAreOne holds may_fail faults taken holds' may_fail' faults' taken'
+  outcomes_are_one words files old new old' new' one other tells tells' told told' is is' = by is is'
+    where
+      by : IsOutcome holds may_fail faults taken words old new one → IsOutcome holds' may_fail' faults' taken' words old' new' other → one ≡ other
+      by (OfCommand named asked comes) (OfCommand named' asked' comes') =
+          let there : OfFiles files named' other =
+          of_files holds' may_fail' faults' taken' files old' new' tells' IsToldByFiles told_leaves other told' named' comes' in
+          one_of_files files named one other told told'
+          (of_files holds may_fail faults taken files old new tells IsToldByFiles told_leaves one told named comes)
+          (subst (λ (it : Command). OfFiles files it other) (one_command words named' named asked' asked) there)
+      by (OfCommand named asked comes) (InVain vain usage) = absurd (vain named asked)
+      by (InVain vain usage) (OfCommand named asked comes) = absurd (vain named asked)
+      by (InVain vain usage) (InVain vain' usage') = usage ∙ sym usage'
+      by (Unread none) comes = absurd (told_as none told)
+      by (OfCommand named asked comes) (Unread none) = absurd (told_as none told')
+      by (InVain vain usage) (Unread none) = absurd (told_as none told')
+
+  pub searches_are_apart : SearchesAreApart holds may_fail faults taken holds' may_fail' faults' taken'
+  searches_are_apart words files old new old' new' one other tells tells' told found is is' = by is is'
+    where
+      by : IsOutcome holds may_fail faults taken words old new one → IsOutcome holds' may_fail' faults' taken' words old' new' other → ⊥
+      by (OfCommand named asked comes) (OfCommand named' asked' comes') =
+          let there : OfFiles files named' other =
+          of_files holds' may_fail' faults' taken' files old' new' tells' IsOfSearch found_leaves other found named' comes' in
+          apart files named one other told found
+          (of_files holds may_fail faults taken files old new tells IsToldByFiles told_leaves one told named comes)
+          (subst (λ (it : Command). OfFiles files it other) (one_command words named' named asked' asked) there)
+      by (InVain vain usage) (OfCommand named asked comes) = vain named asked
+      by comes (InVain vain usage) = found_as usage found
+      by comes (Unread none) = found_as none found
+      by (Unread none) (OfCommand named asked comes) = told_as none told
 
 -- ---- the others
 

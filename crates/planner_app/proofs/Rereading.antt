@@ -25,7 +25,7 @@ is_answer_of day granted answer bytes is headline =
     }
 
 pub headlines_are_valid : HeadlinesAreValid
-headlines_are_valid files dir day granted answer status accepted is headline ends =
+headlines_are_valid files dir day granted answer status before after accepted is headline ends =
     let is_read = is_answer_of day granted answer (answer_bytes files dir) is headline in
     ends.valid.1 (day, answer, record { of_tables = accepted; of_file = is_read }, headline.tree.valid)
 

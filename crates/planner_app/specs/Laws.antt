@@ -1,5 +1,5 @@
 -- What holds of every answer that is found to a day, and of every outcome that the files tell.
-use Rattle.std.specs.Prelude.{ℕ, ◌≡◌, List, IsTrue, Ok, Option, ⊤}
+use Rattle.std.specs.Prelude.{ℕ, ◌≡◌, List, Bool, IsTrue, Ok, Option, Some, ⊤}
 use Rattle.rail_io.specs.Folders.{Files}
 use Rattle.timetable.specs.Day.{Day}
 use Rattle.day_files.specs.Inputs.{day_in}
@@ -13,7 +13,7 @@ use Rattle.run_documents.specs.declared.outcome.Outcome.TheVariants.{Planned, Tr
 use Rattle.run_documents.specs.declared.outcome.Outcome.TheVariants.{NoMemory}
 use Rattle.run_documents.specs.AnswerFiles.{answer_bytes}
 use Rattle.planner_app.specs.declared.reports.ReportKind.{ReportKind}
-use Rattle.planner_app.specs.Outcomes.{Says}
+use Rattle.planner_app.specs.Outcomes.{IsOutcome}
 use Rattle.statuses.specs.Written.{IsUndisturbed}
 use Rattle.planner_app.specs.Statuses.{EndsCheck, EndsReport, status_of}
 
@@ -22,9 +22,10 @@ use Rattle.planner_app.specs.Statuses.{EndsCheck, EndsReport, status_of}
 -- Where the answer's file of a folder is the text of an answer that meets the headline of the folder's day, whatever
 -- was granted for it, a check of that folder ends with status 0.
 abbrev pub HeadlinesAreValid : Type 0
-HeadlinesAreValid = (files : Files) (dir : List ℕ) (day : Day) (granted : ℕ) (answer : Answer) (status : ℕ) →
+HeadlinesAreValid = (files : Files) (dir : List ℕ) (day : Day) (granted : ℕ) (answer : Answer) (status : ℕ)
+    (before after : Option (List ℕ)) →
     day_in files dir ≡ Ok day → answer_bytes files dir ≡ text_of answer → IsHeadline day granted answer →
-    EndsCheck files dir status → status ≡ 0
+    EndsCheck files dir status before after → status ≡ 0
 
 -- And a report on it ends with status 0, where the answer has a plan.
 abbrev pub HeadlinesAreReported : Type 0
@@ -51,15 +52,23 @@ IsToldByFiles (NoAnswer answer_error.CannotRead) = ⊥
 IsToldByFiles NoMemory = ⊥
 IsToldByFiles other = ⊤
 
--- Words and files tell one such outcome at most.
-abbrev pub OutcomesAreOne : Type 0
-OutcomesAreOne = (words : List (List ℕ)) (files : Files) (one other : Outcome) →
-    IsToldByFiles one → IsToldByFiles other → Says words files one → Says words files other → one ≡ other
+-- Runs of the same words, over folders of two kinds that hold the same files.
+module _ {F : Type 0} (holds : F → Option Files) (may_fail : F → List ℕ → Bool) (faults taken : F → ℕ)
+    {G : Type 0} (holds' : G → Option Files) (may_fail' : G → List ℕ → Bool) (faults' taken' : G → ℕ) where
+  -- They come to one such outcome at most.
+  abbrev pub OutcomesAreOne : Type 0
+  OutcomesAreOne = (words : List (List ℕ)) (files : Files) (old new : F) (old' new' : G) (one other : Outcome) →
+      holds old ≡ Some files → holds' old' ≡ Some files → IsToldByFiles one → IsToldByFiles other →
+      IsOutcome holds may_fail faults taken words old new one →
+      IsOutcome holds' may_fail' faults' taken' words old' new' other → one ≡ other
 
--- And where they tell one, no search comes to an answer: whether a day is refused is told by its files alone.
-abbrev pub SearchesAreApart : Type 0
-SearchesAreApart = (words : List (List ℕ)) (files : Files) (one other : Outcome) →
-    IsToldByFiles one → IsOfSearch other → Says words files one → ¬ (Says words files other)
+  -- And where the one comes to one, no search of the other comes to an answer: whether a day is refused is told by its
+  -- files alone.
+  abbrev pub SearchesAreApart : Type 0
+  SearchesAreApart = (words : List (List ℕ)) (files : Files) (old new : F) (old' new' : G) (one other : Outcome) →
+      holds old ≡ Some files → holds' old' ≡ Some files → IsToldByFiles one → IsOfSearch other →
+      IsOutcome holds may_fail faults taken words old new one →
+      ¬ (IsOutcome holds' may_fail' faults' taken' words old' new' other)
 
 -- Each other outcome whose status is none of 5, 6 and 7 is told so.
 abbrev pub OthersAreTold : Type 0

@@ -1,7 +1,10 @@
+-- what words ask for
+pub mod Asked
 -- what a run comes to, and the status of it
 pub mod ReportTexts
+pub mod Readings
+pub mod DayOutcomes
 pub mod Outcomes
-pub mod ReportOutcomes
 pub mod Statuses
 pub mod Advice
 -- what holds of every answer that is found

@@ -1,7 +1,8 @@
--- The status that a run ends with, what it wrote, and how many calls failed.
-use Rattle.std.specs.Prelude.{ℕ, ◌≡◌, ◌⊎◌, ◌<◌, ◌↔◌, List, length, Option, Bool, true, false, IsTrue}
+-- The status that a run ends with, and what it wrote.
+use Rattle.std.specs.Prelude.{ℕ, ◌≡◌, ◌≢◌, ◌⊎◌, ◌<◌, ◌↔◌, List, length, Option, Bool, true, false, IsTrue}
 use Rattle.std.specs.Prelude.{Ok, Err}
 use Rattle.rail_base.specs.declared.limits.TheConstants.{MOST_FILE_BYTES}
+use Rattle.rail_base.specs.declared.numbers.Money.{Money}
 use Rattle.rail_io.specs.Folders.{Files}
 use Rattle.rail_io.specs.Sinks.{Appends}
 use Rattle.statuses.specs.Written.{Wrote}
@@ -10,6 +11,7 @@ use Rattle.timetable.specs.Day.{Day}
 use Rattle.day_files.specs.declared.errors.Refusal.{Refusal}
 use Rattle.day_files.specs.declared.inputs.Inputs.{Inputs}
 use Rattle.day_files.specs.Inputs.{day_in, inputs_in}
+use Rattle.day_simulator.specs.declared.events.StepFault.{StepFault}
 use Rattle.answer_text.specs.declared.answer.Answer.{Answer}
 use Rattle.answer_text.specs.declared.refusal.AnswerRefusal.{AnswerRefusal}
 use Rattle.answer_text.specs.Grammar.{IsRefused}
@@ -19,40 +21,56 @@ use Rattle.answer_check.specs.declared.checking.AnswerVerdict.{AnswerVerdict}
 use Rattle.answer_check.specs.declared.checking.AnswerVerdict.TheVariants.{Valid}
 use Rattle.answer_check.specs.Headline.{IsAnswered, IsTrueOf, status_said}
 use Rattle.answer_check.specs.Validity.{IsValid}
+use Rattle.answer_check.specs.Verdicts.{IsAnswerVerdict}
 use Rattle.run_documents.specs.declared.answer_file.AnswerError.TheVariants as answer_error
 use Rattle.run_documents.specs.declared.outcome.Outcome.{Outcome}
 use Rattle.run_documents.specs.declared.outcome.Outcome.TheVariants.{Planned, Tried, Runs, Stops, Checked, Reported}
 use Rattle.run_documents.specs.declared.outcome.Outcome.TheVariants.{NoPlan, Usage, Refused, CannotRead}
 use Rattle.run_documents.specs.declared.outcome.Outcome.TheVariants.{NoAnswer, NoMemory}
-use Rattle.run_documents.specs.AnswerFiles.{answer_bytes, is_unread as answer_unread}
+use Rattle.run_documents.specs.AnswerFiles.{answer_bytes, answer_file, is_unread as answer_unread}
+use Rattle.run_documents.specs.CheckTexts.{check_line}
+use Rattle.run_documents.specs.Lines.{answer_refusal_text, file_refused_line, no_plan_line, refused_line, runs_line}
+use Rattle.run_documents.specs.Lines.{stops_line, too_long_text}
 use Rattle.run_documents.specs.Texts.{IsDocument}
 use Rattle.run_documents.specs.TrialTexts.{trial_text}
 use Rattle.planner_app.specs.declared.reports.ReportKind.{ReportKind}
-use Rattle.planner_app.specs.Outcomes.{AreAnswered, PlanRuns}
+use Rattle.planner_app.specs.DayOutcomes.{PlanRuns, RunsAt, StopsWith}
+use Rattle.planner_app.specs.Readings.{AreAnswered}
 use Rattle.planner_app.specs.ReportTexts.{report_text}
 
--- ---- what the files say of the status
+-- ---- a plan is run
 
--- the status with which a plan of a folder is run
-pub record EndsSimulation (files : Files) (dir : List ℕ) (status : ℕ) : Type 0 where
+-- the status with which a plan of a folder is run, and what was written
+pub record EndsSimulation (files : Files) (dir : List ℕ) (status : ℕ) (before after : Option (List ℕ)) : Type 0 where
   -- 0 exactly where the files are accepted, and the plan runs
   pub runs : (status ≡ 0) ↔ ((inputs : Inputs) × (inputs_in files dir ≡ Ok inputs) × PlanRuns inputs)
+  -- then what it costs was told
+  pub costs : status ≡ 0 → (inputs : Inputs) × (inputs_in files dir ≡ Ok inputs)
+      × (money : Money) × RunsAt inputs money × Appends (runs_line money) before after
   -- 1 exactly where they are accepted, and it doesn't run
   pub stops : (status ≡ 1) ↔ ((inputs : Inputs) × (inputs_in files dir ≡ Ok inputs) × ¬ (PlanRuns inputs))
+  -- then the first fault was told
+  pub fault : status ≡ 1 → (inputs : Inputs) × (inputs_in files dir ≡ Ok inputs)
+      × (fault : StepFault) × StopsWith inputs fault × Appends (stops_line fault) before after
   -- 3 exactly where a file is refused
   pub refused : (status ≡ 3) ↔ ((why : Refusal) × (inputs_in files dir ≡ Err why))
+  -- then the refusal was told
+  pub told : status ≡ 3 → (why : Refusal) × (inputs_in files dir ≡ Err why) × Appends (refused_line why) before after
 
--- the file of an answer is refused: it is too long, or it is the text of none
-abbrev pub IsAnswerFileRefused : List ℕ → Type 0
-IsAnswerFileRefused bytes = (MOST_FILE_BYTES < length bytes) ⊎ ((refusal : AnswerRefusal) × IsRefused bytes refusal)
+-- ---- an answer is checked
 
--- a table is refused, or the answer is
-abbrev pub IsAnswerRefusedIn : Files → List ℕ → Type 0
-IsAnswerRefusedIn files dir = ((why : Refusal) × (day_in files dir ≡ Err why))
-    ⊎ ((day : Day) × (day_in files dir ≡ Ok day) × IsAnswerFileRefused (answer_bytes files dir))
+-- A table of the day is refused, or the file of the answer is: it is too long, or it is the text of none; and this line
+-- tells it.
+pub data AreRefused (files : Files) (dir : List ℕ) (line : List ℕ) : Type 0 where
+  OfTable : (why : Refusal) → day_in files dir ≡ Err why → line ≡ refused_line why → AreRefused files dir line
+  TooLong : (day : Day) → day_in files dir ≡ Ok day → MOST_FILE_BYTES < length (answer_bytes files dir)
+      → line ≡ file_refused_line answer_file too_long_text → AreRefused files dir line
+  NoText : (day : Day) → day_in files dir ≡ Ok day → (refusal : AnswerRefusal)
+      → IsRefused (answer_bytes files dir) refusal
+      → line ≡ file_refused_line answer_file (answer_refusal_text refusal) → AreRefused files dir line
 
--- the status with which an answer of a folder is checked
-pub record EndsCheck (files : Files) (dir : List ℕ) (status : ℕ) : Type 0 where
+-- the status with which an answer of a folder is checked, and what was written
+pub record EndsCheck (files : Files) (dir : List ℕ) (status : ℕ) (before after : Option (List ℕ)) : Type 0 where
   -- 0 exactly where the files are accepted, and the answer is valid
   pub valid : (status ≡ 0) ↔ ((day : Day) × (answer : Answer) × AreAnswered files dir day answer × IsValid day answer)
   -- and what a valid answer says is true of every plan of the day
@@ -62,7 +80,21 @@ pub record EndsCheck (files : Files) (dir : List ℕ) (status : ℕ) : Type 0 wh
   pub invalid : (status ≡ 1) ↔ ((day : Day) × (answer : Answer) × AreAnswered files dir day answer
       × ¬ (IsValid day answer))
   -- 3 exactly where a table or the answer is refused
-  pub refused : (status ≡ 3) ↔ IsAnswerRefusedIn files dir
+  pub refused : (status ≡ 3) ↔ ((line : List ℕ) × AreRefused files dir line)
+  -- then the refusal was told
+  pub told : status ≡ 3 → (line : List ℕ) × AreRefused files dir line × Appends line before after
+  -- where it isn't 3, what a valid answer says was told, or the first thing that is wrong with it
+  pub verdict : status ≢ 3 → (day : Day) × (answer : Answer) × AreAnswered files dir day answer
+      × (verdict : AnswerVerdict) × IsAnswerVerdict day answer verdict
+      × Appends (check_line answer.head verdict) before after
+
+-- ---- a report on an answer
+
+-- there is no report on an answer, since it is not valid or has no plan; and this line tells it
+pub data IsNotReported (day : Day) (answer : Answer) (line : List ℕ) : Type 0 where
+  NotValid : (verdict : AnswerVerdict) → IsAnswerVerdict day answer verdict → ¬ IsValid day answer
+      → line ≡ check_line answer.head verdict → IsNotReported day answer line
+  WithoutPlan : IsValid day answer → has_plan answer.head ≡ false → line ≡ no_plan_line → IsNotReported day answer line
 
 -- the status with which a report on the answer of a folder ends, and what was written
 pub record EndsReport (files : Files) (dir : List ℕ) (kind : ReportKind) (status : ℕ)
@@ -76,8 +108,15 @@ pub record EndsReport (files : Files) (dir : List ℕ) (kind : ReportKind) (stat
   -- 1 exactly where they are accepted, and the answer isn't valid or has no plan
   pub none : (status ≡ 1) ↔ ((day : Day) × (answer : Answer) × AreAnswered files dir day answer
       × ((¬ IsValid day answer) ⊎ (has_plan answer.head ≡ false)))
+  -- then that was told
+  pub why : status ≡ 1 → (day : Day) × (answer : Answer) × AreAnswered files dir day answer
+      × (line : List ℕ) × IsNotReported day answer line × Appends line before after
   -- 3 exactly where a table or the answer is refused
-  pub refused : (status ≡ 3) ↔ IsAnswerRefusedIn files dir
+  pub refused : (status ≡ 3) ↔ ((line : List ℕ) × AreRefused files dir line)
+  -- then the refusal was told
+  pub told : status ≡ 3 → (line : List ℕ) × AreRefused files dir line × Appends line before after
+
+-- ---- a trial day
 
 -- the status with which a trial day is planned, and what was written: the summary of an answer to the day of the
 -- trial's tables, which meets the headline

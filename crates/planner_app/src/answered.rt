@@ -1,12 +1,9 @@
 //! The day and the answer of a folder, for the commands that read both.
 
-ghost use Rattle.std.specs.Prelude.{ℕ, true, List, ◌≡◌, Some, IfOk, IfErr};
-ghost use Rattle.rail_base.specs.declared.limits.TheConstants.{MOST_NODES};
-ghost use Rattle.rail_io.specs.Folders.{Files, OnlyReads, faults_after};
+ghost use Rattle.std.specs.Prelude.{true, ◌≡◌, IfOk, IfErr};
+ghost use Rattle.rail_io.specs.Folders.{OnlyReads, faults_after};
 ghost use Rattle.day_files.specs.OneFile.{tells_unread};
-ghost use Rattle.day_files.specs.Tables.{IsMadeDay};
-ghost use Rattle.answer_text.specs.Limits.{IsWithin};
-ghost use Rattle.planner_app.specs.Outcomes.{AreAnswered, AskAbout, IsOutcome, reads_answer};
+ghost use Rattle.planner_app.specs.Readings.{IsReadAnswer, IsUnanswered};
 ghost use Rattle.planner_app.specs.Statuses.{is_unread};
 
 use answer_text::Answer;
@@ -33,16 +30,11 @@ pub(crate) fn answered_in<F: Folder>(
     folder: &mut F,
     dir: &str,
 ) -> Result<Answered, Outcome>
-    // What the files come to.
-    ensures told { (files : Files) → F.holds folder.old ≡ Some files
-        → IfOk result (λ read. AreAnswered files dir.now read.instance read.answer) }
-    ensures made { IfOk result (λ read. IsMadeDay read.instance) }
-    ensures within { IfOk result (λ read. IsWithin MOST_NODES read.answer) }
+    // What was read, or what the run comes to.
+    ensures read { IfOk result (λ read. IsReadAnswer F.holds dir.now folder.old read.instance read.answer) }
+    ensures error { IfErr result (IsUnanswered F.holds F.may_fail F.faults F.taken dir.now folder.old folder.new) }
 
-    // What an error says, and what stays.
-    ensures error { IfErr result (λ outcome. (words : List (List ℕ)) (about : AskAbout words dir.now)
-        → reads_answer about.named ≡ true
-        → IsOutcome F.holds F.may_fail F.faults F.taken words folder.old folder.new outcome) }
+    // The folder.
     ensures fault_counted { F.counts_failed ≡ true
         → F.faults folder.new ≡ faults_after (tells_unread is_unread result) (F.faults folder.old) }
     ensures only_reads { OnlyReads F.holds F.may_fail F.faults F.taken folder.old folder.new }

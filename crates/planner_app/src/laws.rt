@@ -8,6 +8,8 @@ ghost use Rattle.planner_app.specs.Laws.{OthersAreTold, OutcomesAreOne, Searches
 ghost use Rattle.planner_app.specs.Limits.{AreColumnLimits, AreDayLimits, AreFieldLimits, AreHeaderLimits};
 ghost use Rattle.planner_app.specs.Limits.{AreRowLimits, AreRunLimits};
 
+use rail_io::Folder;
+
 pub use answer_check::laws::valid_answers_are_found;
 
 /// What `plan DIR` writes is valid: where `answer.txt` in a folder is the text of an answer that meets the headline of
@@ -18,15 +20,16 @@ pub fn headlines_are_valid()
     ensures report { HeadlinesAreReported }
 {}
 
-/// Words and files tell one outcome at most, and so one document and one status: what a run of the plan comes to, what
-/// is found of the answer, what a report says, what is refused, and that the words are not understood. They don't tell
-/// the answer that a search finds, since another may meet the headline too, nor that a file could not be read or memory
-/// ran out.
-/// Where they tell an outcome, a search comes to no answer: so that `plan` ends with 3 is told by the files alone too.
+/// Two runs of the same words, over folders that hold the same files, come to one outcome, and so to one document and
+/// one status, where the files tell it: what a run of the plan comes to, what is found of the answer, what a report
+/// says, what is refused, and that the words are not understood. Files don't tell the answer that a search finds, since
+/// another may meet the headline too, nor that a file could not be read or memory ran out.
+/// Where one run comes to an outcome that files tell, no search of the other comes to an answer: so that `plan` ends
+/// with 3 is told by the files alone too.
 /// Every outcome but these is told so, where the status is none of 5, 6 and 7.
-pub fn outcomes_are_one()
-    ensures one { OutcomesAreOne }
-    ensures search { SearchesAreApart }
+pub fn outcomes_are_one<F: Folder, G: Folder>()
+    ensures one { OutcomesAreOne F.holds F.may_fail F.faults F.taken G.holds G.may_fail G.faults G.taken }
+    ensures search { SearchesAreApart F.holds F.may_fail F.faults F.taken G.holds G.may_fail G.faults G.taken }
     ensures others { OthersAreTold }
 {}
 

@@ -1,12 +1,12 @@
 //! Reports on the plan of a folder's answer, once it is found valid.
 
-ghost use Rattle.std.specs.Prelude.{ℕ, true, List, ◌≡◌, ◌≤◌, IfOk, length};
+ghost use Rattle.std.specs.Prelude.{true, ◌≡◌, ◌≤◌, IfOk, length};
 ghost use Rattle.rail_base.specs.declared.limits.TheConstants.{MOST_TRIPS};
 ghost use Rattle.rail_io.specs.Folders.{OnlyReads, faults_after};
 ghost use Rattle.timetable.specs.Running as running;
 ghost use Rattle.answer_text.specs.Limits.{has_plan};
-ghost use Rattle.planner_app.specs.Outcomes.{AskToReport, IsOutcome};
-ghost use Rattle.planner_app.specs.ReportOutcomes.{IsReportOutcome};
+ghost use Rattle.planner_app.specs.DayOutcomes.{IsReportOutcome};
+ghost use Rattle.planner_app.specs.Outcomes.{IsAnswerReported};
 ghost use Rattle.planner_app.specs.ReportTexts.{report_text};
 ghost use Rattle.planner_app.specs.Statuses.{is_unread};
 
@@ -38,8 +38,7 @@ pub(crate) fn reported<F: Folder>(
     dir: &str,
     kind: ReportKind,
 ) -> Outcome
-    ensures outcome { (words : List (List ℕ)) → AskToReport words kind dir.now
-        → IsOutcome F.holds F.may_fail F.faults F.taken words folder.old folder.new result }
+    ensures outcome { IsAnswerReported F.holds F.may_fail F.faults F.taken dir.now kind folder.old folder.new result }
     ensures only_reads { OnlyReads F.holds F.may_fail F.faults F.taken folder.old folder.new }
     ensures fault_counted { F.counts_failed ≡ true
         → F.faults folder.new ≡ faults_after (is_unread result) (F.faults folder.old) }

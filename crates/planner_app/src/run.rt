@@ -1,14 +1,15 @@
 //! From the words to the outcome: what each command does with the files of its folder.
 
-ghost use Rattle.std.specs.Prelude.{ℕ, true, false, List, ◌≡◌, ◌≤◌, ◌+◌, ◌*◌, ◌^◌, All, length};
+ghost use Rattle.std.specs.Prelude.{ℕ, true, false, ◌≡◌, ◌≤◌, ◌+◌, ◌*◌, ◌^◌, All, None, length};
 ghost use Rattle.rail_base.specs.declared.limits.TheConstants.{MOST_BRANCHINGS, MOST_ROUNDS, MOST_TRIPS};
 ghost use Rattle.rail_io.specs.Folders.{OnlyReads, faults_after};
 ghost use Rattle.timetable.specs.Running.{IsPlan};
-ghost use Rattle.search.specs.Questions.{AreAsked, AreTheSame};
+ghost use Rattle.search.specs.Questions.{AreAsked, AreTheSame, LeavesAdvisors};
 ghost use Rattle.trial_day.specs.Trial.{IsTrialSize};
 ghost use Rattle.planner_app.specs.Advice.{AreAskedFor};
-ghost use Rattle.planner_app.specs.Outcomes.{AskAbout, AskToCheck, AskToPlan, AskToSimulate, Grants, IsOutcome};
-ghost use Rattle.planner_app.specs.ReportOutcomes.{IsCheckOutcome, IsPlanOutcome, IsRunOutcome, IsTrialOutcome};
+ghost use Rattle.planner_app.specs.Asked.{AskForNoFolder, Grants, HasGrant, IsWithinLimits, folder_of};
+ghost use Rattle.planner_app.specs.DayOutcomes.{IsCheckOutcome, IsPlanOutcome, IsRunOutcome, IsTrialOutcome};
+ghost use Rattle.planner_app.specs.Outcomes.{ComesTo, IsAnswerChecked, IsDayPlanned, IsOutcome, IsPlanRun};
 ghost use Rattle.planner_app.specs.Statuses.{is_unread};
 
 use crate::answered::answered_in;
@@ -17,7 +18,7 @@ use advisors::Advisor;
 use answer_check::verdict_on;
 use answer_text::Answer;
 use commands::{Command, read_words};
-use day_files::{day_in, inputs_in};
+use day_files::{Inputs, day_in, inputs_in};
 use day_planner::answer_for;
 use day_simulator::{SimulateRefusal, simulate};
 use plain_words::WordsRefusal;
@@ -25,7 +26,7 @@ use rail_base::{NoMemory, Words};
 use rail_io::Folder;
 use run_documents::Outcome;
 use std::alloc::Global;
-use timetable::{Instance, NamedPlan};
+use timetable::Instance;
 use trial_day::trial_instance;
 
 /// What the words and the folder come to.
@@ -41,40 +42,66 @@ pub(crate) fn outcome_of<F: Folder>(
     // What it comes to.
     ensures outcome { IsOutcome F.holds F.may_fail F.faults F.taken words.now folder.old folder.new result }
 
-    // The advisors: that one of the same identity stands at each place, and how often it was asked.
-    ensures advisors { AreTheSame advisors.old.items advisors.new.items identity }
-    ensures asked { (nodes rounds : ℕ) → Grants words.now nodes rounds
-        → AreAsked advisors.old.items advisors.new.items asked has_quit 0 (rounds * (2 * nodes + 1)) }
+    // The advisors.
+    ensures advisors { LeavesAdvisors (Grants words.now) advisors.old.items advisors.new.items identity asked
+        has_quit }
     ensures asked_for { (nodes rounds : ℕ) → Grants words.now nodes rounds
         → AreAskedFor rounds result advisors.old.items advisors.new.items asked has_quit }
-    ensures unasked { ((nodes rounds : ℕ) → ¬ Grants words.now nodes rounds)
-        → advisors.new.items ≡ advisors.old.items }
 
     // The folder.
     ensures only_reads { OnlyReads F.holds F.may_fail F.faults F.taken folder.old folder.new }
     ensures fault_counted { F.counts_failed ≡ true
         → F.faults folder.new ≡ faults_after (is_unread result) (F.faults folder.old) }
-    ensures untouched { ((dir : List ℕ) → ¬ AskAbout words.now dir) → folder.new ≡ folder.old }
+    ensures untouched { AskForNoFolder words.now → folder.new ≡ folder.old }
 {
     match read_words(alloc, words) {
-        Ok(Command::Plan { dir, nodes, rounds }) => {
-            planned(alloc, folder, dir.as_str(), nodes, rounds, advisors)
-        }
-        Ok(Command::Simulate { dir }) => simulated(alloc, folder, dir.as_str()),
-        Ok(Command::Check { dir }) => checked(alloc, folder, dir.as_str()),
-        Ok(Command::Duties { dir }) => reported(alloc, folder, dir.as_str(), ReportKind::Duties),
-        Ok(Command::Yards { dir }) => reported(alloc, folder, dir.as_str(), ReportKind::Yards),
-        Ok(Command::Costs { dir }) => reported(alloc, folder, dir.as_str(), ReportKind::Costs),
-        Ok(
-            Command::Trial {
-                seed,
-                trips,
-                nodes,
-                rounds,
-            },
-        ) => tried(alloc, seed, trips, nodes, rounds, advisors),
+        Ok(command) => command_outcome(alloc, &command, folder, advisors),
         Err(WordsRefusal::NotUnderstood) => Outcome::Usage,
         Err(WordsRefusal::NoMemory) => Outcome::NoMemory,
+    }
+}
+
+/// What a command and the folder come to.
+fn command_outcome<F: Folder>(
+    alloc: Global,
+    command: &Command,
+    folder: &mut F,
+    advisors: &mut Vec<Box<dyn Advisor>>,
+) -> Outcome
+    // The numbers of the command, and the advisors before.
+    requires limits { IsWithinLimits command.now }
+    requires asked { All (λ advisor. asked advisor ≤ 2 ^ 63) advisors.old.items }
+
+    // What it comes to.
+    ensures outcome { ComesTo F.holds F.may_fail F.faults F.taken command.now folder.old folder.new result }
+
+    // The advisors.
+    ensures advisors { LeavesAdvisors (HasGrant command.now) advisors.old.items advisors.new.items identity asked
+        has_quit }
+    ensures asked_for { (nodes rounds : ℕ) → HasGrant command.now nodes rounds
+        → AreAskedFor rounds result advisors.old.items advisors.new.items asked has_quit }
+
+    // The folder.
+    ensures only_reads { OnlyReads F.holds F.may_fail F.faults F.taken folder.old folder.new }
+    ensures fault_counted { F.counts_failed ≡ true
+        → F.faults folder.new ≡ faults_after (is_unread result) (F.faults folder.old) }
+    ensures untouched { folder_of command.now ≡ None → folder.new ≡ folder.old }
+{
+    match command {
+        Command::Plan { dir, nodes, rounds } => {
+            planned(alloc, folder, dir.as_str(), *nodes, *rounds, advisors)
+        }
+        Command::Simulate { dir } => simulated(alloc, folder, dir.as_str()),
+        Command::Check { dir } => checked(alloc, folder, dir.as_str()),
+        Command::Duties { dir } => reported(alloc, folder, dir.as_str(), ReportKind::Duties),
+        Command::Yards { dir } => reported(alloc, folder, dir.as_str(), ReportKind::Yards),
+        Command::Costs { dir } => reported(alloc, folder, dir.as_str(), ReportKind::Costs),
+        Command::Trial {
+            seed,
+            trips,
+            nodes,
+            rounds,
+        } => tried(alloc, *seed, *trips, *nodes, *rounds, advisors),
     }
 }
 
@@ -93,8 +120,7 @@ fn planned<F: Folder>(
     requires asked { All (λ advisor. asked advisor ≤ 2 ^ 63) advisors.old.items }
 
     // What it comes to.
-    ensures outcome { (words : List (List ℕ)) → AskToPlan words dir.now nodes rounds
-        → IsOutcome F.holds F.may_fail F.faults F.taken words folder.old folder.new result }
+    ensures outcome { IsDayPlanned F.holds F.may_fail F.faults F.taken dir.now nodes folder.old folder.new result }
 
     // The folder.
     ensures only_reads { OnlyReads F.holds F.may_fail F.faults F.taken folder.old folder.new }
@@ -178,25 +204,24 @@ fn tried(
 
 /// Runs the plan of a folder.
 fn simulated<F: Folder>(alloc: Global, folder: &mut F, dir: &str) -> Outcome
-    ensures outcome { (words : List (List ℕ)) → AskToSimulate words dir.now
-        → IsOutcome F.holds F.may_fail F.faults F.taken words folder.old folder.new result }
+    ensures outcome { IsPlanRun F.holds F.may_fail F.faults F.taken dir.now folder.old folder.new result }
     ensures only_reads { OnlyReads F.holds F.may_fail F.faults F.taken folder.old folder.new }
     ensures fault_counted { F.counts_failed ≡ true
         → F.faults folder.new ≡ faults_after (is_unread result) (F.faults folder.old) }
 {
     match inputs_in(alloc, folder, dir) {
-        Ok(inputs) => simulated_plan(alloc, &inputs.instance, &inputs.plan),
+        Ok(inputs) => simulated_plan(alloc, &inputs),
         Err(error) => Outcome::from(error),
     }
 }
 
 /// Runs a plan of a day.
-fn simulated_plan(alloc: Global, instance: &Instance, plan: &NamedPlan) -> Outcome
-    requires { IsPlan instance.now plan.now }
-    ensures outcome { IsRunOutcome instance.now plan.now result }
+fn simulated_plan(alloc: Global, inputs: &Inputs) -> Outcome
+    requires { IsPlan inputs.now.instance inputs.now.plan }
+    ensures outcome { IsRunOutcome inputs.now result }
     ensures read { is_unread result ≡ false }
 {
-    match simulate(alloc, instance, plan) {
+    match simulate(alloc, &inputs.instance, &inputs.plan) {
         Ok(ran) => Outcome::Runs(ran.cost),
         Err(SimulateRefusal::Stops(fault)) => Outcome::Stops(fault),
         Err(SimulateRefusal::NoMemory) => Outcome::NoMemory,
@@ -205,8 +230,7 @@ fn simulated_plan(alloc: Global, instance: &Instance, plan: &NamedPlan) -> Outco
 
 /// Checks the answer of a folder.
 fn checked<F: Folder>(alloc: Global, folder: &mut F, dir: &str) -> Outcome
-    ensures outcome { (words : List (List ℕ)) → AskToCheck words dir.now
-        → IsOutcome F.holds F.may_fail F.faults F.taken words folder.old folder.new result }
+    ensures outcome { IsAnswerChecked F.holds F.may_fail F.faults F.taken dir.now folder.old folder.new result }
     ensures only_reads { OnlyReads F.holds F.may_fail F.faults F.taken folder.old folder.new }
     ensures fault_counted { F.counts_failed ≡ true
         → F.faults folder.new ≡ faults_after (is_unread result) (F.faults folder.old) }

@@ -1,18 +1,20 @@
 //! The top call: it reads a folder, writes one document and answers a status.
 
-ghost use Rattle.std.specs.Prelude.{ℕ, true, List, ◌≡◌, ◌≤◌, ◌+◌, ◌*◌, ◌^◌, ◌↔◌, Some, All};
-ghost use Rattle.rail_io.specs.Folders.{Files, OnlyReads, Rose, faults_after};
-ghost use Rattle.search.specs.Questions.{AreAsked, AreTheSame};
+ghost use Rattle.std.specs.Prelude.{ℕ, true, List, ◌≡◌, ◌≤◌, ◌^◌, Some, All};
+ghost use Rattle.rail_io.specs.Folders.{Files, faults_after};
+ghost use Rattle.search.specs.Questions.{LeavesAdvisors};
+ghost use Rattle.statuses.specs.Endings.{EndsInUsage, LeavesFolder, LeavesSink};
+ghost use Rattle.statuses.specs.Written.{CountsFailedWrites, IsStatus, IsUndisturbed};
 ghost use Rattle.run_documents.specs.declared.outcome.Outcome.{Outcome};
+ghost use Rattle.run_documents.specs.Lines.{refused_line, usage_text};
+ghost use Rattle.run_documents.specs.Planning.{EndsPlanning};
 ghost use Rattle.planner_app.specs.declared.reports.ReportKind.{ReportKind};
 ghost use Rattle.planner_app.specs.Advice.{AreAskedFor};
-ghost use Rattle.planner_app.specs.Outcomes.{AskAbout, AskInVain, AskToCheck, AskToPlan, AskToReport, AskToSimulate};
-ghost use Rattle.planner_app.specs.Outcomes.{AskToTry, Grants, IsOutcome};
-ghost use Rattle.run_documents.specs.Lines.{refused_line};
-ghost use Rattle.run_documents.specs.Planning.{EndsPlanning};
+ghost use Rattle.planner_app.specs.Asked.{AskForNoFolder, AskInVain, AskToCheck, AskToPlan, AskToReport, AskToSimulate};
+ghost use Rattle.planner_app.specs.Asked.{AskToTry, Grants};
+ghost use Rattle.planner_app.specs.Outcomes.{IsOutcome};
 ghost use Rattle.planner_app.specs.Statuses.{EndsCheck, EndsReport, EndsSimulation, EndsTrial};
-ghost use Rattle.statuses.specs.Written.{CountsFailedReads, CountsFailedWrites, IsStatus, IsUndisturbed};
-ghost use Rattle.planner_app.specs.Statuses.{WroteOutcome, status_of, status_of_verdict, is_unread};
+ghost use Rattle.planner_app.specs.Statuses.{WroteOutcome, is_unread, status_of, status_of_verdict};
 
 use crate::run::outcome_of;
 use advisors::Advisor;
@@ -116,28 +118,21 @@ pub fn railplan<F: Folder, K: Sink>(
 ) -> u8
     requires asked { All (λ advisor. asked advisor ≤ 2 ^ 63) advisors.old.items }
 
-    // The headline, and the statuses of the other words and files, where the status is none of 5, 6 and 7.
+    // What the status means and what was written, command by command, where the status is none of 5, 6 and 7.
     ensures plan { (files : Files) (dir : List ℕ) (nodes rounds : ℕ) → F.holds folder.old ≡ Some files
         → AskToPlan words.now dir nodes rounds → IsUndisturbed result
         → EndsPlanning refused_line files dir nodes result (K.written out.old) (K.written out.new) }
     ensures simulate { (files : Files) (dir : List ℕ) → F.holds folder.old ≡ Some files → AskToSimulate words.now dir
-        → IsUndisturbed result → EndsSimulation files dir result }
+        → IsUndisturbed result → EndsSimulation files dir result (K.written out.old) (K.written out.new) }
     ensures check { (files : Files) (dir : List ℕ) → F.holds folder.old ≡ Some files → AskToCheck words.now dir
-        → IsUndisturbed result → EndsCheck files dir result }
+        → IsUndisturbed result → EndsCheck files dir result (K.written out.old) (K.written out.new) }
     ensures report { (files : Files) (dir : List ℕ) (kind : ReportKind) → F.holds folder.old ≡ Some files
         → AskToReport words.now kind dir → IsUndisturbed result
         → EndsReport files dir kind result (K.written out.old) (K.written out.new) }
     ensures trial { (seed trips nodes rounds : ℕ) → AskToTry words.now seed trips nodes rounds → IsUndisturbed result
         → EndsTrial seed trips nodes result (K.written out.old) (K.written out.new) }
-    ensures usage { IsUndisturbed result → (result ≡ 2) ↔ AskInVain words.now }
-
-    // The other statuses, how many calls failed, and that there are no more statuses.
-    ensures unread { result ≡ 5 → Rose (F.faults folder.old) (F.faults folder.new) }
-    ensures unwritten { result ≡ 6 → Rose (K.faults out.old) (K.faults out.new) }
-    ensures nothing { result ≡ 7 → K.written out.new ≡ K.written out.old }
-    ensures failed_reads { F.counts_failed ≡ true
-        → CountsFailedReads result (F.faults folder.old) (F.faults folder.new) }
-    ensures failed_writes { K.counts_failed ≡ true → CountsFailedWrites result (K.faults out.old) (K.faults out.new) }
+    ensures usage { IsUndisturbed result
+        → EndsInUsage (AskInVain words.now) usage_text result (K.written out.old) (K.written out.new) }
     ensures statuses { IsStatus result }
 
     // What was written is the document of an outcome of these words and this folder, whose status is the result unless
@@ -151,18 +146,13 @@ pub fn railplan<F: Folder, K: Sink>(
         × ((nodes rounds : ℕ) → Grants words.now nodes rounds
         → AreAskedFor rounds outcome advisors.old.items advisors.new.items asked has_quit) }
 
-    // The advisors, whatever the status is: that one of the same identity stands at each place, and how often it was
-    // asked.
-    ensures advisors { AreTheSame advisors.old.items advisors.new.items identity }
-    ensures asked { (nodes rounds : ℕ) → Grants words.now nodes rounds
-        → AreAsked advisors.old.items advisors.new.items asked has_quit 0 (rounds * (2 * nodes + 1)) }
-    ensures unasked { ((nodes rounds : ℕ) → ¬ Grants words.now nodes rounds)
-        → advisors.new.items ≡ advisors.old.items }
-
-    // What stays: the folder is only read, and left alone where the words ask for no command on one; no count falls.
-    ensures only_reads { OnlyReads F.holds F.may_fail F.faults F.taken folder.old folder.new }
-    ensures untouched { ((dir : List ℕ) → ¬ AskAbout words.now dir) → folder.new ≡ folder.old }
-    ensures lasting { K.faults out.old ≤ K.faults out.new }
+    // How the folder, the sink and the advisors are left, whatever the status is.
+    ensures folder { LeavesFolder F.holds F.may_fail F.faults F.taken F.counts_failed (AskForNoFolder words.now) result
+        folder.old folder.new }
+    ensures sink { LeavesSink K.counts_failed result (K.written out.old) (K.written out.new) (K.faults out.old)
+        (K.faults out.new) }
+    ensures advisors { LeavesAdvisors (Grants words.now) advisors.old.items advisors.new.items identity asked
+        has_quit }
 {
     let outcome = outcome_of(alloc, words, folder, advisors);
     write_outcome(alloc, &outcome, out)

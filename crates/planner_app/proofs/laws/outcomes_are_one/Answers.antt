@@ -1,5 +1,11 @@
 use Rattle.planner_app.proofs.OneOutcome.{others_are_told, outcomes_are_one, searches_are_apart}
 use Rattle.planner_app.proofs.laws.outcomes_are_one.Goals as goal
 
-pub returns : goal.returns
-returns c = record { one = outcomes_are_one; search = searches_are_apart; others = others_are_told }
+pub returns-clause-one : goal.returns-clause-one
+returns-clause-one g c = outcomes_are_one _ _ _ _ _ _ _ _
+
+pub returns-clause-search : goal.returns-clause-search
+returns-clause-search g c = searches_are_apart _ _ _ _ _ _ _ _
+
+pub returns-clause-others : goal.returns-clause-others
+returns-clause-others g c = others_are_told
