@@ -6,13 +6,14 @@ use Rattle.rail_csv.specs.declared.rows.PlanRow.{PlanRow}
 use Rattle.rail_csv.specs.declared.rows.Table.{Table}
 use Rattle.rail_csv.specs.declared.rows.Table.TheVariants as table
 use Rattle.timetable.specs.Day.{Day}
+use Rattle.timetable.specs.Plans.{plan_of}
 use Rattle.day_files.specs.declared.errors.Refusal.{Refusal}
 use Rattle.day_files.specs.declared.errors.ReadError.{ReadError}
 use Rattle.day_files.specs.declared.errors.ReadError.TheVariants.{CannotRead, Refused, NoMemory}
 use Rattle.day_files.specs.declared.inputs.Inputs.{Inputs}
 use Rattle.day_files.specs.declared.inputs.UnitTables.{UnitTables}
 use Rattle.day_files.specs.Tables.{RowsOf, table_in}
-use Rattle.day_files.specs.Inputs.{tables_in, day_in, inputs_in}
+use Rattle.day_files.specs.Inputs.{as_plan, tables_in, day_in, inputs_in}
 use Rattle.day_files.specs.Order.{IsRead, Reaches, before}
 use Rattle.day_files.specs.declared.inputs.ReadTables.{ReadTables}
 use Rattle.day_files.specs.declared.tables.ReadTable.{ReadTable}
@@ -105,3 +106,12 @@ unfolding inputs_in
 plan_ended files dir day (Refused why) made read = rw (made, read) refl
 plan_ended files dir day (CannotRead other) made read = subst (λ t. Reaches files dir t) (sym read) (plan_reached files dir day made)
 plan_ended files dir day NoMemory made read = tt
+
+-- and so does a plan of the day that its rows do not make
+pub plan_unmade : (files : Files) (dir : List ℕ) (day : Day) (rows : List PlanRow) (error : ReadError) → day_in files dir ≡ Ok day
+    → table_in files dir table.Plan ≡ Ok rows → Reads (λ _. ⊥) (Err error) (as_plan (plan_of day rows))
+    → Reads {Y = Inputs} (Reaches files dir) (Err error) (inputs_in files dir)
+unfolding inputs_in
+plan_unmade files dir day rows (Refused why) made read said = rw (made, read, said) refl
+plan_unmade files dir day rows (CannotRead other) made read said = absurd said
+plan_unmade files dir day rows NoMemory made read said = tt

@@ -224,6 +224,51 @@ pub fn day_with_bytes_in<F: Folder>(
     Ok(DayWithBytes { bytes, instance })
 }
 
+/// A day and a plan of it, and the bytes of the six tables that make the day.
+#[derive(Drop)]
+pub struct InputsWithBytes {
+    /// The bytes of its tables, none longer than a table may be.
+    pub bytes: TableBytes,
+    /// The day and the plan.
+    pub inputs: Inputs,
+}
+
+/// The day and the plan of a folder, as `inputs_in` answers them, and the bytes of the six tables that make the day,
+/// from the same reading: read as tables they make the day, also where the folder doesn't tell what it holds. The
+/// errors are those of `inputs_in`, with the same causes.
+#[tactic(auto, using(crate::proofs::Reached::plan_ended), unfolding(crate::specs::Inputs::inputs_in))]
+pub fn inputs_with_bytes_in<F: Folder>(
+    alloc: Global,
+    folder: &mut F,
+    dir: &str,
+) -> Result<InputsWithBytes, ReadError>
+    // What the files come to.
+    ensures told { (files : Files) → F.holds folder.old ≡ Some files
+        → ReadsAs (λ read. read.inputs) (Reaches files dir.now) result (inputs_in files dir.now) }
+    ensures made { IfOk result (λ read. IsMadeDay read.inputs.instance) }
+    ensures kept { IfOk result (λ read. IsDayOfBytes read.bytes read.inputs.instance) }
+    ensures is_plan { IfOk result (λ read. IsPlan read.inputs.instance read.inputs.plan) }
+    ensures made_plan { IfOk result (λ read. IsMadePlan read.inputs.instance read.inputs.plan) }
+
+    // What an error says, and what stays.
+    ensures says { IfErr result (IsErrorOf (λ _. ⊤)) }
+    ensures caused { IfErr result (IsCaused F.may_fail F.faults F.taken dir.now folder.old folder.new) }
+    ensures fault_counted { F.counts_failed ≡ true
+        → F.faults folder.new ≡ faults_after (tells_unread is_unread result) (F.faults folder.old) }
+    ensures only_reads { OnlyReads F.holds F.may_fail F.faults F.taken folder.old folder.new }
+{
+    let day = day_with_bytes_in(alloc, folder, dir)?;
+    let rows: ReadTable<Rows<PlanRow>> = table_in(alloc, folder, dir)?;
+    let plan = plan_of(alloc, &day.instance, rows.table.items())?;
+    Ok(InputsWithBytes {
+        bytes: day.bytes,
+        inputs: Inputs {
+            instance: day.instance,
+            plan,
+        },
+    })
+}
+
 /// The day and the plan of a folder: the day of its six tables, and then the plan of it that `plan.csv` makes. The
 /// first file that is refused or cannot be read ends the reading. The day is one that tables make whose rows keep
 /// within the ranges of their columns, and the plan one that such rows make of it, also where the folder doesn't tell
@@ -238,7 +283,6 @@ pub fn day_with_bytes_in<F: Folder>(
 /// tables make a day. Where it counts its failed calls, the count rises by one where the answer is `CannotRead`, unless
 /// it stands at its last value, and else stays. So, unless it comes to that value, at most one read fails, and it is
 /// told.
-#[tactic(auto, using(crate::proofs::Reached::plan_ended), unfolding(crate::specs::Inputs::inputs_in))]
 pub fn inputs_in<F: Folder>(alloc: Global, folder: &mut F, dir: &str) -> Result<Inputs, ReadError>
     // What the files come to.
     ensures told { (files : Files) → F.holds folder.old ≡ Some files
@@ -254,8 +298,6 @@ pub fn inputs_in<F: Folder>(alloc: Global, folder: &mut F, dir: &str) -> Result<
         → F.faults folder.new ≡ faults_after (tells_unread is_unread result) (F.faults folder.old) }
     ensures only_reads { OnlyReads F.holds F.may_fail F.faults F.taken folder.old folder.new }
 {
-    let instance = day_in(alloc, folder, dir)?;
-    let rows: ReadTable<Rows<PlanRow>> = table_in(alloc, folder, dir)?;
-    let plan = plan_of(alloc, &instance, rows.table.items())?;
-    Ok(Inputs { instance, plan })
+    let read = inputs_with_bytes_in(alloc, folder, dir)?;
+    Ok(read.inputs)
 }

@@ -12,6 +12,9 @@ mod texts;
 
 pub use errors::{ReadError, Refusal};
 pub use files::{file_in, path_in};
-pub use inputs::{DayWithBytes, Inputs, day_in, day_with_bytes_in, inputs_in};
+pub use inputs::{
+    DayWithBytes, Inputs, InputsWithBytes, day_in, day_with_bytes_in, inputs_in,
+    inputs_with_bytes_in,
+};
 pub use lines::{file_refused_alone_line, file_refused_line, file_unread_line};
 pub use names::file_name;
