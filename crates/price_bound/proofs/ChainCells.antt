@@ -18,7 +18,7 @@ use Rattle.timetable.specs.Compositions.{compositions_of}
 use Rattle.timetable.specs.Day.{Day}
 use Rattle.price_bound.specs.declared.cells.Cell.{Cell}
 use Rattle.price_bound.specs.declared.worths.Amount.{Amount}
-use Rattle.price_bound.specs.CellRows.{HaveRoom, all_bare, bare, chain_rows, comps_of, edges_offered, lower_at, put_along}
+use Rattle.price_bound.specs.CellRows.{HaveRoom, MayRunOn, all_bare, bare, chain_rows, comps_of, edges_offered, lower_at, put_along}
 use Rattle.price_bound.specs.CellRows.{row_on}
 use Rattle.price_bound.specs.CellSizes.{AreSmallCells, IsSmall, most_worth}
 use Rattle.price_bound.specs.ChainStages.{Priced, edges_of, price_of, stage_of, stages_of}
@@ -203,6 +203,7 @@ pub record AreRowsFrom (priced : Priced) (chain : List ℕ) (place : ℕ) (table
       ≡ map all_bare (rows_of (length (compositions_of priced.day)) (stages_of priced (drop place chain)))
   pub small : AreSmallCells (length (drop place chain) * 21000000000000000) (get_or table place [])
   pub each : (k : ℕ) → place ≤ k → k < length chain → AreSmallCells 8500000000000000000 (get_or table k [])
+  pub runs : MayRunOn priced.day (get_or chain place 0) (get_or table place [])
 
 length-stages : (priced : Priced) (chain : List ℕ) → length (stages_of priced chain) ≡ length chain
 length-stages priced [] = refl
@@ -229,8 +230,8 @@ module _ (priced : Priced) (chain : List ℕ) (table : List (List (Option Cell))
       → new ≡ set table place (all_bare (row_before comps (stage_of priced (get_or chain place 0)) (get_or table (suc place) [])))
       → ((bound : ℕ) → AreSmallCells bound (get_or table (suc place) [])
       → AreSmallCells (bound + 21000000000000000) (get_or new place []))
-      → length chain ≤ 400 → AreRowsFrom priced chain place new
-  rows_more place below done new is small few =
+      → length chain ≤ 400 → MayRunOn priced.day (get_or chain place 0) (get_or new place []) → AreRowsFrom priced chain place new
+  rows_more place below done new is small few runs =
       let here : drop place chain ≡ get_or chain place 0 ∷ drop (suc place) chain = drop-cons chain place 0 (omega (arith, below)) in
       let next : drop (suc place) chain ≡ get_or chain (suc place) 0 ∷ drop (suc (suc place)) chain = drop-cons chain (suc place) 0 below in
       let both : drop place chain ≡ get_or chain place 0 ∷ get_or chain (suc place) 0 ∷ drop (suc (suc place)) chain =
@@ -243,6 +244,7 @@ module _ (priced : Priced) (chain : List ℕ) (table : List (List (Option Cell))
             (more_rows (get_or chain place 0) (get_or chain (suc place) 0) (drop (suc (suc place)) chain) place
             (subst (λ (ts : List ℕ). take (length ts) (drop (suc place) table) ≡ map all_bare (rows_of comps (stages_of priced ts))) next done.rows)));
         small = here_small;
+        runs = runs;
         each = λ k from lt. elim (cases_eq k place) [
           | inl same ↦ subst (λ (i : ℕ). AreSmallCells 8500000000000000000 (get_or new i [])) (sym same)
               (cells_more (length (drop place chain) * 21000000000000000) 8500000000000000000 (get_or new place [])
@@ -272,8 +274,9 @@ module _ (priced : Priced) (chain : List ℕ) (table : List (List (Option Cell))
 
   pub rows_last : (place : ℕ) → suc place ≡ length chain → place < length table → (new : List (List (Option Cell)))
       → new ≡ set table place (all_bare (last_row comps (stage_of priced (get_or chain place 0))))
-      → AreSmallCells 21000000000000000 (get_or new place []) → AreRowsFrom priced chain place new
-  rows_last place last below new is small =
+      → AreSmallCells 21000000000000000 (get_or new place []) → MayRunOn priced.day (get_or chain place 0) (get_or new place [])
+      → AreRowsFrom priced chain place new
+  rows_last place last below new is small runs =
       let here : drop place chain ≡ get_or chain place 0 ∷ drop (suc place) chain = drop-cons chain place 0 (omega (arith, last)) in
       let none : drop (suc place) chain ≡ [] = drop_all (suc place) chain (omega (arith, last)) in
       let both : drop place chain ≡ get_or chain place 0 ∷ [] = here ∙ ap (λ (ts : List ℕ). get_or chain place 0 ∷ ts) none in
@@ -282,6 +285,7 @@ module _ (priced : Priced) (chain : List ℕ) (table : List (List (Option Cell))
             (ap (λ (rows : List (List (Option Cell))). take 1 (drop place rows)) is
             ∙ one_last place (all_bare (last_row comps (stage_of priced (get_or chain place 0)))) below);
         small = subst (λ (k : ℕ). AreSmallCells k (get_or new place [])) (size (length (drop place chain)) (ap length both)) small;
+        runs = runs;
         each = λ k from lt.
             let same : k ≡ place = omega (arith, from, lt, last) in
             subst (λ (i : ℕ). AreSmallCells 8500000000000000000 (get_or new i [])) (sym same)

@@ -82,7 +82,7 @@ sum_reverse f (x ∷ xs) = ap (int_sum f) (reverse-append (x ∷ []) xs) ∙ sum
     turn : (r a s : ℤ) → r ≡ s → r +ℤ (a +ℤ pos 0) ≡ a +ℤ s
     turn r a s e = omega (arith, ints, e)
 
-sum_turned : (f : ℕ → ℤ) (r : Bool) (xs : List ℕ) → int_sum f (turned r xs) ≡ int_sum f xs
+pub sum_turned : (f : ℕ → ℤ) (r : Bool) (xs : List ℕ) → int_sum f (turned r xs) ≡ int_sum f xs
 sum_turned f true xs = sum_reverse f xs
 sum_turned f false xs = refl
 

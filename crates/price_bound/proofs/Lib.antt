@@ -44,6 +44,15 @@ mod ChainSteps
 mod CellValues
 mod ChainCells
 mod EdgeGroups
+mod LeastOverTrees
+mod CompositionTrees
+mod TurnEdges
+mod HeldValues
+mod PassValues
+mod PassLoops
+mod Resting
+mod PassedRows
+mod RunsAhead
 mod Finding
 mod ChangedCosts
 pub mod ChangedRelaxation

@@ -1,8 +1,12 @@
 -- Rows of cells while they are made, and picks along a chain.
-use Rattle.std.specs.Prelude.{ℕ, ◌≡◌, ◌<◌, List, [], ◌∷◌, length, get_or, set, fold, replicate, map, Option, None, Some}
+use Rattle.std.specs.Prelude.{ℕ, ◌≡◌, ◌<◌, List, [], ◌∷◌, length, get_or, set, fold, replicate, map, Option, None, Some, slice_get}
 use Rattle.std.specs.Prelude.{if◌then◌else◌, int_lt, ℤ, pos, ◌<ℤ◌, ◌⊎◌, All}
 use Rattle.timetable.specs.Compositions.{compositions_of}
+use Rattle.timetable.specs.declared.day.records.Link.{Link}
+use Rattle.timetable.specs.Chains.{leads_from, leads_to}
+use Rattle.timetable.specs.Day.{Day}
 use Rattle.timetable.specs.Links.{outgoing}
+use Rattle.transitions.specs.Edges.{MayRun}
 use Rattle.price_bound.specs.declared.cells.Cell.{Cell}
 use Rattle.price_bound.specs.CellSizes.{AreSmallCells, most_ahead}
 use Rattle.price_bound.specs.ChainStages.{Priced, edges_of, price_of, stage_of, stages_of}
@@ -57,6 +61,15 @@ pub record HaveRoom (rows comps : ℕ) (table : List (List (Option Cell))) : Typ
 -- the cells of the first rows, of which there are so many, are small
 abbrev pub AreSmallBelow : ℕ → List (List (Option Cell)) → Type 0
 AreSmallBelow rows table = (place : ℕ) → place < rows → AreSmallCells most_ahead (get_or table place [])
+
+-- the cells of a row are those of compositions that may run on a trip
+abbrev pub MayRunOn : Day → ℕ → List (Option Cell) → Type 0
+MayRunOn day t row = (comp : ℕ) (cell : Cell) → get_or row comp None ≡ Some cell → MayRun day t comp
+
+-- so the cells ahead are on the trip that the link leads on to, which leads on from a trip
+abbrev pub LeadsTo : Day → ℕ → List (Option Cell) → Type 0
+LeadsTo day t ahead = (l : ℕ) (link : Link) → outgoing day t ≡ Some l → slice_get day.links l ≡ Some link
+    → (leads_from link.kind ≡ t) × MayRunOn day (leads_to link.kind) ahead
 
 -- ---- of what is priced
 

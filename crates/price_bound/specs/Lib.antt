@@ -40,3 +40,9 @@ pub mod Pricing
 pub mod TripAndLinkPrices
 pub mod Rooms
 pub mod ChangedDays
+-- turns without exchange, by passes over the compositions
+pub mod LeastOverTrees
+pub mod CompositionTrees
+pub mod HeldValues
+pub mod PassRooms
+pub mod PassValues

@@ -5,6 +5,7 @@ use Rattle.transitions.specs.Edges.{AreGraphs}
 use Rattle.branch_tree.specs.Entries.{AreMultipliers}
 use Rattle.price_bound.specs.declared.priced.Pricing.{Pricing}
 use Rattle.price_bound.specs.ChainStages.{Priced}
+use Rattle.price_bound.specs.CompositionTrees.{AreTrains}
 use Rattle.price_bound.specs.Costs.{AreCosts}
 use Rattle.price_bound.specs.Credits.{AreCredits, AreDebits}
 use Rattle.price_bound.specs.PriceTables.{ArePrices}
@@ -18,6 +19,7 @@ pub record ArePriced (pricing : Pricing) : Type 0 where
   pub prices : ArePrices pricing.instance.now pricing.multipliers.now pricing.tables.now
   pub credits : AreCredits pricing.instance.now pricing.multipliers.now pricing.credits.now
   pub debits : AreDebits pricing.instance.now pricing.multipliers.now pricing.debits.now
+  pub trains : AreTrains pricing.instance.now pricing.trains.now
   pub over : length pricing.region.now ≡ length pricing.instance.now.trips
 
 -- the compositions of an edge are below a number

@@ -8,6 +8,7 @@ use Rattle.timetable.specs.Day.{Day}
 use Rattle.price_bound.specs.declared.workspaces.Workspace.{Workspace}
 use Rattle.price_bound.specs.CellRows.{HaveRoom}
 use Rattle.price_bound.specs.ChangedDays.{AreChanges}
+use Rattle.price_bound.specs.CompositionTrees.{AreTrains}
 use Rattle.price_bound.specs.Costs.{AreCosts}
 use Rattle.price_bound.specs.DayMeanings.{IsWorkedOn}
 use Rattle.price_bound.specs.Fronts.{AreFronts}
@@ -20,6 +21,7 @@ pub record IsRoomFor (day : Day) (changes : List Change) (room : Workspace) : Ty
   pub fronts : AreFronts day room.fronts.items
   pub credits : HasSize (length day.trips) (length (compositions_of day)) room.credits
   pub debits : HasSize (length day.trips) (length (compositions_of day)) room.debits
+  pub trains : AreTrains day room.trains
   pub rows : HaveRoom (length day.trips) (length (compositions_of day)) room.rows
   pub choice : length room.choice ≡ length day.trips
 

@@ -4,9 +4,13 @@
 ghost use Rattle.std.specs.Prelude.{ℕ, ◌≡◌, ◌<◌, ◌≤◌, ◌+◌, ◌*◌, [], length, get_or, map, set, take, All, IfOk, Some, None};
 ghost use Rattle.std.specs.Prelude.{IfSome, is_none, slice_get};
 ghost use Rattle.timetable.specs.Compositions.{compositions_of};
+ghost use Rattle.timetable.specs.Chains.{Leads};
 ghost use Rattle.timetable.specs.Links.{outgoing};
+ghost use Rattle.timetable.specs.Running.{EachFollows};
 ghost use Rattle.transitions.specs.Edges.{AreGraphs, IsEdge};
-ghost use Rattle.price_bound.specs.CellRows.{AreSmallBelow, HaveRoom, HaveRoomFor, all_bare, chain_rows};
+ghost use Rattle.price_bound.specs.CellRows.{AreSmallBelow, HaveRoom, HaveRoomFor, LeadsTo, MayRunOn};
+ghost use Rattle.price_bound.specs.CellRows.{all_bare, chain_rows};
+ghost use Rattle.price_bound.specs.PassRooms.{IsPassRoom, IsPlain};
 ghost use Rattle.price_bound.specs.CellRows.{comps_of, last_row_on, put_along, row_on};
 ghost use Rattle.price_bound.specs.CellSizes.{AreSmallCells, AreSmallOffers, IsSmall, IsSmallStep, most_ahead};
 ghost use Rattle.price_bound.specs.CellSizes.{most_edge_price, most_offered, most_step, most_worth};
@@ -17,29 +21,38 @@ ghost use Rattle.price_bound.specs.Pricing.{ArePriced, IsListed, priced_by};
 use crate::cells::{Cell, CellRow, with_worth};
 use crate::least_edges::{fill_by_edges, least_with_worth};
 use crate::part_prices::PartPrices;
+use crate::pass_room::PassRoom;
+use crate::passes::{Passes, PlainTurn, fill_by_passes};
 use crate::priced::Pricing;
 use crate::turn_prices::{TurnPrices, TurnTrips};
 use crate::worths::TripWorths;
-use rail_base::limits::MOST_TRIPS;
+use rail_base::limits::{MOST_LINKS, MOST_TRIPS};
 use rail_base::{CompNo, LinkNo, NoMemory, TripNo};
 use std::alloc::Global;
 use std::marker::Model;
-use timetable::{Instance, Picks};
+use timetable::{Instance, Link, LinkKind, Picks};
 use transitions::Edge;
+
+/// A region has few compositions for a trip where so many times as many are fewer than there are.
+const FEW: u64 = 8;
 
 /// Room for the rows of any chain of a day. A contract sees a list of cells for each row.
 #[derive(Drop)]
 pub(crate) struct ChainRows {
     rows: Vec<CellRow>,
+    pass_room: PassRoom,
 }
 
 impl Model for ChainRows {
     ghost use Rattle.std.specs.Prelude.{List, Option};
     ghost use Rattle.price_bound.specs.declared.cells.Cell.{Cell};
+    ghost use Rattle.price_bound.specs.PassRooms.{FitsRows};
 
     ghost Value = { List (List (Option Cell)) };
 
     ghost view = { λ a. a.rows.items };
+
+    ghost invariant = { λ a. FitsRows a.rows.items a.pass_room };
 }
 
 impl ChainRows {
@@ -52,13 +65,15 @@ impl ChainRows {
         for trip in 0..instance.trips() {
             rows.push(CellRow::new(alloc, comps)?)?;
         }
-        Ok(ChainRows { rows })
+        let pass_room = PassRoom::new(alloc, instance)?;
+        Ok(ChainRows { rows, pass_room })
     }
 
     /// Makes the rows of a chain, which has one trip or more, all of the day.
     pub(crate) fn fill(&mut self, pricing: &Pricing<'_>, chain: &[TripNo])
         requires priced { ArePriced pricing.now }
         requires some { 1 ≤ length chain.now }
+        requires follows { EachFollows (Leads pricing.now.instance.now) chain.now }
         requires few { length chain.now ≤ length pricing.now.instance.now.trips }
         requires known { All (λ trip. trip < length pricing.now.instance.now.trips) chain.now }
         requires room { HaveRoomFor (priced_by pricing.now) self.old }
@@ -67,7 +82,7 @@ impl ChainRows {
         ensures first { AreSmallCells (length chain.now * most_step) (get_or self.new 0 []) }
         ensures small { AreSmallBelow (length chain.now) self.new }
     {
-        fill_rows(pricing, chain, &mut self.rows);
+        fill_rows(pricing, chain, &mut self.rows, &mut self.pass_room);
     }
 
     /// The value of the first path of least value, with its first composition; nothing where the chain has no path.
@@ -199,40 +214,59 @@ fn next_of(cell: Option<Cell>) -> CompNo
 }
 
 /// Makes the rows of a chain, of which there is one for each trip of the day.
-fn fill_rows(pricing: &Pricing<'_>, chain: &[TripNo], rows: &mut [CellRow])
+fn fill_rows(
+    pricing: &Pricing<'_>,
+    chain: &[TripNo],
+    rows: &mut [CellRow],
+    pass_room: &mut PassRoom,
+)
     requires priced { ArePriced pricing.now }
     requires some { 1 ≤ length chain.now }
+    requires follows { EachFollows (Leads pricing.now.instance.now) chain.now }
+    requires passes { IsPassRoom (comps_of (priced_by pricing.now)) pass_room.old }
     requires few { length chain.now ≤ length pricing.now.instance.now.trips }
     requires known { All (λ trip. trip < length pricing.now.instance.now.trips) chain.now }
     requires room { HaveRoomFor (priced_by pricing.now) rows.old }
+    ensures passes { IsPassRoom (comps_of (priced_by pricing.now)) pass_room.new }
     ensures room { HaveRoomFor (priced_by pricing.now) rows.new }
     ensures rows { take (length chain.now) rows.new ≡ map all_bare (chain_rows (priced_by pricing.now) chain.now) }
     ensures first { AreSmallCells (length chain.now * most_step) (get_or rows.new 0 []) }
     ensures small { AreSmallBelow (length chain.now) rows.new }
 {
     prove!(pricing.instance.trips() as usize <= MOST_TRIPS);
+    prove!(pricing.instance.links() as usize <= MOST_LINKS);
     let mut place = chain.len() - 1;
     fill_last(pricing, chain[place], &mut rows[place]);
     while place > 0 {
         place -= 1;
-        fill_place(pricing, chain[place], rows, place);
+        fill_place(pricing, chain[place], rows, place, pass_room);
     }
 }
 
 /// Makes the row of a trip at a place of its chain, before the row of the next place.
-fn fill_place(pricing: &Pricing<'_>, trip: TripNo, rows: &mut [CellRow], place: usize)
+fn fill_place(
+    pricing: &Pricing<'_>,
+    trip: TripNo,
+    rows: &mut [CellRow],
+    place: usize,
+    pass_room: &mut PassRoom,
+)
     requires priced { ArePriced pricing.now }
+    requires passes { IsPassRoom (comps_of (priced_by pricing.now)) pass_room.old }
+    requires leads { LeadsTo pricing.now.instance.now trip (get_or rows.old (place + 1) []) }
     requires trip { trip < length pricing.now.instance.now.trips }
     requires place { place + 1 < length pricing.now.instance.now.trips }
     requires room { HaveRoomFor (priced_by pricing.now) rows.old }
     requires ahead { AreSmallCells most_ahead (get_or rows.old (place + 1) []) }
+    ensures passes { IsPassRoom (comps_of (priced_by pricing.now)) pass_room.new }
+    ensures runs { MayRunOn pricing.now.instance.now trip (get_or rows.new place []) }
     ensures room { HaveRoomFor (priced_by pricing.now) rows.new }
     ensures row { rows.new ≡ set rows.old place
         (all_bare (row_on (priced_by pricing.now) trip (get_or rows.old (place + 1) []))) }
     ensures small { IsSmallStep most_step (get_or rows.old (place + 1) []) (get_or rows.new place []) }
 {
     let (front, back) = rows.split_at_mut(place + 1);
-    fill_before(pricing, trip, &mut front[place], &back[0]);
+    fill_before(pricing, trip, &mut front[place], &back[0], pass_room);
 }
 
 /// Makes the row of the last trip of a chain.
@@ -241,6 +275,7 @@ fn fill_last(pricing: &Pricing<'_>, trip: TripNo, row: &mut CellRow)
     requires trip { trip < length pricing.now.instance.now.trips }
     requires row { length row.old ≡ comps_of (priced_by pricing.now) }
     ensures row { row.new ≡ all_bare (last_row_on (priced_by pricing.now) trip) }
+    ensures runs { MayRunOn pricing.now.instance.now trip row.new }
     ensures small { AreSmallCells most_step row.new }
 {
     let worths = TripWorths::new(&*pricing, trip);
@@ -256,23 +291,111 @@ fn fill_last(pricing: &Pricing<'_>, trip: TripNo, row: &mut CellRow)
 }
 
 /// Makes the row of a trip before that of the next trip of its chain.
-fn fill_before(pricing: &Pricing<'_>, trip: TripNo, row: &mut CellRow, ahead: &CellRow)
+fn fill_before(
+    pricing: &Pricing<'_>,
+    trip: TripNo,
+    row: &mut CellRow,
+    ahead: &CellRow,
+    pass_room: &mut PassRoom,
+)
     requires priced { ArePriced pricing.now }
+    requires passes { IsPassRoom (comps_of (priced_by pricing.now)) pass_room.old }
+    requires leads { LeadsTo pricing.now.instance.now trip ahead.now }
     requires trip { trip < length pricing.now.instance.now.trips }
     requires row { length row.old ≡ comps_of (priced_by pricing.now) }
     requires ahead { length ahead.now ≡ comps_of (priced_by pricing.now) }
     requires small { AreSmallCells most_ahead ahead.now }
+    ensures passes { IsPassRoom (comps_of (priced_by pricing.now)) pass_room.new }
+    ensures runs { MayRunOn pricing.now.instance.now trip row.new }
     ensures row { row.new ≡ all_bare (row_on (priced_by pricing.now) trip ahead.now) }
     ensures small { IsSmallStep most_step ahead.now row.new }
 {
     match pricing.instance.outgoing(trip) {
-        Some(link) => fill_by_link(pricing, trip, link, row, ahead),
+        Some(link) => fill_by_link(pricing, trip, link, row, ahead, pass_room),
         None => row.clear(),
     }
 }
 
-/// Makes the row of a trip from which this link leads on.
+/// Makes the row of a trip from which this link leads on: by passes, where it is a turn without exchange and the region
+/// has many compositions for the trip.
 fn fill_by_link(
+    pricing: &Pricing<'_>,
+    trip: TripNo,
+    link: LinkNo,
+    row: &mut CellRow,
+    ahead: &CellRow,
+    pass_room: &mut PassRoom,
+)
+    requires priced { ArePriced pricing.now }
+    requires trip { trip < length pricing.now.instance.now.trips }
+    requires link { outgoing pricing.now.instance.now trip ≡ Some link }
+    requires known { link < length pricing.now.instance.now.links }
+    requires leads { LeadsTo pricing.now.instance.now trip ahead.now }
+    requires passes { IsPassRoom (comps_of (priced_by pricing.now)) pass_room.old }
+    requires row { length row.old ≡ comps_of (priced_by pricing.now) }
+    requires ahead { length ahead.now ≡ comps_of (priced_by pricing.now) }
+    requires small { AreSmallCells most_ahead ahead.now }
+    ensures passes { IsPassRoom (comps_of (priced_by pricing.now)) pass_room.new }
+    ensures row { row.new ≡ all_bare (row_on (priced_by pricing.now) trip ahead.now) }
+    ensures small { IsSmallStep most_step ahead.now row.new }
+{
+    let link_at = pricing.instance.link(link);
+    let Some(turn) = plain_turn(link_at) else {
+        fill_by_prices(pricing, trip, link, row, ahead);
+        return;
+    };
+    if is_narrow(pricing, trip) {
+        fill_by_prices(pricing, trip, link, row, ahead);
+        return;
+    }
+    let worths = TripWorths::new(&*pricing, trip);
+    let passes = Passes::new(pricing, link, turn);
+    fill_by_passes(&passes, &worths, row, ahead, pass_room);
+}
+
+/// Whether the region has few compositions for a trip, so that their edges are gone through sooner.
+fn is_narrow(pricing: &Pricing<'_>, trip: TripNo) -> bool
+    requires priced { ArePriced pricing.now }
+    requires trip { trip < length pricing.now.instance.now.trips }
+{
+    let words = pricing.region.set(trip).words();
+    let mut members: u64 = 0;
+    for place in 0..words.len() {
+        members = members.saturating_add(u64::from(words[place].count_ones()));
+    }
+    members.saturating_mul(FEW) < u64::from(pricing.instance.catalogue().len())
+}
+
+/// The turn of a link, if it is one without exchange.
+fn plain_turn(link: &Link) -> Option<PlainTurn>
+    ensures { IfSome result (IsPlain link.now) }
+{
+    match link.kind {
+        LinkKind::Turn {
+            arriving,
+            departing,
+            uncouple,
+            couple,
+            exchange,
+        } => {
+            if exchange {
+                return None;
+            }
+            Some(PlainTurn {
+                arriving,
+                departing,
+                reverse: link.reverse,
+                uncouple,
+                couple,
+            })
+        }
+        LinkKind::Join { .. } => None,
+        LinkKind::Split { .. } => None,
+    }
+}
+
+/// Makes the row of a trip from which this link leads on, by the prices of its edges.
+fn fill_by_prices(
     pricing: &Pricing<'_>,
     trip: TripNo,
     link: LinkNo,

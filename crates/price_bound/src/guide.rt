@@ -78,6 +78,7 @@ pub(crate) fn put_prices(room: &mut Workspace, asked: &Asked<'_>, guide: &mut Pr
         tables: &room.tables,
         credits: &room.credits,
         debits: &room.debits,
+        trains: &room.trains,
     };
     put_all(&pricing, &mut room.rows, guide);
 }

@@ -3,6 +3,7 @@
 use crate::amounts::AmountTable;
 use crate::changes::Change;
 use crate::price_tables::PriceTables;
+use crate::trains::Trains;
 use branch_tree::{Multipliers, Region, Weight};
 use timetable::Instance;
 use transitions::Graphs;
@@ -31,4 +32,6 @@ pub(crate) struct Pricing<'a> {
     pub credits: &'a AmountTable,
     /// The price of each composition's units, where a trip takes them.
     pub debits: &'a AmountTable,
+    /// How the compositions are made of one another.
+    pub trains: &'a Trains,
 }

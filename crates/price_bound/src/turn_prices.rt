@@ -200,7 +200,7 @@ impl<'a> EdgePrices for TurnPrices<'a> {
 }
 
 /// What shunting costs.
-fn shunting_cost(instance: &Instance) -> Amount
+pub(crate) fn shunting_cost(instance: &Instance) -> Amount
     ensures value { result.0 ≡ pos instance.now.weights.shunting }
     ensures small { IsSmall most_cost result.0 }
 {

@@ -24,6 +24,7 @@ use crate::credits::fill_sums;
 use crate::fronts::{Front, fronts_of};
 use crate::price_tables::PriceTables;
 use crate::priced::Pricing;
+use crate::trains::Trains;
 use crate::worths::added;
 use branch_tree::{BoundAnswer, Entry, Multipliers, Region, Weight};
 use rail_base::limits::{MOST_ENTRIES, MOST_LINKS, MOST_MULTIPLIER, MOST_TRIPS};
@@ -45,6 +46,8 @@ pub(crate) struct Workspace {
     pub credits: AmountTable,
     /// For each trip and composition the price of the composition's units, where the trip takes them.
     pub debits: AmountTable,
+    /// How the compositions are made of one another.
+    pub trains: Trains,
     /// The cells of one chain.
     pub rows: ChainRows,
     /// The picks that are found.
@@ -68,6 +71,7 @@ impl Workspace {
         let fronts = fronts_of(alloc, instance)?;
         let credits = AmountTable::new(alloc, trips, comps)?;
         let debits = AmountTable::new(alloc, trips, comps)?;
+        let trains = Trains::of(alloc, instance)?;
         let rows = ChainRows::new(alloc, instance)?;
         let tables = PriceTables::new(alloc, instance)?;
         Ok(Workspace {
@@ -76,6 +80,7 @@ impl Workspace {
             fronts,
             credits,
             debits,
+            trains,
             rows,
             choice,
         })
@@ -129,6 +134,7 @@ impl Workspace {
             tables: &self.tables,
             credits: &self.credits,
             debits: &self.debits,
+            trains: &self.trains,
         };
         match first_paths(&pricing, &mut self.rows, &mut self.choice) {
             Some(value) => {

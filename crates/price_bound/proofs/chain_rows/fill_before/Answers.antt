@@ -7,6 +7,7 @@ use Rattle.price_bound.specs.CellSizes.{AreSmallCells}
 use Rattle.price_bound.specs.Pricing.{priced_by}
 use Rattle.price_bound.proofs.ChainCells.{const_row, none_small}
 use Rattle.price_bound.proofs.EdgeGroups.{bare_none, row_of_none}
+use Rattle.price_bound.proofs.RunsAhead.{row_runs}
 use Rattle.price_bound.proofs.chain_rows.fill_before.Goals as goal
 
 pub returns-in-None-clause-row : goal.returns-in-None-clause-row
@@ -22,3 +23,11 @@ returns-in-None-clause-small c bound small =
     let none : Option Cell = None in
     subst (AreSmallCells (bound + 21000000000000000)) (sym (c.clear.ensures ∙ const_row none c.args.row.now))
     (none_small (bound + 21000000000000000) (length c.args.row.now))
+
+pub returns-in-None-clause-runs : goal.returns-in-None-clause-runs
+returns-in-None-clause-runs c =
+    row_runs (priced_by c.args.pricing.now) c.args.trip c.args.ahead.now c.clear.new.self (returns-in-None-clause-row c)
+
+pub returns-in-Some-clause-runs : goal.returns-in-Some-clause-runs
+returns-in-Some-clause-runs c =
+    row_runs (priced_by c.args.pricing.now) c.args.trip c.args.ahead.now c.fill_by_link.new.row c.fill_by_link.ensures.row

@@ -11,6 +11,7 @@ use Rattle.price_bound.specs.Pricing.{priced_by}
 use Rattle.price_bound.proofs.ChainCells.{bare_small, worth_in_step}
 use Rattle.price_bound.proofs.EdgeGroups.{IsFilled, IsOneStep, few_at, filled_all, filled_more, filled_none, last_cell, last_cell_on, last_long}
 use Rattle.price_bound.proofs.EdgeGroups.{last_small, some_more}
+use Rattle.price_bound.proofs.RunsAhead.{last_runs}
 use Rattle.price_bound.proofs.chain_rows.fill_last.Goals as goal
 
 pub loop-comp-init : goal.loop-comp-init
@@ -62,3 +63,6 @@ returns-clause-small c k it at =
     few_at (comps_of priced) (last_cell_on priced c.args.trip) IsOneStep c.loop-comp.comp c.loop-comp.row 21000000000000000 k it
     c.loop-comp.invariant (omega (arith, ap length c.catalogue.ensures, c.loop-comp-test.false, c.len-comp-end.ensures.value))
     (λ o few. few) at
+
+pub returns-clause-runs : goal.returns-clause-runs
+returns-clause-runs c = last_runs (priced_by c.args.pricing.now) c.args.trip c.loop-comp.row (returns-clause-row c)

@@ -2,7 +2,7 @@
 use Rattle.std.proofs.Common.{◌≡◌, ◌<◌, ◌+◌, ◌++◌, [], List, Option, length, get_or, set, sym, ap, ◌∙◌, subst, arith}
 use Rattle.std.proofs.lemmas.List.{get_or-set_same, length-map}
 use Rattle.price_bound.specs.declared.cells.Cell.{Cell}
-use Rattle.price_bound.specs.CellRows.{HaveRoomFor, all_bare, bare, comps_of, row_on}
+use Rattle.price_bound.specs.CellRows.{HaveRoomFor, LeadsTo, MayRunOn, all_bare, bare, comps_of, row_on}
 use Rattle.price_bound.specs.CellSizes.{AreSmallCells}
 use Rattle.price_bound.specs.ChainStages.{stage_of}
 use Rattle.price_bound.specs.Pricing.{priced_by}
@@ -67,3 +67,23 @@ returns-clause-small c bound small =
     (c.fill_before.ensures.small bound (subst (AreSmallCells bound)
     (sym (row_in_back c.args.rows.now c.split_at_mut-front.result.0.now c.split_at_mut-front.result.1.now c.args.place
     c.split_at_mut-front.ensures.value c.split_at_mut-front.ensures.front_len below c.index-back-0.result)) small))
+
+pub fill_before-requires-clause-leads : goal.fill_before-requires-clause-leads
+fill_before-requires-clause-leads c =
+    let below : c.args.place + 1 < length c.args.rows.now = omega (arith, c.requires.place, c.requires.room.height) in
+    subst (LeadsTo c.args.pricing.now.instance.now c.args.trip)
+    (sym (row_in_back c.args.rows.now c.split_at_mut-front.result.0.now c.split_at_mut-front.result.1.now c.args.place
+    c.split_at_mut-front.ensures.value c.split_at_mut-front.ensures.front_len below c.index-back-0.result)) c.requires.leads
+
+pub returns-clause-runs : goal.returns-clause-runs
+returns-clause-runs c =
+    let below : c.args.place + 1 < length c.args.rows.now = omega (arith, c.requires.place, c.requires.room.height) in
+    let put : set c.split_at_mut-front.result.0.now c.args.place c.fill_before.new.row ++ c.split_at_mut-front.result.1.now
+    ≡ set c.args.rows.now c.args.place c.fill_before.new.row =
+    row_put c.args.rows.now c.split_at_mut-front.result.0.now c.split_at_mut-front.result.1.now c.args.place
+    c.split_at_mut-front.ensures.value c.split_at_mut-front.ensures.front_len below c.fill_before.new.row in
+    let here : get_or (set c.split_at_mut-front.result.0.now c.args.place c.fill_before.new.row ++ c.split_at_mut-front.result.1.now)
+    c.args.place [] ≡ c.fill_before.new.row =
+    ap (λ (rows : List (List (Option Cell))). get_or rows c.args.place []) put
+    ∙ get_or-set_same c.args.rows.now c.args.place c.fill_before.new.row [] (omega (arith, below)) in
+    subst (MayRunOn c.args.pricing.now.instance.now c.args.trip) (sym here) c.fill_before.ensures.runs

@@ -2,11 +2,12 @@
 use Rattle.std.proofs.Common.{◌≡◌, ◌<◌, ◌≤◌, ◌+◌, ◌-◌, ◌*◌, ℕ, suc, [], List, length, drop, get_or, set, sym, ap, ◌∙◌}
 use Rattle.std.proofs.Common.{subst, arith, length-drop}
 use Rattle.std.proofs.lemmas.List.{get_or-set_same, get_or_read, length-map}
-use Rattle.price_bound.specs.CellRows.{all_bare, bare, comps_of, last_row_on, row_on}
+use Rattle.price_bound.specs.CellRows.{LeadsTo, MayRunOn, all_bare, bare, comps_of, last_row_on, row_on}
 use Rattle.price_bound.specs.CellSizes.{AreSmallCells}
 use Rattle.price_bound.specs.ChainStages.{stage_of}
 use Rattle.price_bound.specs.Pricing.{priced_by}
 use Rattle.price_bound.proofs.ChainCells.{AreRowsFrom, cells_more, length-last_row, room_kept, rows_last, rows_more}
+use Rattle.price_bound.proofs.RunsAhead.{leads_ahead}
 use Rattle.price_bound.proofs.chain_rows.fill_rows.Goals as goal
 
 pub loop-place-init : goal.loop-place-init
@@ -28,8 +29,28 @@ loop-place-init c =
       rows = rows_last (priced_by c.args.pricing.now) chain c.args.rows.now place (omega (arith, c.requires.some)) below
           (set c.args.rows.now place c.fill_last.new.row) (ap (set c.args.rows.now place) row)
           (subst (AreSmallCells 21000000000000000) (sym (get_or-set_same c.args.rows.now place c.fill_last.new.row [] below))
-          c.fill_last.ensures.small);
+          c.fill_last.ensures.small)
+          (subst (MayRunOn c.args.pricing.now.instance.now (get_or chain place 0))
+          (sym (get_or-set_same c.args.rows.now place c.fill_last.new.row [] below))
+          (subst (λ (t : ℕ). MayRunOn c.args.pricing.now.instance.now t c.fill_last.new.row) trip c.fill_last.ensures.runs));
+      passes = c.requires.passes;
     }
+
+pub fill_place-requires-clause-leads : goal.fill_place-requires-clause-leads
+fill_place-requires-clause-leads c =
+    let chain : List ℕ = c.args.chain.now in
+    let place : ℕ = c.loop-place.place - 1 in
+    let next : c.loop-place.place ≡ suc place = omega (arith, c.loop-place-test.true) in
+    let one : place + 1 ≡ suc place = omega arith in
+    let below : suc place < length chain = omega (arith, next, c.loop-place.invariant.below) in
+    let trip : c.index-chain-place-in-loop-place.result ≡ get_or chain place 0 =
+    get_or_read chain place c.index-chain-place-in-loop-place.result (omega (arith, below)) c.index-chain-place-in-loop-place.is 0 in
+    let done : AreRowsFrom (priced_by c.args.pricing.now) chain (suc place) c.loop-place.rows =
+    subst (λ (k : ℕ). AreRowsFrom (priced_by c.args.pricing.now) chain k c.loop-place.rows) next c.loop-place.invariant.rows in
+    subst (λ (k : ℕ). LeadsTo c.args.pricing.now.instance.now c.index-chain-place-in-loop-place.result (get_or c.loop-place.rows k [])) (sym one)
+    (subst (λ (t : ℕ). LeadsTo c.args.pricing.now.instance.now t (get_or c.loop-place.rows (suc place) [])) (sym trip)
+    (leads_ahead c.args.pricing.now.instance.now c.links.ensures.sound chain place (get_or c.loop-place.rows (suc place) [])
+    c.requires.follows below done.runs))
 
 pub fill_place-requires-clause-ahead : goal.fill_place-requires-clause-ahead
 fill_place-requires-clause-ahead c =
@@ -62,7 +83,9 @@ loop-place-preserved c =
       rows = rows_more (priced_by c.args.pricing.now) chain c.loop-place.rows place below done c.fill_place.new.rows row
           (λ bound each. c.fill_place.ensures.small bound
           (subst (λ (k : ℕ). AreSmallCells bound (get_or c.loop-place.rows k [])) (sym one) each))
-          (omega (arith, c.requires.few, c.trips.ensures.value, c.trips.ensures.few));
+          (omega (arith, c.requires.few, c.trips.ensures.value, c.trips.ensures.few))
+          (subst (λ (t : ℕ). MayRunOn c.args.pricing.now.instance.now t (get_or c.fill_place.new.rows place [])) trip c.fill_place.ensures.runs);
+      passes = c.fill_place.ensures.passes;
     }
 
 pub returns-clause-first : goal.returns-clause-first

@@ -30,6 +30,7 @@ first_paths-requires-clause-priced c = record {
       c.fill_sums.ensures.room c.fill_sums.ensures.sums;
   debits = debits_are c.args.instance.now c.args.multipliers.now c.fill.new.self c.fill_sums-2.new.sums c.fill.ensures
       c.fill_sums-2.ensures.room c.fill_sums-2.ensures.sums;
+  trains = c.requires.room.trains;
   over = c.requires.region;
 }
 

@@ -19,6 +19,7 @@ returns c = record {
       c.trips-trips.ensures.value (c.len-comps.ensures.value ∙ ap length c.catalogue.ensures);
   debits = zeros_sized _ _ c.trips-trips.result c.len-comps.result c.in_ok-debits.debits c.in_ok-debits.ensures
       c.trips-trips.ensures.value (c.len-comps.ensures.value ∙ ap length c.catalogue.ensures);
+  trains = c.in_ok-trains.ensures;
   rows = c.in_ok-rows.ensures;
   choice = ap length c.in_ok-choice.ensures ∙ length-replicate c.trips.result 0 ∙ c.trips.ensures.value;
 }

@@ -1,0 +1,301 @@
+//! The values of a turn's edges by the compositions that they lead from, without going through the edges.
+//!
+//! A turn without exchange keeps the units, or uncouples some, or couples some. What may be uncoupled from a composition
+//! is the compositions that it is made of, by one unit less at the turn's end at a time; what may be coupled is those
+//! that are made of it. So one pass from the last composition to the first finds for each the least value over the
+//! longer ones, and one from the first to the last that over the shorter ones.
+
+ghost use Rattle.std.specs.Prelude.{ℕ, ◌≡◌, ◌<◌, ◌≤◌, ◌+ℤ◌, ◌-ℤ◌, length, set, suc, ℤ, IfSome, Some, ◌+◌, is_none, false};
+ghost use Rattle.timetable.specs.Links.{outgoing};
+ghost use Rattle.price_bound.specs.CellRows.{MayRunOn, all_bare, cell_in, comps_of, row_on};
+ghost use Rattle.price_bound.specs.CellSizes.{AreSmallCells, IsSmall, IsSmallStep, most_ahead, most_offered};
+ghost use Rattle.price_bound.specs.CellSizes.{most_edge_price, most_step, most_units_price};
+ghost use Rattle.price_bound.specs.ChainStages.{worth_of};
+ghost use Rattle.price_bound.specs.CompositionTrees.{place_at};
+ghost use Rattle.price_bound.specs.HeldValues.{no_value};
+ghost use Rattle.price_bound.specs.LeastOverTrees.{lower};
+ghost use Rattle.price_bound.specs.PassRooms.{IsPassRoom};
+ghost use Rattle.price_bound.specs.PassValues.{AreAhead, AreLonger, ArePassValues, AreShorter, IsForPasses};
+ghost use Rattle.price_bound.specs.PassValues.{IsPassedSmall, IsPlainTurn, comps_for, most_summed, priced_for, value_at};
+ghost use Rattle.price_bound.specs.Paths.{with_worth};
+ghost use Rattle.price_bound.specs.Pricing.{ArePriced, priced_by};
+ghost use Rattle.price_bound.specs.TripAndLinkPrices.{IsForTrip};
+
+use crate::cells::{Cell, CellRow, NO_VALUE, cell_in, with_worth};
+use crate::pass_room::PassRoom;
+use crate::priced::Pricing;
+use crate::turn_prices::shunting_cost;
+use crate::worths::{Amount, TripWorths, weighted};
+use rail_base::{CompNo, LinkNo, TripNo};
+use rail_csv::End;
+
+/// A turn without exchange.
+#[derive(Clone, Copy)]
+pub(crate) struct PlainTurn {
+    /// The trip whose train arrives.
+    pub arriving: TripNo,
+    /// The trip whose train departs.
+    pub departing: TripNo,
+    /// Whether the arriving train turns round.
+    pub reverse: bool,
+    /// The end at which units are uncoupled.
+    pub uncouple: End,
+    /// The end at which units are coupled.
+    pub couple: End,
+}
+
+/// What the edges of a turn without exchange are priced by.
+#[derive(Drop)]
+pub(crate) struct Passes<'a> {
+    /// What is priced.
+    pub pricing: &'a Pricing<'a>,
+    /// The link, which is a turn without exchange.
+    pub link: LinkNo,
+    /// The turn.
+    pub turn: PlainTurn,
+    /// The place of each composition without the unit that is uncoupled first.
+    pub shorter: &'a [u32],
+    /// The place of each composition without the unit that is coupled last.
+    pub longer: &'a [u32],
+    /// The place of each composition as it was before the train turned round.
+    pub turned: &'a [u32],
+    /// What shunting costs, under the weight.
+    pub shunting: Amount,
+    /// The price of each composition's units, where the arriving trip gives them.
+    pub credits: &'a [i64],
+    /// The price of each composition's units, where the departing trip takes them.
+    pub debits: &'a [i64],
+}
+
+/// Makes the row of a trip from which a turn without exchange leads on.
+pub(crate) fn fill_by_passes(
+    passes: &Passes<'_>,
+    worths: &TripWorths<'_>,
+    row: &mut CellRow,
+    ahead: &CellRow,
+    room: &mut PassRoom,
+)
+    requires is { IsForPasses passes.now }
+    requires worths { IsForTrip worths.now }
+    requires priced { priced_by worths.now.pricing.now ≡ priced_for passes.now }
+    requires arriving { worths.now.trip ≡ passes.now.turn.arriving }
+    requires link { outgoing (priced_for passes.now).day worths.now.trip ≡ Some passes.now.link }
+    requires row { length row.old ≡ comps_for passes.now }
+    requires ahead { length ahead.now ≡ comps_for passes.now }
+    requires small { AreSmallCells most_ahead ahead.now }
+    requires runs { MayRunOn (priced_for passes.now).day passes.now.turn.departing ahead.now }
+    requires room { IsPassRoom (comps_for passes.now) room.old }
+    ensures room { IsPassRoom (comps_for passes.now) room.new }
+    ensures row { row.new ≡ all_bare (row_on (priced_for passes.now) worths.now.trip ahead.now) }
+    ensures small { IsSmallStep most_step ahead.now row.new }
+{
+    passes.put_all(ahead.values(), room);
+    for comp in 0..worths.pricing.instance.catalogue().len() {
+        let cell = passed_with_worth(worths, CompNo(comp), &room.values);
+        row.put(CompNo(comp), cell);
+    }
+}
+
+/// The cell of a composition with what it is worth, by the values that the passes found.
+fn passed_with_worth(worths: &TripWorths<'_>, comp: CompNo, values: &[i64]) -> Option<Cell>
+    requires worths { IsForTrip worths.now }
+    requires leads { is_none (outgoing worths.now.pricing.now.instance.now worths.now.trip) ≡ false }
+    requires comp { comp < comps_of (priced_by worths.now.pricing.now) }
+    requires values { length values.now ≡ comps_of (priced_by worths.now.pricing.now) }
+    requires small { IsPassedSmall (priced_by worths.now.pricing.now) worths.now.trip comp most_offered
+        (value_at values.now comp) }
+    ensures cell { result ≡ with_worth (worth_of (priced_by worths.now.pricing.now) worths.now.trip comp)
+        (cell_in (value_at values.now comp)) }
+    ensures small { (bound : ℕ) → IsPassedSmall (priced_by worths.now.pricing.now) worths.now.trip comp
+        (bound + most_edge_price) (value_at values.now comp)
+        → IfSome result (λ cell. IsSmall (bound + most_step) cell.value) }
+{
+    let Some(worth) = worths.worth(comp) else {
+        return None;
+    };
+    let value = value_at(values, comp.place());
+    with_worth(Some(worth), cell_in(value.0))
+}
+
+impl<'a> Passes<'a> {
+    /// What the edges of a link are priced by, which is a turn without exchange.
+    pub(crate) fn new(pricing: &'a Pricing<'a>, link: LinkNo, turn: PlainTurn) -> Passes<'a>
+        requires priced { ArePriced pricing.now }
+        requires turn { IsPlainTurn (priced_by pricing.now) link turn.reverse turn.arriving turn.departing
+            turn.uncouple turn.couple }
+        requires arriving { turn.arriving < length pricing.now.instance.now.trips }
+        requires departing { turn.departing < length pricing.now.instance.now.trips }
+        ensures pricing { result.pricing.now ≡ pricing.now }
+        ensures link { result.link ≡ link }
+        ensures turn { result.turn ≡ turn }
+        ensures is { IsForPasses result }
+    {
+        Passes {
+            pricing,
+            link,
+            turn,
+            shorter: pricing.trains.rests(turn.uncouple),
+            longer: pricing.trains.rests(turn.couple),
+            turned: pricing.trains.places(turn.reverse),
+            shunting: weighted(pricing.weight, shunting_cost(pricing.instance)),
+            credits: pricing.credits.row(turn.arriving.place()).items(),
+            debits: pricing.debits.row(turn.departing.place()).items(),
+        }
+    }
+
+    /// Puts the least values by the compositions that arrive, where these may run on the arriving trip.
+    fn put_all(&self, ahead: &[i64], room: &mut PassRoom)
+        requires is { IsForPasses self.now }
+        requires ahead { AreAhead self.now ahead.now }
+        requires room { IsPassRoom (comps_for self.now) room.old }
+        ensures room { IsPassRoom (comps_for self.now) room.new }
+        ensures values { ArePassValues self.now ahead.now room.new.values.items }
+    {
+        self.put(ahead, &mut room.shorter, &mut room.longer, &mut room.values);
+    }
+
+    /// The same, into slices.
+    fn put(&self, ahead: &[i64], shorter: &mut [i64], longer: &mut [i64], values: &mut [i64])
+        requires is { IsForPasses self.now }
+        requires ahead { AreAhead self.now ahead.now }
+        requires shorter { length shorter.old ≡ suc (comps_for self.now) }
+        requires longer { length longer.old ≡ suc (comps_for self.now) }
+        requires values { length values.old ≡ comps_for self.now }
+        ensures shorter { length shorter.new ≡ suc (comps_for self.now) }
+        ensures longer { length longer.new ≡ suc (comps_for self.now) }
+        ensures values { ArePassValues self.now ahead.now values.new }
+    {
+        clear(longer);
+        self.put_longer(ahead, longer);
+        put_value(shorter, self.turned.len(), Amount(NO_VALUE));
+        self.put_values(ahead, longer, shorter, values);
+    }
+
+    /// Puts for each composition the least value, with a debit, over those that are made of it.
+    fn put_longer(&self, ahead: &[i64], longer: &mut [i64])
+        requires is { IsForPasses self.now }
+        requires ahead { AreAhead self.now ahead.now }
+        requires longer { AreLonger self.now ahead.now (comps_for self.now) longer.old }
+        ensures { AreLonger self.now ahead.now 0 longer.new }
+    {
+        let mut comp = self.longer.len();
+        while comp > 0 {
+            comp -= 1;
+            self.lower_rest(ahead, longer, comp);
+        }
+    }
+
+    /// Offers a composition's values to the composition that is left without the unit that is coupled last.
+    fn lower_rest(&self, ahead: &[i64], longer: &mut [i64], comp: usize)
+        requires is { IsForPasses self.now }
+        requires ahead { AreAhead self.now ahead.now }
+        requires comp { comp < comps_for self.now }
+        requires longer { AreLonger self.now ahead.now (suc comp) longer.old }
+        ensures { AreLonger self.now ahead.now comp longer.new }
+    {
+        let value = raised(value_at(ahead, comp), value_at(self.debits, comp));
+        let least = lower(value_at(longer, comp), value);
+        let rest = place_at(self.longer, comp);
+        let lowered = lower(value_at(longer, rest), least);
+        put_value(longer, rest, lowered);
+    }
+
+    /// Puts the values by the compositions that arrive, and for each composition the least value, with a credit, over
+    /// those that it is made of.
+    fn put_values(&self, ahead: &[i64], longer: &[i64], shorter: &mut [i64], values: &mut [i64])
+        requires is { IsForPasses self.now }
+        requires ahead { AreAhead self.now ahead.now }
+        requires longer { AreLonger self.now ahead.now 0 longer.now }
+        requires shorter { AreShorter self.now ahead.now 0 shorter.old }
+        requires values { length values.old ≡ comps_for self.now }
+        ensures shorter { length shorter.new ≡ suc (comps_for self.now) }
+        ensures values { ArePassValues self.now ahead.now values.new }
+    {
+        for comp in 0..self.turned.len() {
+            let rest = place_at(self.shorter, comp);
+            let fewer = value_at(shorter, rest);
+            let value = self.turning(ahead, longer, fewer, comp);
+            let place = place_at(self.turned, comp);
+            put_value(values, place, value);
+            let credited = raised(value_at(ahead, comp), value_at(self.credits, comp));
+            let least = lower(fewer, credited);
+            put_value(shorter, comp, least);
+        }
+    }
+
+    /// The value of a composition that arrives: the least where the units stay, some go, or some come.
+    fn turning(&self, ahead: &[i64], longer: &[i64], fewer: Amount, comp: usize) -> Amount
+        requires is { IsForPasses self.now }
+        requires ahead { AreAhead self.now ahead.now }
+        requires longer { AreLonger self.now ahead.now 0 longer.now }
+        requires comp { comp < comps_for self.now }
+        requires fewer { IsSmall most_summed fewer.0 }
+        ensures { result.0 ≡ lower (value_at ahead.now comp)
+            (self.now.shunting.0 +ℤ lower (fewer.0 -ℤ value_at self.now.credits.now comp)
+            (value_at longer.now comp -ℤ value_at self.now.debits.now comp)) }
+    {
+        let off = lessened(fewer, value_at(self.credits, comp));
+        let on = lessened(value_at(longer, comp), value_at(self.debits, comp));
+        let changed = raised(lower(off, on), self.shunting);
+        lower(value_at(ahead, comp), changed)
+    }
+}
+
+/// Puts no value.
+fn clear(values: &mut [i64])
+    ensures long { length values.new ≡ length values.old }
+    ensures none { (place : ℕ) → place < length values.old → value_at values.new place ≡ no_value }
+{
+    for place in 0..values.len() {
+        values[place] = NO_VALUE;
+    }
+}
+
+/// The value at a place.
+fn value_at(values: &[i64], place: usize) -> Amount
+    requires { place < length values.now }
+    ensures { result.0 ≡ value_at values.now place }
+{
+    Amount(values[place])
+}
+
+/// Changes the value at a place.
+fn put_value(values: &mut [i64], place: usize, value: Amount)
+    requires { place < length values.old }
+    ensures { values.new ≡ set values.old place value.0 }
+{
+    values[place] = value.0;
+}
+
+/// The place that stands at a place.
+fn place_at(places: &[u32], place: usize) -> usize
+    requires { place < length places.now }
+    ensures { result ≡ place_at places.now place }
+{
+    places[place] as usize
+}
+
+/// The first of two values, unless the other is lower.
+fn lower(value: Amount, other: Amount) -> Amount
+    ensures { result.0 ≡ lower value.0 other.0 }
+{
+    if other.0 < value.0 { other } else { value }
+}
+
+/// A value and a price together.
+fn raised(value: Amount, by: Amount) -> Amount
+    requires value { IsSmall 9112000000000000000 value.0 }
+    requires by { IsSmall most_units_price by.0 }
+    ensures { result.0 ≡ value.0 +ℤ by.0 }
+{
+    Amount(value.0 + by.0)
+}
+
+/// A value less a price.
+fn lessened(value: Amount, by: Amount) -> Amount
+    requires value { IsSmall most_summed value.0 }
+    requires by { IsSmall most_units_price by.0 }
+    ensures { result.0 ≡ value.0 -ℤ by.0 }
+{
+    Amount(value.0 - by.0)
+}
