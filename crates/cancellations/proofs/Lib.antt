@@ -1,7 +1,7 @@
 pub mod Passing
 mod Numbers
 mod Rows
-mod Tables
+pub mod Tables
 mod Reading
 mod RowTrips
 mod RowsRead

@@ -21,9 +21,10 @@ use Rattle.urgent_units.specs.declared.wish.Wish.{Wish}
 use Rattle.urgent_units.specs.Answers.{BringsMost}
 use Rattle.urgent_units.proofs.Decided.{tables_are_decided}
 use Rattle.desk_app.specs.declared.files.DeskFile.{DeskFile}
-use Rattle.desk_app.specs.declared.files.DeskFile.TheVariants.{OfTable, UrgentUnits}
+use Rattle.desk_app.specs.declared.files.DeskFile.TheVariants.{CancelledTrips, OfTable, UrgentUnits}
 use Rattle.desk_app.specs.declared.outcome.Outcome.{Outcome}
-use Rattle.desk_app.specs.declared.outcome.Outcome.TheVariants.{Planned, Swapped, Stops, Usage, Refused, CannotRead, NoMemory}
+use Rattle.desk_app.specs.declared.outcome.Outcome.TheVariants.{Planned, Swapped, Replanned, Stops, Usage}
+use Rattle.desk_app.specs.declared.outcome.Outcome.TheVariants.{Refused, CannotRead, NoMemory}
 use Rattle.desk_app.specs.Documents.{IsDocument, refused_line, stops_line}
 use Rattle.desk_app.specs.FileNames.{urgent_file}
 use Rattle.desk_app.specs.Outcomes.{status_of}
@@ -44,10 +45,10 @@ says_not day bytes wish says (TooMany more) = omega (arith, says.few, more)
 says_not day bytes wish says (AreWrong why known wrong) = known ((tables_are_decided day bytes).refused wish why says.says wrong)
 
 module _ (files : Files) (dir : List ℕ) where
-  same_inputs : (one other : Inputs) → inputs_in files dir ≡ Ok one → inputs_in files dir ≡ Ok other → one ≡ other
+  pub same_inputs : (one other : Inputs) → inputs_in files dir ≡ Ok one → inputs_in files dir ≡ Ok other → one ≡ other
   same_inputs one other first second = cc
 
-  runs_or_stops : (one other : Inputs) → AreRunning files dir one → AreStopped files dir other → ⊥
+  pub runs_or_stops : (one other : Inputs) → AreRunning files dir one → AreStopped files dir other → ⊥
   runs_or_stops one other running stopped =
       stopped.stops (subst (λ (it : Inputs). Runs it.instance it.plan) (same_inputs one other running.accepted stopped.accepted) running.runs)
 
@@ -123,6 +124,8 @@ module _ (files : Files) (dir : List ℕ) where
       ended_by_table bytes NoMemory same says text is appends undisturbed = absurd (undisturbed.2 refl)
       ended_by_table bytes (Refused (OfTable read)) same says text is appends undisturbed = absurd says
       ended_by_table bytes (Planned answer) same says text is appends undisturbed = absurd says
+      ended_by_table bytes (Refused CancelledTrips) same says text is appends undisturbed = absurd says
+      ended_by_table bytes (Replanned rest) same says text is appends undisturbed = absurd says
       ended_by_table bytes Stops same says text is appends undisturbed = absurd says
       ended_by_table bytes Usage same says text is appends undisturbed = absurd says
       ended_by_table bytes (CannotRead file) same says text is appends undisturbed = absurd says
@@ -164,6 +167,8 @@ module _ {F : Type 0} (holds : F → Option Files) (may_fail : F → List ℕ �
   table_status inputs bytes NoMemory DidRise says = record { not_usage = λ two. omega (arith, two); unread = λ five. absurd (omega (arith, five)) }
   table_status inputs bytes (Refused (OfTable read)) DidRise says = absurd says
   table_status inputs bytes (Planned answer) DidRise says = absurd says
+  table_status inputs bytes (Refused CancelledTrips) DidRise says = absurd says
+  table_status inputs bytes (Replanned rest) DidRise says = absurd says
   table_status inputs bytes Stops DidRise says = absurd says
   table_status inputs bytes Usage DidRise says = absurd says
   table_status inputs bytes (CannotRead file) DidRise says = absurd says

@@ -4,11 +4,12 @@ use Rattle.day_files.specs.declared.errors.Refusal.{Refusal}
 use Rattle.day_files.specs.Lines.{file_refused_alone_line, file_unread_line, line_end}
 use Rattle.day_files.specs.Texts.{refusal_file}
 use Rattle.answer_text.specs.Texts.{text_of}
+use Rattle.replan_text.specs.ReplanLines.{document_of}
 use Rattle.desk_app.specs.declared.files.DeskFile.{DeskFile}
 use Rattle.desk_app.specs.declared.files.DeskFile.TheVariants.{OfTable}
 use Rattle.desk_app.specs.declared.outcome.Outcome.{Outcome}
-use Rattle.desk_app.specs.declared.outcome.Outcome.TheVariants.{Planned, Swapped, Stops, Usage, Refused, CannotRead}
-use Rattle.desk_app.specs.declared.outcome.Outcome.TheVariants.{NoMemory}
+use Rattle.desk_app.specs.declared.outcome.Outcome.TheVariants.{Planned, Swapped, Replanned, Stops, Usage}
+use Rattle.desk_app.specs.declared.outcome.Outcome.TheVariants.{Refused, CannotRead, NoMemory}
 use Rattle.desk_app.specs.FileNames.{name_of}
 use Rattle.desk_app.specs.SwapTexts.{swapped_text}
 
@@ -28,12 +29,17 @@ refused_line file = file_refused_alone_line (name_of file)
 abbrev pub table_refused_line : Refusal → List ℕ
 table_refused_line why = refused_line (OfTable (refusal_file why))
 
+-- a file could not be read
+abbrev pub unread_line : DeskFile → List ℕ
+unread_line file = file_unread_line (name_of file)
+
 -- the document of an outcome; there is none for want of memory
 abbrev pub IsDocument : Outcome → List ℕ → Type 0
 IsDocument (Planned answer) text = text ≡ text_of answer
 IsDocument (Swapped swapped) text = text ≡ swapped_text swapped
+IsDocument (Replanned rest) text = text ≡ document_of rest.later.numbers.items rest.replanned
 IsDocument Stops text = text ≡ stops_line
 IsDocument Usage text = text ≡ usage_line
 IsDocument (Refused file) text = text ≡ refused_line file
-IsDocument (CannotRead file) text = text ≡ file_unread_line (name_of file)
+IsDocument (CannotRead file) text = text ≡ unread_line file
 IsDocument NoMemory text = ⊥

@@ -5,12 +5,14 @@ use Rattle.answer_check.specs.Headline.{status_said}
 use Rattle.desk_commands.specs.declared.command.Command.{Command}
 use Rattle.desk_commands.specs.declared.command.Command.TheVariants as command
 use Rattle.desk_commands.specs.declared.planning.Planning.{Planning}
+use Rattle.desk_commands.specs.declared.replanning.Replanning.{Replanning}
 use Rattle.desk_commands.specs.declared.swapping.Swapping.{Swapping}
 use Rattle.desk_commands.specs.PlainForm.{IsPlainForm}
 use Rattle.desk_app.specs.declared.outcome.Outcome.{Outcome}
-use Rattle.desk_app.specs.declared.outcome.Outcome.TheVariants.{Planned, Swapped, Stops, Usage, Refused, CannotRead}
-use Rattle.desk_app.specs.declared.outcome.Outcome.TheVariants.{NoMemory}
+use Rattle.desk_app.specs.declared.outcome.Outcome.TheVariants.{Planned, Swapped, Replanned, Stops, Usage}
+use Rattle.desk_app.specs.declared.outcome.Outcome.TheVariants.{Refused, CannotRead, NoMemory}
 use Rattle.desk_app.specs.PlanOutcomes.{IsPlanOutcome}
+use Rattle.desk_app.specs.ReplanOutcomes.{IsReplanOutcome}
 use Rattle.desk_app.specs.SwapOutcomes.{IsSwapOutcome}
 
 -- ---- what the words ask for
@@ -22,6 +24,10 @@ AskToPlan words planning = IsPlainForm words (command.Plan planning)
 -- to swap units of a plan
 abbrev pub AskToSwap : List (List ℕ) → Swapping → Type 0
 AskToSwap words swapping = IsPlainForm words (command.Urgent swapping)
+
+-- to plan the rest of a disturbed day
+abbrev pub AskToReplan : List (List ℕ) → Replanning → Type 0
+AskToReplan words replanning = IsPlainForm words (command.Replan replanning)
 
 -- the words are the plain form of no command
 abbrev pub AskInVain : List (List ℕ) → Type 0
@@ -36,6 +42,8 @@ ComesTo holds may_fail faults taken (command.Plan planning) before after outcome
     IsPlanOutcome holds may_fail faults taken planning before after outcome
 ComesTo holds may_fail faults taken (command.Urgent swapping) before after outcome =
     IsSwapOutcome holds may_fail faults taken swapping.dir before after outcome
+ComesTo holds may_fail faults taken (command.Replan replanning) before after outcome =
+    IsReplanOutcome holds may_fail faults taken replanning before after outcome
 
 -- A run of these words comes to this: their command came to it; or they ask for no command, and are not understood; or
 -- memory ran out before they were read.
@@ -53,6 +61,7 @@ pub data IsOutcome {F : Type 0} (holds : F → Option Files) (may_fail : F → L
 abbrev pub status_of : Outcome → ℕ
 status_of (Planned answer) = status_said answer.head
 status_of (Swapped swapped) = 0
+status_of (Replanned rest) = status_said rest.replanned.head
 status_of Stops = 1
 status_of Usage = 2
 status_of (Refused file) = 3

@@ -3,14 +3,16 @@ use Rattle.std.specs.Prelude.{ℕ, ◌≡◌, ◌≤◌, ◌↔◌, ◌+◌, ◌
 use Rattle.rail_io.specs.Folders.{Files, OnlyReads, Rose}
 use Rattle.rail_io.specs.Sinks.{Appends}
 use Rattle.statuses.specs.Written.{CountsFailedReads, CountsFailedWrites, Wrote}
+use Rattle.branch_tree.specs.Trees.{branchings_of}
 use Rattle.search.specs.Questions.{AreAsked, AreTheSame, in_rounds}
 use Rattle.answer_check.specs.ProvedTrees.{open_leaves}
+use Rattle.replan.specs.Promises.{as_answer}
 use Rattle.desk_commands.specs.declared.command.Command.{Command}
 use Rattle.desk_commands.specs.declared.command.Command.TheVariants as command
 use Rattle.desk_commands.specs.PlainForm.{IsPlainForm}
 use Rattle.desk_app.specs.declared.outcome.Outcome.{Outcome}
-use Rattle.desk_app.specs.declared.outcome.Outcome.TheVariants.{Planned, Swapped, Stops, Usage, Refused, CannotRead}
-use Rattle.desk_app.specs.declared.outcome.Outcome.TheVariants.{NoMemory}
+use Rattle.desk_app.specs.declared.outcome.Outcome.TheVariants.{Planned, Swapped, Replanned, Stops, Usage}
+use Rattle.desk_app.specs.declared.outcome.Outcome.TheVariants.{Refused, CannotRead, NoMemory}
 use Rattle.desk_app.specs.Documents.{IsDocument, usage_line}
 use Rattle.desk_app.specs.Outcomes.{AskInVain, status_of}
 
@@ -53,11 +55,13 @@ pub record LeavesSink (counts_failed : Bool) (status : ℕ) (before after : Opti
 abbrev pub asks_advisors : Command → Bool
 asks_advisors (command.Plan planning) = true
 asks_advisors (command.Urgent swapping) = false
+asks_advisors (command.Replan replanning) = true
 
 -- how often a command asks each of them at most: its rounds at a root and at both sides of each branching granted
 abbrev pub most_asked : Command → ℕ
 most_asked (command.Plan planning) = planning.rounds * (2 * planning.nodes + 1)
 most_asked (command.Urgent swapping) = 0
+most_asked (command.Replan replanning) = replanning.rounds * (2 * replanning.nodes + 1)
 
 -- The advisors after a run: one of the same identity stands at each place, and each was asked as often at most as the
 -- words grant. They are left as they are by words that ask for no command, or for one that asks none of them.
@@ -76,6 +80,10 @@ AreAskedFor rounds (Planned answer) before after asked has_quit =
     AreAsked before after asked has_quit (in_rounds rounds (answer.branchings + open_leaves answer))
     (rounds * (2 * answer.branchings + 1))
 AreAskedFor rounds (Swapped swapped) before after asked has_quit = after ≡ before
+AreAskedFor rounds (Replanned rest) before after asked has_quit =
+    AreAsked before after asked has_quit
+    (in_rounds rounds (branchings_of rest.replanned.tree + open_leaves (as_answer rest.replanned)))
+    (rounds * (2 * branchings_of rest.replanned.tree + 1))
 AreAskedFor rounds Stops before after asked has_quit = after ≡ before
 AreAskedFor rounds Usage before after asked has_quit = after ≡ before
 AreAskedFor rounds (Refused file) before after asked has_quit = after ≡ before

@@ -1,29 +1,50 @@
-//! The document of an outcome: an answer, a plan with units swapped, or one line.
+//! The document of an outcome: an answer, a plan with units swapped, the answer to a disturbed day, or one line.
 
 ghost use Rattle.std.specs.Prelude.{◌≡◌, IfOk, string_bytes};
-ghost use Rattle.desk_app.specs.Documents.{IsDocument, stops_line, usage_line};
+ghost use Rattle.desk_app.specs.Documents.{IsDocument, refused_line, stops_line, unread_line, usage_line};
 
-use crate::outcome::Outcome;
+use crate::files::DeskFile;
+use crate::outcome::{Outcome, PlannedRest};
 use crate::swapped_text::swapped_text;
 use answer_text::print;
 use day_files::{file_refused_alone_line, file_unread_line};
 use rail_base::NoMemory;
+use replan_text::print_replanned;
 use std::alloc::Global;
 
-/// The document that a run writes for its outcome: the text of an answer or of a plan with units swapped, or one line
-/// with its line feed. There is none for want of memory, which is the error.
-pub fn document(alloc: Global, outcome: &Outcome) -> Result<Vec<u8>, NoMemory>
-    ensures { IfOk result (λ text. IsDocument outcome.now text.items) }
+/// The document that a run writes for its outcome: the text of an answer, of a plan with units swapped, or of
+/// the answer to a disturbed day, or one line with its line feed. There is none for want of memory, which is the error.
+pub fn document(alloc: Global, outcome: Outcome) -> Result<Vec<u8>, NoMemory>
+    ensures { IfOk result (λ text. IsDocument outcome text.items) }
 {
     match outcome {
-        Outcome::Planned(answer) => print(alloc, answer),
-        Outcome::Swapped(swapped) => swapped_text(alloc, swapped),
+        Outcome::Planned(answer) => print(alloc, &answer),
+        Outcome::Swapped(swapped) => swapped_text(alloc, &swapped),
+        Outcome::Replanned(PlannedRest { later, replanned }) => {
+            print_replanned(alloc, &later, replanned)
+        }
         Outcome::Stops => Ok(stops_line(alloc)?.into_bytes()),
         Outcome::Usage => Ok(usage_line(alloc)?.into_bytes()),
-        Outcome::Refused(file) => Ok(file_refused_alone_line(alloc, file.name())?.into_bytes()),
-        Outcome::CannotRead(file) => Ok(file_unread_line(alloc, file.name())?.into_bytes()),
+        Outcome::Refused(file) => refused_line(alloc, file),
+        Outcome::CannotRead(file) => unread_line(alloc, file),
         Outcome::NoMemory => Err(NoMemory),
     }
+}
+
+/// The line of a file that is refused.
+fn refused_line(alloc: Global, file: DeskFile) -> Result<Vec<u8>, NoMemory>
+    ensures { IfOk result (λ line. line.items ≡ refused_line file) }
+{
+    let name = file.name(alloc)?;
+    Ok(file_refused_alone_line(alloc, name.as_str())?.into_bytes())
+}
+
+/// The line of a file that could not be read.
+fn unread_line(alloc: Global, file: DeskFile) -> Result<Vec<u8>, NoMemory>
+    ensures { IfOk result (λ line. line.items ≡ unread_line file) }
+{
+    let name = file.name(alloc)?;
+    Ok(file_unread_line(alloc, name.as_str())?.into_bytes())
 }
 
 /// The line of a plan that doesn't run.

@@ -7,12 +7,13 @@ pub mod files;
 pub mod outcome;
 mod planning;
 pub mod progress;
+mod replanning;
 mod run;
 mod swapped_text;
 mod swapping;
 mod top;
 
 pub use files::DeskFile;
-pub use outcome::Outcome;
+pub use outcome::{Outcome, PlannedRest};
 pub use progress::ProgressLines;
 pub use top::{raildesk, raildesk_watched};

@@ -5,10 +5,21 @@ ghost use Rattle.desk_app.specs.Outcomes.{status_of};
 
 use crate::files::DeskFile;
 use answer_text::Answer;
+use cancellations::Later;
 use day_files::ReadError;
+use replan::Replanned;
 use run_documents::status_said;
 use statuses::{FAILURE, NO_MEMORY, REFUSED, SUCCESS, UNREAD, USAGE};
 use urgent_units::Swapped;
+
+/// The rest of a disturbed day, planned.
+#[derive(Drop)]
+pub struct PlannedRest {
+    /// The later day, and the numbers that its trips had.
+    pub later: Later,
+    /// The answer to it.
+    pub replanned: Replanned,
+}
 
 /// What a run comes to: the document that it writes and the status that it ends with follow from it.
 #[derive(Drop)]
@@ -18,6 +29,8 @@ pub enum Outcome {
     /// Units of the plan are swapped: a plan that brings as many urgent ones to the depot as can be, and a cut that
     /// shows that no other brings more.
     Swapped(Swapped),
+    /// The rest of the day is planned, and this is the answer to it.
+    Replanned(PlannedRest),
     /// The plan doesn't run.
     Stops,
     /// The words are not understood.
@@ -53,6 +66,7 @@ impl Outcome {
         match self {
             Outcome::Planned(answer) => status_said(answer.head),
             Outcome::Swapped(_) => SUCCESS,
+            Outcome::Replanned(rest) => status_said(rest.replanned.head),
             Outcome::Stops => FAILURE,
             Outcome::Usage => USAGE,
             Outcome::Refused(_) => REFUSED,

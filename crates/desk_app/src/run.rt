@@ -3,11 +3,13 @@
 ghost use Rattle.std.specs.Prelude.{ℕ, true, ◌≡◌, ◌≤◌, ◌^◌, All, List};
 ghost use Rattle.rail_io.specs.Folders.{OnlyReads, faults_after};
 ghost use Rattle.desk_commands.specs.declared.planning.Planning.{Planning};
-ghost use Rattle.desk_app.specs.Outcomes.{AskInVain, AskToPlan, IsOutcome, is_unread};
+ghost use Rattle.desk_commands.specs.declared.replanning.Replanning.{Replanning};
+ghost use Rattle.desk_app.specs.Outcomes.{AskInVain, AskToPlan, AskToReplan, IsOutcome, is_unread};
 ghost use Rattle.desk_app.specs.Statuses.{AreAskedFor, LeavesAdvisors};
 
 use crate::outcome::Outcome;
 use crate::planning::planned;
+use crate::replanning::replanned;
 use crate::swapping::swapped;
 use advisors::Advisor;
 use day_improver::Watcher;
@@ -35,6 +37,8 @@ pub(crate) fn outcome_of<F: Folder, W: Watcher>(
     ensures advisors { LeavesAdvisors words.now advisors.old.items advisors.new.items identity asked has_quit }
     ensures asked_for { (planning : Planning) → AskToPlan words.now planning
         → AreAskedFor planning.rounds result advisors.old.items advisors.new.items asked has_quit }
+    ensures asked_for_rest { (replanning : Replanning) → AskToReplan words.now replanning
+        → AreAskedFor replanning.rounds result advisors.old.items advisors.new.items asked has_quit }
 
     // The folder.
     ensures only_reads { OnlyReads F.holds F.may_fail F.faults F.taken folder.old folder.new }
@@ -45,6 +49,7 @@ pub(crate) fn outcome_of<F: Folder, W: Watcher>(
     match read_words(alloc, words) {
         Ok(Command::Plan(planning)) => planned(alloc, folder, &planning, advisors, watcher),
         Ok(Command::Urgent(swapping)) => swapped(alloc, folder, swapping.dir.as_str()),
+        Ok(Command::Replan(replanning)) => replanned(alloc, folder, &replanning, advisors),
         Err(WordsRefusal::NotUnderstood) => Outcome::Usage,
         Err(WordsRefusal::NoMemory) => Outcome::NoMemory,
     }

@@ -5,10 +5,12 @@ ghost use Rattle.rail_io.specs.Folders.{Files, faults_after};
 ghost use Rattle.statuses.specs.Written.{CountsFailedWrites, IsStatus, IsUndisturbed};
 ghost use Rattle.run_documents.specs.Planning.{EndsPlanning};
 ghost use Rattle.desk_commands.specs.declared.planning.Planning.{Planning};
+ghost use Rattle.desk_commands.specs.declared.replanning.Replanning.{Replanning};
 ghost use Rattle.desk_commands.specs.declared.swapping.Swapping.{Swapping};
 ghost use Rattle.desk_app.specs.declared.outcome.Outcome.{Outcome};
 ghost use Rattle.desk_app.specs.Documents.{table_refused_line};
-ghost use Rattle.desk_app.specs.Outcomes.{AskToPlan, AskToSwap, IsOutcome, is_unread};
+ghost use Rattle.desk_app.specs.Outcomes.{AskToPlan, AskToReplan, AskToSwap, IsOutcome, is_unread};
+ghost use Rattle.desk_app.specs.ReplanEndings.{EndsReplanning};
 ghost use Rattle.desk_app.specs.Statuses.{AreAskedFor, EndsInUsage, LeavesAdvisors, LeavesFolder};
 ghost use Rattle.desk_app.specs.Statuses.{LeavesSink, WroteOutcome};
 ghost use Rattle.desk_app.specs.SwapEndings.{EndsSwapping};
@@ -24,13 +26,14 @@ use statuses::write_document;
 use std::alloc::Global;
 
 /// Writes the document of an outcome, made whole in memory before the first write, and answers the status.
-fn write_outcome<K: Sink>(alloc: Global, outcome: &Outcome, out: &mut K) -> u8
-    ensures wrote { WroteOutcome outcome.now result (K.written out.old) (K.written out.new) (K.faults out.old)
+fn write_outcome<K: Sink>(alloc: Global, outcome: Outcome, out: &mut K) -> u8
+    ensures wrote { WroteOutcome outcome result (K.written out.old) (K.written out.new) (K.faults out.old)
         (K.faults out.new) }
     ensures lasting { K.faults out.old ≤ K.faults out.new }
     ensures failed_writes { K.counts_failed ≡ true → CountsFailedWrites result (K.faults out.old) (K.faults out.new) }
 {
-    write_document(document(alloc, outcome), outcome.status(), out)
+    let status = outcome.status();
+    write_document(document(alloc, outcome), status, out)
 }
 
 /// Runs the command that the words name over a folder, writes one document to the sink and answers the status.
@@ -48,10 +51,18 @@ fn write_outcome<K: Sink>(alloc: Global, outcome: &Outcome, out: &mut K) -> u8
 ///   how many these are, the plan that brings them, which has the same types on every trip, and a yard cut that shows
 ///   that no plan which runs with these types brings more. It asks no advisor.
 ///
+/// - `replan DIR NOW --change W --nodes N --rounds K --evaluations E` reads `plan.csv` as well, and where the plan runs,
+///   `cancelled.csv`: the trips that are cancelled at the minute NOW. It plans the rest of the day without them by a
+///   search of at most N branchings, 200 where no N is given, and writes a plan that keeps what has happened: each trip
+///   that has left has the very units that it had, and each frozen one their types. A trip with other types than were
+///   planned costs W more, nothing where no W is given, and what the answer says of the price is true of every such
+///   plan. The advisors are asked in at most K rounds at each node, in 20 where no K is given, and the improver may take
+///   E bounds at the root; it is not asked where no E is given.
+///
 /// The statuses:
 ///
-/// - 0 comes exactly where the files that the command reads are accepted, and the answer found is optimal, or the plan
-///   runs whose units are to be swapped.
+/// - 0 comes exactly where the files that the command reads are accepted, and the answer found is optimal, to the day
+///   or to the rest of it, or the plan runs whose units are to be swapped.
 /// - 1 comes exactly where the tables are accepted and the answer found is infeasible, or where they and the plan are
 ///   accepted and the plan doesn't run: then the line `stops` is written, and no file is read after that of the plan.
 /// - 2 comes exactly where the words are no command; the line `usage` is written.
@@ -80,8 +91,8 @@ pub fn raildesk<F: Folder, K: Sink>(
 ) -> u8
     requires asked { All (λ advisor. asked advisor ≤ 2 ^ 62) advisors.old.items }
 
-    // The headline, how units are swapped, and the status of words that are no command, where the status is none of 5,
-    // 6 and 7.
+    // The headline, how units are swapped, how the rest of a day is planned, and the status of words that are no
+    // command, where the status is none of 5, 6 and 7.
     ensures plan { (files : Files) (planning : Planning) → F.holds folder.old ≡ Some files
         → AskToPlan words.now planning → IsUndisturbed result
         → EndsPlanning table_refused_line files planning.dir planning.nodes result (K.written out.old)
@@ -89,6 +100,9 @@ pub fn raildesk<F: Folder, K: Sink>(
     ensures urgent { (files : Files) (swapping : Swapping) → F.holds folder.old ≡ Some files
         → AskToSwap words.now swapping → IsUndisturbed result
         → EndsSwapping files swapping.dir result (K.written out.old) (K.written out.new) }
+    ensures replan { (files : Files) (replanning : Replanning) → F.holds folder.old ≡ Some files
+        → AskToReplan words.now replanning → IsUndisturbed result
+        → EndsReplanning files replanning result (K.written out.old) (K.written out.new) }
     ensures usage { IsUndisturbed result → EndsInUsage words.now result (K.written out.old) (K.written out.new) }
     ensures statuses { IsStatus result }
 
@@ -100,7 +114,9 @@ pub fn raildesk<F: Folder, K: Sink>(
         × (F.counts_failed ≡ true
         → F.faults folder.new ≡ faults_after (is_unread outcome) (F.faults folder.old))
         × ((planning : Planning) → AskToPlan words.now planning
-        → AreAskedFor planning.rounds outcome advisors.old.items advisors.new.items asked has_quit) }
+        → AreAskedFor planning.rounds outcome advisors.old.items advisors.new.items asked has_quit)
+        × ((replanning : Replanning) → AskToReplan words.now replanning
+        → AreAskedFor replanning.rounds outcome advisors.old.items advisors.new.items asked has_quit) }
 
     // How the folder, the sink and the advisors are left, whatever the status is.
     ensures folder { LeavesFolder F.holds F.may_fail F.faults F.taken F.counts_failed words.now result folder.old
@@ -124,8 +140,8 @@ pub fn raildesk_watched<F: Folder, K: Sink, W: Watcher>(
 ) -> u8
     requires asked { All (λ advisor. asked advisor ≤ 2 ^ 62) advisors.old.items }
 
-    // The headline, how units are swapped, and the status of words that are no command, where the status is none of 5,
-    // 6 and 7.
+    // The headline, how units are swapped, how the rest of a day is planned, and the status of words that are no
+    // command, where the status is none of 5, 6 and 7.
     ensures plan { (files : Files) (planning : Planning) → F.holds folder.old ≡ Some files
         → AskToPlan words.now planning → IsUndisturbed result
         → EndsPlanning table_refused_line files planning.dir planning.nodes result (K.written out.old)
@@ -133,6 +149,9 @@ pub fn raildesk_watched<F: Folder, K: Sink, W: Watcher>(
     ensures urgent { (files : Files) (swapping : Swapping) → F.holds folder.old ≡ Some files
         → AskToSwap words.now swapping → IsUndisturbed result
         → EndsSwapping files swapping.dir result (K.written out.old) (K.written out.new) }
+    ensures replan { (files : Files) (replanning : Replanning) → F.holds folder.old ≡ Some files
+        → AskToReplan words.now replanning → IsUndisturbed result
+        → EndsReplanning files replanning result (K.written out.old) (K.written out.new) }
     ensures usage { IsUndisturbed result → EndsInUsage words.now result (K.written out.old) (K.written out.new) }
     ensures statuses { IsStatus result }
 
@@ -144,7 +163,9 @@ pub fn raildesk_watched<F: Folder, K: Sink, W: Watcher>(
         × (F.counts_failed ≡ true
         → F.faults folder.new ≡ faults_after (is_unread outcome) (F.faults folder.old))
         × ((planning : Planning) → AskToPlan words.now planning
-        → AreAskedFor planning.rounds outcome advisors.old.items advisors.new.items asked has_quit) }
+        → AreAskedFor planning.rounds outcome advisors.old.items advisors.new.items asked has_quit)
+        × ((replanning : Replanning) → AskToReplan words.now replanning
+        → AreAskedFor replanning.rounds outcome advisors.old.items advisors.new.items asked has_quit) }
 
     // How the folder, the sink and the advisors are left, whatever the status is.
     ensures folder { LeavesFolder F.holds F.may_fail F.faults F.taken F.counts_failed words.now result folder.old
@@ -154,5 +175,5 @@ pub fn raildesk_watched<F: Folder, K: Sink, W: Watcher>(
     ensures advisors { LeavesAdvisors words.now advisors.old.items advisors.new.items identity asked has_quit }
 {
     let outcome = outcome_of(alloc, words, folder, advisors, watcher);
-    write_outcome(alloc, &outcome, out)
+    write_outcome(alloc, outcome, out)
 }

@@ -1,18 +1,23 @@
 -- Words are the plain form of one command at most, whose numbers are within their limits.
-use Rattle.std.proofs.Common.{◌≡◌, ℕ, ◌≤◌, Bool, List, [], ◌∷◌, Some, None, ap, refl, sym, subst, ◌∙◌, arith}
+use Rattle.std.proofs.Common.{◌≡◌, ℕ, ◌≤◌, Bool, List, [], ◌∷◌, Some, None, ap, refl, sym, subst, get_or, ◌∙◌, arith}
 use Rattle.std.specs.Prelude.{codes}
-use Rattle.rail_base.specs.declared.limits.TheConstants.{MOST_BRANCHINGS, MOST_ROUNDS}
+use Rattle.rail_base.specs.declared.limits.TheConstants.{MOST_BRANCHINGS, MOST_CHANGE, MOST_ROUNDS}
+use Rattle.rail_csv.specs.Fields.{time_of}
 use Rattle.plain_words.specs.Items.{Form, IsPlain, Item, WordList, values_in}
 use Rattle.plain_words.specs.Numbers.{IsOption}
 use Rattle.plain_words.specs.Reading.{items_from}
 use Rattle.plain_words.proofs.Made.{taken}
 use Rattle.desk_commands.specs.declared.command.Command.{Command}
-use Rattle.desk_commands.specs.declared.command.Command.TheVariants.{Plan, Urgent}
+use Rattle.desk_commands.specs.declared.command.Command.TheVariants.{Plan, Replan, Urgent}
 use Rattle.desk_commands.specs.declared.planning.Planning.{Planning}
 use Rattle.desk_commands.specs.declared.planning.TheConstants.{MOST_EVALUATIONS, USUAL_EVALUATIONS_OF_PLAN}
 use Rattle.desk_commands.specs.declared.planning.TheConstants.{USUAL_NODES_OF_PLAN, USUAL_ROUNDS_OF_PLAN}
+use Rattle.desk_commands.specs.declared.replanning.Replanning.{Replanning}
+use Rattle.desk_commands.specs.declared.replanning.TheConstants.{USUAL_CHANGE, USUAL_EVALUATIONS_OF_REPLAN}
+use Rattle.desk_commands.specs.declared.replanning.TheConstants.{USUAL_NODES_OF_REPLAN, USUAL_ROUNDS_OF_REPLAN}
 use Rattle.desk_commands.specs.declared.swapping.Swapping.{Swapping}
-use Rattle.desk_commands.specs.PlainForm.{IsMeant, IsPlainForm, IsPlanning, IsSwapping, command_word, form_for}
+use Rattle.desk_commands.specs.PlainForm.{IsMeant, IsPlainForm, IsPlanning, IsReplanning, IsSwapping}
+use Rattle.desk_commands.specs.PlainForm.{command_word, form_for}
 
 -- words are of a form as one list of items at most
 pub one_list : (form : Form) (words : WordList) (one other : List Item) → IsPlain form words one → IsPlain form words other
@@ -58,6 +63,31 @@ one_swapping_of items one other first second =
     let dir : one.dir ≡ other.dir = cc in
     swapped_alike one.dir other.dir dir
 
+-- and the replannings of equal parts
+replanned_alike : (d d' : List ℕ) (m m' w w' n n' k k' e e' : ℕ) → d ≡ d' → m ≡ m' → w ≡ w' → n ≡ n' → k ≡ k' → e ≡ e'
+    → ◌≡◌ {A = Replanning} (record { dir = d; minute = m; change = w; nodes = n; rounds = k; evaluations = e })
+    (record { dir = d'; minute = m'; change = w'; nodes = n'; rounds = k'; evaluations = e' })
+replanned_alike d d' m m' w w' n n' k k' e e' dirs minutes changes nodes rounds evaluations = cc
+
+one_replanning_of : (items : List Item) (one other : Replanning) → IsReplanning items one → IsReplanning items other → one ≡ other
+one_replanning_of items one other first second =
+    let places : ◌≡◌ {A = List (List ℕ)} (one.dir ∷ first.time ∷ []) (other.dir ∷ second.time ∷ []) = sym first.places ∙ second.places in
+    let dir : one.dir ≡ other.dir = cc in
+    let time : first.time ≡ second.time = cc in
+    let minute : one.minute ≡ other.minute = sym first.minute.1 ∙ ap time_of time ∙ second.minute.1 in
+    replanned_alike one.dir other.dir one.minute other.minute one.change other.change one.nodes other.nodes one.rounds other.rounds
+    one.evaluations other.evaluations dir minute
+    (one_number USUAL_CHANGE MOST_CHANGE (values_in (codes "--change") items) one.change other.change first.change second.change)
+    (one_number USUAL_NODES_OF_REPLAN MOST_BRANCHINGS (values_in (codes "--nodes") items) one.nodes other.nodes first.nodes second.nodes)
+    (one_number USUAL_ROUNDS_OF_REPLAN MOST_ROUNDS (values_in (codes "--rounds") items) one.rounds other.rounds first.rounds second.rounds)
+    (one_number USUAL_EVALUATIONS_OF_REPLAN MOST_EVALUATIONS (values_in (codes "--evaluations") items) one.evaluations other.evaluations
+    first.evaluations second.evaluations)
+
+-- the words of two commands that are of one length are told apart by their first letters
+swaps_or_replans : ◌≡◌ {A = List ℕ} (codes "urgent") (codes "replan") → ⊥
+swaps_or_replans same = let letters : get_or (codes "urgent") 0 0 ≡ get_or (codes "replan") 0 0 = ap (λ (word : List ℕ). get_or word 0 0) same in
+    omega (arith, letters)
+
 -- items mean one command of a word at most
 one_meant : (items : List Item) (one other : Command) → command_word one ≡ command_word other → IsMeant items one → IsMeant items other
     → one ≡ other
@@ -65,6 +95,11 @@ one_meant items (Plan one) (Plan other) words first second = ap Plan (one_planni
 one_meant items (Plan one) (Urgent other) words first second = absurd cc
 one_meant items (Urgent one) (Plan other) words first second = absurd cc
 one_meant items (Urgent one) (Urgent other) words first second = ap Urgent (one_swapping_of items one other first second)
+one_meant items (Plan one) (Replan other) words first second = absurd cc
+one_meant items (Urgent one) (Replan other) words first second = absurd (swaps_or_replans words)
+one_meant items (Replan one) (Plan other) words first second = absurd cc
+one_meant items (Replan one) (Urgent other) words first second = absurd (swaps_or_replans (sym words))
+one_meant items (Replan one) (Replan other) words first second = ap Replan (one_replanning_of items one other first second)
 
 -- commands of one word have one form
 one_form : (one other : Command) → command_word one ≡ command_word other → form_for one ≡ form_for other
@@ -72,6 +107,11 @@ one_form (Plan one) (Plan other) words = refl
 one_form (Plan one) (Urgent other) words = absurd cc
 one_form (Urgent one) (Plan other) words = absurd cc
 one_form (Urgent one) (Urgent other) words = refl
+one_form (Plan one) (Replan other) words = absurd cc
+one_form (Urgent one) (Replan other) words = absurd (swaps_or_replans words)
+one_form (Replan one) (Plan other) words = absurd cc
+one_form (Replan one) (Urgent other) words = absurd (swaps_or_replans (sym words))
+one_form (Replan one) (Replan other) words = refl
 
 pub one_command : (words : WordList) (one other : Command) → IsPlainForm words one → IsPlainForm words other → one ≡ other
 one_command words one other first second =
@@ -94,6 +134,10 @@ pub one_swapping : (words : WordList) (one other : Swapping) → IsPlainForm wor
 one_swapping words one other first second =
     let both : Urgent one ≡ Urgent other = one_command words (Urgent one) (Urgent other) first second in cc
 
+pub one_replanning : (words : WordList) (one other : Replanning) → IsPlainForm words (Replan one) → IsPlainForm words (Replan other) → one ≡ other
+one_replanning words one other first second =
+    let both : Replan one ≡ Replan other = one_command words (Replan one) (Replan other) first second in cc
+
 -- ---- what may be granted
 
 number_within : (usual most : ℕ) (values : WordList) (number : ℕ) → usual ≤ most → IsOption usual most values number
@@ -107,3 +151,16 @@ nodes_within words planning form = number_within USUAL_NODES_OF_PLAN MOST_BRANCH
 
 pub rounds_within : (words : WordList) (planning : Planning) → IsPlainForm words (Plan planning) → planning.rounds ≤ MOST_ROUNDS
 rounds_within words planning form = number_within USUAL_ROUNDS_OF_PLAN MOST_ROUNDS _ planning.rounds (omega arith) form.meant.rounds
+
+pub replan_change_within : (words : WordList) (replanning : Replanning) → IsPlainForm words (Replan replanning) → replanning.change ≤ MOST_CHANGE
+replan_change_within words replanning form = number_within USUAL_CHANGE MOST_CHANGE _ replanning.change (omega arith) form.meant.change
+
+pub replan_nodes_within : (words : WordList) (replanning : Replanning) → IsPlainForm words (Replan replanning)
+    → replanning.nodes ≤ MOST_BRANCHINGS
+replan_nodes_within words replanning form =
+    number_within USUAL_NODES_OF_REPLAN MOST_BRANCHINGS _ replanning.nodes (omega arith) form.meant.nodes
+
+pub replan_rounds_within : (words : WordList) (replanning : Replanning) → IsPlainForm words (Replan replanning)
+    → replanning.rounds ≤ MOST_ROUNDS
+replan_rounds_within words replanning form =
+    number_within USUAL_ROUNDS_OF_REPLAN MOST_ROUNDS _ replanning.rounds (omega arith) form.meant.rounds

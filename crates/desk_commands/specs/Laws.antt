@@ -1,10 +1,12 @@
 -- What holds of all words, and the numbers that they are held to.
 use Rattle.std.specs.Prelude.{◌≡◌}
-use Rattle.rail_base.specs.declared.limits.TheConstants.{MOST_BRANCHINGS, MOST_ROUNDS}
+use Rattle.rail_base.specs.declared.limits.TheConstants.{MOST_BRANCHINGS, MOST_CHANGE, MOST_ROUNDS}
 use Rattle.plain_words.specs.Items.{WordList}
 use Rattle.desk_commands.specs.declared.command.Command.{Command}
 use Rattle.desk_commands.specs.declared.planning.TheConstants.{MOST_EVALUATIONS, USUAL_EVALUATIONS_OF_PLAN}
 use Rattle.desk_commands.specs.declared.planning.TheConstants.{USUAL_NODES_OF_PLAN, USUAL_ROUNDS_OF_PLAN}
+use Rattle.desk_commands.specs.declared.replanning.TheConstants.{USUAL_CHANGE, USUAL_EVALUATIONS_OF_REPLAN}
+use Rattle.desk_commands.specs.declared.replanning.TheConstants.{USUAL_NODES_OF_REPLAN, USUAL_ROUNDS_OF_REPLAN}
 use Rattle.desk_commands.specs.PlainForm.{IsPlainForm}
 
 -- words are the plain form of one command at most
@@ -12,11 +14,16 @@ abbrev pub WordsMakeOneCommand : Type 0
 WordsMakeOneCommand = (words : WordList) (one other : Command) → IsPlainForm words one → IsPlainForm words other
     → one ≡ other
 
--- the numbers in words, and options of `plan` that are not given
+-- the numbers in words, and options of `plan` and `replan` that are not given
 pub record AreWordLimits : Type 0 where
   pub branchings : MOST_BRANCHINGS ≡ 4000
   pub rounds : MOST_ROUNDS ≡ 100
   pub evaluations : MOST_EVALUATIONS ≡ 100000
+  pub change : MOST_CHANGE ≡ 1000000
   pub usual_nodes_of_plan : USUAL_NODES_OF_PLAN ≡ 200
   pub usual_rounds_of_plan : USUAL_ROUNDS_OF_PLAN ≡ 0
   pub usual_evaluations_of_plan : USUAL_EVALUATIONS_OF_PLAN ≡ 500
+  pub usual_change : USUAL_CHANGE ≡ 0
+  pub usual_nodes_of_replan : USUAL_NODES_OF_REPLAN ≡ 200
+  pub usual_rounds_of_replan : USUAL_ROUNDS_OF_REPLAN ≡ 20
+  pub usual_evaluations_of_replan : USUAL_EVALUATIONS_OF_REPLAN ≡ 0

@@ -1,13 +1,17 @@
 -- The plain form: how a command is written as words.
 use Rattle.std.specs.Prelude.{ℕ, ◌≡◌, List, [], ◌∷◌, codes, nat_le}
-use Rattle.rail_base.specs.declared.limits.TheConstants.{MOST_BRANCHINGS, MOST_ROUNDS}
+use Rattle.rail_base.specs.declared.limits.TheConstants.{MOST_BRANCHINGS, MOST_CHANGE, MOST_ROUNDS}
+use Rattle.rail_csv.specs.Spelling.{SpellsTime}
 use Rattle.plain_words.specs.Items.{Form, IsPlain, Item, WordList, positional_in, times, values_in}
 use Rattle.plain_words.specs.Numbers.{IsOption}
 use Rattle.desk_commands.specs.declared.command.Command.{Command}
-use Rattle.desk_commands.specs.declared.command.Command.TheVariants.{Plan, Urgent}
+use Rattle.desk_commands.specs.declared.command.Command.TheVariants.{Plan, Replan, Urgent}
 use Rattle.desk_commands.specs.declared.planning.Planning.{Planning}
 use Rattle.desk_commands.specs.declared.planning.TheConstants.{MOST_EVALUATIONS, USUAL_EVALUATIONS_OF_PLAN}
 use Rattle.desk_commands.specs.declared.planning.TheConstants.{USUAL_NODES_OF_PLAN, USUAL_ROUNDS_OF_PLAN}
+use Rattle.desk_commands.specs.declared.replanning.Replanning.{Replanning}
+use Rattle.desk_commands.specs.declared.replanning.TheConstants.{USUAL_CHANGE, USUAL_EVALUATIONS_OF_REPLAN}
+use Rattle.desk_commands.specs.declared.replanning.TheConstants.{USUAL_NODES_OF_REPLAN, USUAL_ROUNDS_OF_REPLAN}
 use Rattle.desk_commands.specs.declared.swapping.Swapping.{Swapping}
 
 -- ---- what stands after the command word
@@ -23,9 +27,18 @@ plan_form = record {
 abbrev pub folder_form : Form
 folder_form = record { places = 1; valued = []; flags = [] }
 
+-- a folder, a time, and options
+abbrev pub replan_form : Form
+replan_form = record {
+  places = 2;
+  valued = codes "--change" ∷ codes "--nodes" ∷ codes "--rounds" ∷ codes "--evaluations" ∷ [];
+  flags = [];
+}
+
 abbrev pub form_for : Command → Form
 form_for (Plan planning) = plan_form
 form_for (Urgent swapping) = folder_form
+form_for (Replan replanning) = replan_form
 
 -- ---- what it says
 
@@ -42,15 +55,28 @@ pub record IsPlanning (items : List Item) (planning : Planning) : Type 0 where
 abbrev pub IsSwapping : List Item → Swapping → Type 0
 IsSwapping items swapping = positional_in items ≡ swapping.dir ∷ []
 
+-- how the rest of a day is to be planned: its folder, the minute, what a change costs, and what is granted
+pub record IsReplanning (items : List Item) (replanning : Replanning) : Type 0 where
+  pub time : List ℕ
+  pub places : positional_in items ≡ replanning.dir ∷ time ∷ []
+  pub minute : SpellsTime time replanning.minute
+  pub change : IsOption USUAL_CHANGE MOST_CHANGE (values_in (codes "--change") items) replanning.change
+  pub nodes : IsOption USUAL_NODES_OF_REPLAN MOST_BRANCHINGS (values_in (codes "--nodes") items) replanning.nodes
+  pub rounds : IsOption USUAL_ROUNDS_OF_REPLAN MOST_ROUNDS (values_in (codes "--rounds") items) replanning.rounds
+  pub evaluations : IsOption USUAL_EVALUATIONS_OF_REPLAN MOST_EVALUATIONS (values_in (codes "--evaluations") items)
+      replanning.evaluations
+
 abbrev pub IsMeant : List Item → Command → Type 0
 IsMeant items (Plan planning) = IsPlanning items planning
 IsMeant items (Urgent swapping) = IsSwapping items swapping
+IsMeant items (Replan replanning) = IsReplanning items replanning
 
 -- ---- the command
 
 abbrev pub command_word : Command → List ℕ
 command_word (Plan planning) = codes "plan"
 command_word (Urgent swapping) = codes "urgent"
+command_word (Replan replanning) = codes "replan"
 
 -- The words are the plain form of the command: any word for the program's name, the command word, and after it words of
 -- the command's form, which mean it.

@@ -1,6 +1,7 @@
 //! The commands of the planner's desk.
 
 use crate::planning::Planning;
+use crate::replanning::Replanning;
 use crate::swapping::Swapping;
 
 /// What the planner's desk is asked to do.
@@ -10,4 +11,6 @@ pub enum Command {
     Plan(Planning),
     /// Swap units of the plan of a folder, so that as many urgent ones as can be end the day at a depot.
     Urgent(Swapping),
+    /// Plan the rest of the day of a folder, which is disturbed at a minute, so that it keeps what has happened.
+    Replan(Replanning),
 }

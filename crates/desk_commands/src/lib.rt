@@ -5,9 +5,11 @@ pub mod command;
 pub mod laws;
 pub mod planning;
 pub mod reading;
+pub mod replanning;
 pub mod swapping;
 
 pub use command::Command;
 pub use planning::Planning;
 pub use reading::read_words;
+pub use replanning::Replanning;
 pub use swapping::Swapping;

@@ -3,7 +3,8 @@
 ghost use Rattle.std.specs.Prelude.{ℕ, List, ◌≡◌, ◌≤◌, IfOk, codes, length, map};
 ghost use Rattle.plain_words.specs.Commands.{Reads};
 ghost use Rattle.plain_words.specs.Items.{positional_in, times};
-ghost use Rattle.desk_commands.specs.PlainForm.{IsPlainForm, IsPlanning, IsSwapping, folder_form, plan_form};
+ghost use Rattle.desk_commands.specs.PlainForm.{IsPlainForm, IsPlanning, IsReplanning, IsSwapping, folder_form};
+ghost use Rattle.desk_commands.specs.PlainForm.{plan_form, replan_form};
 ghost use Rattle.desk_commands.specs.Reading.{ReadsAs, ReadsCommand, SaysAs};
 
 use crate::command::Command;
@@ -11,10 +12,15 @@ use crate::planning::{
     MOST_EVALUATIONS, Planning, USUAL_EVALUATIONS_OF_PLAN, USUAL_NODES_OF_PLAN,
     USUAL_ROUNDS_OF_PLAN,
 };
+use crate::replanning::{
+    Replanning, USUAL_CHANGE, USUAL_EVALUATIONS_OF_REPLAN, USUAL_NODES_OF_REPLAN,
+    USUAL_ROUNDS_OF_REPLAN,
+};
 use crate::swapping::Swapping;
 use plain_words::{Form, GivenWords, Text, WordsRefusal, read_form, words_after};
-use rail_base::limits::{MOST_BRANCHINGS, MOST_ROUNDS};
+use rail_base::limits::{MOST_BRANCHINGS, MOST_CHANGE, MOST_ROUNDS};
 use rail_base::{NoMemory, Words};
+use rail_csv::time_of;
 use std::alloc::Global;
 
 /// Reads the words of a command line, of which the first stands for the program's name and is not looked at.
@@ -26,6 +32,9 @@ use std::alloc::Global;
 /// - `plan DIR [--nodes N] [--rounds K] [--evaluations E] [--progress]`. N is at most 4,000, and 200 where it is not
 ///   given; K is at most 100, and else 0; E is at most 100,000, and else 500.
 /// - `urgent DIR`.
+/// - `replan DIR NOW [--change W] [--nodes N] [--rounds K] [--evaluations E]`. NOW is a time: one or two digits of the
+///   hour 0 to 47, a colon, and two digits of the minute. W is at most 1,000,000, and 0 where it is not given; N is at
+///   most 4,000, and else 200; K is at most 100, and else 20; E is at most 100,000, and else 0.
 ///
 /// `NotUnderstood` comes exactly where the words are not of this form; `NoMemory` is want of memory.
 pub fn read_words(alloc: Global, words: &Words) -> Result<Command, WordsRefusal>
@@ -45,6 +54,7 @@ fn command_of(alloc: Global, word: &str, rest: &[&str]) -> Result<Command, Words
     match word {
         "plan" => plan(alloc, rest),
         "urgent" => urgent(alloc, rest),
+        "replan" => replan(alloc, rest),
         _ => Err(WordsRefusal::NotUnderstood),
     }
 }
@@ -65,6 +75,16 @@ fn urgent(alloc: Global, rest: &[&str]) -> Result<Command, WordsRefusal>
 {
     match swapping(alloc, rest)? {
         Some(swapping) => Ok(Command::Urgent(swapping)),
+        None => Err(WordsRefusal::NotUnderstood),
+    }
+}
+
+/// The command `replan` of the words after it.
+fn replan(alloc: Global, rest: &[&str]) -> Result<Command, WordsRefusal>
+    ensures { ReadsCommand (codes "replan") (map (λ word. word.now) rest.now) result }
+{
+    match replanning(alloc, rest)? {
+        Some(replanning) => Ok(Command::Replan(replanning)),
         None => Err(WordsRefusal::NotUnderstood),
     }
 }
@@ -140,4 +160,59 @@ fn swapping_of(alloc: Global, given: &GivenWords<'_>) -> Result<Option<Swapping>
     };
     let dir = Text::copy(alloc, dir)?;
     Ok(Some(Swapping { dir }))
+}
+
+/// How the rest of a day is to be planned, by the words after `replan`; nothing where they are not of its form. The
+/// error is want of memory.
+fn replanning(alloc: Global, rest: &[&str]) -> Result<Option<Replanning>, NoMemory>
+    ensures { IfOk result (ReadsAs replan_form IsReplanning (map (λ word. word.now) rest.now)) }
+{
+    let form = Form {
+        places: 2,
+        valued: &["--change", "--nodes", "--rounds", "--evaluations"],
+        flags: &[],
+    };
+    let Some(given) = read_form(alloc, &form, rest)? else {
+        return Ok(None);
+    };
+    replanning_of(alloc, &given)
+}
+
+/// How the rest of a day is to be planned, by words that were taken apart; nothing where the second of them is no time,
+/// or a number is none or over its limit. The error is want of memory.
+fn replanning_of(alloc: Global, given: &GivenWords<'_>) -> Result<Option<Replanning>, NoMemory>
+    requires places { length (positional_in given.now) ≡ 2 }
+    requires once { (name : List ℕ) → times name given.now ≤ 1 }
+    ensures { IfOk result (SaysAs IsReplanning given.now) }
+{
+    let Some(dir) = given.positional(0) else {
+        return Ok(None);
+    };
+    let Some(word) = given.positional(1) else {
+        return Ok(None);
+    };
+    let Some(minute) = time_of(word.as_bytes()) else {
+        return Ok(None);
+    };
+    let Some(change) = given.number("--change", USUAL_CHANGE, MOST_CHANGE) else {
+        return Ok(None);
+    };
+    let Some(nodes) = given.number("--nodes", USUAL_NODES_OF_REPLAN, MOST_BRANCHINGS) else {
+        return Ok(None);
+    };
+    let Some(rounds) = given.number("--rounds", USUAL_ROUNDS_OF_REPLAN, MOST_ROUNDS) else {
+        return Ok(None);
+    };
+    let usual = USUAL_EVALUATIONS_OF_REPLAN;
+    let Some(evaluations) = given.number("--evaluations", usual, MOST_EVALUATIONS) else {
+        return Ok(None);
+    };
+    Ok(Some(Replanning {
+        dir: Text::copy(alloc, dir)?,
+        minute,
+        change,
+        nodes,
+        rounds: rounds as u8,
+        evaluations,
+    }))
 }

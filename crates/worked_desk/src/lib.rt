@@ -10,6 +10,8 @@ mod plan_tests;
 #[cfg(test)]
 mod progress_tests;
 #[cfg(test)]
+mod replan_tests;
+#[cfg(test)]
 mod urgent_tests;
 #[cfg(test)]
 mod words_tests;

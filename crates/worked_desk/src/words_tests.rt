@@ -65,6 +65,14 @@ const OTHER_WORDS: &[&[&str]] = &[
     &["urgent", "day", "day"],
     &["urgent", "day", "--nodes", "5"],
     &["urgent", "day", "--progress"],
+    &["replan", "day"],
+    &["replan", "day", "08:30", "09:30"],
+    &["replan", "day", "48:00"],
+    &["replan", "day", "8:5"],
+    &["replan", "08:30", "day"],
+    &["replan", "day", "08:30", "--change", "1000001"],
+    &["replan", "day", "08:30", "--nodes", "4001"],
+    &["replan", "day", "08:30", "--progress"],
 ];
 
 #[test]

@@ -1,8 +1,8 @@
 use Rattle.std.proofs.Common.{rules, refl}
 use Rattle.desk_commands.specs.declared.command.Command.TheVariants as command
-use Rattle.desk_commands.proofs.OneCommand.{nodes_within, rounds_within}
+use Rattle.desk_commands.proofs.OneCommand.{nodes_within, replan_change_within, replan_nodes_within, replan_rounds_within, rounds_within}
 use Rattle.desk_app.specs.Outcomes.{InVain, OfCommand}
-use Rattle.desk_app.proofs.PlannedDays.{asked_for, leaves, left_alone, no_plan}
+use Rattle.desk_app.proofs.PlannedDays.{asked_for, asked_for_rest, leaves, leaves_rest, left_alone, no_other, no_plan}
 use Rattle.desk_app.proofs.SwappedUnits.{swapped_there}
 use Rattle.desk_app.proofs.run.outcome_of.Goals as goal
 
@@ -58,3 +58,39 @@ returns-in-Err-NotUnderstood-clause-advisors g c = left_alone _ _ _ c.args.words
 
 pub returns-in-Err-NoMemory-clause-advisors : goal.returns-in-Err-NoMemory-clause-advisors
 returns-in-Err-NoMemory-clause-advisors g c = left_alone _ _ _ c.args.words.now c.args.advisors.now.items
+
+pub replanned-requires-clause-nodes : goal.replanned-requires-clause-nodes
+replanned-requires-clause-nodes g c = replan_nodes_within c.args.words.now c.in-Ok-Replan.replanning (c.in-Ok-Replan.ensures.understood (command.Replan c.in-Ok-Replan.replanning) (search rules))
+
+pub replanned-requires-clause-rounds : goal.replanned-requires-clause-rounds
+replanned-requires-clause-rounds g c = replan_rounds_within c.args.words.now c.in-Ok-Replan.replanning (c.in-Ok-Replan.ensures.understood (command.Replan c.in-Ok-Replan.replanning) (search rules))
+
+pub replanned-requires-clause-change : goal.replanned-requires-clause-change
+replanned-requires-clause-change g c = replan_change_within c.args.words.now c.in-Ok-Replan.replanning (c.in-Ok-Replan.ensures.understood (command.Replan c.in-Ok-Replan.replanning) (search rules))
+
+pub returns-in-Ok-Replan-clause-outcome : goal.returns-in-Ok-Replan-clause-outcome
+returns-in-Ok-Replan-clause-outcome g c =
+    OfCommand (command.Replan c.in-Ok-Replan.replanning) (c.in-Ok-Replan.ensures.understood (command.Replan c.in-Ok-Replan.replanning) (search rules)) c.replanned.ensures.outcome
+
+pub returns-in-Ok-Replan-clause-advisors : goal.returns-in-Ok-Replan-clause-advisors
+returns-in-Ok-Replan-clause-advisors g c =
+    leaves_rest _ _ _ c.args.words.now c.in-Ok-Replan.replanning (c.in-Ok-Replan.ensures.understood (command.Replan c.in-Ok-Replan.replanning) (search rules)) _ _ c.replanned.ensures.advisors c.replanned.ensures.asked
+
+pub returns-in-Ok-Replan-clause-asked_for : goal.returns-in-Ok-Replan-clause-asked_for
+returns-in-Ok-Replan-clause-asked_for g c planning given =
+    absurd (no_other c.args.words.now (command.Replan c.in-Ok-Replan.replanning) (command.Plan planning) (c.in-Ok-Replan.ensures.understood (command.Replan c.in-Ok-Replan.replanning) (search rules)) given (λ same. absurd cc))
+
+pub returns-in-Ok-Replan-clause-asked_for_rest : goal.returns-in-Ok-Replan-clause-asked_for_rest
+returns-in-Ok-Replan-clause-asked_for_rest g c replanning given =
+    asked_for_rest _ _ c.args.words.now c.in-Ok-Replan.replanning replanning (c.in-Ok-Replan.ensures.understood (command.Replan c.in-Ok-Replan.replanning) (search rules)) given _ _ _ c.replanned.ensures.asked_for
+
+pub returns-in-Ok-Replan-clause-untouched : goal.returns-in-Ok-Replan-clause-untouched
+returns-in-Ok-Replan-clause-untouched g c vain = absurd (vain (command.Replan c.in-Ok-Replan.replanning) (c.in-Ok-Replan.ensures.understood (command.Replan c.in-Ok-Replan.replanning) (search rules)))
+
+pub returns-in-Ok-Plan-clause-asked_for_rest : goal.returns-in-Ok-Plan-clause-asked_for_rest
+returns-in-Ok-Plan-clause-asked_for_rest g c replanning given =
+    absurd (no_other c.args.words.now (command.Plan c.in-Ok-Plan.planning) (command.Replan replanning) (c.in-Ok-Plan.ensures.understood (command.Plan c.in-Ok-Plan.planning) (search rules)) given (λ same. absurd cc))
+
+pub returns-in-Ok-Urgent-clause-asked_for_rest : goal.returns-in-Ok-Urgent-clause-asked_for_rest
+returns-in-Ok-Urgent-clause-asked_for_rest g c replanning given =
+    absurd (no_other c.args.words.now (command.Urgent c.in-Ok-Urgent.swapping) (command.Replan replanning) (c.in-Ok-Urgent.ensures.understood (command.Urgent c.in-Ok-Urgent.swapping) (search rules)) given (λ same. absurd cc))

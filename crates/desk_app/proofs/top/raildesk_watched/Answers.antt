@@ -1,5 +1,5 @@
 use Rattle.std.proofs.Common.{rules}
-use Rattle.desk_app.proofs.Endings.{ends_in_usage, ends_planning, ends_swapping, is_status, leaves_folder, leaves_sink}
+use Rattle.desk_app.proofs.Endings.{ends_in_usage, ends_planning, ends_replanning, ends_swapping, is_status, leaves_folder, leaves_sink}
 use Rattle.desk_app.proofs.top.raildesk_watched.Goals as goal
 
 pub returns-clause-plan : goal.returns-clause-plan
@@ -9,6 +9,10 @@ returns-clause-plan g c files planning =
 pub returns-clause-urgent : goal.returns-clause-urgent
 returns-clause-urgent g c files swapping =
     ends_swapping _ _ _ _ _ _ _ _ _ _ _ _ _ c.outcome_of-outcome.ensures.outcome c.write_outcome.ensures.wrote files swapping
+
+pub returns-clause-replan : goal.returns-clause-replan
+returns-clause-replan g c files replanning =
+    ends_replanning _ _ _ _ _ _ _ _ _ _ _ _ _ c.outcome_of-outcome.ensures.outcome c.write_outcome.ensures.wrote files replanning
 
 pub returns-clause-usage : goal.returns-clause-usage
 returns-clause-usage g c =
@@ -25,6 +29,7 @@ returns-clause-document g c = (
   search rules,
   c.outcome_of-outcome.ensures.fault_counted,
   c.outcome_of-outcome.ensures.asked_for,
+  c.outcome_of-outcome.ensures.asked_for_rest,
 )
 
 pub returns-clause-folder : goal.returns-clause-folder
