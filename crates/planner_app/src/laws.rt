@@ -8,9 +8,8 @@ ghost use Rattle.planner_app.specs.Laws.{OthersAreTold, OutcomesAreOne, Searches
 ghost use Rattle.planner_app.specs.Limits.{AreColumnLimits, AreDayLimits, AreFieldLimits, AreHeaderLimits};
 ghost use Rattle.planner_app.specs.Limits.{AreRowLimits, AreRunLimits};
 
-use rail_io::Folder;
-
 pub use answer_check::laws::valid_answers_are_found;
+use rail_io::Folder;
 
 /// What `plan DIR` writes is valid: where `answer.txt` in a folder is the text of an answer that meets the headline of
 /// the day in that folder, `check DIR` ends with status 0, unless it ends with 5, 6 or 7.
