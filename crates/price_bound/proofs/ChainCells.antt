@@ -58,14 +58,6 @@ none_small bound n comp cell at = elim (cases_lt comp n) [
 
 -- ---- a cell more
 
-pub cell_small : (bound : ℕ) (row : List (Option Cell)) (comp : ℕ) → AreSmallCells bound row
-    → IfSome (get_or row comp None) (λ cell. IsSmall bound cell.value)
-cell_small bound row comp small = by (get_or row comp None) refl
-  where
-    by : (o : Option Cell) → get_or row comp None ≡ o → IfSome o (λ cell. IsSmall bound cell.value)
-    by None at = tt
-    by (Some cell) at = small comp cell at
-
 pub some_small : (bound : ℕ) (o : Option Cell) (cell : Cell) → IfSome o (λ it. IsSmall bound it.value) → o ≡ Some cell → IsSmall bound cell.value
 some_small bound None cell small at = absurd (cc)
 some_small bound (Some it) cell small at = subst (λ (c : Cell). IsSmall bound c.value) (cell_is it cell at) small

@@ -89,7 +89,3 @@ last_row_on priced t = last_row (comps_of priced) (stage_of priced t)
 
 abbrev pub row_on : Priced → ℕ → List (Option Cell) → List (Option Cell)
 row_on priced t ahead = row_before (comps_of priced) (stage_of priced t) ahead
-
--- a row after the edges that lead on from a trip offered their cells
-abbrev pub offered_on : Priced → ℕ → List (Option Cell) → List (Option Cell) → List (Option Cell)
-offered_on priced t ahead row = edges_offered priced (outgoing priced.day t) ahead row

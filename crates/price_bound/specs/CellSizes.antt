@@ -69,9 +69,3 @@ AreSmallCells bound row = (comp : ℕ) (cell : Cell) → get_or row comp None �
 -- where the cells of one row are small, those of another are, at a bound that is higher by a step
 abbrev pub IsSmallStep : ℕ → List (Option Cell) → List (Option Cell) → Type 0
 IsSmallStep step row new = (bound : ℕ) → AreSmallCells bound row → AreSmallCells (bound + step) new
-
--- so it is of a row to which cells are offered that are a step from the cells ahead, where the row's own cells are
--- small at the bound that is higher by the step
-abbrev pub AreSmallOffers : ℕ → List (Option Cell) → List (Option Cell) → List (Option Cell) → Type 0
-AreSmallOffers step ahead row new = (bound : ℕ) → AreSmallCells bound ahead
-    → AreSmallCells (bound + step) row → AreSmallCells (bound + step) new

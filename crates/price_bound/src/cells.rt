@@ -1,11 +1,11 @@
 //! Cells: the least value from a composition of a trip to the end of the trip's chain, and the next step of the first
 //! path that has it.
 
-ghost use Rattle.std.specs.Prelude.{ℕ, ◌≡◌, ◌<◌, ◌+◌, map, length, get_or, set, replicate, pos, IfOk, IfSome, Some};
+ghost use Rattle.std.specs.Prelude.{ℕ, ◌≡◌, ◌<◌, ◌+◌, map, length, get_or, set, replicate, IfOk, IfSome, Some};
 ghost use Rattle.std.specs.Prelude.{None, if◌then◌else◌, option_map, ◌+ℤ◌};
 ghost use Rattle.price_bound.specs.CellRows.{AreHeld, IsHeld, bare, cell_in};
 ghost use Rattle.price_bound.specs.Paths.{entered, least_from, lower_cell, offer_by, with_worth};
-ghost use Rattle.price_bound.specs.CellSizes.{AreSmallCells, IsSmall, most_edge_price, most_offered, most_step};
+ghost use Rattle.price_bound.specs.CellSizes.{IsSmall, most_edge_price, most_offered, most_step};
 
 use crate::worths::Amount;
 use rail_base::{CompNo, NoMemory};

@@ -1,22 +1,20 @@
 //! The rows of cells of a chain, made from its last trip to its first; and the first path of least value, read off from
 //! the first trip on.
 
-ghost use Rattle.std.specs.Prelude.{ℕ, ◌≡◌, ◌<◌, ◌≤◌, ◌+◌, ◌*◌, [], length, get_or, map, set, take, All, IfOk, Some, None};
-ghost use Rattle.std.specs.Prelude.{IfSome, is_none, slice_get};
+ghost use Rattle.std.specs.Prelude.{◌≡◌, ◌<◌, ◌≤◌, ◌+◌, ◌*◌, [], length, get_or, map, set, take, All, IfOk, Some, None};
+ghost use Rattle.std.specs.Prelude.{IfSome};
 ghost use Rattle.timetable.specs.Compositions.{compositions_of};
 ghost use Rattle.timetable.specs.Chains.{Leads};
 ghost use Rattle.timetable.specs.Links.{outgoing};
 ghost use Rattle.timetable.specs.Running.{EachFollows};
-ghost use Rattle.transitions.specs.Edges.{AreGraphs, IsEdge};
 ghost use Rattle.price_bound.specs.CellRows.{AreSmallBelow, HaveRoom, HaveRoomFor, LeadsTo, MayRunOn};
 ghost use Rattle.price_bound.specs.CellRows.{all_bare, chain_rows};
 ghost use Rattle.price_bound.specs.PassRooms.{IsPassRoom, IsPlain};
 ghost use Rattle.price_bound.specs.CellRows.{comps_of, last_row_on, put_along, row_on};
-ghost use Rattle.price_bound.specs.CellSizes.{AreSmallCells, AreSmallOffers, IsSmall, IsSmallStep, most_ahead};
-ghost use Rattle.price_bound.specs.CellSizes.{most_edge_price, most_offered, most_step, most_worth};
-ghost use Rattle.price_bound.specs.ChainStages.{price_of, stage_of};
-ghost use Rattle.price_bound.specs.Paths.{begin_of, next_of, offer_by, path_from, with_worths};
-ghost use Rattle.price_bound.specs.Pricing.{ArePriced, IsListed, priced_by};
+ghost use Rattle.price_bound.specs.CellSizes.{AreSmallCells, IsSmallStep, most_ahead};
+ghost use Rattle.price_bound.specs.CellSizes.{most_step};
+ghost use Rattle.price_bound.specs.Paths.{begin_of, next_of, path_from};
+ghost use Rattle.price_bound.specs.Pricing.{ArePriced, priced_by};
 
 use crate::cells::{Cell, CellRow, with_worth};
 use crate::least_edges::{fill_by_edges, least_with_worth};

@@ -3,7 +3,7 @@
 //! The edges of a link stand in order of the composition that they lead from: those of one composition are found
 //! together, and those of a composition that the trip may not have are passed over.
 
-ghost use Rattle.std.specs.Prelude.{ℕ, ◌≡◌, ◌<◌, ◌≤◌, ◌+◌, ◌↔◌, IfSome, IsTrue, None, Some, get_or, length, replicate, slice_get};
+ghost use Rattle.std.specs.Prelude.{ℕ, ◌≡◌, ◌<◌, ◌+◌, ◌↔◌, IfSome, IsTrue, None, Some, get_or, length, slice_get};
 ghost use Rattle.timetable.specs.Links.{outgoing};
 ghost use Rattle.transitions.specs.Edges.{AreGraphs, AreInOrder, IsEdge};
 ghost use Rattle.price_bound.specs.CellRows.{all_bare, comps_of, offered_from, row_on};

@@ -5,7 +5,7 @@
 //! that are made of it. So one pass from the last composition to the first finds for each the least value over the
 //! longer ones, and one from the first to the last that over the shorter ones.
 
-ghost use Rattle.std.specs.Prelude.{ℕ, ◌≡◌, ◌<◌, ◌≤◌, ◌+ℤ◌, ◌-ℤ◌, length, set, suc, ℤ, IfSome, Some, ◌+◌, is_none, false};
+ghost use Rattle.std.specs.Prelude.{ℕ, ◌≡◌, ◌<◌, ◌+ℤ◌, ◌-ℤ◌, length, set, suc, ℤ, IfSome, Some, ◌+◌, is_none, false};
 ghost use Rattle.timetable.specs.Links.{outgoing};
 ghost use Rattle.price_bound.specs.CellRows.{MayRunOn, all_bare, cell_in, comps_of, row_on};
 ghost use Rattle.price_bound.specs.CellSizes.{AreSmallCells, IsSmall, IsSmallStep, most_ahead, most_offered};

@@ -89,9 +89,9 @@ impl Workspace {
     /// The least priced value of the picks that are near a region of a day, under changes and under multipliers that
     /// fit. It is `Empty` exactly where no picks are near the region, and `best` is then as before. Else `best` is,
     /// among those of least value, the first by the list of compositions read chain by chain. It takes no memory. Its
-    /// time, of which no clause speaks, grows with the edges of the day, with its trips and its links times the
-    /// compositions, with its departure minutes and its trips times the types, and, for each multiplier, with the
-    /// stations and the stock rows.
+    /// time, of which no clause speaks, grows with the trips and the links times the compositions, with the edges of
+    /// joins, splits and turns that may uncouple and couple at once, with the departure minutes and the trips times the
+    /// types, and, for each multiplier, with the stations and the stock rows.
     pub(crate) fn bound(
         &mut self,
         instance: &Instance,
