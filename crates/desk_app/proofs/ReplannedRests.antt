@@ -1,5 +1,5 @@
 -- What the planning of the rest of a folder's day comes to, and how it ends.
-use Rattle.std.proofs.Common.{◌≡◌, ◌≢◌, ℕ, Bool, List, Option, Some, Ok, Err, inl, inr, refl, sym, ap, ◌∙◌, subst, arith}
+use Rattle.std.proofs.Common.{◌≡◌, ◌≢◌, ℕ, Bool, List, Option, Some, Ok, Err, inl, inr, refl, sym, ◌∙◌, subst, arith}
 use Rattle.std.specs.Prelude.{⊤}
 use Rattle.rail_base.specs.declared.limits.TheConstants.{MOST_TABLE_BYTES}
 use Rattle.rail_csv.specs.Tables.{records_of}
@@ -10,8 +10,6 @@ use Rattle.rail_io.specs.Sinks.{Appends}
 use Rattle.statuses.specs.Written.{IsUndisturbed}
 use Rattle.timetable.specs.Accepted.{HaveNames}
 use Rattle.timetable.specs.Day.{Day}
-use Rattle.timetable.specs.DerivedDays.{old_numbers}
-use Rattle.timetable.specs.Running.{Runs}
 use Rattle.day_files.specs.declared.errors.ReadError.{ReadError}
 use Rattle.day_files.specs.declared.errors.ReadError.TheVariants as read_error
 use Rattle.day_files.specs.declared.inputs.Inputs.{Inputs}

@@ -1,5 +1,5 @@
 -- How the planning of the rest of a disturbed day ends: the status, and what was written.
-use Rattle.std.specs.Prelude.{ℕ, ◌≡◌, ◌≢◌, ◌⊎◌, ◌↔◌, List, Option}
+use Rattle.std.specs.Prelude.{ℕ, ◌≡◌, ◌⊎◌, ◌↔◌, List, Option}
 use Rattle.rail_io.specs.Folders.{Files}
 use Rattle.rail_io.specs.Sinks.{Appends}
 use Rattle.timetable.specs.DerivedDays.{old_numbers}
