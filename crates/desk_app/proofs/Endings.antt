@@ -9,21 +9,24 @@ use Rattle.desk_commands.specs.declared.command.Command.TheVariants as command
 use Rattle.desk_commands.specs.declared.planning.Planning.{Planning}
 use Rattle.desk_commands.specs.declared.replanning.Replanning.{Replanning}
 use Rattle.desk_commands.specs.declared.swapping.Swapping.{Swapping}
+use Rattle.desk_commands.specs.declared.week_planning.WeekPlanning.{WeekPlanning}
 use Rattle.desk_commands.specs.PlainForm.{IsPlainForm}
 use Rattle.desk_commands.proofs.OneCommand.{one_command}
 use Rattle.desk_app.specs.declared.outcome.Outcome.{Outcome}
 use Rattle.desk_app.specs.declared.outcome.Outcome.TheVariants.{NoMemory}
 use Rattle.desk_app.specs.Documents.{IsDocument, table_refused_line, usage_line}
-use Rattle.desk_app.specs.Outcomes.{AskInVain, AskToPlan, AskToReplan, AskToSwap, ComesTo, IsOutcome}
+use Rattle.desk_app.specs.Outcomes.{AskForWeek, AskInVain, AskToPlan, AskToReplan, AskToSwap, ComesTo, IsOutcome}
 use Rattle.desk_app.specs.Outcomes.{OfCommand, InVain, Unread}
 use Rattle.desk_app.specs.Outcomes.{status_of, is_unread}
 use Rattle.desk_app.specs.Statuses.{EndsInUsage, LeavesFolder, LeavesSink, WroteOutcome}
 use Rattle.desk_app.specs.ReplanEndings.{EndsReplanning}
 use Rattle.desk_app.specs.SwapEndings.{EndsSwapping}
+use Rattle.desk_app.specs.WeekEndings.{EndsWeek}
 use Rattle.desk_app.proofs.Statuses.{IsToldByFive, few_with_document, unread_is_five}
 use Rattle.desk_app.proofs.PlannedDays.{IsOfCommand, plan_status, planning_ends}
 use Rattle.desk_app.proofs.ReplannedRests.{replan_status, replanning_ends}
 use Rattle.desk_app.proofs.SwappedUnits.{swap_status, swapping_ends}
+use Rattle.desk_app.proofs.PlannedWeeks.{week_ends, week_status}
 
 -- want of memory has no document
 no_document : (outcome : Outcome) (text : List ℕ) → outcome ≡ NoMemory → IsDocument outcome text → ⊥
@@ -43,6 +46,7 @@ module _ {F : Type 0} (holds : F → Option Files) (may_fail : F → List ℕ �
   status_fits (command.Plan planning) comes = plan_status holds may_fail counted taken planning before after outcome comes
   status_fits (command.Urgent swapping) comes = swap_status holds may_fail counted taken swapping.dir before after outcome comes
   status_fits (command.Replan replanning) comes = replan_status holds may_fail counted taken replanning before after outcome comes
+  status_fits (command.Week planning) comes = week_status holds may_fail counted taken planning before after outcome comes
 
   -- the outcome of words that ask for a command
   of_command : (named : Command) → IsPlainForm words named → (outcome ≡ NoMemory → ⊥) → Comes named
@@ -88,6 +92,19 @@ module _ {F : Type 0} (holds : F → Option Files) (may_fail : F → List ℕ �
           subst (λ (n : ℕ). EndsReplanning files replanning n written written') (sym e)
           (replanning_ends holds may_fail counted taken replanning before after outcome
           (of_command (command.Replan replanning) asked (λ none. no_document outcome text none document)) files tells text document
+          written written' appends (subst IsUndisturbed e undisturbed))
+      by (Part text document appends rose six) = absurd (undisturbed.1 six)
+      by (Nothing kept seven) = absurd (undisturbed.2 seven)
+
+  pub ends_week : (files : Files) (planning : WeekPlanning) → holds before ≡ Some files → AskForWeek words planning → IsUndisturbed status
+      → EndsWeek files planning status written written'
+  ends_week files planning tells asked undisturbed = by wrote
+    where
+      by : Wrote' → EndsWeek files planning status written written'
+      by (Whole text document appends e) =
+          subst (λ (n : ℕ). EndsWeek files planning n written written') (sym e)
+          (week_ends holds may_fail counted taken planning before after outcome
+          (of_command (command.Week planning) asked (λ none. no_document outcome text none document)) files tells text document
           written written' appends (subst IsUndisturbed e undisturbed))
       by (Part text document appends rose six) = absurd (undisturbed.1 six)
       by (Nothing kept seven) = absurd (undisturbed.2 seven)

@@ -2,5 +2,6 @@ pub mod Statuses
 pub mod PlannedDays
 pub mod SwappedUnits
 pub mod ReplannedRests
+pub mod PlannedWeeks
 pub mod Written
 pub mod Endings

@@ -17,17 +17,16 @@ use Rattle.day_files.specs.declared.errors.ReadError.TheVariants as read_error
 use Rattle.desk_commands.specs.declared.command.Command.{Command}
 use Rattle.desk_commands.specs.declared.command.Command.TheVariants as command
 use Rattle.desk_commands.specs.declared.planning.Planning.{Planning}
-use Rattle.desk_commands.specs.declared.replanning.Replanning.{Replanning}
 use Rattle.desk_commands.specs.PlainForm.{IsPlainForm}
-use Rattle.desk_commands.proofs.OneCommand.{one_command, one_planning, one_replanning}
+use Rattle.desk_commands.proofs.OneCommand.{one_command}
 use Rattle.desk_app.specs.declared.outcome.Outcome.{Outcome}
-use Rattle.desk_app.specs.declared.outcome.Outcome.TheVariants.{Planned, Swapped, Replanned, Stops, Usage}
-use Rattle.desk_app.specs.declared.outcome.Outcome.TheVariants.{Refused, CannotRead, NoMemory}
+use Rattle.desk_app.specs.declared.outcome.Outcome.TheVariants.{Planned, Swapped, Replanned, PlannedWeek, Stops}
+use Rattle.desk_app.specs.declared.outcome.Outcome.TheVariants.{Usage, Refused, CannotRead, NoMemory}
 use Rattle.desk_app.specs.Documents.{IsDocument, table_refused_line}
-use Rattle.desk_app.specs.Outcomes.{AskToPlan, AskToReplan, status_of}
+use Rattle.desk_app.specs.Outcomes.{status_of}
 use Rattle.desk_app.specs.PlanOutcomes.{IsDayOutcome, IsPlanOutcome, NoDay, OfDay}
 use Rattle.desk_app.specs.ReadErrors.{outcome_of_error}
-use Rattle.desk_app.specs.Statuses.{AreAskedFor, LeavesAdvisors, asks_advisors, most_asked}
+use Rattle.desk_app.specs.Statuses.{AreAskedFor, LeavesAdvisors, asks_advisors, most_asked, rounds_of}
 use Rattle.desk_app.proofs.Statuses.{head_status}
 
 -- ---- the status of a command
@@ -59,6 +58,7 @@ day_status day nodes (Planned answer) DidRise is =
 day_status day nodes NoMemory DidRise is = record { not_usage = λ two. omega (arith, two); unread = λ five. absurd (omega (arith, five)) }
 day_status day nodes (Swapped swapped) DidRise is = absurd is
 day_status day nodes (Replanned rest) DidRise is = absurd is
+day_status day nodes (PlannedWeek week) DidRise is = absurd is
 day_status day nodes Stops DidRise is = absurd is
 day_status day nodes Usage DidRise is = absurd is
 day_status day nodes (Refused file) DidRise is = absurd is
@@ -126,6 +126,7 @@ ended_by_day files planning day accepted (Planned answer) meets text is written 
     }
 ended_by_day files planning day accepted NoMemory meets text is written written' appends undisturbed = absurd (undisturbed.2 refl)
 ended_by_day files planning day accepted (Replanned rest) meets text is written written' appends undisturbed = absurd meets
+ended_by_day files planning day accepted (PlannedWeek week) meets text is written written' appends undisturbed = absurd meets
 ended_by_day files planning day accepted (Swapped swapped) meets text is written written' appends undisturbed = absurd meets
 ended_by_day files planning day accepted Stops meets text is written written' appends undisturbed = absurd meets
 ended_by_day files planning day accepted Usage meets text is written written' appends undisturbed = absurd meets
@@ -170,51 +171,20 @@ module _ {A : Type 0} (identity asked : A → ℕ) (has_quit : A → Bool) (word
     unasked = λ none. refl;
   }
 
-  module _ (planning : Planning) (form : AskToPlan words planning) (before after : List A) where
-    -- advisors that were asked as the words grant
-    pub leaves : AreTheSame before after identity → AreAsked before after asked has_quit 0 (planning.rounds * (2 * planning.nodes + 1))
+  -- advisors that were asked as the words of a command grant that asks them
+  module _ (named : Command) (form : IsPlainForm words named) (before after : List A) where
+    pub leaves : asks_advisors named ≡ true → AreTheSame before after identity → AreAsked before after asked has_quit 0 (most_asked named)
         → LeavesAdvisors words before after identity asked has_quit
-    leaves same within = record {
+    leaves asks same within = record {
       same = same;
-      asked_within = λ named given.
-          subst (λ (it : Command). AreAsked before after asked has_quit 0 (most_asked it))
-          (one_command words (command.Plan planning) named form given) within;
-      unasked = λ none. let asks : true ≡ false = none (command.Plan planning) form in absurd cc;
+      asked_within = λ other given.
+          subst (λ (it : Command). AreAsked before after asked has_quit 0 (most_asked it)) (one_command words named other form given) within;
+      unasked = λ none. let not : asks_advisors named ≡ false = none named form in absurd (let known = asks in cc);
     }
 
-  -- the same where the rest of a day is planned
-  module _ (replanning : Replanning) (form : AskToReplan words replanning) (before after : List A) where
-    pub leaves_rest : AreTheSame before after identity
-        → AreAsked before after asked has_quit 0 (replanning.rounds * (2 * replanning.nodes + 1))
-        → LeavesAdvisors words before after identity asked has_quit
-    leaves_rest same within = record {
-      same = same;
-      asked_within = λ named given.
-          subst (λ (it : Command). AreAsked before after asked has_quit 0 (most_asked it))
-          (one_command words (command.Replan replanning) named form given) within;
-      unasked = λ none. let asks : true ≡ false = none (command.Replan replanning) form in absurd cc;
-    }
-
--- how they were asked for an answer, by whichever planning the words ask for
-pub asked_for : {A : Type 0} (asked : A → ℕ) (has_quit : A → Bool) (words : List (List ℕ)) (planning other : Planning) → AskToPlan words planning
-    → AskToPlan words other → (it : Outcome) (before after : List A) → AreAskedFor planning.rounds it before after asked has_quit
-    → AreAskedFor other.rounds it before after asked has_quit
-asked_for asked has_quit words planning other form given it before after is =
-    subst (λ (p : Planning). AreAskedFor p.rounds it before after asked has_quit) (one_planning words planning other form given) is
-
-pub asked_for_rest : {A : Type 0} (asked : A → ℕ) (has_quit : A → Bool) (words : List (List ℕ)) (replanning other : Replanning)
-    → AskToReplan words replanning → AskToReplan words other → (it : Outcome) (before after : List A)
-    → AreAskedFor replanning.rounds it before after asked has_quit → AreAskedFor other.rounds it before after asked has_quit
-asked_for_rest asked has_quit words replanning other form given it before after is =
-    subst (λ (r : Replanning). AreAskedFor r.rounds it before after asked has_quit) (one_replanning words replanning other form given) is
-
--- words of one command are those of no other one
-pub no_other : (words : List (List ℕ)) (named other : Command) → IsPlainForm words named → IsPlainForm words other → (named ≡ other → ⊥) → ⊥
-no_other words named other form given apart = apart (one_command words named other form given)
-
--- words that ask to plan a day are those of no other command
-pub no_plan : (words : List (List ℕ)) (named : Command) (planning : Planning) → IsPlainForm words named → asks_advisors named ≡ false
-    → AskToPlan words planning → ⊥
-no_plan words named planning form none given =
-    let same : named ≡ command.Plan planning = one_command words named (command.Plan planning) form given in
-    let asks : asks_advisors named ≡ true = ap asks_advisors same in cc
+-- how they were asked for an answer, by whichever command the words ask for
+pub asked_for : {A : Type 0} (asked : A → ℕ) (has_quit : A → Bool) (words : List (List ℕ)) (named other : Command) → IsPlainForm words named
+    → IsPlainForm words other → (it : Outcome) (before after : List A) → AreAskedFor (rounds_of named) it before after asked has_quit
+    → AreAskedFor (rounds_of other) it before after asked has_quit
+asked_for asked has_quit words named other form given it before after is =
+    subst (λ (c : Command). AreAskedFor (rounds_of c) it before after asked has_quit) (one_command words named other form given) is

@@ -25,10 +25,10 @@ use Rattle.cancellations.proofs.Tables.{tables_are_decided}
 use Rattle.replan_text.specs.ReplanLines.{document_of}
 use Rattle.desk_commands.specs.declared.replanning.Replanning.{Replanning}
 use Rattle.desk_app.specs.declared.files.DeskFile.{DeskFile}
-use Rattle.desk_app.specs.declared.files.DeskFile.TheVariants.{CancelledTrips, OfTable, UrgentUnits}
+use Rattle.desk_app.specs.declared.files.DeskFile.TheVariants.{CancelledTrips, OfDay, OfTable, UrgentUnits}
 use Rattle.desk_app.specs.declared.outcome.Outcome.{Outcome}
-use Rattle.desk_app.specs.declared.outcome.Outcome.TheVariants.{Planned, Swapped, Replanned, Stops, Usage}
-use Rattle.desk_app.specs.declared.outcome.Outcome.TheVariants.{Refused, CannotRead, NoMemory}
+use Rattle.desk_app.specs.declared.outcome.Outcome.TheVariants.{Planned, Swapped, Replanned, PlannedWeek, Stops}
+use Rattle.desk_app.specs.declared.outcome.Outcome.TheVariants.{Usage, Refused, CannotRead, NoMemory}
 use Rattle.desk_app.specs.declared.outcome.PlannedRest.{PlannedRest}
 use Rattle.desk_app.specs.Cancelled.{AreDisturbed, AreWrong, IsRefusedToReplan, OfCancelled, SayCancelled, SayNoneCancelled}
 use Rattle.desk_app.specs.Cancelled.{TooMany, cancelled_bytes}
@@ -159,6 +159,8 @@ module _ (files : Files) (replanning : Replanning) where
           ended_refused CancelledTrips (OfCancelled inputs running none refl) named (subst (λ (t : List ℕ). Appends t before after) is appends)
       ended_by_table bytes NoMemory same says text is appends undisturbed = absurd (undisturbed.2 refl)
       ended_by_table bytes (Refused (OfTable read)) same says text is appends undisturbed = absurd says
+      ended_by_table bytes (Refused (OfDay day read)) same says text is appends undisturbed = absurd says
+      ended_by_table bytes (PlannedWeek week) same says text is appends undisturbed = absurd says
       ended_by_table bytes (Refused UrgentUnits) same says text is appends undisturbed = absurd says
       ended_by_table bytes (Planned answer) same says text is appends undisturbed = absurd says
       ended_by_table bytes (Swapped swapped) same says text is appends undisturbed = absurd says
@@ -243,6 +245,8 @@ module _ {F : Type 0} (holds : F → Option Files) (may_fail : F → List ℕ �
   table_status inputs bytes (Refused CancelledTrips) DidRise says = record { not_usage = λ two. omega (arith, two); unread = λ five. absurd (omega (arith, five)) }
   table_status inputs bytes NoMemory DidRise says = record { not_usage = λ two. omega (arith, two); unread = λ five. absurd (omega (arith, five)) }
   table_status inputs bytes (Refused (OfTable read)) DidRise says = absurd says
+  table_status inputs bytes (Refused (OfDay day read)) DidRise says = absurd says
+  table_status inputs bytes (PlannedWeek week) DidRise says = absurd says
   table_status inputs bytes (Refused UrgentUnits) DidRise says = absurd says
   table_status inputs bytes (Planned answer) DidRise says = absurd says
   table_status inputs bytes Stops DidRise says = absurd says

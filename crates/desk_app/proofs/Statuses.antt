@@ -8,8 +8,8 @@ use Rattle.answer_text.specs.declared.answer.Head.{Head}
 use Rattle.answer_text.specs.declared.answer.Head.TheVariants.{Optimal, Infeasible, Bounded, BoundedPlan}
 use Rattle.answer_check.specs.Headline.{status_said}
 use Rattle.desk_app.specs.declared.outcome.Outcome.{Outcome}
-use Rattle.desk_app.specs.declared.outcome.Outcome.TheVariants.{Planned, Swapped, Replanned, Stops, Usage}
-use Rattle.desk_app.specs.declared.outcome.Outcome.TheVariants.{Refused, CannotRead, NoMemory}
+use Rattle.desk_app.specs.declared.outcome.Outcome.TheVariants.{Planned, Swapped, Replanned, PlannedWeek, Stops}
+use Rattle.desk_app.specs.declared.outcome.Outcome.TheVariants.{Usage, Refused, CannotRead, NoMemory}
 use Rattle.desk_app.specs.Documents.{IsDocument}
 use Rattle.desk_app.specs.Outcomes.{status_of, is_unread}
 
@@ -30,6 +30,7 @@ pub few_with_document : (outcome : Outcome) (text : List ℕ) → IsDocument out
 few_with_document (Planned answer) text is = omega (arith, (head_status answer.head).low)
 few_with_document (Swapped swapped) text is = omega arith
 few_with_document (Replanned rest) text is = omega (arith, (head_status rest.replanned.head).low)
+few_with_document (PlannedWeek week) text is = omega (arith, (head_status week.head).low)
 few_with_document Stops text is = omega arith
 few_with_document Usage text is = omega arith
 few_with_document (Refused file) text is = omega arith
@@ -55,6 +56,8 @@ unread_is_five (Planned answer) =
 unread_is_five (Replanned rest) =
     let low = (head_status rest.replanned.head).low in inr (refl, λ five. omega (arith, low, five), λ six. omega (arith, low, six))
 unread_is_five (Swapped swapped) = inr (refl, λ five. omega (arith, five), λ six. omega (arith, six))
+unread_is_five (PlannedWeek week) =
+    let low = (head_status week.head).low in inr (refl, λ five. omega (arith, low, five), λ six. omega (arith, low, six))
 unread_is_five Stops = inr (refl, λ five. omega (arith, five), λ six. omega (arith, six))
 unread_is_five Usage = inr (refl, λ five. omega (arith, five), λ six. omega (arith, six))
 unread_is_five (Refused file) = inr (refl, λ five. omega (arith, five), λ six. omega (arith, six))

@@ -5,11 +5,12 @@ use Rattle.day_files.specs.Lines.{file_refused_alone_line, file_unread_line, lin
 use Rattle.day_files.specs.Texts.{refusal_file}
 use Rattle.answer_text.specs.Texts.{text_of}
 use Rattle.replan_text.specs.ReplanLines.{document_of}
+use Rattle.week_text.specs.WeekLines.{week_text}
 use Rattle.desk_app.specs.declared.files.DeskFile.{DeskFile}
 use Rattle.desk_app.specs.declared.files.DeskFile.TheVariants.{OfTable}
 use Rattle.desk_app.specs.declared.outcome.Outcome.{Outcome}
-use Rattle.desk_app.specs.declared.outcome.Outcome.TheVariants.{Planned, Swapped, Replanned, Stops, Usage}
-use Rattle.desk_app.specs.declared.outcome.Outcome.TheVariants.{Refused, CannotRead, NoMemory}
+use Rattle.desk_app.specs.declared.outcome.Outcome.TheVariants.{Planned, Swapped, Replanned, PlannedWeek, Stops}
+use Rattle.desk_app.specs.declared.outcome.Outcome.TheVariants.{Usage, Refused, CannotRead, NoMemory}
 use Rattle.desk_app.specs.FileNames.{name_of}
 use Rattle.desk_app.specs.SwapTexts.{swapped_text}
 
@@ -38,6 +39,7 @@ abbrev pub IsDocument : Outcome → List ℕ → Type 0
 IsDocument (Planned answer) text = text ≡ text_of answer
 IsDocument (Swapped swapped) text = text ≡ swapped_text swapped
 IsDocument (Replanned rest) text = text ≡ document_of rest.later.numbers.items rest.replanned
+IsDocument (PlannedWeek week) text = text ≡ week_text week
 IsDocument Stops text = text ≡ stops_line
 IsDocument Usage text = text ≡ usage_line
 IsDocument (Refused file) text = text ≡ refused_line file

@@ -3,16 +3,19 @@ pub mod Outcomes
 pub mod PlanOutcomes
 pub mod SwapOutcomes
 pub mod ReplanOutcomes
+pub mod WeekOutcomes
 pub mod ReadErrors
--- what the files say of urgent units
+-- what the files say of urgent units, of cancelled trips and of weeks
 pub mod FileNames
 pub mod Wished
 pub mod Cancelled
+pub mod WeekDays
 -- its document, and the status that it ends with
 pub mod Documents
 pub mod SwapTexts
 pub mod Statuses
 pub mod SwapEndings
 pub mod ReplanEndings
+pub mod WeekEndings
 -- how far a search has come, in words
 pub mod ProgressTexts

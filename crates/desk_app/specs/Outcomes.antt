@@ -7,13 +7,15 @@ use Rattle.desk_commands.specs.declared.command.Command.TheVariants as command
 use Rattle.desk_commands.specs.declared.planning.Planning.{Planning}
 use Rattle.desk_commands.specs.declared.replanning.Replanning.{Replanning}
 use Rattle.desk_commands.specs.declared.swapping.Swapping.{Swapping}
+use Rattle.desk_commands.specs.declared.week_planning.WeekPlanning.{WeekPlanning}
 use Rattle.desk_commands.specs.PlainForm.{IsPlainForm}
 use Rattle.desk_app.specs.declared.outcome.Outcome.{Outcome}
-use Rattle.desk_app.specs.declared.outcome.Outcome.TheVariants.{Planned, Swapped, Replanned, Stops, Usage}
-use Rattle.desk_app.specs.declared.outcome.Outcome.TheVariants.{Refused, CannotRead, NoMemory}
+use Rattle.desk_app.specs.declared.outcome.Outcome.TheVariants.{Planned, Swapped, Replanned, PlannedWeek, Stops}
+use Rattle.desk_app.specs.declared.outcome.Outcome.TheVariants.{Usage, Refused, CannotRead, NoMemory}
 use Rattle.desk_app.specs.PlanOutcomes.{IsPlanOutcome}
 use Rattle.desk_app.specs.ReplanOutcomes.{IsReplanOutcome}
 use Rattle.desk_app.specs.SwapOutcomes.{IsSwapOutcome}
+use Rattle.desk_app.specs.WeekOutcomes.{IsWeekOutcome}
 
 -- ---- what the words ask for
 
@@ -28,6 +30,10 @@ AskToSwap words swapping = IsPlainForm words (command.Urgent swapping)
 -- to plan the rest of a disturbed day
 abbrev pub AskToReplan : List (List ℕ) → Replanning → Type 0
 AskToReplan words replanning = IsPlainForm words (command.Replan replanning)
+
+-- to plan a week
+abbrev pub AskForWeek : List (List ℕ) → WeekPlanning → Type 0
+AskForWeek words planning = IsPlainForm words (command.Week planning)
 
 -- the words are the plain form of no command
 abbrev pub AskInVain : List (List ℕ) → Type 0
@@ -44,6 +50,8 @@ ComesTo holds may_fail faults taken (command.Urgent swapping) before after outco
     IsSwapOutcome holds may_fail faults taken swapping.dir before after outcome
 ComesTo holds may_fail faults taken (command.Replan replanning) before after outcome =
     IsReplanOutcome holds may_fail faults taken replanning before after outcome
+ComesTo holds may_fail faults taken (command.Week planning) before after outcome =
+    IsWeekOutcome holds may_fail faults taken planning before after outcome
 
 -- A run of these words comes to this: their command came to it; or they ask for no command, and are not understood; or
 -- memory ran out before they were read.
@@ -62,6 +70,7 @@ abbrev pub status_of : Outcome → ℕ
 status_of (Planned answer) = status_said answer.head
 status_of (Swapped swapped) = 0
 status_of (Replanned rest) = status_said rest.replanned.head
+status_of (PlannedWeek week) = status_said week.head
 status_of Stops = 1
 status_of Usage = 2
 status_of (Refused file) = 3

@@ -1,4 +1,5 @@
-//! The document of an outcome: an answer, a plan with units swapped, the answer to a disturbed day, or one line.
+//! The document of an outcome: an answer, a plan with units swapped, the answer to a disturbed day or to a week, or one
+//! line.
 
 ghost use Rattle.std.specs.Prelude.{◌≡◌, IfOk, string_bytes};
 ghost use Rattle.desk_app.specs.Documents.{IsDocument, refused_line, stops_line, unread_line, usage_line};
@@ -11,9 +12,11 @@ use day_files::{file_refused_alone_line, file_unread_line};
 use rail_base::NoMemory;
 use replan_text::print_replanned;
 use std::alloc::Global;
+use week_text::print_week;
 
-/// The document that a run writes for its outcome: the text of an answer, of a plan with units swapped, or of
-/// the answer to a disturbed day, or one line with its line feed. There is none for want of memory, which is the error.
+/// The document that a run writes for its outcome: the text of an answer, of a plan with units swapped, or of the
+/// answer to a disturbed day or to a week, or one line with its line feed. There is none for want of memory, which is
+/// the error.
 pub fn document(alloc: Global, outcome: Outcome) -> Result<Vec<u8>, NoMemory>
     ensures { IfOk result (λ text. IsDocument outcome text.items) }
 {
@@ -23,6 +26,7 @@ pub fn document(alloc: Global, outcome: Outcome) -> Result<Vec<u8>, NoMemory>
         Outcome::Replanned(PlannedRest { later, replanned }) => {
             print_replanned(alloc, &later, replanned)
         }
+        Outcome::PlannedWeek(week) => print_week(alloc, &week),
         Outcome::Stops => Ok(stops_line(alloc)?.into_bytes()),
         Outcome::Usage => Ok(usage_line(alloc)?.into_bytes()),
         Outcome::Refused(file) => refused_line(alloc, file),

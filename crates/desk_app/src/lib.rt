@@ -12,6 +12,7 @@ mod run;
 mod swapped_text;
 mod swapping;
 mod top;
+mod week_planning;
 
 pub use files::DeskFile;
 pub use outcome::{Outcome, PlannedRest};

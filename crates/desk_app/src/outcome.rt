@@ -2,15 +2,20 @@
 
 ghost use Rattle.std.specs.Prelude.{◌≡◌};
 ghost use Rattle.desk_app.specs.Outcomes.{status_of};
+ghost use Rattle.desk_app.specs.WeekDays.{fault_file};
 
 use crate::files::DeskFile;
 use answer_text::Answer;
 use cancellations::Later;
 use day_files::ReadError;
+use rail_csv::Table;
 use replan::Replanned;
 use run_documents::status_said;
 use statuses::{FAILURE, NO_MEMORY, REFUSED, SUCCESS, UNREAD, USAGE};
 use urgent_units::Swapped;
+use week_files::DayError;
+use week_plan::Week;
+use week_units::WeekRefusal;
 
 /// The rest of a disturbed day, planned.
 #[derive(Drop)]
@@ -31,6 +36,8 @@ pub enum Outcome {
     Swapped(Swapped),
     /// The rest of the day is planned, and this is the answer to it.
     Replanned(PlannedRest),
+    /// The days of a week are planned, and this is the answer to it.
+    PlannedWeek(Week),
     /// The plan doesn't run.
     Stops,
     /// The words are not understood.
@@ -58,6 +65,52 @@ impl From<ReadError> for Outcome {
     }
 }
 
+impl From<DayError> for Outcome {
+    ghost use Rattle.std.specs.Prelude.{◌≡◌};
+    ghost use Rattle.desk_app.specs.WeekOutcomes.{outcome_of_day_error};
+
+    ghost from_gives = { λ error outcome. outcome ≡ outcome_of_day_error error };
+
+    fn from(error: DayError) -> Outcome {
+        let day = error.day;
+        match error.error {
+            ReadError::Refused(refusal) => Outcome::Refused(DeskFile::OfDay(day, refusal.table())),
+            ReadError::CannotRead(table) => Outcome::CannotRead(DeskFile::OfDay(day, table)),
+            ReadError::NoMemory => Outcome::NoMemory,
+        }
+    }
+}
+
+impl From<WeekRefusal> for Outcome {
+    ghost use Rattle.std.specs.Prelude.{◌≡◌};
+    ghost use Rattle.desk_app.specs.WeekOutcomes.{outcome_of_fault};
+
+    ghost from_gives = { λ fault outcome. outcome ≡ outcome_of_fault fault };
+
+    fn from(fault: WeekRefusal) -> Outcome {
+        match fault_file(&fault) {
+            Some(file) => Outcome::Refused(file),
+            None => Outcome::NoMemory,
+        }
+    }
+}
+
+/// The file that tells why days make no week: one of the day that doesn't go on from the day before, and where a trip
+/// is late, that of the trips of the day before. Want of memory tells of none.
+fn fault_file(fault: &WeekRefusal) -> Option<DeskFile>
+    ensures { result ≡ fault_file fault.now }
+{
+    match *fault {
+        WeekRefusal::TypesDiffer(day) => Some(DeskFile::OfDay(day, Table::Types)),
+        WeekRefusal::StationsDiffer(day) => Some(DeskFile::OfDay(day, Table::Stations)),
+        WeekRefusal::NightDiffers { day, .. } => Some(DeskFile::OfDay(day, Table::Stock)),
+        WeekRefusal::LateTrip { day, .. } => {
+            Some(DeskFile::OfDay(day.saturating_sub(1), Table::Trips))
+        }
+        WeekRefusal::NoMemory => None,
+    }
+}
+
 impl Outcome {
     /// The status of an outcome whose document was written, and of want of memory.
     pub fn status(&self) -> u8
@@ -67,6 +120,7 @@ impl Outcome {
             Outcome::Planned(answer) => status_said(answer.head),
             Outcome::Swapped(_) => SUCCESS,
             Outcome::Replanned(rest) => status_said(rest.replanned.head),
+            Outcome::PlannedWeek(week) => status_said(week.head),
             Outcome::Stops => FAILURE,
             Outcome::Usage => USAGE,
             Outcome::Refused(_) => REFUSED,

@@ -2,15 +2,16 @@
 
 ghost use Rattle.std.specs.Prelude.{ℕ, true, ◌≡◌, ◌≤◌, ◌^◌, All, List};
 ghost use Rattle.rail_io.specs.Folders.{OnlyReads, faults_after};
-ghost use Rattle.desk_commands.specs.declared.planning.Planning.{Planning};
-ghost use Rattle.desk_commands.specs.declared.replanning.Replanning.{Replanning};
-ghost use Rattle.desk_app.specs.Outcomes.{AskInVain, AskToPlan, AskToReplan, IsOutcome, is_unread};
-ghost use Rattle.desk_app.specs.Statuses.{AreAskedFor, LeavesAdvisors};
+ghost use Rattle.desk_commands.specs.declared.command.Command.{Command};
+ghost use Rattle.desk_commands.specs.PlainForm.{IsPlainForm};
+ghost use Rattle.desk_app.specs.Outcomes.{AskInVain, IsOutcome, is_unread};
+ghost use Rattle.desk_app.specs.Statuses.{AreAskedFor, LeavesAdvisors, rounds_of};
 
 use crate::outcome::Outcome;
 use crate::planning::planned;
 use crate::replanning::replanned;
 use crate::swapping::swapped;
+use crate::week_planning::planned_week;
 use advisors::Advisor;
 use day_improver::Watcher;
 use desk_commands::{Command, read_words};
@@ -35,10 +36,8 @@ pub(crate) fn outcome_of<F: Folder, W: Watcher>(
 
     // The advisors.
     ensures advisors { LeavesAdvisors words.now advisors.old.items advisors.new.items identity asked has_quit }
-    ensures asked_for { (planning : Planning) → AskToPlan words.now planning
-        → AreAskedFor planning.rounds result advisors.old.items advisors.new.items asked has_quit }
-    ensures asked_for_rest { (replanning : Replanning) → AskToReplan words.now replanning
-        → AreAskedFor replanning.rounds result advisors.old.items advisors.new.items asked has_quit }
+    ensures asked_for { (named : Command) → IsPlainForm words.now named
+        → AreAskedFor (rounds_of named) result advisors.old.items advisors.new.items asked has_quit }
 
     // The folder.
     ensures only_reads { OnlyReads F.holds F.may_fail F.faults F.taken folder.old folder.new }
@@ -50,6 +49,7 @@ pub(crate) fn outcome_of<F: Folder, W: Watcher>(
         Ok(Command::Plan(planning)) => planned(alloc, folder, &planning, advisors, watcher),
         Ok(Command::Urgent(swapping)) => swapped(alloc, folder, swapping.dir.as_str()),
         Ok(Command::Replan(replanning)) => replanned(alloc, folder, &replanning, advisors),
+        Ok(Command::Week(planning)) => planned_week(alloc, folder, &planning, advisors),
         Err(WordsRefusal::NotUnderstood) => Outcome::Usage,
         Err(WordsRefusal::NoMemory) => Outcome::NoMemory,
     }

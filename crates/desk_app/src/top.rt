@@ -4,16 +4,20 @@ ghost use Rattle.std.specs.Prelude.{ℕ, true, List, ◌≡◌, ◌≤◌, ◌^�
 ghost use Rattle.rail_io.specs.Folders.{Files, faults_after};
 ghost use Rattle.statuses.specs.Written.{CountsFailedWrites, IsStatus, IsUndisturbed};
 ghost use Rattle.run_documents.specs.Planning.{EndsPlanning};
+ghost use Rattle.desk_commands.specs.declared.command.Command.{Command};
 ghost use Rattle.desk_commands.specs.declared.planning.Planning.{Planning};
 ghost use Rattle.desk_commands.specs.declared.replanning.Replanning.{Replanning};
 ghost use Rattle.desk_commands.specs.declared.swapping.Swapping.{Swapping};
+ghost use Rattle.desk_commands.specs.declared.week_planning.WeekPlanning.{WeekPlanning};
+ghost use Rattle.desk_commands.specs.PlainForm.{IsPlainForm};
 ghost use Rattle.desk_app.specs.declared.outcome.Outcome.{Outcome};
 ghost use Rattle.desk_app.specs.Documents.{table_refused_line};
-ghost use Rattle.desk_app.specs.Outcomes.{AskToPlan, AskToReplan, AskToSwap, IsOutcome, is_unread};
+ghost use Rattle.desk_app.specs.Outcomes.{AskForWeek, AskToPlan, AskToReplan, AskToSwap, IsOutcome, is_unread};
 ghost use Rattle.desk_app.specs.ReplanEndings.{EndsReplanning};
 ghost use Rattle.desk_app.specs.Statuses.{AreAskedFor, EndsInUsage, LeavesAdvisors, LeavesFolder};
-ghost use Rattle.desk_app.specs.Statuses.{LeavesSink, WroteOutcome};
+ghost use Rattle.desk_app.specs.Statuses.{LeavesSink, WroteOutcome, rounds_of};
 ghost use Rattle.desk_app.specs.SwapEndings.{EndsSwapping};
+ghost use Rattle.desk_app.specs.WeekEndings.{EndsWeek};
 
 use crate::document::document;
 use crate::outcome::Outcome;
@@ -58,15 +62,22 @@ fn write_outcome<K: Sink>(alloc: Global, outcome: Outcome, out: &mut K) -> u8
 ///   planned costs W more, nothing where no W is given, and what the answer says of the price is true of every such
 ///   plan. The advisors are asked in at most K rounds at each node, in 20 where no K is given, and the improver may take
 ///   E bounds at the root; it is not asked where no E is given.
+/// - `week DIR DAYS --nodes N --rounds K --evaluations E` reads the tables of DAYS days, at most seven, in DIR/1, DIR/2
+///   and so on; of each day all files, before those of the next. Where each day goes on from the day before, it plans
+///   each by a search of its own, with N, K and E as in `replan`, and writes the answers to the days and what they say
+///   together of all week plans, whose units keep their numbers all week; and where there is a plan, which unit of the
+///   week each unit of a day is.
 ///
 /// The statuses:
 ///
 /// - 0 comes exactly where the files that the command reads are accepted, and the answer found is optimal, to the day
-///   or to the rest of it, or the plan runs whose units are to be swapped.
+///   or to the rest of it or to the week, or the plan runs whose units are to be swapped.
 /// - 1 comes exactly where the tables are accepted and the answer found is infeasible, or where they and the plan are
 ///   accepted and the plan doesn't run: then the line `stops` is written, and no file is read after that of the plan.
 /// - 2 comes exactly where the words are no command; the line `usage` is written.
-/// - 3 comes exactly where a file is refused; the line `refused FILE` is written.
+/// - 3 comes exactly where a file is refused; the line `refused FILE` is written. Where days make no week, that is the
+///   file of the day which doesn't go on from the day before, as `2/stock.csv`, or the trips of the day before, where
+///   one of them is late.
 /// - 4 comes exactly where the tables are accepted, and the answer found is bounded: all granted branchings were made,
 ///   and a leaf is open.
 /// - 5 comes only where the folder's count of faults rose in this call, or stands at its last value, 2^64 - 1; the line
@@ -91,8 +102,8 @@ pub fn raildesk<F: Folder, K: Sink>(
 ) -> u8
     requires asked { All (λ advisor. asked advisor ≤ 2 ^ 62) advisors.old.items }
 
-    // The headline, how units are swapped, how the rest of a day is planned, and the status of words that are no
-    // command, where the status is none of 5, 6 and 7.
+    // The headline, how units are swapped, how the rest of a day and how a week is planned, and the status of words
+    // that are no command, where the status is none of 5, 6 and 7.
     ensures plan { (files : Files) (planning : Planning) → F.holds folder.old ≡ Some files
         → AskToPlan words.now planning → IsUndisturbed result
         → EndsPlanning table_refused_line files planning.dir planning.nodes result (K.written out.old)
@@ -103,6 +114,9 @@ pub fn raildesk<F: Folder, K: Sink>(
     ensures replan { (files : Files) (replanning : Replanning) → F.holds folder.old ≡ Some files
         → AskToReplan words.now replanning → IsUndisturbed result
         → EndsReplanning files replanning result (K.written out.old) (K.written out.new) }
+    ensures week { (files : Files) (planning : WeekPlanning) → F.holds folder.old ≡ Some files
+        → AskForWeek words.now planning → IsUndisturbed result
+        → EndsWeek files planning result (K.written out.old) (K.written out.new) }
     ensures usage { IsUndisturbed result → EndsInUsage words.now result (K.written out.old) (K.written out.new) }
     ensures statuses { IsStatus result }
 
@@ -113,10 +127,8 @@ pub fn raildesk<F: Folder, K: Sink>(
         × WroteOutcome outcome result (K.written out.old) (K.written out.new) (K.faults out.old) (K.faults out.new)
         × (F.counts_failed ≡ true
         → F.faults folder.new ≡ faults_after (is_unread outcome) (F.faults folder.old))
-        × ((planning : Planning) → AskToPlan words.now planning
-        → AreAskedFor planning.rounds outcome advisors.old.items advisors.new.items asked has_quit)
-        × ((replanning : Replanning) → AskToReplan words.now replanning
-        → AreAskedFor replanning.rounds outcome advisors.old.items advisors.new.items asked has_quit) }
+        × ((named : Command) → IsPlainForm words.now named
+        → AreAskedFor (rounds_of named) outcome advisors.old.items advisors.new.items asked has_quit) }
 
     // How the folder, the sink and the advisors are left, whatever the status is.
     ensures folder { LeavesFolder F.holds F.may_fail F.faults F.taken F.counts_failed words.now result folder.old
@@ -140,8 +152,8 @@ pub fn raildesk_watched<F: Folder, K: Sink, W: Watcher>(
 ) -> u8
     requires asked { All (λ advisor. asked advisor ≤ 2 ^ 62) advisors.old.items }
 
-    // The headline, how units are swapped, how the rest of a day is planned, and the status of words that are no
-    // command, where the status is none of 5, 6 and 7.
+    // The headline, how units are swapped, how the rest of a day and how a week is planned, and the status of words
+    // that are no command, where the status is none of 5, 6 and 7.
     ensures plan { (files : Files) (planning : Planning) → F.holds folder.old ≡ Some files
         → AskToPlan words.now planning → IsUndisturbed result
         → EndsPlanning table_refused_line files planning.dir planning.nodes result (K.written out.old)
@@ -152,6 +164,9 @@ pub fn raildesk_watched<F: Folder, K: Sink, W: Watcher>(
     ensures replan { (files : Files) (replanning : Replanning) → F.holds folder.old ≡ Some files
         → AskToReplan words.now replanning → IsUndisturbed result
         → EndsReplanning files replanning result (K.written out.old) (K.written out.new) }
+    ensures week { (files : Files) (planning : WeekPlanning) → F.holds folder.old ≡ Some files
+        → AskForWeek words.now planning → IsUndisturbed result
+        → EndsWeek files planning result (K.written out.old) (K.written out.new) }
     ensures usage { IsUndisturbed result → EndsInUsage words.now result (K.written out.old) (K.written out.new) }
     ensures statuses { IsStatus result }
 
@@ -162,10 +177,8 @@ pub fn raildesk_watched<F: Folder, K: Sink, W: Watcher>(
         × WroteOutcome outcome result (K.written out.old) (K.written out.new) (K.faults out.old) (K.faults out.new)
         × (F.counts_failed ≡ true
         → F.faults folder.new ≡ faults_after (is_unread outcome) (F.faults folder.old))
-        × ((planning : Planning) → AskToPlan words.now planning
-        → AreAskedFor planning.rounds outcome advisors.old.items advisors.new.items asked has_quit)
-        × ((replanning : Replanning) → AskToReplan words.now replanning
-        → AreAskedFor replanning.rounds outcome advisors.old.items advisors.new.items asked has_quit) }
+        × ((named : Command) → IsPlainForm words.now named
+        → AreAskedFor (rounds_of named) outcome advisors.old.items advisors.new.items asked has_quit) }
 
     // How the folder, the sink and the advisors are left, whatever the status is.
     ensures folder { LeavesFolder F.holds F.may_fail F.faults F.taken F.counts_failed words.now result folder.old

@@ -2,13 +2,13 @@
 use Rattle.std.proofs.Common.{◌≡◌, ℕ, ◌≤◌, Bool, List, [], ◌∷◌, Some, None, ap, refl, sym, subst, get_or, ◌∙◌, arith}
 use Rattle.std.specs.Prelude.{codes}
 use Rattle.rail_base.specs.declared.limits.TheConstants.{MOST_BRANCHINGS, MOST_CHANGE, MOST_ROUNDS}
-use Rattle.rail_csv.specs.Fields.{time_of}
+use Rattle.rail_csv.specs.Fields.{number_of, time_of}
 use Rattle.plain_words.specs.Items.{Form, IsPlain, Item, WordList, values_in}
 use Rattle.plain_words.specs.Numbers.{IsOption}
 use Rattle.plain_words.specs.Reading.{items_from}
 use Rattle.plain_words.proofs.Made.{taken}
 use Rattle.desk_commands.specs.declared.command.Command.{Command}
-use Rattle.desk_commands.specs.declared.command.Command.TheVariants.{Plan, Replan, Urgent}
+use Rattle.desk_commands.specs.declared.command.Command.TheVariants.{Plan, Replan, Urgent, Week}
 use Rattle.desk_commands.specs.declared.planning.Planning.{Planning}
 use Rattle.desk_commands.specs.declared.planning.TheConstants.{MOST_EVALUATIONS, USUAL_EVALUATIONS_OF_PLAN}
 use Rattle.desk_commands.specs.declared.planning.TheConstants.{USUAL_NODES_OF_PLAN, USUAL_ROUNDS_OF_PLAN}
@@ -16,7 +16,10 @@ use Rattle.desk_commands.specs.declared.replanning.Replanning.{Replanning}
 use Rattle.desk_commands.specs.declared.replanning.TheConstants.{USUAL_CHANGE, USUAL_EVALUATIONS_OF_REPLAN}
 use Rattle.desk_commands.specs.declared.replanning.TheConstants.{USUAL_NODES_OF_REPLAN, USUAL_ROUNDS_OF_REPLAN}
 use Rattle.desk_commands.specs.declared.swapping.Swapping.{Swapping}
-use Rattle.desk_commands.specs.PlainForm.{IsMeant, IsPlainForm, IsPlanning, IsReplanning, IsSwapping}
+use Rattle.desk_commands.specs.declared.week_planning.WeekPlanning.{WeekPlanning}
+use Rattle.desk_commands.specs.declared.week_planning.TheConstants.{MOST_DAYS_OF_WEEK, USUAL_EVALUATIONS_OF_WEEK}
+use Rattle.desk_commands.specs.declared.week_planning.TheConstants.{USUAL_NODES_OF_WEEK, USUAL_ROUNDS_OF_WEEK}
+use Rattle.desk_commands.specs.PlainForm.{IsMeant, IsPlainForm, IsPlanning, IsReplanning, IsSwapping, IsWeekPlanning}
 use Rattle.desk_commands.specs.PlainForm.{command_word, form_for}
 
 -- words are of a form as one list of items at most
@@ -83,35 +86,68 @@ one_replanning_of items one other first second =
     (one_number USUAL_EVALUATIONS_OF_REPLAN MOST_EVALUATIONS (values_in (codes "--evaluations") items) one.evaluations other.evaluations
     first.evaluations second.evaluations)
 
--- the words of two commands that are of one length are told apart by their first letters
-swaps_or_replans : ◌≡◌ {A = List ℕ} (codes "urgent") (codes "replan") → ⊥
-swaps_or_replans same = let letters : get_or (codes "urgent") 0 0 ≡ get_or (codes "replan") 0 0 = ap (λ (word : List ℕ). get_or word 0 0) same in
-    omega (arith, letters)
+-- and the plannings of weeks of equal parts
+weeks_alike : (d d' : List ℕ) (m m' n n' k k' e e' : ℕ) → d ≡ d' → m ≡ m' → n ≡ n' → k ≡ k' → e ≡ e'
+    → ◌≡◌ {A = WeekPlanning} (record { dir = d; days = m; nodes = n; rounds = k; evaluations = e })
+    (record { dir = d'; days = m'; nodes = n'; rounds = k'; evaluations = e' })
+weeks_alike d d' m m' n n' k k' e e' dirs days nodes rounds evaluations = cc
 
--- items mean one command of a word at most
-one_meant : (items : List Item) (one other : Command) → command_word one ≡ command_word other → IsMeant items one → IsMeant items other
-    → one ≡ other
-one_meant items (Plan one) (Plan other) words first second = ap Plan (one_planning_of items one other first second)
-one_meant items (Plan one) (Urgent other) words first second = absurd cc
-one_meant items (Urgent one) (Plan other) words first second = absurd cc
-one_meant items (Urgent one) (Urgent other) words first second = ap Urgent (one_swapping_of items one other first second)
-one_meant items (Plan one) (Replan other) words first second = absurd cc
-one_meant items (Urgent one) (Replan other) words first second = absurd (swaps_or_replans words)
-one_meant items (Replan one) (Plan other) words first second = absurd cc
-one_meant items (Replan one) (Urgent other) words first second = absurd (swaps_or_replans (sym words))
-one_meant items (Replan one) (Replan other) words first second = ap Replan (one_replanning_of items one other first second)
+one_week_planning_of : (items : List Item) (one other : WeekPlanning) → IsWeekPlanning items one → IsWeekPlanning items other → one ≡ other
+one_week_planning_of items one other first second =
+    let places : ◌≡◌ {A = List (List ℕ)} (one.dir ∷ first.number ∷ []) (other.dir ∷ second.number ∷ []) = sym first.places ∙ second.places in
+    let dir : one.dir ≡ other.dir = cc in
+    let number : first.number ≡ second.number = cc in
+    let days : one.days ≡ other.days = sym first.days.spelled ∙ ap number_of number ∙ second.days.spelled in
+    weeks_alike one.dir other.dir one.days other.days one.nodes other.nodes one.rounds other.rounds one.evaluations other.evaluations
+    dir days
+    (one_number USUAL_NODES_OF_WEEK MOST_BRANCHINGS (values_in (codes "--nodes") items) one.nodes other.nodes first.nodes second.nodes)
+    (one_number USUAL_ROUNDS_OF_WEEK MOST_ROUNDS (values_in (codes "--rounds") items) one.rounds other.rounds first.rounds second.rounds)
+    (one_number USUAL_EVALUATIONS_OF_WEEK MOST_EVALUATIONS (values_in (codes "--evaluations") items) one.evaluations other.evaluations
+    first.evaluations second.evaluations)
 
--- commands of one word have one form
-one_form : (one other : Command) → command_word one ≡ command_word other → form_for one ≡ form_for other
-one_form (Plan one) (Plan other) words = refl
-one_form (Plan one) (Urgent other) words = absurd cc
-one_form (Urgent one) (Plan other) words = absurd cc
-one_form (Urgent one) (Urgent other) words = refl
-one_form (Plan one) (Replan other) words = absurd cc
-one_form (Urgent one) (Replan other) words = absurd (swaps_or_replans words)
-one_form (Replan one) (Plan other) words = absurd cc
-one_form (Replan one) (Urgent other) words = absurd (swaps_or_replans (sym words))
-one_form (Replan one) (Replan other) words = refl
+-- two commands of one kind
+data AreOfOneKind : Command → Command → Type 0 where
+  BothPlan : {one other : Planning} → AreOfOneKind (Plan one) (Plan other)
+  BothUrgent : {one other : Swapping} → AreOfOneKind (Urgent one) (Urgent other)
+  BothReplan : {one other : Replanning} → AreOfOneKind (Replan one) (Replan other)
+  BothWeek : {one other : WeekPlanning} → AreOfOneKind (Week one) (Week other)
+
+-- words that differ in their first letters differ
+letters : (one other : List ℕ) → one ≡ other → get_or one 0 0 ≡ get_or other 0 0
+letters one other words = ap (λ (word : List ℕ). get_or word 0 0) words
+
+-- commands of one word are of one kind
+one_kind : (one other : Command) → command_word one ≡ command_word other → AreOfOneKind one other
+one_kind (Plan one) (Plan other) words = BothPlan
+one_kind (Plan one) (Urgent other) words = absurd (omega (arith, letters (codes "plan") (codes "urgent") words))
+one_kind (Plan one) (Replan other) words = absurd (omega (arith, letters (codes "plan") (codes "replan") words))
+one_kind (Plan one) (Week other) words = absurd (omega (arith, letters (codes "plan") (codes "week") words))
+one_kind (Urgent one) (Plan other) words = absurd (omega (arith, letters (codes "urgent") (codes "plan") words))
+one_kind (Urgent one) (Urgent other) words = BothUrgent
+one_kind (Urgent one) (Replan other) words = absurd (omega (arith, letters (codes "urgent") (codes "replan") words))
+one_kind (Urgent one) (Week other) words = absurd (omega (arith, letters (codes "urgent") (codes "week") words))
+one_kind (Replan one) (Plan other) words = absurd (omega (arith, letters (codes "replan") (codes "plan") words))
+one_kind (Replan one) (Urgent other) words = absurd (omega (arith, letters (codes "replan") (codes "urgent") words))
+one_kind (Replan one) (Replan other) words = BothReplan
+one_kind (Replan one) (Week other) words = absurd (omega (arith, letters (codes "replan") (codes "week") words))
+one_kind (Week one) (Plan other) words = absurd (omega (arith, letters (codes "week") (codes "plan") words))
+one_kind (Week one) (Urgent other) words = absurd (omega (arith, letters (codes "week") (codes "urgent") words))
+one_kind (Week one) (Replan other) words = absurd (omega (arith, letters (codes "week") (codes "replan") words))
+one_kind (Week one) (Week other) words = BothWeek
+
+-- items mean one command of a kind at most
+one_meant : {one other : Command} (items : List Item) → AreOfOneKind one other → IsMeant items one → IsMeant items other → one ≡ other
+one_meant items BothPlan first second = ap Plan (one_planning_of items _ _ first second)
+one_meant items (BothUrgent {one} {other}) first second = ap Urgent (one_swapping_of items one other first second)
+one_meant items BothReplan first second = ap Replan (one_replanning_of items _ _ first second)
+one_meant items BothWeek first second = ap Week (one_week_planning_of items _ _ first second)
+
+-- commands of one kind have one form
+one_form : {one other : Command} → AreOfOneKind one other → form_for one ≡ form_for other
+one_form BothPlan = refl
+one_form BothUrgent = refl
+one_form BothReplan = refl
+one_form BothWeek = refl
 
 pub one_command : (words : WordList) (one other : Command) → IsPlainForm words one → IsPlainForm words other → one ≡ other
 one_command words one other first second =
@@ -119,12 +155,13 @@ one_command words one other first second =
     sym first.written ∙ second.written in
     let rest : first.rest ≡ second.rest = cc in
     let word : command_word one ≡ command_word other = cc in
-    let form : form_for one ≡ form_for other = one_form one other word in
+    let kind : AreOfOneKind one other = one_kind one other word in
+    let form : form_for one ≡ form_for other = one_form kind in
     let moved : IsPlain (form_for other) second.rest first.items =
     subst (λ (form : Form). IsPlain form second.rest first.items) form
     (subst (λ (words : WordList). IsPlain (form_for one) words first.items) rest first.plain) in
     let items : second.items ≡ first.items = one_list (form_for other) second.rest second.items first.items second.plain moved in
-    one_meant first.items one other word first.meant (subst (λ (items : List Item). IsMeant items other) items second.meant)
+    one_meant first.items kind first.meant (subst (λ (items : List Item). IsMeant items other) items second.meant)
 
 pub one_planning : (words : WordList) (one other : Planning) → IsPlainForm words (Plan one) → IsPlainForm words (Plan other) → one ≡ other
 one_planning words one other first second =
@@ -137,6 +174,10 @@ one_swapping words one other first second =
 pub one_replanning : (words : WordList) (one other : Replanning) → IsPlainForm words (Replan one) → IsPlainForm words (Replan other) → one ≡ other
 one_replanning words one other first second =
     let both : Replan one ≡ Replan other = one_command words (Replan one) (Replan other) first second in cc
+
+pub one_week_planning : (words : WordList) (one other : WeekPlanning) → IsPlainForm words (Week one) → IsPlainForm words (Week other) → one ≡ other
+one_week_planning words one other first second =
+    let both : Week one ≡ Week other = one_command words (Week one) (Week other) first second in cc
 
 -- ---- what may be granted
 
@@ -164,3 +205,17 @@ pub replan_rounds_within : (words : WordList) (replanning : Replanning) → IsPl
     → replanning.rounds ≤ MOST_ROUNDS
 replan_rounds_within words replanning form =
     number_within USUAL_ROUNDS_OF_REPLAN MOST_ROUNDS _ replanning.rounds (omega arith) form.meant.rounds
+
+pub week_days_within : (words : WordList) (planning : WeekPlanning) → IsPlainForm words (Week planning)
+    → planning.days ≤ MOST_DAYS_OF_WEEK
+week_days_within words planning form = form.meant.days.limit
+
+pub week_nodes_within : (words : WordList) (planning : WeekPlanning) → IsPlainForm words (Week planning)
+    → planning.nodes ≤ MOST_BRANCHINGS
+week_nodes_within words planning form =
+    number_within USUAL_NODES_OF_WEEK MOST_BRANCHINGS _ planning.nodes (omega arith) form.meant.nodes
+
+pub week_rounds_within : (words : WordList) (planning : WeekPlanning) → IsPlainForm words (Week planning)
+    → planning.rounds ≤ MOST_ROUNDS
+week_rounds_within words planning form =
+    number_within USUAL_ROUNDS_OF_WEEK MOST_ROUNDS _ planning.rounds (omega arith) form.meant.rounds

@@ -7,6 +7,8 @@ use Rattle.desk_commands.specs.declared.planning.TheConstants.{MOST_EVALUATIONS,
 use Rattle.desk_commands.specs.declared.planning.TheConstants.{USUAL_NODES_OF_PLAN, USUAL_ROUNDS_OF_PLAN}
 use Rattle.desk_commands.specs.declared.replanning.TheConstants.{USUAL_CHANGE, USUAL_EVALUATIONS_OF_REPLAN}
 use Rattle.desk_commands.specs.declared.replanning.TheConstants.{USUAL_NODES_OF_REPLAN, USUAL_ROUNDS_OF_REPLAN}
+use Rattle.desk_commands.specs.declared.week_planning.TheConstants.{MOST_DAYS_OF_WEEK, USUAL_EVALUATIONS_OF_WEEK}
+use Rattle.desk_commands.specs.declared.week_planning.TheConstants.{USUAL_NODES_OF_WEEK, USUAL_ROUNDS_OF_WEEK}
 use Rattle.desk_commands.specs.PlainForm.{IsPlainForm}
 
 -- words are the plain form of one command at most
@@ -14,7 +16,7 @@ abbrev pub WordsMakeOneCommand : Type 0
 WordsMakeOneCommand = (words : WordList) (one other : Command) → IsPlainForm words one → IsPlainForm words other
     → one ≡ other
 
--- the numbers in words, and options of `plan` and `replan` that are not given
+-- the numbers in words, and options that are not given
 pub record AreWordLimits : Type 0 where
   pub branchings : MOST_BRANCHINGS ≡ 4000
   pub rounds : MOST_ROUNDS ≡ 100
@@ -27,3 +29,7 @@ pub record AreWordLimits : Type 0 where
   pub usual_nodes_of_replan : USUAL_NODES_OF_REPLAN ≡ 200
   pub usual_rounds_of_replan : USUAL_ROUNDS_OF_REPLAN ≡ 20
   pub usual_evaluations_of_replan : USUAL_EVALUATIONS_OF_REPLAN ≡ 0
+  pub days_of_week : MOST_DAYS_OF_WEEK ≡ 7
+  pub usual_nodes_of_week : USUAL_NODES_OF_WEEK ≡ 200
+  pub usual_rounds_of_week : USUAL_ROUNDS_OF_WEEK ≡ 20
+  pub usual_evaluations_of_week : USUAL_EVALUATIONS_OF_WEEK ≡ 0

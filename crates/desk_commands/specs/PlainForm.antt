@@ -1,11 +1,11 @@
 -- The plain form: how a command is written as words.
-use Rattle.std.specs.Prelude.{ℕ, ◌≡◌, List, [], ◌∷◌, codes, nat_le}
+use Rattle.std.specs.Prelude.{ℕ, ◌≡◌, ◌≤◌, List, [], ◌∷◌, codes, nat_le}
 use Rattle.rail_base.specs.declared.limits.TheConstants.{MOST_BRANCHINGS, MOST_CHANGE, MOST_ROUNDS}
 use Rattle.rail_csv.specs.Spelling.{SpellsTime}
 use Rattle.plain_words.specs.Items.{Form, IsPlain, Item, WordList, positional_in, times, values_in}
-use Rattle.plain_words.specs.Numbers.{IsOption}
+use Rattle.plain_words.specs.Numbers.{IsNumber, IsOption}
 use Rattle.desk_commands.specs.declared.command.Command.{Command}
-use Rattle.desk_commands.specs.declared.command.Command.TheVariants.{Plan, Replan, Urgent}
+use Rattle.desk_commands.specs.declared.command.Command.TheVariants.{Plan, Replan, Urgent, Week}
 use Rattle.desk_commands.specs.declared.planning.Planning.{Planning}
 use Rattle.desk_commands.specs.declared.planning.TheConstants.{MOST_EVALUATIONS, USUAL_EVALUATIONS_OF_PLAN}
 use Rattle.desk_commands.specs.declared.planning.TheConstants.{USUAL_NODES_OF_PLAN, USUAL_ROUNDS_OF_PLAN}
@@ -13,6 +13,9 @@ use Rattle.desk_commands.specs.declared.replanning.Replanning.{Replanning}
 use Rattle.desk_commands.specs.declared.replanning.TheConstants.{USUAL_CHANGE, USUAL_EVALUATIONS_OF_REPLAN}
 use Rattle.desk_commands.specs.declared.replanning.TheConstants.{USUAL_NODES_OF_REPLAN, USUAL_ROUNDS_OF_REPLAN}
 use Rattle.desk_commands.specs.declared.swapping.Swapping.{Swapping}
+use Rattle.desk_commands.specs.declared.week_planning.WeekPlanning.{WeekPlanning}
+use Rattle.desk_commands.specs.declared.week_planning.TheConstants.{MOST_DAYS_OF_WEEK, USUAL_EVALUATIONS_OF_WEEK}
+use Rattle.desk_commands.specs.declared.week_planning.TheConstants.{USUAL_NODES_OF_WEEK, USUAL_ROUNDS_OF_WEEK}
 
 -- ---- what stands after the command word
 
@@ -35,10 +38,19 @@ replan_form = record {
   flags = [];
 }
 
+-- a folder, a number of days, and options
+abbrev pub week_form : Form
+week_form = record {
+  places = 2;
+  valued = codes "--nodes" ∷ codes "--rounds" ∷ codes "--evaluations" ∷ [];
+  flags = [];
+}
+
 abbrev pub form_for : Command → Form
 form_for (Plan planning) = plan_form
 form_for (Urgent swapping) = folder_form
 form_for (Replan replanning) = replan_form
+form_for (Week planning) = week_form
 
 -- ---- what it says
 
@@ -66,10 +78,22 @@ pub record IsReplanning (items : List Item) (replanning : Replanning) : Type 0 w
   pub evaluations : IsOption USUAL_EVALUATIONS_OF_REPLAN MOST_EVALUATIONS (values_in (codes "--evaluations") items)
       replanning.evaluations
 
+-- how a week is to be planned: its folder, its days, and what is granted
+pub record IsWeekPlanning (items : List Item) (planning : WeekPlanning) : Type 0 where
+  pub number : List ℕ
+  pub places : positional_in items ≡ planning.dir ∷ number ∷ []
+  pub days : IsNumber MOST_DAYS_OF_WEEK number planning.days
+  pub some : 1 ≤ planning.days
+  pub nodes : IsOption USUAL_NODES_OF_WEEK MOST_BRANCHINGS (values_in (codes "--nodes") items) planning.nodes
+  pub rounds : IsOption USUAL_ROUNDS_OF_WEEK MOST_ROUNDS (values_in (codes "--rounds") items) planning.rounds
+  pub evaluations : IsOption USUAL_EVALUATIONS_OF_WEEK MOST_EVALUATIONS (values_in (codes "--evaluations") items)
+      planning.evaluations
+
 abbrev pub IsMeant : List Item → Command → Type 0
 IsMeant items (Plan planning) = IsPlanning items planning
 IsMeant items (Urgent swapping) = IsSwapping items swapping
 IsMeant items (Replan replanning) = IsReplanning items replanning
+IsMeant items (Week planning) = IsWeekPlanning items planning
 
 -- ---- the command
 
@@ -77,6 +101,7 @@ abbrev pub command_word : Command → List ℕ
 command_word (Plan planning) = codes "plan"
 command_word (Urgent swapping) = codes "urgent"
 command_word (Replan replanning) = codes "replan"
+command_word (Week planning) = codes "week"
 
 -- The words are the plain form of the command: any word for the program's name, the command word, and after it words of
 -- the command's form, which mean it.

@@ -3,6 +3,7 @@
 use crate::planning::Planning;
 use crate::replanning::Replanning;
 use crate::swapping::Swapping;
+use crate::week_planning::WeekPlanning;
 
 /// What the planner's desk is asked to do.
 #[derive(Drop)]
@@ -13,4 +14,6 @@ pub enum Command {
     Urgent(Swapping),
     /// Plan the rest of the day of a folder, which is disturbed at a minute, so that it keeps what has happened.
     Replan(Replanning),
+    /// Plan the days of a week, each in a folder of its own.
+    Week(WeekPlanning),
 }

@@ -4,7 +4,7 @@
 
 ghost use Rattle.desk_commands.specs.Laws.{AreWordLimits, WordsMakeOneCommand};
 
-/// The limits of the numbers in words, and what an option of `plan` and of `replan` is that is not given, as numbers.
+/// The limits of the numbers in words, and what an option of a command is that is not given, as numbers.
 pub fn word_limits_are_these()
     ensures words { AreWordLimits }
 {}

@@ -7,9 +7,11 @@ pub mod planning;
 pub mod reading;
 pub mod replanning;
 pub mod swapping;
+pub mod week_planning;
 
 pub use command::Command;
 pub use planning::Planning;
 pub use reading::read_words;
 pub use replanning::Replanning;
 pub use swapping::Swapping;
+pub use week_planning::WeekPlanning;

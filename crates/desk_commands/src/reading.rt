@@ -3,8 +3,8 @@
 ghost use Rattle.std.specs.Prelude.{ℕ, List, ◌≡◌, ◌≤◌, IfOk, codes, length, map};
 ghost use Rattle.plain_words.specs.Commands.{Reads};
 ghost use Rattle.plain_words.specs.Items.{positional_in, times};
-ghost use Rattle.desk_commands.specs.PlainForm.{IsPlainForm, IsPlanning, IsReplanning, IsSwapping, folder_form};
-ghost use Rattle.desk_commands.specs.PlainForm.{plan_form, replan_form};
+ghost use Rattle.desk_commands.specs.PlainForm.{IsPlainForm, IsPlanning, IsReplanning, IsSwapping, IsWeekPlanning};
+ghost use Rattle.desk_commands.specs.PlainForm.{folder_form, plan_form, replan_form, week_form};
 ghost use Rattle.desk_commands.specs.Reading.{ReadsAs, ReadsCommand, SaysAs};
 
 use crate::command::Command;
@@ -17,7 +17,11 @@ use crate::replanning::{
     USUAL_ROUNDS_OF_REPLAN,
 };
 use crate::swapping::Swapping;
-use plain_words::{Form, GivenWords, Text, WordsRefusal, read_form, words_after};
+use crate::week_planning::{
+    MOST_DAYS_OF_WEEK, USUAL_EVALUATIONS_OF_WEEK, USUAL_NODES_OF_WEEK, USUAL_ROUNDS_OF_WEEK,
+    WeekPlanning,
+};
+use plain_words::{Form, GivenWords, Text, WordsRefusal, number, read_form, words_after};
 use rail_base::limits::{MOST_BRANCHINGS, MOST_CHANGE, MOST_ROUNDS};
 use rail_base::{NoMemory, Words};
 use rail_csv::time_of;
@@ -35,6 +39,8 @@ use std::alloc::Global;
 /// - `replan DIR NOW [--change W] [--nodes N] [--rounds K] [--evaluations E]`. NOW is a time: one or two digits of the
 ///   hour 0 to 47, a colon, and two digits of the minute. W is at most 1,000,000, and 0 where it is not given; N is at
 ///   most 4,000, and else 200; K is at most 100, and else 20; E is at most 100,000, and else 0.
+/// - `week DIR DAYS [--nodes N] [--rounds K] [--evaluations E]`. DAYS is a number from 1 to 7; N is at most 4,000, and
+///   200 where it is not given; K is at most 100, and else 20; E is at most 100,000, and else 0.
 ///
 /// `NotUnderstood` comes exactly where the words are not of this form; `NoMemory` is want of memory.
 pub fn read_words(alloc: Global, words: &Words) -> Result<Command, WordsRefusal>
@@ -55,6 +61,7 @@ fn command_of(alloc: Global, word: &str, rest: &[&str]) -> Result<Command, Words
         "plan" => plan(alloc, rest),
         "urgent" => urgent(alloc, rest),
         "replan" => replan(alloc, rest),
+        "week" => week(alloc, rest),
         _ => Err(WordsRefusal::NotUnderstood),
     }
 }
@@ -85,6 +92,16 @@ fn replan(alloc: Global, rest: &[&str]) -> Result<Command, WordsRefusal>
 {
     match replanning(alloc, rest)? {
         Some(replanning) => Ok(Command::Replan(replanning)),
+        None => Err(WordsRefusal::NotUnderstood),
+    }
+}
+
+/// The command `week` of the words after it.
+fn week(alloc: Global, rest: &[&str]) -> Result<Command, WordsRefusal>
+    ensures { ReadsCommand (codes "week") (map (λ word. word.now) rest.now) result }
+{
+    match week_planning(alloc, rest)? {
+        Some(planning) => Ok(Command::Week(planning)),
         None => Err(WordsRefusal::NotUnderstood),
     }
 }
@@ -211,6 +228,60 @@ fn replanning_of(alloc: Global, given: &GivenWords<'_>) -> Result<Option<Replann
         dir: Text::copy(alloc, dir)?,
         minute,
         change,
+        nodes,
+        rounds: rounds as u8,
+        evaluations,
+    }))
+}
+
+/// How a week is to be planned, by the words after `week`; nothing where they are not of its form. The error is want of
+/// memory.
+fn week_planning(alloc: Global, rest: &[&str]) -> Result<Option<WeekPlanning>, NoMemory>
+    ensures { IfOk result (ReadsAs week_form IsWeekPlanning (map (λ word. word.now) rest.now)) }
+{
+    let form = Form {
+        places: 2,
+        valued: &["--nodes", "--rounds", "--evaluations"],
+        flags: &[],
+    };
+    let Some(given) = read_form(alloc, &form, rest)? else {
+        return Ok(None);
+    };
+    week_planning_of(alloc, &given)
+}
+
+/// How a week is to be planned, by words that were taken apart; nothing where the second of them is no number of days
+/// that a week may have, or a number is none or over its limit. The error is want of memory.
+fn week_planning_of(alloc: Global, given: &GivenWords<'_>) -> Result<Option<WeekPlanning>, NoMemory>
+    requires places { length (positional_in given.now) ≡ 2 }
+    requires once { (name : List ℕ) → times name given.now ≤ 1 }
+    ensures { IfOk result (SaysAs IsWeekPlanning given.now) }
+{
+    let Some(dir) = given.positional(0) else {
+        return Ok(None);
+    };
+    let Some(word) = given.positional(1) else {
+        return Ok(None);
+    };
+    let Some(days) = number(word.as_bytes(), MOST_DAYS_OF_WEEK) else {
+        return Ok(None);
+    };
+    if days == 0 {
+        return Ok(None);
+    }
+    let Some(nodes) = given.number("--nodes", USUAL_NODES_OF_WEEK, MOST_BRANCHINGS) else {
+        return Ok(None);
+    };
+    let Some(rounds) = given.number("--rounds", USUAL_ROUNDS_OF_WEEK, MOST_ROUNDS) else {
+        return Ok(None);
+    };
+    let usual = USUAL_EVALUATIONS_OF_WEEK;
+    let Some(evaluations) = given.number("--evaluations", usual, MOST_EVALUATIONS) else {
+        return Ok(None);
+    };
+    Ok(Some(WeekPlanning {
+        dir: Text::copy(alloc, dir)?,
+        days,
         nodes,
         rounds: rounds as u8,
         evaluations,

@@ -14,4 +14,6 @@ mod replan_tests;
 #[cfg(test)]
 mod urgent_tests;
 #[cfg(test)]
+mod week_tests;
+#[cfg(test)]
 mod words_tests;

@@ -1,5 +1,5 @@
 use Rattle.std.proofs.Common.{rules}
-use Rattle.desk_app.proofs.Endings.{ends_in_usage, ends_planning, ends_replanning, ends_swapping, is_status, leaves_folder, leaves_sink}
+use Rattle.desk_app.proofs.Endings.{ends_in_usage, ends_planning, ends_replanning, ends_swapping, ends_week, is_status, leaves_folder, leaves_sink}
 use Rattle.desk_app.proofs.top.raildesk_watched.Goals as goal
 
 pub returns-clause-plan : goal.returns-clause-plan
@@ -13,6 +13,10 @@ returns-clause-urgent g c files swapping =
 pub returns-clause-replan : goal.returns-clause-replan
 returns-clause-replan g c files replanning =
     ends_replanning _ _ _ _ _ _ _ _ _ _ _ _ _ c.outcome_of-outcome.ensures.outcome c.write_outcome.ensures.wrote files replanning
+
+pub returns-clause-week : goal.returns-clause-week
+returns-clause-week g c files planning =
+    ends_week _ _ _ _ _ _ _ _ _ _ _ _ _ c.outcome_of-outcome.ensures.outcome c.write_outcome.ensures.wrote files planning
 
 pub returns-clause-usage : goal.returns-clause-usage
 returns-clause-usage g c =
@@ -29,7 +33,6 @@ returns-clause-document g c = (
   search rules,
   c.outcome_of-outcome.ensures.fault_counted,
   c.outcome_of-outcome.ensures.asked_for,
-  c.outcome_of-outcome.ensures.asked_for_rest,
 )
 
 pub returns-clause-folder : goal.returns-clause-folder

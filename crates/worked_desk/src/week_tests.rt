@@ -1,0 +1,213 @@
+//! Weeks that are planned at the desk.
+
+use crate::desk::{Program, said};
+use rail_base::NoMemory;
+use rail_base::name::is_name;
+use rail_io::{MemoryFile, MemoryFolder};
+use sample_days::{ONE_LEFT, TURN, Texts};
+use std::alloc::Global;
+use std::process::Abort;
+use std::test::Fail;
+
+/// The day of two trips with other types, with another station, with three units wanted in the evening, and with trips in
+/// the night after it, of which the second arrives half an hour before the first trip of the next day leaves.
+const OTHER_TYPES: Texts<'static> = Texts {
+    types: b"type,carriages,seats,metres,family\nA,4,200,80,regional\n",
+    ..TURN
+};
+
+const OTHER_STATIONS: Texts<'static> = Texts {
+    stations: b"station,platform,reallocation\nX,200,30\nY,210,30\n",
+    ..TURN
+};
+
+const THREE_WANTED: Texts<'static> = Texts {
+    stock: b"station,type,start,end\nX,A,2,3\n",
+    ..TURN
+};
+
+const NIGHT_TRIP: Texts<'static> = Texts {
+    trips: b"trip,from,departure,to,arrival,km,demand\nT1,X,29:00,Y,30:00,10,300\nT2,Y,30:10,X,31:30,10,150\n",
+    ..TURN
+};
+/// The same a minute later.
+const LATE_TRIP: Texts<'static> = Texts {
+    trips: b"trip,from,departure,to,arrival,km,demand\nT1,X,29:00,Y,30:00,10,300\nT2,Y,30:10,X,31:31,10,150\n",
+    ..TURN
+};
+/// A day whose table of stock is none.
+const NO_STOCK: Texts<'static> = Texts {
+    stock: b"station,type,start\nX,A,2\n",
+    ..TURN
+};
+
+/// The folder `week` with these days, whose reads fail at these numbers.
+fn folder_of(
+    rt: &impl Abort,
+    alloc: Global,
+    days: &[Texts<'_>],
+    failing: &[u64],
+) -> Result<MemoryFolder, NoMemory> {
+    let mut files = Vec::new(alloc);
+    for place in 0..days.len() {
+        add_day(rt, alloc, &mut files, place, &days[place])?;
+    }
+    MemoryFolder::new(alloc, files, failing.to_vec(alloc)?)
+}
+
+/// Adds the files of a day, of which so many days go before.
+fn add_day(
+    rt: &impl Abort,
+    alloc: Global,
+    files: &mut Vec<MemoryFile>,
+    before: usize,
+    texts: &Texts<'_>,
+) -> Result<(), NoMemory> {
+    let tables: [(&str, &[u8]); 6] = [
+        ("types", texts.types),
+        ("stations", texts.stations),
+        ("stock", texts.stock),
+        ("trips", texts.trips),
+        ("links", texts.links),
+        ("weights", b"carriage,shortage,shunting\n1,1,100\n"),
+    ];
+    let number = before.saturating_add(1);
+    for (name, bytes) in &tables {
+        let path = format!(in alloc; "week/{number}/{name}.csv")?;
+        assert!(rt; is_name(path.as_bytes()));
+        files.push(MemoryFile::new(alloc, path.as_str(), *bytes)?)?;
+    }
+    Ok(())
+}
+
+/// Days, how many of them are asked for, the branchings that are granted, the reads that fail, and what comes of it: the
+/// status, and how the document begins.
+type Case<'a> = (&'a [Texts<'a>], &'a str, &'a str, &'a [u64], u8, &'a str);
+
+/// What comes of weeks without advice.
+const CASES: &[Case<'static>] = &[
+    (
+        &[TURN, TURN],
+        "2",
+        "200",
+        &[],
+        0,
+        "week optimal 240\nday 1\nrailplan answer 1\noptimal 120\n",
+    ),
+    (
+        &[TURN, ONE_LEFT],
+        "02",
+        "0",
+        &[],
+        4,
+        "week bounded 240\nday 1\n",
+    ),
+    (
+        &[TURN, THREE_WANTED],
+        "2",
+        "200",
+        &[],
+        1,
+        "week infeasible\nday 1\n",
+    ),
+    (
+        &[TURN, THREE_WANTED],
+        "1",
+        "200",
+        &[],
+        0,
+        "week optimal 120\nday 1\n",
+    ),
+    (
+        &[TURN, OTHER_TYPES],
+        "2",
+        "200",
+        &[],
+        3,
+        "refused 2/types.csv\n",
+    ),
+    (
+        &[TURN, OTHER_STATIONS],
+        "2",
+        "200",
+        &[],
+        3,
+        "refused 2/stations.csv\n",
+    ),
+    (
+        &[ONE_LEFT, ONE_LEFT],
+        "2",
+        "200",
+        &[],
+        3,
+        "refused 2/stock.csv\n",
+    ),
+    (
+        &[NIGHT_TRIP, TURN],
+        "2",
+        "200",
+        &[],
+        0,
+        "week optimal 240\n",
+    ),
+    (
+        &[LATE_TRIP, TURN],
+        "2",
+        "200",
+        &[],
+        3,
+        "refused 1/trips.csv\n",
+    ),
+    // All days are read before one is compared with another.
+    (
+        &[TURN, OTHER_TYPES, NO_STOCK],
+        "3",
+        "200",
+        &[],
+        3,
+        "refused 3/stock.csv\n",
+    ),
+    // Each file of these is read by two calls, the second of which finds its end.
+    (
+        &[TURN, OTHER_TYPES, NO_STOCK],
+        "3",
+        "200",
+        &[16],
+        5,
+        "cannot read 2/stock.csv\n",
+    ),
+];
+
+#[test]
+fn weeks_are_planned_or_refused(rt: HostRuntime) -> Result<(), Fail> {
+    let alloc = rt.alloc();
+    for (days, count, nodes, failing, status, begins) in CASES {
+        let mut folder = folder_of(&rt, alloc, *days, *failing)?;
+        let words = ["week", "week", *count, "--rounds=0", "--nodes", *nodes];
+        let (found, out) = said(&rt, alloc, Program::Raildesk, &words, &mut folder)?;
+        assert!(rt; out.written().starts_with(begins.as_bytes()), "{begins}");
+        assert!(rt; found == *status, "{begins}");
+    }
+    Ok(())
+}
+
+/// Words of no plain form of `week`: a folder or a number of days too few, and numbers over their limits.
+const OTHER_WORDS: &[&[&str]] = &[
+    &["week", "week"],
+    &["week", "week", "0"],
+    &["week", "week", "8"],
+    &["week", "week", "two"],
+    &["week", "week", "2", "2"],
+    &["week", "week", "2", "--nodes", "4001"],
+    &["week", "week", "2", "--progress"],
+];
+
+#[test]
+fn other_words_plan_no_week(rt: HostRuntime) -> Result<(), Fail> {
+    for words in OTHER_WORDS {
+        let mut folder = folder_of(&rt, rt.alloc(), &[TURN, TURN], &[])?;
+        let (found, out) = said(&rt, rt.alloc(), Program::Raildesk, *words, &mut folder)?;
+        assert!(rt; out.written() == b"usage\n" && found == 2);
+    }
+    Ok(())
+}
