@@ -22,8 +22,8 @@ use timetable::Instance;
 /// The first `count` days of the week in a folder: each is the day that the six tables make in a folder of its own,
 /// which is called by the number of the day, counted from 1. All files of a day are read, and the day is made, before
 /// the first of the next day is read. The first day that is not read ends the reading, and its error is that of
-/// `day_files::day_in` with the number of the day. Each day is one that tables make whose rows keep within the ranges of
-/// their columns, also where the folder doesn't tell what it holds.
+/// `day_files::day_in` with the number of the day. Each day is one that tables make whose rows keep within the ranges
+/// of their columns, also where the folder doesn't tell what it holds.
 ///
 /// - `CannotRead`: the count of faults rose or stands at its last value, and a read of that file of that day may fail.
 ///   It is never the file of a plan, which isn't read.

@@ -31,8 +31,8 @@ use week_units::{WeekNames, WeekRefusal, names, week_fault};
 /// of the bound the improver may take at a root, none where it is not to be asked.
 ///
 /// Days that make no week are refused for the first reason why they make none, before any is planned or an advisor is
-/// asked. Each advisor was asked at most 2^62 times before. Afterwards one of the same identity stands at each place, whatever the answer is.
-/// Any other error than that of such days is want of memory.
+/// asked. Each advisor was asked at most 2^62 times before. Afterwards one of the same identity stands at each place,
+/// whatever the answer is. Any other error than that of such days is want of memory.
 pub fn week(
     alloc: Global,
     days: &[Instance],
@@ -51,8 +51,8 @@ pub fn week(
     ensures answer { IfOk result (IsWeekAnswer days.now grant) }
     ensures refusal { IfErr result (λ why. MatchOption (fault_said why) (AreWeek days.now) (IsFirstFault days.now)) }
 
-    // The advisors: that one of the same identity stands at each place, and how often it was asked; none was, where days
-    // are refused.
+    // The advisors: that one of the same identity stands at each place, and how often it was asked; none was, where
+    // days are refused.
     ensures advisors { AreTheSame advisors.old.items advisors.new.items identity }
     ensures asked { AreAsked advisors.old.items advisors.new.items asked has_quit 0
         (MOST_DAYS * (rounds * (2 * grant + 1))) }

@@ -19,8 +19,8 @@ pub fn weeks_make_day_plans()
 {}
 
 /// A trip of the day before is late exactly where what it gives is not ready at the departure of some trip of the day;
-/// or, where the day has no trip, not as it begins. The minutes of the day are counted from 1,440 on by the clock of the
-/// day before.
+/// or, where the day has no trip, not as it begins. The minutes of the day are counted from 1,440 on by the clock of
+/// the day before.
 pub fn late_trips_are_ready_too_late()
     ensures law { LateTripsAreReadyTooLate }
 {}
