@@ -207,7 +207,7 @@ fn other_words_plan_no_week(rt: HostRuntime) -> Result<(), Fail> {
     for words in OTHER_WORDS {
         let mut folder = folder_of(&rt, rt.alloc(), &[TURN, TURN], &[])?;
         let (found, out) = said(&rt, rt.alloc(), Program::Raildesk, *words, &mut folder)?;
-        assert!(rt; out.written() == b"usage\n" && found == 2);
+        assert!(rt; out.written() == "usage\n".as_bytes() && found == 2);
     }
     Ok(())
 }
