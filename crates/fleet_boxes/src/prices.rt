@@ -1,6 +1,6 @@
 //! What units cost: a price for each type.
 
-ghost use Rattle.std.specs.Prelude.{◌≡◌, ◌≤◌, ◌<◌, length, pos};
+ghost use Rattle.std.specs.Prelude.{◌≡◌, ◌≤◌, ◌<◌, ◌^◌, length, pos};
 ghost use Rattle.std.specs.List.{All};
 ghost use Rattle.rail_base.specs.declared.limits.TheConstants.{MOST_UNITS};
 ghost use Rattle.fleets.specs.Fleets.{fleet_size};
@@ -50,11 +50,12 @@ impl Prices {
     }
 
     /// What all units of a fleet cost together, by station and then type. The fleet has no more units than a day may
-    /// have, and there is a price unless the fleet has no places.
+    /// have, and there is a price unless the fleet has no places. So it is less than 2^64.
     pub fn of_fleet(&self, fleet: &Counts) -> Money
         requires prices { 0 < length fleet.now → 0 < length self.now }
         requires few { fleet_size fleet.now ≤ MOST_UNITS }
-        ensures { result.0 ≡ pos (fleet_cost self.now fleet.now) }
+        ensures value { result.0 ≡ pos (fleet_cost self.now fleet.now) }
+        ensures small { fleet_cost self.now fleet.now < 2 ^ 64 }
     {
         let mut cost: u64 = 0;
         for place in 0..fleet.len() {
