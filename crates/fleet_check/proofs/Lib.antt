@@ -1,0 +1,13 @@
+pub mod PriceHeader
+pub mod PriceRows
+pub mod PriceLaw
+pub mod Shapes
+pub mod Testing
+pub mod Fitting
+pub mod SmallPrices
+pub mod Leasts
+pub mod Passing
+pub mod OnTheWay
+pub mod Ordered
+pub mod Choosing
+pub mod Truth
