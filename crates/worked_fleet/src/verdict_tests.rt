@@ -1,0 +1,373 @@
+//! What is said of all fleets of a small day, by hand, with each verdict on it. One unit costs 1060 on the day, two cost
+//! 120, and none can run; a unit costs 500 more.
+
+ghost use Rattle.std.specs.Prelude.{◌≤◌, length, IfOk};
+ghost use Rattle.rail_base.specs.declared.limits.TheConstants.{MOST_TABLE_BYTES};
+ghost use Rattle.rail_csv.specs.Tables.{AreShort};
+ghost use Rattle.timetable.specs.DayTables.{IsDayOfBytes};
+
+use answer_text::{Answer, Head};
+use day_planner::answer_for;
+use fleet_boxes::{BoxNode, Boxes};
+use fleet_check::{Chosen, DayOfTables, Fleet, MOST_BOX_NODES, check_fleet, read_prices};
+use fleets::Counts;
+use rail_base::{Bytes, Money, StationNo, TypeNo};
+use rail_csv::TableBytes;
+use sample_days::{TURN, Texts, day_of, plan_of, table};
+use std::alloc::Global;
+use std::test::Fail;
+use timetable::{Instance, tables_of};
+
+/// A node of the boxes.
+#[derive(Clone, Copy)]
+enum Given {
+    /// A split at a station, of a type, at so many units.
+    Split(u32, u32, u32),
+    /// The leaf that is proved of so many units at X.
+    Leaf(u32),
+}
+
+/// A chosen fleet: so many units at X, and the table of its plan.
+type ChosenOf = (u32, &'static [u8]);
+
+/// What is said of all fleets.
+#[derive(Clone, Copy)]
+struct Case {
+    /// What it shows.
+    about: &'static str,
+    /// The most units that may stand at X.
+    most: u32,
+    head: Head,
+    splits: u32,
+    boxes: &'static [Given],
+    chosen: Option<ChosenOf>,
+    /// The verdict.
+    verdict: &'static str,
+}
+
+const BOTH: ChosenOf = (2, b"trip,units\nT1,0 1\nT2,1 0\n");
+
+/// The boxes of one split at one unit and one of the lower part at none, and the leaves.
+const SPLIT_TWICE: &[Given] = &[
+    Given::Split(0, 0, 1),
+    Given::Split(0, 0, 0),
+    Given::Leaf(0),
+    Given::Leaf(1),
+    Given::Leaf(2),
+];
+
+/// Two units are the fleet of least cost.
+const BEST: Case = Case {
+    about: "two units cost 120 and 1000, and one costs 1060 and 500",
+    most: 2,
+    head: Head::Optimal { cost: Money(1120) },
+    splits: 2,
+    boxes: SPLIT_TWICE,
+    chosen: Some(BOTH),
+    verdict: "Valid",
+};
+
+/// No box is split.
+const WHOLE: Case = Case {
+    about: "with no split the bound is that of two units, and the value that of none",
+    head: Head::BoundedPlan {
+        bound: Money(120),
+        cost: Money(1120),
+    },
+    splits: 0,
+    boxes: &[Given::Leaf(2)],
+    ..BEST
+};
+
+/// The cases.
+const CASES: &[Case] = &[
+    BEST,
+    Case {
+        about: "a price of one less is said",
+        head: Head::Optimal { cost: Money(1119) },
+        verdict: "PriceDiffers { said: Money(1119), found: Money(1120) }",
+        ..BEST
+    },
+    Case {
+        about: "bounded, where no leaf is open",
+        head: Head::BoundedPlan {
+            bound: Money(1120),
+            cost: Money(1120),
+        },
+        ..BEST
+    },
+    WHOLE,
+    Case {
+        about: "a bound with no plan",
+        head: Head::Bounded { bound: Money(120) },
+        chosen: None,
+        ..WHOLE
+    },
+    Case {
+        about: "no unit may be there",
+        most: 0,
+        head: Head::Infeasible,
+        splits: 0,
+        boxes: &[Given::Leaf(0)],
+        chosen: None,
+        ..BEST
+    },
+    Case {
+        about: "a part of the split lacks its tree",
+        boxes: &[Given::Split(0, 0, 1), Given::Leaf(1)],
+        verdict: "TreeShape(2)",
+        ..BEST
+    },
+    Case {
+        about: "a node after the tree, which comes before what fails in it",
+        boxes: &[Given::Leaf(0), Given::Split(9, 9, 9)],
+        verdict: "TreeShape(1)",
+        ..BEST
+    },
+    Case {
+        about: "no unit more than the split's number",
+        boxes: &[Given::Split(0, 0, 2), Given::Leaf(2), Given::Leaf(2)],
+        verdict: "SplitOutside(0)",
+        ..BEST
+    },
+    Case {
+        about: "a split at a station that is none, after one that is right",
+        boxes: &[
+            Given::Split(0, 0, 1),
+            Given::Split(2, 0, 0),
+            Given::Leaf(0),
+            Given::Leaf(0),
+            Given::Leaf(2),
+        ],
+        verdict: "SplitOutside(1)",
+        ..BEST
+    },
+    Case {
+        about: "a split of a type that is none",
+        boxes: &[Given::Split(0, 1, 0), Given::Leaf(2), Given::Leaf(2)],
+        verdict: "SplitOutside(0)",
+        ..BEST
+    },
+    Case {
+        about: "a leaf that is proved of the least fleet of its box alone",
+        boxes: &[Given::Leaf(0)],
+        verdict: "LeafFails(0)",
+        ..BEST
+    },
+    Case {
+        about: "a leaf that is proved of another fleet",
+        boxes: &[Given::Split(0, 0, 1), Given::Leaf(1), Given::Leaf(1)],
+        verdict: "LeafFails(2)",
+        ..BEST
+    },
+    Case {
+        about: "another number of splits is said",
+        splits: 3,
+        verdict: "SplitsDiffer { said: 3, found: 2 }",
+        ..BEST
+    },
+    Case {
+        about: "no plan is there for the price",
+        chosen: None,
+        verdict: "PlanFails",
+        ..BEST
+    },
+    Case {
+        about: "a plan is there for no price",
+        head: Head::Infeasible,
+        verdict: "PlanFails",
+        ..BEST
+    },
+    Case {
+        about: "more units than may be there",
+        chosen: Some((3, b"trip,units\nT1,0 1\nT2,1 0\n")),
+        verdict: "PlanFails",
+        ..BEST
+    },
+    Case {
+        about: "a unit that the fleet lacks",
+        chosen: Some((1, b"trip,units\nT1,0 1\nT2,1 0\n")),
+        verdict: "PlanFails",
+        ..BEST
+    },
+    Case {
+        about: "a plan that stops",
+        chosen: Some((2, b"trip,units\nT1,0\nT2,1\n")),
+        verdict: "PlanFails",
+        ..BEST
+    },
+    Case {
+        about: "one unit costs more, and a leaf is worth less",
+        head: Head::Optimal { cost: Money(1560) },
+        chosen: Some((1, b"trip,units\nT1,0\nT2,0\n")),
+        verdict: "HeadFails",
+        ..BEST
+    },
+    Case {
+        about: "optimal, where the one leaf is open",
+        head: Head::Optimal { cost: Money(1120) },
+        verdict: "HeadFails",
+        ..WHOLE
+    },
+    Case {
+        about: "infeasible, where a leaf has a bound",
+        head: Head::Infeasible,
+        chosen: None,
+        verdict: "HeadFails",
+        ..WHOLE
+    },
+    Case {
+        about: "a bound that is less than all values",
+        head: Head::BoundedPlan {
+            bound: Money(119),
+            cost: Money(1120),
+        },
+        verdict: "HeadFails",
+        ..WHOLE
+    },
+    Case {
+        about: "a bound where there is no value",
+        most: 0,
+        head: Head::Bounded { bound: Money(0) },
+        splits: 0,
+        boxes: &[Given::Leaf(0)],
+        chosen: None,
+        verdict: "HeadFails",
+        ..BEST
+    },
+];
+
+/// The table of the stock with so many units at X, at most three.
+fn stock(units: u32) -> &'static [u8] {
+    match units {
+        0 => b"station,type,start,end\nX,A,0,0\n",
+        1 => b"station,type,start,end\nX,A,1,1\n",
+        2 => b"station,type,start,end\nX,A,2,2\n",
+        _ => b"station,type,start,end\nX,A,3,3\n",
+    }
+}
+
+/// The texts of the day with so many units at X.
+fn texts(units: u32) -> Texts<'static> {
+    Texts {
+        stock: stock(units),
+        ..TURN
+    }
+}
+
+/// The bytes of a table.
+fn bytes_of(alloc: Global, text: &[u8]) -> Result<Bytes, Fail>
+    ensures { IfOk result (λ bytes. length bytes ≤ MOST_TABLE_BYTES) }
+{
+    Ok(Bytes::of(table(text)?.to_vec(alloc)?))
+}
+
+/// The bytes of the tables of the day with so many units at X.
+fn tables(alloc: Global, units: u32) -> Result<TableBytes, Fail>
+    ensures { IfOk result AreShort }
+{
+    let texts = texts(units);
+    Ok(TableBytes {
+        types: bytes_of(alloc, texts.types)?,
+        stations: bytes_of(alloc, texts.stations)?,
+        stock: bytes_of(alloc, texts.stock)?,
+        trips: bytes_of(alloc, texts.trips)?,
+        links: bytes_of(alloc, texts.links)?,
+        weights: bytes_of(alloc, b"carriage,shortage,shunting\n1,1,100\n")?,
+    })
+}
+
+/// The day of tables. A table or a day that is refused fails the test.
+fn made_of(alloc: Global, bytes: &TableBytes) -> Result<Instance, Fail>
+    requires { AreShort bytes.now }
+    ensures { IfOk result (IsDayOfBytes bytes.now) }
+{
+    let tables = tables_of(alloc, bytes)?;
+    Ok(Instance::build(alloc, tables)?)
+}
+
+/// The leaf that is proved of the day with so many units at X.
+fn leaf(alloc: Global, units: u32) -> Result<BoxNode, Fail> {
+    let day = day_of(alloc, &texts(units))?;
+    let mut advisors = Vec::new(alloc);
+    let Answer {
+        head,
+        branchings,
+        runs: _,
+        tree,
+    } = answer_for(alloc, &day, 50, 0, &mut advisors)?;
+    Ok(match head {
+        Head::Infeasible => BoxNode::Nothing { branchings, tree },
+        Head::Optimal { cost: bound } | Head::Bounded { bound } | Head::BoundedPlan { bound, .. } =>
+            BoxNode::Bound {
+                bound,
+                branchings,
+                tree,
+            },
+    })
+}
+
+/// The chosen fleet and its plan.
+fn chosen_of(alloc: Global, chosen: ChosenOf) -> Result<Chosen, Fail> {
+    let (units, plan) = chosen;
+    let mut counts = Vec::new(alloc);
+    counts.push(units)?;
+    counts.push(0)?;
+    // Its units are those of a day with three, so that too many can be named.
+    let day = day_of(alloc, &texts(3))?;
+    Ok(Chosen {
+        stock: Counts::of(counts),
+        plan: plan_of(alloc, &day, plan)?,
+    })
+}
+
+/// What is said of all fleets.
+fn fleet_of(alloc: Global, case: &Case) -> Result<Fleet, Fail> {
+    let mut nodes = Vec::new(alloc);
+    for given in case.boxes {
+        nodes.push(match *given {
+            Given::Split(station, unit_type, at) => BoxNode::Split {
+                station: StationNo(station),
+                unit_type: TypeNo(unit_type),
+                at,
+            },
+            Given::Leaf(units) => leaf(alloc, units)?,
+        })?;
+    }
+    let chosen = match case.chosen {
+        Some(chosen) => Some(chosen_of(alloc, chosen)?),
+        None => None,
+    };
+    Ok(Fleet {
+        head: case.head,
+        splits: case.splits,
+        boxes: Boxes::of(nodes),
+        chosen,
+    })
+}
+
+/// The verdict on what is said of all fleets.
+fn told(alloc: Global, case: &Case) -> Result<String, Fail> {
+    let bytes = tables(alloc, case.most)?;
+    let instance = made_of(alloc, &bytes)?;
+    let prices = read_prices(alloc, &instance, table(b"type,cost\nA,500\n")?)?;
+    let fleet = fleet_of(alloc, case)?;
+    if fleet.boxes.items().len() > MOST_BOX_NODES as usize {
+        return Err(Fail::new("too many nodes"));
+    }
+    let day = DayOfTables {
+        bytes: &bytes,
+        instance: &instance,
+    };
+    let verdict = check_fleet(alloc, &day, &prices, &fleet)?;
+    Ok(format!(in alloc; "{verdict:?}")?)
+}
+
+#[test]
+fn each_verdict_comes(rt: HostRuntime) -> Result<(), Fail> {
+    for case in CASES {
+        let told = told(rt.alloc(), case)?;
+        assert_eq!(rt; told.as_str(), case.verdict, "{}", case.about);
+    }
+    Ok(())
+}
