@@ -1,0 +1,13 @@
+-- So many splits are made, and the advisors were asked for their days alone.
+use Rattle.std.proofs.Common.{◌≡◌, ◌+◌, ◌*◌}
+use Rattle.fleet_size.specs.Slots.{IsSearch}
+use Rattle.fleet_size.proofs.Asked.{AskedFor}
+use Rattle.fleet_size.proofs.searching.run.Given as goal
+
+abbrev pub invariant-loop-split : goal.invariant-loop-split
+invariant-loop-split g l = record {
+  search : IsSearch l.problem.tables.instance.now l.problem.prices.now l.problem.granted.branchings l.search;
+  splits : l.search.splits ≡ l._split;
+  asked : AskedFor (λ b. (goal.Advisor-dyn g (b.vtable, b.value)).asked b.value) (λ b. (goal.Advisor-dyn g (b.vtable, b.value)).identity b.value)
+      (λ b. (goal.Advisor-dyn g (b.vtable, b.value)).has_quit b.value) (l.problem.granted.rounds * (2 * l.problem.granted.branchings + 1)) l.fn.advisors.items l.advisors.items (2 * l._split + 1);
+}

@@ -1,0 +1,54 @@
+//! The answer to the day with a fleet.
+
+ghost use Rattle.std.specs.Prelude.{All, ◌+◌, ◌*◌, ◌≤◌, ◌^◌, IfOk};
+ghost use Rattle.search.specs.Questions.{AreAsked, AreTheSame};
+ghost use Rattle.answer_check.specs.Headline.{IsHeadline};
+ghost use Rattle.fleet_size.specs.Found.{IsGranted};
+
+use advisors::Advisor;
+use answer_text::Answer;
+use day_improver::DayImprover;
+use day_planner::{Allowed, improved_answer_for};
+use rail_base::NoMemory;
+use std::alloc::Global;
+use timetable::Instance;
+use transitions::Graphs;
+
+/// The most branchings of one day's tree that a search for a fleet may be granted.
+pub const MOST_DAY_BRANCHINGS: u32 = 200;
+
+/// What a search for a fleet may take.
+#[derive(Clone, Copy)]
+pub struct Granted {
+    /// The most branchings of one day's tree, at most 200.
+    pub branchings: u32,
+    /// In how many rounds advisors may be asked at a node, at most 100.
+    pub rounds: u8,
+    /// The most splits of boxes, at most 200.
+    pub splits: u32,
+    /// The most evaluations of bounds by the improver at the root of a day; with none it proposes nothing.
+    pub evaluations: u32,
+}
+
+/// Plans a day within what is granted. The error is want of memory.
+pub(crate) fn planned(
+    alloc: Global,
+    day: &Instance,
+    granted: Granted,
+    advisors: &mut Vec<Box<dyn Advisor>>,
+) -> Result<Answer, NoMemory>
+    requires granted { IsGranted granted }
+    requires asked { All (λ advisor. asked advisor ≤ 2 ^ 63) advisors.old.items }
+    ensures headline { IfOk result (IsHeadline day.now granted.branchings) }
+    ensures advisors { AreTheSame advisors.old.items advisors.new.items identity }
+    ensures asked { AreAsked advisors.old.items advisors.new.items asked has_quit 0
+        (granted.rounds * (2 * granted.branchings + 1)) }
+{
+    let graphs = Graphs::build(alloc, day)?;
+    let mut improver = DayImprover::new(alloc, day, &graphs, granted.evaluations)?;
+    let allowed = Allowed {
+        branchings: granted.branchings,
+        rounds: granted.rounds,
+    };
+    improved_answer_for(alloc, day, &graphs, allowed, &mut improver, advisors)
+}
