@@ -15,6 +15,9 @@ use timetable::Picks;
 /// How many trips a day may have on which steps are to gain more, and forget their directions sooner.
 const MOST_TRIPS_OF_SHORT_DAYS: u32 = 200;
 
+/// How far the target lies over 0 and the best value where a ray is looked for.
+const RAY_LEVEL: i128 = 1000;
+
 /// What a step of an ascent came to.
 #[derive(Clone, Copy, PartialEq, Eq)]
 pub enum Step {
@@ -95,7 +98,7 @@ impl Ascent {
     ) -> Step
         ensures same { R.problem bounds.new ≡ R.problem bounds.old }
     {
-        let Some(value) = self.evaluate(bounds, region) else {
+        let Some(value) = self.evaluate(bounds, region, Weight::Cost) else {
             return Step::Empty;
         };
         let incumbent = incumbent.map(|cost| scaled(cost.0));
@@ -123,14 +126,53 @@ impl Ascent {
         self.advance(value, incumbent)
     }
 
-    /// Evaluates the bound at the whole multipliers, and its slacks; nothing where no picks are near the region, or
-    /// something is not of the relaxation's size. The value is scaled.
-    fn evaluate<R: Relaxation>(&mut self, bounds: &mut R, region: &Region) -> Option<i128>
+    /// Begins anew from the best multipliers, to look for a ray.
+    pub fn restart_for_ray(&mut self) {
+        copy(&mut self.scaled, &self.best_scaled);
+        self.directions.clear();
+        self.best = None;
+    }
+
+    /// One evaluation of the bound without cost, and a step from there. Where the best value is positive, the best
+    /// multipliers are a ray: no solution lies in the region. The problem that is bounded stays what it is.
+    pub fn step_to_ray<R: Relaxation>(&mut self, bounds: &mut R, region: &Region) -> Step
+        ensures same { R.problem bounds.new ≡ R.problem bounds.old }
+    {
+        let Some(value) = self.evaluate(bounds, region, Weight::NoCost) else {
+            return Step::Empty;
+        };
+        let best = match self.best {
+            None => value,
+            Some(best) => best.max(value),
+        };
+        if self.best != Some(best) {
+            self.keep(value);
+        }
+        let deflected = self.directions.deflect(&self.scaled, &self.slack_at);
+        // Without cost no value is the greatest where one is positive, so that any target above 0 serves.
+        let target = best.max(0).saturating_add(scaled(RAY_LEVEL));
+        let gap = target.saturating_sub(value);
+        self.directions.step(deflected.norm, gap, &mut self.scaled);
+        if deflected.is_zero {
+            Step::Met
+        } else {
+            Step::More
+        }
+    }
+
+    /// Evaluates the bound at the whole multipliers, with cost or without, and its slacks; nothing where no picks are
+    /// near the region, or something is not of the relaxation's size. The value is scaled.
+    fn evaluate<R: Relaxation>(
+        &mut self,
+        bounds: &mut R,
+        region: &Region,
+        weight: Weight,
+    ) -> Option<i128>
         ensures same { R.problem bounds.new ≡ R.problem bounds.old }
     {
         put_whole(&self.layout, &self.scaled, &mut self.whole);
         fill(&mut self.multipliers, &self.whole);
-        let value = bound_of(bounds, region, &self.multipliers, &mut self.picks)?;
+        let value = bound_of(bounds, region, &self.multipliers, weight, &mut self.picks)?;
         if !put_slacks(bounds, &self.picks, &mut self.slacks) {
             return None;
         }
@@ -209,12 +251,13 @@ fn fill(multipliers: &mut Multipliers, values: &[i64]) {
     }
 }
 
-/// The least priced value in a region, with its picks; nothing where no picks are near the region, or something is not
-/// of the relaxation's size.
+/// The least priced value in a region, with cost or without, and its picks; nothing where no picks are near the region,
+/// or something is not of the relaxation's size.
 fn bound_of<R: Relaxation>(
     bounds: &mut R,
     region: &Region,
     multipliers: &Multipliers,
+    weight: Weight,
     picks: &mut Picks,
 ) -> Option<Money>
     ensures same { R.problem bounds.new ≡ R.problem bounds.old }
@@ -224,7 +267,7 @@ fn bound_of<R: Relaxation>(
     if !fit || region.trips() != trips || picks.len() != trips {
         return None;
     }
-    match bounds.bound(region, multipliers, Weight::Cost, picks) {
+    match bounds.bound(region, multipliers, weight, picks) {
         BoundAnswer::Value(value) => Some(value),
         BoundAnswer::Empty => None,
     }

@@ -11,7 +11,7 @@ use crate::rays::put_ray;
 use crate::shares::{NODE_STEPS, PASS, PATIENCE_BELOW, SETTLING, patience_of, shares_of};
 use crate::watching::{NoWatcher, Sight, Watcher};
 use ascent::{Ascent, Step};
-use branch_tree::{Region, Relaxation};
+use branch_tree::{Region, Relaxation, is_positive};
 use improvers::{Improvement, Improver, Seen};
 use price_bound::{Change, DayBounds};
 use rail_base::{Money, NoMemory};
@@ -31,6 +31,7 @@ pub struct DayImprover<'a, W> {
     evaluations: u32,
     steps: u32,
     has_ended: bool,
+    seeks_ray: bool,
     sight: Sight,
     watcher: W,
 }
@@ -85,8 +86,8 @@ fn ascent_of(
 
 impl<'a> DayImprover<'a, NoWatcher> {
     /// An improver of a day with its edges that nothing is changed on, which takes at most so many evaluations of the
-    /// bound at the root: with none it proposes nothing at any node. The graphs are those of the day. The error is want
-    /// of memory.
+    /// bound at the root, and as many without cost where it finds no plan there: with none it proposes nothing at any
+    /// node. The graphs are those of the day. The error is want of memory.
     pub fn new(
         alloc: Global,
         instance: &'a Instance,
@@ -145,6 +146,7 @@ impl<'a, W: Watcher> DayImprover<'a, W> {
             evaluations,
             steps: 0,
             has_ended: false,
+            seeks_ray: false,
             sight: Sight::new(instance.handovers() != 0),
             watcher,
         })
@@ -173,6 +175,28 @@ impl<'a, W: Watcher> DayImprover<'a, W> {
             }
             block = shares.block;
         }
+    }
+
+    /// Looks for a ray of a region, by as many evaluations of the bound without cost as are granted at most, and
+    /// proposes it. The error is want of memory.
+    fn seek_ray(&mut self, region: &Region, to: &mut Improvement) -> Result<(), NoMemory> {
+        self.ascent.restart_for_ray();
+        for _ in 0..self.evaluations {
+            let step = self.ascent.step_to_ray(&mut self.bounds, region);
+            if self.has_ray() {
+                to.multipliers = Some(self.ascent.best_multipliers().copy(self.alloc)?);
+                break;
+            }
+            if step != Step::More {
+                break;
+            }
+        }
+        Ok(())
+    }
+
+    /// Whether an ascent that looks for a ray has met one.
+    fn has_ray(&self) -> bool {
+        is_positive(self.ascent.bound())
     }
 
     /// Takes steps of the ascent in a region, as long as it has not ended.
@@ -298,7 +322,8 @@ impl<'a, W: Watcher> DayImprover<'a, W> {
 }
 
 impl<'a, W: Watcher> Improver for DayImprover<'a, W> {
-    /// At the root it proposes first what shows that the day cannot balance, where its sums of units say so.
+    /// At the root it proposes first what shows that the day cannot balance, where its sums of units say so; and where
+    /// it finds no plan there, it looks for a ray when it is asked again.
     fn improve(&mut self, seen: &Seen<'_>, to: &mut Improvement) -> Result<bool, NoMemory> {
         if seen.attempt == 0 {
             self.sight.see(seen);
@@ -308,10 +333,16 @@ impl<'a, W: Watcher> Improver for DayImprover<'a, W> {
             if is_first && put_ray(self.alloc, self.instance, to)? {
                 return Ok(true);
             }
-            self.work_on(seen, to)?;
+            if self.seeks_ray && seen.node == 0 {
+                self.seeks_ray = false;
+                self.seek_ray(seen.region, to)?;
+            } else {
+                self.work_on(seen, to)?;
+                self.seeks_ray = seen.node == 0 && self.plans.incumbent().is_none();
+            }
         }
         self.tell();
-        Ok(false)
+        Ok(self.seeks_ray)
     }
 }
 

@@ -281,6 +281,19 @@ fn a_day_that_cannot_balance_has_a_ray(rt: HostRuntime) -> Result<(), Fail> {
     Ok(())
 }
 
+/// A day on which both units are wanted at Y at the end, and one has to come back at least.
+const NONE_COMES_BACK: Texts<'static> = Texts {
+    stock: b"station,type,start,end\nX,A,2,0\nY,A,0,2\n",
+    ..TURN
+};
+
+#[test]
+fn a_day_on_which_no_plan_is_found_is_looked_at_again(rt: HostRuntime) -> Result<(), Fail> {
+    let told = proposed_for_texts(rt.alloc(), &NONE_COMES_BACK)?;
+    assert!(rt; told.as_str().starts_with("again true, "), "{told}");
+    Ok(())
+}
+
 #[test]
 fn a_day_that_balances_has_none(rt: HostRuntime) -> Result<(), Fail> {
     let told = proposed_for_texts(rt.alloc(), &ONE_LEFT)?;
