@@ -207,11 +207,20 @@ fn plan_printed(alloc: Global, document: &str) -> Result<String, NoMemory> {
         let Some(run) = line.strip_prefix("run ") else {
             continue;
         };
-        let mut mark = "";
+        let mut said = 0_u32;
         for word in run.split(' ') {
-            table.push_str(mark)?;
-            table.push_str(if mark.is_empty() { name_of(word) } else { word })?;
-            mark = if mark.is_empty() { "," } else { " " };
+            match said {
+                0 => table.push_str(name_of(word))?,
+                1 => {
+                    table.push_str(",")?;
+                    table.push_str(word)?;
+                }
+                _ => {
+                    table.push_str(" ")?;
+                    table.push_str(word)?;
+                }
+            }
+            said = said.saturating_add(1);
         }
         table.push_str("\n")?;
     }
