@@ -26,8 +26,8 @@ use Rattle.day_simulator.proofs.InTurn.{in_turn}
 use Rattle.price_bound.specs.DayMeanings.{meanings_of}
 use Rattle.price_bound.proofs.Solving.{solution_follows}
 use Rattle.answer_text.specs.declared.answer.Answer.{Answer}
-use Rattle.answer_text.specs.declared.answer.Head.{Head}
-use Rattle.answer_text.specs.declared.answer.Head.TheVariants.{Optimal, Infeasible, Bounded, BoundedPlan}
+use Rattle.rules.specs.declared.heads.Head.{Head}
+use Rattle.rules.specs.declared.heads.Head.TheVariants.{Optimal, Infeasible, Bounded, BoundedPlan}
 use Rattle.answer_text.specs.Limits.{has_plan}
 use Rattle.answer_check.specs.declared.answered_plan.RunsRefusal.{RunsRefusal}
 use Rattle.answer_check.specs.declared.answered_plan.RunsRefusal.TheVariants as runs_refusal

@@ -7,8 +7,8 @@ use Rattle.timetable.specs.Day.{Day}
 use Rattle.timetable.specs.Picks.{RunsByPicks, picked}
 use Rattle.price_bound.proofs.Solving.{same_number}
 use Rattle.answer_text.specs.declared.answer.Answer.{Answer}
-use Rattle.answer_text.specs.declared.answer.Head.{Head}
-use Rattle.answer_text.specs.declared.answer.Head.TheVariants.{Optimal, Infeasible, Bounded, BoundedPlan}
+use Rattle.rules.specs.declared.heads.Head.{Head}
+use Rattle.rules.specs.declared.heads.Head.TheVariants.{Optimal, Infeasible, Bounded, BoundedPlan}
 use Rattle.answer_text.specs.Limits.{has_plan}
 use Rattle.answer_check.specs.Validity.{HasPicks, conclusion_of}
 

@@ -12,7 +12,7 @@ use Rattle.price_bound.specs.ChangedDays.{added_cost, changed_day, changed_meani
 use Rattle.price_bound.specs.PlanBounds.{NoPlanRunsIn, PlansInCostAtLeast, RunsIn}
 use Rattle.price_bound.proofs.ChangedPlans.{changed_solutions_bound_plans, no_changed_solutions_no_plans}
 use Rattle.price_bound.proofs.Planned.{plans_have_picks, plans_lie_in_roots}
-use Rattle.answer_text.specs.declared.answer.Head.{Head}
+use Rattle.rules.specs.declared.heads.Head.{Head}
 use Rattle.answer_text.specs.Limits.{has_plan}
 use Rattle.answer_check.specs.Headline.{RunsAtCost, IsTrueOf}
 use Rattle.answer_check.specs.RegionTruths.{ConcludedIsTrueIn, IsPlanWithin, IsTrueIn, TrueInRootsIsTrueOfDays}

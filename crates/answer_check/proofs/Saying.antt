@@ -2,8 +2,8 @@
 use Rattle.std.proofs.Common.{ℕ, List, Bool, IsTrue, refl, ℤ}
 use Rattle.branch_tree.specs.Claims.{CostsAtLeast, HasNoSolution, IsConcluded, IsPlanIn}
 use Rattle.branch_tree.specs.Meanings.{Meanings}
-use Rattle.answer_text.specs.declared.answer.Head.{Head}
-use Rattle.answer_text.specs.declared.answer.Head.TheVariants.{Optimal, Infeasible, Bounded, BoundedPlan}
+use Rattle.rules.specs.declared.heads.Head.{Head}
+use Rattle.rules.specs.declared.heads.Head.TheVariants.{Optimal, Infeasible, Bounded, BoundedPlan}
 use Rattle.answer_text.specs.Limits.{has_plan}
 use Rattle.answer_check.specs.Headline.{Says}
 use Rattle.answer_check.specs.Validity.{conclusion_of}

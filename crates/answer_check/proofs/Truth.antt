@@ -9,7 +9,7 @@ use Rattle.branch_tree.proofs.Concluding.{proved_is_concluded}
 use Rattle.price_bound.specs.DayMeanings.{meanings_of}
 use Rattle.price_bound.proofs.Whole.{relaxes}
 use Rattle.answer_text.specs.declared.answer.Answer.{Answer}
-use Rattle.answer_text.specs.declared.answer.Head.{Head}
+use Rattle.rules.specs.declared.heads.Head.{Head}
 use Rattle.answer_check.specs.Headline.{IsTrueOf}
 use Rattle.answer_check.specs.Validity.{HasPicks, IsValid, conclusion_of}
 use Rattle.answer_check.proofs.RegionTruths.{concluded_is_true_in, true_in_roots}

@@ -11,8 +11,8 @@ use Rattle.branch_tree.specs.Regions.{choices_of, root_of}
 use Rattle.branch_tree.specs.Trees.{branchings_of}
 use Rattle.price_bound.specs.DayMeanings.{meanings_of}
 use Rattle.answer_text.specs.declared.answer.Answer.{Answer}
-use Rattle.answer_text.specs.declared.answer.Head.{Head}
-use Rattle.answer_text.specs.declared.answer.Head.TheVariants.{Optimal, Infeasible, Bounded, BoundedPlan}
+use Rattle.rules.specs.declared.heads.Head.{Head}
+use Rattle.rules.specs.declared.heads.Head.TheVariants.{Optimal, Infeasible, Bounded, BoundedPlan}
 use Rattle.answer_text.specs.Limits.{IsWithin, has_plan}
 use Rattle.answer_check.specs.Validity.{IsValidIn, conclusion_of}
 

@@ -9,7 +9,7 @@ use Rattle.branch_tree.specs.Regions.{root_of}
 use Rattle.price_bound.specs.declared.changes.Change.{Change}
 use Rattle.price_bound.specs.ChangedDays.{added_cost, changed_day, changed_meanings}
 use Rattle.price_bound.specs.PlanBounds.{NoPlanRunsIn, PlansInCostAtLeast, RunsIn}
-use Rattle.answer_text.specs.declared.answer.Head.{Head}
+use Rattle.rules.specs.declared.heads.Head.{Head}
 use Rattle.answer_check.specs.Headline.{IsTrueOf, Says}
 use Rattle.answer_check.specs.Validity.{HasPicks, conclusion_of}
 

@@ -7,8 +7,8 @@ use Rattle.branch_tree.specs.Meanings.{Meanings}
 use Rattle.branch_tree.specs.Regions.{root_of}
 use Rattle.price_bound.specs.DayMeanings.{meanings_of}
 use Rattle.answer_text.specs.declared.answer.Answer.{Answer}
-use Rattle.answer_text.specs.declared.answer.Head.{Head}
-use Rattle.answer_text.specs.declared.answer.Head.TheVariants.{Optimal, Infeasible, Bounded, BoundedPlan}
+use Rattle.rules.specs.declared.heads.Head.{Head}
+use Rattle.rules.specs.declared.heads.Head.TheVariants.{Optimal, Infeasible, Bounded, BoundedPlan}
 use Rattle.answer_text.specs.Limits.{has_plan}
 
 -- what is concluded of solutions, where the plan has the compositions of these picks

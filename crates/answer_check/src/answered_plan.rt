@@ -96,7 +96,7 @@ fn first_unknown(instance: &Instance, lists: &[UnitList]) -> Option<TripNo>
 }
 
 /// Whether each unit of a trip's list is one of the day.
-#[tactic(auto, unfolding(timetable::specs::Links::list_of))]
+#[tactic(auto, unfolding(rules::specs::Links::list_of))]
 fn is_known(instance: &Instance, lists: &[UnitList], trip: usize) -> bool
     requires { trip < length lists.now }
     ensures { result ≡ are_units instance.now (list_of lists.now trip) }

@@ -9,7 +9,7 @@ use Rattle.std.proofs.lemmas.List.Elements.{All-from_recursion}
 use Rattle.rail_base.specs.declared.limits.TheConstants.{MOST_BRANCHINGS}
 use Rattle.branch_tree.specs.declared.tree.Node.{Node}
 use Rattle.answer_text.specs.declared.answer.Answer.{Answer}
-use Rattle.answer_text.specs.declared.answer.Head.{Head}
+use Rattle.rules.specs.declared.heads.Head.{Head}
 use Rattle.answer_text.specs.Limits.{has_plan, IsHead, IsNode, IsRun, IsWithin}
 use Rattle.answer_text.specs.Numbers.{◌>>=◌}
 use Rattle.answer_text.specs.Pieces.{words_of}

@@ -9,8 +9,8 @@ use Rattle.std.proofs.lemmas.List.{append-nil}
 use Rattle.rail_base.specs.Answers.{Gives, Unless}
 use Rattle.branch_tree.specs.declared.tree.Node.TheVariants.{EmptyLeaf}
 use Rattle.answer_text.specs.declared.answer.Answer.{Answer}
-use Rattle.answer_text.specs.declared.answer.Head.{Head}
-use Rattle.answer_text.specs.declared.answer.Head.TheVariants.{Infeasible}
+use Rattle.rules.specs.declared.heads.Head.{Head}
+use Rattle.rules.specs.declared.heads.Head.TheVariants.{Infeasible}
 use Rattle.answer_text.specs.declared.refusal.AnswerRefusal.{AnswerRefusal}
 use Rattle.answer_text.specs.declared.refusal.AnswerRefusal.TheVariants.{BadLine, MissingEnd, Trailing, TooManyNodes}
 use Rattle.answer_text.specs.declared.refusal.AnswerRefusal.TheVariants.{NoMemory}

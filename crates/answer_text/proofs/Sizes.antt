@@ -14,8 +14,8 @@ use Rattle.branch_tree.specs.declared.tree.Node.{Node}
 use Rattle.branch_tree.specs.declared.tree.Node.TheVariants.{Branch, CostLeaf, RayLeaf, EmptyLeaf}
 use Rattle.branch_tree.specs.Trees.{branchings_of}
 use Rattle.branch_tree.proofs.Covering.{leaves_exceed_branches}
-use Rattle.answer_text.specs.declared.answer.Head.{Head}
-use Rattle.answer_text.specs.declared.answer.Head.TheVariants.{Optimal, Infeasible, Bounded, BoundedPlan}
+use Rattle.rules.specs.declared.heads.Head.{Head}
+use Rattle.rules.specs.declared.heads.Head.TheVariants.{Optimal, Infeasible, Bounded, BoundedPlan}
 use Rattle.answer_text.specs.Laws.{TextsFitFiles}
 use Rattle.answer_text.specs.Limits.{AreEntries, IsAmount, IsCut, IsHead, IsNode, IsRun}
 use Rattle.answer_text.specs.Lines.{after_spaces, spaced, text_of_lines}

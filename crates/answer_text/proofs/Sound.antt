@@ -10,8 +10,8 @@ use Rattle.std.proofs.lemmas.List.{append-nil}
 use Rattle.std.proofs.lemmas.List.Elements.{All-from_recursion}
 use Rattle.std.proofs.lemmas.Slice.Eq.{bytes_eq-Decides}
 use Rattle.rail_base.specs.declared.limits.TheConstants.{MOST_BRANCHINGS}
-use Rattle.answer_text.specs.declared.answer.Head.{Head}
-use Rattle.answer_text.specs.declared.answer.Head.TheVariants.{Optimal, Infeasible, Bounded, BoundedPlan}
+use Rattle.rules.specs.declared.heads.Head.{Head}
+use Rattle.rules.specs.declared.heads.Head.TheVariants.{Optimal, Infeasible, Bounded, BoundedPlan}
 use Rattle.answer_text.specs.declared.limits.TheConstants.{MOST_AMOUNT}
 use Rattle.answer_text.specs.Limits.{IsAmount, IsHead, IsRun}
 use Rattle.answer_text.specs.Numbers.{◌>>=◌, at_end, next_number, next_signed, number_in, signed_in}

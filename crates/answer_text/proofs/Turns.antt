@@ -8,7 +8,7 @@ use Rattle.rail_base.proofs.Answers.{Unless-from}
 use Rattle.rail_base.specs.Answers.{Gives}
 use Rattle.branch_tree.specs.declared.tree.Node.{Node}
 use Rattle.answer_text.specs.declared.answer.Answer.{Answer}
-use Rattle.answer_text.specs.declared.answer.Head.{Head}
+use Rattle.rules.specs.declared.heads.Head.{Head}
 use Rattle.answer_text.specs.declared.refusal.AnswerRefusal.{AnswerRefusal}
 use Rattle.answer_text.specs.declared.refusal.AnswerRefusal.TheVariants.{BadLine, Trailing, TooManyNodes}
 use Rattle.answer_text.specs.Grammar.{is_memory}

@@ -1,5 +1,5 @@
 -- The limits within which answers are read.
-use Rattle.std.specs.Prelude.{ℕ, ◌<◌, ◌≤◌, ◌≡◌, List, [], length, All, ℤ, unsigned_abs, Bool, true, false}
+use Rattle.std.specs.Prelude.{ℕ, ◌<◌, ◌≤◌, ◌≡◌, List, [], length, All, ℤ, unsigned_abs, false}
 use Rattle.rail_base.specs.declared.limits.TheConstants.{MOST_BRANCHINGS, MOST_COMPOSITION, MOST_COMPOSITIONS}
 use Rattle.rail_base.specs.declared.limits.TheConstants.{MOST_TRIPS, MOST_TYPES, MOST_UNITS}
 use Rattle.branch_tree.specs.declared.cuts.Cut.{Cut}
@@ -9,9 +9,10 @@ use Rattle.branch_tree.specs.declared.tree.Node.{Node}
 use Rattle.branch_tree.specs.declared.tree.Node.TheVariants.{Branch, CostLeaf, RayLeaf, EmptyLeaf}
 use Rattle.branch_tree.specs.Entries.{AreMultipliers}
 use Rattle.answer_text.specs.declared.answer.Answer.{Answer}
-use Rattle.answer_text.specs.declared.answer.Head.{Head}
-use Rattle.answer_text.specs.declared.answer.Head.TheVariants.{Optimal, Infeasible, Bounded, BoundedPlan}
+use Rattle.rules.specs.declared.heads.Head.{Head}
+use Rattle.rules.specs.declared.heads.Head.TheVariants.{Optimal, Infeasible, Bounded, BoundedPlan}
 use Rattle.answer_text.specs.declared.limits.TheConstants.{MOST_AMOUNT, MOST_INDEX}
+pub use Rattle.rules.specs.Truths.{has_plan}
 
 -- a bound or a cost
 abbrev pub IsAmount : ℤ → Type 0
@@ -22,13 +23,6 @@ IsHead (Optimal cost) = IsAmount cost.0
 IsHead Infeasible = Unit {0}
 IsHead (Bounded bound) = IsAmount bound.0
 IsHead (BoundedPlan bound cost) = IsAmount bound.0 × IsAmount cost.0
-
--- whether there is a plan, and so may be runs
-abbrev pub has_plan : Head → Bool
-has_plan (Optimal cost) = true
-has_plan Infeasible = false
-has_plan (Bounded bound) = false
-has_plan (BoundedPlan bound cost) = true
 
 -- the units of one trip
 pub record IsRun (units : List ℕ) : Type 0 where

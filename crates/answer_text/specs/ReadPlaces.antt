@@ -5,7 +5,7 @@ use Rattle.std.specs.Str.{bytes_eq}
 use Rattle.rail_base.specs.declared.limits.TheConstants.{MOST_NODES, MOST_TRIPS}
 use Rattle.branch_tree.specs.declared.tree.Node.{Node}
 use Rattle.answer_text.specs.declared.answer.Answer.{Answer}
-use Rattle.answer_text.specs.declared.answer.Head.{Head}
+use Rattle.rules.specs.declared.heads.Head.{Head}
 use Rattle.answer_text.specs.declared.refusal.AnswerRefusal.{AnswerRefusal}
 use Rattle.answer_text.specs.declared.refusal.AnswerRefusal.TheVariants.{BadLine, MissingEnd, Trailing, TooManyNodes}
 use Rattle.answer_text.specs.Limits.{has_plan}

@@ -6,7 +6,7 @@ use Rattle.std.specs.List.{list_any}
 use Rattle.std.specs.Str.{is_utf8}
 use Rattle.std.proofs.lemmas.Bool.{cases_eq, leb-true, le-leb, ltb-false, ltb-true, or_parts}
 use Rattle.rail_csv.specs.Columns.{field}
-use Rattle.timetable.specs.declared.day.records.Link.{Link}
+use Rattle.rules.specs.declared.records.Link.{Link}
 use Rattle.timetable.specs.Accepted.{AreLinks, HaveNames}
 use Rattle.timetable.specs.Day.{Day, leaves}
 use Rattle.timetable.specs.Links.{departing_in, incoming, link_into}

@@ -13,7 +13,7 @@ use Rattle.timetable.specs.NamedEntries.{find_name}
 use Rattle.timetable.proofs.FoundNames.{names_are_found}
 use Rattle.timetable.proofs.Listing.{get_first, get_second}
 use Rattle.timetable.proofs.Ones.{one_same, one_other}
-use Rattle.timetable.proofs.Turning.{count_of-append}
+use Rattle.rules.proofs.Turning.{count_of-append}
 use Rattle.cancellations.specs.Cancellations.{AreCancellable, CancelEach, Cancels, IsFirstWrong}
 
 abbrev Rows : Type 0

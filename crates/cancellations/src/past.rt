@@ -10,7 +10,7 @@ use rail_base::{Minute, TripNo};
 use timetable::{Instance, LinkTrips};
 
 /// Whether a trip leaves before a minute. The trip is below `trips`.
-#[tactic(auto, unfolding(timetable::specs::Day::leaves))]
+#[tactic(auto, unfolding(rules::specs::Day::leaves))]
 pub fn has_left(instance: &Instance, now: Minute, trip: TripNo) -> bool
     requires { trip < length instance.now.trips }
     ensures { result ≡ nat_lt (leaves instance.now trip) now }

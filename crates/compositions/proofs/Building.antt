@@ -1,7 +1,7 @@
 -- The steps of the building of a catalogue.
 use Rattle.std.proofs.Common.{◌≡◌, ℕ, suc, ◌+◌, ◌<◌, Bool, List, [], ◌∷◌, ◌++◌, get_or, length, ap, ◌∙◌, sym, subst}
 use Rattle.std.proofs.Common.{append_assoc, arith}
-use Rattle.compositions.specs.declared.types.UnitType.{UnitType}
+use Rattle.rules.specs.declared.records.UnitType.{UnitType}
 use Rattle.compositions.specs.Catalogue.{FitInOrder, catalogue_of}
 use Rattle.compositions.proofs.Listing.{catalogue_listed}
 use Rattle.compositions.specs.Composition.{fits_in}

@@ -8,7 +8,7 @@ use Rattle.std.proofs.lemmas.List.Elements.{All-get_or}
 use Rattle.std.proofs.lemmas.List.Sums.{AllPass-from_list_all, count_by-le-length}
 use Rattle.std.proofs.lemmas.Bool.{ltb-true, leb-true, and_parts}
 use Rattle.rail_base.specs.declared.limits.TheConstants.{MOST_CARRIAGES, MOST_FIRST_SEATS, MOST_METRES, MOST_SEATS}
-use Rattle.compositions.specs.declared.types.UnitType.{UnitType}
+use Rattle.rules.specs.declared.records.UnitType.{UnitType}
 use Rattle.compositions.specs.declared.composition.Measure.{Measure}
 use Rattle.compositions.specs.declared.composition.Measure.TheVariants.{Carriages, Seats, FirstSeats, Metres}
 use Rattle.compositions.specs.Composition.{of_type, sum_over}

@@ -3,7 +3,7 @@ use Rattle.std.specs.Prelude.{ℕ, zero, suc, Bool, false, ◌&&◌, ◌||◌, �
 use Rattle.std.specs.Prelude.{filter, All, AllPairs, Contains}
 use Rattle.std.specs.List.{flat_map}
 use Rattle.rail_base.specs.declared.limits.TheConstants.{MOST_COMPOSITION}
-use Rattle.compositions.specs.declared.types.UnitType.{UnitType}
+use Rattle.rules.specs.declared.records.UnitType.{UnitType}
 use Rattle.compositions.specs.Composition.{fits_in}
 
 -- from the front, the first type numbers that differ are the lower and the higher one

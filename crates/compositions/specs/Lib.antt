@@ -1,5 +1,5 @@
 pub mod Catalogue
-pub mod Composition
+pub use Rattle.rules.specs.Composition
 pub mod Extensions
 pub mod Measure
 pub mod UnitTypes

@@ -1,6 +1,6 @@
 -- What a measure is of one unit.
 use Rattle.std.specs.Prelude.{ℕ}
-use Rattle.compositions.specs.declared.types.UnitType.{UnitType}
+use Rattle.rules.specs.declared.records.UnitType.{UnitType}
 use Rattle.compositions.specs.declared.composition.Measure.{Measure}
 use Rattle.compositions.specs.declared.composition.Measure.TheVariants.{Carriages, Seats, FirstSeats, Metres}
 

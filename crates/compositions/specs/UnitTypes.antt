@@ -1,7 +1,7 @@
 -- The limits of the unit types.
 use Rattle.std.specs.Prelude.{ℕ, Bool, ◌&&◌, nat_le}
 use Rattle.rail_base.specs.declared.limits.TheConstants.{MOST_CARRIAGES, MOST_FIRST_SEATS, MOST_METRES, MOST_SEATS}
-use Rattle.compositions.specs.declared.types.UnitType.{UnitType}
+use Rattle.rules.specs.declared.records.UnitType.{UnitType}
 
 -- a number from 1 to the limit
 abbrev pub is_up_to : ℕ → ℕ → Bool

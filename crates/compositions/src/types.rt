@@ -4,26 +4,11 @@ ghost use Rattle.std.specs.Prelude.{◌≡◌, ◌<◌, ◌≤◌, IsTrue, Some,
 ghost use Rattle.std.specs.List.{list_all};
 ghost use Rattle.compositions.specs.UnitTypes.{is_within_limits};
 
-use rail_base::limits::MOST_TYPES;
-use rail_base::{Name, TypeNo};
-use std::marker::Model;
+pub use rules::UnitType;
 
-/// A type of train units.
-#[derive(Drop)]
-pub struct UnitType {
-    /// The name of the type.
-    pub name: Name,
-    /// Carriages of one unit, from 1 to 20.
-    pub carriages: u32,
-    /// Seats of second class of one unit, from 1 to 2,000.
-    pub seats: u32,
-    /// Metres of one unit, from 1 to 500.
-    pub metres: u32,
-    /// The name of its family: units of one family can be coupled.
-    pub family: Name,
-    /// Seats of first class of one unit, from 0 to 2,000.
-    pub first: u32,
-}
+use rail_base::TypeNo;
+use rail_base::limits::MOST_TYPES;
+use std::marker::Model;
 
 /// The unit types of a day, at most six. A contract sees the list of them.
 #[derive(Drop)]
@@ -35,7 +20,7 @@ impl Model for UnitTypes {
     ghost use Rattle.std.specs.Prelude.{List, IsTrue, length, ◌≤◌};
     ghost use Rattle.std.specs.List.{list_all};
     ghost use Rattle.rail_base.specs.declared.limits.TheConstants.{MOST_TYPES};
-    ghost use Rattle.compositions.specs.declared.types.UnitType.{UnitType};
+    ghost use Rattle.rules.specs.declared.records.UnitType.{UnitType};
     ghost use Rattle.compositions.specs.UnitTypes.{is_within_limits};
 
     ghost Value = { List UnitType };

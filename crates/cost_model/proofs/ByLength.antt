@@ -4,16 +4,16 @@ use Rattle.std.proofs.Common.{None, inl, inr, ◌⊎◌, ⊎_elim, refl, sym, ap
 use Rattle.std.specs.Prelude.{option_map, is_some, not, ◌&&◌, ◌==◌, ◌||◌, if◌then◌else◌}
 use Rattle.std.proofs.lemmas.Bool.{and_from, and_parts, or_cases, eqb-true, eq-eqb, false≢true, cases_Bool}
 use Rattle.std.proofs.lemmas.List.{length-reverse, map-id}
-use Rattle.rail_csv.specs.declared.rows.End.{End}
-use Rattle.timetable.specs.declared.day.records.Link.{Link}
-use Rattle.timetable.specs.declared.day.records.LinkKind.{LinkKind}
-use Rattle.timetable.specs.declared.day.records.LinkKind.TheVariants.{Turn, Join, Split}
+use Rattle.rules.specs.declared.records.End.{End}
+use Rattle.rules.specs.declared.records.Link.{Link}
+use Rattle.rules.specs.declared.records.LinkKind.{LinkKind}
+use Rattle.rules.specs.declared.records.LinkKind.TheVariants.{Turn, Join, Split}
 use Rattle.timetable.specs.Cost.{trip_cost, is_shunted, kind_cost, link_cost, cost_of}
 use Rattle.timetable.specs.Day.{Day}
 use Rattle.timetable.specs.Links.{list_of, itself, turned}
 use Rattle.timetable.specs.Lists.{sum_below}
 use Rattle.timetable.specs.Turns.{Parts, staying, kept_length, kept_count, may_shunt, turn_parts}
-use Rattle.timetable.proofs.Turning.{is_staying, kept-is, turn_parts-some}
+use Rattle.rules.proofs.Turning.{is_staying, kept-is, turn_parts-some}
 use Rattle.cost_model.specs.WithoutExchange.{IsPlain, kind_cost_by_length, link_cost_by_length, cost_by_length}
 use Rattle.cost_model.specs.WithoutExchange.{CostsByLength}
 

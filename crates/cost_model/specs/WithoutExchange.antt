@@ -2,9 +2,9 @@
 -- and couple units, so that units are shunted at it exactly where its two lists differ in length.
 use Rattle.std.specs.Prelude.{ℕ, ◌+◌, ◌≡◌, List, length, Bool, true, false, ◌==◌, if◌then◌else◌, option_map, unwrap_or}
 use Rattle.std.specs.Prelude.{slice_get, Some, ⊤}
-use Rattle.timetable.specs.declared.day.records.Link.{Link}
-use Rattle.timetable.specs.declared.day.records.LinkKind.{LinkKind}
-use Rattle.timetable.specs.declared.day.records.LinkKind.TheVariants.{Turn, Join, Split}
+use Rattle.rules.specs.declared.records.Link.{Link}
+use Rattle.rules.specs.declared.records.LinkKind.{LinkKind}
+use Rattle.rules.specs.declared.records.LinkKind.TheVariants.{Turn, Join, Split}
 use Rattle.timetable.specs.Cost.{trip_cost, cost_of}
 use Rattle.timetable.specs.Day.{Day}
 use Rattle.timetable.specs.Links.{list_of, itself, kind_holds}

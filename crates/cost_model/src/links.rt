@@ -14,7 +14,7 @@ pub const MOST_LINK_COST: u64 = MOST_WEIGHT as u64;
 /// What a link costs that leads from a train of units of these types to one of those, at most six each: the weight of
 /// shunting for a turn that does not keep all units of both, once, whether it uncouples, couples or does both, and
 /// nothing for every other link. The link is below `links`; the trains need not follow its rule. It takes no memory.
-#[tactic(auto, unfolding(timetable::specs::Cost::link_cost))]
+#[tactic(auto, unfolding(rules::specs::Cost::link_cost))]
 pub fn link_cost(
     instance: &Instance,
     number: LinkNo,

@@ -32,7 +32,7 @@ pub const MOST_TRIP_COST: u64 = MOST_CARRIAGE_COST + MOST_SHORTAGE_COST;
 /// the weight of a missing seat for each seat that is missing, in first and in second class, and each kilometre. The
 /// trip is below `trips`; the types, at most six, are those of the day, and need not fit the platforms. It takes no
 /// memory.
-#[tactic(auto, unfolding(timetable::specs::Cost::trip_cost))]
+#[tactic(auto, unfolding(rules::specs::Cost::trip_cost))]
 pub fn trip_cost(instance: &Instance, trip: TripNo, types: &[TypeNo]) -> u64
     requires trip { trip < length instance.now.trips }
     requires few { length types.now ≤ MOST_COMPOSITION }
@@ -44,7 +44,7 @@ pub fn trip_cost(instance: &Instance, trip: TripNo, types: &[TypeNo]) -> u64
 }
 
 /// What the carriages of a trip cost.
-#[tactic(auto, unfolding(timetable::specs::Day::km_of))]
+#[tactic(auto, unfolding(rules::specs::Day::km_of))]
 pub(crate) fn carriage_cost(instance: &Instance, trip: TripNo, types: &[TypeNo]) -> u64
     requires trip { trip < length instance.now.trips }
     requires few { length types.now ≤ MOST_COMPOSITION }
@@ -58,7 +58,7 @@ pub(crate) fn carriage_cost(instance: &Instance, trip: TripNo, types: &[TypeNo])
 }
 
 /// What the missing seats of a trip cost.
-#[tactic(auto, unfolding(timetable::specs::Day::km_of))]
+#[tactic(auto, unfolding(rules::specs::Day::km_of))]
 pub(crate) fn shortage_cost(instance: &Instance, trip: TripNo, types: &[TypeNo]) -> u64
     requires trip { trip < length instance.now.trips }
     requires few { length types.now ≤ MOST_COMPOSITION }
@@ -73,7 +73,7 @@ pub(crate) fn shortage_cost(instance: &Instance, trip: TripNo, types: &[TypeNo])
 
 /// The seats that are missing on a trip, of both classes: in each as many as are wanted beyond its seats. What one
 /// class has to spare does not help the other.
-#[tactic(auto, unfolding(timetable::specs::Cost::missing_seats))]
+#[tactic(auto, unfolding(rules::specs::Cost::missing_seats))]
 fn missing_seats(instance: &Instance, trip: TripNo, types: &[TypeNo]) -> u32
     requires trip { trip < length instance.now.trips }
     requires few { length types.now ≤ MOST_COMPOSITION }
@@ -107,7 +107,7 @@ struct Seats {
 }
 
 /// The seats that are wanted on a trip.
-#[tactic(auto, unfolding(timetable::specs::Day::demand_of, timetable::specs::Day::first_demand_of))]
+#[tactic(auto, unfolding(rules::specs::Day::demand_of, rules::specs::Day::first_demand_of))]
 fn wanted_seats(instance: &Instance, trip: TripNo) -> Seats
     requires { trip < length instance.now.trips }
     ensures first { result.first ≡ first_demand_of instance.now trip }

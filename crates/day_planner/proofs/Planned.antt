@@ -18,8 +18,8 @@ use Rattle.search.specs.declared.found.Found.TheVariants as found
 use Rattle.search.specs.Conclusions.{IsBounded, IsSolved, nodes_found, plan_found}
 use Rattle.search.specs.Conclusions as search
 use Rattle.answer_text.specs.declared.answer.Answer.{Answer}
-use Rattle.answer_text.specs.declared.answer.Head.{Head}
-use Rattle.answer_text.specs.declared.answer.Head.TheVariants.{Optimal, Infeasible, Bounded, BoundedPlan}
+use Rattle.rules.specs.declared.heads.Head.{Head}
+use Rattle.rules.specs.declared.heads.Head.TheVariants.{Optimal, Infeasible, Bounded, BoundedPlan}
 use Rattle.answer_text.specs.Limits.{IsAmount, IsHead, IsNode, IsRun, IsWithin, has_plan}
 use Rattle.answer_check.specs.ProvedTrees.{HasProvedTreeIn, bound_said, plan_said}
 use Rattle.answer_check.specs.Validity.{conclusion_of}

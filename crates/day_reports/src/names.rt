@@ -36,7 +36,7 @@ pub(crate) fn trip_name(instance: &Instance, trip: TripNo) -> &[u8]
 }
 
 /// The name of a unit's type.
-#[tactic(auto, unfolding(timetable::specs::Day::type_of))]
+#[tactic(auto, unfolding(rules::specs::Day::type_of))]
 pub(crate) fn type_of_unit(instance: &Instance, unit: UnitNo) -> &[u8]
     requires { unit < unit_count instance.now }
     ensures { result.now ≡ type_name instance.now (type_of instance.now unit) }
@@ -45,7 +45,7 @@ pub(crate) fn type_of_unit(instance: &Instance, unit: UnitNo) -> &[u8]
 }
 
 /// The name of a unit's home.
-#[tactic(auto, unfolding(timetable::specs::Day::home_of))]
+#[tactic(auto, unfolding(rules::specs::Day::home_of))]
 pub(crate) fn home_of_unit(instance: &Instance, unit: UnitNo) -> &[u8]
     requires { unit < unit_count instance.now }
     ensures { result.now ≡ station_name instance.now (home_of instance.now unit) }
@@ -54,7 +54,7 @@ pub(crate) fn home_of_unit(instance: &Instance, unit: UnitNo) -> &[u8]
 }
 
 /// The name of the station that a trip leaves from.
-#[tactic(auto, unfolding(timetable::specs::Day::from_of))]
+#[tactic(auto, unfolding(rules::specs::Day::from_of))]
 pub(crate) fn origin_of_trip(instance: &Instance, trip: TripNo) -> &[u8]
     requires { trip < length instance.now.trips }
     ensures { result.now ≡ station_name instance.now (from_of instance.now trip) }
@@ -63,7 +63,7 @@ pub(crate) fn origin_of_trip(instance: &Instance, trip: TripNo) -> &[u8]
 }
 
 /// The name of the station that a trip goes to.
-#[tactic(auto, unfolding(timetable::specs::Day::to_of))]
+#[tactic(auto, unfolding(rules::specs::Day::to_of))]
 pub(crate) fn goal_of_trip(instance: &Instance, trip: TripNo) -> &[u8]
     requires { trip < length instance.now.trips }
     ensures { result.now ≡ station_name instance.now (to_of instance.now trip) }
@@ -72,7 +72,7 @@ pub(crate) fn goal_of_trip(instance: &Instance, trip: TripNo) -> &[u8]
 }
 
 /// The time at which a trip leaves.
-#[tactic(auto, unfolding(timetable::specs::Day::leaves))]
+#[tactic(auto, unfolding(rules::specs::Day::leaves))]
 pub(crate) fn departure_of_trip(instance: &Instance, trip: TripNo) -> [u8; 5]
     requires { trip < length instance.now.trips }
     ensures { result ≡ clock_text (leaves instance.now trip) }
@@ -81,7 +81,7 @@ pub(crate) fn departure_of_trip(instance: &Instance, trip: TripNo) -> [u8; 5]
 }
 
 /// The time at which a trip arrives.
-#[tactic(auto, unfolding(timetable::specs::Day::arrives))]
+#[tactic(auto, unfolding(rules::specs::Day::arrives))]
 pub(crate) fn arrival_of_trip(instance: &Instance, trip: TripNo) -> [u8; 5]
     requires { trip < length instance.now.trips }
     ensures { result ≡ clock_text (arrives instance.now trip) }

@@ -107,7 +107,7 @@ impl<'day, 'picks, 'ledger> Yard<'day, 'picks, 'ledger> {
     }
 
     /// How many units one trip takes at a minute.
-    #[tactic(auto, unfolding(timetable::specs::Day::leaves, timetable::specs::Day::from_of))]
+    #[tactic(auto, unfolding(rules::specs::Day::leaves, rules::specs::Day::from_of))]
     fn takes_at(&self, trip: TripNo, minute: Minute) -> u32
         requires { trip < length self.now.day.trips }
         ensures value { result ≡ takes_at self.now minute trip }
@@ -134,7 +134,7 @@ impl<'day, 'picks, 'ledger> Yard<'day, 'picks, 'ledger> {
     }
 
     /// How many units that one trip gives become ready in a span of minutes.
-    #[tactic(auto, unfolding(timetable::specs::Day::to_of))]
+    #[tactic(auto, unfolding(rules::specs::Day::to_of))]
     fn gives_between(&self, trip: TripNo, span: &Span) -> u32
         requires { trip < length self.now.day.trips }
         ensures value { result ≡ gives_between self.now span.now.after span.now.by trip }

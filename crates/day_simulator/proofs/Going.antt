@@ -10,7 +10,7 @@ use Rattle.timetable.specs.Accepted.{IsDay}
 use Rattle.timetable.specs.Admissible.{is_admissible}
 use Rattle.timetable.specs.Links.{list_of, given, taken}
 use Rattle.timetable.specs.Running.{IsPlan}
-use Rattle.timetable.specs.declared.day.records.Unit as unit
+use Rattle.rules.specs.declared.records.Unit as unit
 use Rattle.day_simulator.specs.declared.events.DayEvent.{DayEvent}
 use Rattle.day_simulator.specs.declared.events.DayEvent.TheVariants.{Depart, Arrive}
 use Rattle.day_simulator.specs.declared.events.Place.TheVariants.{Yard, Aboard, Standing}

@@ -7,7 +7,7 @@ use Rattle.std.proofs.lemmas.Bool.{cases_Bool, le-leb, and_right, and_from, cond
 use Rattle.timetable.specs.Day.{Day, leaves, arrives, type_of}
 use Rattle.timetable.specs.Lists.{count_of}
 use Rattle.timetable.specs.Accepted.{AreLinks}
-use Rattle.timetable.specs.declared.day.records.Link.{Link}
+use Rattle.rules.specs.declared.records.Link.{Link}
 use Rattle.timetable.specs.Links.{link_holds, arriving_in, departing_in, incoming, outgoing, trips_into}
 use Rattle.day_simulator.specs.Steps.{is_tested_at, broken, broken_into, broken_out}
 use Rattle.timetable.proofs.NamedTrips.{IsNamed, named_or_not}

@@ -7,7 +7,7 @@ use Rattle.timetable.specs.Day.{Day, leaves, home_of, unit_count, type_of}
 use Rattle.timetable.specs.Lists.{count_of, below}
 use Rattle.timetable.specs.Accepted.{IsDay, AreLinks}
 use Rattle.timetable.specs.Links.{list_of, link_holds, kept, taken}
-use Rattle.timetable.specs.declared.day.records.Link.{Link}
+use Rattle.rules.specs.declared.records.Link.{Link}
 use Rattle.timetable.specs.Duties.{duty, last_place, last_place_of}
 use Rattle.timetable.specs.Running.{IsPlan, Runs, MayFollow, EachFollows, BeginsAt}
 use Rattle.timetable.specs.Cost.{plan_cost}

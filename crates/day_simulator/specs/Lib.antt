@@ -10,7 +10,7 @@ pub mod StepTests
 pub mod StepEffects
 pub mod EndFaults
 pub mod Moments
-pub use Rattle.timetable.specs.Day
-pub use Rattle.timetable.specs.Links
-pub use Rattle.timetable.specs.Running
-pub use Rattle.timetable.specs.Cost
+pub use Rattle.rules.specs.Day
+pub use Rattle.rules.specs.Links
+pub use Rattle.rules.specs.Running
+pub use Rattle.rules.specs.Cost

@@ -3,8 +3,8 @@ use Rattle.std.specs.Prelude.{ℕ, List, [], ◌∷◌, Bool, true, false, not, 
 use Rattle.std.specs.Prelude.{None, option_map, option_and_then, unwrap_or, slice_get, slice_set, nat_le, length}
 use Rattle.std.specs.Prelude.{Result, Ok, Err}
 use Rattle.std.specs.List.{list_all}
-use Rattle.timetable.specs.declared.day.records.LinkKind.{LinkKind}
-use Rattle.timetable.specs.declared.day.records.LinkKind.TheVariants.{Turn, Join, Split}
+use Rattle.rules.specs.declared.records.LinkKind.{LinkKind}
+use Rattle.rules.specs.declared.records.LinkKind.TheVariants.{Turn, Join, Split}
 use Rattle.timetable.specs.Day.{Day, leaves, from_of, to_of, type_of, types_of, ready_at}
 use Rattle.timetable.specs.Admissible.{is_admissible}
 use Rattle.timetable.specs.Links.{list_of, incoming, outgoing, trips_into, link_holds, given, taken}

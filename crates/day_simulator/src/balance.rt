@@ -58,7 +58,7 @@ fn is_in_yard(station: StationNo, place: Place) -> bool
 }
 
 /// Whether a unit at this place counts for a station and a type.
-#[tactic(auto, unfolding(timetable::specs::Day::type_of))]
+#[tactic(auto, unfolding(rules::specs::Day::type_of))]
 fn is_counted(
     instance: &Instance,
     station: StationNo,

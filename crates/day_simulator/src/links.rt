@@ -10,7 +10,7 @@ ghost use Rattle.day_simulator.specs.Steps.{is_tested_at, broken, broken_into, b
 use crate::balance::stage_of;
 use crate::events::Stage;
 use rail_base::{LinkNo, TripNo};
-use timetable::{Instance, Link, LinkTrips, NamedPlan};
+use timetable::{Instance, Link, LinkTrips, NamedPlan, link_holds};
 
 /// Whether a link's rule is tested at departures, or else at arrivals: a join, for which two trips arrive, where its
 /// trip leaves, and a turn and a split where their trip arrives.
@@ -36,7 +36,7 @@ fn broken(
 {
     let number = number?;
     let link = instance.link(number);
-    if is_tested_at(departure, link) && !link.holds(instance, plan) {
+    if is_tested_at(departure, link) && !link_holds(link, instance, plan) {
         Some(number)
     } else {
         None

@@ -11,7 +11,7 @@ use rail_base::{StationNo, TripNo, UnitNo};
 use timetable::Instance;
 
 /// The minute at which a trip leaves; 0 where there is no such trip.
-#[tactic(auto, unfolding(timetable::specs::Day::leaves))]
+#[tactic(auto, unfolding(rules::specs::Day::leaves))]
 pub(crate) fn departure(instance: &Instance, trip: TripNo) -> u32
     ensures minute { result ≡ leaves instance.now trip }
     ensures range { result < MOST_MINUTES }
@@ -23,7 +23,7 @@ pub(crate) fn departure(instance: &Instance, trip: TripNo) -> u32
 }
 
 /// The minute at which a trip arrives; 1 where there is no such trip.
-#[tactic(auto, unfolding(timetable::specs::Day::arrives))]
+#[tactic(auto, unfolding(rules::specs::Day::arrives))]
 pub(crate) fn arrival(instance: &Instance, trip: TripNo) -> u32
     ensures minute { result ≡ arrives instance.now trip }
     ensures range { result < MOST_MINUTES }
@@ -35,7 +35,7 @@ pub(crate) fn arrival(instance: &Instance, trip: TripNo) -> u32
 }
 
 /// The station that a trip leaves from.
-#[tactic(auto, unfolding(timetable::specs::Day::from_of))]
+#[tactic(auto, unfolding(rules::specs::Day::from_of))]
 pub(crate) fn from_of(instance: &Instance, trip: TripNo) -> StationNo
     requires { trip < length instance.now.trips }
     ensures station { result ≡ from_of instance.now trip }
@@ -45,7 +45,7 @@ pub(crate) fn from_of(instance: &Instance, trip: TripNo) -> StationNo
 }
 
 /// The station that a trip goes to.
-#[tactic(auto, unfolding(timetable::specs::Day::to_of))]
+#[tactic(auto, unfolding(rules::specs::Day::to_of))]
 pub(crate) fn to_of(instance: &Instance, trip: TripNo) -> StationNo
     requires { trip < length instance.now.trips }
     ensures station { result ≡ to_of instance.now trip }
@@ -55,7 +55,7 @@ pub(crate) fn to_of(instance: &Instance, trip: TripNo) -> StationNo
 }
 
 /// The metres that fit both platforms of a trip.
-#[tactic(auto, unfolding(timetable::specs::Day::platform_of))]
+#[tactic(auto, unfolding(rules::specs::Day::platform_of))]
 fn longest(instance: &Instance, trip: TripNo) -> u32
     requires { trip < length instance.now.trips }
     ensures { result ≡ longest_of instance.now trip }
@@ -66,7 +66,7 @@ fn longest(instance: &Instance, trip: TripNo) -> u32
 }
 
 /// Whether units may run on a trip as a composition.
-#[tactic(auto, unfolding(timetable::specs::Admissible::is_admissible))]
+#[tactic(auto, unfolding(rules::specs::Admissible::is_admissible))]
 pub(crate) fn is_admissible(instance: &Instance, trip: TripNo, units: &[UnitNo]) -> bool
     requires trip { trip < length instance.now.trips }
     requires known { AreUnits instance.now units.now }

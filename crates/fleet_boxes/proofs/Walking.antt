@@ -16,7 +16,7 @@ use Rattle.branch_tree.proofs.Concluding.{proved_is_concluded}
 use Rattle.price_bound.specs.DayMeanings.{meanings_of}
 use Rattle.price_bound.proofs.Whole.{relaxes}
 use Rattle.rail_base.specs.declared.numbers.Money.{Money}
-use Rattle.answer_text.specs.declared.answer.Head.TheVariants as heads
+use Rattle.rules.specs.declared.heads.Head.TheVariants as heads
 use Rattle.answer_check.proofs.Truth.{holds}
 use Rattle.fleets.specs.Fleets.{IsFleet, IsNowhereAbove, own_fleet, with_fleet}
 use Rattle.fleets.specs.Laws.{RunsAlikeWith}

@@ -6,7 +6,7 @@ use Rattle.rail_base.specs.declared.numbers.Money.{Money}
 use Rattle.std.proofs.lemmas.Bool.{cases_lt}
 use Rattle.std.proofs.lemmas.List.{length-take-le, take-take}
 use Rattle.timetable.specs.Day.{Day}
-use Rattle.answer_text.specs.declared.answer.Head.{Head}
+use Rattle.rules.specs.declared.heads.Head.{Head}
 use Rattle.fleet_boxes.specs.declared.boxes.FleetBox.{FleetBox}
 use Rattle.fleet_boxes.specs.declared.nodes.BoxNode.{BoxNode}
 use Rattle.fleet_boxes.specs.declared.nodes.BoxNode.TheVariants.{Split, Bound, Nothing}

@@ -2,8 +2,8 @@
 use Rattle.std.proofs.Common.{ℕ, List, Option}
 use Rattle.timetable.specs.Accepted.{IsSoundDay}
 use Rattle.timetable.specs.Day.{Day}
-use Rattle.answer_text.specs.declared.answer.Head.{Head}
-use Rattle.answer_text.specs.declared.answer.Head.TheVariants.{Optimal, Infeasible, Bounded, BoundedPlan}
+use Rattle.rules.specs.declared.heads.Head.{Head}
+use Rattle.rules.specs.declared.heads.Head.TheVariants.{Optimal, Infeasible, Bounded, BoundedPlan}
 use Rattle.fleet_boxes.specs.declared.nodes.BoxNode.{BoxNode}
 use Rattle.fleet_boxes.specs.Laws.{DoBound}
 use Rattle.fleet_boxes.specs.ProvedBoxes.{values_of}

@@ -2,8 +2,8 @@
 use Rattle.std.specs.Prelude.{ℕ, ◌≡◌, ℤ, ◌≤ℤ◌, List, [], All, Option}
 use Rattle.timetable.specs.Day.{Day}
 use Rattle.branch_tree.specs.Trees.{IsLeast}
-use Rattle.answer_text.specs.declared.answer.Head.{Head}
-use Rattle.answer_text.specs.declared.answer.Head.TheVariants.{Optimal, Infeasible, Bounded, BoundedPlan}
+use Rattle.rules.specs.declared.heads.Head.{Head}
+use Rattle.rules.specs.declared.heads.Head.TheVariants.{Optimal, Infeasible, Bounded, BoundedPlan}
 use Rattle.answer_check.specs.Headline.{Says}
 use Rattle.fleet_boxes.specs.ProvedBoxes.{FleetsCostAtLeast, NoFleetRuns}
 use Rattle.fleet_check.specs.declared.found.Chosen.{Chosen}

@@ -1,6 +1,6 @@
 -- The table of prices: what is read of it, and why it is refused.
 use Rattle.std.specs.Prelude.{ℕ, ◌≡◌, ◌<◌, ◌+◌, ◌++◌, List, [], ◌∷◌, length, codes, ⊤}
-use Rattle.compositions.specs.declared.types.UnitType.{UnitType}
+use Rattle.rules.specs.declared.records.UnitType.{UnitType}
 use Rattle.rail_csv.specs.Columns.{field}
 use Rattle.rail_csv.specs.Spelling.{SpellsNumber}
 use Rattle.rail_csv.specs.Tables.{records_of}

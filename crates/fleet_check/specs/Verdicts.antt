@@ -3,8 +3,8 @@ use Rattle.std.specs.Prelude.{ℕ, suc, ◌≡◌, ◌≢◌, ◌↔◌, ◌+◌
 use Rattle.std.specs.Prelude.{Option, Some, None}
 use Rattle.rail_base.specs.declared.numbers.Money.{Money}
 use Rattle.timetable.specs.Day.{Day}
-use Rattle.answer_text.specs.declared.answer.Head.{Head}
-use Rattle.answer_text.specs.declared.answer.Head.TheVariants.{Optimal, Infeasible, Bounded, BoundedPlan}
+use Rattle.rules.specs.declared.heads.Head.{Head}
+use Rattle.rules.specs.declared.heads.Head.TheVariants.{Optimal, Infeasible, Bounded, BoundedPlan}
 use Rattle.fleet_boxes.specs.declared.boxes.FleetBox.{FleetBox}
 use Rattle.fleet_boxes.specs.declared.nodes.BoxNode.{BoxNode}
 use Rattle.fleet_boxes.specs.declared.nodes.BoxNode.TheVariants.{Split, Bound, Nothing}

@@ -13,8 +13,8 @@ use Rattle.timetable.specs.Day.{Day, from_of, platform_of, to_of}
 use Rattle.timetable.proofs.Listing.{length-listed}
 use Rattle.branch_tree.specs.Regions.{choices_of, root_of}
 use Rattle.branch_tree.specs.Trees.{IsLeastOf}
-use Rattle.answer_text.specs.declared.answer.Head.{Head}
-use Rattle.answer_text.specs.declared.answer.Head.TheVariants.{Optimal, BoundedPlan}
+use Rattle.rules.specs.declared.heads.Head.{Head}
+use Rattle.rules.specs.declared.heads.Head.TheVariants.{Optimal, BoundedPlan}
 use Rattle.answer_check.specs.ProvedTrees.{bound_said}
 use Rattle.fleets.specs.Fleets.{IsFleet, own_fleet, start_at, with_fleet}
 use Rattle.fleets.proofs.Sizes.{smaller_fleets_fit}

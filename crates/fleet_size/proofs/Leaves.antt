@@ -18,8 +18,8 @@ use Rattle.branch_tree.proofs.Walking.{walks_map}
 use Rattle.price_bound.specs.DayMeanings.{meanings_of}
 use Rattle.price_bound.proofs.Whole.{relaxes}
 use Rattle.answer_text.specs.declared.answer.Answer.{Answer}
-use Rattle.answer_text.specs.declared.answer.Head.{Head}
-use Rattle.answer_text.specs.declared.answer.Head.TheVariants.{Optimal, Infeasible, Bounded, BoundedPlan}
+use Rattle.rules.specs.declared.heads.Head.{Head}
+use Rattle.rules.specs.declared.heads.Head.TheVariants.{Optimal, Infeasible, Bounded, BoundedPlan}
 use Rattle.answer_text.specs.Limits.{IsHead}
 use Rattle.answer_check.specs.Headline.{IsHeadline}
 use Rattle.answer_check.specs.ProvedTrees.{bound_said}

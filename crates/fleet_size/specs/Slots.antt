@@ -8,8 +8,8 @@ use Rattle.timetable.specs.Day.{Day}
 use Rattle.timetable.specs.Running.{Runs}
 use Rattle.branch_tree.specs.declared.tree.Node.{Node}
 use Rattle.branch_tree.specs.Regions.{choices_of, root_of}
-use Rattle.answer_text.specs.declared.answer.Head.{Head}
-use Rattle.answer_text.specs.declared.answer.Head.TheVariants.{Optimal, Infeasible, Bounded, BoundedPlan}
+use Rattle.rules.specs.declared.heads.Head.{Head}
+use Rattle.rules.specs.declared.heads.Head.TheVariants.{Optimal, Infeasible, Bounded, BoundedPlan}
 use Rattle.answer_text.specs.Limits.{IsAmount}
 use Rattle.fleets.specs.Fleets.{IsNowhereAbove, own_fleet, with_fleet}
 use Rattle.fleet_boxes.specs.declared.boxes.FleetBox.{FleetBox}

@@ -4,7 +4,7 @@ use Rattle.std.proofs.Common.{Bool, true, false, inl, inr}
 use Rattle.std.specs.Prelude.{◌==◌, ◌&&◌, if◌then◌else◌}
 use Rattle.std.proofs.lemmas.Bool.{cases_Bool, and_parts, eqb-true, cond-true, cond-false}
 use Rattle.rail_base.specs.declared.limits.TheConstants.{MOST_UNITS}
-use Rattle.timetable.specs.declared.day.records.Stock.{Stock}
+use Rattle.rules.specs.declared.records.Stock.{Stock}
 use Rattle.timetable.specs.Build.{starts_of}
 use Rattle.timetable.specs.Day.{Day, unit_count}
 use Rattle.timetable.specs.Lists.{listed, sum_below}

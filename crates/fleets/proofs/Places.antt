@@ -5,7 +5,7 @@ use Rattle.std.specs.Prelude.{◌==◌, ◌&&◌}
 use Rattle.std.specs.List.{AllPairs}
 use Rattle.std.proofs.lemmas.Bool.{cases_Bool, and_parts, eqb-true, cond-true, cond-false}
 use Rattle.std.proofs.lemmas.Nat.{div-add-mod'}
-use Rattle.timetable.specs.declared.day.records.Stock.{Stock}
+use Rattle.rules.specs.declared.records.Stock.{Stock}
 use Rattle.timetable.specs.Accepted.{rows_of}
 use Rattle.timetable.specs.Build.{starts_of}
 use Rattle.timetable.specs.Meaning.{IsOtherStock}

@@ -5,8 +5,8 @@ use Rattle.std.specs.Prelude.{◌==◌, ◌&&◌, if◌then◌else◌}
 use Rattle.std.specs.List.{All}
 use Rattle.std.proofs.lemmas.List.Elements.{All-nil, All-cons}
 use Rattle.rail_base.specs.declared.limits.TheConstants.{MOST_UNITS, MOST_COMPOSITIONS}
-use Rattle.timetable.specs.declared.day.records.Stock.{Stock}
-use Rattle.timetable.specs.declared.day.records.Unit as unit
+use Rattle.rules.specs.declared.records.Stock.{Stock}
+use Rattle.rules.specs.declared.records.Unit as unit
 use Rattle.timetable.specs.Accepted.{IsSoundDay, AreUnitsOf, IsStocked}
 use Rattle.timetable.specs.Day.{Day, stock_units, unit_count, units_in, units_of, home_of, type_of, wanted_in, wanted_of}
 use Rattle.timetable.specs.DerivedDays.{KeepsTimetable}

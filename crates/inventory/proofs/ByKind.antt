@@ -8,15 +8,15 @@ use Rattle.std.proofs.lemmas.Bool.{leb-true, le-leb, lt-leb}
 use Rattle.std.proofs.lemmas.List.{take-append-drop, length-map, append-nil, map-id}
 use Rattle.std.proofs.Math.Seq.{take-append_seam, drop-append_seam}
 use Rattle.std.proofs.lemmas.Slice.Eq.{bytes_eq-Decides}
-use Rattle.rail_csv.specs.declared.rows.End.{End}
-use Rattle.timetable.specs.declared.day.records.LinkKind.{LinkKind}
-use Rattle.timetable.specs.declared.day.records.LinkKind.TheVariants.{Turn, Join, Split}
+use Rattle.rules.specs.declared.records.End.{End}
+use Rattle.rules.specs.declared.records.LinkKind.{LinkKind}
+use Rattle.rules.specs.declared.records.LinkKind.TheVariants.{Turn, Join, Split}
 use Rattle.timetable.specs.Links.{list_of, itself, turned, turn_of, kind_holds, join_holds, split_holds, arriving_in}
 use Rattle.timetable.specs.Links.{departing_in, kept_by, given_by, taken_by}
 use Rattle.timetable.specs.Lists.{count_of, has}
 use Rattle.timetable.specs.Turns.{Parts, same, may_stay, staying, beyond, fits_at, kept_length, kept_count, may_shunt}
 use Rattle.timetable.specs.Turns.{turn_parts}
-use Rattle.timetable.proofs.Turning.{greatest-some, stays, turn_parts-some, turn_parts-is, parts_at-is}
+use Rattle.rules.proofs.Turning.{greatest-some, stays, turn_parts-some, turn_parts-is, parts_at-is}
 use Rattle.timetable.proofs.Shares.{same_lists}
 use Rattle.timetable.proofs.TypeRule.{turned-map}
 use Rattle.inventory.specs.Places.{going_by, left_by, come_by, fetched_by}

@@ -4,10 +4,10 @@ use Rattle.std.proofs.Common.{arith, inl, inr, cond, Bool}
 use Rattle.std.specs.Prelude.{option_map, option_and_then, unwrap_or, slice_get, IsTrue, filter, nat_lt, ◌==◌, take}
 use Rattle.std.specs.Prelude.{drop, map}
 use Rattle.std.proofs.lemmas.Bool.{cases_Bool, cases_lt, leb-true, le-leb, ltb-true}
-use Rattle.rail_csv.specs.declared.rows.End.{End}
-use Rattle.timetable.specs.declared.day.records.Link.{Link}
-use Rattle.timetable.specs.declared.day.records.LinkKind.{LinkKind}
-use Rattle.timetable.specs.declared.day.records.LinkKind.TheVariants.{Turn, Join, Split}
+use Rattle.rules.specs.declared.records.End.{End}
+use Rattle.rules.specs.declared.records.Link.{Link}
+use Rattle.rules.specs.declared.records.LinkKind.{LinkKind}
+use Rattle.rules.specs.declared.records.LinkKind.TheVariants.{Turn, Join, Split}
 use Rattle.timetable.specs.Accepted.{IsDay, AreLinks}
 use Rattle.timetable.specs.Day.{Day, leaves, arrives, types_of}
 use Rattle.timetable.specs.Duties.{duty}

@@ -5,9 +5,9 @@ use Rattle.std.specs.Prelude.{option_map, option_and_then, unwrap_or, slice_get,
 use Rattle.std.specs.List.{flat_map}
 use Rattle.std.proofs.lemmas.Bool.{cases_eq, cases_lt, ne_eqb, le-leb, cond-false}
 use Rattle.std.proofs.lemmas.List.{map-append}
-use Rattle.timetable.specs.declared.day.records.Link.{Link}
-use Rattle.timetable.specs.declared.day.records.LinkKind.{LinkKind}
-use Rattle.timetable.specs.declared.day.records.LinkKind.TheVariants.{Turn, Join, Split}
+use Rattle.rules.specs.declared.records.Link.{Link}
+use Rattle.rules.specs.declared.records.LinkKind.{LinkKind}
+use Rattle.rules.specs.declared.records.LinkKind.TheVariants.{Turn, Join, Split}
 use Rattle.timetable.specs.Accepted.{AreLinks}
 use Rattle.timetable.specs.Day.{Day, leaves, arrives}
 use Rattle.timetable.specs.Links.{list_of, itself, turned, link_holds, kind_holds, arriving_in, departing_in, incoming}

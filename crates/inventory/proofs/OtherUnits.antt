@@ -4,7 +4,7 @@ use Rattle.std.proofs.Common.{◌≡◌, ℕ, ◌<◌, ◌≤◌, List, [], ◌�
 use Rattle.std.specs.Prelude.{◌==◌, ◌&&◌, ◌⊎◌, if◌then◌else◌, option_map, unwrap_or}
 use Rattle.std.proofs.lemmas.Bool.{cases_lt, cond-false, ne_eqb, and_right}
 use Rattle.std.proofs.lemmas.Option.{slice_get_past}
-use Rattle.timetable.specs.declared.day.records.Trip.{Trip}
+use Rattle.rules.specs.declared.records.Trip.{Trip}
 use Rattle.timetable.specs.Accepted.{IsTimetable, IsDay, AreUnitsOf, IsStocked}
 use Rattle.timetable.specs.Day.{Day, Units, stock_units, to_of}
 use Rattle.timetable.specs.Duties.{duty, ends_at, last_place_of}

@@ -6,14 +6,14 @@ use Rattle.std.proofs.Common.{false, cond, eqb, refl, sym, ap, ◌∙◌, subst,
 use Rattle.std.proofs.lemmas.Bool.{cond-true, cond-false, eq-eqb, ne_eqb}
 use Rattle.std.proofs.lemmas.List.{take-append-drop, length-map, map-append, take-map, drop-map, length-take-le}
 use Rattle.std.proofs.Math.Seq.{take-append_seam, drop-append_seam}
-use Rattle.rail_csv.specs.declared.rows.End.{End}
-use Rattle.rail_csv.specs.declared.rows.End.TheVariants as at
-use Rattle.timetable.specs.declared.day.records.LinkKind.{LinkKind}
-use Rattle.timetable.specs.declared.day.records.LinkKind.TheVariants.{Turn, Join, Split}
+use Rattle.rules.specs.declared.records.End.{End}
+use Rattle.rules.specs.declared.records.End.TheVariants as at
+use Rattle.rules.specs.declared.records.LinkKind.{LinkKind}
+use Rattle.rules.specs.declared.records.LinkKind.TheVariants.{Turn, Join, Split}
 use Rattle.timetable.specs.Links.{list_of, turned, departing_in}
 use Rattle.timetable.specs.Lists.{count_of}
 use Rattle.timetable.specs.Turns.{staying, beyond, kept_count}
-use Rattle.timetable.proofs.Turning.{staying_counts, staying-map, beyond-map}
+use Rattle.rules.proofs.Turning.{staying_counts, staying-map, beyond-map}
 use Rattle.timetable.proofs.Shares.{count_of-turned}
 use Rattle.timetable.proofs.TypeRule.{turned-map}
 use Rattle.inventory.specs.Places.{going_by, left_by, come_by, fetched_by, coupled_at, coupled_by}

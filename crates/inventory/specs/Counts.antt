@@ -2,7 +2,7 @@
 -- those that they gave.
 use Rattle.std.specs.Prelude.{ℕ, ◌+◌, ◌≡◌, ◌<◌, ◌≤◌, List, length, true, ◌==◌, ◌&&◌, if◌then◌else◌, nat_le, slice_get}
 use Rattle.std.specs.Prelude.{get_or, Some, ℤ, pos, ◌-ℤ◌}
-use Rattle.timetable.specs.declared.day.records.Link.{Link}
+use Rattle.rules.specs.declared.records.Link.{Link}
 use Rattle.timetable.specs.Admissible.{is_admissible}
 use Rattle.timetable.specs.Day.{Day, leaves, from_of, to_of, wanted_of, ready_at}
 use Rattle.timetable.specs.Links.{list_of, itself, link_holds, given_with, taken_with}

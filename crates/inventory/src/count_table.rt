@@ -205,7 +205,7 @@ impl CountTable {
     }
 
     /// Notes what a trip gives to the yard, at the first departure minute at which it is ready.
-    #[tactic(auto, unfolding(timetable::specs::Day::to_of))]
+    #[tactic(auto, unfolding(rules::specs::Day::to_of))]
     fn note_given(&mut self, instance: &Instance, picks: &Picks, trip: TripNo)
         requires picks { ArePicks instance.now picks.now }
         requires trip { trip < length instance.now.trips }
@@ -220,7 +220,7 @@ impl CountTable {
     }
 
     /// Notes what a trip takes from the yard, at its departure minute.
-    #[tactic(auto, unfolding(timetable::specs::Day::from_of, timetable::specs::Day::leaves))]
+    #[tactic(auto, unfolding(rules::specs::Day::from_of, rules::specs::Day::leaves))]
     fn note_taken(&mut self, instance: &Instance, picks: &Picks, trip: TripNo)
         requires picks { ArePicks instance.now picks.now }
         requires trip { trip < length instance.now.trips }

@@ -6,8 +6,8 @@ use Rattle.rail_base.specs.declared.memory.NoMemory as memory
 use Rattle.statuses.specs.Written.{IsTextOf}
 use Rattle.statuses.proofs.Endings.{IsToldByFive}
 use Rattle.run_documents.specs.Texts.{IsDocument}
-use Rattle.answer_text.specs.declared.answer.Head.{Head}
-use Rattle.answer_text.specs.declared.answer.Head.TheVariants.{Optimal, Infeasible, Bounded, BoundedPlan}
+use Rattle.rules.specs.declared.heads.Head.{Head}
+use Rattle.rules.specs.declared.heads.Head.TheVariants.{Optimal, Infeasible, Bounded, BoundedPlan}
 use Rattle.answer_check.specs.declared.checking.AnswerVerdict.{AnswerVerdict}
 use Rattle.answer_check.specs.declared.checking.AnswerVerdict.TheVariants.{Valid, RunsDiffer, UnknownUnit}
 use Rattle.answer_check.specs.declared.checking.AnswerVerdict.TheVariants as verdicts

@@ -9,14 +9,14 @@ use Rattle.std.proofs.lemmas.List.{map-id, reverse-append}
 use Rattle.std.proofs.lemmas.Option.{get_or_from_slice_get, slice_get_within}
 use Rattle.std.proofs.lemmas.Slice.Eq.{bytes_eq-Decides}
 use Rattle.std.proofs.Math.Seq.{take-append_seam, drop-append_seam}
-use Rattle.rail_csv.specs.declared.rows.End.{End}
-use Rattle.rail_csv.specs.declared.rows.End.TheVariants as at
+use Rattle.rules.specs.declared.records.End.{End}
+use Rattle.rules.specs.declared.records.End.TheVariants as at
 use Rattle.timetable.specs.declared.day.indices.Place.{Place}
 use Rattle.timetable.specs.declared.day.indices.Place.TheVariants.{Lambda, Mu, Sigma}
 use Rattle.timetable.specs.declared.day.records.Handover.{Handover}
-use Rattle.timetable.specs.declared.day.records.Link.{Link}
-use Rattle.timetable.specs.declared.day.records.LinkKind.{LinkKind}
-use Rattle.timetable.specs.declared.day.records.LinkKind.TheVariants.{Turn, Join, Split}
+use Rattle.rules.specs.declared.records.Link.{Link}
+use Rattle.rules.specs.declared.records.LinkKind.{LinkKind}
+use Rattle.rules.specs.declared.records.LinkKind.TheVariants.{Turn, Join, Split}
 use Rattle.timetable.specs.Chains.{leads_from, leads_to}
 use Rattle.timetable.specs.Compositions.{compositions_of, composition_at}
 use Rattle.timetable.specs.Cost.{is_shunted, kind_cost}
@@ -28,7 +28,7 @@ use Rattle.timetable.specs.Turns.{AreParts, Consists, Parts, kept_length, same, 
 use Rattle.timetable.proofs.Handovers.{are_handovers}
 use Rattle.timetable.proofs.Indices.{have_multipliers}
 use Rattle.timetable.proofs.Shares.{same_lists}
-use Rattle.timetable.proofs.Turning.{kept-is, turn_parts-some}
+use Rattle.rules.proofs.Turning.{kept-is, turn_parts-some}
 use Rattle.timetable.proofs.WholeTurns.{have_parts}
 use Rattle.transitions.specs.declared.edge.Edge.{Edge}
 use Rattle.transitions.specs.declared.edge.Shunt.{Shunt}

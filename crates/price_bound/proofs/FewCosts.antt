@@ -4,9 +4,9 @@ use Rattle.std.proofs.Common.{None, slice_get, unwrap_or, arith}
 use Rattle.std.specs.Prelude.{option_map, if◌then◌else◌}
 use Rattle.std.proofs.Math.Nat.{mul-le-mul, suc-mul, zero-mul}
 use Rattle.compositions.specs.Composition.{carriages_of, seats_of, first_seats_of}
-use Rattle.timetable.specs.declared.day.records.Link.{Link}
-use Rattle.timetable.specs.declared.day.records.LinkKind.{LinkKind}
-use Rattle.timetable.specs.declared.day.records.LinkKind.TheVariants.{Turn, Join, Split}
+use Rattle.rules.specs.declared.records.Link.{Link}
+use Rattle.rules.specs.declared.records.LinkKind.{LinkKind}
+use Rattle.rules.specs.declared.records.LinkKind.TheVariants.{Turn, Join, Split}
 use Rattle.timetable.specs.Accepted.{IsDay}
 use Rattle.timetable.specs.Cost.{cost_of, is_shunted, kind_cost, link_cost, missing_seats, trip_cost}
 use Rattle.timetable.specs.Day.{Day, km_of, demand_of, first_demand_of}

@@ -2,10 +2,10 @@
 use Rattle.std.proofs.Common.{◌≤◌, ◌-◌, ℕ, List, [], length, map, Bool, true, false, Option, Some, None, unwrap_or}
 use Rattle.std.proofs.Common.{arith}
 use Rattle.std.specs.Prelude.{option_map, option_and_then, ◌==◌, ◌&&◌, if◌then◌else◌, nat_le}
-use Rattle.rail_csv.specs.declared.rows.End.{End}
-use Rattle.timetable.specs.declared.day.records.Link.{Link}
-use Rattle.timetable.specs.declared.day.records.LinkKind.{LinkKind}
-use Rattle.timetable.specs.declared.day.records.LinkKind.TheVariants.{Turn, Join, Split}
+use Rattle.rules.specs.declared.records.End.{End}
+use Rattle.rules.specs.declared.records.Link.{Link}
+use Rattle.rules.specs.declared.records.LinkKind.{LinkKind}
+use Rattle.rules.specs.declared.records.LinkKind.TheVariants.{Turn, Join, Split}
 use Rattle.timetable.specs.Accepted.{IsDay}
 use Rattle.timetable.specs.Day.{Day, to_of, ready_at}
 use Rattle.timetable.specs.Links.{list_of, itself, link_out, given_by, given_with, turned}

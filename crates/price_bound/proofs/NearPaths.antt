@@ -7,7 +7,7 @@ use Rattle.std.specs.List.{All}
 use Rattle.std.proofs.lemmas.Bool.{cases_eq, cases_lt}
 use Rattle.std.proofs.lemmas.Int.{ints}
 use Rattle.std.proofs.lemmas.List.Elements.{All-head, All-tail}
-use Rattle.timetable.specs.declared.day.records.Link.{Link}
+use Rattle.rules.specs.declared.records.Link.{Link}
 use Rattle.timetable.specs.Accepted.{AreLinks}
 use Rattle.timetable.specs.Chains.{AreChains, IsChain, Leads, chains_of, leads_from, leads_to, times_in}
 use Rattle.timetable.specs.Compositions.{composition_at}

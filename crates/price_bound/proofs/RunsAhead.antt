@@ -4,7 +4,7 @@ use Rattle.std.proofs.Common.{◌≡◌, ℕ, zero, suc, ◌<◌, ◌≤◌, Lis
 use Rattle.std.proofs.Common.{ℤ, pos, inl, inr, slice_get}
 use Rattle.std.proofs.lemmas.Bool.{cases_lt}
 use Rattle.std.proofs.lemmas.List.{get_or_past}
-use Rattle.timetable.specs.declared.day.records.Link.{Link}
+use Rattle.rules.specs.declared.records.Link.{Link}
 use Rattle.timetable.specs.Accepted.{AreLinks}
 use Rattle.timetable.specs.Chains.{Leads, leads_from, leads_to}
 use Rattle.timetable.specs.Day.{Day}

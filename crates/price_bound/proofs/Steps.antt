@@ -1,7 +1,7 @@
 -- Whether a link leads along its chain by an edge, by looking for the edge.
 use Rattle.std.proofs.Common.{◌≡◌, ◌↔◌, ◌<◌, ℕ, zero, suc, List, [], ◌∷◌, length, arith, Option, Some, None, IsTrue}
 use Rattle.std.proofs.Common.{is_some, slice_get, refl, sym, subst, ◌∙◌}
-use Rattle.timetable.specs.declared.day.records.Link.{Link}
+use Rattle.rules.specs.declared.records.Link.{Link}
 use Rattle.timetable.specs.Chains.{leads_from, leads_to}
 use Rattle.timetable.specs.Day.{Day}
 use Rattle.transitions.specs.declared.edge.Edge.{Edge}

@@ -4,13 +4,13 @@ use Rattle.std.proofs.Common.{◌||◌, Some, None, refl, sym, ap, ◌∙◌, su
 use Rattle.std.specs.Prelude.{◌==◌, nat_le}
 use Rattle.std.proofs.lemmas.Bool.{or_cases, or_left, or_right, eqb-true, false≢true}
 use Rattle.std.proofs.lemmas.List.{map-id}
-use Rattle.rail_csv.specs.declared.rows.End.{End}
-use Rattle.rail_csv.specs.declared.rows.End.TheVariants as at
+use Rattle.rules.specs.declared.records.End.{End}
+use Rattle.rules.specs.declared.records.End.TheVariants as at
 use Rattle.timetable.specs.Compositions.{compositions_of, composition_at}
 use Rattle.timetable.specs.Day.{Day}
 use Rattle.timetable.specs.Links.{itself, turned}
 use Rattle.timetable.specs.Turns.{AreParts, Consists, IsKeptList, IsWithout, Parts}
-use Rattle.timetable.proofs.Turning.{is_staying}
+use Rattle.rules.proofs.Turning.{is_staying}
 use Rattle.transitions.specs.declared.edge.Edge.{Edge}
 use Rattle.transitions.specs.declared.edge.Shunt.{Shunt}
 use Rattle.transitions.specs.declared.edge.Shunt.TheVariants.{Keep, Uncouple, Couple, Exchange}

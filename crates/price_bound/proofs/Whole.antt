@@ -8,7 +8,7 @@ use Rattle.std.proofs.lemmas.Int.{ints}
 use Rattle.std.proofs.lemmas.List.{get_or_default}
 use Rattle.timetable.specs.declared.day.indices.Place.{Place}
 use Rattle.timetable.specs.declared.day.indices.Place.TheVariants.{Lambda, Mu}
-use Rattle.timetable.specs.declared.day.records.Link.{Link}
+use Rattle.rules.specs.declared.records.Link.{Link}
 use Rattle.timetable.specs.Accepted.{AreLinks, IsSoundDay}
 use Rattle.timetable.specs.Admissible.{is_admissible}
 use Rattle.timetable.specs.Compositions.{compositions_of, composition_at}

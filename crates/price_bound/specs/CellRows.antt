@@ -2,7 +2,7 @@
 use Rattle.std.specs.Prelude.{ℕ, ◌≡◌, ◌<◌, List, [], ◌∷◌, length, get_or, set, fold, replicate, map, Option, None, Some, slice_get}
 use Rattle.std.specs.Prelude.{if◌then◌else◌, int_lt, ℤ, pos, ◌<ℤ◌, ◌⊎◌, All}
 use Rattle.timetable.specs.Compositions.{compositions_of}
-use Rattle.timetable.specs.declared.day.records.Link.{Link}
+use Rattle.rules.specs.declared.records.Link.{Link}
 use Rattle.timetable.specs.Chains.{leads_from, leads_to}
 use Rattle.timetable.specs.Day.{Day}
 use Rattle.timetable.specs.Links.{outgoing}

@@ -2,7 +2,7 @@
 -- edges of the link that leads on from it.
 use Rattle.std.specs.Prelude.{ℕ, ◌≡◌, List, [], ◌∷◌, map, length, slice_get, ℤ, pos, ◌+ℤ◌}
 use Rattle.std.specs.Prelude.{true, Bool, ◌&&◌, if◌then◌else◌, nat_lt, Option, Some, None, unwrap_or}
-use Rattle.timetable.specs.declared.day.records.Link.{Link}
+use Rattle.rules.specs.declared.records.Link.{Link}
 use Rattle.timetable.specs.Admissible.{is_admissible}
 use Rattle.timetable.specs.Compositions.{compositions_of, composition_at}
 use Rattle.timetable.specs.Day.{Day}

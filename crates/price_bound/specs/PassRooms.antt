@@ -1,7 +1,7 @@
 -- The room in which passes are made.
 use Rattle.std.specs.Prelude.{ℕ, suc, ◌≡◌, ◌<◌, List, [], length, get_or, Option, false}
-use Rattle.timetable.specs.declared.day.records.Link.{Link}
-use Rattle.timetable.specs.declared.day.records.LinkKind.TheVariants.{Turn}
+use Rattle.rules.specs.declared.records.Link.{Link}
+use Rattle.rules.specs.declared.records.LinkKind.TheVariants.{Turn}
 use Rattle.price_bound.specs.declared.cells.Cell.{Cell}
 use Rattle.price_bound.specs.declared.pass_room.PassRoom.{PassRoom}
 use Rattle.price_bound.specs.declared.passes.PlainTurn.{PlainTurn}

@@ -1,9 +1,9 @@
 -- Turns without exchange, whose edges are priced all together: by passes over the compositions.
 use Rattle.std.specs.Prelude.{ℕ, suc, ◌≡◌, ◌<◌, ◌≤◌, List, length, get_or, map, Bool, false, Option, Some, IfSome, slice_get}
 use Rattle.std.specs.Prelude.{ℤ, pos, ◌+ℤ◌}
-use Rattle.rail_csv.specs.declared.rows.End.{End}
-use Rattle.timetable.specs.declared.day.records.Link.{Link}
-use Rattle.timetable.specs.declared.day.records.LinkKind.TheVariants.{Turn}
+use Rattle.rules.specs.declared.records.End.{End}
+use Rattle.rules.specs.declared.records.Link.{Link}
+use Rattle.rules.specs.declared.records.LinkKind.TheVariants.{Turn}
 use Rattle.timetable.specs.Compositions.{composition_at}
 use Rattle.transitions.specs.Edges.{AreGraphs, MayRun}
 use Rattle.branch_tree.specs.Meanings.{weighted}

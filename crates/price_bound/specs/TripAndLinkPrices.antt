@@ -1,8 +1,8 @@
 -- What is found once for a trip, for a turn, and for a join or a split.
 use Rattle.std.specs.Prelude.{ℕ, ◌≡◌, ◌<◌, List, [], length, get_or, Bool, is_none, Some, slice_get, ℤ, pos, ◌-ℤ◌}
-use Rattle.rail_csv.specs.declared.rows.End.{End}
-use Rattle.timetable.specs.declared.day.records.Link.{Link}
-use Rattle.timetable.specs.declared.day.records.LinkKind.TheVariants.{Turn}
+use Rattle.rules.specs.declared.records.End.{End}
+use Rattle.rules.specs.declared.records.Link.{Link}
+use Rattle.rules.specs.declared.records.LinkKind.TheVariants.{Turn}
 use Rattle.timetable.specs.Compositions.{composition_at}
 use Rattle.timetable.specs.Day.{Day}
 use Rattle.timetable.specs.Handovers.{second_of}

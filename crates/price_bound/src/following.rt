@@ -1,7 +1,7 @@
 //! Whether picks follow: each may run on its trip, and each link leads along its chain by an edge.
 
 ghost use Rattle.std.specs.Prelude.{ℕ, ◌≡◌, ◌<◌, ◌↔◌, IsTrue, length, slice_get, Some};
-ghost use Rattle.timetable.specs.declared.day.records.Link.{Link};
+ghost use Rattle.rules.specs.declared.records.Link.{Link};
 ghost use Rattle.transitions.specs.Edges.{AreGraphs, MayRun};
 ghost use Rattle.price_bound.specs.FollowingPicks.{Follow, IsStep, pick_of};
 

@@ -57,7 +57,7 @@ pub(crate) fn look_up(yards: &YardTable, places: &[YardPlace], table: &mut Amoun
 }
 
 /// Where a trip takes units.
-#[tactic(auto, unfolding(timetable::specs::Day::from_of, timetable::specs::Day::leaves))]
+#[tactic(auto, unfolding(rules::specs::Day::from_of, rules::specs::Day::leaves))]
 fn taken_at(instance: &Instance, trip: TripNo) -> YardPlace
     requires { trip < length instance.now.trips }
     ensures value { result ≡ taken_at instance.now trip }
@@ -71,7 +71,7 @@ fn taken_at(instance: &Instance, trip: TripNo) -> YardPlace
 }
 
 /// Where a trip gives units.
-#[tactic(auto, unfolding(timetable::specs::Day::to_of))]
+#[tactic(auto, unfolding(rules::specs::Day::to_of))]
 fn given_at(instance: &Instance, trip: TripNo) -> YardPlace
     requires { trip < length instance.now.trips }
     ensures value { result ≡ given_at instance.now trip }

@@ -10,8 +10,8 @@ use Rattle.rail_csv.specs.declared.refusal.TableRefusal.{TableRefusal}
 use Rattle.rail_csv.specs.declared.refusal.TableRefusal.TheVariants.{BadNumber, OutOfRange, BadTime, BadName, BadWord}
 use Rattle.rail_csv.specs.declared.rows.KindWord.{KindWord}
 use Rattle.rail_csv.specs.declared.rows.KindWord.TheVariants as kinds
-use Rattle.rail_csv.specs.declared.rows.End.{End}
-use Rattle.rail_csv.specs.declared.rows.End.TheVariants as ends
+use Rattle.rules.specs.declared.records.End.{End}
+use Rattle.rules.specs.declared.records.End.TheVariants as ends
 use Rattle.rail_csv.specs.Fields.{is_number, number_of, is_time, time_of, pieces_of, numbers_of, is_unit}
 
 -- the field of a column, and where the row's version has no such column, what stands for it

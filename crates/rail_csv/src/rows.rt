@@ -2,6 +2,8 @@
 
 ghost use Rattle.std.specs.Prelude.{◌≡◌, ◌≤◌, length, List, ℕ};
 
+pub use rules::End;
+
 use rail_base::limits::MOST_COMPOSITION;
 use rail_base::{Minute, Name, UnitNo};
 use std::marker::Model;
@@ -77,17 +79,6 @@ pub enum KindWord {
     Join,
     /// One arriving train becomes two.
     Split,
-}
-
-/// The end of a train at which a turn may uncouple or couple units.
-#[derive(Clone, Copy, Debug)]
-pub enum End {
-    /// At no end: it may not.
-    None,
-    /// At the front.
-    Front,
-    /// At the rear.
-    Rear,
 }
 
 /// A row of the links table. Whether its fields fit its kind is not the table's matter.

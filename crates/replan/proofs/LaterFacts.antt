@@ -3,7 +3,7 @@ use Rattle.std.proofs.Common.{◌≡◌, ℕ, ◌<◌, List, [], length, false, 
 use Rattle.std.specs.Prelude.{min, option_map, slice_get, unwrap_or}
 use Rattle.std.proofs.lemmas.Bool.{false_from_ne_true}
 use Rattle.compositions.specs.Composition.{fits_in}
-use Rattle.timetable.specs.declared.day.records.Trip.{Trip}
+use Rattle.rules.specs.declared.records.Trip.{Trip}
 use Rattle.timetable.specs.Accepted.{IsSoundDay}
 use Rattle.timetable.specs.Admissible.{is_admissible}
 use Rattle.timetable.specs.Compositions.{compositions_of, composition_at, greatest_platform}

@@ -8,8 +8,8 @@ use Rattle.branch_tree.specs.Claims.{CostsAtLeast, HasNoSolution, IsConcluded, I
 use Rattle.branch_tree.specs.Meanings.{Meanings}
 use Rattle.price_bound.specs.ChangedDays.{added_cost, changed_day, changed_meanings}
 use Rattle.price_bound.proofs.ChangedPlans.{changed_solutions_bound_plans, no_changed_solutions_no_plans}
-use Rattle.answer_text.specs.declared.answer.Head.{Head}
-use Rattle.answer_text.specs.declared.answer.Head.TheVariants.{Optimal, Infeasible, Bounded, BoundedPlan}
+use Rattle.rules.specs.declared.heads.Head.{Head}
+use Rattle.rules.specs.declared.heads.Head.TheVariants.{Optimal, Infeasible, Bounded, BoundedPlan}
 use Rattle.answer_text.specs.Limits.{has_plan}
 use Rattle.answer_check.specs.ProvedTrees.{bound_said}
 use Rattle.answer_check.specs.Validity.{conclusion_of}

@@ -7,8 +7,8 @@ use Rattle.day_simulator.specs.Finish.{simulation}
 use Rattle.branch_tree.specs.Trees.{branchings_of}
 use Rattle.price_bound.specs.ChangedDays.{changed_day, changed_meanings}
 use Rattle.answer_text.specs.declared.answer.Answer.{Answer}
-use Rattle.answer_text.specs.declared.answer.Head.{Head}
-use Rattle.answer_text.specs.declared.answer.Head.TheVariants.{Optimal, Infeasible, Bounded, BoundedPlan}
+use Rattle.rules.specs.declared.heads.Head.{Head}
+use Rattle.rules.specs.declared.heads.Head.TheVariants.{Optimal, Infeasible, Bounded, BoundedPlan}
 use Rattle.answer_text.specs.Limits.{has_plan}
 use Rattle.answer_check.specs.ProvedTrees.{HasProvedTreeIn, bound_said}
 use Rattle.replan.specs.declared.refusal.ReplanRefusal.{ReplanRefusal}

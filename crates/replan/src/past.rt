@@ -12,7 +12,7 @@ use rail_base::{Minute, TripNo};
 use timetable::{Instance, LinkTrips};
 
 /// Whether a trip arrives before a minute.
-#[tactic(auto, unfolding(timetable::specs::Day::arrives))]
+#[tactic(auto, unfolding(rules::specs::Day::arrives))]
 fn has_arrived(instance: &Instance, now: Minute, trip: TripNo) -> bool
     requires { trip < length instance.now.trips }
     ensures { result ≡ nat_lt (arrives instance.now trip) now }

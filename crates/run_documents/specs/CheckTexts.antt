@@ -2,7 +2,7 @@
 use Rattle.std.specs.Prelude.{ℕ, List, ◌++◌, codes, Option, Some, None}
 use Rattle.std.specs.Fmt.{decimal, signed_decimal}
 use Rattle.rail_base.specs.declared.numbers.Money.{Money}
-use Rattle.answer_text.specs.declared.answer.Head.{Head}
+use Rattle.rules.specs.declared.heads.Head.{Head}
 use Rattle.answer_text.specs.Texts.{head_line}
 use Rattle.cert_check.specs.declared.verdict.Reason.{Reason}
 use Rattle.cert_check.specs.declared.verdict.Reason.TheVariants.{TreeShape, BranchingsDiffer, NotProper}

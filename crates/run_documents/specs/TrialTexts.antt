@@ -1,8 +1,8 @@
 -- The document of a trial day that was planned.
 use Rattle.std.specs.Prelude.{ℕ, List, ◌++◌}
 use Rattle.answer_text.specs.declared.answer.Answer.{Answer}
-use Rattle.answer_text.specs.declared.answer.Head.{Head}
-use Rattle.answer_text.specs.declared.answer.Head.TheVariants.{Optimal, Infeasible, Bounded, BoundedPlan}
+use Rattle.rules.specs.declared.heads.Head.{Head}
+use Rattle.rules.specs.declared.heads.Head.TheVariants.{Optimal, Infeasible, Bounded, BoundedPlan}
 use Rattle.answer_text.specs.Texts.{head_line, text_of}
 use Rattle.run_documents.specs.Lines.{line_end, trial_line}
 

@@ -3,10 +3,10 @@ use Rattle.std.proofs.Common.{◌≡◌, ℕ, zero, suc, ◌<◌, ◌≤◌, Lis
 use Rattle.std.proofs.Common.{unwrap_or, Contains}
 use Rattle.std.proofs.lemmas.Bool.{and_parts, and_from, leb-true, le-leb}
 use Rattle.std.proofs.lemmas.Option.{slice_get-get_or}
-use Rattle.compositions.specs.declared.types.UnitType.{UnitType}
+use Rattle.rules.specs.declared.records.UnitType.{UnitType}
 use Rattle.compositions.specs.Composition.{fits_in, metres_of}
 use Rattle.compositions.proofs.Listing.{catalogue_listed}
-use Rattle.timetable.specs.declared.day.records.Station.{Station}
+use Rattle.rules.specs.declared.records.Station.{Station}
 use Rattle.timetable.specs.Admissible.{longest_of, is_admissible}
 use Rattle.timetable.specs.Compositions.{greatest_in, greatest_platform, compositions_of, composition_at}
 use Rattle.timetable.specs.Day.{Day, from_of, platform_of}

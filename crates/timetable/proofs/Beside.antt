@@ -4,15 +4,15 @@ use Rattle.std.proofs.Common.{subst, ◌∙◌, unwrap_or}
 use Rattle.std.specs.Prelude.{option_and_then, option_map, is_some, ◌&&◌, if◌then◌else◌}
 use Rattle.std.proofs.lemmas.Bool.{and_from, cond-true, cond-false}
 use Rattle.std.proofs.lemmas.List.{length-map, length-reverse, map-id}
-use Rattle.rail_csv.specs.declared.rows.End.{End}
-use Rattle.timetable.specs.declared.day.records.LinkKind.{LinkKind}
-use Rattle.timetable.specs.declared.day.records.LinkKind.TheVariants.{Turn}
+use Rattle.rules.specs.declared.records.End.{End}
+use Rattle.rules.specs.declared.records.LinkKind.{LinkKind}
+use Rattle.rules.specs.declared.records.LinkKind.TheVariants.{Turn}
 use Rattle.timetable.specs.Chains.{leads_from, leads_to}
 use Rattle.timetable.specs.Links.{itself, list_of, turned, turn_of, kind_holds, given_by, taken_by}
 use Rattle.timetable.specs.Beside.{AreBeside}
 use Rattle.timetable.specs.Turns.{Parts, same, staying, beyond, parts_beside, kept_of, kept_length, may_shunt, parts_at}
 use Rattle.timetable.specs.Turns.{turn_parts}
-use Rattle.timetable.proofs.Turning.{kept-is, staying-map, beyond-map}
+use Rattle.rules.proofs.Turning.{kept-is, staying-map, beyond-map}
 use Rattle.timetable.proofs.TypeRule.{turned-map}
 
 -- ---- the parts where so many stay

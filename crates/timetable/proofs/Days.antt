@@ -7,14 +7,14 @@ use Rattle.std.proofs.lemmas.List.{length-replicate}
 use Rattle.std.proofs.lemmas.List.Elements.{All-nil, All-head, All-tail, All-append, All-replicate, All-weaker}
 use Rattle.std.proofs.lemmas.Bool.{ltb-false}
 use Rattle.compositions.specs.Catalogue.{catalogue_of}
-use Rattle.compositions.specs.declared.types.UnitType.{UnitType}
+use Rattle.rules.specs.declared.records.UnitType.{UnitType}
 use Rattle.rail_csv.specs.Rows.{AreTypeRows, AreStationRows, AreTripRows, AreLinkRows, IsWeightsRow}
 use Rattle.rail_csv.specs.declared.rows.LinkRow.{LinkRow}
-use Rattle.timetable.specs.declared.day.records.Link.{Link}
-use Rattle.timetable.specs.declared.day.records.Station.{Station}
-use Rattle.timetable.specs.declared.day.records.Stock.{Stock}
-use Rattle.timetable.specs.declared.day.records.Trip.{Trip}
-use Rattle.timetable.specs.declared.day.records.Unit as unit
+use Rattle.rules.specs.declared.records.Link.{Link}
+use Rattle.rules.specs.declared.records.Station.{Station}
+use Rattle.rules.specs.declared.records.Stock.{Stock}
+use Rattle.rules.specs.declared.records.Trip.{Trip}
+use Rattle.rules.specs.declared.records.Unit as unit
 use Rattle.timetable.specs.declared.building.refusal.InstanceRefusal.{InstanceRefusal}
 use Rattle.timetable.specs.declared.building.refusal.InstanceRefusal.TheVariants.{TooManyUnits, TooManyCompositions}
 use Rattle.timetable.specs.declared.building.tables.Tables.{Tables}

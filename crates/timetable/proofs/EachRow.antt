@@ -8,9 +8,9 @@ use Rattle.timetable.specs.Day.{units_in}
 use Rattle.timetable.specs.Handovers.{handover_at, handovers_from, second_of}
 use Rattle.timetable.specs.Rowwise.{accept_each}
 use Rattle.timetable.specs.declared.day.records.Handover.{Handover}
-use Rattle.timetable.specs.declared.day.records.Link.{Link}
-use Rattle.timetable.specs.declared.day.records.Stock.{Stock}
-use Rattle.timetable.specs.declared.day.records.Unit.{Unit}
+use Rattle.rules.specs.declared.records.Link.{Link}
+use Rattle.rules.specs.declared.records.Stock.{Stock}
+use Rattle.rules.specs.declared.records.Unit.{Unit}
 
 -- the rows from one on are that row and those after it
 row_first : {A : Type 0} (rows : List A) (i : ℕ) (row : A) → i < length rows → row ≡ get_or rows i row → drop i rows ≡ row ∷ drop (i + 1) rows

@@ -4,7 +4,7 @@ use Rattle.std.specs.Prelude.{nat_lt}
 use Rattle.rail_base.proofs.Answers.{Fails-then}
 use Rattle.rail_base.specs.Answers.{◌>>=◌, Fails}
 use Rattle.rail_base.specs.declared.limits.TheConstants.{MOST_UNITS}
-use Rattle.compositions.specs.declared.types.UnitType.{UnitType}
+use Rattle.rules.specs.declared.records.UnitType.{UnitType}
 use Rattle.rail_csv.specs.declared.rows.TypeRow.{TypeRow}
 use Rattle.rail_csv.specs.declared.rows.StationRow.{StationRow}
 use Rattle.rail_csv.specs.declared.rows.StockRow.{StockRow}
@@ -13,10 +13,10 @@ use Rattle.rail_csv.specs.declared.rows.LinkRow.{LinkRow}
 use Rattle.timetable.specs.declared.building.refusal.InstanceRefusal.{InstanceRefusal}
 use Rattle.timetable.specs.declared.building.refusal.InstanceRefusal.TheVariants.{TooManyUnits}
 use Rattle.timetable.specs.declared.building.tables.Tables.{Tables}
-use Rattle.timetable.specs.declared.day.records.Link.{Link}
-use Rattle.timetable.specs.declared.day.records.Station.{Station}
-use Rattle.timetable.specs.declared.day.records.Stock.{Stock}
-use Rattle.timetable.specs.declared.day.records.Trip.{Trip}
+use Rattle.rules.specs.declared.records.Link.{Link}
+use Rattle.rules.specs.declared.records.Station.{Station}
+use Rattle.rules.specs.declared.records.Stock.{Stock}
+use Rattle.rules.specs.declared.records.Trip.{Trip}
 use Rattle.timetable.specs.Build.{accept_type, accept_station, accept_stock, starts_of, types_in, stations_in, stock_in}
 use Rattle.timetable.specs.Build.{catalogue_in, trips_in, weights_in, yards_in, trips_and_links_in, day_over, day_of, is_memory}
 use Rattle.timetable.specs.Day.{Day}

@@ -5,9 +5,9 @@ use Rattle.std.specs.Prelude.{not, ◌==◌, if◌then◌else◌, filter}
 use Rattle.std.specs.List.{list_any}
 use Rattle.std.proofs.lemmas.Bool.{cases_eq, or_parts, ne_eqb, eq-eqb, leb-true, le-leb}
 use Rattle.std.proofs.lemmas.List.Folds.{list_any-append}
-use Rattle.timetable.specs.declared.day.records.Link.{Link}
-use Rattle.timetable.specs.declared.day.records.LinkKind.{LinkKind}
-use Rattle.timetable.specs.declared.day.records.LinkKind.TheVariants.{Turn, Join, Split}
+use Rattle.rules.specs.declared.records.Link.{Link}
+use Rattle.rules.specs.declared.records.LinkKind.{LinkKind}
+use Rattle.rules.specs.declared.records.LinkKind.TheVariants.{Turn, Join, Split}
 use Rattle.timetable.specs.Accepted.{times_named}
 use Rattle.timetable.specs.DerivedDays.{new_number, kind_with, link_with, names_gone, links_left}
 use Rattle.timetable.specs.Links.{arriving_in, departing_in}

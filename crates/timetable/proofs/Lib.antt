@@ -31,7 +31,6 @@ pub mod SameChains
 pub mod Handovers
 pub mod Meant
 pub mod Deciding
-pub mod Turning
 pub mod PlainTurns
 pub mod WholeTurns
 pub mod ListedUnits

@@ -5,8 +5,8 @@ use Rattle.std.specs.Prelude.{◌&&◌}
 use Rattle.std.proofs.lemmas.Bool.{cases_eq, cases_lt, leb-true, le-leb, eqb-true, eq-eqb, and_parts, and_from}
 use Rattle.std.proofs.lemmas.Bool.{cond-true}
 use Rattle.timetable.specs.Lists.{count_of, has}
-use Rattle.timetable.specs.declared.day.records.LinkKind.{LinkKind}
-use Rattle.timetable.specs.declared.day.records.LinkKind.TheVariants.{Turn, Join, Split}
+use Rattle.rules.specs.declared.records.LinkKind.{LinkKind}
+use Rattle.rules.specs.declared.records.LinkKind.TheVariants.{Turn, Join, Split}
 use Rattle.timetable.specs.Links.{list_of, turned, turn_of, kind_holds, arriving_in, departing_in, kept_by, given_by}
 use Rattle.timetable.specs.Links.{taken_by}
 use Rattle.timetable.proofs.Ones.{one_same, one_other}

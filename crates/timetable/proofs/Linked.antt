@@ -6,7 +6,7 @@ use Rattle.std.proofs.lemmas.Bool.{cases_eq, le-leb}
 use Rattle.timetable.specs.Day.{Day, leaves, arrives, type_of}
 use Rattle.timetable.specs.Lists.{count_of, has}
 use Rattle.timetable.specs.Accepted.{AreLinks}
-use Rattle.timetable.specs.declared.day.records.Link.{Link}
+use Rattle.rules.specs.declared.records.Link.{Link}
 use Rattle.timetable.specs.Links.{list_of, link_holds, kind_holds, arriving_in, departing_in, incoming, outgoing}
 use Rattle.timetable.specs.Links.{link_into, link_out, kept_by, given_by, taken_by, kept, kept_with, given_with}
 use Rattle.timetable.specs.Links.{taken_with}

@@ -7,16 +7,16 @@ use Rattle.std.proofs.lemmas.Bool.{and_parts, or_parts, leb-true, leb-false, eqb
 use Rattle.std.proofs.lemmas.Bool.{cases_eq}
 use Rattle.std.proofs.lemmas.List.Elements.{All-nil}
 use Rattle.std.proofs.lemmas.Option.{slice_get_within, same_Some}
-use Rattle.rail_csv.specs.declared.rows.End.{End}
-use Rattle.rail_csv.specs.declared.rows.End.TheVariants as at
+use Rattle.rules.specs.declared.records.End.{End}
+use Rattle.rules.specs.declared.records.End.TheVariants as at
 use Rattle.rail_csv.specs.declared.rows.KindWord.{KindWord}
 use Rattle.rail_csv.specs.declared.rows.KindWord.TheVariants as words
 use Rattle.rail_csv.specs.declared.rows.LinkRow.{LinkRow}
 use Rattle.rail_csv.specs.declared.rows.Table.TheVariants as tables
-use Rattle.timetable.specs.declared.day.records.Link.{Link}
-use Rattle.timetable.specs.declared.day.records.LinkKind.{LinkKind}
-use Rattle.timetable.specs.declared.day.records.LinkKind.TheVariants.{Turn, Join, Split}
-use Rattle.timetable.specs.declared.day.records.Trip.{Trip}
+use Rattle.rules.specs.declared.records.Link.{Link}
+use Rattle.rules.specs.declared.records.LinkKind.{LinkKind}
+use Rattle.rules.specs.declared.records.LinkKind.TheVariants.{Turn, Join, Split}
+use Rattle.rules.specs.declared.records.Trip.{Trip}
 use Rattle.timetable.specs.declared.building.refusal.InstanceRefusal.{InstanceRefusal}
 use Rattle.timetable.specs.declared.building.refusal.InstanceRefusal.TheVariants.{UnknownName, TripUsedTwice}
 use Rattle.timetable.specs.declared.building.refusal.InstanceRefusal.TheVariants.{WrongStation, TooEarly}

@@ -7,7 +7,7 @@ use Rattle.std.specs.List.{list_any}
 use Rattle.std.proofs.lemmas.Bool.Decides.{nat_tests}
 use Rattle.std.proofs.lemmas.Bool.{le-leb, cases_eq}
 use Rattle.std.proofs.lemmas.List.{take_more, map-append}
-use Rattle.timetable.specs.declared.day.records.Unit as unit
+use Rattle.rules.specs.declared.records.Unit as unit
 use Rattle.timetable.specs.Links.{list_of}
 use Rattle.timetable.specs.Lists.{count_of, has}
 use Rattle.timetable.specs.Day.{Day, units_of, type_of, types_of, unit_count}

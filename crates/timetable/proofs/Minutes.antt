@@ -9,7 +9,7 @@ use Rattle.std.proofs.lemmas.List.Sorted.{searched}
 use Rattle.std.proofs.lemmas.Bool.{cases_Bool, cases_lt, cond_both, cond-true, cond-false, both_ways, ltb-true}
 use Rattle.std.proofs.lemmas.Bool.{ltb-false, lt-ltb, le-ltb, eqb-true, eq-eqb, ne_eqb}
 use Rattle.std.proofs.lemmas.List.Elements.{Contains-get_or}
-use Rattle.timetable.specs.declared.day.records.Trip.{Trip}
+use Rattle.rules.specs.declared.records.Trip.{Trip}
 use Rattle.rail_base.specs.declared.limits.TheConstants.{MOST_MINUTES}
 use Rattle.timetable.specs.Accepted.{IsDay}
 use Rattle.timetable.specs.Day.{Day, leaves, arrives, from_of}

@@ -2,8 +2,8 @@
 use Rattle.std.proofs.Common.{◌≡◌, ℕ, zero, suc, ◌+◌, ◌<◌, List, [], ◌∷◌, ◌++◌, Some, refl, ap, ◌∙◌, arith, replicate}
 use Rattle.std.proofs.Common.{slice_get, take}
 use Rattle.std.proofs.lemmas.Option.{get_or_from_slice_get, slice_get_within}
-use Rattle.timetable.specs.declared.day.records.Stock.{Stock}
-use Rattle.timetable.specs.declared.day.records.Unit as unit
+use Rattle.rules.specs.declared.records.Stock.{Stock}
+use Rattle.rules.specs.declared.records.Unit as unit
 use Rattle.timetable.specs.Build.{starts_of}
 use Rattle.timetable.specs.Day.{Day, type_of, home_of, units_in, units_of}
 use Rattle.timetable.specs.Laws.{IsOfRow, UnitsAreNumbered}

@@ -4,7 +4,7 @@ use Rattle.std.specs.Prelude.{if◌then◌else◌, ◌==◌}
 use Rattle.std.proofs.lemmas.Bool.{cases_eq}
 use Rattle.std.proofs.lemmas.Bool.Decides.{nat_tests}
 use Rattle.timetable.specs.Lists.{count_of, below}
-use Rattle.timetable.proofs.Turning.{count_of-append}
+use Rattle.rules.proofs.Turning.{count_of-append}
 
 -- a number counts once where it is the one, and not at all elsewhere
 abbrev pub one : ℕ → ℕ → ℕ

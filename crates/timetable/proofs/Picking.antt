@@ -5,7 +5,7 @@ use Rattle.std.specs.Prelude.{option_map}
 use Rattle.std.proofs.lemmas.Option.{slice_get-map, slice_get_within, get_or_from_slice_get}
 use Rattle.compositions.specs.Catalogue.{catalogue_of}
 use Rattle.compositions.specs.Composition.{are_types, fits_in}
-use Rattle.compositions.specs.declared.types.UnitType.{UnitType}
+use Rattle.rules.specs.declared.records.UnitType.{UnitType}
 use Rattle.compositions.proofs.Fitting.{Fits-from_test}
 use Rattle.compositions.proofs.Listing.{catalogue_listed}
 use Rattle.timetable.specs.Compositions.{compositions_of, composition_at}

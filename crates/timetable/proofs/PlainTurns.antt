@@ -7,12 +7,12 @@ use Rattle.std.proofs.lemmas.Bool.{eqb-true, eq-eqb, cond-true, cond-false, fals
 use Rattle.std.proofs.lemmas.List.{length-map, take-append-drop, map-append, append-nil}
 use Rattle.std.proofs.lemmas.Slice.Eq.{bytes_eq-Decides}
 use Rattle.std.proofs.Math.Seq.{drop-length}
-use Rattle.rail_csv.specs.declared.rows.End.{End}
-use Rattle.rail_csv.specs.declared.rows.End.TheVariants as at
+use Rattle.rules.specs.declared.records.End.{End}
+use Rattle.rules.specs.declared.records.End.TheVariants as at
 use Rattle.timetable.specs.Turns.{IsWithout, Fits, Parts, same, may_stay, staying, beyond, kept_length, may_shunt}
 use Rattle.timetable.specs.Turns.{parts_at, turn_parts}
 use Rattle.timetable.specs.TurnsWithoutExchange.{is_left_of, gone_of, plain_parts, IsPlainTurn}
-use Rattle.timetable.proofs.Turning.{is_staying, kept-is, kept-none}
+use Rattle.rules.proofs.Turning.{is_staying, kept-is, kept-none}
 
 same_is : (xs ys : List ℕ) → same xs ys ≡ true → xs ≡ ys
 same_is xs ys e = (bytes_eq-Decides xs ys).0 e

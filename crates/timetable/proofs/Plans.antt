@@ -12,7 +12,7 @@ use Rattle.std.proofs.lemmas.Slice.Eq.{bytes_eq-Decides}
 use Rattle.rail_base.specs.Answers.{Unless, Gives}
 use Rattle.rail_base.proofs.Answers.{Unless-then}
 use Rattle.rail_csv.specs.declared.rows.PlanRow.{PlanRow}
-use Rattle.timetable.specs.declared.day.records.Trip.{Trip}
+use Rattle.rules.specs.declared.records.Trip.{Trip}
 use Rattle.timetable.specs.declared.building.refusal.PlanRefusal.{PlanRefusal}
 use Rattle.timetable.specs.declared.building.refusal.PlanRefusal.TheVariants.{WrongTrip, UnknownUnit, MissingTrip}
 use Rattle.timetable.specs.Day.{Day, unit_count}

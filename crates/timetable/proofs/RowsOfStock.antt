@@ -4,7 +4,7 @@ use Rattle.std.proofs.Common.{◌∙◌, arith, inl, inr}
 use Rattle.std.specs.Prelude.{◌==◌, ◌&&◌, Some, slice_get}
 use Rattle.std.proofs.lemmas.Bool.{cases_Bool, cond-true, cond-false, eq-eqb}
 use Rattle.std.proofs.lemmas.Option.{get_or_from_slice_get, slice_get_within}
-use Rattle.timetable.specs.declared.day.records.Stock.{Stock}
+use Rattle.rules.specs.declared.records.Stock.{Stock}
 use Rattle.timetable.specs.Accepted.{rows_of}
 use Rattle.timetable.specs.Day.{Day, wanted_in, wanted_of}
 use Rattle.timetable.specs.Laws.{RowsSayStock, HasStock}

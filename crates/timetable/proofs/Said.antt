@@ -10,18 +10,18 @@ use Rattle.std.proofs.lemmas.List.Folds.{list_any_at}
 use Rattle.std.proofs.lemmas.Option.{slice_get-map, slice_get-get_or}
 use Rattle.std.proofs.lemmas.Slice.Eq.{bytes_eq-Decides}
 use Rattle.compositions.specs.Composition.{fits_in}
-use Rattle.compositions.specs.declared.types.UnitType.{UnitType}
+use Rattle.rules.specs.declared.records.UnitType.{UnitType}
 use Rattle.rail_csv.specs.declared.rows.LinkRow.{LinkRow}
 use Rattle.rail_csv.specs.declared.rows.StationRow.{StationRow}
 use Rattle.rail_csv.specs.declared.rows.StockRow.{StockRow}
 use Rattle.rail_csv.specs.declared.rows.TripRow.{TripRow}
 use Rattle.rail_csv.specs.declared.rows.TypeRow.{TypeRow}
-use Rattle.timetable.specs.declared.day.records.Link.{Link}
-use Rattle.timetable.specs.declared.day.records.LinkKind.{LinkKind}
-use Rattle.timetable.specs.declared.day.records.LinkKind.TheVariants.{Turn, Join, Split}
-use Rattle.timetable.specs.declared.day.records.Station.{Station}
-use Rattle.timetable.specs.declared.day.records.Stock.{Stock}
-use Rattle.timetable.specs.declared.day.records.Trip.{Trip}
+use Rattle.rules.specs.declared.records.Link.{Link}
+use Rattle.rules.specs.declared.records.LinkKind.{LinkKind}
+use Rattle.rules.specs.declared.records.LinkKind.TheVariants.{Turn, Join, Split}
+use Rattle.rules.specs.declared.records.Station.{Station}
+use Rattle.rules.specs.declared.records.Stock.{Stock}
+use Rattle.rules.specs.declared.records.Trip.{Trip}
 use Rattle.timetable.specs.declared.building.tables.Tables.{Tables}
 use Rattle.timetable.specs.Admissible.{is_admissible}
 use Rattle.timetable.specs.Build.{has_stock, platform_at, accept_type, accept_station, accept_stock, accept_trip}

@@ -5,11 +5,11 @@ use Rattle.std.specs.Prelude.{unwrap_or}
 use Rattle.std.proofs.lemmas.Bool.{and_parts}
 use Rattle.std.proofs.lemmas.List.{reverse-append}
 use Rattle.std.proofs.lemmas.Slice.Eq.{bytes_eq-Decides}
-use Rattle.rail_csv.specs.declared.rows.End.{End}
+use Rattle.rules.specs.declared.records.End.{End}
 use Rattle.timetable.specs.Lists.{count_of}
 use Rattle.timetable.specs.Links.{turn_of, turned, split_holds, join_holds}
 use Rattle.timetable.specs.Turns.{Parts, same, turn_parts}
-use Rattle.timetable.proofs.Turning.{Shares, parts_shares, count_of-append as count_append}
+use Rattle.rules.proofs.Turning.{Shares, parts_shares, count_of-append as count_append}
 
 pub count_of-append : (u : ℕ) (xs ys : List ℕ) → count_of u (xs ++ ys) ≡ count_of u xs + count_of u ys
 count_of-append = count_append

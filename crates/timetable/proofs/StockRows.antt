@@ -8,7 +8,7 @@ use Rattle.std.proofs.lemmas.Bool.{cases_Bool, and_parts, eqb-true, cond-true, c
 use Rattle.rail_base.specs.declared.limits.TheConstants.{MOST_STOCK}
 use Rattle.rail_csv.specs.declared.rows.StockRow.{StockRow}
 use Rattle.rail_csv.specs.Rows.{IsStockRow}
-use Rattle.timetable.specs.declared.day.records.Stock.{Stock}
+use Rattle.rules.specs.declared.records.Stock.{Stock}
 use Rattle.timetable.specs.Accepted.{rows_of, IsStocked}
 use Rattle.timetable.specs.Day.{Day, wanted_in, wanted_of}
 use Rattle.timetable.specs.Meaning.{IsOtherStock, IsStockOf}

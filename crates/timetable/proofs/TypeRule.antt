@@ -7,17 +7,17 @@ use Rattle.std.proofs.lemmas.Bool.{and_parts, and_from, false≢true}
 use Rattle.std.proofs.lemmas.List.{length-map, map-append, map-id, reverse-append}
 use Rattle.std.proofs.lemmas.Option.{slice_get-map}
 use Rattle.std.proofs.lemmas.Slice.Eq.{bytes_eq-Decides}
-use Rattle.rail_csv.specs.declared.rows.End.{End}
-use Rattle.timetable.specs.declared.day.records.Link.{Link}
-use Rattle.timetable.specs.declared.day.records.LinkKind.{LinkKind}
-use Rattle.timetable.specs.declared.day.records.LinkKind.TheVariants.{Turn, Join, Split}
+use Rattle.rules.specs.declared.records.End.{End}
+use Rattle.rules.specs.declared.records.Link.{Link}
+use Rattle.rules.specs.declared.records.LinkKind.{LinkKind}
+use Rattle.rules.specs.declared.records.LinkKind.TheVariants.{Turn, Join, Split}
 use Rattle.timetable.specs.Links.{list_of, itself, turn_of, turned, join_holds, split_holds, kind_holds, link_holds}
 use Rattle.timetable.specs.Links.{kept_by, given_by, taken_by, link_out, link_into, outgoing, incoming}
 use Rattle.timetable.specs.Links.{kept_with, given_with, taken_with}
 use Rattle.timetable.specs.Lists.{has}
 use Rattle.timetable.specs.Day.{Day}
 use Rattle.timetable.specs.Turns.{Parts, same, turn_parts}
-use Rattle.timetable.proofs.Turning.{map_parts, turn_parts-renumbered}
+use Rattle.rules.proofs.Turning.{map_parts, turn_parts-renumbered}
 
 -- a list that turned round
 pub reverse-map : {X : Type 0} (f : X → ℕ) (xs : List X) → reverse (map f xs) ≡ map f (reverse xs)

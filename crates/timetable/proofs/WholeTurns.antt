@@ -4,13 +4,13 @@ use Rattle.std.proofs.Common.{sym, ap, subst, ◌∙◌, arith, length-append, l
 use Rattle.std.proofs.lemmas.Bool.{eqb-true, leb-true}
 use Rattle.std.proofs.lemmas.List.{take-append-drop, length-map}
 use Rattle.std.proofs.Math.Seq.{take-append_seam, drop-append_seam}
-use Rattle.rail_csv.specs.declared.rows.End.{End}
-use Rattle.rail_csv.specs.declared.rows.End.TheVariants as at
+use Rattle.rules.specs.declared.records.End.{End}
+use Rattle.rules.specs.declared.records.End.TheVariants as at
 use Rattle.timetable.specs.Laws.{HaveParts}
 use Rattle.timetable.specs.Turns.{IsKeptList, Parts, AreParts, Consists, may_stay, staying, beyond, kept_length}
 use Rattle.timetable.specs.Turns.{may_shunt, turn_parts}
-use Rattle.timetable.proofs.Turning.{is_staying, kept-is, kept-none, staying-map, parts_at-is, turn_parts-some}
-use Rattle.timetable.proofs.Turning.{turn_parts-is}
+use Rattle.rules.proofs.Turning.{is_staying, kept-is, kept-none, staying-map, parts_at-is, turn_parts-some}
+use Rattle.rules.proofs.Turning.{turn_parts-is}
 
 -- where so many may stay, the list is what stays and what goes, and the rest of them go
 record Goes (end : End) (whole : List ℕ) (n : ℕ) : Type 0 where

@@ -6,7 +6,7 @@ use Rattle.rail_base.specs.declared.limits.TheConstants.{MOST_MINUTES, MOST_KM, 
 use Rattle.rail_base.specs.declared.limits.TheConstants.{MOST_PLATFORM, MOST_REALLOCATION, MOST_STOCK, MOST_TYPES}
 use Rattle.rail_base.specs.declared.limits.TheConstants.{MOST_COMPOSITIONS, MOST_HANDOVERS}
 use Rattle.rail_base.specs.declared.limits.TheConstants.{MOST_STATIONS, MOST_TRIPS, MOST_LINKS, MOST_UNITS, MOST_WEIGHT}
-use Rattle.compositions.specs.declared.types.UnitType.{UnitType}
+use Rattle.rules.specs.declared.records.UnitType.{UnitType}
 use Rattle.timetable.specs.Admissible.{is_admissible}
 use Rattle.timetable.specs.Compositions.{compositions_of}
 use Rattle.timetable.specs.Day.{Day, Units, leaves, arrives, from_of, to_of, km_of, demand_of, first_demand_of}
@@ -15,9 +15,9 @@ use Rattle.timetable.specs.Indices.{places_of}
 use Rattle.timetable.specs.Links.{arriving_in, departing_in}
 use Rattle.timetable.specs.Lists.{count_of, has}
 use Rattle.timetable.specs.NamedEntries.{AreNamedApart}
-use Rattle.timetable.specs.declared.day.records.Link.{Link}
-use Rattle.timetable.specs.declared.day.records.LinkKind.{LinkKind}
-use Rattle.timetable.specs.declared.day.records.Stock.{Stock}
+use Rattle.rules.specs.declared.records.Link.{Link}
+use Rattle.rules.specs.declared.records.LinkKind.{LinkKind}
+use Rattle.rules.specs.declared.records.Stock.{Stock}
 
 -- no number of a unit type is over its limit
 pub record IsUnitType (t : UnitType) : Type 0 where

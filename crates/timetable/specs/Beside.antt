@@ -1,7 +1,7 @@
 -- How many entries stay in the train at a link, and what that says of its parts.
 use Rattle.std.specs.Prelude.{ℕ, ◌≡◌, List, Bool, Option, None, option_map}
-use Rattle.timetable.specs.declared.day.records.LinkKind.{LinkKind}
-use Rattle.timetable.specs.declared.day.records.LinkKind.TheVariants.{Turn, Join, Split}
+use Rattle.rules.specs.declared.records.LinkKind.{LinkKind}
+use Rattle.rules.specs.declared.records.LinkKind.TheVariants.{Turn, Join, Split}
 use Rattle.timetable.specs.Links.{list_of, turned}
 use Rattle.timetable.specs.Turns.{parts_beside, turn_parts}
 

@@ -6,7 +6,7 @@ use Rattle.std.specs.List.{list_any}
 use Rattle.rail_base.specs.Answers.{◌>>=◌}
 use Rattle.rail_base.specs.declared.limits.TheConstants.{MOST_UNITS, MOST_COMPOSITIONS}
 use Rattle.compositions.specs.Catalogue.{catalogue_of}
-use Rattle.compositions.specs.declared.types.UnitType.{UnitType}
+use Rattle.rules.specs.declared.records.UnitType.{UnitType}
 use Rattle.rail_csv.specs.declared.rows.TypeRow.{TypeRow}
 use Rattle.rail_csv.specs.declared.rows.StationRow.{StationRow}
 use Rattle.rail_csv.specs.declared.rows.StockRow.{StockRow}
@@ -14,11 +14,11 @@ use Rattle.rail_csv.specs.declared.rows.TripRow.{TripRow}
 use Rattle.rail_csv.specs.declared.rows.LinkRow.{LinkRow}
 use Rattle.rail_csv.specs.declared.rows.WeightsRow.{WeightsRow}
 use Rattle.rail_csv.specs.declared.rows.Table.TheVariants as tables
-use Rattle.timetable.specs.declared.day.records.Link.{Link}
-use Rattle.timetable.specs.declared.day.records.Station.{Station}
-use Rattle.timetable.specs.declared.day.records.Stock.{Stock}
-use Rattle.timetable.specs.declared.day.records.Trip.{Trip}
-use Rattle.timetable.specs.declared.day.records.Weights.{Weights}
+use Rattle.rules.specs.declared.records.Link.{Link}
+use Rattle.rules.specs.declared.records.Station.{Station}
+use Rattle.rules.specs.declared.records.Stock.{Stock}
+use Rattle.rules.specs.declared.records.Trip.{Trip}
+use Rattle.rules.specs.declared.records.Weights.{Weights}
 use Rattle.timetable.specs.declared.building.tables.Tables.{Tables}
 use Rattle.timetable.specs.declared.building.refusal.InstanceRefusal.{InstanceRefusal}
 use Rattle.timetable.specs.declared.building.refusal.InstanceRefusal.TheVariants.{RepeatedName, UnknownName}

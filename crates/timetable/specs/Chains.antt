@@ -2,26 +2,14 @@
 use Rattle.std.specs.Prelude.{ℕ, zero, suc, ◌+◌, ◌≡◌, ◌<◌, ◌≤◌, List, [], ◌∷◌, ◌++◌, length, Bool, false, ◌==◌}
 use Rattle.std.specs.Prelude.{if◌then◌else◌, Option, Some, None, option_map, option_and_then, unwrap_or, slice_get}
 use Rattle.std.specs.List.{All, AllPairs}
-use Rattle.timetable.specs.declared.day.records.Link.{Link}
-use Rattle.timetable.specs.declared.day.records.LinkKind.{LinkKind}
-use Rattle.timetable.specs.declared.day.records.LinkKind.TheVariants.{Turn, Join, Split}
+use Rattle.rules.specs.declared.records.Link.{Link}
+use Rattle.rules.specs.declared.records.LinkKind.{LinkKind}
 use Rattle.timetable.specs.Day.{Day}
 use Rattle.timetable.specs.Links.{arriving_in, departing_in}
 use Rattle.timetable.specs.LinkTables.{link_naming}
 use Rattle.timetable.specs.Lists.{count_of}
 use Rattle.timetable.specs.Running.{EachFollows}
-
--- The two trips that a link makes neighbours in a chain: the one that arrives and the one that departs, and of two that
--- do so the first.
-abbrev pub leads_from : LinkKind → ℕ
-leads_from (Turn a b uncouple couple exchange) = a
-leads_from (Join a1 a2 b) = a1
-leads_from (Split a b1 b2) = a
-
-abbrev pub leads_to : LinkKind → ℕ
-leads_to (Turn a b uncouple couple exchange) = b
-leads_to (Join a1 a2 b) = b
-leads_to (Split a b1 b2) = b1
+pub use Rattle.rules.specs.NamedTrips.{leads_from, leads_to}
 
 -- ---- what chains are
 

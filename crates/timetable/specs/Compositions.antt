@@ -2,7 +2,7 @@
 -- catalogue.
 use Rattle.std.specs.Prelude.{ℕ, List, [], ◌∷◌, max, slice_get, unwrap_or}
 use Rattle.compositions.specs.Catalogue.{catalogue_of}
-use Rattle.timetable.specs.declared.day.records.Station.{Station}
+use Rattle.rules.specs.declared.records.Station.{Station}
 use Rattle.timetable.specs.Day.{Day}
 
 -- the metres of the greatest platform, and 0 where there is no station

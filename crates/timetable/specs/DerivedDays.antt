@@ -5,10 +5,10 @@ use Rattle.std.specs.List.{list_any}
 use Rattle.rail_csv.specs.declared.rows.LinkRow.{LinkRow}
 use Rattle.rail_csv.specs.declared.rows.TripRow.{TripRow}
 use Rattle.timetable.specs.declared.building.tables.Tables.{Tables}
-use Rattle.timetable.specs.declared.day.records.Link.{Link}
-use Rattle.timetable.specs.declared.day.records.LinkKind.{LinkKind}
-use Rattle.timetable.specs.declared.day.records.LinkKind.TheVariants.{Turn, Join, Split}
-use Rattle.timetable.specs.declared.day.records.Stock.{Stock}
+use Rattle.rules.specs.declared.records.Link.{Link}
+use Rattle.rules.specs.declared.records.LinkKind.{LinkKind}
+use Rattle.rules.specs.declared.records.LinkKind.TheVariants.{Turn, Join, Split}
+use Rattle.rules.specs.declared.records.Stock.{Stock}
 use Rattle.timetable.specs.Accepted.{IsTimetable, AreLinks, DoMeet, HaveCompositions}
 use Rattle.timetable.specs.Build.{day_of}
 use Rattle.timetable.specs.Compositions.{compositions_of}

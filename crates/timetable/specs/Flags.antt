@@ -1,8 +1,8 @@
 -- Links of a number of trips, and a flag for each trip that tells whether they name it on a side.
 use Rattle.std.specs.Prelude.{ℕ, ◌<◌, ◌≡◌, List, [], ◌∷◌, length, Bool, true, slice_set, slice_index_or}
 use Rattle.std.specs.List.{list_any}
-use Rattle.timetable.specs.declared.day.records.Link.{Link}
-use Rattle.timetable.specs.declared.day.records.LinkKind.{LinkKind}
+use Rattle.rules.specs.declared.records.Link.{Link}
+use Rattle.rules.specs.declared.records.LinkKind.{LinkKind}
 use Rattle.timetable.specs.Lists.{has}
 
 -- links, and how many trips there are

@@ -2,16 +2,9 @@
 use Rattle.std.specs.Prelude.{ℕ, ◌+◌, ◌≡◌, ◌<◌, List, [], ◌∷◌, ◌++◌, Option, Some, None, slice_get}
 use Rattle.std.specs.List.{All, AllPairs, Contains}
 use Rattle.timetable.specs.declared.day.records.Handover.{Handover}
-use Rattle.timetable.specs.declared.day.records.Link.{Link}
-use Rattle.timetable.specs.declared.day.records.LinkKind.{LinkKind}
-use Rattle.timetable.specs.declared.day.records.LinkKind.TheVariants.{Turn, Join, Split}
+use Rattle.rules.specs.declared.records.Link.{Link}
 use Rattle.timetable.specs.Day.{Day}
-
--- the second arriving trip of a join, and the second departing trip of a split; a turn has no second trip
-abbrev pub second_of : LinkKind → Option ℕ
-second_of (Turn a b uncouple couple exchange) = None
-second_of (Join a1 a2 b) = Some a2
-second_of (Split a b1 b2) = Some b2
+pub use Rattle.rules.specs.NamedTrips.{second_of}
 
 -- ---- what hand-overs are
 

@@ -5,11 +5,11 @@ use Rattle.std.specs.Prelude.{ℕ, ◌+◌, ◌≤◌, ◌<◌, ◌≡◌, ◌�
 use Rattle.std.specs.Prelude.{length, take, slice_get}
 use Rattle.std.specs.List.{AllPairs}
 use Rattle.compositions.specs.Composition.{seats_of, first_seats_of}
-use Rattle.rail_csv.specs.declared.rows.End.{End}
+use Rattle.rules.specs.declared.records.End.{End}
 use Rattle.rail_csv.specs.declared.rows.PlanRow.{PlanRow}
 use Rattle.timetable.specs.declared.building.tables.Tables.{Tables}
-use Rattle.timetable.specs.declared.day.records.LinkKind.{LinkKind}
-use Rattle.timetable.specs.declared.day.records.Stock.{Stock}
+use Rattle.rules.specs.declared.records.LinkKind.{LinkKind}
+use Rattle.rules.specs.declared.records.Stock.{Stock}
 use Rattle.timetable.specs.Accepted.{IsTimetable, AreLinks, DoMeet, HaveNames, IsSoundDay, rows_of}
 use Rattle.timetable.specs.Build.{day_of, starts_of}
 use Rattle.timetable.specs.Chains.{AreChains}

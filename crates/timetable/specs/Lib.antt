@@ -1,16 +1,16 @@
 -- what a day is
-pub mod Lists
-pub mod Day
+pub use Rattle.rules.specs.Lists
+pub use Rattle.rules.specs.Day
 pub mod Starts
-pub mod Admissible
+pub use Rattle.rules.specs.Admissible
 pub mod Compositions
 -- which plans of it run, and what they cost
-pub mod Turns
+pub use Rattle.rules.specs.Turns
 pub mod TurnsWithoutExchange
-pub mod Links
-pub mod Duties
-pub mod Running
-pub mod Cost
+pub use Rattle.rules.specs.Links
+pub use Rattle.rules.specs.Duties
+pub use Rattle.rules.specs.Running
+pub use Rattle.rules.specs.Cost
 pub mod Renumbering
 pub mod LinkCounts
 pub mod Picks
@@ -44,4 +44,4 @@ pub mod InstanceParts
 pub mod Flags
 pub mod Flagged
 pub mod Beside
-pub use Rattle.compositions.specs.Composition
+pub use Rattle.rules.specs.Composition

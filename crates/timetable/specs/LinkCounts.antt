@@ -2,7 +2,7 @@
 -- later trip, and what departs with one is taken from the yard or stayed in the train of an earlier one.
 use Rattle.std.specs.Prelude.{ℕ, ◌≡◌, ◌+◌, List, length, IsTrue, true, Some, slice_get}
 use Rattle.std.specs.List.{sum_by}
-use Rattle.timetable.specs.declared.day.records.Link.{Link}
+use Rattle.rules.specs.declared.records.Link.{Link}
 use Rattle.timetable.specs.Accepted.{AreLinks}
 use Rattle.timetable.specs.Day.{Day}
 use Rattle.timetable.specs.Links.{list_of, link_holds, arriving_in, departing_in, kept_by, given_by, taken_by}

@@ -1,20 +1,19 @@
 -- What the rows of the links make: the links, or the first test that fails. Each row is tested by what the rows before
 -- it gave.
-use Rattle.std.specs.Prelude.{ℕ, List, [], Bool, true, false, not, ◌&&◌, ◌||◌, ◌==◌, nat_le, ◌<◌, if◌then◌else◌, Option}
-use Rattle.std.specs.Prelude.{Some, None, IfSome, Result, Ok, Err}
+use Rattle.std.specs.Prelude.{ℕ, List, [], Bool, true, false, not, ◌&&◌, ◌||◌, ◌==◌, nat_le, if◌then◌else◌, Option}
+use Rattle.std.specs.Prelude.{Some, None, Result, Ok, Err}
 use Rattle.std.specs.List.{list_any}
 use Rattle.rail_base.specs.Answers.{◌>>=◌}
-use Rattle.rail_csv.specs.declared.rows.End.{End}
-use Rattle.rail_csv.specs.declared.rows.End.TheVariants as at
+use Rattle.rules.specs.declared.records.End.{End}
+use Rattle.rules.specs.declared.records.End.TheVariants as at
 use Rattle.rail_csv.specs.declared.rows.KindWord.{KindWord}
 use Rattle.rail_csv.specs.declared.rows.KindWord.TheVariants as words
 use Rattle.rail_csv.specs.declared.rows.LinkRow.{LinkRow}
 use Rattle.rail_csv.specs.declared.rows.Table.TheVariants as tables
-use Rattle.timetable.specs.declared.day.records.Link.{Link}
-use Rattle.timetable.specs.declared.day.records.LinkKind.{LinkKind}
-use Rattle.timetable.specs.declared.day.records.LinkKind.TheVariants.{Turn, Join, Split}
-use Rattle.timetable.specs.declared.day.records.LinkTrips.{LinkTrips}
-use Rattle.timetable.specs.declared.day.records.Trip.{Trip}
+use Rattle.rules.specs.declared.records.Link.{Link}
+use Rattle.rules.specs.declared.records.LinkKind.{LinkKind}
+use Rattle.rules.specs.declared.records.LinkKind.TheVariants.{Turn, Join, Split}
+use Rattle.rules.specs.declared.records.Trip.{Trip}
 use Rattle.timetable.specs.declared.building.refusal.InstanceRefusal.{InstanceRefusal}
 use Rattle.timetable.specs.declared.building.refusal.InstanceRefusal.TheVariants.{UnknownName, TripUsedTwice}
 use Rattle.timetable.specs.declared.building.refusal.InstanceRefusal.TheVariants.{WrongStation, TooEarly}
@@ -23,6 +22,7 @@ use Rattle.timetable.specs.Links.{arriving_in, departing_in}
 use Rattle.timetable.specs.Lists.{of_entry, has}
 use Rattle.timetable.specs.NamedEntries.{find_name, found_or}
 use Rattle.timetable.specs.Rowwise.{row_after, accept_each}
+pub use Rattle.rules.specs.NamedTrips.{NamesBelow, AreBelow}
 
 -- ---- the kind of a row, with the trips that it names
 
@@ -78,16 +78,6 @@ abbrev pub kind_of : KindWord → List Trip → ℕ → LinkRow → Result LinkK
 kind_of words.Turn trips number row = turn_in trips number row row.arriving2 row.departing2
 kind_of words.Join trips number row = join_in trips number row row.arriving2 row.departing2
 kind_of words.Split trips number row = split_in trips number row row.arriving2 row.departing2
-
--- every trip that the kind names is below a bound
-abbrev pub NamesBelow : ℕ → LinkKind → Type 0
-NamesBelow bound (Turn a b uncouple couple exchange) = (a < bound) × (b < bound)
-NamesBelow bound (Join a1 a2 b) = (a1 < bound) × (a2 < bound) × (b < bound)
-NamesBelow bound (Split a b1 b2) = (a < bound) × (b1 < bound) × (b2 < bound)
-
--- these trips of a link are below a bound
-abbrev pub AreBelow : ℕ → LinkTrips → Type 0
-AreBelow bound trips = (trips.first < bound) × IfSome trips.second (λ t. t < bound)
 
 -- ---- the trips of a kind
 

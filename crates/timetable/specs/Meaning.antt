@@ -3,9 +3,9 @@
 use Rattle.std.specs.Prelude.{ℕ, ◌≡◌, ◌≢◌, ◌<◌, ◌≤◌, List, length, Bool, true, false, Some, None}
 use Rattle.std.specs.List.{AllZip, AllPairs}
 use Rattle.rail_base.specs.declared.limits.TheConstants.{MOST_UNITS, MOST_COMPOSITIONS}
-use Rattle.compositions.specs.declared.types.UnitType.{UnitType}
-use Rattle.rail_csv.specs.declared.rows.End.{End}
-use Rattle.rail_csv.specs.declared.rows.End.TheVariants as at
+use Rattle.rules.specs.declared.records.UnitType.{UnitType}
+use Rattle.rules.specs.declared.records.End.{End}
+use Rattle.rules.specs.declared.records.End.TheVariants as at
 use Rattle.rail_csv.specs.declared.rows.KindWord.TheVariants as words
 use Rattle.rail_csv.specs.declared.rows.LinkRow.{LinkRow}
 use Rattle.rail_csv.specs.declared.rows.StationRow.{StationRow}
@@ -13,13 +13,13 @@ use Rattle.rail_csv.specs.declared.rows.StockRow.{StockRow}
 use Rattle.rail_csv.specs.declared.rows.TripRow.{TripRow}
 use Rattle.rail_csv.specs.declared.rows.TypeRow.{TypeRow}
 use Rattle.rail_csv.specs.declared.rows.WeightsRow.{WeightsRow}
-use Rattle.timetable.specs.declared.day.records.Link.{Link}
-use Rattle.timetable.specs.declared.day.records.LinkKind.{LinkKind}
-use Rattle.timetable.specs.declared.day.records.LinkKind.TheVariants.{Turn, Join, Split}
-use Rattle.timetable.specs.declared.day.records.Station.{Station}
-use Rattle.timetable.specs.declared.day.records.Stock.{Stock}
-use Rattle.timetable.specs.declared.day.records.Trip.{Trip}
-use Rattle.timetable.specs.declared.day.records.Weights.{Weights}
+use Rattle.rules.specs.declared.records.Link.{Link}
+use Rattle.rules.specs.declared.records.LinkKind.{LinkKind}
+use Rattle.rules.specs.declared.records.LinkKind.TheVariants.{Turn, Join, Split}
+use Rattle.rules.specs.declared.records.Station.{Station}
+use Rattle.rules.specs.declared.records.Stock.{Stock}
+use Rattle.rules.specs.declared.records.Trip.{Trip}
+use Rattle.rules.specs.declared.records.Weights.{Weights}
 use Rattle.timetable.specs.declared.building.tables.Tables.{Tables}
 use Rattle.timetable.specs.Accepted.{AreLinks, DoMeet, HaveCompositions}
 use Rattle.timetable.specs.Compositions.{compositions_of}

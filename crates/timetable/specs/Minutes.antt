@@ -1,7 +1,7 @@
 -- The minutes at which trips leave a station.
 use Rattle.std.specs.Prelude.{ℕ, ◌≡◌, ◌<◌, List, [], ◌∷◌, length, ◌==◌, if◌then◌else◌, nat_lt}
 use Rattle.std.specs.List.{AllPairs, Contains}
-use Rattle.timetable.specs.declared.day.records.Trip.{Trip}
+use Rattle.rules.specs.declared.records.Trip.{Trip}
 use Rattle.timetable.specs.Day.{Day, leaves, from_of}
 
 -- ---- what these minutes are

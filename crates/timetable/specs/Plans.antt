@@ -5,7 +5,7 @@ use Rattle.std.specs.List.{All, Any, list_all}
 use Rattle.std.specs.Str.{bytes_eq}
 use Rattle.rail_base.specs.Answers.{◌>>=◌}
 use Rattle.rail_csv.specs.declared.rows.PlanRow.{PlanRow}
-use Rattle.timetable.specs.declared.day.records.Trip.{Trip}
+use Rattle.rules.specs.declared.records.Trip.{Trip}
 use Rattle.timetable.specs.declared.building.refusal.PlanRefusal.{PlanRefusal}
 use Rattle.timetable.specs.declared.building.refusal.PlanRefusal.TheVariants.{WrongTrip, UnknownUnit, MissingTrip}
 use Rattle.timetable.specs.declared.building.refusal.PlanRefusal.TheVariants.{NoMemory}

@@ -1,6 +1,6 @@
 -- Units that are numbered in another way, and plans of them.
 use Rattle.std.specs.Prelude.{ℕ, zero, suc, ◌+◌, ◌≡◌, ◌<◌, ◌≤◌, ◌↔◌, List, map, Bool, ◌==◌, ◌&&◌, if◌then◌else◌}
-use Rattle.timetable.specs.declared.day.records.Stock.{Stock}
+use Rattle.rules.specs.declared.records.Stock.{Stock}
 use Rattle.timetable.specs.Cost.{plan_cost_of}
 use Rattle.timetable.specs.Day.{Day, Units}
 use Rattle.timetable.specs.Duties.{duty}

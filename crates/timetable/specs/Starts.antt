@@ -1,6 +1,6 @@
 -- How many units of a type stand at a station at the start of the day.
 use Rattle.std.specs.Prelude.{ℕ, List, [], ◌∷◌, ◌==◌, ◌&&◌, if◌then◌else◌}
-use Rattle.timetable.specs.declared.day.records.Stock.{Stock}
+use Rattle.rules.specs.declared.records.Stock.{Stock}
 use Rattle.timetable.specs.Day.{Day}
 
 -- none where no stock row says it

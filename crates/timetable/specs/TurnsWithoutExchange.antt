@@ -3,8 +3,8 @@
 -- the rule of a turn says the same.
 use Rattle.std.specs.Prelude.{ℕ, ◌-◌, ◌≡◌, ◌≤◌, List, [], length, take, drop, Bool, false, ◌&&◌, if◌then◌else◌, nat_le}
 use Rattle.std.specs.Prelude.{nat_lt, Option, Some, None}
-use Rattle.rail_csv.specs.declared.rows.End.{End}
-use Rattle.rail_csv.specs.declared.rows.End.TheVariants as at
+use Rattle.rules.specs.declared.records.End.{End}
+use Rattle.rules.specs.declared.records.End.TheVariants as at
 use Rattle.timetable.specs.Turns.{same, Parts, turn_parts}
 
 -- the part is what is left of the whole after one or more units went at this end, and at least one stays

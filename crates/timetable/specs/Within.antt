@@ -4,15 +4,15 @@ use Rattle.std.specs.List.{All}
 use Rattle.rail_base.specs.declared.limits.TheConstants.{MOST_TYPES, MOST_PLATFORM, MOST_REALLOCATION, MOST_STATIONS}
 use Rattle.rail_base.specs.declared.limits.TheConstants.{MOST_MINUTES, MOST_KM, MOST_DEMAND, MOST_FIRST_DEMAND}
 use Rattle.rail_base.specs.declared.limits.TheConstants.{MOST_TRIPS, MOST_WEIGHT}
-use Rattle.compositions.specs.declared.types.UnitType.{UnitType}
-use Rattle.timetable.specs.declared.day.records.Link.{Link}
-use Rattle.timetable.specs.declared.day.records.LinkKind.{LinkKind}
-use Rattle.timetable.specs.declared.day.records.LinkKind.TheVariants.{Turn, Join, Split}
-use Rattle.timetable.specs.declared.day.records.Station.{Station}
-use Rattle.timetable.specs.declared.day.records.Stock.{Stock}
-use Rattle.timetable.specs.declared.day.records.Trip.{Trip}
-use Rattle.timetable.specs.declared.day.records.Unit as unit
-use Rattle.timetable.specs.declared.day.records.Weights.{Weights}
+use Rattle.rules.specs.declared.records.UnitType.{UnitType}
+use Rattle.rules.specs.declared.records.Link.{Link}
+use Rattle.rules.specs.declared.records.LinkKind.{LinkKind}
+use Rattle.rules.specs.declared.records.LinkKind.TheVariants.{Turn, Join, Split}
+use Rattle.rules.specs.declared.records.Station.{Station}
+use Rattle.rules.specs.declared.records.Stock.{Stock}
+use Rattle.rules.specs.declared.records.Trip.{Trip}
+use Rattle.rules.specs.declared.records.Unit as unit
+use Rattle.rules.specs.declared.records.Weights.{Weights}
 use Rattle.timetable.specs.Accepted.{IsUnitType}
 use Rattle.timetable.specs.Day.{Day, leaves, arrives, from_of, to_of, units_of}
 use Rattle.timetable.specs.LinkRows.{NamesBelow}

@@ -4,7 +4,7 @@ use Rattle.std.proofs.Common.{arith, unwrap_or}
 use Rattle.std.specs.Prelude.{◌==◌, if◌then◌else◌, option_map}
 use Rattle.std.proofs.lemmas.Bool.{eqb-true, eq-eqb, ne_eqb}
 use Rattle.std.proofs.lemmas.Bool.Decides.{nat_tests}
-use Rattle.rail_csv.specs.declared.rows.End.{End}
+use Rattle.rules.specs.declared.records.End.{End}
 use Rattle.timetable.specs.Links.{itself}
 use Rattle.timetable.specs.Turns.{Parts, turn_parts}
 use Rattle.timetable.proofs.WholeTurns.{have_parts}

@@ -5,9 +5,9 @@ use Rattle.std.specs.Prelude.{option_map, is_some}
 use Rattle.std.proofs.lemmas.Bool.{false≢true}
 use Rattle.std.proofs.lemmas.List.{length-map}
 use Rattle.std.proofs.lemmas.Option.{slice_get-get_or, slice_get_within}
-use Rattle.rail_csv.specs.declared.rows.End.{End}
-use Rattle.timetable.specs.declared.day.records.LinkKind.{LinkKind}
-use Rattle.timetable.specs.declared.day.records.LinkKind.TheVariants.{Turn, Join, Split}
+use Rattle.rules.specs.declared.records.End.{End}
+use Rattle.rules.specs.declared.records.LinkKind.{LinkKind}
+use Rattle.rules.specs.declared.records.LinkKind.TheVariants.{Turn, Join, Split}
 use Rattle.timetable.specs.Compositions.{composition_at}
 use Rattle.timetable.specs.Day.{Day, type_of, types_of}
 use Rattle.timetable.specs.LinkRows.{NamesBelow}
@@ -15,7 +15,7 @@ use Rattle.timetable.specs.Links.{itself, list_of, turned, turn_of, kind_holds, 
 use Rattle.timetable.specs.Running.{Runs}
 use Rattle.timetable.specs.Turns.{Parts, turn_parts}
 use Rattle.timetable.proofs.LinkNames.{names_below}
-use Rattle.timetable.proofs.Turning.{map_parts, turn_parts-map}
+use Rattle.rules.proofs.Turning.{map_parts, turn_parts-map}
 use Rattle.timetable.proofs.TypeRule.{turned-map, join-map, split-map}
 use Rattle.transitions.specs.declared.edge.Edge.{Edge}
 use Rattle.transitions.specs.declared.edge.Shunt.{Shunt}

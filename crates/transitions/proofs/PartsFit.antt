@@ -8,7 +8,7 @@ use Rattle.std.proofs.lemmas.Bool.{and_parts, and_from, le-leb}
 use Rattle.std.proofs.lemmas.List.{reverse-append, length-reverse}
 use Rattle.std.proofs.lemmas.List.Folds.{list_all-append}
 use Rattle.std.proofs.lemmas.Slice.Eq.{bytes_eq-Decides}
-use Rattle.compositions.specs.declared.types.UnitType.{UnitType}
+use Rattle.rules.specs.declared.records.UnitType.{UnitType}
 use Rattle.compositions.specs.Composition.{sum_over, metres_of, family_of, are_types, is_one_family, fits_in}
 use Rattle.compositions.proofs.Fitting.{Fits-from_test}
 use Rattle.timetable.specs.Links.{turned}

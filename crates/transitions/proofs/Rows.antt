@@ -2,7 +2,7 @@
 use Rattle.std.proofs.Common.{◌≡◌, ℕ, ◌+◌, ◌<◌, Bool, List, [], length, inl, inr, subst, arith}
 use Rattle.std.specs.Prelude.{◌⊎◌}
 use Rattle.std.proofs.lemmas.Bool.{cases_lt}
-use Rattle.timetable.specs.declared.day.records.LinkKind.{LinkKind}
+use Rattle.rules.specs.declared.records.LinkKind.{LinkKind}
 use Rattle.timetable.specs.Chains.{leads_from, leads_to}
 use Rattle.timetable.specs.Compositions.{composition_at}
 use Rattle.timetable.specs.Day.{Day}

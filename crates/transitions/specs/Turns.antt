@@ -1,8 +1,8 @@
 -- What a turn does to a train in the station.
 use Rattle.std.specs.Prelude.{ℕ, List, length, Bool, ◌==◌, if◌then◌else◌, Option, None, option_map}
-use Rattle.rail_csv.specs.declared.rows.End.{End}
-use Rattle.timetable.specs.declared.day.records.LinkKind.{LinkKind}
-use Rattle.timetable.specs.declared.day.records.LinkKind.TheVariants.{Turn, Join, Split}
+use Rattle.rules.specs.declared.records.End.{End}
+use Rattle.rules.specs.declared.records.LinkKind.{LinkKind}
+use Rattle.rules.specs.declared.records.LinkKind.TheVariants.{Turn, Join, Split}
 use Rattle.timetable.specs.Links.{itself}
 use Rattle.timetable.specs.Turns.{Parts, turn_parts}
 use Rattle.transitions.specs.declared.edge.Shunt.{Shunt}

@@ -1,8 +1,8 @@
 //! The edge that a link allows from one composition to another.
 
 ghost use Rattle.std.specs.Prelude.{ℕ, List, ◌≡◌, ◌<◌, ◌↔◌, Bool, IsTrue, Some, length, IfOk};
-ghost use Rattle.rail_csv.specs.declared.rows.End.{End};
-ghost use Rattle.timetable.specs.declared.day.records.LinkKind.TheVariants.{Turn};
+ghost use Rattle.rules.specs.declared.records.End.{End};
+ghost use Rattle.rules.specs.declared.records.LinkKind.TheVariants.{Turn};
 ghost use Rattle.timetable.specs.Day.{Day};
 ghost use Rattle.timetable.specs.Compositions.{compositions_of, composition_at};
 ghost use Rattle.timetable.specs.LinkRows.{NamesBelow};

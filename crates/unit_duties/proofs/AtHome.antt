@@ -6,7 +6,7 @@ use Rattle.std.specs.BTreeSet.{BTreeSet, contains}
 use Rattle.std.specs.List.{Contains}
 use Rattle.std.specs.Ordering.{is_eq}
 use Rattle.std.proofs.lemmas.Bool.{cases_lt}
-use Rattle.timetable.specs.declared.day.records.Unit as unit
+use Rattle.rules.specs.declared.records.Unit as unit
 use Rattle.timetable.specs.Day.{Day, units_of, home_of, type_of}
 use Rattle.unit_duties.specs.declared.yards.Waiting.{Waiting}
 use Rattle.unit_duties.specs.Yards.{AreAtHomeBelow}

@@ -1,8 +1,8 @@
 -- What stays and what goes of a list at a turn that keeps so many, or all where there are fewer.
 use Rattle.std.proofs.Common.{◌≡◌, ◌≤◌, ◌-◌, ℕ, List, length, take, drop, min, refl, ap, arith}
 use Rattle.std.proofs.lemmas.List.{take_min, drop_min, length-take, length-drop}
-use Rattle.rail_csv.specs.declared.rows.End.{End}
-use Rattle.rail_csv.specs.declared.rows.End.TheVariants as at
+use Rattle.rules.specs.declared.records.End.{End}
+use Rattle.rules.specs.declared.records.End.TheVariants as at
 use Rattle.timetable.specs.Turns.{staying, beyond}
 
 module _ {X : Type 0} (whole : List X) (n : ℕ) where

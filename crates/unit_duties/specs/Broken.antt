@@ -1,6 +1,6 @@
 -- Which links are broken by the compositions that are picked: those whose rule does not hold of their types.
 use Rattle.std.specs.Prelude.{ℕ, ◌≡◌, ◌<◌, IsTrue, List, length, Some, false, true, slice_get, unwrap_or}
-use Rattle.timetable.specs.declared.day.records.Link.{Link}
+use Rattle.rules.specs.declared.records.Link.{Link}
 use Rattle.timetable.specs.Admissible.{is_admissible}
 use Rattle.timetable.specs.Day.{Day}
 use Rattle.timetable.specs.Links.{itself, list_of, link_holds}

@@ -2,7 +2,7 @@
 -- before it. Of a trip it is asked when and where it runs, and of nothing else that it is the same: not of its name,
 -- its length and its demand, nor of platforms, types and weights.
 use Rattle.std.specs.Prelude.{ℕ, ◌≡◌, ◌<◌, List, length, map, IsTrue, false, Some, slice_get}
-use Rattle.timetable.specs.declared.day.records.Link.{Link}
+use Rattle.rules.specs.declared.records.Link.{Link}
 use Rattle.timetable.specs.Accepted.{IsTimetable, IsDay, AreLinks}
 use Rattle.timetable.specs.Day.{Day, leaves, arrives, from_of, to_of, type_of, types_of, home_of, unit_count, ready_at}
 use Rattle.timetable.specs.DerivedDays.{link_with, old_number, without_trips}

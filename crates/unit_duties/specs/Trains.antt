@@ -1,7 +1,7 @@
 -- How many units a turn keeps, by the compositions that are picked.
 use Rattle.std.specs.Prelude.{ℕ, List, unwrap_or}
 use Rattle.inventory.specs.Places.{given_places}
-use Rattle.timetable.specs.declared.day.records.Link.{Link}
+use Rattle.rules.specs.declared.records.Link.{Link}
 use Rattle.timetable.specs.Chains.{leads_from, leads_to}
 use Rattle.timetable.specs.Day.{Day}
 use Rattle.timetable.specs.Picks.{picked}

@@ -1,7 +1,7 @@
 //! The rules of the links, of the compositions that are picked.
 
 ghost use Rattle.std.specs.Prelude.{◌≡◌, ◌<◌, length, Some, slice_get, option_map, IfSome, IfNone};
-ghost use Rattle.timetable.specs.declared.day.records.Link.{Link};
+ghost use Rattle.rules.specs.declared.records.Link.{Link};
 ghost use Rattle.timetable.specs.Handovers.{second_of};
 ghost use Rattle.timetable.specs.LinkRows.{NamesBelow};
 ghost use Rattle.timetable.specs.Links.{itself, link_holds};

@@ -185,7 +185,7 @@ fn give(
 }
 
 /// The station that a trip goes to, and the minute from which a unit that it gives there may be taken.
-#[tactic(auto, unfolding(timetable::specs::Day::to_of))]
+#[tactic(auto, unfolding(rules::specs::Day::to_of))]
 fn goal_of(instance: &Instance, trip: TripNo) -> (StationNo, u32)
     requires { trip < length instance.now.trips }
     ensures station { result.0 ≡ to_of instance.now trip }

@@ -11,7 +11,7 @@ use std::alloc::Global;
 use timetable::Instance;
 
 /// The minute at which a trip leaves; 0 where there is no such trip.
-#[tactic(auto, unfolding(timetable::specs::Day::leaves))]
+#[tactic(auto, unfolding(rules::specs::Day::leaves))]
 pub(crate) fn departure(instance: &Instance, trip: TripNo) -> u32
     ensures { result ≡ leaves instance.now trip }
 {
@@ -22,7 +22,7 @@ pub(crate) fn departure(instance: &Instance, trip: TripNo) -> u32
 }
 
 /// The station that a trip leaves from.
-#[tactic(auto, unfolding(timetable::specs::Day::from_of))]
+#[tactic(auto, unfolding(rules::specs::Day::from_of))]
 pub(crate) fn origin(instance: &Instance, trip: TripNo) -> StationNo
     requires { trip < length instance.now.trips }
     ensures { result ≡ from_of instance.now trip }

@@ -155,7 +155,7 @@ fn coming(
 }
 
 /// The units of a trip.
-#[tactic(auto, unfolding(timetable::specs::Links::list_of))]
+#[tactic(auto, unfolding(rules::specs::Links::list_of))]
 fn units_of(lists: &[UnitList], trip: TripNo) -> &[UnitNo]
     requires { trip < length lists.now }
     ensures value { result.now ≡ list_of lists.now trip }

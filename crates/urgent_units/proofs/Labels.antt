@@ -6,11 +6,11 @@ use Rattle.std.specs.Prelude.{if◌then◌else◌, ◌==◌, option_map}
 use Rattle.std.specs.List.{flat_map}
 use Rattle.std.proofs.lemmas.Bool.{cases_Bool, cases_eq, cond-false, leb-true, le-leb}
 use Rattle.std.proofs.lemmas.List.{map-append, take-append-drop}
-use Rattle.rail_csv.specs.declared.rows.End.{End}
-use Rattle.rail_csv.specs.declared.rows.End.TheVariants as at
-use Rattle.timetable.specs.declared.day.records.Link.{Link}
-use Rattle.timetable.specs.declared.day.records.LinkKind.{LinkKind}
-use Rattle.timetable.specs.declared.day.records.LinkKind.TheVariants.{Turn, Join, Split}
+use Rattle.rules.specs.declared.records.End.{End}
+use Rattle.rules.specs.declared.records.End.TheVariants as at
+use Rattle.rules.specs.declared.records.Link.{Link}
+use Rattle.rules.specs.declared.records.LinkKind.{LinkKind}
+use Rattle.rules.specs.declared.records.LinkKind.TheVariants.{Turn, Join, Split}
 use Rattle.timetable.specs.Accepted.{IsDay, AreLinks}
 use Rattle.timetable.specs.Day.{Day, type_of, types_of, unit_count}
 use Rattle.timetable.specs.Duties.{duty}
@@ -20,7 +20,7 @@ use Rattle.timetable.specs.Running.{Runs, MayFollow, EachFollows}
 use Rattle.timetable.specs.Turns.{staying, beyond, kept_count}
 use Rattle.timetable.proofs.ListedUnits.{list_of-types}
 use Rattle.timetable.proofs.Ones.{one_same}
-use Rattle.timetable.proofs.Turning.{staying-map}
+use Rattle.rules.proofs.Turning.{staying-map}
 use Rattle.inventory.specs.Places.{going_by, come_by, fetched_by, going_on, kept_places, taken_places, coming}
 use Rattle.inventory.proofs.Linked.{AllHold, Goes, LeadsInto, goes, leads_into, flat_same, taken_places-map, come_is, taken_is, kept_is, places_share}
 use Rattle.inventory.proofs.OnDuty.{once, stays as kept_apart, last_gives, last_of as last_trip, duty_once, on_duty, given_less, of_duty}

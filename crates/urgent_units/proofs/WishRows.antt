@@ -2,7 +2,7 @@
 use Rattle.std.proofs.Common.{◌≡◌, ℕ, zero, suc, ◌+◌, ◌≤◌, ◌<◌, List, [], ◌∷◌, ◌++◌, length, map, Some, refl, sym, ap, ◌∙◌, subst, arith}
 use Rattle.std.proofs.Common.{IsTrue, get_or, inl, inr, Option, None, IsUtf8}
 use Rattle.std.specs.Prelude.{MatchOption, unwrap_or, option_map}
-use Rattle.timetable.specs.declared.day.records.Unit as unit
+use Rattle.rules.specs.declared.records.Unit as unit
 use Rattle.std.specs.List.{All, AllPairs, AllZip, slice_get}
 use Rattle.std.specs.Str.{bytes_eq}
 use Rattle.std.proofs.lemmas.Bool.{cases_eq, leb-true}
@@ -13,13 +13,13 @@ use Rattle.std.proofs.lemmas.List.Elements.{All-append, All-head, All-tail, All-
 use Rattle.rail_csv.specs.Columns.{field}
 use Rattle.rail_csv.specs.Records.{Records, ReadsOn, records_left}
 use Rattle.timetable.specs.Day.{Day, type_of, units_of, unit_count}
-use Rattle.timetable.specs.declared.day.records.Station.{Station}
+use Rattle.rules.specs.declared.records.Station.{Station}
 use Rattle.timetable.specs.Lists.{has, count_of, sum_below, IsDistinct}
 use Rattle.timetable.specs.NamedEntries.{find_name}
 use Rattle.timetable.proofs.Ones.{one, one_same, one_other}
 use Rattle.timetable.proofs.Passing.{each_before}
 use Rattle.timetable.proofs.Sums.{sum_add, sum_le, sum_ones}
-use Rattle.timetable.proofs.Turning.{count_of-append}
+use Rattle.rules.proofs.Turning.{count_of-append}
 use Rattle.urgent_units.specs.declared.wish.Wish.{Wish}
 use Rattle.urgent_units.specs.declared.wish.WishRow.{WishRow}
 use Rattle.urgent_units.specs.WishReading.{AreRows, HasOneMore, IsRightAfter}

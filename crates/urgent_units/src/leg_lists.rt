@@ -60,7 +60,7 @@ fn units_of(
 }
 
 /// Whether a unit is of a type.
-#[tactic(auto, unfolding(timetable::specs::Day::type_of))]
+#[tactic(auto, unfolding(rules::specs::Day::type_of))]
 fn is_of_type(instance: &Instance, unit: UnitNo, unit_type: TypeNo) -> bool
     requires { unit < unit_count instance.now }
     ensures { result ≡ (type_of instance.now unit == unit_type) }
@@ -154,7 +154,7 @@ fn is_given(instance: &Instance, plan: &NamedPlan, unit: UnitNo, trip: TripNo) -
 }
 
 /// The leg of one trip alone.
-#[tactic(auto, unfolding(timetable::specs::Day::from_of, timetable::specs::Day::leaves, timetable::specs::Day::to_of))]
+#[tactic(auto, unfolding(rules::specs::Day::from_of, rules::specs::Day::leaves, rules::specs::Day::to_of))]
 fn leg_of(instance: &Instance, trip: TripNo) -> Leg
     requires { trip < length instance.now.trips }
     ensures { result ≡ leg_of instance.now (trip ∷ []) }
@@ -170,7 +170,7 @@ fn leg_of(instance: &Instance, trip: TripNo) -> Leg
 }
 
 /// A leg with one trip more in front.
-#[tactic(auto, unfolding(timetable::specs::Day::from_of, timetable::specs::Day::leaves))]
+#[tactic(auto, unfolding(rules::specs::Day::from_of, rules::specs::Day::leaves))]
 fn longer(instance: &Instance, trip: TripNo, leg: &Leg) -> Leg
     requires trip { trip < length instance.now.trips }
     requires few { leg.now.trips < 2 ^ 32 - 1 }

@@ -301,7 +301,7 @@ impl Legs {
 }
 
 /// The station where a unit stands at the start of the day.
-#[tactic(auto, unfolding(timetable::specs::Day::home_of))]
+#[tactic(auto, unfolding(rules::specs::Day::home_of))]
 pub(crate) fn home_of(instance: &Instance, unit: UnitNo) -> StationNo
     requires { unit < unit_count instance.now }
     ensures { result ≡ home_of instance.now unit }

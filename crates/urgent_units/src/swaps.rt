@@ -298,7 +298,7 @@ fn exchanged_list(
 }
 
 /// The unit that takes the place of a unit on a trip.
-#[tactic(auto, unfolding(timetable::specs::Day::leaves))]
+#[tactic(auto, unfolding(rules::specs::Day::leaves))]
 fn in_place(instance: &Instance, exchange: &Exchange, trip: TripNo, unit: UnitNo) -> UnitNo
     requires { trip < length instance.now.trips }
     ensures { result ≡ in_place instance.now exchange.now.one exchange.now.other exchange.now.minute trip unit }

@@ -146,7 +146,7 @@ fn go_together(instance: &Instance, before: &[WishRow], row: &WishRow) -> bool
 }
 
 /// Whether two rows name two units of one type, and one depot.
-#[tactic(auto, unfolding(timetable::specs::Day::type_of))]
+#[tactic(auto, unfolding(rules::specs::Day::type_of))]
 fn goes_together(instance: &Instance, one: &WishRow, other: &WishRow) -> bool
     requires one { one.now.unit < unit_count instance.now }
     requires other { other.now.unit < unit_count instance.now }

@@ -8,8 +8,8 @@ use Rattle.timetable.specs.Cost.{plan_cost, plan_cost_of}
 use Rattle.timetable.specs.Day.{Day, Units}
 use Rattle.timetable.specs.Running.{Runs}
 use Rattle.answer_text.specs.declared.answer.Answer.{Answer}
-use Rattle.answer_text.specs.declared.answer.Head.{Head}
-use Rattle.answer_text.specs.declared.answer.Head.TheVariants.{Optimal, Infeasible, Bounded, BoundedPlan}
+use Rattle.rules.specs.declared.heads.Head.{Head}
+use Rattle.rules.specs.declared.heads.Head.TheVariants.{Optimal, Infeasible, Bounded, BoundedPlan}
 use Rattle.answer_text.specs.Limits.{has_plan}
 use Rattle.answer_check.specs.Headline.{IsTrueOf, Says}
 use Rattle.week_units.specs.Laws.{HasDayPlan, cost_of_days}

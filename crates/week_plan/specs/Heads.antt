@@ -2,8 +2,8 @@
 use Rattle.std.specs.Prelude.{List, [], ◌∷◌, pos, ◌+ℤ◌}
 use Rattle.rail_base.specs.declared.numbers.Money.{Money}
 use Rattle.answer_text.specs.declared.answer.Answer.{Answer}
-use Rattle.answer_text.specs.declared.answer.Head.{Head}
-use Rattle.answer_text.specs.declared.answer.Head.TheVariants.{Optimal, Infeasible, Bounded, BoundedPlan}
+use Rattle.rules.specs.declared.heads.Head.{Head}
+use Rattle.rules.specs.declared.heads.Head.TheVariants.{Optimal, Infeasible, Bounded, BoundedPlan}
 
 abbrev pub plus : Money → Money → Money
 plus one other = record { 0 = one.0 +ℤ other.0 }

@@ -2,7 +2,7 @@
 
 ghost use Rattle.std.specs.Prelude.{ℕ, All, ◌≡◌, ◌≤◌, ◌+◌, ◌*◌, ◌^◌, length};
 ghost use Rattle.answer_text.specs.declared.limits.TheConstants.{MOST_AMOUNT};
-ghost use Rattle.answer_text.specs.declared.answer.Head.TheVariants as heads;
+ghost use Rattle.rules.specs.declared.heads.Head.TheVariants as heads;
 ghost use Rattle.week_units.specs.declared.nights.TheConstants.{MOST_DAYS};
 ghost use Rattle.week_plan.specs.Amounts.{IsHeadUpTo, IsUpTo};
 ghost use Rattle.week_plan.specs.Heads.{head_of, plus, together};

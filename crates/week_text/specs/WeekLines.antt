@@ -2,7 +2,7 @@
 use Rattle.std.specs.Prelude.{ℕ, suc, List, [], ◌∷◌, ◌++◌, codes, map, unwrap_or}
 use Rattle.std.specs.Fmt.{decimal}
 use Rattle.answer_text.specs.declared.answer.Answer.{Answer}
-use Rattle.answer_text.specs.declared.answer.Head.{Head}
+use Rattle.rules.specs.declared.heads.Head.{Head}
 use Rattle.answer_text.specs.Lines.{spaced, text_of_lines}
 use Rattle.answer_text.specs.Texts.{end_line, head_line, lines_of}
 use Rattle.week_plan.specs.declared.answers.Week.{Week}

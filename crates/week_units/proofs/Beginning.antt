@@ -3,8 +3,8 @@ use Rattle.std.proofs.Common.{◌≡◌, ℕ, ◌<◌, ◌≤◌, List, [], ◌�
 use Rattle.std.specs.Prelude.{◌==◌, ◌&&◌, ◌⊎◌, if◌then◌else◌, ⊤}
 use Rattle.std.proofs.lemmas.Bool.{cases_lt, cond-false, ne_eqb, and_right}
 use Rattle.std.proofs.lemmas.List.Elements.{All-head}
-use Rattle.compositions.specs.declared.types.UnitType.{UnitType}
-use Rattle.timetable.specs.declared.day.records.Station.{Station}
+use Rattle.rules.specs.declared.records.UnitType.{UnitType}
+use Rattle.rules.specs.declared.records.Station.{Station}
 use Rattle.timetable.specs.Accepted.{AreUnitsOf, IsSoundDay}
 use Rattle.timetable.specs.Day.{Day, Units, stock_units}
 use Rattle.timetable.specs.Renumbering.{is_at, standing_at}

@@ -3,8 +3,8 @@ use Rattle.std.proofs.Common.{◌≡◌, ℕ, zero, suc, ◌+◌, ◌<◌, List,
 use Rattle.std.specs.Prelude.{option_map, unwrap_or}
 use Rattle.std.proofs.lemmas.List.{drop_more}
 use Rattle.std.proofs.lemmas.List.Elements.{All-map}
-use Rattle.timetable.specs.declared.day.records.Trip.{Trip}
-use Rattle.timetable.specs.declared.day.records.Unit as unit
+use Rattle.rules.specs.declared.records.Trip.{Trip}
+use Rattle.rules.specs.declared.records.Unit as unit
 use Rattle.timetable.specs.Day.{Day, home_of, stock_units, to_of, unit_count, units_of}
 use Rattle.timetable.specs.Duties.{duty, ends_at, last_place, last_place_of}
 use Rattle.timetable.specs.Lists.{listed, of_entry}

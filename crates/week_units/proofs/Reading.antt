@@ -4,7 +4,7 @@ use Rattle.std.specs.Prelude.{◌==◌, ◌&&◌, if◌then◌else◌, option_ma
 use Rattle.std.proofs.lemmas.Bool.{cases_eq, cond-false, cond-true, eq-eqb, and_from, and_right, ne_eqb}
 use Rattle.std.proofs.lemmas.List.{append-nil, drop_all, take_all, take_more}
 use Rattle.std.proofs.lemmas.Option.{get_or_from_slice_get, slice_get_read, slice_get_within}
-use Rattle.timetable.specs.declared.day.records.Unit as unit
+use Rattle.rules.specs.declared.records.Unit as unit
 use Rattle.timetable.specs.Day.{Units}
 use Rattle.timetable.specs.Lists.{count_below}
 use Rattle.timetable.specs.Renumbering.{is_at, kth_number, unit_after}

@@ -1,6 +1,6 @@
 -- Units that are listed with their types and the stations where they stand.
 use Rattle.std.specs.Prelude.{ℕ, ◌≡◌, ◌<◌, List, length}
-use Rattle.timetable.specs.declared.day.records.Unit as unit
+use Rattle.rules.specs.declared.records.Unit as unit
 use Rattle.timetable.specs.Day.{Units}
 use Rattle.timetable.specs.Lists.{of_entry}
 use Rattle.week_units.specs.Names.{name_in}

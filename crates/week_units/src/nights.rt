@@ -153,7 +153,7 @@ fn lesser(one: u32, other: u32) -> u32
 }
 
 /// The minute at which a trip leaves.
-#[tactic(auto, unfolding(timetable::specs::Day::leaves))]
+#[tactic(auto, unfolding(rules::specs::Day::leaves))]
 fn leaves(day: &Instance, trip: TripNo) -> u32
     requires { trip < length day.now.trips }
     ensures value { result ≡ leaves day.now trip }

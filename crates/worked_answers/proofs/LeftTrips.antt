@@ -2,7 +2,7 @@
 use Rattle.std.proofs.Common.{◌∙◌, ℕ, ◌+◌, ◌-◌, ◌*◌, ◌<◌, List, length, sym, ap, Option, unwrap_or}
 use Rattle.std.specs.Prelude.{option_map}
 use Rattle.compositions.specs.Composition.{carriages_of, first_seats_of, seats_of}
-use Rattle.timetable.specs.declared.day.records.Trip.{Trip}
+use Rattle.rules.specs.declared.records.Trip.{Trip}
 use Rattle.timetable.specs.Cost.{missing_seats, trip_cost}
 use Rattle.timetable.specs.Day.{Day, leaves, arrives, from_of, to_of, km_of, demand_of, first_demand_of}
 use Rattle.timetable.specs.DerivedDays.{AreTripsLeft, TablesMakeDaysWithout, TripsThatAreLeft, new_number}

@@ -2,8 +2,8 @@
 -- is planned again from a minute on. Each follows from the laws on which it is built.
 use Rattle.std.specs.Prelude.{ℕ, ◌+◌, ◌≡◌, ◌<◌, ◌≤◌, List, length, IsTrue, true}
 use Rattle.std.specs.List.{sum_by}
-use Rattle.timetable.specs.declared.day.records.Link.{Link}
-use Rattle.timetable.specs.declared.day.records.Stock.{Stock}
+use Rattle.rules.specs.declared.records.Link.{Link}
+use Rattle.rules.specs.declared.records.Stock.{Stock}
 use Rattle.timetable.specs.Accepted.{IsSoundDay, IsStocked, AreUnitsOf}
 use Rattle.timetable.specs.Day.{Day, Units, type_of, types_of, stock_units, wanted_of}
 use Rattle.timetable.specs.DerivedDays.{old_number, with_stock, without_trips}

@@ -11,7 +11,7 @@ use sample_days::{ONE_LEFT, RING, TURN, TWO_TYPES, Texts, day_of, plan_of, table
 use std::alloc::{AllocError, Global};
 use std::process::Abort;
 use std::test::Fail;
-use timetable::{Instance, NamedPlan, Place};
+use timetable::{Instance, NamedPlan, Place, kept_by};
 
 /// A day of four trips, whose links are refused where there are some: T1 and T2 arrive, T3 leaves as T2 arrives, and
 /// T4 before it.
@@ -387,7 +387,7 @@ fn staying_told(
     let mut text = String::new(alloc);
     if day.links() > 0 {
         let link = day.link(LinkNo(0));
-        let kept = link.kept::<UnitNo>(day, plan, TripNo(from), TripNo(to));
+        let kept = kept_by::<UnitNo>(link, day, plan, TripNo(from), TripNo(to));
         for unit in kept.as_slice() {
             write!(&mut text, "{} ", unit.0)?;
         }

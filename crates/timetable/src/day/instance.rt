@@ -186,7 +186,7 @@ impl Instance {
 
     /// Whether the composition of this number may run on the trip: its metres fit the platforms of both stations. The
     /// trip is below `trips`, the composition below the catalogue's `len`.
-    #[tactic(auto, unfolding(crate::specs::Compositions::greatest_platform, crate::specs::Admissible::is_admissible))]
+    #[tactic(auto, unfolding(crate::specs::Compositions::greatest_platform, rules::specs::Admissible::is_admissible))]
     pub fn admits(&self, trip: TripNo, comp: CompNo) -> bool
         requires trip { trip < length self.now.trips }
         requires comp { comp < length (compositions_of self.now) }
@@ -249,7 +249,7 @@ impl Instance {
 
     /// The minute from which a unit that this trip gives to the yard where it arrives may be taken there: the trip's
     /// arrival and the station's reallocation time later. The trip is below `trips`.
-    #[tactic(auto, unfolding(crate::specs::Day::arrives, crate::specs::Day::to_of, crate::specs::Day::reallocation_of))]
+    #[tactic(auto, unfolding(rules::specs::Day::arrives, rules::specs::Day::to_of, rules::specs::Day::reallocation_of))]
     pub fn ready_at(&self, trip: TripNo) -> Minute
         requires { trip < length self.now.trips }
         ensures value { result ≡ ready_at self.now trip }
@@ -385,7 +385,7 @@ impl Instance {
     }
 
     /// How many units of a type are wanted at a station at the end of the day: none where no stock row says it.
-    #[tactic(auto, unfolding(crate::specs::Day::wanted_of))]
+    #[tactic(auto, unfolding(rules::specs::Day::wanted_of))]
     pub fn end(&self, station: StationNo, unit_type: TypeNo) -> u32
         ensures { result ≡ wanted_of self.now station unit_type }
     {

@@ -94,7 +94,7 @@ impl NamedPlan {
     }
 
     /// The units of this trip, front to rear: at most six. The trip is below `trips`.
-    #[tactic(auto, unfolding(crate::specs::Links::list_of))]
+    #[tactic(auto, unfolding(rules::specs::Links::list_of))]
     pub fn units(&self, trip: TripNo) -> &[UnitNo]
         requires { trip < length self.now }
         ensures value { result.now ≡ list_of self.now trip }

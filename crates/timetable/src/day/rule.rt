@@ -1,188 +1,28 @@
-//! The rule of a link: which trips it leads on from and to, which compositions or units may go on by it, and which
-//! units stay in the train, go to the yard and come from it.
+//! The rule of a link on a day: which units may go on by it, and which units stay in the train, go to the yard and
+//! come from it.
 
-ghost use Rattle.std.specs.Prelude.{ℕ, ◌≡◌, ◌<◌, ◌≤◌, ◌++◌, ◌&&◌, [], length, map, IfSome, IsTrue, unwrap_or};
+ghost use Rattle.std.specs.Prelude.{◌≡◌, ◌<◌, ◌≤◌, ◌++◌, ◌&&◌, [], length, map, IfSome, IsTrue, unwrap_or};
 ghost use Rattle.std.specs.Prelude.{option_map};
 ghost use Rattle.compositions.specs.Composition.{are_types};
-ghost use Rattle.timetable.specs.Cost.{shunts};
 ghost use Rattle.timetable.specs.Day.{type_of, types_of};
 ghost use Rattle.timetable.specs.Chains.{leads_from, leads_to};
-ghost use Rattle.timetable.specs.Handovers.{second_of};
-ghost use Rattle.timetable.specs.LinkRows.{AreBelow, NamesBelow};
-ghost use Rattle.timetable.specs.Links.{list_of, turned, link_holds, split_holds, arriving_in, departing_in, listed};
+ghost use Rattle.timetable.specs.LinkRows.{NamesBelow};
+ghost use Rattle.timetable.specs.Links.{list_of, turned, link_holds, split_holds};
 ghost use Rattle.timetable.specs.Links.{link_out, link_into, given, taken, kept_by, given_by, taken_by};
 ghost use Rattle.timetable.specs.Links.{given_with, taken_with};
-ghost use Rattle.timetable.specs.Lists.{has};
 ghost use Rattle.timetable.specs.Running.{IsPlan, AreUnits};
-ghost use Rattle.timetable.specs.Turns.{same, staying, beyond, kept_of, IsKept, uncoupling_end, coupling_end};
+ghost use Rattle.timetable.specs.Turns.{same, staying, beyond, kept_of};
 ghost use Rattle.timetable.specs.Beside.{AreBeside};
 
 use crate::day::instance::Instance;
 use crate::day::plan::NamedPlan;
-use crate::day::records::{Link, LinkKind, LinkTrips};
+use crate::day::records::{Link, LinkKind};
 use crate::day::trip_entry::TripEntry;
-use crate::day::turns::{beyond, kept_length, staying, staying_at};
+use crate::day::turns::staying_at;
 use arrayvec::ArrayVec;
 use rail_base::limits::MOST_COMPOSITION;
 use rail_base::{TripNo, TypeNo, UnitNo};
-use rail_csv::End;
-
-impl LinkTrips {
-    /// Whether a trip is one of them.
-    pub fn has(&self, trip: TripNo) -> bool
-        ensures { result ≡ has trip (listed self.now) }
-    {
-        if trip == self.first {
-            return true;
-        }
-        match self.second {
-            Some(second) => trip == second,
-            None => false,
-        }
-    }
-}
-
-impl LinkKind {
-    /// The trips that arrive for the link, the train in front first.
-    pub fn arriving(&self) -> LinkTrips
-        ensures trips { listed result ≡ arriving_in self.now }
-        ensures first { result.first ≡ leads_from self.now }
-        ensures below { (bound : ℕ) → NamesBelow bound self.now → AreBelow bound result }
-    {
-        match *self {
-            LinkKind::Turn { arriving, .. } => LinkTrips {
-                first: arriving,
-                second: None,
-            },
-            LinkKind::Join { first, second, .. } => LinkTrips {
-                first,
-                second: Some(second),
-            },
-            LinkKind::Split { arriving, .. } => LinkTrips {
-                first: arriving,
-                second: None,
-            },
-        }
-    }
-
-    /// The trips that leave by the link, the train in front first.
-    pub fn departing(&self) -> LinkTrips
-        ensures trips { listed result ≡ departing_in self.now }
-        ensures first { result.first ≡ leads_to self.now }
-        ensures below { (bound : ℕ) → NamesBelow bound self.now → AreBelow bound result }
-    {
-        match *self {
-            LinkKind::Turn { departing, .. } => LinkTrips {
-                first: departing,
-                second: None,
-            },
-            LinkKind::Join { departing, .. } => LinkTrips {
-                first: departing,
-                second: None,
-            },
-            LinkKind::Split { first, second, .. } => LinkTrips {
-                first,
-                second: Some(second),
-            },
-        }
-    }
-
-    /// Whether the link leads from one trip to another: the one arrives for it, and the other leaves by it.
-    pub fn leads(&self, from: TripNo, to: TripNo) -> bool
-        ensures named { result ≡ has from (arriving_in self.now) && has to (departing_in self.now) }
-        ensures below { (bound : ℕ) → NamesBelow bound self.now → IsTrue result → (from < bound) × (to < bound) }
-    {
-        self.arriving().has(from) && self.departing().has(to)
-    }
-
-    /// The trip that a link leads a chain from: its first arriving trip, the train in front.
-    pub fn leads_from(&self) -> TripNo
-        ensures { result ≡ leads_from self.now }
-    {
-        self.arriving().first
-    }
-
-    /// The trip that a link leads a chain to: its first departing trip, the train in front.
-    pub fn leads_to(&self) -> TripNo
-        ensures { result ≡ leads_to self.now }
-    {
-        self.departing().first
-    }
-
-    /// The second arriving trip of a join or the second departing trip of a split; a turn has none.
-    pub fn second(&self) -> Option<TripNo>
-        ensures { result ≡ second_of self.now }
-    {
-        match *self {
-            LinkKind::Turn { .. } => None,
-            LinkKind::Join { second, .. } => Some(second),
-            LinkKind::Split { second, .. } => Some(second),
-        }
-    }
-
-    /// The end of the arriving train, after a reversal, at which a turn uncouples units; none at a join or a split.
-    pub fn uncoupling_end(&self) -> End
-        ensures { result ≡ uncoupling_end self.now }
-    {
-        match *self {
-            LinkKind::Turn { uncouple, .. } => uncouple,
-            LinkKind::Join { .. } | LinkKind::Split { .. } => End::None,
-        }
-    }
-
-    /// The end of the departing train at which a turn couples units; none at a join or a split.
-    pub fn coupling_end(&self) -> End
-        ensures { result ≡ coupling_end self.now }
-    {
-        match *self {
-            LinkKind::Turn { couple, .. } => couple,
-            LinkKind::Join { .. } | LinkKind::Split { .. } => End::None,
-        }
-    }
-
-    /// How many units a turn keeps, by the types of the arriving list after a reversal and of the departing list: the
-    /// length of the longest list of types that fits both of its ends. Nothing where no list fits, and at a join or a
-    /// split.
-    pub fn kept(&self, arriving: &[TypeNo], departing: &[TypeNo]) -> Option<usize>
-        ensures number { result ≡ kept_of self.now arriving.now departing.now }
-        ensures meaning { IsKept self.now arriving.now departing.now result }
-        ensures arriving { IfSome result (λ n. n ≤ length arriving.now) }
-        ensures departing { IfSome result (λ n. n ≤ length departing.now) }
-    {
-        match *self {
-            LinkKind::Turn {
-                uncouple,
-                couple,
-                ..
-            } => kept_length(uncouple, couple, arriving, departing),
-            LinkKind::Join { .. } | LinkKind::Split { .. } => None,
-        }
-    }
-}
-
-/// The same entries, which are at most six, in the same order.
-pub fn copy_of<T: Copy + Default + Drop>(list: &[T]) -> ArrayVec<T, MOST_COMPOSITION>
-    requires { length list.now ≤ MOST_COMPOSITION }
-    ensures { result.items ≡ list.now }
-{
-    let mut copy = ArrayVec::new();
-    for entry in list {
-        copy.push(*entry);
-    }
-    copy
-}
-
-/// An arriving list of at most six as it stands after the train has turned round, or not.
-pub fn turned<T: Copy + Default + Drop>(reversed: bool, list: &[T]) -> ArrayVec<T, MOST_COMPOSITION>
-    requires { length list.now ≤ MOST_COMPOSITION }
-    ensures { result.items ≡ turned reversed list.now }
-{
-    let mut list = copy_of(list);
-    if reversed {
-        list.reverse();
-    }
-    list
-}
+use rules::{End, beyond, copy_of, staying, turned};
 
 /// What goes of a list at this end when so many stay, and all of it where none do.
 fn going<T: Copy + Default + Drop>(
@@ -227,7 +67,7 @@ fn is_joined(first: &[UnitNo], second: &[UnitNo], whole: &[UnitNo]) -> bool
 }
 
 /// Whether the whole is the first list and then the second, and neither is empty.
-#[tactic(auto, unfolding(crate::specs::Links::split_holds))]
+#[tactic(auto, unfolding(rules::specs::Links::split_holds))]
 fn is_split(first: &[UnitNo], second: &[UnitNo], whole: &[UnitNo]) -> bool
     ensures { result ≡ split_holds whole.now first.now second.now }
 {
@@ -236,206 +76,191 @@ fn is_split(first: &[UnitNo], second: &[UnitNo], whole: &[UnitNo]) -> bool
 
 // The link's trips are trips of the day of which the plan or the lists are. What a link gives and takes is coded once,
 // for units and for types.
-impl Link {
-    /// How many units a turn keeps in the train, by their types.
-    fn kept_on<E: TripEntry>(&self, instance: &Instance, lists: &E::Lists) -> Option<usize>
-        requires trips { NamesBelow (length instance.now.trips) self.now.kind }
-        requires lists { E.AreOf instance.now lists.now }
-        ensures number { result ≡ kept_of self.now.kind
-            (map (E.type_of instance.now)
-            (turned self.now.reverse (list_of (E.lists_of instance.now lists.now) (leads_from self.now.kind))))
-            (map (E.type_of instance.now) (list_of (E.lists_of instance.now lists.now) (leads_to self.now.kind))) }
-        ensures arriving { IfSome result
-            (λ n. n ≤ length (list_of (E.lists_of instance.now lists.now) (leads_from self.now.kind))) }
-        ensures departing { IfSome result
-            (λ n. n ≤ length (list_of (E.lists_of instance.now lists.now) (leads_to self.now.kind))) }
-    {
-        let arriving = E::list_types(lists, instance, self.kind.leads_from());
-        let arriving = turned(self.reverse, arriving.as_slice());
-        let departing = E::list_types(lists, instance, self.kind.leads_to());
-        self.kind.kept(arriving.as_slice(), departing.as_slice())
-    }
 
-    /// How many entries of the arriving list, after a reversal, stay in the train at a turn: nothing where its rule is
-    /// broken, and at a join or a split.
-    fn staying<E: TripEntry>(
-        &self,
-        instance: &Instance,
-        lists: &E::Lists,
-        arriving: &[E],
-    ) -> Option<usize>
-        requires trips { NamesBelow (length instance.now.trips) self.now.kind }
-        requires lists { E.AreOf instance.now lists.now }
-        requires arriving { map E.number arriving.now
-            ≡ turned self.now.reverse (list_of (E.lists_of instance.now lists.now) (leads_from self.now.kind)) }
-        ensures parts { AreBeside (E.type_of instance.now) self.now.kind self.now.reverse
-            (E.lists_of instance.now lists.now) result }
-        ensures arriving { IfSome result
-            (λ n. n ≤ length (list_of (E.lists_of instance.now lists.now) (leads_from self.now.kind))) }
-        ensures departing { IfSome result
-            (λ n. n ≤ length (list_of (E.lists_of instance.now lists.now) (leads_to self.now.kind))) }
-    {
-        let LinkKind::Turn {
+/// How many units a turn keeps in the train, by their types.
+fn kept_on<E: TripEntry>(link: &Link, instance: &Instance, lists: &E::Lists) -> Option<usize>
+    requires trips { NamesBelow (length instance.now.trips) link.now.kind }
+    requires lists { E.AreOf instance.now lists.now }
+    ensures number { result ≡ kept_of link.now.kind
+        (map (E.type_of instance.now)
+        (turned link.now.reverse (list_of (E.lists_of instance.now lists.now) (leads_from link.now.kind))))
+        (map (E.type_of instance.now) (list_of (E.lists_of instance.now lists.now) (leads_to link.now.kind))) }
+    ensures arriving { IfSome result
+        (λ n. n ≤ length (list_of (E.lists_of instance.now lists.now) (leads_from link.now.kind))) }
+    ensures departing { IfSome result
+        (λ n. n ≤ length (list_of (E.lists_of instance.now lists.now) (leads_to link.now.kind))) }
+{
+    let arriving = E::list_types(lists, instance, link.kind.leads_from());
+    let arriving = turned(link.reverse, arriving.as_slice());
+    let departing = E::list_types(lists, instance, link.kind.leads_to());
+    link.kind.kept(arriving.as_slice(), departing.as_slice())
+}
+
+/// How many entries of the arriving list, after a reversal, stay in the train at a turn: nothing where its rule is
+/// broken, and at a join or a split.
+fn staying_on<E: TripEntry>(
+    link: &Link,
+    instance: &Instance,
+    lists: &E::Lists,
+    arriving: &[E],
+) -> Option<usize>
+    requires trips { NamesBelow (length instance.now.trips) link.now.kind }
+    requires lists { E.AreOf instance.now lists.now }
+    requires arriving { map E.number arriving.now
+        ≡ turned link.now.reverse (list_of (E.lists_of instance.now lists.now) (leads_from link.now.kind)) }
+    ensures parts { AreBeside (E.type_of instance.now) link.now.kind link.now.reverse
+        (E.lists_of instance.now lists.now) result }
+    ensures arriving { IfSome result
+        (λ n. n ≤ length (list_of (E.lists_of instance.now lists.now) (leads_from link.now.kind))) }
+    ensures departing { IfSome result
+        (λ n. n ≤ length (list_of (E.lists_of instance.now lists.now) (leads_to link.now.kind))) }
+{
+    let LinkKind::Turn {
+        departing,
+        uncouple,
+        couple,
+        exchange,
+        ..
+    } = link.kind
+    else {
+        return None;
+    };
+    let kept = kept_on::<E>(link, instance, lists);
+    let departing = E::list(lists, instance, departing);
+    staying_at::<E>(uncouple, couple, exchange, kept, arriving, departing)
+}
+
+/// The list of a trip that arrives for the link, after a reversal.
+fn arriving_list<E: TripEntry>(
+    link: &Link,
+    instance: &Instance,
+    lists: &E::Lists,
+    trip: TripNo,
+) -> ArrayVec<E, MOST_COMPOSITION>
+    requires lists { E.AreOf instance.now lists.now }
+    requires trip { trip < length instance.now.trips }
+    ensures numbers { map E.number result.items
+        ≡ turned link.now.reverse (list_of (E.lists_of instance.now lists.now) trip) }
+    ensures few { length result.items ≤ MOST_COMPOSITION }
+{
+    turned(link.reverse, E::list(lists, instance, trip))
+}
+
+/// Whether a plan keeps the link's rule.
+#[tactic(auto, unfolding(rules::specs::Links::link_holds, rules::specs::Links::join_holds))]
+pub fn link_holds(link: &Link, instance: &Instance, plan: &NamedPlan) -> bool
+    requires trips { NamesBelow (length instance.now.trips) link.now.kind }
+    requires plan { IsPlan instance.now plan.now }
+    ensures { result ≡ link_holds (type_of instance.now) link.now plan.now }
+{
+    match link.kind {
+        LinkKind::Turn { arriving, .. } => {
+            let arriving = turned(link.reverse, plan.units(arriving));
+            let staying = staying_on::<UnitNo>(link, instance, plan, arriving.as_slice());
+            staying.is_some()
+        }
+        LinkKind::Join {
+            first,
+            second,
             departing,
-            uncouple,
-            couple,
-            exchange,
-            ..
-        } = self.kind
-        else {
-            return None;
-        };
-        let kept = self.kept_on::<E>(instance, lists);
-        let departing = E::list(lists, instance, departing);
-        staying_at::<E>(uncouple, couple, exchange, kept, arriving, departing)
-    }
-
-    /// The list of a trip that arrives for the link, after a reversal.
-    fn arriving_list<E: TripEntry>(
-        &self,
-        instance: &Instance,
-        lists: &E::Lists,
-        trip: TripNo,
-    ) -> ArrayVec<E, MOST_COMPOSITION>
-        requires lists { E.AreOf instance.now lists.now }
-        requires trip { trip < length instance.now.trips }
-        ensures numbers { map E.number result.items
-            ≡ turned self.now.reverse (list_of (E.lists_of instance.now lists.now) trip) }
-        ensures few { length result.items ≤ MOST_COMPOSITION }
-    {
-        turned(self.reverse, E::list(lists, instance, trip))
-    }
-
-    /// Whether a plan keeps the link's rule.
-    #[tactic(auto, unfolding(crate::specs::Links::link_holds, crate::specs::Links::join_holds))]
-    pub fn holds(&self, instance: &Instance, plan: &NamedPlan) -> bool
-        requires trips { NamesBelow (length instance.now.trips) self.now.kind }
-        requires plan { IsPlan instance.now plan.now }
-        ensures { result ≡ link_holds (type_of instance.now) self.now plan.now }
-    {
-        match self.kind {
-            LinkKind::Turn { arriving, .. } => {
-                let arriving = turned(self.reverse, plan.units(arriving));
-                let staying = self.staying::<UnitNo>(instance, plan, arriving.as_slice());
-                staying.is_some()
-            }
-            LinkKind::Join {
-                first,
-                second,
-                departing,
-            } => {
-                let first = turned(self.reverse, plan.units(first));
-                let second = turned(self.reverse, plan.units(second));
-                is_joined(first.as_slice(), second.as_slice(), plan.units(departing))
-            }
-            LinkKind::Split {
-                arriving,
-                first,
-                second,
-            } => {
-                let arriving = turned(self.reverse, plan.units(arriving));
-                is_split(plan.units(first), plan.units(second), arriving.as_slice())
-            }
+        } => {
+            let first = turned(link.reverse, plan.units(first));
+            let second = turned(link.reverse, plan.units(second));
+            is_joined(first.as_slice(), second.as_slice(), plan.units(departing))
+        }
+        LinkKind::Split {
+            arriving,
+            first,
+            second,
+        } => {
+            let arriving = turned(link.reverse, plan.units(arriving));
+            is_split(plan.units(first), plan.units(second), arriving.as_slice())
         }
     }
+}
 
-    /// What stays in the train from a trip that arrives for the link to one that leaves by it, front to rear after a
-    /// reversal: at a turn what stands at the kept places, and nothing where its rule is broken; at a join the list of
-    /// the arriving trip; at a split the list of the departing trip. Nothing between other trips.
-    pub fn kept<E: TripEntry>(
-        &self,
-        instance: &Instance,
-        lists: &E::Lists,
-        from: TripNo,
-        to: TripNo,
-    ) -> ArrayVec<E, MOST_COMPOSITION>
-        requires trips { NamesBelow (length instance.now.trips) self.now.kind }
-        requires lists { E.AreOf instance.now lists.now }
-        ensures { map E.number result.items ≡ kept_by (E.type_of instance.now) self.now.kind self.now.reverse
-            (E.lists_of instance.now lists.now) from to }
-    {
-        if !self.kind.leads(from, to) {
-            return ArrayVec::new();
-        }
-        match self.kind {
-            LinkKind::Turn {
-                arriving,
-                uncouple,
-                ..
-            } => {
-                let arriving = self.arriving_list::<E>(instance, lists, arriving);
-                let staying = self.staying::<E>(instance, lists, arriving.as_slice());
-                left(uncouple, arriving.as_slice(), staying)
-            }
-            LinkKind::Join { .. } => self.arriving_list::<E>(instance, lists, from),
-            LinkKind::Split { .. } => copy_of(E::list(lists, instance, to)),
-        }
+/// What stays in the train from a trip that arrives for the link to one that leaves by it, front to rear after a
+/// reversal: at a turn what stands at the kept places, and nothing where its rule is broken; at a join the list of
+/// the arriving trip; at a split the list of the departing trip. Nothing between other trips.
+pub fn kept_by<E: TripEntry>(
+    link: &Link,
+    instance: &Instance,
+    lists: &E::Lists,
+    from: TripNo,
+    to: TripNo,
+) -> ArrayVec<E, MOST_COMPOSITION>
+    requires trips { NamesBelow (length instance.now.trips) link.now.kind }
+    requires lists { E.AreOf instance.now lists.now }
+    ensures { map E.number result.items ≡ kept_by (E.type_of instance.now) link.now.kind link.now.reverse
+        (E.lists_of instance.now lists.now) from to }
+{
+    if !link.kind.leads(from, to) {
+        return ArrayVec::new();
     }
-
-    /// What the link gives to the yard, front to rear after a reversal: what a turn uncouples, all that arrives where
-    /// the rule of the turn is broken, and nothing at a join or a split.
-    pub fn given<E: TripEntry>(
-        &self,
-        instance: &Instance,
-        lists: &E::Lists,
-    ) -> ArrayVec<E, MOST_COMPOSITION>
-        requires trips { NamesBelow (length instance.now.trips) self.now.kind }
-        requires lists { E.AreOf instance.now lists.now }
-        ensures { map E.number result.items
-            ≡ given_by (E.type_of instance.now) self.now.kind self.now.reverse (E.lists_of instance.now lists.now) }
-    {
-        let LinkKind::Turn {
+    match link.kind {
+        LinkKind::Turn {
             arriving,
             uncouple,
             ..
-        } = self.kind
-        else {
-            return ArrayVec::new();
-        };
-        let arriving = turned(self.reverse, E::list(lists, instance, arriving));
-        let staying = self.staying::<E>(instance, lists, arriving.as_slice());
-        going(uncouple, arriving.as_slice(), staying)
-    }
-
-    /// What the link takes from the yard, front to rear: what a turn couples, all that departs where the rule of the
-    /// turn is broken, and nothing at a join or a split.
-    pub fn taken<E: TripEntry>(
-        &self,
-        instance: &Instance,
-        lists: &E::Lists,
-    ) -> ArrayVec<E, MOST_COMPOSITION>
-        requires trips { NamesBelow (length instance.now.trips) self.now.kind }
-        requires lists { E.AreOf instance.now lists.now }
-        ensures { map E.number result.items
-            ≡ taken_by (E.type_of instance.now) self.now.kind self.now.reverse (E.lists_of instance.now lists.now) }
-    {
-        let LinkKind::Turn {
-            arriving,
-            departing,
-            couple,
-            ..
-        } = self.kind
-        else {
-            return ArrayVec::new();
-        };
-        let arriving = turned(self.reverse, E::list(lists, instance, arriving));
-        let staying = self.staying::<E>(instance, lists, arriving.as_slice());
-        going(couple, E::list(lists, instance, departing), staying)
-    }
-
-    /// Whether the link is shunted between a train of units of these types, which arrives, and one of those: whether a
-    /// turn does not keep all units of both. No join or split is shunted.
-    pub fn is_shunted(&self, arriving: &[TypeNo], departing: &[TypeNo]) -> bool
-        requires { length arriving.now ≤ MOST_COMPOSITION }
-        ensures { result ≡ shunts self.now.kind (turned self.now.reverse arriving.now) departing.now }
-    {
-        if self.kind.second().is_some() {
-            return false;
+        } => {
+            let arriving = arriving_list::<E>(link, instance, lists, arriving);
+            let staying = staying_on::<E>(link, instance, lists, arriving.as_slice());
+            left(uncouple, arriving.as_slice(), staying)
         }
-        let arriving = turned(self.reverse, arriving);
-        let kept = self.kind.kept(arriving.as_slice(), departing).unwrap_or(0);
-        !(kept == arriving.len() && kept == departing.len())
+        LinkKind::Join { .. } => arriving_list::<E>(link, instance, lists, from),
+        LinkKind::Split { .. } => copy_of(E::list(lists, instance, to)),
     }
+}
+
+/// What the link gives to the yard, front to rear after a reversal: what a turn uncouples, all that arrives where
+/// the rule of the turn is broken, and nothing at a join or a split.
+fn given_by<E: TripEntry>(
+    link: &Link,
+    instance: &Instance,
+    lists: &E::Lists,
+) -> ArrayVec<E, MOST_COMPOSITION>
+    requires trips { NamesBelow (length instance.now.trips) link.now.kind }
+    requires lists { E.AreOf instance.now lists.now }
+    ensures { map E.number result.items
+        ≡ given_by (E.type_of instance.now) link.now.kind link.now.reverse (E.lists_of instance.now lists.now) }
+{
+    let LinkKind::Turn {
+        arriving,
+        uncouple,
+        ..
+    } = link.kind
+    else {
+        return ArrayVec::new();
+    };
+    let arriving = turned(link.reverse, E::list(lists, instance, arriving));
+    let staying = staying_on::<E>(link, instance, lists, arriving.as_slice());
+    going(uncouple, arriving.as_slice(), staying)
+}
+
+/// What the link takes from the yard, front to rear: what a turn couples, all that departs where the rule of the
+/// turn is broken, and nothing at a join or a split.
+fn taken_by<E: TripEntry>(
+    link: &Link,
+    instance: &Instance,
+    lists: &E::Lists,
+) -> ArrayVec<E, MOST_COMPOSITION>
+    requires trips { NamesBelow (length instance.now.trips) link.now.kind }
+    requires lists { E.AreOf instance.now lists.now }
+    ensures { map E.number result.items
+        ≡ taken_by (E.type_of instance.now) link.now.kind link.now.reverse (E.lists_of instance.now lists.now) }
+{
+    let LinkKind::Turn {
+        arriving,
+        departing,
+        couple,
+        ..
+    } = link.kind
+    else {
+        return ArrayVec::new();
+    };
+    let arriving = turned(link.reverse, E::list(lists, instance, arriving));
+    let staying = staying_on::<E>(link, instance, lists, arriving.as_slice());
+    going(couple, E::list(lists, instance, departing), staying)
 }
 
 impl Instance {
@@ -476,7 +301,7 @@ impl Instance {
     /// What a trip gives to the yard where it arrives, front to rear after a reversal: what a turn uncouples, all of
     /// its list where no link leads on or the rule of the turn is broken, and nothing at a join or a split. The trip
     /// is below `trips`.
-    #[tactic(auto, unfolding(crate::specs::Links::given_with))]
+    #[tactic(auto, unfolding(rules::specs::Links::given_with))]
     pub fn given<E: TripEntry>(
         &self,
         lists: &E::Lists,
@@ -488,7 +313,7 @@ impl Instance {
             ≡ given_with (E.type_of self.now) self.now (E.lists_of self.now lists.now) trip }
     {
         match self.link_out(trip) {
-            Some(link) => link.given::<E>(self, lists),
+            Some(link) => given_by::<E>(&link, self, lists),
             None => copy_of(E::list(lists, self, trip)),
         }
     }
@@ -496,7 +321,7 @@ impl Instance {
     /// What a trip takes from the yard where it leaves, front to rear: what a turn couples, all of its list where no
     /// link leads into it or the rule of the turn is broken, and nothing at a join or a split. The trip is below
     /// `trips`.
-    #[tactic(auto, unfolding(crate::specs::Links::taken_with))]
+    #[tactic(auto, unfolding(rules::specs::Links::taken_with))]
     pub fn taken<E: TripEntry>(
         &self,
         lists: &E::Lists,
@@ -508,7 +333,7 @@ impl Instance {
             ≡ taken_with (E.type_of self.now) self.now (E.lists_of self.now lists.now) trip }
     {
         match self.link_into(trip) {
-            Some(link) => link.taken::<E>(self, lists),
+            Some(link) => taken_by::<E>(&link, self, lists),
             None => copy_of(E::list(lists, self, trip)),
         }
     }

@@ -10,10 +10,10 @@ ghost use Rattle.timetable.specs.Turns.{same};
 use crate::day::instance::Instance;
 use crate::day::picks::Picks;
 use crate::day::plan::NamedPlan;
-use crate::day::rule::copy_of;
 use arrayvec::ArrayVec;
 use rail_base::limits::MOST_COMPOSITION;
 use rail_base::{TripNo, TypeNo, UnitNo};
+use rules::copy_of;
 
 /// An entry of the list of a trip, which is front to rear: a unit of a plan, or a type of the composition of picks.
 pub trait TripEntry: Copy + Default + Drop {

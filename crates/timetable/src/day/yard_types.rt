@@ -14,7 +14,7 @@ use rail_base::{TripNo, TypeNo};
 
 impl Instance {
     /// The composition that is picked for a trip, which is below `trips`. The picks are of the day.
-    #[tactic(auto, unfolding(crate::specs::Links::list_of))]
+    #[tactic(auto, unfolding(rules::specs::Links::list_of))]
     pub fn composition(&self, picks: &Picks, trip: TripNo) -> &Composition
         requires picks { ArePicks self.now picks.now }
         requires trip { trip < length self.now.trips }

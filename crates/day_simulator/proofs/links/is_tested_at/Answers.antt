@@ -1,8 +1,8 @@
 -- For a join two trips arrive, and for any other link one.
 use Rattle.std.proofs.Common.{◌≡◌, ◌∙◌, ℕ, List, [], ◌∷◌, Bool, Option, Some, None, refl, sym, ap}
 use Rattle.std.specs.Prelude.{not, option_to_list}
-use Rattle.timetable.specs.declared.day.records.LinkKind.{LinkKind}
-use Rattle.timetable.specs.declared.day.records.LinkKind.TheVariants.{Turn, Join, Split}
+use Rattle.rules.specs.declared.records.LinkKind.{LinkKind}
+use Rattle.rules.specs.declared.records.LinkKind.TheVariants.{Turn, Join, Split}
 use Rattle.timetable.specs.Links.{arriving_in}
 use Rattle.day_simulator.specs.Steps.{is_tested_at}
 use Rattle.day_simulator.proofs.links.is_tested_at.Goals as goal

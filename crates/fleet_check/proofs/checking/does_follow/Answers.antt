@@ -1,5 +1,5 @@
 use Rattle.std.proofs.Common.{IsTrue, ◌↔◌, sym, subst}
-use Rattle.answer_text.specs.declared.answer.Head.{Head}
+use Rattle.rules.specs.declared.heads.Head.{Head}
 use Rattle.fleet_check.specs.Heads.{DoesFollow}
 use Rattle.fleet_check.proofs.checking.does_follow.Goals as goal
 

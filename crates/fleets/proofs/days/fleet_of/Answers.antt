@@ -1,7 +1,7 @@
 -- The units at the start of the day are a fleet of it.
 use Rattle.std.proofs.Common.{◌≡◌, ◌∙◌, ◌≤◌, ◌*◌, length, ap, sym, subst, arith, ℕ}
 use Rattle.std.proofs.lemmas.Nat.{mul-le}
-use Rattle.compositions.specs.declared.types.UnitType.{UnitType}
+use Rattle.rules.specs.declared.records.UnitType.{UnitType}
 use Rattle.timetable.specs.Lists.{listed}
 use Rattle.timetable.proofs.Listing.{length-listed}
 use Rattle.fleets.specs.Fleets.{IsFleet, own_fleet, start_at}

@@ -1,6 +1,6 @@
 use Rattle.std.proofs.Common.{◌≡◌, Some, sym, ap, ◌∙◌}
 use Rattle.std.proofs.lemmas.Option.{get_or_from_slice_get}
-use Rattle.timetable.specs.declared.day.records.Link.{Link}
+use Rattle.rules.specs.declared.records.Link.{Link}
 use Rattle.timetable.specs.Chains.{leads_from, leads_to}
 use Rattle.price_bound.specs.FollowingPicks.{pick_of}
 use Rattle.price_bound.proofs.Steps.{step_found}

@@ -1,7 +1,7 @@
 -- The front or the rear of a composition is one unit less.
 use Rattle.std.proofs.Common.{arith, sym, subst, ℕ, List}
-use Rattle.rail_csv.specs.declared.rows.End.{End}
-use Rattle.rail_csv.specs.declared.rows.End.TheVariants as at
+use Rattle.rules.specs.declared.records.End.{End}
+use Rattle.rules.specs.declared.records.End.TheVariants as at
 use Rattle.price_bound.specs.CompositionTrees.{IsOneLess}
 use Rattle.price_bound.proofs.Resting.{one_less_all, one_less_front, one_less_rear}
 use Rattle.price_bound.proofs.trains.without_one.Goals as goal

@@ -1,4 +1,4 @@
-use Rattle.timetable.proofs.Turning.{kept_of-is}
+use Rattle.rules.proofs.Turning.{kept_of-is}
 use Rattle.timetable.proofs.laws.links_keep_the_longest.Goals as goal
 
 pub returns : goal.returns

@@ -1,7 +1,7 @@
 -- By the kind of the link.
 use Rattle.std.proofs.Common.{◌≡◌, Some, sym, ap, subst, ◌∙◌}
 use Rattle.std.specs.Prelude.{◌↔◌}
-use Rattle.timetable.specs.declared.day.records.LinkKind.{LinkKind}
+use Rattle.rules.specs.declared.records.LinkKind.{LinkKind}
 use Rattle.timetable.specs.Chains.{leads_from, leads_to}
 use Rattle.timetable.specs.Handovers.{second_of}
 use Rattle.transitions.specs.Between.{IsBetween}

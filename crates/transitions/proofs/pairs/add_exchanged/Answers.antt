@@ -1,6 +1,6 @@
 -- Each number of units adds its pairs.
 use Rattle.std.proofs.Common.{◌≡◌, ℕ, ◌+◌, ◌-◌, List, length, sym, ap, subst, ◌∙◌, arith}
-use Rattle.rail_csv.specs.declared.rows.End.{End}
+use Rattle.rules.specs.declared.records.End.{End}
 use Rattle.timetable.specs.Compositions.{composition_at}
 use Rattle.timetable.specs.Turns.{staying}
 use Rattle.transitions.specs.declared.pairs.Pair.{Pair}

@@ -4,7 +4,7 @@ use Rattle.std.specs.Prelude.{◌⊎◌, All}
 use Rattle.std.proofs.lemmas.Bool.{iff_false}
 use Rattle.std.proofs.lemmas.List.Filters.{dedup_is, All-dedup}
 use Rattle.std.proofs.lemmas.List.Sorted.{Contains-permutation, All-permutation}
-use Rattle.rail_csv.specs.declared.rows.End.{End}
+use Rattle.rules.specs.declared.records.End.{End}
 use Rattle.timetable.specs.Chains.{leads_from, leads_to}
 use Rattle.timetable.specs.Compositions.{composition_at}
 use Rattle.transitions.specs.declared.pairs.Pair.{Pair}

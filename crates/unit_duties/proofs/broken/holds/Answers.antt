@@ -1,5 +1,5 @@
 use Rattle.std.proofs.Common.{◌≡◌, ◌∙◌, false, Some, slice_get, sym, subst}
-use Rattle.timetable.specs.declared.day.records.Link.{Link}
+use Rattle.rules.specs.declared.records.Link.{Link}
 use Rattle.timetable.specs.Links.{itself, link_holds}
 use Rattle.timetable.specs.Picks.{picked}
 use Rattle.unit_duties.proofs.ByEdges.{none_found, some_found, same_option}

@@ -1,5 +1,5 @@
 use Rattle.std.proofs.Common.{◌≡◌, ℕ, ◌+◌, List, arith, drop, subst, sym}
-use Rattle.timetable.specs.declared.day.records.Unit as unit
+use Rattle.rules.specs.declared.records.Unit as unit
 use Rattle.timetable.specs.Day.{stock_units}
 use Rattle.timetable.specs.Renumbering.{standing_at}
 use Rattle.inventory.specs.ServingLaws.{units_after}

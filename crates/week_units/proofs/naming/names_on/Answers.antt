@@ -1,5 +1,5 @@
 use Rattle.std.proofs.Common.{◌≡◌, ◌∙◌, ℕ, List, ap, arith, length}
-use Rattle.timetable.specs.declared.day.records.Unit as unit
+use Rattle.rules.specs.declared.records.Unit as unit
 use Rattle.timetable.specs.Day.{Units, unit_count}
 use Rattle.timetable.specs.Lists.{listed}
 use Rattle.timetable.specs.Renumbering.{kth_number}

@@ -1,5 +1,5 @@
 use Rattle.std.proofs.Common.{List, [], ◌∷◌, ◌++◌, ◌∙◌, ap, sym, take}
-use Rattle.timetable.specs.declared.day.records.Station.{Station}
+use Rattle.rules.specs.declared.records.Station.{Station}
 use Rattle.week_units.proofs.Reading.{take_next}
 use Rattle.week_units.proofs.rows.has_stations_of.Goals as goal
 

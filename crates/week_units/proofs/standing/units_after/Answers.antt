@@ -1,5 +1,5 @@
 use Rattle.std.proofs.Common.{◌≡◌, ◌∙◌, ℕ, List, ap, length, subst, sym}
-use Rattle.timetable.specs.declared.day.records.Unit as unit
+use Rattle.rules.specs.declared.records.Unit as unit
 use Rattle.timetable.specs.Day.{unit_count}
 use Rattle.timetable.specs.Duties.{last_place}
 use Rattle.timetable.proofs.Listing.{length-listed}

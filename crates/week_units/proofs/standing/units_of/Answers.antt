@@ -1,5 +1,5 @@
 use Rattle.std.proofs.Common.{List, [], ◌∷◌, ◌++◌, ◌∙◌, ap, sym}
-use Rattle.timetable.specs.declared.day.records.Unit as unit
+use Rattle.rules.specs.declared.records.Unit as unit
 use Rattle.timetable.specs.Day.{units_of}
 use Rattle.week_units.proofs.Reading.{take_next}
 use Rattle.week_units.proofs.standing.units_of.Goals as goal

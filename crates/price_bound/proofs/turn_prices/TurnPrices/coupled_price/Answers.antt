@@ -2,7 +2,7 @@
 use Rattle.std.proofs.Common.{◌≡◌, ◌<◌, ◌≤◌, ◌*◌, ℕ, ℤ, List, length, ap, arith, sym, subst, ◌-ℤ◌, ◌∙◌}
 use Rattle.std.specs.List.{All}
 use Rattle.rail_base.specs.declared.limits.TheConstants.{MOST_COMPOSITION}
-use Rattle.rail_csv.specs.declared.rows.End.{End}
+use Rattle.rules.specs.declared.records.End.{End}
 use Rattle.timetable.specs.Compositions.{composition_at}
 use Rattle.timetable.specs.Day.{Day}
 use Rattle.branch_tree.specs.declared.multipliers.Entry.{Entry}

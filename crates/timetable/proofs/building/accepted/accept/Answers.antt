@@ -3,14 +3,14 @@ use Rattle.std.proofs.Common.{◌≡◌, ◌∙◌, List, Ok, length, ap, subst,
 use Rattle.std.specs.List.{list_all}
 use Rattle.std.proofs.lemmas.Result.{err_from_is_err_and}
 use Rattle.compositions.specs.UnitTypes.{is_within_limits}
-use Rattle.compositions.specs.declared.types.UnitType.{UnitType}
+use Rattle.rules.specs.declared.records.UnitType.{UnitType}
 use Rattle.rail_base.specs.Answers.{Fails}
 use Rattle.rail_csv.specs.declared.rows.LinkRow.{LinkRow}
 use Rattle.timetable.specs.Build.{yards_in, trips_and_links_in, is_memory}
 use Rattle.timetable.specs.Within.{AreTypes}
 use Rattle.timetable.specs.declared.building.accepted.Yards.{Yards}
 use Rattle.timetable.specs.declared.building.tables.Tables.{Tables}
-use Rattle.timetable.specs.declared.day.records.Station.{Station}
+use Rattle.rules.specs.declared.records.Station.{Station}
 use Rattle.timetable.proofs.Entries.{are_types, types_within_limits, are_stations}
 use Rattle.timetable.proofs.InParts.{yard_types, yard_stations, yards_fail, trips_and_links_fail, trips_and_links_make}
 use Rattle.timetable.proofs.building.accepted.accept.Goals as goal

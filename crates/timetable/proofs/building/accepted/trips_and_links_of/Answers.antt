@@ -1,12 +1,12 @@
 -- There are no more trips than rows; and what refuses the catalogue, the trips or the links refuses them all.
 use Rattle.std.proofs.Common.{◌∙◌, List, length, ap, sym, subst, Ok}
 use Rattle.std.proofs.lemmas.Result.{err_from_is_err_and}
-use Rattle.compositions.specs.declared.types.UnitType.{UnitType}
+use Rattle.rules.specs.declared.records.UnitType.{UnitType}
 use Rattle.rail_base.specs.Answers.{Fails}
 use Rattle.timetable.specs.Build.{catalogue_in, trips_in, is_memory}
 use Rattle.timetable.specs.Within.{AreTrips}
-use Rattle.timetable.specs.declared.day.records.Station.{Station}
-use Rattle.timetable.specs.declared.day.records.Trip.{Trip}
+use Rattle.rules.specs.declared.records.Station.{Station}
+use Rattle.rules.specs.declared.records.Trip.{Trip}
 use Rattle.timetable.proofs.Entries.{are_trips}
 use Rattle.timetable.proofs.InParts.{catalogue_refuses, trips_refuse, links_refuse, trips_and_links_said}
 use Rattle.timetable.proofs.building.accepted.trips_and_links_of.Goals as goal

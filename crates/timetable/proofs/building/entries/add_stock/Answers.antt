@@ -3,7 +3,7 @@ use Rattle.std.proofs.Common.{◌≡◌, ◌∙◌, Ok, ap, sym, length, List, a
 use Rattle.std.proofs.lemmas.List.{length_push}
 use Rattle.std.proofs.lemmas.Result.{err_from_is_err_and}
 use Rattle.timetable.specs.Build.{accept_stock, is_memory}
-use Rattle.timetable.specs.declared.day.records.Stock.{Stock}
+use Rattle.rules.specs.declared.records.Stock.{Stock}
 use Rattle.rail_base.proofs.Answers.{Unless-from}
 use Rattle.timetable.proofs.EachRow.{one_more, one_refused}
 use Rattle.timetable.proofs.building.entries.add_stock.Goals as goal

@@ -7,7 +7,7 @@ use Rattle.timetable.specs.Build.{is_memory}
 use Rattle.timetable.specs.LinkRows.{accept_link, links_in}
 use Rattle.timetable.specs.Rowwise.{accept_each}
 use Rattle.timetable.specs.declared.building.refusal.InstanceRefusal.{InstanceRefusal}
-use Rattle.timetable.specs.declared.day.records.Link.{Link}
+use Rattle.rules.specs.declared.records.Link.{Link}
 use Rattle.timetable.proofs.building.link_rows.links_of.Goals as goal
 
 kept_links : {A : Type 0} (added : Result A InstanceRefusal) (kept : Vec Link) (links : List Link) (said : Result (List Link) InstanceRefusal) → kept.items ≡ links

@@ -1,7 +1,7 @@
 -- The hand-over of a link is added where it has a second trip.
 use Rattle.std.proofs.Common.{◌≡◌, ◌∙◌, ◌++◌, ap, sym, Option, ℕ, append-nil}
 use Rattle.timetable.specs.Handovers.{handover_at, second_of}
-use Rattle.timetable.specs.declared.day.records.Link.{Link}
+use Rattle.rules.specs.declared.records.Link.{Link}
 use Rattle.timetable.proofs.EachRow.{handovers_more}
 use Rattle.timetable.proofs.day.chains.handovers_of.Goals as goal
 use Rattle.timetable.proofs.day.chains.handovers_of.Goals.{in-Some+in_ok-push, in_default}

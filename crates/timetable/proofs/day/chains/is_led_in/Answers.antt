@@ -1,7 +1,7 @@
 -- The table's entry of the trip is the link that leads into it.
 use Rattle.std.proofs.Common.{◌∙◌, ◌<◌, length, Option, Some, None, false, sym, ap, arith}
 use Rattle.std.specs.Prelude.{◌==◌, option_map, unwrap_or}
-use Rattle.timetable.specs.declared.day.records.Link.{Link}
+use Rattle.rules.specs.declared.records.Link.{Link}
 use Rattle.timetable.specs.Chains.{leads_to}
 use Rattle.timetable.specs.Links.{departing_in}
 use Rattle.timetable.proofs.LinkTables.{entry_says, names_within, link_read, link_unread}

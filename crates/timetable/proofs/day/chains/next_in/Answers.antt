@@ -1,7 +1,7 @@
 -- The table's entry of the trip is the link that leads on from it.
 use Rattle.std.proofs.Common.{◌∙◌, ◌<◌, length, Option, Some, None, sym, ap, arith}
 use Rattle.std.specs.Prelude.{option_and_then}
-use Rattle.timetable.specs.declared.day.records.Link.{Link}
+use Rattle.rules.specs.declared.records.Link.{Link}
 use Rattle.timetable.specs.Chains.{next_by}
 use Rattle.timetable.specs.Links.{arriving_in}
 use Rattle.timetable.proofs.LinkTables.{entry_says, names_within, link_read, link_unread}

@@ -1,8 +1,8 @@
 -- What the rows give is counted and listed as in their day.
 use Rattle.std.proofs.Common.{◌≡◌, ◌∙◌, ◌<◌, ℕ, List, length, ap, sym, arith}
 use Rattle.timetable.specs.declared.building.accepted.AcceptedRows.{AcceptedRows}
-use Rattle.timetable.specs.declared.day.records.Link.{Link}
-use Rattle.timetable.specs.declared.day.records.Trip.{Trip}
+use Rattle.rules.specs.declared.records.Link.{Link}
+use Rattle.rules.specs.declared.records.Trip.{Trip}
 use Rattle.timetable.specs.Chains.{chains_below, chains_of, next_in}
 use Rattle.timetable.specs.Day.{units_in, units_of}
 use Rattle.timetable.specs.Handovers.{handovers_from, handovers_of}

@@ -1,7 +1,7 @@
 -- One more unit is added.
 use Rattle.std.proofs.Common.{◌∷◌, ◌++◌, [], List, replicate, ap, ◌∙◌, append_assoc}
 use Rattle.std.proofs.lemmas.List.{replicate_more}
-use Rattle.timetable.specs.declared.day.records.Unit.{Unit}
+use Rattle.rules.specs.declared.records.Unit.{Unit}
 use Rattle.timetable.proofs.day.instance.push_units.Goals as goal
 
 pub loop-preserved : goal.loop-preserved

@@ -4,7 +4,7 @@ use Rattle.std.specs.Prelude.{nat_lt}
 use Rattle.std.proofs.lemmas.Result.{err_from_is_err_and}
 use Rattle.rail_base.specs.declared.limits.TheConstants.{MOST_UNITS}
 use Rattle.timetable.specs.Build.{starts_of}
-use Rattle.timetable.specs.declared.day.records.Stock.{Stock}
+use Rattle.rules.specs.declared.records.Stock.{Stock}
 use Rattle.timetable.proofs.Entries.{are_types, are_stations}
 use Rattle.timetable.proofs.InParts.{is_types, is_stations, types_refuse, stations_refuse, stock_refuses, units_decide}
 use Rattle.timetable.proofs.building.accepted.Yards.add.Goals as goal

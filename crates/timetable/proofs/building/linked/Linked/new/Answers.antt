@@ -1,7 +1,7 @@
 -- No link names a trip, and no flag is up.
 use Rattle.std.proofs.Common.{◌≡◌, List, [], length, false, rules, replicate, subst, sym, ap, ◌∙◌}
 use Rattle.timetable.specs.Flags.{IsFlagged}
-use Rattle.timetable.specs.declared.day.records.Link.{Link}
+use Rattle.rules.specs.declared.records.Link.{Link}
 use Rattle.timetable.specs.Links.{arriving_in, departing_in}
 use Rattle.timetable.proofs.Flags.{flags_down}
 use Rattle.timetable.proofs.building.linked.Linked.new.Goals as goal

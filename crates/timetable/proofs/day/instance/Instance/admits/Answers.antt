@@ -3,8 +3,8 @@ use Rattle.std.proofs.Common.{◌≡◌, ◌<◌, ℕ, List, length, get_or, ap,
 use Rattle.std.specs.Prelude.{min}
 use Rattle.std.proofs.lemmas.Option.{slice_get-get_or}
 use Rattle.compositions.specs.Composition.{fits_in}
-use Rattle.timetable.specs.declared.day.records.Station.{Station}
-use Rattle.timetable.specs.declared.day.records.Trip.{Trip}
+use Rattle.rules.specs.declared.records.Station.{Station}
+use Rattle.rules.specs.declared.records.Trip.{Trip}
 use Rattle.timetable.specs.Build.{platform_at}
 use Rattle.timetable.specs.Compositions.{compositions_of, greatest_platform}
 use Rattle.timetable.specs.Day.{Day}

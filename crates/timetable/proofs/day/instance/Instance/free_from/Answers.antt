@@ -2,7 +2,7 @@
 use Rattle.std.proofs.Common.{◌*◌, ◌∙◌, ℕ, List, length, ap, sym}
 use Rattle.std.proofs.lemmas.Nat.{mul-le}
 use Rattle.timetable.specs.Lists.{sum_below}
-use Rattle.compositions.specs.declared.types.UnitType.{UnitType}
+use Rattle.rules.specs.declared.records.UnitType.{UnitType}
 use Rattle.timetable.specs.Minutes.{minutes_of}
 use Rattle.timetable.proofs.Indices.{length-lambdas}
 use Rattle.timetable.proofs.day.instance.Instance.free_from.Goals as goal

@@ -1,6 +1,6 @@
 -- The index is the number of the place among its kind, after those before its kind.
 use Rattle.std.proofs.Common.{◌+◌, ◌*◌, ◌∙◌, ℕ, List, length, ap, sym, subst}
-use Rattle.compositions.specs.declared.types.UnitType.{UnitType}
+use Rattle.rules.specs.declared.records.UnitType.{UnitType}
 use Rattle.timetable.specs.Indices.{IsPlace, IsIndexOf}
 use Rattle.timetable.specs.Lists.{sum_below}
 use Rattle.timetable.specs.Minutes.{minutes_of}

@@ -1,7 +1,7 @@
 -- The link is the one of its number, and its count of kept units that of the longest list that fits.
 use Rattle.std.proofs.Common.{◌≡◌, Option, sym, subst, ◌∙◌}
 use Rattle.std.specs.Prelude.{IfSome}
-use Rattle.timetable.specs.declared.day.records.Link.{Link}
+use Rattle.rules.specs.declared.records.Link.{Link}
 use Rattle.timetable.specs.Turns.{kept_of, IsKept}
 use Rattle.timetable.proofs.day.instance.Instance.kept.Goals as goal
 

@@ -1,6 +1,6 @@
 -- The number falls into the minutes of one station.
 use Rattle.std.proofs.Common.{◌∙◌, ℕ, List, length, ap, arith}
-use Rattle.compositions.specs.declared.types.UnitType.{UnitType}
+use Rattle.rules.specs.declared.records.UnitType.{UnitType}
 use Rattle.timetable.proofs.Indices.{IsLeft, passed, none_left, lambda_left}
 use Rattle.timetable.proofs.day.instance.Instance.lambda_at.Goals as goal
 

@@ -1,6 +1,6 @@
 -- Of a row for each station, the place in it.
 use Rattle.std.proofs.Common.{◌≡◌, ◌+◌, ◌/◌, ◌%◌, ◌∙◌, ℕ, List, length, Some, slice_get, ap, sym, subst, arith}
-use Rattle.compositions.specs.declared.types.UnitType.{UnitType}
+use Rattle.rules.specs.declared.records.UnitType.{UnitType}
 use Rattle.timetable.specs.Indices.{lambdas_of, places_of}
 use Rattle.timetable.specs.declared.day.indices.Place.TheVariants.{Mu}
 use Rattle.timetable.proofs.Indices.{some_types, mu_of}

@@ -1,7 +1,7 @@
 -- For each station one for each type.
 use Rattle.std.proofs.Common.{◌*◌, ◌∙◌, ℕ, List, length, ap, sym}
 use Rattle.std.proofs.lemmas.Nat.{mul-le}
-use Rattle.compositions.specs.declared.types.UnitType.{UnitType}
+use Rattle.rules.specs.declared.records.UnitType.{UnitType}
 use Rattle.timetable.proofs.Indices.{length-mus}
 use Rattle.timetable.proofs.day.instance.Instance.mus.Goals as goal
 

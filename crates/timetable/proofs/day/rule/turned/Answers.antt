@@ -1,5 +1,0 @@
-use Rattle.std.proofs.Common.{rules}
-use Rattle.timetable.proofs.day.rule.turned.Goals as goal
-
-pub returns-else-reversed : goal.returns-else-reversed
-returns-else-reversed g c = search rules

@@ -1,5 +1,0 @@
-use Rattle.std.proofs.Common.{rules}
-use Rattle.timetable.proofs.day.turns.staying.Goals as goal
-
-pub returns-in-Rear : goal.returns-in-Rear
-returns-in-Rear g c = search rules
