@@ -12,12 +12,12 @@
 #include <stdio.h>
 #include <stdlib.h>
 
-#define MOST_UNITS 6
+#define MAX_UNITS 6
 /* The value of what is not there: any that is there is below LIMIT, also with an edge's price and a worth more. */
 #define NONE INT64_C(9100000000000000000)
 #define LIMIT INT64_C(9050000000000000000)
 
-typedef struct { int units, carriages, seats, types[MOST_UNITS]; } Composition;
+typedef struct { int units, carriages, seats, types[MAX_UNITS]; } Composition;
 typedef struct { int64_t *takes, *gives, *costs; int km, demand, next, kind, is_first, place; } Trip;
 typedef struct { int from, to, shunted, coupled; } Edge;
 

@@ -22,7 +22,7 @@ SEED = 7
 TIMES = 20
 TIMED_EDGES = 5_000_000
 # The most multipliers of a list.
-MOST_ENTRIES = 1000
+MAX_ENTRIES = 1000
 
 TYPES = "type,carriages,seats,metres,family"
 STATIONS = "station,platform,reallocation"
@@ -36,13 +36,13 @@ PROGRAM = """//! Finds the bound of the day in this folder as often as `bound` i
 
 ghost use Rattle.std.specs.Prelude.{◌≤◌, length, IfOk};
 ghost use Rattle.transitions.specs.Edges.{AreGraphs};
-ghost use Rattle.rail_base.specs.declared.limits.TheConstants.{MOST_TABLE_BYTES};
+ghost use Rattle.rail_base.specs.declared.limits.TheConstants.{MAX_TABLE_BYTES};
 
 use anyhow::{Result, anyhow};
 use branch_tree::{BoundAnswer, Multipliers, Region, Relaxation, Weight};
 use price_bound::DayBounds;
 use rail_base::TripNo;
-use rail_base::limits::MOST_TABLE_BYTES;
+use rail_base::limits::MAX_TABLE_BYTES;
 use rail_csv::{links, stations, stock, trips, types, weights};
 use std::alloc::Global;
 use std::io::Read;
@@ -52,11 +52,11 @@ use transitions::Graphs;
 
 /// The bytes of a table.
 fn table(rt: &HostRuntime, name: &str) -> Result<Vec<u8>>
-    ensures { IfOk result (λ bytes. length bytes.items ≤ MOST_TABLE_BYTES) }
+    ensures { IfOk result (λ bytes. length bytes.items ≤ MAX_TABLE_BYTES) }
 {
     let mut bytes = Vec::new(rt.alloc());
     fs::open(rt, name)?.read_to_end(&mut bytes)?;
-    if bytes.len() as u64 > MOST_TABLE_BYTES {
+    if bytes.len() as u64 > MAX_TABLE_BYTES {
         return Err(anyhow!("too long"));
     }
     Ok(bytes)

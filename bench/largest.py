@@ -13,11 +13,11 @@ from checking import run, write_day
 from simulate import clock, write_tables
 
 TRIPS = 400
-MOST_TABLE_BYTES = 4_194_304
-MOST_ANSWER_BYTES = 134_217_728
-MOST_BRANCHINGS = 4_000
-MOST_ENTRIES = 1_000
-MOST_SECONDS = 600
+MAX_TABLE_BYTES = 4_194_304
+MAX_ANSWER_BYTES = 134_217_728
+MAX_BRANCHINGS = 4_000
+MAX_ENTRIES = 1_000
+MAX_SECONDS = 600
 TABLES = ("types", "stations", "stock", "trips", "links", "weights")
 
 
@@ -58,13 +58,13 @@ def write_wide_day(folder, rows, links):
 
 def write_largest(folder):
     """An answer with the most leaves and entries, read whole and invalid at once, and how many bytes it has."""
-    entries = "".join(f" {999_000 + place}:-1000000000000" for place in range(MOST_ENTRIES))
-    leaf = f"cost -100000000000000000000 {MOST_ENTRIES}{entries}\n"
+    entries = "".join(f" {999_000 + place}:-1000000000000" for place in range(MAX_ENTRIES))
+    leaf = f"cost -100000000000000000000 {MAX_ENTRIES}{entries}\n"
     path = os.path.join(folder, "answer.txt")
     with open(path, "w") as answer:
-        answer.write(f"railplan answer 1\nbounded 0\nbranchings {MOST_BRANCHINGS}\ntree\n")
-        answer.write("most 0 0 0\n" * (MOST_BRANCHINGS))
-        for _ in range(MOST_BRANCHINGS + 1):
+        answer.write(f"railplan answer 1\nbounded 0\nbranchings {MAX_BRANCHINGS}\ntree\n")
+        answer.write("most 0 0 0\n" * (MAX_BRANCHINGS))
+        for _ in range(MAX_BRANCHINGS + 1):
             answer.write(leaf)
         answer.write("end\n")
     return os.path.getsize(path)
@@ -96,19 +96,19 @@ def write_impossible_day(folder):
 def write_deep_answer(folder, nodes):
     """An answer that no plan runs, by these lines for the nodes."""
     write_tables(folder, {
-        "answer.txt": ["railplan answer 1", "infeasible", f"branchings {MOST_BRANCHINGS}", "tree", *nodes, "end"],
+        "answer.txt": ["railplan answer 1", "infeasible", f"branchings {MAX_BRANCHINGS}", "tree", *nodes, "end"],
     })
 
 
 def deep_on_the_left():
     """A tree in which each left side is cut again: by the most units of A, and then of B."""
     cuts = [f"most {trip} {unit} {most}" for trip in range(TRIPS) for unit in (0, 1) for most in range(5, unit - 1, -1)]
-    return cuts[:MOST_BRANCHINGS] + ["empty"] * (MOST_BRANCHINGS + 1)
+    return cuts[:MAX_BRANCHINGS] + ["empty"] * (MAX_BRANCHINGS + 1)
 
 
 def deep_on_the_right():
     """A tree in which each right side is cut again: one composition more is left out."""
-    cuts = [(trip, comp) for trip in range(TRIPS) for comp in range(125)][:MOST_BRANCHINGS]
+    cuts = [(trip, comp) for trip in range(TRIPS) for comp in range(125)][:MAX_BRANCHINGS]
     return [line for trip, comp in cuts for line in (f"only {trip} {comp}", "empty")] + ["empty"]
 
 
@@ -128,7 +128,7 @@ def say(what, words):
 def try_tables(program):
     """Each table as long as it may be, and one byte longer."""
     for table in TABLES + ("plan",):
-        for size, told in ((MOST_TABLE_BYTES, "the most bytes"), (MOST_TABLE_BYTES + 1, "a byte more")):
+        for size, told in ((MAX_TABLE_BYTES, "the most bytes"), (MAX_TABLE_BYTES + 1, "a byte more")):
             with tempfile.TemporaryDirectory() as folder:
                 write_day(folder, TRIPS)
                 write_plan(folder)
@@ -141,7 +141,7 @@ def try_wide_days(program):
     for (rows, links), told in ((pairs(), "exchange turns"), (chain(), "one chain of exchange turns")):
         with tempfile.TemporaryDirectory() as folder:
             write_wide_day(folder, rows, links)
-            words = ["timeout", str(MOST_SECONDS), program, "plan", folder, "--nodes", "0", "--rounds", "0"]
+            words = ["timeout", str(MAX_SECONDS), program, "plan", folder, "--nodes", "0", "--rounds", "0"]
             say(f"`plan` without branchings, 1,000 compositions and {told}", words)
 
 
@@ -151,7 +151,7 @@ def try_answers(program):
         write_day(folder, TRIPS)
         path = os.path.join(folder, "answer.txt")
         say(f"`check`, an answer of {write_largest(folder):,} bytes", [program, "check", folder])
-        for size in (MOST_ANSWER_BYTES, MOST_ANSWER_BYTES + 1):
+        for size in (MAX_ANSWER_BYTES, MAX_ANSWER_BYTES + 1):
             pad(path, size)
             say(f"`check`, the same with empty lines behind it, {size:,} bytes", [program, "check", folder])
 
@@ -162,7 +162,7 @@ def try_trees(program):
         with tempfile.TemporaryDirectory() as folder:
             write_impossible_day(folder)
             write_deep_answer(folder, nodes)
-            say(f"`check`, a tree {MOST_BRANCHINGS:,} deep on the {told}", [program, "check", folder])
+            say(f"`check`, a tree {MAX_BRANCHINGS:,} deep on the {told}", [program, "check", folder])
 
 
 def main():

@@ -23,7 +23,7 @@ ghost use Rattle.transitions.specs.Edges.{AreGraphs};
 
 use anyhow::Result;
 use day_files::day_in;
-use rail_base::limits::MOST_WORDS;
+use rail_base::limits::MAX_WORDS;
 use rail_base::{CompNo, NoMemory, TripNo, Words};
 use rail_io::DiskFolder;
 use sample_days::may_run;
@@ -46,7 +46,7 @@ fn stops(plan: &NamedPlan) -> usize {
 fn words_of(alloc: Global, args: Args) -> Result<Words, NoMemory> {
     let mut words = Words::new(alloc)?;
     for arg in args {
-        if words.len() as usize >= MOST_WORDS {
+        if words.len() as usize >= MAX_WORDS {
             break;
         }
         words.push(arg.as_str())?;

@@ -51,16 +51,16 @@ is_entered-append (x ∷ xs) ys i = of (i == x.index) (is_entered-append xs ys i
     of false rest = rest
 
 -- the entries whose index passes a test
-abbrev pub kept : (ℕ → Bool) → List Entry → List Entry
-kept test xs = filter (λ x. test x.index) xs
+abbrev pub filtered : (ℕ → Bool) → List Entry → List Entry
+filtered test xs = filter (λ x. test x.index) xs
 
-pub is_entered-kept : (test : ℕ → Bool) (xs : List Entry) (i : ℕ) → is_entered (kept test xs) i ≡ (test i && is_entered xs i)
-is_entered-kept test [] i = of (test i)
+pub is_entered-filtered : (test : ℕ → Bool) (xs : List Entry) (i : ℕ) → is_entered (filtered test xs) i ≡ (test i && is_entered xs i)
+is_entered-filtered test [] i = of (test i)
   where
     of : (b : Bool) → false ≡ (b && false)
     of true = refl
     of false = refl
-is_entered-kept test (x ∷ xs) i = of (bool_cases (test x.index)) (is_entered-kept test xs i)
+is_entered-filtered test (x ∷ xs) i = of (bool_cases (test x.index)) (is_entered-filtered test xs i)
   where
     at : (b : Bool) → test x.index ≡ b → (i == x.index) ≡ true → test i ≡ b
     at b known same = ap test (eqb-true i x.index same) ∙ known
@@ -73,53 +73,53 @@ is_entered-kept test (x ∷ xs) i = of (bool_cases (test x.index)) (is_entered-k
     skip true q r k denied rest = let none : q ≡ false = denied refl in rest ∙ rw none refl
     skip false q r k denied rest = rest
 
-    of : (test x.index ≡ true) ⊎ (test x.index ≡ false) → is_entered (kept test xs) i ≡ (test i && is_entered xs i) →
-        is_entered (cond (test x.index) (x ∷ kept test xs) (kept test xs)) i ≡ (test i && ((i == x.index) || is_entered xs i))
-    of (inl told) rest = rw told (join (i == x.index) (test i) (is_entered xs i) (is_entered (kept test xs) i) (at true told) rest)
-    of (inr denied) rest = rw denied (skip (i == x.index) (test i) (is_entered xs i) (is_entered (kept test xs) i) (at false denied) rest)
+    of : (test x.index ≡ true) ⊎ (test x.index ≡ false) → is_entered (filtered test xs) i ≡ (test i && is_entered xs i) →
+        is_entered (cond (test x.index) (x ∷ filtered test xs) (filtered test xs)) i ≡ (test i && ((i == x.index) || is_entered xs i))
+    of (inl told) rest = rw told (join (i == x.index) (test i) (is_entered xs i) (is_entered (filtered test xs) i) (at true told) rest)
+    of (inr denied) rest = rw denied (skip (i == x.index) (test i) (is_entered xs i) (is_entered (filtered test xs) i) (at false denied) rest)
 
-pub not_entered-kept : (test : ℕ → Bool) (xs : List Entry) (i : ℕ) → test i ≡ false → is_entered (kept test xs) i ≡ false
-not_entered-kept test xs i denied = is_entered-kept test xs i ∙ ap (λ b. b && is_entered xs i) denied
+pub not_entered-filtered : (test : ℕ → Bool) (xs : List Entry) (i : ℕ) → test i ≡ false → is_entered (filtered test xs) i ≡ false
+not_entered-filtered test xs i denied = is_entered-filtered test xs i ∙ ap (λ b. b && is_entered xs i) denied
 
-pub value_at-kept : (test : ℕ → Bool) (xs : List Entry) (i : ℕ) → test i ≡ true → value_at (kept test xs) i ≡ value_at xs i
-value_at-kept test [] i told = refl
-value_at-kept test (x ∷ xs) i told = of (bool_cases (test x.index)) (value_at-kept test xs i told)
+pub value_at-filtered : (test : ℕ → Bool) (xs : List Entry) (i : ℕ) → test i ≡ true → value_at (filtered test xs) i ≡ value_at xs i
+value_at-filtered test [] i told = refl
+value_at-filtered test (x ∷ xs) i told = of (bool_cases (test x.index)) (value_at-filtered test xs i told)
   where
-    skip : (e : Bool) → (e ≡ true → test x.index ≡ true) → test x.index ≡ false → value_at (kept test xs) i ≡ value_at xs i →
-        value_at (kept test xs) i ≡ (if e then x.value else value_at xs i)
+    skip : (e : Bool) → (e ≡ true → test x.index ≡ true) → test x.index ≡ false → value_at (filtered test xs) i ≡ value_at xs i →
+        value_at (filtered test xs) i ≡ (if e then x.value else value_at xs i)
     skip true passes denied rest = absurd (cc (passes refl))
     skip false passes denied rest = rest
 
-    of : (test x.index ≡ true) ⊎ (test x.index ≡ false) → value_at (kept test xs) i ≡ value_at xs i →
-        value_at (cond (test x.index) (x ∷ kept test xs) (kept test xs)) i ≡ (if i == x.index then x.value else value_at xs i)
+    of : (test x.index ≡ true) ⊎ (test x.index ≡ false) → value_at (filtered test xs) i ≡ value_at xs i →
+        value_at (cond (test x.index) (x ∷ filtered test xs) (filtered test xs)) i ≡ (if i == x.index then x.value else value_at xs i)
     of (inl here) rest = rw here (ap (λ r. if i == x.index then x.value else r) rest)
     of (inr denied) rest = rw denied (skip (i == x.index) (λ same. sym (ap test (eqb-true i x.index same)) ∙ told) denied rest)
 
 -- kept again by a test that passes no more
-pub kept-again : (test wide : ℕ → Bool) (xs : List Entry) → ((n : ℕ) → test n ≡ true → wide n ≡ true) → kept test (kept wide xs) ≡ kept test xs
-kept-again test wide [] more = refl
-kept-again test wide (x ∷ xs) more = of (bool_cases (wide x.index)) (bool_cases (test x.index)) (kept-again test wide xs more)
+pub filtered-again : (test wide : ℕ → Bool) (xs : List Entry) → ((n : ℕ) → test n ≡ true → wide n ≡ true) → filtered test (filtered wide xs) ≡ filtered test xs
+filtered-again test wide [] more = refl
+filtered-again test wide (x ∷ xs) more = of (bool_cases (wide x.index)) (bool_cases (test x.index)) (filtered-again test wide xs more)
   where
-    of : (wide x.index ≡ true) ⊎ (wide x.index ≡ false) → (test x.index ≡ true) ⊎ (test x.index ≡ false) → kept test (kept wide xs) ≡ kept test xs →
-        kept test (cond (wide x.index) (x ∷ kept wide xs) (kept wide xs)) ≡ cond (test x.index) (x ∷ kept test xs) (kept test xs)
+    of : (wide x.index ≡ true) ⊎ (wide x.index ≡ false) → (test x.index ≡ true) ⊎ (test x.index ≡ false) → filtered test (filtered wide xs) ≡ filtered test xs →
+        filtered test (cond (wide x.index) (x ∷ filtered wide xs) (filtered wide xs)) ≡ cond (test x.index) (x ∷ filtered test xs) (filtered test xs)
     of (inl told) t rest = rw told (ap (λ r. cond (test x.index) (x ∷ r) r) rest)
     of (inr denied) (inl told) rest = absurd (cc (more x.index told))
     of (inr denied) (inr out) rest = rw (denied, out) rest
 
 -- kept again by a test that passes none of them
-pub kept-none : (test other : ℕ → Bool) (xs : List Entry) → ((n : ℕ) → other n ≡ true → test n ≡ false) → kept test (kept other xs) ≡ []
-kept-none test other [] denied = refl
-kept-none test other (x ∷ xs) denied = of (bool_cases (other x.index)) (kept-none test other xs denied)
+pub filtered-none : (test other : ℕ → Bool) (xs : List Entry) → ((n : ℕ) → other n ≡ true → test n ≡ false) → filtered test (filtered other xs) ≡ []
+filtered-none test other [] denied = refl
+filtered-none test other (x ∷ xs) denied = of (bool_cases (other x.index)) (filtered-none test other xs denied)
   where
-    of : (other x.index ≡ true) ⊎ (other x.index ≡ false) → kept test (kept other xs) ≡ [] →
-        kept test (cond (other x.index) (x ∷ kept other xs) (kept other xs)) ≡ []
+    of : (other x.index ≡ true) ⊎ (other x.index ≡ false) → filtered test (filtered other xs) ≡ [] →
+        filtered test (cond (other x.index) (x ∷ filtered other xs) (filtered other xs)) ≡ []
     of (inl told) rest = rw (told, denied x.index told) rest
     of (inr out) rest = rw out rest
 
-kept-entry_of : (test : ℕ → Bool) (index : ℕ) (value : ℤ) → test index ≡ false → kept test (entry_of index value) ≡ []
-kept-entry_of test index value denied = of (unsigned_abs value == 0)
+filtered-entry_of : (test : ℕ → Bool) (index : ℕ) (value : ℤ) → test index ≡ false → filtered test (entry_of index value) ≡ []
+filtered-entry_of test index value denied = of (unsigned_abs value == 0)
   where
-    of : (b : Bool) → kept test (if b then [] else record { index = index; value = value } ∷ []) ≡ []
+    of : (b : Bool) → filtered test (if b then [] else record { index = index; value = value } ∷ []) ≡ []
     of true = refl
     of false = rw denied refl
 
@@ -150,11 +150,11 @@ pub below-put : (xs : List Entry) (i k : ℕ) (value : ℤ) → i ≤ k → belo
 below-put xs i k value low =
     let Low : ℕ → Bool = λ n. nat_lt n i in
     filter-append (λ x. Low x.index) (below k xs) (entry_of k value ++ above k xs)
-    ∙ ap (λ r. kept Low (below k xs) ++ r) (filter-append (λ x. Low x.index) (entry_of k value) (above k xs))
-    ∙ ap (λ r. kept Low (below k xs) ++ (r ++ kept Low (above k xs))) (kept-entry_of Low k value (lt-is-not k i low))
-    ∙ ap (λ r. kept Low (below k xs) ++ r) (kept-none Low (λ n. nat_lt k n) xs (λ n over. lt-is-not n i (omega (arith, low, lt-said k n over))))
-    ∙ append-none (kept Low (below k xs))
-    ∙ kept-again Low (λ n. nat_lt n k) xs (λ n less. lt-is n k (omega (arith, low, lt-said n i less)))
+    ∙ ap (λ r. filtered Low (below k xs) ++ r) (filter-append (λ x. Low x.index) (entry_of k value) (above k xs))
+    ∙ ap (λ r. filtered Low (below k xs) ++ (r ++ filtered Low (above k xs))) (filtered-entry_of Low k value (lt-is-not k i low))
+    ∙ ap (λ r. filtered Low (below k xs) ++ r) (filtered-none Low (λ n. nat_lt k n) xs (λ n over. lt-is-not n i (omega (arith, low, lt-said k n over))))
+    ∙ append-none (filtered Low (below k xs))
+    ∙ filtered-again Low (λ n. nat_lt n k) xs (λ n less. lt-is n k (omega (arith, low, lt-said n i less)))
   where
     append-none : (ys : List Entry) → ys ++ [] ≡ ys
     append-none [] = refl
@@ -164,10 +164,10 @@ pub from_on-put : (xs : List Entry) (i k : ℕ) (value : ℤ) → k < i → from
 from_on-put xs i k value over =
     let High : ℕ → Bool = λ n. nat_le i n in
     filter-append (λ x. High x.index) (below k xs) (entry_of k value ++ above k xs)
-    ∙ ap (λ r. r ++ kept High (entry_of k value ++ above k xs)) (kept-none High (λ n. nat_lt n k) xs (λ n less. le-is-not i n (omega (arith, over, lt-said n k less))))
+    ∙ ap (λ r. r ++ filtered High (entry_of k value ++ above k xs)) (filtered-none High (λ n. nat_lt n k) xs (λ n less. le-is-not i n (omega (arith, over, lt-said n k less))))
     ∙ filter-append (λ x. High x.index) (entry_of k value) (above k xs)
-    ∙ ap (λ r. r ++ kept High (above k xs)) (kept-entry_of High k value (le-is-not i k over))
-    ∙ kept-again High (λ n. nat_lt k n) xs (λ n high. lt-is k n (omega (arith, over, le-said i n high)))
+    ∙ ap (λ r. r ++ filtered High (above k xs)) (filtered-entry_of High k value (le-is-not i k over))
+    ∙ filtered-again High (λ n. nat_lt k n) xs (λ n high. lt-is k n (omega (arith, over, le-said i n high)))
 
 -- the value of an index after a put
 value_at-entry_of : (k : ℕ) (value : ℤ) → value_at (entry_of k value) k ≡ value
@@ -193,18 +193,18 @@ value_at-put xs k value i = of (eqb_tells i k) (cases_lt i k)
   where
     of : ((eqb i k ≡ true) × (i ≡ k)) ⊎ ((eqb i k ≡ false) × (i ≢ k)) → (i < k) ⊎ (k ≤ i) → value_at (put_in xs k value) i ≡ (if i == k then value else value_at xs i)
     of (inl (told, same)) order =
-        value_at-skip (below k xs) (entry_of k value ++ above k xs) i (not_entered-kept (λ n. nat_lt n k) xs i (lt-is-not i k (omega (arith, same))))
-        ∙ value_at-stop (entry_of k value) (above k xs) i (not_entered-kept (λ n. nat_lt k n) xs i (lt-is-not k i (omega (arith, same))))
+        value_at-skip (below k xs) (entry_of k value ++ above k xs) i (not_entered-filtered (λ n. nat_lt n k) xs i (lt-is-not i k (omega (arith, same))))
+        ∙ value_at-stop (entry_of k value) (above k xs) i (not_entered-filtered (λ n. nat_lt k n) xs i (lt-is-not k i (omega (arith, same))))
         ∙ ap (λ n. value_at (entry_of k value) n) same ∙ value_at-entry_of k value ∙ rw told refl
     of (inr (denied, other)) (inl less) =
         value_at-stop (below k xs) (entry_of k value ++ above k xs) i
         (is_entered-append (entry_of k value) (above k xs) i ∙ ap (λ b. b || is_entered (above k xs) i) (not_entered-entry_of k value i denied)
-        ∙ not_entered-kept (λ n. nat_lt k n) xs i (lt-is-not k i (omega (arith, less))))
-        ∙ value_at-kept (λ n. nat_lt n k) xs i (lt-is i k less) ∙ rw denied refl
+        ∙ not_entered-filtered (λ n. nat_lt k n) xs i (lt-is-not k i (omega (arith, less))))
+        ∙ value_at-filtered (λ n. nat_lt n k) xs i (lt-is i k less) ∙ rw denied refl
     of (inr (denied, other)) (inr high) =
-        value_at-skip (below k xs) (entry_of k value ++ above k xs) i (not_entered-kept (λ n. nat_lt n k) xs i (lt-is-not i k high))
+        value_at-skip (below k xs) (entry_of k value ++ above k xs) i (not_entered-filtered (λ n. nat_lt n k) xs i (lt-is-not i k high))
         ∙ value_at-skip (entry_of k value) (above k xs) i (not_entered-entry_of k value i denied)
-        ∙ value_at-kept (λ n. nat_lt k n) xs i (lt-is k i (omega (arith, high, other))) ∙ rw denied refl
+        ∙ value_at-filtered (λ n. nat_lt k n) xs i (lt-is k i (omega (arith, high, other))) ∙ rw denied refl
 
 -- rising entries are those below an index and then those from it on
 pub below-none : (xs : List Entry) (i : ℕ) → All (λ x. i ≤ x.index) xs → below i xs ≡ []
@@ -241,8 +241,8 @@ rising-join (x ∷ xs) ys k first second low high =
     (All-append (λ e. x.index < e.index) xs ys (rising-head x xs first) (λ j d inside. omega (arith, less, high j d inside)))
     (rising-join xs ys k (rising-tail x xs first) second (All-tail (λ e. e.index < k) x xs low) high)
 
-pub rising-kept : (test : ℕ → Bool) (xs : List Entry) → AreRising xs → AreRising (kept test xs)
-rising-kept test xs rising = AllPairs-filter (λ a b. a.index < b.index) (λ x. test x.index) xs rising
+pub rising-filtered : (test : ℕ → Bool) (xs : List Entry) → AreRising xs → AreRising (filtered test xs)
+rising-filtered test xs rising = AllPairs-filter (λ a b. a.index < b.index) (λ x. test x.index) xs rising
 
 pub all_below : (xs : List Entry) (i : ℕ) → All (λ x. x.index < i) (below i xs)
 all_below xs i = λ k d inside. lt-said (get_or (below i xs) k d).index i (filter_passes (λ x. nat_lt x.index i) xs k d inside)
@@ -255,14 +255,14 @@ all_above xs i = λ k d inside. omega (arith, lt-said i (get_or (above i xs) k d
 
 pub rising-put : (xs : List Entry) (k : ℕ) (value : ℤ) → AreRising xs → AreRising (put_in xs k value)
 rising-put xs k value rising =
-    rising-join (below k xs) (entry_of k value ++ above k xs) k (rising-kept (λ n. nat_lt n k) xs rising) (from (unsigned_abs value == 0)) (all_below xs k) (high (unsigned_abs value == 0))
+    rising-join (below k xs) (entry_of k value ++ above k xs) k (rising-filtered (λ n. nat_lt n k) xs rising) (from (unsigned_abs value == 0)) (all_below xs k) (high (unsigned_abs value == 0))
   where
     one : Entry
     one = record { index = k; value = value }
 
     from : (b : Bool) → AreRising ((if b then [] else one ∷ []) ++ above k xs)
-    from true = rising-kept (λ n. nat_lt k n) xs rising
-    from false = rising-cons one (above k xs) (λ j d inside. omega (arith, all_above xs k j d inside)) (rising-kept (λ n. nat_lt k n) xs rising)
+    from true = rising-filtered (λ n. nat_lt k n) xs rising
+    from false = rising-cons one (above k xs) (λ j d inside. omega (arith, all_above xs k j d inside)) (rising-filtered (λ n. nat_lt k n) xs rising)
 
     high : (b : Bool) → All (λ y. k ≤ y.index) ((if b then [] else one ∷ []) ++ above k xs)
     high true = λ j d inside. omega (arith, all_above xs k j d inside)

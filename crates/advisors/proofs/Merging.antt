@@ -15,8 +15,8 @@ use Rattle.advisors.specs.Proposed.{Proposed}
 use Rattle.advisors.specs.Proposals.{refusal_of}
 use Rattle.advisors.specs.Puts.{merged, moved_entry, with_entries}
 use Rattle.advisors.specs.SteppedProposals.{IsStepped, at_turn, moved_at, stepped}
-use Rattle.advisors.proofs.EntryLists.{all_below, all_from_on, is_entered-append, is_entered-kept, not_entered-kept, lt-is, lt-is-not, le-is, le-is-not}
-use Rattle.advisors.proofs.EntryLists.{rising-join, rising-kept, value_at-kept, value_at-skip, value_at-stop}
+use Rattle.advisors.proofs.EntryLists.{all_below, all_from_on, is_entered-append, is_entered-filtered, not_entered-filtered, lt-is, lt-is-not, le-is, le-is-not}
+use Rattle.advisors.proofs.EntryLists.{rising-join, rising-filtered, value_at-filtered, value_at-skip, value_at-stop}
 use Rattle.advisors.proofs.Turns.{entries-keep, stands_at_each, with_entries-append}
 
 merged-from : (look : Look) (k : ℕ) (entries slacks : List Entry) → All (λ e. k ≤ e.index) entries → All (λ e. k ≤ e.index) slacks → All (λ e. k ≤ e.index) (merged look entries slacks)
@@ -35,9 +35,9 @@ merged-rising look entries (slack ∷ slacks) rising slack_rising =
     let past : All (λ e. slack.index + 1 ≤ e.index) rest =
     merged-from look (slack.index + 1) (from_on (slack.index + 1) entries) slacks (all_from_on entries (slack.index + 1))
     (λ k d inside. omega (arith, rising-head slack slacks slack_rising k d inside)) in
-    rising-join (below slack.index entries) (moved_entry look slack ∷ rest) slack.index (rising-kept (λ n. nat_lt n slack.index) entries rising)
+    rising-join (below slack.index entries) (moved_entry look slack ∷ rest) slack.index (rising-filtered (λ n. nat_lt n slack.index) entries rising)
     (rising-cons (moved_entry look slack) rest (λ k d inside. omega (arith, past k d inside))
-    (merged-rising look (from_on (slack.index + 1) entries) slacks (rising-kept (λ n. nat_le (slack.index + 1) n) entries rising) (rising-tail slack slacks slack_rising)))
+    (merged-rising look (from_on (slack.index + 1) entries) slacks (rising-filtered (λ n. nat_le (slack.index + 1) n) entries rising) (rising-tail slack slacks slack_rising)))
     (all_below entries slack.index)
     (All-cons (λ e. slack.index ≤ e.index) (moved_entry look slack) rest (omega arith) (λ k d inside. omega (arith, past k d inside)))
 
@@ -49,9 +49,9 @@ pub merged-entered : (look : Look) (entries slacks : List Entry) (i : ℕ) → i
 merged-entered look entries [] i = refl
 merged-entered look entries (slack ∷ slacks) i =
     is_entered-append (below slack.index entries) (moved_entry look slack ∷ rest) i
-    ∙ ap (λ b. b || ((i == slack.index) || is_entered rest i)) (is_entered-kept (λ n. nat_lt n slack.index) entries i)
+    ∙ ap (λ b. b || ((i == slack.index) || is_entered rest i)) (is_entered-filtered (λ n. nat_lt n slack.index) entries i)
     ∙ of (eqb_tells i slack.index) (cases_lt i slack.index)
-    (merged-entered look (from_on (slack.index + 1) entries) slacks i ∙ ap (λ b. is_entered slacks i || b) (is_entered-kept (λ n. nat_le (slack.index + 1) n) entries i))
+    (merged-entered look (from_on (slack.index + 1) entries) slacks i ∙ ap (λ b. is_entered slacks i || b) (is_entered-filtered (λ n. nat_le (slack.index + 1) n) entries i))
   where
     rest : List Entry
     rest = merged look (from_on (slack.index + 1) entries) slacks
@@ -91,20 +91,20 @@ merged-value look entries (slack ∷ slacks) i rising =
         value_at rest i ≡ (if is_entered slacks i then moved_at look i (value_at slacks i) else value_at (from_on (slack.index + 1) entries) i) →
         value_at (below slack.index entries ++ tail) i ≡ (if (i == slack.index) || is_entered slacks i then moved_at look i (if i == slack.index then slack.value else value_at slacks i) else value_at entries i)
     of (inl (told, same)) order there =
-        value_at-skip (below slack.index entries) tail i (not_entered-kept (λ n. nat_lt n slack.index) entries i (lt-is-not i slack.index (omega (arith, same))))
+        value_at-skip (below slack.index entries) tail i (not_entered-filtered (λ n. nat_lt n slack.index) entries i (lt-is-not i slack.index (omega (arith, same))))
         ∙ rw told (ap (λ n. moved_at look n slack.value) (sym same))
     of (inr (denied, other)) (inl less) there =
         value_at-stop (below slack.index entries) tail i
         (ap (λ b. b || is_entered rest i) denied ∙ merged-entered look (from_on (slack.index + 1) entries) slacks i
         ∙ ap (λ b. b || is_entered (from_on (slack.index + 1) entries) i) (absent less)
-        ∙ not_entered-kept (λ n. nat_le (slack.index + 1) n) entries i (le-is-not (slack.index + 1) i (omega (arith, less))))
-        ∙ value_at-kept (λ n. nat_lt n slack.index) entries i (lt-is i slack.index less)
+        ∙ not_entered-filtered (λ n. nat_le (slack.index + 1) n) entries i (le-is-not (slack.index + 1) i (omega (arith, less))))
+        ∙ value_at-filtered (λ n. nat_lt n slack.index) entries i (lt-is i slack.index less)
         ∙ rw (denied, absent less) refl
     of (inr (denied, other)) (inr high) there =
-        value_at-skip (below slack.index entries) tail i (not_entered-kept (λ n. nat_lt n slack.index) entries i (lt-is-not i slack.index high))
+        value_at-skip (below slack.index entries) tail i (not_entered-filtered (λ n. nat_lt n slack.index) entries i (lt-is-not i slack.index high))
         ∙ ap (λ b. if b then moved_at look slack.index slack.value else value_at rest i) denied
         ∙ there
-        ∙ ap (λ v. if is_entered slacks i then moved_at look i (value_at slacks i) else v) (value_at-kept (λ n. nat_le (slack.index + 1) n) entries i (le-is (slack.index + 1) i (omega (arith, high, other))))
+        ∙ ap (λ v. if is_entered slacks i then moved_at look i (value_at slacks i) else v) (value_at-filtered (λ n. nat_le (slack.index + 1) n) entries i (le-is (slack.index + 1) i (omega (arith, high, other))))
         ∙ rw denied refl
 
 -- a proposal into which the merged multipliers are put is the one after the step

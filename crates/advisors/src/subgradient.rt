@@ -1,7 +1,7 @@
 //! The subgradient: the last multipliers, moved along the slacks that the picks have under them.
 
 ghost use Rattle.std.specs.Prelude.{◌≡◌, ◌≢◌, ◌+◌, ◌<◌, ◌≤◌, ◌^◌, [], ◌∷◌, ◌++◌, pos, unsigned_abs, false, Ok};
-ghost use Rattle.rail_base.specs.declared.limits.TheConstants.{MOST_MULTIPLIER};
+ghost use Rattle.rail_base.specs.declared.limits.TheConstants.{MAX_MULTIPLIER};
 ghost use Rattle.branch_tree.specs.Entries.{AreRising};
 ghost use Rattle.advisors.specs.EntriesByIndex.{below, from_on};
 ghost use Rattle.advisors.specs.Proposals.{DoesFit, IsOverSame};
@@ -12,7 +12,7 @@ ghost use Rattle.advisors.specs.SteppedProposals.{IsStepped};
 use crate::advisor::{Advisor, Look, Word};
 use crate::proposal::Proposal;
 use branch_tree::Entry;
-use rail_base::limits::MOST_MULTIPLIER;
+use rail_base::limits::MAX_MULTIPLIER;
 use rail_base::{Money, NoMemory};
 use std::marker::Model;
 
@@ -175,10 +175,10 @@ fn step_of(first: Money, round: u8) -> i128
 /// A multiplier moved by the step times the slack, within 10^12 in size, and at 0 where it may not be negative and
 /// would be.
 fn moved(value: i64, step: i128, slack: i64, may_be_negative: bool) -> i64
-    requires { unsigned_abs value ≤ MOST_MULTIPLIER }
+    requires { unsigned_abs value ≤ MAX_MULTIPLIER }
     ensures { result ≡ moved value step slack may_be_negative }
 {
-    let most = MOST_MULTIPLIER as i128;
+    let most = MAX_MULTIPLIER as i128;
     let least = if may_be_negative { -most } else { 0 };
     let moved = step
         .saturating_mul(i128::from(slack))

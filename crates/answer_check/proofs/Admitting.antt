@@ -6,7 +6,7 @@ use Rattle.std.proofs.lemmas.Bool.{and_parts, cases_lt, leb-true}
 use Rattle.std.proofs.lemmas.Grind.{get_or-set_at}
 use Rattle.std.proofs.lemmas.List.{ext_get_or, get_or-map, get_or-set_other, get_or_default, length-map}
 use Rattle.std.proofs.lemmas.Option.{slice_get-get_or, slice_get_within}
-use Rattle.rail_base.specs.declared.limits.TheConstants.{MOST_COMPOSITION}
+use Rattle.rail_base.specs.declared.limits.TheConstants.{MAX_COMPOSITION_UNITS}
 use Rattle.timetable.specs.Admissible.{is_admissible}
 use Rattle.timetable.specs.Compositions.{compositions_of, composition_at}
 use Rattle.timetable.specs.Day.{Day, types_of}
@@ -19,14 +19,14 @@ use Rattle.answer_check.specs.Verdicts.{IsCompOf}
 
 pub record AreFew (ms : List ℕ) : Type 0 where
   pub some : 1 ≤ length ms
-  pub few : length ms ≤ MOST_COMPOSITION
+  pub few : length ms ≤ MAX_COMPOSITION_UNITS
 
 -- there are some of them, and not too many
 pub some_units : (day : Day) (t : ℕ) (ms : List ℕ) → is_admissible day t ms ≡ true → AreFew ms
 unfolding is_admissible
 some_units day t ms fits =
     let counts = and_parts _ _ (and_parts _ _ (and_parts _ _ (and_parts _ _ fits).0).0).0 in
-    record { some = leb-true 1 (length ms) counts.0; few = leb-true (length ms) MOST_COMPOSITION counts.1 }
+    record { some = leb-true 1 (length ms) counts.0; few = leb-true (length ms) MAX_COMPOSITION_UNITS counts.1 }
 
 -- the catalogue has them
 pub contained : (day : Day) (t : ℕ) (ms : List ℕ) → is_admissible day t ms ≡ true → Contains (compositions_of day) ms

@@ -10,7 +10,7 @@ use Rattle.timetable.specs.Picks.{IsSolution, RunsByPicks}
 use Rattle.branch_tree.specs.declared.claims.Claim.{Claim}
 use Rattle.branch_tree.specs.declared.tree.Node.{Node}
 use Rattle.branch_tree.specs.declared.tree.Node.TheVariants.{Branch, CostLeaf, RayLeaf, EmptyLeaf}
-use Rattle.branch_tree.specs.Claims.{Conclusion, optimal, infeasible, bounded, bounded_plan, plan_of, said_by}
+use Rattle.branch_tree.specs.Claims.{Conclusion, optimal, infeasible, bounded, bounded_plan, concluded_plan, said_by}
 use Rattle.branch_tree.specs.Meanings.{Meanings}
 use Rattle.branch_tree.specs.Regions.{root_of}
 use Rattle.branch_tree.specs.Trees.{cut_of, nodes_in}
@@ -92,16 +92,16 @@ other_head (bounded bound) nodes = other_least bound nodes
 other_head (bounded_plan bound plan) nodes = other_least bound nodes
 
 other_claim : (problem : Meanings) (root : List (List Bool)) (claim : Claim)
-    → AreOther (plan_tests problem root (plan_of (said_by claim.head))) → AreOther (claim_tests problem root claim)
+    → AreOther (plan_tests problem root (concluded_plan (said_by claim.head))) → AreOther (claim_tests problem root claim)
 other_claim problem root claim plan =
     let said = said_by claim.head in (
       (λ (node, is, wrong). absurd cc),
       (
         (λ (is, wrong). absurd cc),
         are_other-append (tests_from problem 0 (nodes_in cut_of problem.catalogue (root ∷ []) claim.tree.now))
-            (plan_tests problem root (plan_of said) ++ head_tests said claim.tree.now)
+            (plan_tests problem root (concluded_plan said) ++ head_tests said claim.tree.now)
             (other_from problem 0 (nodes_in cut_of problem.catalogue (root ∷ []) claim.tree.now))
-            (are_other-append (plan_tests problem root (plan_of said)) (head_tests said claim.tree.now) plan
+            (are_other-append (plan_tests problem root (concluded_plan said)) (head_tests said claim.tree.now) plan
             (other_head said claim.tree.now)),
       ),
     )
@@ -125,7 +125,7 @@ module _ (day : Day) (accepted : IsSoundDay day) where
 
   other_plan : (head : Head) (runs : List (List ℕ)) (picks : List ℕ)
       → (IsTrue (has_plan head) → RunsByPicks day runs picks)
-      → AreOther (plan_tests (meanings_of day) (root_of day) (plan_of (conclusion_of head picks)))
+      → AreOther (plan_tests (meanings_of day) (root_of day) (concluded_plan (conclusion_of head picks)))
   other_plan (Optimal cost) runs picks planned =
       (picks_hold runs picks cost.0 (planned refl), ((λ (is, wrong). absurd cc), tt))
   other_plan Infeasible runs picks planned = tt
@@ -139,7 +139,7 @@ module _ (day : Day) (accepted : IsSoundDay day) where
         let is = against.is_claim in
         never_first (claim_tests (meanings_of day) (root_of day) against.claim)
         (other_claim (meanings_of day) (root_of day) against.claim
-        (subst (λ (c : Conclusion). AreOther (plan_tests (meanings_of day) (root_of day) (plan_of c))) (sym is.head)
+        (subst (λ (c : Conclusion). AreOther (plan_tests (meanings_of day) (root_of day) (concluded_plan c))) (sym is.head)
         (other_plan answer.head answer.runs is.picks is.planned))) against.verdict.1
 
     can_come : (found : AnswerVerdict) → IsAnswerVerdict day answer found → CanCome found

@@ -1,11 +1,11 @@
 -- What is said of the tree of an answer that a search found: that it proves the answer, and that the search ended
 -- neither too early nor too late.
 use Rattle.std.specs.Prelude.{ℕ, ◌+◌, ◌≤◌, ◌≡◌, ◌↔◌, List, [], Bool, ℤ, Option, Some, None, IsSome, IsTrue}
-use Rattle.rail_base.specs.declared.limits.TheConstants.{MOST_NODES}
+use Rattle.rail_base.specs.declared.limits.TheConstants.{MAX_NODES}
 use Rattle.inventory.specs.NamedUnits.{named_plan}
 use Rattle.timetable.specs.Day.{Day}
 use Rattle.timetable.specs.Picks.{picked}
-use Rattle.branch_tree.specs.Claims.{EndsInTime, HasOpenLeaf, IsConcluded, Priced, open_leaves_of, plan_of}
+use Rattle.branch_tree.specs.Claims.{EndsInTime, HasOpenLeaf, IsConcluded, CostedPicks, open_leaves_of, concluded_plan}
 use Rattle.branch_tree.specs.Meanings.{Meanings}
 use Rattle.branch_tree.specs.Regions.{choices_of, root_of}
 use Rattle.branch_tree.specs.Trees.{branchings_of}
@@ -13,7 +13,7 @@ use Rattle.price_bound.specs.DayMeanings.{meanings_of}
 use Rattle.answer_text.specs.declared.answer.Answer.{Answer}
 use Rattle.rules.specs.declared.heads.Head.{Head}
 use Rattle.rules.specs.declared.heads.Head.TheVariants.{Optimal, Infeasible, Bounded, BoundedPlan}
-use Rattle.answer_text.specs.Limits.{IsWithin, has_plan}
+use Rattle.answer_text.specs.Limits.{IsAnswerWithin, has_plan}
 use Rattle.answer_check.specs.Validity.{IsValidIn, conclusion_of}
 
 -- the bound that a head says
@@ -24,8 +24,8 @@ bound_said (Bounded bound) = Some bound.0
 bound_said (BoundedPlan bound cost) = Some bound.0
 
 -- the plan of an answer, where it has one, by these picks
-abbrev pub plan_said : Answer → List ℕ → Option Priced
-plan_said answer picks = plan_of (conclusion_of answer.head picks)
+abbrev pub plan_said : Answer → List ℕ → Option CostedPicks
+plan_said answer picks = concluded_plan (conclusion_of answer.head picks)
 
 -- how many leaves of the tree of an answer are open, by the cost that it says: no picks have a part in that
 abbrev pub open_leaves : Answer → ℕ
@@ -54,7 +54,7 @@ pub record HasProvedTreeIn (day : Day) (problem : Meanings) (root : List (List B
   -- has a plan that costs no more, by the costs of the problem; and no open leaf has an evident end
   pub evident : EndsInTime problem root (plan_said answer valid.picks) answer.tree
   -- its text can be read again
-  pub within : IsWithin MOST_NODES answer
+  pub within : IsAnswerWithin MAX_NODES answer
 
 -- the units of the plan with these picks, named by the rule of the day
 abbrev pub named_for : Day → List ℕ → List (List ℕ)

@@ -1,7 +1,7 @@
 //! The plan of an answer: whether its runs are a plan of the day that runs, and which compositions it picks.
 
 ghost use Rattle.std.specs.Prelude.{◌≡◌, ◌<◌, ◌≤◌, IfOk, IfErr, length};
-ghost use Rattle.rail_base.specs.declared.limits.TheConstants.{MOST_TRIPS};
+ghost use Rattle.rail_base.specs.declared.limits.TheConstants.{MAX_TRIPS};
 ghost use Rattle.timetable.specs.Running as running;
 ghost use Rattle.timetable.specs.Day.{types_of};
 ghost use Rattle.timetable.specs.Links.{list_of};
@@ -52,7 +52,7 @@ pub(crate) fn picks_of(
     instance: &Instance,
     runs: &Runs,
 ) -> Result<Picks, RunsRefusal>
-    requires few { length runs.now ≤ MOST_TRIPS }
+    requires few { length runs.now ≤ MAX_TRIPS }
     ensures picks { IfOk result (RunsByPicks instance.now runs.now) }
     ensures refused { IfErr result (IsRunsRefusal instance.now runs.now) }
 {
@@ -66,7 +66,7 @@ pub(crate) fn picks_of(
 
 /// The plan that runs are, where there is one for each trip of the day and each names units of the day.
 fn plan_of(alloc: Global, instance: &Instance, runs: &Runs) -> Result<NamedPlan, RunsRefusal>
-    requires few { length runs.now ≤ MOST_TRIPS }
+    requires few { length runs.now ≤ MAX_TRIPS }
     ensures plan { IfOk result (λ plan. (plan ≡ runs.now) × running.IsPlan instance.now plan) }
     ensures refused { IfErr result (IsRunsRefusal instance.now runs.now) }
 {
@@ -84,7 +84,7 @@ fn plan_of(alloc: Global, instance: &Instance, runs: &Runs) -> Result<NamedPlan,
 
 /// The first trip whose list has a unit that the day does not have.
 fn first_unknown(instance: &Instance, lists: &[UnitList]) -> Option<TripNo>
-    requires few { length lists.now ≤ MOST_TRIPS }
+    requires few { length lists.now ≤ MAX_TRIPS }
     ensures { IsFoundOf instance.now lists.now result }
 {
     for trip in 0..lists.len() {

@@ -1,7 +1,7 @@
 //! Checking an answer: whether its plan runs, and whether its tree proves what it says of all plans.
 
 ghost use Rattle.std.specs.Prelude.{◌≡◌, ◌≤◌, IfErr, IfOk, length};
-ghost use Rattle.rail_base.specs.declared.limits.TheConstants.{MOST_TRIPS};
+ghost use Rattle.rail_base.specs.declared.limits.TheConstants.{MAX_TRIPS};
 ghost use Rattle.timetable.specs.Accepted.{IsSoundDay};
 ghost use Rattle.branch_tree.specs.Claims.{IsConcluded, said_by};
 ghost use Rattle.branch_tree.specs.Regions.{root_of};
@@ -55,7 +55,7 @@ pub fn check_answer(
     answer: &Answer,
 ) -> Result<AnswerVerdict, NoMemory>
     requires graphs { AreGraphs instance.now graphs.now }
-    requires runs { length answer.now.runs ≤ MOST_TRIPS }
+    requires runs { length answer.now.runs ≤ MAX_TRIPS }
     ensures verdict { IfOk result (IsAnswerVerdict instance.now answer.now) }
     ensures holds { IfOk result (λ verdict. verdict ≡ AnswerVerdict.Valid →
         IsTrueOf instance.now answer.now.head answer.now.runs) }
@@ -76,7 +76,7 @@ pub fn verdict_on(
     instance: &Instance,
     answer: &Answer,
 ) -> Result<AnswerVerdict, NoMemory>
-    requires { length answer.now.runs ≤ MOST_TRIPS }
+    requires { length answer.now.runs ≤ MAX_TRIPS }
     ensures verdict { IfOk result (IsAnswerVerdict instance.now answer.now) }
     ensures holds { IfOk result (λ verdict. verdict ≡ AnswerVerdict.Valid →
         IsTrueOf instance.now answer.now.head answer.now.runs) }
@@ -100,7 +100,7 @@ fn verdict_of(refusal: RunsRefusal) -> Result<AnswerVerdict, NoMemory>
 
 /// The picks of an answer's plan; none where it has no plan.
 fn picks_for(alloc: Global, instance: &Instance, answer: &Answer) -> Result<Picks, RunsRefusal>
-    requires { length answer.now.runs ≤ MOST_TRIPS }
+    requires { length answer.now.runs ≤ MAX_TRIPS }
     ensures picks { IfOk result (HasPicks instance.now answer.now.head answer.now.runs) }
     ensures refused { IfErr result (IsPicksRefusal instance.now answer.now) }
 {

@@ -7,7 +7,7 @@ use Rattle.std.specs.List.{AllByRecursion}
 use Rattle.std.proofs.lemmas.Bool.Decides.{nat_tests}
 use Rattle.std.proofs.lemmas.List.{append-nil}
 use Rattle.std.proofs.lemmas.List.Elements.{recursion_from_All}
-use Rattle.rail_base.specs.declared.limits.TheConstants.{MOST_BRANCHINGS}
+use Rattle.rail_base.specs.declared.limits.TheConstants.{MAX_BRANCHINGS}
 use Rattle.branch_tree.specs.declared.cuts.Cut.TheVariants.{Only, AtMost}
 use Rattle.branch_tree.specs.declared.multipliers.Entry.{Entry}
 use Rattle.branch_tree.specs.declared.tree.Node.{Node}
@@ -15,7 +15,7 @@ use Rattle.branch_tree.specs.declared.tree.Node.TheVariants.{Branch, CostLeaf, R
 use Rattle.branch_tree.specs.Entries.{AreRising}
 use Rattle.rules.specs.declared.heads.Head.{Head}
 use Rattle.rules.specs.declared.heads.Head.TheVariants.{Optimal, Infeasible, Bounded, BoundedPlan}
-use Rattle.answer_text.specs.declared.limits.TheConstants.{MOST_AMOUNT}
+use Rattle.answer_text.specs.declared.limits.TheConstants.{MAX_AMOUNT}
 use Rattle.answer_text.specs.Limits.{AreEntries, IsAmount, IsHead, IsNode, IsRun}
 use Rattle.answer_text.specs.Numbers.{at_end, next_number, next_signed}
 use Rattle.answer_text.specs.Pieces.{pieces}
@@ -34,9 +34,9 @@ next_number_again : (most n : ℕ) (words : List (List ℕ)) → n ≤ most → 
 unfolding next_number
 next_number_again most n words within small = rw (number_again most n within small) refl
 
-next_amount_again : (z : ℤ) (words : List (List ℕ)) → IsAmount z → next_signed MOST_AMOUNT (signed_decimal z ∷ words) ≡ Some (z, words)
+next_amount_again : (z : ℤ) (words : List (List ℕ)) → IsAmount z → next_signed MAX_AMOUNT (signed_decimal z ∷ words) ≡ Some (z, words)
 unfolding next_signed
-next_amount_again z words within = rw (signed_again MOST_AMOUNT z within (omega arith)) refl
+next_amount_again z words within = rw (signed_again MAX_AMOUNT z within (omega arith)) refl
 
 -- ---- the head
 
@@ -64,9 +64,9 @@ head_again Infeasible within = refl
 head_again (Bounded bound) within = bounded_again bound.0 within
 head_again (BoundedPlan bound cost) within = bounded_plan_again bound.0 cost.0 within.0 within.1
 
-pub branchings_again : (number : ℕ) → number ≤ MOST_BRANCHINGS → branchings_in (branchings_words number) ≡ Some number
+pub branchings_again : (number : ℕ) → number ≤ MAX_BRANCHINGS → branchings_in (branchings_words number) ≡ Some number
 unfolding branchings_in next_is at_end
-branchings_again number within = rw (next_number_again MOST_BRANCHINGS number [] within (omega arith)) refl
+branchings_again number within = rw (next_number_again MAX_BRANCHINGS number [] within (omega arith)) refl
 
 -- ---- a run
 

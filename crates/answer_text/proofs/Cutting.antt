@@ -5,7 +5,7 @@ use Rattle.std.proofs.lemmas.Bool.{ne_eqb, cases_lt}
 use Rattle.std.proofs.lemmas.Bool.Decides.{eqb_tells, nat_tests}
 use Rattle.answer_text.specs.declared.refusal.AnswerRefusal.TheVariants.{BadLine}
 use Rattle.answer_text.specs.Pieces.{pieces, pieces_after, with_byte}
-use Rattle.answer_text.specs.ReadPlaces.{line_in}
+use Rattle.answer_text.specs.ReadStates.{line_in}
 
 same : (a b : ℕ) → a ≡ b → eqb a b ≡ true
 same a b e = elim (eqb_tells a b) [ inl equal ↦ equal.0 | inr other ↦ absurd (other.1 e) ]

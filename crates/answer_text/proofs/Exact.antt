@@ -8,12 +8,12 @@ use Rattle.answer_text.specs.declared.answer.Answer.{Answer}
 use Rattle.answer_text.specs.declared.refusal.AnswerRefusal.{AnswerRefusal}
 use Rattle.answer_text.specs.declared.refusal.AnswerRefusal.TheVariants.{BadLine, MissingEnd, Trailing, TooManyNodes}
 use Rattle.answer_text.specs.declared.refusal.AnswerRefusal.TheVariants.{NoMemory}
-use Rattle.answer_text.specs.Grammar.{is_memory, AreUnfinished, Begin, GoOn, IsRefused}
+use Rattle.answer_text.specs.Grammar.{is_memory, AreUnfinished, Begin, GoOn, IsAnswerRefusal}
 use Rattle.answer_text.specs.Lines.{text_of_lines}
 use Rattle.answer_text.specs.Numbers.{◌>>=◌}
 use Rattle.answer_text.specs.Pieces.{pieces}
-use Rattle.answer_text.specs.ReadPlaces.{Place, at_branchings, at_head, at_last, at_nodes, at_runs, at_title}
-use Rattle.answer_text.specs.ReadPlaces.{after_line, fault_at, line_number, lines_before, reading}
+use Rattle.answer_text.specs.ReadStates.{ReadState, at_branchings, at_head, at_last, at_nodes, at_runs, at_title}
+use Rattle.answer_text.specs.ReadStates.{after_line, fault_at, line_number, lines_before, reading}
 use Rattle.answer_text.specs.Texts.{lines_of}
 use Rattle.answer_text.proofs.Cutting.{not_blank, some_pieces}
 use Rattle.answer_text.proofs.Placing.{leads}
@@ -28,12 +28,12 @@ use Rattle.answer_text.proofs.Turns.{after_last}
 -- ---- lines that were read
 
 -- the place after lines is reached, and has these lines before it
-record Passed (place later : Place) (lines : List (List ℕ)) : Type 0 where
+record Passed (place later : ReadState) (lines : List (List ℕ)) : Type 0 where
   reached : Reached later
   before : lines_before later ≡ lines_before place ++ lines
 
-passed : (place later : Place) (lines : List (List ℕ)) → Reached place → steps 8001 place lines ≡ Some later → Passed place later lines
-passed place later [] r e = subst (λ (p : Place). Passed place p []) (some_is place later e) (record { reached = r; before = sym (append-nil (lines_before place)) })
+passed : (place later : ReadState) (lines : List (List ℕ)) → Reached place → steps 8001 place lines ≡ Some later → Passed place later lines
+passed place later [] r e = subst (λ (p : ReadState). Passed place p []) (some_is place later e) (record { reached = r; before = sym (append-nil (lines_before place)) })
 passed place later (line ∷ lines) r e =
     let found = bind_some (after_line 8001 place line) (λ next. steps 8001 next lines) later e in
     let led = leads 8001 place found.0 line r.within found.1 in
@@ -47,8 +47,8 @@ longer : (lines tail : List (List ℕ)) → 1 ≤ length tail → 1 ≤ length (
 longer [] tail some = some
 longer (line ∷ lines) tail some = omega arith
 
-run_on : (place later : Place) (lines tail : List (List ℕ)) → 1 ≤ length tail → steps 8001 place lines ≡ Some later → reading place (lines ++ tail) ≡ reading later tail
-run_on place later [] tail some e = ap (λ (p : Place). reading p tail) (some_is place later e)
+run_on : (place later : ReadState) (lines tail : List (List ℕ)) → 1 ≤ length tail → steps 8001 place lines ≡ Some later → reading place (lines ++ tail) ≡ reading later tail
+run_on place later [] tail some e = ap (λ (p : ReadState). reading p tail) (some_is place later e)
 run_on place later (line ∷ lines) tail some e =
     let found = bind_some (after_line 8001 place line) (λ next. steps 8001 next lines) later e in
     cut_on place found.0 line (lines ++ tail) (longer lines tail some) found.1 ∙ run_on found.0 later lines tail some found.2
@@ -61,13 +61,13 @@ front_lacks (line ∷ front) back h =
 
 -- lines of which an answer has more are read, and lead to a place where a line is wanted
 record Stands (bytes : List ℕ) (lines : List (List ℕ)) (after : List ℕ) : Type 0 where
-  place : Place
+  place : ReadState
   reached : Reached place
   before : lines_before place ≡ lines
   open_here : IsOpen place
   reads : reading at_title (pieces 10 bytes) ≡ reading place (pieces 10 after)
 
-is_open : (place : Place) (line : List ℕ) (later : Place) → after_line 8001 place line ≡ Some later → IsOpen place
+is_open : (place : ReadState) (line : List ℕ) (later : ReadState) → after_line 8001 place line ≡ Some later → IsOpen place
 unfolding after_line
 is_open at_title line later e = tt
 is_open at_head line later e = tt
@@ -96,27 +96,27 @@ stands bytes lines after more e =
       reads = ap (reading at_title) (ap (pieces 10) e ∙ pieces-lines lines after clean) ∙ run_on at_title found.0 lines (pieces 10 after) (some_pieces 10 after) found.1;
     }
 
-number : (place : Place) (lines : List (List ℕ)) → lines_before place ≡ lines → line_number place ≡ length lines + 1
+number : (place : ReadState) (lines : List (List ℕ)) → lines_before place ≡ lines → line_number place ≡ length lines + 1
 number place lines e = ap (λ (ls : List (List ℕ)). length ls + 1) e
 
 -- ---- the four causes
 
-fits_begin : (place later : Place) (line : List ℕ) → Reached place → after_line 8001 place line ≡ Some later → Begin 8001 (lines_before place ++ line ∷ [])
+fits_begin : (place later : ReadState) (line : List ℕ) → Reached place → after_line 8001 place line ≡ Some later → Begin 8001 (lines_before place ++ line ∷ [])
 fits_begin place later line r e =
     let led = leads 8001 place later line r.within e in
     subst (Begin 8001) led.lines (begin 8001 later (omega arith) led.within)
 
-fits_begin_more : (place later : Place) (line : List ℕ) → Reached place → after_line 8002 place line ≡ Some later → Begin 8002 (lines_before place ++ line ∷ [])
+fits_begin_more : (place later : ReadState) (line : List ℕ) → Reached place → after_line 8002 place line ≡ Some later → Begin 8002 (lines_before place ++ line ∷ [])
 fits_begin_more place later line r e =
     let led = leads 8002 place later line (wide place r.within) e in
     subst (Begin 8002) led.lines (begin 8002 later (omega arith) led.within)
 
-wrong_line : (place : Place) (after : List ℕ) → IsOpen place → Reached place → after ≢ [] → (GoOn 8002 (lines_before place) after → ⊥) → reading place (pieces 10 after) ≡ Err (BadLine (line_number place))
+wrong_line : (place : ReadState) (after : List ℕ) → IsOpen place → Reached place → after ≢ [] → (GoOn 8002 (lines_before place) after → ⊥) → reading place (pieces 10 after) ≡ Err (BadLine (line_number place))
 unfolding reading
 wrong_line place [] o r there wrong = absurd (there refl)
 wrong_line place (byte ∷ after) o r there wrong = go (pieces 10 (byte ∷ after)) (joined-pieces 10 (byte ∷ after)) (not_blank 10 byte after) (some_pieces 10 (byte ∷ after))
   where
-    none_at : (found : Option Place) → ((later : Place) → found ≡ Some later → ⊥) → found ≡ None
+    none_at : (found : Option ReadState) → ((later : ReadState) → found ≡ Some later → ⊥) → found ≡ None
     none_at None f = refl
     none_at (Some later) f = absurd (f later refl)
 
@@ -129,7 +129,7 @@ wrong_line place (byte ∷ after) o r there wrong = go (pieces 10 (byte ∷ afte
         let none = none_at (after_line 8001 place line) (λ later fits. none_some later (sym more ∙ more_room place later line fits)) in
         rw none (ap Err (fault_is place line o more))
 
-over_line : (place : Place) (after : List ℕ) → IsOpen place → Reached place → GoOn 8002 (lines_before place) after → (GoOn 8001 (lines_before place) after → ⊥) → reading place (pieces 10 after) ≡ Err TooManyNodes
+over_line : (place : ReadState) (after : List ℕ) → IsOpen place → Reached place → GoOn 8002 (lines_before place) after → (GoOn 8001 (lines_before place) after → ⊥) → reading place (pieces 10 after) ≡ Err TooManyNodes
 unfolding reading
 over_line place after o r on full =
     let begun = on.3 in
@@ -139,12 +139,12 @@ over_line place after o r on full =
     sym (steps-append 8002 at_title (lines_before place ++ on.0 ∷ []) begun.1) ∙ ap (steps 8002 at_title) (sym begun.3) ∙ answer_steps 8002 begun.0 begun.2 in
     let front = bind_some (steps 8002 at_title (lines_before place ++ on.0 ∷ [])) (λ p. steps 8002 p begun.1) (at_last begun.0) all in
     let here : (after_line 8002 place on.0 >>= λ p. Some p) ≡ Some front.0 =
-    sym (steps-append 8002 at_title (lines_before place) (on.0 ∷ []) ∙ ap (λ (found : Option Place). found >>= λ p. steps 8002 p (on.0 ∷ [])) r.by_more) ∙ front.1 in
+    sym (steps-append 8002 at_title (lines_before place) (on.0 ∷ []) ∙ ap (λ (found : Option ReadState). found >>= λ p. steps 8002 p (on.0 ∷ [])) r.by_more) ∙ front.1 in
     let fits = bind_some (after_line 8002 place on.0) (λ p. Some p) front.0 here in
     let none = none_at (after_line 8001 place on.0) (λ later e. full (on.0, on.1, on.2, fits_begin place later on.0 r e)) in
     ap (reading place) cut ∙ faulty (pieces 10 on.1) on.0 (some_pieces 10 on.1) none ∙ ap Err (over_is place fits.0 on.0 o fits.1)
   where
-    none_at : (found : Option Place) → ((later : Place) → found ≡ Some later → ⊥) → found ≡ None
+    none_at : (found : Option ReadState) → ((later : ReadState) → found ≡ Some later → ⊥) → found ≡ None
     none_at None f = refl
     none_at (Some later) f = absurd (f later refl)
 
@@ -159,11 +159,11 @@ trailing answer (byte ∷ after) there = after_last answer (byte ∷ after) ∙ 
     positive : (n : ℕ) → eqb (suc n) 0 ≡ false
     positive n = grind (arith, nat_tests)
 
-missing : (place : Place) → IsOpen place → reading place ([] ∷ []) ≡ Err MissingEnd
+missing : (place : ReadState) → IsOpen place → reading place ([] ∷ []) ≡ Err MissingEnd
 unfolding reading
 missing place o = open_end place [] o
 
-pub exact : (bytes : List ℕ) (refusal : AnswerRefusal) → IsRefused bytes refusal → reading at_title (pieces 10 bytes) ≡ Err refusal
+pub exact : (bytes : List ℕ) (refusal : AnswerRefusal) → IsAnswerRefusal bytes refusal → reading at_title (pieces 10 bytes) ≡ Err refusal
 exact bytes (BadLine n) h =
     let s = stands bytes h.before h.after h.right h.parts in
     let wrong = subst (λ (ls : List (List ℕ)). GoOn 8002 ls h.after → ⊥) (sym s.before) h.wrong in
@@ -184,5 +184,5 @@ exact bytes TooManyNodes h =
 exact bytes NoMemory h = absurd h
 
 -- so a refusal whose cause is so is the answer, want of memory apart
-pub exactly : (bytes : List ℕ) (said : Result Answer AnswerRefusal) → Gives is_memory said (reading at_title (pieces 10 bytes)) → (refusal : AnswerRefusal) → IsRefused bytes refusal → Gives is_memory said (Err refusal)
+pub exactly : (bytes : List ℕ) (said : Result Answer AnswerRefusal) → Gives is_memory said (reading at_title (pieces 10 bytes)) → (refusal : AnswerRefusal) → IsAnswerRefusal bytes refusal → Gives is_memory said (Err refusal)
 exactly bytes said given refusal h = subst (λ (r : Result Answer AnswerRefusal). Gives is_memory said r) (exact bytes refusal h) given

@@ -14,7 +14,7 @@ use Rattle.branch_tree.specs.declared.multipliers.Entry.{Entry}
 use Rattle.branch_tree.specs.declared.tree.Node.{Node}
 use Rattle.branch_tree.specs.declared.tree.Node.TheVariants.{Branch, CostLeaf, RayLeaf, EmptyLeaf}
 use Rattle.branch_tree.specs.Entries.{AreRising}
-use Rattle.answer_text.specs.declared.limits.TheConstants.{MOST_AMOUNT}
+use Rattle.answer_text.specs.declared.limits.TheConstants.{MAX_AMOUNT}
 use Rattle.answer_text.specs.Limits.{AreEntries, IsNode}
 use Rattle.answer_text.specs.Numbers.{◌>>=◌, at_end, next_number, next_signed}
 use Rattle.answer_text.specs.Pieces.{pieces}
@@ -141,9 +141,9 @@ most_sound words node e =
 cost_sound : (words : List (List ℕ)) (node : Node) → cost_in words ≡ Some node → (codes "cost" ∷ words ≡ node_words node) × IsNode node
 unfolding cost_in
 cost_sound words node e =
-    let bound = bind_some (next_signed MOST_AMOUNT words) (λ bound. counted_in bound.1 >>= λ entries. Some (CostLeaf (record { 0 = bound.0 }) entries)) node e in
+    let bound = bind_some (next_signed MAX_AMOUNT words) (λ bound. counted_in bound.1 >>= λ entries. Some (CostLeaf (record { 0 = bound.0 }) entries)) node e in
     let entries = bind_some (counted_in bound.0.1) (λ entries. Some (CostLeaf (record { 0 = bound.0.0 }) entries)) node bound.2 in
-    let first = next_signed_sound MOST_AMOUNT words bound.0 bound.1 in
+    let first = next_signed_sound MAX_AMOUNT words bound.0 bound.1 in
     let second = counted_sound bound.0.1 entries.0 entries.1 in
     subst (λ (n : Node). (codes "cost" ∷ words ≡ node_words n) × IsNode n) (some_is (CostLeaf (record { 0 = bound.0.0 }) entries.0) node entries.2)
     (ap (λ (ws : List (List ℕ)). codes "cost" ∷ ws) (first.0 ∙ ap (λ (ws : List (List ℕ)). signed_decimal bound.0.0 ∷ ws) second.0), (first.1, second.1))

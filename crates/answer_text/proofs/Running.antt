@@ -12,13 +12,13 @@ use Rattle.branch_tree.specs.declared.tree.Node.TheVariants.{Branch, CostLeaf, R
 use Rattle.answer_text.specs.declared.answer.Answer.{Answer}
 use Rattle.rules.specs.declared.heads.Head.{Head}
 use Rattle.rules.specs.declared.heads.Head.TheVariants.{Optimal, Infeasible, Bounded, BoundedPlan}
-use Rattle.answer_text.specs.Limits.{has_plan, IsHead, IsNode, IsRun, IsWithin}
+use Rattle.answer_text.specs.Limits.{has_plan, IsHead, IsNode, IsRun, IsAnswerWithin}
 use Rattle.answer_text.specs.Lines.{spaced}
 use Rattle.answer_text.specs.Numbers.{◌>>=◌}
 use Rattle.answer_text.specs.Pieces.{words_of}
 use Rattle.answer_text.specs.ReadLines.{branchings_in, head_in, node_in, run_in}
-use Rattle.answer_text.specs.ReadPlaces.{Place, at_last, at_nodes, at_runs, at_title, after_line, after_node_line}
-use Rattle.answer_text.specs.ReadPlaces.{after_run_line, most_runs}
+use Rattle.answer_text.specs.ReadStates.{ReadState, at_last, at_nodes, at_runs, at_title, after_line, after_node_line}
+use Rattle.answer_text.specs.ReadStates.{after_run_line, most_runs}
 use Rattle.answer_text.specs.Texts.{body_lines, branchings_line, branchings_words, end_line, head_line, head_words}
 use Rattle.answer_text.specs.Texts.{lines_of, node_line, node_lines, node_words, opening_lines, run_line, run_lines}
 use Rattle.answer_text.specs.Texts.{run_words, tree_line}
@@ -27,15 +27,15 @@ use Rattle.answer_text.proofs.Clean.{branchings_lacks, head_lacks, node_lacks, r
 use Rattle.answer_text.proofs.Splitting.{all_lack, both, lacks, spaced-lacks, words-spaced}
 
 -- the place after lines, where they fit
-abbrev pub steps : ℕ → Place → List (List ℕ) → Option Place
+abbrev pub steps : ℕ → ReadState → List (List ℕ) → Option ReadState
 steps most place [] = Some place
 steps most place (line ∷ lines) = after_line most place line >>= λ later. steps most later lines
 
-pub steps-append : (most : ℕ) (place : Place) (front back : List (List ℕ)) → steps most place (front ++ back) ≡ (steps most place front >>= λ later. steps most later back)
+pub steps-append : (most : ℕ) (place : ReadState) (front back : List (List ℕ)) → steps most place (front ++ back) ≡ (steps most place front >>= λ later. steps most later back)
 steps-append most place [] back = refl
 steps-append most place (line ∷ front) back = go (after_line most place line) (λ later. steps-append most later front back)
   where
-    go : (found : Option Place) → ((later : Place) → steps most later (front ++ back) ≡ (steps most later front >>= λ last. steps most last back)) → (found >>= λ later. steps most later (front ++ back)) ≡ ((found >>= λ later. steps most later front) >>= λ later. steps most later back)
+    go : (found : Option ReadState) → ((later : ReadState) → steps most later (front ++ back) ≡ (steps most later front >>= λ last. steps most last back)) → (found >>= λ later. steps most later (front ++ back)) ≡ ((found >>= λ later. steps most later front) >>= λ later. steps most later back)
     go None rest = refl
     go (Some later) rest = rest later
 
@@ -140,7 +140,7 @@ planned_few (Bounded bound) runs planned few = omega (arith, ap length (planned 
 planned_few (BoundedPlan bound cost) runs planned few = few
 
 -- the lines of an answer lead to the answer
-pub answer_steps : (most : ℕ) (answer : Answer) → IsWithin most answer → steps most at_title (lines_of answer) ≡ Some (at_last answer)
+pub answer_steps : (most : ℕ) (answer : Answer) → IsAnswerWithin most answer → steps most at_title (lines_of answer) ≡ Some (at_last answer)
 answer_steps most answer within =
     let head = answer.head in
     let branchings = answer.branchings in
@@ -171,7 +171,7 @@ all_lack-append mark (text ∷ front) back p q =
     let parts = both (lacks mark text) (all_lack mark front) p in
     rw (parts.0, all_lack-append mark front back parts.1 q) refl
 
-pub answer_lacks : (most : ℕ) (answer : Answer) → IsWithin most answer → all_lack 10 (lines_of answer) ≡ true
+pub answer_lacks : (most : ℕ) (answer : Answer) → IsAnswerWithin most answer → all_lack 10 (lines_of answer) ≡ true
 answer_lacks most answer within =
     let opening : all_lack 10 (opening_lines answer.head answer.branchings) ≡ true =
     rw (spaced-lacks (head_words answer.head) (head_lacks 10 answer.head (inl refl) within.head), spaced-lacks (branchings_words answer.branchings) (branchings_lacks 10 answer.branchings (inl refl) within.branchings)) refl in

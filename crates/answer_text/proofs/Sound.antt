@@ -9,10 +9,10 @@ use Rattle.std.proofs.lemmas.Bool.Decides.{nat_tests}
 use Rattle.std.proofs.lemmas.List.{append-nil}
 use Rattle.std.proofs.lemmas.List.Elements.{All-from_recursion}
 use Rattle.std.proofs.lemmas.Slice.Eq.{bytes_eq-Decides}
-use Rattle.rail_base.specs.declared.limits.TheConstants.{MOST_BRANCHINGS}
+use Rattle.rail_base.specs.declared.limits.TheConstants.{MAX_BRANCHINGS}
 use Rattle.rules.specs.declared.heads.Head.{Head}
 use Rattle.rules.specs.declared.heads.Head.TheVariants.{Optimal, Infeasible, Bounded, BoundedPlan}
-use Rattle.answer_text.specs.declared.limits.TheConstants.{MOST_AMOUNT}
+use Rattle.answer_text.specs.declared.limits.TheConstants.{MAX_AMOUNT}
 use Rattle.answer_text.specs.Limits.{IsAmount, IsHead, IsRun}
 use Rattle.answer_text.specs.Numbers.{◌>>=◌, at_end, next_number, next_signed, number_in, signed_in}
 use Rattle.answer_text.specs.ReadLines.{bounded_in, bounded_plan_in, branchings_in, head_in, next_is, optimal_in}
@@ -76,8 +76,8 @@ at_end_sound words value found e =
 optimal_sound : (words : List (List ℕ)) (head : Head) → optimal_in words ≡ Some head → (codes "optimal" ∷ words ≡ head_words head) × IsHead head
 unfolding optimal_in
 optimal_sound words head e =
-    let cost = bind_some (next_signed MOST_AMOUNT words) (λ cost. at_end cost.1 (Optimal (record { 0 = cost.0 }))) head e in
-    let read = next_signed_sound MOST_AMOUNT words cost.0 cost.1 in
+    let cost = bind_some (next_signed MAX_AMOUNT words) (λ cost. at_end cost.1 (Optimal (record { 0 = cost.0 }))) head e in
+    let read = next_signed_sound MAX_AMOUNT words cost.0 cost.1 in
     let last = at_end_sound cost.0.1 (Optimal (record { 0 = cost.0.0 })) head cost.2 in
     subst (λ (h : Head). (codes "optimal" ∷ words ≡ head_words h) × IsHead h) last.1
     (ap (λ (ws : List (List ℕ)). codes "optimal" ∷ ws) (read.0 ∙ ap (λ (ws : List (List ℕ)). signed_decimal cost.0.0 ∷ ws) last.0), read.1)
@@ -86,10 +86,10 @@ bounded_plan_sound : (bound : ℤ) (words : List (List ℕ)) (head : Head) → I
     → (codes "bounded" ∷ signed_decimal bound ∷ words ≡ head_words head) × IsHead head
 unfolding bounded_plan_in
 bounded_plan_sound bound words head within e =
-    let plan = bind_some (next_is (codes "plan") words) (λ rest. next_signed MOST_AMOUNT rest >>= λ cost. at_end cost.1 (BoundedPlan (record { 0 = bound }) (record { 0 = cost.0 }))) head e in
-    let cost = bind_some (next_signed MOST_AMOUNT plan.0) (λ cost. at_end cost.1 (BoundedPlan (record { 0 = bound }) (record { 0 = cost.0 }))) head plan.2 in
+    let plan = bind_some (next_is (codes "plan") words) (λ rest. next_signed MAX_AMOUNT rest >>= λ cost. at_end cost.1 (BoundedPlan (record { 0 = bound }) (record { 0 = cost.0 }))) head e in
+    let cost = bind_some (next_signed MAX_AMOUNT plan.0) (λ cost. at_end cost.1 (BoundedPlan (record { 0 = bound }) (record { 0 = cost.0 }))) head plan.2 in
     let word = next_is_sound (codes "plan") words plan.0 plan.1 in
-    let read = next_signed_sound MOST_AMOUNT plan.0 cost.0 cost.1 in
+    let read = next_signed_sound MAX_AMOUNT plan.0 cost.0 cost.1 in
     let last = at_end_sound cost.0.1 (BoundedPlan (record { 0 = bound }) (record { 0 = cost.0.0 })) head cost.2 in
     subst (λ (h : Head). (codes "bounded" ∷ signed_decimal bound ∷ words ≡ head_words h) × IsHead h) last.1
     (ap (λ (ws : List (List ℕ)). codes "bounded" ∷ signed_decimal bound ∷ ws) (word ∙ ap (λ (ws : List (List ℕ)). codes "plan" ∷ ws) (read.0 ∙ ap (λ (ws : List (List ℕ)). signed_decimal cost.0.0 ∷ ws) last.0)), (within, read.1))
@@ -97,8 +97,8 @@ bounded_plan_sound bound words head within e =
 bounded_sound : (words : List (List ℕ)) (head : Head) → bounded_in words ≡ Some head → (codes "bounded" ∷ words ≡ head_words head) × IsHead head
 unfolding bounded_in
 bounded_sound words head e =
-    let bound = bind_some (next_signed MOST_AMOUNT words) (λ bound. cond (eqb (length bound.1) 0) (Some (Bounded (record { 0 = bound.0 }))) (bounded_plan_in bound.0 bound.1)) head e in
-    let read = next_signed_sound MOST_AMOUNT words bound.0 bound.1 in
+    let bound = bind_some (next_signed MAX_AMOUNT words) (λ bound. cond (eqb (length bound.1) 0) (Some (Bounded (record { 0 = bound.0 }))) (bounded_plan_in bound.0 bound.1)) head e in
+    let read = next_signed_sound MAX_AMOUNT words bound.0 bound.1 in
     elim (branch (eqb (length bound.0.1) 0) (Some (Bounded (record { 0 = bound.0.0 }))) (bounded_plan_in bound.0.0 bound.0.1) (Some head) bound.2) [
       | inl alone ↦
           subst (λ (h : Head). (codes "bounded" ∷ words ≡ head_words h) × IsHead h) (some_is (Bounded (record { 0 = bound.0.0 })) head alone.1)
@@ -132,14 +132,14 @@ head_sound (word ∷ words) head e =
 
 -- ---- the number of branchings
 
-pub branchings_sound : (words : List (List ℕ)) (number : ℕ) → branchings_in words ≡ Some number → (words ≡ branchings_words number) × (number ≤ MOST_BRANCHINGS)
+pub branchings_sound : (words : List (List ℕ)) (number : ℕ) → branchings_in words ≡ Some number → (words ≡ branchings_words number) × (number ≤ MAX_BRANCHINGS)
 unfolding branchings_in
 branchings_sound words number e =
-    let word = bind_some (next_is (codes "branchings") words) (λ rest. next_number MOST_BRANCHINGS rest >>= λ x. at_end x.1 x.0) number e in
-    let count = bind_some (next_number MOST_BRANCHINGS word.0) (λ x. at_end x.1 x.0) number word.2 in
-    let read = next_number_sound MOST_BRANCHINGS word.0 count.0 count.1 in
+    let word = bind_some (next_is (codes "branchings") words) (λ rest. next_number MAX_BRANCHINGS rest >>= λ x. at_end x.1 x.0) number e in
+    let count = bind_some (next_number MAX_BRANCHINGS word.0) (λ x. at_end x.1 x.0) number word.2 in
+    let read = next_number_sound MAX_BRANCHINGS word.0 count.0 count.1 in
     let last = at_end_sound count.0.1 count.0.0 number count.2 in
-    subst (λ (n : ℕ). (words ≡ branchings_words n) × (n ≤ MOST_BRANCHINGS)) last.1
+    subst (λ (n : ℕ). (words ≡ branchings_words n) × (n ≤ MAX_BRANCHINGS)) last.1
     (next_is_sound (codes "branchings") words word.0 word.1 ∙ ap (λ (ws : List (List ℕ)). codes "branchings" ∷ ws) (read.0 ∙ ap (λ (ws : List (List ℕ)). decimal count.0.0 ∷ ws) last.0), read.1)
 
 -- ---- a run

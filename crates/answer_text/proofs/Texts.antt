@@ -2,10 +2,10 @@
 use Rattle.std.proofs.Common.{◌≡◌, ◌∙◌, ◌⊎◌, inl, inr, Result, Ok, Err, sym}
 use Rattle.answer_text.specs.declared.answer.Answer.{Answer}
 use Rattle.answer_text.specs.declared.refusal.AnswerRefusal.{AnswerRefusal}
-use Rattle.answer_text.specs.Grammar.{IsRefused, IsText}
+use Rattle.answer_text.specs.Grammar.{IsAnswerRefusal, IsText}
 use Rattle.answer_text.specs.Laws.{BytesAreTextsOrRefused, RefusalsAreOne, TextsAreNotRefused, TextsAreOfOneAnswer}
 use Rattle.answer_text.specs.Pieces.{pieces}
-use Rattle.answer_text.specs.ReadPlaces.{at_title, reading}
+use Rattle.answer_text.specs.ReadStates.{at_title, reading}
 use Rattle.answer_text.proofs.Exact.{exact}
 use Rattle.answer_text.proofs.Ruling.{Rules, again, all_rules}
 
@@ -35,6 +35,6 @@ pub bytes_are_texts_or_refused : BytesAreTextsOrRefused
 bytes_are_texts_or_refused bytes = by (reading at_title (pieces 10 bytes)) (all_rules bytes)
   where
     by : (found : Result Answer AnswerRefusal) → Rules bytes found
-        → ((answer : Answer) × IsText bytes answer) ⊎ ((refusal : AnswerRefusal) × IsRefused bytes refusal)
+        → ((answer : Answer) × IsText bytes answer) ⊎ ((refusal : AnswerRefusal) × IsAnswerRefusal bytes refusal)
     by (Ok answer) is = inl (answer, is)
     by (Err refusal) refused = inr (refusal, refused)

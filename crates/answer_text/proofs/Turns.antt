@@ -14,9 +14,9 @@ use Rattle.answer_text.specs.declared.refusal.AnswerRefusal.TheVariants.{BadLine
 use Rattle.answer_text.specs.Grammar.{is_memory}
 use Rattle.answer_text.specs.Pieces.{pieces, words_of}
 use Rattle.answer_text.specs.ReadLines.{node_in, run_in, head_in, branchings_in}
-use Rattle.answer_text.specs.ReadPlaces.{Place, at_branchings, at_head, at_last, at_nodes, at_runs, at_title}
-use Rattle.answer_text.specs.ReadPlaces.{after_line, after_node_line, after_run_line, line_in, line_number, most_runs}
-use Rattle.answer_text.specs.ReadPlaces.{reading, whole}
+use Rattle.answer_text.specs.ReadStates.{ReadState, at_branchings, at_head, at_last, at_nodes, at_runs, at_title}
+use Rattle.answer_text.specs.ReadStates.{after_line, after_node_line, after_run_line, line_in, line_number, most_runs}
+use Rattle.answer_text.specs.ReadStates.{reading, whole}
 use Rattle.answer_text.specs.Texts.{body_lines, end_line, node_lines, run_lines, title_line, tree_line}
 use Rattle.answer_text.proofs.Cutting.{not_blank, some_pieces}
 use Rattle.answer_text.proofs.Steps.{step_cut, step_on, step_wrong, step_over}
@@ -90,7 +90,7 @@ node_end head branchings runs [] rest line after number count cut ends =
     (at_number number (line_number (at_nodes head branchings runs [])) rest (Ok (line, pieces 10 after)) (node_number head branchings runs [] ∙ sym count) cut) (rw ends refl) (rw ends refl)
 node_end head branchings runs (node ∷ nodes) rest line after number count cut ends =
     let answer : Answer = record { head = head; branchings = branchings; runs = runs; tree = node ∷ nodes } in
-    let place : Place = at_nodes head branchings runs (node ∷ nodes) in
+    let place : ReadState = at_nodes head branchings runs (node ∷ nodes) in
     let on = step_on place (at_last answer) rest (pieces 10 after) line tt (at_number number (line_number place) rest (Ok (line, pieces 10 after)) (node_number head branchings runs (node ∷ nodes) ∙ sym count) cut)
     (rw (ends, positive (length nodes)) refl) in
     let last : line_number (at_last answer) ≡ number + 1 = omega (arith, last_number answer, count) in
@@ -108,7 +108,7 @@ no_node : (most : ℕ) (head : Head) (branchings : ℕ) (runs : List (List ℕ))
 unfolding after_line after_node_line
 no_node most head branchings runs nodes line other none = rw (other, none) (neither (ltb (length nodes) most))
   where
-    neither : (b : Bool) → cond {A = Option Place} b None None ≡ None
+    neither : (b : Bool) → cond {A = Option ReadState} b None None ≡ None
     neither true = refl
     neither false = refl
 
@@ -166,7 +166,7 @@ run_wrong head branchings runs rest after line number count cut other none =
     (at_number number (line_number (at_runs head branchings runs)) rest (Ok (line, after)) (run_number head branchings runs ∙ sym count) cut)
     (rw (other, none) (neither (ltb (length runs) (most_runs head)))) (rw (other, none) (neither (ltb (length runs) (most_runs head))))
   where
-    neither : (b : Bool) → cond {A = Option Place} b None None ≡ None
+    neither : (b : Bool) → cond {A = Option ReadState} b None None ≡ None
     neither true = refl
     neither false = refl
 

@@ -1,26 +1,27 @@
 -- Which texts are answers, and what is wrong with the others: the first line that no answer has at its place.
 use Rattle.std.specs.Prelude.{ℕ, ◌+◌, ◌≡◌, ◌≢◌, Bool, true, false, List, [], ◌∷◌, ◌++◌, length}
-use Rattle.rail_base.specs.declared.limits.TheConstants.{MOST_NODES}
+use Rattle.rail_base.specs.declared.limits.TheConstants.{MAX_NODES}
 use Rattle.answer_text.specs.declared.answer.Answer.{Answer}
 use Rattle.answer_text.specs.declared.refusal.AnswerRefusal.{AnswerRefusal}
 use Rattle.answer_text.specs.declared.refusal.AnswerRefusal.TheVariants.{BadLine, MissingEnd, Trailing, TooManyNodes}
 use Rattle.answer_text.specs.declared.refusal.AnswerRefusal.TheVariants.{NoMemory}
-use Rattle.answer_text.specs.Limits.{IsWithin}
+use Rattle.answer_text.specs.Limits.{IsAnswerWithin}
 use Rattle.answer_text.specs.Lines.{line_feed, text_of_lines}
 use Rattle.answer_text.specs.Texts.{lines_of, text_of}
 
 -- bytes are the text of an answer within the limits
 pub record IsText (bytes : List ℕ) (answer : Answer) : Type 0 where
-  pub within : IsWithin MOST_NODES answer
+  pub within : IsAnswerWithin MAX_NODES answer
   pub text : bytes ≡ text_of answer
 
 -- an answer with at most so many nodes has these lines first
 abbrev pub Begin : ℕ → List (List ℕ) → Type 0
-Begin most lines = (answer : Answer) × (rest : List (List ℕ)) × IsWithin most answer × (lines_of answer ≡ lines ++ rest)
+Begin most lines = (answer : Answer) × (rest : List (List ℕ)) × IsAnswerWithin most answer
+    × (lines_of answer ≡ lines ++ rest)
 
 -- an answer has these lines first, and then more
 abbrev pub AreUnfinished : List (List ℕ) → Type 0
-AreUnfinished lines = (answer : Answer) × (next : List ℕ) × (rest : List (List ℕ)) × IsWithin MOST_NODES answer
+AreUnfinished lines = (answer : Answer) × (next : List ℕ) × (rest : List (List ℕ)) × IsAnswerWithin MAX_NODES answer
     × (lines_of answer ≡ lines ++ next ∷ rest)
 
 -- after these lines comes a line that an answer with at most so many nodes has there
@@ -37,7 +38,7 @@ pub record IsBadLine (bytes : List ℕ) (number : ℕ) : Type 0 where
   pub number_is : number ≡ length before + 1
   pub there : after ≢ []
   -- not even where there may be one node more
-  pub wrong : GoOn (MOST_NODES + 1) before after → ⊥
+  pub wrong : GoOn (MAX_NODES + 1) before after → ⊥
 
 -- all lines are right, and the bytes end before the line `end`
 pub record IsMissingEnd (bytes : List ℕ) : Type 0 where
@@ -49,7 +50,7 @@ pub record IsMissingEnd (bytes : List ℕ) : Type 0 where
 pub record IsTrailing (bytes : List ℕ) (number : ℕ) : Type 0 where
   pub answer : Answer
   pub after : List ℕ
-  pub within : IsWithin MOST_NODES answer
+  pub within : IsAnswerWithin MAX_NODES answer
   pub parts : bytes ≡ text_of answer ++ after
   pub number_is : number ≡ length (lines_of answer) + 1
   pub there : after ≢ []
@@ -60,8 +61,8 @@ pub record AreTooManyNodes (bytes : List ℕ) : Type 0 where
   pub after : List ℕ
   pub parts : bytes ≡ text_of_lines before ++ after
   pub right : AreUnfinished before
-  pub one_more : GoOn (MOST_NODES + 1) before after
-  pub full : GoOn MOST_NODES before after → ⊥
+  pub one_more : GoOn (MAX_NODES + 1) before after
+  pub full : GoOn MAX_NODES before after → ⊥
 
 -- want of memory
 abbrev pub is_memory : AnswerRefusal → Bool
@@ -69,9 +70,9 @@ is_memory NoMemory = true
 is_memory refusal = false
 
 -- why bytes are refused; want of memory has no cause in them
-abbrev pub IsRefused : List ℕ → AnswerRefusal → Type 0
-IsRefused bytes (BadLine number) = IsBadLine bytes number
-IsRefused bytes MissingEnd = IsMissingEnd bytes
-IsRefused bytes (Trailing number) = IsTrailing bytes number
-IsRefused bytes TooManyNodes = AreTooManyNodes bytes
-IsRefused bytes NoMemory = ⊥
+abbrev pub IsAnswerRefusal : List ℕ → AnswerRefusal → Type 0
+IsAnswerRefusal bytes (BadLine number) = IsBadLine bytes number
+IsAnswerRefusal bytes MissingEnd = IsMissingEnd bytes
+IsAnswerRefusal bytes (Trailing number) = IsTrailing bytes number
+IsAnswerRefusal bytes TooManyNodes = AreTooManyNodes bytes
+IsAnswerRefusal bytes NoMemory = ⊥

@@ -9,4 +9,4 @@ pub mod Laws
 pub mod Pieces
 pub mod Numbers
 pub mod ReadLines
-pub mod ReadPlaces
+pub mod ReadStates

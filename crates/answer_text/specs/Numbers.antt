@@ -3,7 +3,7 @@ use Rattle.std.specs.Prelude.{ℕ, ℤ, pos, neg_ℤ, List, [], ◌∷◌, lengt
 use Rattle.std.specs.Prelude.{nat_lt, slice_index, if◌then◌else◌, Option, Some, None}
 use Rattle.std.specs.Str.{all_ascii_digits}
 use Rattle.std.specs.Str.Parse.{digits_value}
-use Rattle.answer_text.specs.declared.limits.TheConstants.{MOST_ANSWER_DIGITS}
+use Rattle.answer_text.specs.declared.limits.TheConstants.{MAX_ANSWER_DIGITS}
 use Rattle.answer_text.specs.Lines.{minus}
 
 -- one step, and then the next where it gave a value
@@ -16,9 +16,9 @@ None >>= next = None
 abbrev pub has_leading_zero : List ℕ → Bool
 has_leading_zero word = (slice_index word 0 == 48) && nat_lt 1 (length word)
 
--- 1 to `MOST_ANSWER_DIGITS` digits, of which the first is 0 only where it is alone
+-- 1 to `MAX_ANSWER_DIGITS` digits, of which the first is 0 only where it is alone
 abbrev pub is_number : List ℕ → Bool
-is_number word = nat_le 1 (length word) && nat_le (length word) MOST_ANSWER_DIGITS
+is_number word = nat_le 1 (length word) && nat_le (length word) MAX_ANSWER_DIGITS
     && not (has_leading_zero word) && all_ascii_digits word
 
 -- a number up to a limit

@@ -2,10 +2,9 @@
 
 ghost use Rattle.std.specs.Prelude.{◌≡◌};
 
-pub use rules::Head;
-
 use branch_tree::Tree;
 use rail_csv::UnitList;
+pub use rules::Head;
 use std::marker::Model;
 
 /// Which units run on each trip, in the order of the trips. A contract sees the list of the trips' lists of units.

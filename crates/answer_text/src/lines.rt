@@ -9,7 +9,7 @@ ghost use Rattle.answer_text.specs.ReadLines.{run_in, units_in};
 use crate::answer::Head;
 use crate::numbers::{next_amount, next_number, number_in};
 use crate::pieces::{first_piece, is_end, next_piece};
-use rail_base::limits::{MOST_BRANCHINGS, MOST_COMPOSITION, MOST_TRIPS, MOST_UNITS};
+use rail_base::limits::{MAX_BRANCHINGS, MAX_COMPOSITION_UNITS, MAX_TRIPS, MAX_UNITS};
 use rail_base::{Money, NoMemory, UnitNo};
 use rail_csv::UnitList;
 use std::alloc::Global;
@@ -69,7 +69,7 @@ pub(crate) fn branchings_in(line: &[u8]) -> Option<u32>
     ensures { result ≡ branchings_in (words_of line.now) }
 {
     let rest = first_is(b"branchings", line)?;
-    let (branchings, rest) = next_number(rest, MOST_BRANCHINGS)?;
+    let (branchings, rest) = next_number(rest, MAX_BRANCHINGS)?;
     if !is_end(b' ', rest) {
         return None;
     }
@@ -84,7 +84,7 @@ pub(crate) fn run_in(alloc: Global, trip: usize, line: &[u8]) -> Result<Option<U
     let Some(rest) = first_is(b"run", line) else {
         return Ok(None);
     };
-    let Some((number, rest)) = next_number(rest, MOST_TRIPS as u32) else {
+    let Some((number, rest)) = next_number(rest, MAX_TRIPS as u32) else {
         return Ok(None);
     };
     if number as usize != trip {
@@ -95,12 +95,12 @@ pub(crate) fn run_in(alloc: Global, trip: usize, line: &[u8]) -> Result<Option<U
 
 /// At most six units, one a word, to the end of a line.
 fn units_in(alloc: Global, rest: &[u8]) -> Result<Option<UnitList>, NoMemory>
-    ensures { IfOk result (λ units. units ≡ units_in MOST_COMPOSITION [] (words_after rest.now)) }
+    ensures { IfOk result (λ units. units ≡ units_in MAX_COMPOSITION_UNITS [] (words_after rest.now)) }
 {
     let mut units = Vec::new(alloc);
     let mut rest = rest;
     while let Some((word, after)) = next_piece(b' ', rest) {
-        if units.len() == MOST_COMPOSITION {
+        if units.len() == MAX_COMPOSITION_UNITS {
             return Ok(None);
         }
         let Some(unit) = unit_in(word) else {
@@ -114,9 +114,9 @@ fn units_in(alloc: Global, rest: &[u8]) -> Result<Option<UnitList>, NoMemory>
 
 /// The unit that a word names by its number.
 fn unit_in(word: &[u8]) -> Option<UnitNo>
-    ensures { result ≡ number_in (MOST_UNITS - 1) word.now }
+    ensures { result ≡ number_in (MAX_UNITS - 1) word.now }
 {
-    let number = number_in(word, u128::from(MOST_UNITS - 1))?;
+    let number = number_in(word, u128::from(MAX_UNITS - 1))?;
     Some(UnitNo(number as u32))
 }
 

@@ -5,14 +5,14 @@ ghost use Rattle.answer_text.specs.Pieces.{pieces, words_after, words_of};
 ghost use Rattle.answer_text.specs.ReadLines.{AreBelow, cost_in, counted_in, empty_in, entries_in, entry_in, most_in};
 ghost use Rattle.answer_text.specs.ReadLines.{next_entry, node_in, only_in, ray_in};
 ghost use Rattle.rail_base.specs.Times.{colon};
-ghost use Rattle.rail_base.specs.declared.limits.TheConstants.{MOST_MULTIPLIER};
+ghost use Rattle.rail_base.specs.declared.limits.TheConstants.{MAX_MULTIPLIER};
 
-use crate::limits::MOST_INDEX;
+use crate::limits::MAX_INDEX;
 use crate::numbers::{next_amount, next_number, number_in, value_in};
 use crate::pieces::{first_piece, is_end, next_piece};
 use branch_tree::{Cut, Entry, Multipliers, Node};
 use rail_base::limits::{
-    MOST_COMPOSITION, MOST_COMPOSITIONS, MOST_ENTRIES, MOST_TRIPS, MOST_TYPES,
+    MAX_COMPOSITION_UNITS, MAX_COMPOSITIONS, MAX_ENTRIES, MAX_TRIPS, MAX_TYPES,
 };
 use rail_base::{CompNo, NoMemory, TripNo, TypeNo};
 use std::alloc::Global;
@@ -46,8 +46,8 @@ pub(crate) fn node_in(alloc: Global, line: &[u8]) -> Result<Option<Node>, NoMemo
 fn only_in(rest: &[u8]) -> Option<Node>
     ensures { result ≡ only_in (words_after rest.now) }
 {
-    let (trip, rest) = next_number(rest, MOST_TRIPS as u32 - 1)?;
-    let (comp, rest) = next_number(rest, MOST_COMPOSITIONS as u32 - 1)?;
+    let (trip, rest) = next_number(rest, MAX_TRIPS as u32 - 1)?;
+    let (comp, rest) = next_number(rest, MAX_COMPOSITIONS as u32 - 1)?;
     if !is_end(b' ', rest) {
         return None;
     }
@@ -62,9 +62,9 @@ fn only_in(rest: &[u8]) -> Option<Node>
 fn most_in(rest: &[u8]) -> Option<Node>
     ensures { result ≡ most_in (words_after rest.now) }
 {
-    let (trip, rest) = next_number(rest, MOST_TRIPS as u32 - 1)?;
-    let (unit_type, rest) = next_number(rest, MOST_TYPES as u32 - 1)?;
-    let (count, rest) = next_number(rest, MOST_COMPOSITION as u32 - 1)?;
+    let (trip, rest) = next_number(rest, MAX_TRIPS as u32 - 1)?;
+    let (unit_type, rest) = next_number(rest, MAX_TYPES as u32 - 1)?;
+    let (count, rest) = next_number(rest, MAX_COMPOSITION_UNITS as u32 - 1)?;
     if !is_end(b' ', rest) {
         return None;
     }
@@ -116,7 +116,7 @@ fn empty_in(rest: &[u8]) -> Option<Node>
 fn counted_in(alloc: Global, rest: &[u8]) -> Result<Option<Multipliers>, NoMemory>
     ensures { IfOk result (λ entries. entries ≡ counted_in (words_after rest.now)) }
 {
-    let Some((count, rest)) = next_number(rest, MOST_ENTRIES as u32) else {
+    let Some((count, rest)) = next_number(rest, MAX_ENTRIES as u32) else {
         return Ok(None);
     };
     entries_in(alloc, count, rest)
@@ -124,7 +124,7 @@ fn counted_in(alloc: Global, rest: &[u8]) -> Result<Option<Multipliers>, NoMemor
 
 /// So many entries, by rising index, to the end of a line.
 fn entries_in(alloc: Global, count: u32, rest: &[u8]) -> Result<Option<Multipliers>, NoMemory>
-    requires { count ≤ MOST_ENTRIES }
+    requires { count ≤ MAX_ENTRIES }
     ensures { IfOk result (λ entries. entries ≡ entries_in count 0 [] (words_after rest.now)) }
 {
     let mut entries = Multipliers::new(alloc)?;
@@ -151,9 +151,9 @@ fn entries_in(alloc: Global, count: u32, rest: &[u8]) -> Result<Option<Multiplie
 fn add(entries: &mut Multipliers, entry: Entry, least: u32)
     requires below { AreBelow least entries.old }
     requires rising { least ≤ entry.index }
-    requires size { unsigned_abs entry.value ≤ MOST_MULTIPLIER }
+    requires size { unsigned_abs entry.value ≤ MAX_MULTIPLIER }
     requires other { entry.value ≢ pos 0 }
-    requires room { length entries.old < MOST_ENTRIES }
+    requires room { length entries.old < MAX_ENTRIES }
     ensures { entries.new ≡ entries.old ++ entry ∷ [] }
 {
     let put = entries.put(entry.index, entry.value);
@@ -180,7 +180,7 @@ fn entry_in(word: &[u8]) -> Option<Entry>
     if !is_end(b':', rest) {
         return None;
     }
-    let index = number_in(index, u128::from(MOST_INDEX))?;
+    let index = number_in(index, u128::from(MAX_INDEX))?;
     let value = value_in(value)?;
     Some(Entry {
         index: index as u32,

@@ -5,11 +5,11 @@ ghost use Rattle.std.specs.Str.{bytes_eq};
 ghost use Rattle.rail_base.specs.Answers.{Gives, Unless};
 ghost use Rattle.answer_text.specs.declared.answer.Answer.{Answer};
 ghost use Rattle.answer_text.specs.declared.refusal.AnswerRefusal.{AnswerRefusal};
-ghost use Rattle.answer_text.specs.Grammar.{IsRefused, IsText, is_memory};
+ghost use Rattle.answer_text.specs.Grammar.{IsAnswerRefusal, IsText, is_memory};
 ghost use Rattle.answer_text.specs.Lines.{line_feed};
 ghost use Rattle.answer_text.specs.Pieces.{pieces};
-ghost use Rattle.answer_text.specs.ReadPlaces.{at_branchings, at_head, at_nodes, at_runs, at_title, HasNone, IsNext};
-ghost use Rattle.answer_text.specs.ReadPlaces.{most_runs, reading, whole};
+ghost use Rattle.answer_text.specs.ReadStates.{at_branchings, at_head, at_nodes, at_runs, at_title, HasNone, IsNext};
+ghost use Rattle.answer_text.specs.ReadStates.{most_runs, reading, whole};
 
 use crate::answer::{Answer, Head, Runs};
 use crate::lines::{branchings_in, head_in, run_in};
@@ -17,7 +17,7 @@ use crate::nodes::node_in;
 use crate::pieces::first_piece;
 use crate::refusal::AnswerRefusal;
 use branch_tree::Tree;
-use rail_base::limits::{MOST_NODES, MOST_TRIPS};
+use rail_base::limits::{MAX_NODES, MAX_TRIPS};
 use rail_csv::UnitList;
 use std::alloc::Global;
 
@@ -31,8 +31,9 @@ pub fn read(alloc: Global, bytes: &[u8]) -> Result<Answer, AnswerRefusal>
     // The text of an answer within the limits is read as that answer, unless memory runs out.
     ensures accepted { (answer : Answer) → IsText bytes.now answer → Gives is_memory result (Ok answer) }
     // A refusal has its cause, and where there is a cause, the answer is that refusal, unless memory runs out.
-    ensures refused { IfErr result (λ refusal. Unless (is_memory refusal) (IsRefused bytes.now refusal)) }
-    ensures exact { (refusal : AnswerRefusal) → IsRefused bytes.now refusal → Gives is_memory result (Err refusal) }
+    ensures refused { IfErr result (λ refusal. Unless (is_memory refusal) (IsAnswerRefusal bytes.now refusal)) }
+    ensures exact { (refusal : AnswerRefusal) → IsAnswerRefusal bytes.now refusal
+        → Gives is_memory result (Err refusal) }
 {
     read_from_title(alloc, bytes)
 }
@@ -108,7 +109,7 @@ fn read_from_nodes(
     runs: Vec<UnitList>,
     bytes: &[u8],
 ) -> Result<Answer, AnswerRefusal>
-    requires { length runs.items ≤ MOST_TRIPS }
+    requires { length runs.items ≤ MAX_TRIPS }
     ensures { Gives is_memory result (reading (at_nodes head branchings runs.items []) (pieces line_feed bytes.now)) }
 {
     let trips = runs.len();
@@ -130,7 +131,7 @@ fn read_from_nodes(
         let Some(node) = node_in(alloc, line)? else {
             return Err(AnswerRefusal::BadLine(number));
         };
-        if tree.len() == MOST_NODES {
+        if tree.len() == MAX_NODES {
             return Err(AnswerRefusal::TooManyNodes);
         }
         tree.push(node)?;
@@ -155,9 +156,9 @@ fn whole(answer: Answer, number: u32, after: &[u8]) -> Result<Answer, AnswerRefu
 /// How many runs there may be after a head.
 fn most_runs(head: &Head) -> usize
     ensures value { result ≡ most_runs head.now }
-    ensures few { result ≤ MOST_TRIPS }
+    ensures few { result ≤ MAX_TRIPS }
 {
-    if head.has_plan() { MOST_TRIPS } else { 0 }
+    if head.has_plan() { MAX_TRIPS } else { 0 }
 }
 
 /// The next line, which has this number, and what follows it.

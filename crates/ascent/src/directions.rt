@@ -3,15 +3,15 @@
 use crate::numbers::{clear, entry};
 use crate::rounding::ONE;
 use rail_base::NoMemory;
-use rail_base::limits::MOST_MULTIPLIER;
+use rail_base::limits::MAX_MULTIPLIER;
 use std::alloc::Global;
 
 /// The size that no scaled multiplier goes past.
-const MOST_SCALED: i128 = MOST_MULTIPLIER as i128 * ONE as i128;
+const MAX_SCALED: i128 = MAX_MULTIPLIER as i128 * ONE as i128;
 /// What the slack of a step counts.
 const SLACK_SCALE: i64 = 64;
 /// The size that no slack of a day goes past.
-const MOST_SLACK: i64 = 4_400;
+const MAX_SLACK: i64 = 4_400;
 /// How many sixteenths of the direction of a step go on into the next one.
 const DEFLECTION: i64 = 14;
 /// The same on long days.
@@ -83,7 +83,7 @@ impl Directions {
     /// Deflects the direction at one index, and tells whether the subgradient is 0 there: it is the slack, but 0 where
     /// the slack is negative and the multiplier is held at 0.
     fn deflect_at(&mut self, index: usize, is_held: bool, slack: i64) -> bool {
-        let slack = slack.clamp(-MOST_SLACK, MOST_SLACK);
+        let slack = slack.clamp(-MAX_SLACK, MAX_SLACK);
         let subgradient = if is_held {
             slack.max(0).saturating_mul(SLACK_SCALE)
         } else {
@@ -136,9 +136,9 @@ impl Directions {
                 let least = if index < self.free_from {
                     0
                 } else {
-                    -MOST_SCALED
+                    -MAX_SCALED
                 };
-                scaled[index] = i64::try_from(moved.clamp(least, MOST_SCALED)).unwrap_or(0);
+                scaled[index] = i64::try_from(moved.clamp(least, MAX_SCALED)).unwrap_or(0);
             }
         }
     }

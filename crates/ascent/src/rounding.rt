@@ -5,14 +5,14 @@
 
 use crate::layout::{Layout, YardIndices};
 use crate::numbers::{clear, entry, put};
-use rail_base::limits::{MOST_ENTRIES, MOST_MULTIPLIER};
+use rail_base::limits::{MAX_ENTRIES, MAX_MULTIPLIER};
 
 /// How many binary digits of scaled multipliers stand behind the point.
 pub(crate) const SHIFT: u32 = 8;
 /// What a scaled multiplier of 1 is.
 pub(crate) const ONE: i64 = 256;
 /// The size that no whole multiplier goes past.
-const MOST: i64 = MOST_MULTIPLIER as i64;
+const MOST: i64 = MAX_MULTIPLIER as i64;
 
 /// A scaled number rounded to a whole one, halves up.
 fn rounded(scaled: i64) -> i64 {
@@ -74,7 +74,7 @@ fn merge_yard(layout: &Layout, yard: YardIndices, whole: &mut [i64]) {
 fn drop_smallest(layout: &Layout, whole: &mut [i64]) {
     let mut left = whole.iter().filter(|value| **value != 0).count();
     for _ in 0..whole.len() {
-        if left <= MOST_ENTRIES {
+        if left <= MAX_ENTRIES {
             break;
         }
         let Some(index) = smallest(layout, whole) else {

@@ -13,7 +13,7 @@ use std::alloc::Global;
 use timetable::Picks;
 
 /// How many trips a day may have on which steps are to gain more, and forget their directions sooner.
-const MOST_TRIPS_OF_SHORT_DAYS: u32 = 200;
+const MAX_TRIPS_OF_SHORT_DAYS: u32 = 200;
 
 /// How far the target lies over 0 and the best value where a ray is looked for.
 const RAY_LEVEL: i128 = 1000;
@@ -57,7 +57,7 @@ impl Ascent {
         patience: u32,
     ) -> Result<Ascent, NoMemory> {
         let indices = layout.indices;
-        let is_long = trips > MOST_TRIPS_OF_SHORT_DAYS;
+        let is_long = trips > MAX_TRIPS_OF_SHORT_DAYS;
         Ok(Ascent {
             scaled: vec![in alloc; 0; indices]?,
             whole: vec![in alloc; 0; indices]?,

@@ -10,8 +10,8 @@ use Rattle.branch_tree.specs.declared.cuts.Side.TheVariants.{Left, Right}
 use Rattle.branch_tree.specs.Cuts.{trip_of, is_on, is_met, side_of}
 use Rattle.branch_tree.specs.Laws.{CutsKeep, CutsDivide, CutsAreUndone}
 use Rattle.branch_tree.specs.Regions.{are_in, has, set_at}
-use Rattle.branch_tree.specs.Sets.{is_member, kept}
-use Rattle.branch_tree.proofs.Members.{is_member-kept}
+use Rattle.branch_tree.specs.Sets.{is_member, restricted}
+use Rattle.branch_tree.proofs.Members.{is_member-restricted}
 
 and-true : (b : Bool) → b ≡ (b && true)
 and-true true = refl
@@ -31,12 +31,12 @@ keeps_at : (catalogue : List (List ℕ)) (cut : Cut) (side : Side) (region : Lis
     ((eqb trip (trip_of cut) ≡ true) × (trip ≡ trip_of cut)) ⊎ ((eqb trip (trip_of cut) ≡ false) × (trip ≢ trip_of cut)) →
     has (side_of catalogue cut side region) trip comp ≡ (has region trip comp && (if trip == trip_of cut then is_on catalogue cut side comp else true))
 keeps_at catalogue cut side region trip comp inside (inl (p, same)) =
-    ap (λ members. is_member members comp) (get_or-set_at region (trip_of cut) trip (kept (is_on catalogue cut side) (set_at region (trip_of cut))) [] same inside)
-    ∙ is_member-kept (is_on catalogue cut side) (set_at region (trip_of cut)) comp
+    ap (λ members. is_member members comp) (get_or-set_at region (trip_of cut) trip (restricted (is_on catalogue cut side) (set_at region (trip_of cut))) [] same inside)
+    ∙ is_member-restricted (is_on catalogue cut side) (set_at region (trip_of cut)) comp
     ∙ ap (λ t. is_member (set_at region t) comp && is_on catalogue cut side comp) (sym same)
     ∙ ap (λ b. has region trip comp && (if b then is_on catalogue cut side comp else true)) (sym p)
 keeps_at catalogue cut side region trip comp inside (inr (p, other)) =
-    ap (λ members. is_member members comp) (get_or-set_other region (trip_of cut) trip (kept (is_on catalogue cut side) (set_at region (trip_of cut))) [] other)
+    ap (λ members. is_member members comp) (get_or-set_other region (trip_of cut) trip (restricted (is_on catalogue cut side) (set_at region (trip_of cut))) [] other)
     ∙ and-true (has region trip comp)
     ∙ ap (λ b. has region trip comp && (if b then is_on catalogue cut side comp else true)) (sym p)
 
@@ -71,8 +71,8 @@ are_in-whole picks region trip inside =
 are_in-side : (catalogue : List (List ℕ)) (cut : Cut) (side : Side) (region : List (List Bool)) (picks : List ℕ) → trip_of cut < length region →
     are_in picks (side_of catalogue cut side region) ≡ ((is_member (set_at region (trip_of cut)) (get_or picks (trip_of cut) 0) && is_on catalogue cut side (get_or picks (trip_of cut) 0)) && are_in_but picks region (trip_of cut))
 are_in-side catalogue cut side region picks inside =
-    are_in-set picks region (trip_of cut) (kept (is_on catalogue cut side) (set_at region (trip_of cut))) inside
-    ∙ ap (λ b. b && are_in_but picks region (trip_of cut)) (is_member-kept (is_on catalogue cut side) (set_at region (trip_of cut)) (get_or picks (trip_of cut) 0))
+    are_in-set picks region (trip_of cut) (restricted (is_on catalogue cut side) (set_at region (trip_of cut))) inside
+    ∙ ap (λ b. b && are_in_but picks region (trip_of cut)) (is_member-restricted (is_on catalogue cut side) (set_at region (trip_of cut)) (get_or picks (trip_of cut) 0))
 
 one_side : (member met rest : Bool) → (member && rest) ≡ true → ((member && met) && rest) ≡ not ((member && not met) && rest)
 one_side true true true both = refl
@@ -113,4 +113,4 @@ set_twice (old ∷ sets) (suc trip) a b = ap (λ rest. old ∷ rest) (set_twice 
 
 pub cuts_are_undone : CutsAreUndone
 cuts_are_undone catalogue cut side region =
-    set_twice region (trip_of cut) (kept (is_on catalogue cut side) (set_at region (trip_of cut))) (set_at region (trip_of cut)) ∙ set-get_or region (trip_of cut) []
+    set_twice region (trip_of cut) (restricted (is_on catalogue cut side) (set_at region (trip_of cut))) (set_at region (trip_of cut)) ∙ set-get_or region (trip_of cut) []

@@ -12,18 +12,18 @@ use Rattle.branch_tree.specs.declared.cuts.Side.TheVariants.{Left, Right}
 use Rattle.branch_tree.specs.Cuts.{trip_of, is_on, is_met, side_of, IsProper}
 use Rattle.branch_tree.specs.Laws.{ProperCutsEnd, SidesAreFilled}
 use Rattle.branch_tree.specs.Regions.{choices_of, set_at, IsFilled, IsSingle}
-use Rattle.branch_tree.specs.Sets.{HasMember, size_of, kept_from, kept}
+use Rattle.branch_tree.specs.Sets.{HasMember, size_of, restricted_from, restricted}
 use Rattle.branch_tree.specs.Trees.{Walks, cut_of, regions_below, branches_in}
 use Rattle.branch_tree.proofs.Covering.{trip_inside}
 use Rattle.branch_tree.proofs.Settling.{member_counts}
 
 -- the members that pass a test and those that do not make up the set
-size_of-parts : (first : ℕ) (test : ℕ → Bool) (members : List Bool) → size_of (kept_from first test members) + size_of (kept_from first (λ comp. not (test comp)) members) ≡ size_of members
+size_of-parts : (first : ℕ) (test : ℕ → Bool) (members : List Bool) → size_of (restricted_from first test members) + size_of (restricted_from first (λ comp. not (test comp)) members) ≡ size_of members
 size_of-parts first test [] = refl
 size_of-parts first test (member ∷ members) = one member (test first) (size_of-parts (suc first) test members)
   where
-    one : (m t : Bool) → size_of (kept_from (suc first) test members) + size_of (kept_from (suc first) (λ comp. not (test comp)) members) ≡ size_of members →
-        ((if m && t then 1 else 0) + size_of (kept_from (suc first) test members)) + ((if m && not t then 1 else 0) + size_of (kept_from (suc first) (λ comp. not (test comp)) members)) ≡ (if m then 1 else 0) + size_of members
+    one : (m t : Bool) → size_of (restricted_from (suc first) test members) + size_of (restricted_from (suc first) (λ comp. not (test comp)) members) ≡ size_of members →
+        ((if m && t then 1 else 0) + size_of (restricted_from (suc first) test members)) + ((if m && not t then 1 else 0) + size_of (restricted_from (suc first) (λ comp. not (test comp)) members)) ≡ (if m then 1 else 0) + size_of members
     one true true rest = omega (arith, rest)
     one true false rest = omega (arith, rest)
     one false true rest = omega (arith, rest)
@@ -61,11 +61,11 @@ choices_of-sides : (catalogue : List (List ℕ)) (cut : Cut) (region : List (Lis
 choices_of-sides catalogue cut region inside =
     let old : List Bool = set_at region (trip_of cut) in
     let but : ℕ = choices_but region (trip_of cut) in
-    let left : choices_of (side_of catalogue cut Left region) ≡ size_of (kept (is_on catalogue cut Left) old) * but = choices_of-set region (trip_of cut) (kept (is_on catalogue cut Left) old) inside in
-    let right : choices_of (side_of catalogue cut Right region) ≡ size_of (kept (is_on catalogue cut Right) old) * but = choices_of-set region (trip_of cut) (kept (is_on catalogue cut Right) old) inside in
-    let parts : size_of (kept (is_on catalogue cut Left) old) + size_of (kept (is_on catalogue cut Right) old) ≡ size_of old = size_of-parts 0 (is_met catalogue cut) old in
+    let left : choices_of (side_of catalogue cut Left region) ≡ size_of (restricted (is_on catalogue cut Left) old) * but = choices_of-set region (trip_of cut) (restricted (is_on catalogue cut Left) old) inside in
+    let right : choices_of (side_of catalogue cut Right region) ≡ size_of (restricted (is_on catalogue cut Right) old) * but = choices_of-set region (trip_of cut) (restricted (is_on catalogue cut Right) old) inside in
+    let parts : size_of (restricted (is_on catalogue cut Left) old) + size_of (restricted (is_on catalogue cut Right) old) ≡ size_of old = size_of-parts 0 (is_met catalogue cut) old in
     let whole : choices_of region ≡ size_of old * but = choices_of-whole region (trip_of cut) inside in
-    sums (size_of (kept (is_on catalogue cut Left) old)) (size_of (kept (is_on catalogue cut Right) old)) (size_of old) but _ _ _ left right whole parts
+    sums (size_of (restricted (is_on catalogue cut Left) old)) (size_of (restricted (is_on catalogue cut Right) old)) (size_of old) but _ _ _ left right whole parts
   where
     sums : (a b c k left right whole : ℕ) → left ≡ a * k → right ≡ b * k → whole ≡ c * k → a + b ≡ c → left + right ≡ whole
     sums a b c k left right whole l r w parts = l_r (ap (λ n. n * k) parts)
@@ -112,8 +112,8 @@ AreFilled (region ∷ regions) = IsFilled region × AreFilled regions
 side_filled : (catalogue : List (List ℕ)) (cut : Cut) (side : Side) (region : List (List Bool)) → trip_of cut < length region → HasMember (set_at (side_of catalogue cut side region) (trip_of cut)) →
     IsFilled region → IsFilled (side_of catalogue cut side region)
 side_filled catalogue cut side region inside some filled =
-    All-set HasMember region (trip_of cut) (kept (is_on catalogue cut side) (set_at region (trip_of cut)))
-    (subst HasMember (get_or-set_at region (trip_of cut) (trip_of cut) (kept (is_on catalogue cut side) (set_at region (trip_of cut))) [] refl inside) some) filled
+    All-set HasMember region (trip_of cut) (restricted (is_on catalogue cut side) (set_at region (trip_of cut)))
+    (subst HasMember (get_or-set_at region (trip_of cut) (trip_of cut) (restricted (is_on catalogue cut side) (set_at region (trip_of cut))) [] refl inside) some) filled
 
 pub sides_are_filled : SidesAreFilled
 sides_are_filled catalogue cut Left region proper filled =

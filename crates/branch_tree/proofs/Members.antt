@@ -5,7 +5,7 @@ use Rattle.std.specs.Int.{from_bool}
 use Rattle.std.proofs.lemmas.List.{get_or_past}
 use Rattle.std.proofs.lemmas.List.FromFn.{length-map-range_with_len, get_or-map-range_with_len, fill_by_all}
 use Rattle.std.proofs.lemmas.Bool.{cases_lt}
-use Rattle.branch_tree.specs.Sets.{is_member, HasMember, size_of, tested, kept_from, kept}
+use Rattle.branch_tree.specs.Sets.{is_member, HasMember, size_of, tested, restricted_from, restricted}
 
 pub length-tested : (test : ℕ → Bool) (bound : ℕ) → length (tested test bound) ≡ bound
 unfolding tested
@@ -40,24 +40,24 @@ same_members (x ∷ xs) (y ∷ ys) len same =
     let head : x ≡ y = same 0 (omega arith) in
     let tail : xs ≡ ys = same_members xs ys (omega (arith, len)) (λ comp below. same (suc comp) (omega (arith, below))) in cc
 
-pub length-kept_from : (first : ℕ) (test : ℕ → Bool) (members : List Bool) → length (kept_from first test members) ≡ length members
-length-kept_from first test [] = refl
-length-kept_from first test (member ∷ members) = ap suc (length-kept_from (suc first) test members)
+pub length-restricted_from : (first : ℕ) (test : ℕ → Bool) (members : List Bool) → length (restricted_from first test members) ≡ length members
+length-restricted_from first test [] = refl
+length-restricted_from first test (member ∷ members) = ap suc (length-restricted_from (suc first) test members)
 
 -- a number is kept where it is a member and passes the test
-pub is_member-kept_from : (first : ℕ) (test : ℕ → Bool) (members : List Bool) (comp : ℕ) → is_member (kept_from first test members) comp ≡ (is_member members comp && test (first + comp))
-is_member-kept_from first test [] comp = refl
-is_member-kept_from first test (member ∷ members) zero = ap (λ n. member && test n) (omega arith)
-is_member-kept_from first test (member ∷ members) (suc comp) =
-    is_member-kept_from (suc first) test members comp ∙ ap (λ n. is_member members comp && test n) (omega arith)
+pub is_member-restricted_from : (first : ℕ) (test : ℕ → Bool) (members : List Bool) (comp : ℕ) → is_member (restricted_from first test members) comp ≡ (is_member members comp && test (first + comp))
+is_member-restricted_from first test [] comp = refl
+is_member-restricted_from first test (member ∷ members) zero = ap (λ n. member && test n) (omega arith)
+is_member-restricted_from first test (member ∷ members) (suc comp) =
+    is_member-restricted_from (suc first) test members comp ∙ ap (λ n. is_member members comp && test n) (omega arith)
 
-pub is_member-kept : (test : ℕ → Bool) (members : List Bool) (comp : ℕ) → is_member (kept test members) comp ≡ (is_member members comp && test comp)
-is_member-kept test members comp = is_member-kept_from 0 test members comp ∙ ap (λ n. is_member members comp && test n) (omega arith)
+pub is_member-restricted : (test : ℕ → Bool) (members : List Bool) (comp : ℕ) → is_member (restricted test members) comp ≡ (is_member members comp && test comp)
+is_member-restricted test members comp = is_member-restricted_from 0 test members comp ∙ ap (λ n. is_member members comp && test n) (omega arith)
 
 -- a list of the same length with the members that pass the test is the set that is kept
-pub is_kept : (test : ℕ → Bool) (members new : List Bool) → length new ≡ length members → ((comp : ℕ) → comp < length new → is_member new comp ≡ (is_member members comp && test comp)) → new ≡ kept test members
+pub is_kept : (test : ℕ → Bool) (members new : List Bool) → length new ≡ length members → ((comp : ℕ) → comp < length new → is_member new comp ≡ (is_member members comp && test comp)) → new ≡ restricted test members
 is_kept test members new len same =
-    same_members new (kept test members) (len ∙ sym (length-kept_from 0 test members)) (λ comp below. same comp below ∙ sym (is_member-kept test members comp))
+    same_members new (restricted test members) (len ∙ sym (length-restricted_from 0 test members)) (λ comp below. same comp below ∙ sym (is_member-restricted test members comp))
 
 -- how many members there are among the first numbers, and one more
 size_of-take-suc : (members : List Bool) (comp : ℕ) → comp < length members → size_of (take (suc comp) members) ≡ size_of (take comp members) + from_bool (is_member members comp)
@@ -77,8 +77,8 @@ pub both_true : (a b : Bool) → a ≡ true → b ≡ true → (a && b) ≡ true
 both_true a b p q = rw (p, q) refl
 
 -- nothing is kept where no member passes the test
-pub none_kept : (test : ℕ → Bool) (members : List Bool) → ((comp : ℕ) → comp < length members → (is_member members comp && test comp) ≡ false) → HasMember (kept test members) → ⊥
+pub none_kept : (test : ℕ → Bool) (members : List Bool) → ((comp : ℕ) → comp < length members → (is_member members comp && test comp) ≡ false) → HasMember (restricted test members) → ⊥
 none_kept test members none (comp, there) =
-    let at : is_member (kept test members) comp ≡ (is_member members comp && test comp) = is_member-kept test members comp in
+    let at : is_member (restricted test members) comp ≡ (is_member members comp && test comp) = is_member-restricted test members comp in
     let gone : (is_member members comp && test comp) ≡ false = ⊎_elim (λ below. none comp below) (λ past. ap (λ b. b && test comp) (is_member-past members comp past)) (cases_lt comp (length members)) in
     cc

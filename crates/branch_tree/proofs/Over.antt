@@ -5,7 +5,7 @@ use Rattle.std.proofs.lemmas.Bool.{cases_lt, eq-eqb, ne_eqb}
 use Rattle.std.proofs.lemmas.Grind.{get_or-set_at}
 use Rattle.std.proofs.lemmas.List.{get_or_past, length-set, set_past}
 use Rattle.std.proofs.lemmas.List.FromFn.{length-map-range_with_len, get_or-map-range_with_len}
-use Rattle.rail_base.specs.declared.limits.TheConstants.{MOST_COMPOSITIONS}
+use Rattle.rail_base.specs.declared.limits.TheConstants.{MAX_COMPOSITIONS}
 use Rattle.timetable.specs.Day.{Day}
 use Rattle.timetable.specs.Admissible.{is_admissible}
 use Rattle.timetable.specs.Compositions.{compositions_of, composition_at}
@@ -16,11 +16,11 @@ use Rattle.branch_tree.specs.declared.cuts.Side.TheVariants.{Left, Right}
 use Rattle.branch_tree.specs.Cuts.{trip_of, is_on, side_of}
 use Rattle.branch_tree.specs.Laws.{RootsAreOver, SidesAreOver, SomeCutsAreProper}
 use Rattle.branch_tree.specs.Regions.{has, set_at, root_of}
-use Rattle.branch_tree.specs.Sets.{is_member, HasMember, size_of, set_of, kept}
+use Rattle.branch_tree.specs.Sets.{is_member, HasMember, size_of, set_of, restricted}
 use Rattle.branch_tree.proofs.Admitted.{none_past}
 use Rattle.branch_tree.proofs.Settling.{both}
 use Rattle.branch_tree.proofs.Dividing.{cuts_keep}
-use Rattle.branch_tree.proofs.Members.{is_member-tested, is_member-past, is_member-kept, length-tested, both_true}
+use Rattle.branch_tree.proofs.Members.{is_member-tested, is_member-past, is_member-restricted, length-tested, both_true}
 
 no : false ≡ true → ⊥
 no wrong = cc
@@ -28,9 +28,9 @@ no wrong = cc
 -- a member of a tested set passes the test
 tested_member : (test : ℕ → Bool) (comp : ℕ) → is_member (set_of test) comp ≡ true → test comp ≡ true
 tested_member test comp there =
-    ⊎_elim (λ below. sym (is_member-tested test MOST_COMPOSITIONS comp below) ∙ there)
-    (λ past. absurd (no (sym (is_member-past (set_of test) comp (omega (arith, past, length-tested test MOST_COMPOSITIONS))) ∙ there)))
-    (cases_lt comp MOST_COMPOSITIONS)
+    ⊎_elim (λ below. sym (is_member-tested test MAX_COMPOSITIONS comp below) ∙ there)
+    (λ past. absurd (no (sym (is_member-past (set_of test) comp (omega (arith, past, length-tested test MAX_COMPOSITIONS))) ∙ there)))
+    (cases_lt comp MAX_COMPOSITIONS)
 
 admissible_below : (day : Day) (trip comp : ℕ) → is_admissible day trip (composition_at day comp) ≡ true → comp < length (compositions_of day)
 admissible_below day trip comp admitted =
@@ -52,10 +52,10 @@ roots_are_over day = record {
 
 pub sides_are_over : SidesAreOver
 sides_are_over trips catalogue other cut side region over = record {
-  each = length-set region (trip_of cut) (kept (is_on other cut side) (set_at region (trip_of cut))) ∙ over.each;
+  each = length-set region (trip_of cut) (restricted (is_on other cut side) (set_at region (trip_of cut))) ∙ over.each;
   within = λ trip comp there.
       ⊎_elim (λ inside. over.within trip comp (both (has region trip comp) (if trip == trip_of cut then is_on other cut side comp else true) (sym (cuts_keep other cut side region trip comp inside) ∙ there)).0)
-      (λ past. over.within trip comp (sym (ap (λ r. has r trip comp) (set_past region (trip_of cut) (kept (is_on other cut side) (set_at region (trip_of cut))) past)) ∙ there))
+      (λ past. over.within trip comp (sym (ap (λ r. has r trip comp) (set_past region (trip_of cut) (restricted (is_on other cut side) (set_at region (trip_of cut))) past)) ∙ there))
       (cases_lt (trip_of cut) (length region));
 }
 
@@ -84,8 +84,8 @@ on_side : (catalogue : List (List ℕ)) (region : List (List Bool)) (cut : Cut) 
     is_member (set_at region (trip_of cut)) comp ≡ true → is_on catalogue cut side comp ≡ true → HasMember (set_at (side_of catalogue cut side region) (trip_of cut))
 on_side catalogue region cut side comp inside there on = (
   comp,
-  ap (λ members. is_member members comp) (get_or-set_at region (trip_of cut) (trip_of cut) (kept (is_on catalogue cut side) (set_at region (trip_of cut))) [] refl inside)
-      ∙ is_member-kept (is_on catalogue cut side) (set_at region (trip_of cut)) comp ∙ both_true (is_member (set_at region (trip_of cut)) comp) (is_on catalogue cut side comp) there on,
+  ap (λ members. is_member members comp) (get_or-set_at region (trip_of cut) (trip_of cut) (restricted (is_on catalogue cut side) (set_at region (trip_of cut))) [] refl inside)
+      ∙ is_member-restricted (is_on catalogue cut side) (set_at region (trip_of cut)) comp ∙ both_true (is_member (set_at region (trip_of cut)) comp) (is_on catalogue cut side comp) there on,
 )
 
 pub some_cuts_are_proper : SomeCutsAreProper

@@ -8,7 +8,7 @@ use Rattle.std.proofs.Math.Bool.{or-true}
 use Rattle.std.proofs.lemmas.Bool.Decides.{eqb_tells}
 use Rattle.std.proofs.lemmas.List.Edits.{length-insert}
 use Rattle.std.proofs.lemmas.List.Elements.{All-append, All-cons, All-take, All-drop, All-head, All-tail, All-nil}
-use Rattle.rail_base.specs.declared.limits.TheConstants.{MOST_ENTRIES, MOST_MULTIPLIER}
+use Rattle.rail_base.specs.declared.limits.TheConstants.{MAX_ENTRIES, MAX_MULTIPLIER}
 use Rattle.branch_tree.specs.declared.multipliers.Entry.{Entry}
 use Rattle.branch_tree.specs.declared.multipliers.PutRefusal.TheVariants.{TooLarge, Full}
 use Rattle.branch_tree.specs.Entries.{AreMultipliers, AreRising, IsPut, value_at, is_entered, refusal_of}
@@ -198,22 +198,22 @@ length-changed (entry ∷ entries) zero value = change (eqb (unsigned_abs value)
 length-changed (entry ∷ entries) (suc place) value = omega (arith, length-changed entries place value)
 
 -- the entries are multipliers after a change and after an insertion
-pub multipliers-changed : (entries : List Entry) (place : ℕ) (value : ℤ) → AreMultipliers entries → unsigned_abs value ≤ MOST_MULTIPLIER → AreMultipliers (changed entries place value)
+pub multipliers-changed : (entries : List Entry) (place : ℕ) (value : ℤ) → AreMultipliers entries → unsigned_abs value ≤ MAX_MULTIPLIER → AreMultipliers (changed entries place value)
 multipliers-changed entries place value multipliers small = record {
   rising = rising-changed entries place value multipliers.rising;
   not_zero = all-changed (λ entry. entry.value ≢ pos 0) entries place value (λ entry some _ none. some (ap unsigned_abs none)) multipliers.not_zero;
-  within = all-changed (λ entry. unsigned_abs entry.value ≤ MOST_MULTIPLIER) entries place value (λ entry _ _. small) multipliers.within;
+  within = all-changed (λ entry. unsigned_abs entry.value ≤ MAX_MULTIPLIER) entries place value (λ entry _ _. small) multipliers.within;
   few = omega (arith, length-changed entries place value, multipliers.few);
 }
 
 pub multipliers-inserted : (entries : List Entry) (place index : ℕ) (value : ℤ) → AreMultipliers entries → IsPlaceOf entries index place → (IsAt entries place index → ⊥) →
-    unsigned_abs value ≤ MOST_MULTIPLIER → (unsigned_abs value ≡ 0 → ⊥) → length entries < MOST_ENTRIES → AreMultipliers (insert entries place (record { index = index; value = value }))
+    unsigned_abs value ≤ MAX_MULTIPLIER → (unsigned_abs value ≡ 0 → ⊥) → length entries < MAX_ENTRIES → AreMultipliers (insert entries place (record { index = index; value = value }))
 multipliers-inserted entries place index value multipliers place_of away small some room =
     let new : Entry = record { index = index; value = value } in
     record {
       rising = rising-insert entries place new multipliers.rising place_of (strictly_after entries index place multipliers.rising place_of away);
       not_zero = all-insert (λ entry. entry.value ≢ pos 0) entries place new multipliers.not_zero (λ none. some (ap unsigned_abs none));
-      within = all-insert (λ entry. unsigned_abs entry.value ≤ MOST_MULTIPLIER) entries place new multipliers.within small;
+      within = all-insert (λ entry. unsigned_abs entry.value ≤ MAX_MULTIPLIER) entries place new multipliers.within small;
       few = omega (arith, length-insert entries place new place_of.within, room);
     }
 
@@ -239,35 +239,35 @@ changed_in (entry ∷ entries) zero value d some inside =
 changed_in (entry ∷ entries) (suc place) value d some inside = ap (λ rest. entry ∷ rest) (changed_in entries place value d some (omega (arith, inside)))
 
 -- the cases of a refusal
-refused_small : (entries : List Entry) (index : ℕ) (value : ℤ) → unsigned_abs value ≤ MOST_MULTIPLIER →
-    refusal_of entries index value ≡ (if (unsigned_abs value == 0) || is_entered entries index || ltb (length entries) MOST_ENTRIES then None else Some Full)
+refused_small : (entries : List Entry) (index : ℕ) (value : ℤ) → unsigned_abs value ≤ MAX_MULTIPLIER →
+    refusal_of entries index value ≡ (if (unsigned_abs value == 0) || is_entered entries index || ltb (length entries) MAX_ENTRIES then None else Some Full)
 refused_small entries index value small =
-    ap (λ b. if b then Some TooLarge else if (unsigned_abs value == 0) || is_entered entries index || ltb (length entries) MOST_ENTRIES then None else Some Full)
-    (false_from_ne_true (ltb MOST_MULTIPLIER (unsigned_abs value)) (λ large. omega (arith, small, ltb-true MOST_MULTIPLIER (unsigned_abs value) large)))
+    ap (λ b. if b then Some TooLarge else if (unsigned_abs value == 0) || is_entered entries index || ltb (length entries) MAX_ENTRIES then None else Some Full)
+    (false_from_ne_true (ltb MAX_MULTIPLIER (unsigned_abs value)) (λ large. omega (arith, small, ltb-true MAX_MULTIPLIER (unsigned_abs value) large)))
 
-pub refused_full : (entries : List Entry) (index : ℕ) (value : ℤ) → unsigned_abs value ≤ MOST_MULTIPLIER → (unsigned_abs value ≡ 0 → ⊥) → is_entered entries index ≡ false → MOST_ENTRIES ≤ length entries →
+pub refused_full : (entries : List Entry) (index : ℕ) (value : ℤ) → unsigned_abs value ≤ MAX_MULTIPLIER → (unsigned_abs value ≡ 0 → ⊥) → is_entered entries index ≡ false → MAX_ENTRIES ≤ length entries →
     refusal_of entries index value ≡ Some Full
 refused_full entries index value small some absent full =
     let size : (unsigned_abs value == 0) ≡ false = false_from_ne_true (eqb (unsigned_abs value) 0) (λ same. some (eqb-true (unsigned_abs value) 0 same)) in
-    let room : ltb (length entries) MOST_ENTRIES ≡ false = false_from_ne_true (ltb (length entries) MOST_ENTRIES) (λ less. omega (arith, full, ltb-true (length entries) MOST_ENTRIES less)) in
+    let room : ltb (length entries) MAX_ENTRIES ≡ false = false_from_ne_true (ltb (length entries) MAX_ENTRIES) (λ less. omega (arith, full, ltb-true (length entries) MAX_ENTRIES less)) in
     refused_small entries index value small
-    ∙ ap (λ b. if b || is_entered entries index || ltb (length entries) MOST_ENTRIES then None else Some Full) size
-    ∙ ap (λ b. if false || b || ltb (length entries) MOST_ENTRIES then None else Some Full) absent
+    ∙ ap (λ b. if b || is_entered entries index || ltb (length entries) MAX_ENTRIES then None else Some Full) size
+    ∙ ap (λ b. if false || b || ltb (length entries) MAX_ENTRIES then None else Some Full) absent
     ∙ ap (λ b. if false || false || b then None else Some Full) room
 
 pub not_refused_zero : (entries : List Entry) (index : ℕ) (value : ℤ) → unsigned_abs value ≡ 0 → refusal_of entries index value ≡ None
 not_refused_zero entries index value none =
     refused_small entries index value (omega (arith, none))
-    ∙ ap (λ b. if b || is_entered entries index || ltb (length entries) MOST_ENTRIES then None else Some Full) (eq-eqb (unsigned_abs value) 0 none)
+    ∙ ap (λ b. if b || is_entered entries index || ltb (length entries) MAX_ENTRIES then None else Some Full) (eq-eqb (unsigned_abs value) 0 none)
 
-pub not_refused_there : (entries : List Entry) (index : ℕ) (value : ℤ) → unsigned_abs value ≤ MOST_MULTIPLIER → is_entered entries index ≡ true → refusal_of entries index value ≡ None
+pub not_refused_there : (entries : List Entry) (index : ℕ) (value : ℤ) → unsigned_abs value ≤ MAX_MULTIPLIER → is_entered entries index ≡ true → refusal_of entries index value ≡ None
 not_refused_there entries index value small there =
     refused_small entries index value small
-    ∙ ap (λ b. if (unsigned_abs value == 0) || b || ltb (length entries) MOST_ENTRIES then None else Some Full) there
-    ∙ ap (λ b. if b || ltb (length entries) MOST_ENTRIES then None else Some Full) (or-true (unsigned_abs value == 0))
+    ∙ ap (λ b. if (unsigned_abs value == 0) || b || ltb (length entries) MAX_ENTRIES then None else Some Full) there
+    ∙ ap (λ b. if b || ltb (length entries) MAX_ENTRIES then None else Some Full) (or-true (unsigned_abs value == 0))
 
-pub not_refused_room : (entries : List Entry) (index : ℕ) (value : ℤ) → unsigned_abs value ≤ MOST_MULTIPLIER → length entries < MOST_ENTRIES → refusal_of entries index value ≡ None
+pub not_refused_room : (entries : List Entry) (index : ℕ) (value : ℤ) → unsigned_abs value ≤ MAX_MULTIPLIER → length entries < MAX_ENTRIES → refusal_of entries index value ≡ None
 not_refused_room entries index value small room =
     refused_small entries index value small
-    ∙ ap (λ b. if (unsigned_abs value == 0) || is_entered entries index || b then None else Some Full) (lt-ltb (length entries) MOST_ENTRIES room)
+    ∙ ap (λ b. if (unsigned_abs value == 0) || is_entered entries index || b then None else Some Full) (lt-ltb (length entries) MAX_ENTRIES room)
     ∙ ap (λ b. if b then None else Some Full) (or-true ((unsigned_abs value == 0) || is_entered entries index))

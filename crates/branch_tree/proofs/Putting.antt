@@ -1,7 +1,7 @@
 -- A put as a whole: of an entry that is there, and of a new one.
 use Rattle.std.proofs.Common.{◌≡◌, ℕ, ◌<◌, ◌≤◌, List, length, ℤ, unsigned_abs, Some, None, sym, ◌∙◌, ap, subst}
 use Rattle.std.specs.List.{insert}
-use Rattle.rail_base.specs.declared.limits.TheConstants.{MOST_ENTRIES, MOST_MULTIPLIER}
+use Rattle.rail_base.specs.declared.limits.TheConstants.{MAX_ENTRIES, MAX_MULTIPLIER}
 use Rattle.branch_tree.specs.declared.multipliers.Entry.{Entry}
 use Rattle.branch_tree.specs.declared.multipliers.PutRefusal.TheVariants.{Full}
 use Rattle.branch_tree.specs.Entries.{AreMultipliers, IsPut, put_in, refusal_of}
@@ -22,7 +22,7 @@ pub record PutDone (old : List Entry) (index : ℕ) (value : ℤ) (new : List En
 pub record Looked (entries : List Entry) (index place : ℕ) (value : ℤ) : Type 0 where
   pub multipliers : AreMultipliers entries
   pub place_of : IsPlaceOf entries index place
-  pub small : unsigned_abs value ≤ MOST_MULTIPLIER
+  pub small : unsigned_abs value ≤ MAX_MULTIPLIER
 
 done : (old entries new made : List Entry) (index : ℕ) (value : ℤ) → entries ≡ old → new ≡ made → PutDone entries index value made → PutDone old index value new
 done old entries new made index value view same whole = subst (λ xs. PutDone xs index value new) view (subst (λ xs. PutDone entries index value xs) (sym same) whole)
@@ -38,7 +38,7 @@ put_there old entries new index place value passed view same made looked at =
     })
 
 pub put_at_new : (old entries new : List Entry) (index place : ℕ) (value passed : ℤ) → entries ≡ old → passed ≡ value → new ≡ insert entries place (record { index = index; value = passed }) →
-    Looked entries index place value → (IsAt entries place index → ⊥) → (unsigned_abs value ≡ 0 → ⊥) → length entries < MOST_ENTRIES → PutDone old index value new
+    Looked entries index place value → (IsAt entries place index → ⊥) → (unsigned_abs value ≡ 0 → ⊥) → length entries < MAX_ENTRIES → PutDone old index value new
 put_at_new old entries new index place value passed view same made looked away some room =
     done old entries new (insert entries place (record { index = index; value = value })) index value view (made ∙ ap (λ v. insert entries place (record { index = index; value = v })) same) (record {
       multipliers = multipliers-inserted entries place index value looked.multipliers looked.place_of away looked.small some room;
@@ -56,7 +56,7 @@ put_none old entries index place value view looked away none =
       refusal = sym (not_refused_zero entries index value none);
     })
 
-pub put_refused : (old entries : List Entry) (index place : ℕ) (value : ℤ) → entries ≡ old → Looked entries index place value → (IsAt entries place index → ⊥) → (unsigned_abs value ≡ 0 → ⊥) → MOST_ENTRIES ≤ length entries →
+pub put_refused : (old entries : List Entry) (index place : ℕ) (value : ℤ) → entries ≡ old → Looked entries index place value → (IsAt entries place index → ⊥) → (unsigned_abs value ≡ 0 → ⊥) → MAX_ENTRIES ≤ length entries →
     Some Full ≡ refusal_of old index value
 put_refused old entries index place value view looked away some full =
     sym (refused_full entries index value looked.small some (is_entered-absent entries index (none_there entries index place looked.multipliers.rising looked.place_of away)) full)

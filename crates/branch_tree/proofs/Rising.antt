@@ -4,7 +4,7 @@ use Rattle.std.proofs.Common.{refl, sym, ap, subst, arith, ⊎_elim}
 use Rattle.std.proofs.lemmas.Bool.{cases_lt}
 use Rattle.std.proofs.lemmas.List.Elements.{All-append, All-cons, All-nil, All-head, All-tail}
 use Rattle.std.proofs.lemmas.List.{length-append}
-use Rattle.rail_base.specs.declared.limits.TheConstants.{MOST_SLACKS}
+use Rattle.rail_base.specs.declared.limits.TheConstants.{MAX_SLACKS}
 use Rattle.branch_tree.specs.declared.multipliers.Entry.{Entry}
 use Rattle.branch_tree.specs.Entries.{AreRising, AreSlackEntries, IsPastLast}
 
@@ -65,7 +65,7 @@ rising-push (entry ∷ entries) new rising below =
     (rising-push entries new (rising-tail entry entries rising) (All-tail (λ e. e.index < new.index) entry entries below))
 
 -- slacks with one more at the end
-pub slacks-push : (old new : List Entry) (entry : Entry) → AreSlackEntries old → IsPastLast old entry.index → entry.value ≢ pos 0 → length old < MOST_SLACKS →
+pub slacks-push : (old new : List Entry) (entry : Entry) → AreSlackEntries old → IsPastLast old entry.index → entry.value ≢ pos 0 → length old < MAX_SLACKS →
     new ≡ old ++ entry ∷ [] → AreSlackEntries new
 slacks-push old new entry slacks past some room is =
     subst AreSlackEntries (sym is) (record {

@@ -3,7 +3,7 @@ use Rattle.std.proofs.Common.{◌≡◌, ℕ, ◌<◌, List, [], length, get_or,
 use Rattle.std.specs.Prelude.{option_map}
 use Rattle.std.proofs.lemmas.List.FromFn.{length-map-range_with_len, get_or-map-range_with_len}
 use Rattle.std.proofs.lemmas.Option.{slice_get-get_or, slice_get-map}
-use Rattle.rail_base.specs.declared.limits.TheConstants.{MOST_COMPOSITIONS}
+use Rattle.rail_base.specs.declared.limits.TheConstants.{MAX_COMPOSITIONS}
 use Rattle.timetable.specs.Admissible.{is_admissible}
 use Rattle.timetable.specs.Compositions.{compositions_of, composition_at}
 use Rattle.timetable.specs.Day.{Day}
@@ -18,13 +18,13 @@ use Rattle.branch_tree.proofs.Lying.{each_in}
 use Rattle.branch_tree.proofs.Members.{is_member-tested}
 
 -- the set of a trip, whatever stands for a trip that is not there
-root_member : (day : Day) (trip comp : ℕ) (d : List Bool) → trip < length day.trips → comp < MOST_COMPOSITIONS
+root_member : (day : Day) (trip comp : ℕ) (d : List Bool) → trip < length day.trips → comp < MAX_COMPOSITIONS
     → is_member (get_or (root_of day) trip d) comp ≡ is_admissible day trip (composition_at day comp)
 unfolding root_of
 root_member day trip comp d below few =
     ap (λ members. is_member members comp)
     (get_or-map-range_with_len (λ t. set_of (λ c. is_admissible day t (composition_at day c))) 0 (length day.trips) trip trip d below (omega arith))
-    ∙ is_member-tested (λ c. is_admissible day trip (composition_at day c)) MOST_COMPOSITIONS comp few
+    ∙ is_member-tested (λ c. is_admissible day trip (composition_at day c)) MAX_COMPOSITIONS comp few
 
 root_length : (day : Day) → length (root_of day) ≡ length day.trips
 unfolding root_of

@@ -4,7 +4,7 @@ use Rattle.std.proofs.Common.{◌*ℤ◌, ◌≤ℤ◌, ◌<ℤ◌, refl, sym, �
 use Rattle.std.proofs.lemmas.Bool.{cases_lt, eqb-true}
 use Rattle.std.proofs.lemmas.Int.{ints}
 use Rattle.std.proofs.lemmas.List.Elements.{All-cons, All-nil, All-head, All-tail}
-use Rattle.rail_base.specs.declared.limits.TheConstants.{MOST_COMPOSITIONS}
+use Rattle.rail_base.specs.declared.limits.TheConstants.{MAX_COMPOSITIONS}
 use Rattle.branch_tree.specs.declared.relaxation.Weight.TheVariants.{NoCost}
 use Rattle.branch_tree.specs.Laws.{BrokenPicksHaveRays, SinglePicksAreEvident}
 use Rattle.branch_tree.specs.Meanings.{Meanings, IsRelaxation, IsBroken, priced}
@@ -20,9 +20,9 @@ both false b all = absurd cc
 -- the set of one composition has no other
 pub only_member : (pick comp : ℕ) → is_member (set_of (λ n. n == pick)) comp ≡ true → comp ≡ pick
 only_member pick comp there =
-    ⊎_elim (λ below. eqb-true comp pick (sym (is_member-tested (λ n. n == pick) MOST_COMPOSITIONS comp below) ∙ there))
-    (λ past. absurd (gone (is_member-past (set_of (λ n. n == pick)) comp (omega (arith, past, length-tested (λ n. n == pick) MOST_COMPOSITIONS)))))
-    (cases_lt comp MOST_COMPOSITIONS)
+    ⊎_elim (λ below. eqb-true comp pick (sym (is_member-tested (λ n. n == pick) MAX_COMPOSITIONS comp below) ∙ there))
+    (λ past. absurd (gone (is_member-past (set_of (λ n. n == pick)) comp (omega (arith, past, length-tested (λ n. n == pick) MAX_COMPOSITIONS)))))
+    (cases_lt comp MAX_COMPOSITIONS)
   where
     gone : is_member (set_of (λ n. n == pick)) comp ≡ false → ⊥
     gone none = cc

@@ -7,23 +7,23 @@ use Rattle.std.proofs.lemmas.List.{get_or-set_other, length-set}
 use Rattle.std.proofs.lemmas.Nat.Bits.{bit_at-zero, shr_and_one}
 use Rattle.std.proofs.lemmas.Grind.{get_or-set_at}
 use Rattle.std.proofs.lemmas.Bool.Decides.{eqb_tells}
-use Rattle.rail_base.specs.declared.limits.TheConstants.{MOST_COMPOSITIONS}
+use Rattle.rail_base.specs.declared.limits.TheConstants.{MAX_COMPOSITIONS}
 use Rattle.branch_tree.specs.Sets.{is_member, set_of}
 use Rattle.branch_tree.specs.Bits.{HasNoOther, bit_of, members_of}
 use Rattle.branch_tree.proofs.Members.{length-tested, is_member-tested, is_member-past, is_tested}
 
-pub length-members_of : (words : List ℕ) → length (members_of words) ≡ MOST_COMPOSITIONS
+pub length-members_of : (words : List ℕ) → length (members_of words) ≡ MAX_COMPOSITIONS
 unfolding members_of
-length-members_of words = length-tested (bit_of words) MOST_COMPOSITIONS
+length-members_of words = length-tested (bit_of words) MAX_COMPOSITIONS
 
-pub is_member-members_of : (words : List ℕ) (comp : ℕ) → comp < MOST_COMPOSITIONS → is_member (members_of words) comp ≡ bit_of words comp
+pub is_member-members_of : (words : List ℕ) (comp : ℕ) → comp < MAX_COMPOSITIONS → is_member (members_of words) comp ≡ bit_of words comp
 unfolding members_of
-is_member-members_of words comp below = is_member-tested (bit_of words) MOST_COMPOSITIONS comp below
+is_member-members_of words comp below = is_member-tested (bit_of words) MAX_COMPOSITIONS comp below
 
 -- a list of that length with the bits of the words is the set that they hold
-pub is_members_of : (words : List ℕ) (members : List Bool) → length members ≡ MOST_COMPOSITIONS → ((comp : ℕ) → comp < MOST_COMPOSITIONS → is_member members comp ≡ bit_of words comp) → members ≡ members_of words
+pub is_members_of : (words : List ℕ) (members : List Bool) → length members ≡ MAX_COMPOSITIONS → ((comp : ℕ) → comp < MAX_COMPOSITIONS → is_member members comp ≡ bit_of words comp) → members ≡ members_of words
 unfolding members_of
-is_members_of words members len same = is_tested (bit_of words) MOST_COMPOSITIONS members len same
+is_members_of words members len same = is_tested (bit_of words) MAX_COMPOSITIONS members len same
 
 -- the test of one bit
 pub bit_of-tested : (words : List ℕ) (comp : ℕ) → eqb (bit_and (get_or words (comp / 64) 0 / 2 ^ (comp % 64)) 1) 1 ≡ bit_of words comp
@@ -34,7 +34,7 @@ same_place : (a b : ℕ) → a / 64 ≡ b / 64 → a % 64 ≡ b % 64 → a ≡ b
 same_place a b q r = omega (arith, q, r)
 
 -- a word with one bit changed changes that member alone
-pub one_bit : (words : List ℕ) (comp new : ℕ) (value : Bool) → comp < MOST_COMPOSITIONS → comp / 64 < length words →
+pub one_bit : (words : List ℕ) (comp new : ℕ) (value : Bool) → comp < MAX_COMPOSITIONS → comp / 64 < length words →
     eqb (bit_at new (comp % 64)) 1 ≡ value →
     ((i : ℕ) → i < 64 → i ≢ comp % 64 → bit_at new i ≡ bit_at (get_or words (comp / 64) 0) i) →
     set (members_of words) comp value ≡ members_of (set words (comp / 64) new)
@@ -42,10 +42,10 @@ one_bit words comp new value below within here others = is_members_of (set words
     (length-set (members_of words) comp value ∙ length-members_of words)
     (λ other low. one_bit_at words comp new value below within here others other low (eqb_tells other comp) (eqb_tells (other / 64) (comp / 64)))
   where
-    one_bit_at : (words : List ℕ) (comp new : ℕ) (value : Bool) → comp < MOST_COMPOSITIONS → comp / 64 < length words →
+    one_bit_at : (words : List ℕ) (comp new : ℕ) (value : Bool) → comp < MAX_COMPOSITIONS → comp / 64 < length words →
         eqb (bit_at new (comp % 64)) 1 ≡ value →
         ((i : ℕ) → i < 64 → i ≢ comp % 64 → bit_at new i ≡ bit_at (get_or words (comp / 64) 0) i) →
-        (other : ℕ) → other < MOST_COMPOSITIONS →
+        (other : ℕ) → other < MAX_COMPOSITIONS →
         ((eqb other comp ≡ true) × (other ≡ comp)) ⊎ ((eqb other comp ≡ false) × (other ≢ comp)) →
         ((eqb (other / 64) (comp / 64) ≡ true) × (other / 64 ≡ comp / 64)) ⊎ ((eqb (other / 64) (comp / 64) ≡ false) × (other / 64 ≢ comp / 64)) →
         is_member (set (members_of words) comp value) other ≡ bit_of (set words (comp / 64) new) other
@@ -65,12 +65,12 @@ one_bit words comp new value below within here others = is_members_of (set words
 
 -- words that are all 0 hold no members
 pub none_of : (words : List ℕ) → ((place : ℕ) → get_or words place 0 ≡ 0) → members_of words ≡ set_of (λ comp. false)
-none_of words zeros = sym (is_members_of words (set_of (λ comp. false)) (length-tested (λ comp. false) MOST_COMPOSITIONS)
-    (λ comp low. is_member-tested (λ comp. false) MOST_COMPOSITIONS comp low
+none_of words zeros = sym (is_members_of words (set_of (λ comp. false)) (length-tested (λ comp. false) MAX_COMPOSITIONS)
+    (λ comp low. is_member-tested (λ comp. false) MAX_COMPOSITIONS comp low
     ∙ sym (ap (λ w. eqb (bit_at w (comp % 64)) 1) (zeros (comp / 64)) ∙ ap (λ b. eqb b 1) (bit_at-zero (comp % 64)))))
 
 -- words with no other bits have none after the bit of a composition is changed
-pub one_bit-other : (words : List ℕ) (comp new : ℕ) → HasNoOther words → comp < MOST_COMPOSITIONS → comp / 64 < length words →
+pub one_bit-other : (words : List ℕ) (comp new : ℕ) → HasNoOther words → comp < MAX_COMPOSITIONS → comp / 64 < length words →
     ((i : ℕ) → i < 64 → i ≢ comp % 64 → bit_at new i ≡ bit_at (get_or words (comp / 64) 0) i) → HasNoOther (set words (comp / 64) new)
 one_bit-other words comp new none below within others other past = at (eqb_tells (other / 64) (comp / 64))
   where
@@ -85,4 +85,4 @@ one_bit-other words comp new none below within others other past = at (eqb_tells
 pub is_member-bit : (words : List ℕ) (comp : ℕ) → HasNoOther words → is_member (members_of words) comp ≡ bit_of words comp
 is_member-bit words comp none =
     ⊎_elim (λ below. is_member-members_of words comp below)
-    (λ past. is_member-past (members_of words) comp (omega (arith, past, length-members_of words)) ∙ sym (none comp past)) (cases_lt comp MOST_COMPOSITIONS)
+    (λ past. is_member-past (members_of words) comp (omega (arith, past, length-members_of words)) ∙ sym (none comp past)) (cases_lt comp MAX_COMPOSITIONS)

@@ -1,6 +1,6 @@
 -- The inside of a set of compositions: words of 64 bits.
 use Rattle.std.specs.Prelude.{ℕ, ◌≡◌, ◌≤◌, false, ◌/◌, ◌%◌, ◌^◌, List, Bool, get_or, ◌==◌}
-use Rattle.rail_base.specs.declared.limits.TheConstants.{MOST_COMPOSITIONS}
+use Rattle.rail_base.specs.declared.limits.TheConstants.{MAX_COMPOSITIONS}
 use Rattle.branch_tree.specs.declared.sets.TheConstants.{WORD_BITS}
 use Rattle.branch_tree.specs.Sets.{set_of}
 
@@ -10,7 +10,7 @@ bit_of words comp = get_or words (comp / WORD_BITS) 0 / 2 ^ (comp % WORD_BITS) %
 
 -- no number that is no composition's has a bit that is 1
 abbrev pub HasNoOther : List ℕ → Type 0
-HasNoOther words = (comp : ℕ) → MOST_COMPOSITIONS ≤ comp → bit_of words comp ≡ false
+HasNoOther words = (comp : ℕ) → MAX_COMPOSITIONS ≤ comp → bit_of words comp ≡ false
 
 -- the numbers whose bit is 1
 unfoldable pub members_of : List ℕ → List Bool

@@ -15,17 +15,17 @@ use Rattle.branch_tree.specs.Regions.{are_in}
 use Rattle.branch_tree.specs.Trees.{Covers, IsLeast, IsWhole, IsProperAt, branchings_of, bounds_of}
 
 -- picks with a cost that is said
-pub record Priced : Type 0 where
+pub record CostedPicks : Type 0 where
   pub cost : ℤ
   pub picks : List ℕ
 
 -- What is concluded of the solutions in a region: that these picks cost least; that there is none; that none costs less
 -- than a bound, without or with picks that are one.
 pub data Conclusion : Type 0 where
-  optimal : Priced → Conclusion
+  optimal : CostedPicks → Conclusion
   infeasible : Conclusion
   bounded : ℤ → Conclusion
-  bounded_plan : ℤ → Priced → Conclusion
+  bounded_plan : ℤ → CostedPicks → Conclusion
 
 -- the conclusion that a claim says
 abbrev pub said_by : ClaimHead → Conclusion
@@ -35,14 +35,14 @@ said_by (Bounded bound) = bounded bound.0
 said_by (BoundedPlan bound cost picks) = bounded_plan bound.0 (record { cost = cost.0; picks = picks.now })
 
 -- the picks of a conclusion
-abbrev pub plan_of : Conclusion → Option Priced
-plan_of (optimal plan) = Some plan
-plan_of infeasible = None
-plan_of (bounded bound) = None
-plan_of (bounded_plan bound plan) = Some plan
+abbrev pub concluded_plan : Conclusion → Option CostedPicks
+concluded_plan (optimal plan) = Some plan
+concluded_plan infeasible = None
+concluded_plan (bounded bound) = None
+concluded_plan (bounded_plan bound plan) = Some plan
 
 -- the picks are a solution in the region, with the cost said
-pub record IsPlanIn (problem : Meanings) (root : List (List Bool)) (plan : Priced) : Type 0 where
+pub record IsPlanIn (problem : Meanings) (root : List (List Bool)) (plan : CostedPicks) : Type 0 where
   pub inside : IsTrue (are_in plan.picks root)
   pub solution : problem.IsSolution plan.picks
   pub cost : problem.cost plan.picks ≡ plan.cost
@@ -118,7 +118,7 @@ pub record IsProved (problem : Meanings) (root : List (List Bool)) (conclusion :
   -- nothing is near the region of each empty leaf
   pub empty : Covers problem.catalogue (IsEmptyAt problem) root nodes
   -- where there are picks, they are a solution in the root with the cost said
-  pub plan : MatchOption (plan_of conclusion) (Unit {0}) (IsPlanIn problem root)
+  pub plan : MatchOption (concluded_plan conclusion) (Unit {0}) (IsPlanIn problem root)
   -- the bounds of the cost leaves prove the conclusion
   pub head : DoBound (bounds_of nodes) conclusion
 
@@ -127,24 +127,24 @@ abbrev pub IsProvedClaim : Meanings → List (List Bool) → Claim → Type 0
 IsProvedClaim problem root claim = IsProved problem root (said_by claim.head) claim.branchings claim.tree.now
 
 -- whether a bound leaves room for a better plan: there is no plan, or the bound is below its cost
-abbrev pub is_below : ℤ → Option Priced → Bool
+abbrev pub is_below : ℤ → Option CostedPicks → Bool
 is_below bound None = true
 is_below bound (Some plan) = int_lt bound plan.cost
 
 -- whether a node is an open leaf: a cost leaf where there is no plan, or whose bound is below the cost of the plan
-abbrev pub is_open : Option Priced → Node → Bool
+abbrev pub is_open : Option CostedPicks → Node → Bool
 is_open plan (CostLeaf bound multipliers) = is_below bound.0 plan
 is_open plan node = false
 
-abbrev pub IsOpen : Option Priced → Node → Type 0
+abbrev pub IsOpen : Option CostedPicks → Node → Type 0
 IsOpen plan node = IsTrue (is_open plan node)
 
 -- how many leaves are open
-abbrev pub open_leaves_of : Option Priced → List Node → ℕ
+abbrev pub open_leaves_of : Option CostedPicks → List Node → ℕ
 open_leaves_of plan [] = 0
 open_leaves_of plan (node ∷ nodes) = (if is_open plan node then 1 else 0) + open_leaves_of plan nodes
 
-abbrev pub HasOpenLeaf : Option Priced → List Node → Type 0
+abbrev pub HasOpenLeaf : Option CostedPicks → List Node → Type 0
 HasOpenLeaf plan nodes = 0 < open_leaves_of plan nodes
 
 -- A region whose end is not evident: the choice without multipliers is no solution, and the single multiplier that is
@@ -158,7 +158,7 @@ pub record IsNotEvident (problem : Meanings) (region : List (List Bool)) : Type 
   pub not_positive : value ≤ℤ pos 0
 
 -- no open leaf has an evident end
-abbrev pub IsNotEvidentAt : Meanings → Option Priced → List (List Bool) → Node → Type 0
+abbrev pub IsNotEvidentAt : Meanings → Option CostedPicks → List (List Bool) → Node → Type 0
 IsNotEvidentAt problem plan region node = IsOpen plan node → IsNotEvident problem region
 
 -- the bound of a cost leaf is at least the chain value of its region with no multipliers
@@ -168,18 +168,18 @@ IsRaisedAt problem region (CostLeaf bound multipliers) =
 IsRaisedAt problem region node = Unit {0}
 
 -- picks are no solution, or there is a plan that costs no more
-abbrev pub IsNoBetter : Meanings → Option Priced → List ℕ → Type 0
+abbrev pub IsNoBetter : Meanings → Option CostedPicks → List ℕ → Type 0
 IsNoBetter problem plan picks = problem.IsSolution picks → is_below (problem.cost picks) plan ≡ false
 
 -- the choice of a cost leaf under its multipliers is no solution, or there is a plan that costs no more
-abbrev pub IsSettledAt : Meanings → Option Priced → List (List Bool) → Node → Type 0
+abbrev pub IsSettledAt : Meanings → Option CostedPicks → List (List Bool) → Node → Type 0
 IsSettledAt problem plan region (CostLeaf bound multipliers) =
     (picks : List ℕ) × IsChoice problem region multipliers Cost picks × IsNoBetter problem plan picks
 IsSettledAt problem plan region node = Unit {0}
 
 -- A tree that does not end early: each cost leaf has at least the bound without multipliers, its choice is no solution
 -- unless there is a plan that costs no more, and no open leaf has an evident end.
-pub record EndsInTime (problem : Meanings) (root : List (List Bool)) (plan : Option Priced)
+pub record EndsInTime (problem : Meanings) (root : List (List Bool)) (plan : Option CostedPicks)
     (nodes : List Node) : Type 0 where
   pub raised : Covers problem.catalogue (IsRaisedAt problem) root nodes
   pub settled : Covers problem.catalogue (IsSettledAt problem plan) root nodes

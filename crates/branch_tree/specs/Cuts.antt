@@ -1,11 +1,11 @@
 -- A cut divides the set of one trip into the compositions that meet it and the others.
 use Rattle.std.specs.Prelude.{ℕ, ◌<◌, List, [], length, set, Bool, not, ◌==◌, nat_le, count_by, slice_get, unwrap_or}
-use Rattle.rail_base.specs.declared.limits.TheConstants.{MOST_TYPES, MOST_COMPOSITION}
+use Rattle.rail_base.specs.declared.limits.TheConstants.{MAX_TYPES, MAX_COMPOSITION_UNITS}
 use Rattle.branch_tree.specs.declared.cuts.Cut.{Cut}
 use Rattle.branch_tree.specs.declared.cuts.Cut.TheVariants.{Only, AtMost}
 use Rattle.branch_tree.specs.declared.cuts.Side.{Side}
 use Rattle.branch_tree.specs.declared.cuts.Side.TheVariants.{Left, Right}
-use Rattle.branch_tree.specs.Sets.{HasMember, kept}
+use Rattle.branch_tree.specs.Sets.{HasMember, restricted}
 use Rattle.branch_tree.specs.Regions.{set_at}
 
 -- the trip whose set is cut
@@ -30,13 +30,13 @@ is_on catalogue cut Right comp = not (is_met catalogue cut comp)
 -- the region on one side of a cut: the set of its trip keeps what is on this side, and every other set stays
 abbrev pub side_of : List (List ℕ) → Cut → Side → List (List Bool) → List (List Bool)
 side_of catalogue cut side region =
-    set region (trip_of cut) (kept (is_on catalogue cut side) (set_at region (trip_of cut)))
+    set region (trip_of cut) (restricted (is_on catalogue cut side) (set_at region (trip_of cut)))
 
 -- the numbers of a cut name a trip of the region, a composition of the catalogue, and a number of units of a type
 abbrev pub IsInRange : List (List ℕ) → List (List Bool) → Cut → Type 0
 IsInRange catalogue region (Only trip comp) = (trip < length region) × (comp < length catalogue)
 IsInRange catalogue region (AtMost trip unit_type count) =
-    (trip < length region) × (unit_type < MOST_TYPES) × (count < MOST_COMPOSITION)
+    (trip < length region) × (unit_type < MAX_TYPES) × (count < MAX_COMPOSITION_UNITS)
 
 -- a cut whose numbers are in range and whose trip has a composition on each side
 pub record IsProper (catalogue : List (List ℕ)) (region : List (List Bool)) (cut : Cut) : Type 0 where

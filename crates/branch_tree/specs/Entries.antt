@@ -2,7 +2,7 @@
 use Rattle.std.specs.Prelude.{ℕ, ◌<◌, ◌≤◌, ◌≡◌, ◌≢◌, List, [], ◌∷◌, ◌++◌, length, filter, ℤ, pos, ◌≤ℤ◌, unsigned_abs}
 use Rattle.std.specs.Prelude.{Bool, false, ◌==◌, ◌||◌, nat_lt, if◌then◌else◌, All, AllPairs, Option, Some, None}
 use Rattle.std.specs.Prelude.{MatchOption}
-use Rattle.rail_base.specs.declared.limits.TheConstants.{MOST_ENTRIES, MOST_MULTIPLIER, MOST_SLACKS}
+use Rattle.rail_base.specs.declared.limits.TheConstants.{MAX_ENTRIES, MAX_MULTIPLIER, MAX_SLACKS}
 use Rattle.branch_tree.specs.declared.multipliers.Entry.{Entry}
 use Rattle.branch_tree.specs.declared.multipliers.PutRefusal.{PutRefusal}
 use Rattle.branch_tree.specs.declared.multipliers.PutRefusal.TheVariants.{TooLarge, Full}
@@ -24,8 +24,8 @@ AreNotZero entries = All (λ entry. entry.value ≢ pos 0) entries
 pub record AreMultipliers (entries : List Entry) : Type 0 where
   pub rising : AreRising entries
   pub not_zero : AreNotZero entries
-  pub within : All (λ entry. unsigned_abs entry.value ≤ MOST_MULTIPLIER) entries
-  pub few : length entries ≤ MOST_ENTRIES
+  pub within : All (λ entry. unsigned_abs entry.value ≤ MAX_MULTIPLIER) entries
+  pub few : length entries ≤ MAX_ENTRIES
 
 -- all entries are of indices below `indices`, and those below `free_from` have no negative value
 abbrev pub DoFit : ℕ → ℕ → List Entry → Type 0
@@ -39,8 +39,8 @@ is_entered (entry ∷ entries) index = (index == entry.index) || is_entered entr
 
 -- why a value can't be put at an index: its size is over the limit, or it would be one entry too many
 abbrev pub refusal_of : List Entry → ℕ → ℤ → Option PutRefusal
-refusal_of entries index value = if nat_lt MOST_MULTIPLIER (unsigned_abs value) then Some TooLarge
-    else if (unsigned_abs value == 0) || is_entered entries index || nat_lt (length entries) MOST_ENTRIES then None
+refusal_of entries index value = if nat_lt MAX_MULTIPLIER (unsigned_abs value) then Some TooLarge
+    else if (unsigned_abs value == 0) || is_entered entries index || nat_lt (length entries) MAX_ENTRIES then None
     else Some Full
 
 -- the entry of a value at an index, and none where the value is 0
@@ -58,17 +58,17 @@ abbrev pub IsPut : List Entry → ℕ → ℤ → List Entry → Type 0
 IsPut old index value new = (i : ℕ) → value_at new i ≡ (if i == index then value else value_at old i)
 
 -- the last entry, where there is one
-abbrev pub last_of : List Entry → Option Entry
-last_of [] = None
-last_of (entry ∷ []) = Some entry
-last_of (entry ∷ next ∷ entries) = last_of (next ∷ entries)
+abbrev pub last_entry_of : List Entry → Option Entry
+last_entry_of [] = None
+last_entry_of (entry ∷ []) = Some entry
+last_entry_of (entry ∷ next ∷ entries) = last_entry_of (next ∷ entries)
 
 -- an index comes after those of all entries, which rise
 abbrev pub IsPastLast : List Entry → ℕ → Type 0
-IsPastLast entries index = MatchOption (last_of entries) (Unit {0}) (λ last. last.index < index)
+IsPastLast entries index = MatchOption (last_entry_of entries) (Unit {0}) (λ last. last.index < index)
 
 -- a list of slacks: indices that rise, and values that are not 0
 pub record AreSlackEntries (entries : List Entry) : Type 0 where
   pub rising : AreRising entries
   pub not_zero : AreNotZero entries
-  pub few : length entries ≤ MOST_SLACKS
+  pub few : length entries ≤ MAX_SLACKS

@@ -1,7 +1,7 @@
 -- A set of compositions: for each number of a composition whether it is a member.
 use Rattle.std.specs.Prelude.{ℕ, suc, List, [], ◌∷◌, map, get_or, Bool, false, ◌&&◌, IsTrue, if◌then◌else◌, ◌+◌}
 use Rattle.std.specs.List.{range_with_len}
-use Rattle.rail_base.specs.declared.limits.TheConstants.{MOST_COMPOSITIONS}
+use Rattle.rail_base.specs.declared.limits.TheConstants.{MAX_COMPOSITIONS}
 
 -- whether the composition of a number is in a set, which no number past its end is
 abbrev pub is_member : List Bool → ℕ → Bool
@@ -22,13 +22,13 @@ tested test bound = map test (range_with_len 0 bound)
 
 -- the set of the compositions that pass a test
 abbrev pub set_of : (ℕ → Bool) → List Bool
-set_of test = tested test MOST_COMPOSITIONS
+set_of test = tested test MAX_COMPOSITIONS
 
 -- the members that pass a test, where the list begins with the composition of a number
-abbrev pub kept_from : ℕ → (ℕ → Bool) → List Bool → List Bool
-kept_from comp test [] = []
-kept_from comp test (member ∷ members) = (member && test comp) ∷ kept_from (suc comp) test members
+abbrev pub restricted_from : ℕ → (ℕ → Bool) → List Bool → List Bool
+restricted_from comp test [] = []
+restricted_from comp test (member ∷ members) = (member && test comp) ∷ restricted_from (suc comp) test members
 
 -- the members of a set that pass a test
-abbrev pub kept : (ℕ → Bool) → List Bool → List Bool
-kept test set = kept_from 0 test set
+abbrev pub restricted : (ℕ → Bool) → List Bool → List Bool
+restricted test set = restricted_from 0 test set

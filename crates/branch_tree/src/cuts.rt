@@ -1,9 +1,9 @@
 //! Cuts: a cut divides the set of one trip into the compositions that meet it and the others.
 
 ghost use Rattle.std.specs.Prelude.{◌≡◌, ◌<◌, ◌↔◌, IsTrue};
-ghost use Rattle.rail_base.specs.declared.limits.TheConstants.{MOST_COMPOSITIONS};
+ghost use Rattle.rail_base.specs.declared.limits.TheConstants.{MAX_COMPOSITIONS};
 ghost use Rattle.branch_tree.specs.Cuts.{trip_of, units_of_type, is_met, is_on};
-ghost use Rattle.branch_tree.specs.Sets.{HasMember, is_member, kept};
+ghost use Rattle.branch_tree.specs.Sets.{HasMember, is_member, restricted};
 
 use crate::sets::CompositionSet;
 use compositions::Catalogue;
@@ -106,7 +106,7 @@ fn units_of_type(catalogue: &Catalogue, comp: CompNo, unit_type: TypeNo) -> u32
 impl CompositionSet {
     /// Whether some member is on a side of a cut.
     pub(crate) fn has_some_on(&self, catalogue: &Catalogue, cut: &Cut, side: Side) -> bool
-        ensures { IsTrue result ↔ HasMember (kept (is_on catalogue.now cut.now side) self.now) }
+        ensures { IsTrue result ↔ HasMember (restricted (is_on catalogue.now cut.now side) self.now) }
     {
         for comp in 0..self.numbers() {
             if self.has(CompNo(comp)) && cut.has_on(catalogue, side, CompNo(comp)) {
@@ -118,7 +118,7 @@ impl CompositionSet {
 
     /// Keeps the members on a side of a cut.
     pub(crate) fn keep(&mut self, catalogue: &Catalogue, cut: &Cut, side: Side)
-        ensures { self.new ≡ kept (is_on catalogue.now cut.now side) self.old }
+        ensures { self.new ≡ restricted (is_on catalogue.now cut.now side) self.old }
     {
         for comp in 0..self.numbers() {
             if self.has(CompNo(comp)) && !cut.has_on(catalogue, side, CompNo(comp)) {

@@ -76,7 +76,7 @@ pub fn proper_cuts_end()
 
 /// Weak duality: under multipliers that fit, a solution is priced at its cost or lower, and at 0 or lower without cost.
 pub fn solutions_are_priced_low<R: Relaxation>()
-    ensures law { (problem : R.Problem) → R.IsAccepted problem → SolutionsArePricedLow (R.meanings problem) }
+    ensures law { (problem : R.Problem) → R.IsWellPosed problem → SolutionsArePricedLow (R.meanings problem) }
 {}
 
 /// The value that a bound answers is the chain value of the region, which has no other, and none where nothing is near
@@ -89,24 +89,24 @@ pub fn bounds_are_chain_values<R: Relaxation>()
 
 /// No solution in a region costs less than its chain value under multipliers that fit.
 pub fn chain_values_bound<R: Relaxation>()
-    ensures law { (problem : R.Problem) → R.IsAccepted problem → ChainValuesBound (R.meanings problem) }
+    ensures law { (problem : R.Problem) → R.IsWellPosed problem → ChainValuesBound (R.meanings problem) }
 {}
 
 /// A region has no solution where nothing is near it, or where its chain value without cost is positive.
 pub fn empty_regions_and_rays_have_no_solution<R: Relaxation>()
-    ensures empty { (problem : R.Problem) → R.IsAccepted problem → EmptyHasNoSolution (R.meanings problem) }
-    ensures ray { (problem : R.Problem) → R.IsAccepted problem → RaysHaveNoSolution (R.meanings problem) }
+    ensures empty { (problem : R.Problem) → R.IsWellPosed problem → EmptyHasNoSolution (R.meanings problem) }
+    ensures ray { (problem : R.Problem) → R.IsWellPosed problem → RaysHaveNoSolution (R.meanings problem) }
 {}
 
 /// The multiplier that is named for picks which follow and are no solution shows that the region of these picks alone
 /// has no solution.
 pub fn broken_picks_have_rays<R: Relaxation>()
-    ensures law { (problem : R.Problem) → R.IsAccepted problem → BrokenPicksHaveRays (R.meanings problem) }
+    ensures law { (problem : R.Problem) → R.IsWellPosed problem → BrokenPicksHaveRays (R.meanings problem) }
 {}
 
 /// A region with one composition for each trip has an evident end.
 pub fn single_picks_are_evident<R: Relaxation>()
-    ensures law { (problem : R.Problem) → R.IsAccepted problem → SinglePicksAreEvident (R.meanings problem) }
+    ensures law { (problem : R.Problem) → R.IsWellPosed problem → SinglePicksAreEvident (R.meanings problem) }
 {}
 
 /// What a proved claim says throughout the tree is what it says of each node in its region; and it is said throughout
@@ -124,5 +124,5 @@ pub fn proved_leaves_grow<R: Relaxation>()
 /// What a tree proves is true of all solutions in the root: no solution costs less than an optimal one or a bound, and
 /// an infeasible root has none.
 pub fn proved_is_concluded<R: Relaxation>()
-    ensures law { (problem : R.Problem) → R.IsAccepted problem → ProvedIsConcluded (R.meanings problem) }
+    ensures law { (problem : R.Problem) → R.IsWellPosed problem → ProvedIsConcluded (R.meanings problem) }
 {}

@@ -8,7 +8,7 @@ ghost use Rattle.branch_tree.specs.Entries.{AreMultipliers, AreRising, DoFit, Is
 ghost use Rattle.branch_tree.specs.Places.{IsAt, IsPlaceOf, changed};
 
 use rail_base::NoMemory;
-use rail_base::limits::{MOST_ENTRIES, MOST_MULTIPLIER};
+use rail_base::limits::{MAX_ENTRIES, MAX_MULTIPLIER};
 use std::alloc::Global;
 use std::marker::Model;
 use thiserror::Error;
@@ -52,14 +52,14 @@ pub struct Multipliers {
 impl Model for Multipliers {
     ghost use Rattle.std.specs.Prelude.{List, ◌≤◌, vec_capacity};
     ghost use Rattle.branch_tree.specs.declared.multipliers.Entry.{Entry};
-    ghost use Rattle.rail_base.specs.declared.limits.TheConstants.{MOST_ENTRIES};
+    ghost use Rattle.rail_base.specs.declared.limits.TheConstants.{MAX_ENTRIES};
     ghost use Rattle.branch_tree.specs.Entries.{AreMultipliers};
 
     ghost Value = { List Entry };
 
     ghost view = { λ a. a.entries.items };
 
-    ghost invariant = { λ a. AreMultipliers a.entries.items × (MOST_ENTRIES ≤ vec_capacity a.entries) };
+    ghost invariant = { λ a. AreMultipliers a.entries.items × (MAX_ENTRIES ≤ vec_capacity a.entries) };
 }
 
 impl Multipliers {
@@ -68,7 +68,7 @@ impl Multipliers {
         ensures { IfOk result (λ multipliers. multipliers ≡ []) }
     {
         Ok(Multipliers {
-            entries: Vec::with_capacity(alloc, MOST_ENTRIES)?,
+            entries: Vec::with_capacity(alloc, MAX_ENTRIES)?,
         })
     }
 
@@ -76,7 +76,7 @@ impl Multipliers {
     pub fn copy(&self, alloc: Global) -> Result<Multipliers, NoMemory>
         ensures { IfOk result (λ multipliers. multipliers ≡ self.now) }
     {
-        let mut entries = Vec::with_capacity(alloc, MOST_ENTRIES)?;
+        let mut entries = Vec::with_capacity(alloc, MAX_ENTRIES)?;
         entries.extend_from_slice(&self.entries)?;
         Ok(Multipliers { entries })
     }
@@ -91,7 +91,7 @@ impl Multipliers {
         ensures refusal { result_err result ≡ refusal_of self.old index value }
         ensures unchanged { OnErr result (self.new ≡ self.old) }
     {
-        if value.unsigned_abs() > MOST_MULTIPLIER {
+        if value.unsigned_abs() > MAX_MULTIPLIER {
             return Err(PutRefusal::TooLarge);
         }
         let place = place_of(&self.entries, index);
@@ -102,7 +102,7 @@ impl Multipliers {
         if value == 0 {
             return Ok(());
         }
-        if self.entries.len() == MOST_ENTRIES {
+        if self.entries.len() == MAX_ENTRIES {
             return Err(PutRefusal::Full);
         }
         enter(&mut self.entries, place, Entry { index, value });

@@ -3,14 +3,14 @@
 ghost use Rattle.std.specs.Prelude.{◌≡◌, ◌<◌, ◌≤◌, ◌↔◌, length, set, IfOk, IsTrue};
 ghost use Rattle.timetable.specs.Admissible.{is_admissible};
 ghost use Rattle.timetable.specs.Compositions.{composition_at};
-ghost use Rattle.branch_tree.specs.Sets.{HasMember, size_of, set_of, kept};
+ghost use Rattle.branch_tree.specs.Sets.{HasMember, size_of, set_of, restricted};
 ghost use Rattle.branch_tree.specs.Regions.{are_in, set_at, has, root_of};
 ghost use Rattle.branch_tree.specs.Cuts.{trip_of, is_on, side_of, IsInRange, IsProper};
 
 use crate::cuts::{Cut, Mark, Side};
 use crate::sets::CompositionSet;
 use compositions::Catalogue;
-use rail_base::limits::{MOST_COMPOSITION, MOST_COMPOSITIONS, MOST_TYPES};
+use rail_base::limits::{MAX_COMPOSITION_UNITS, MAX_COMPOSITIONS, MAX_TYPES};
 use rail_base::{CompNo, NoMemory, TripNo};
 use std::alloc::Global;
 use std::marker::Model;
@@ -75,7 +75,7 @@ impl Region {
     /// the most compositions.
     pub fn has(&self, trip: TripNo, comp: CompNo) -> bool
         requires trip { trip < length self.now }
-        requires comp { comp < MOST_COMPOSITIONS }
+        requires comp { comp < MAX_COMPOSITIONS }
         ensures { result ≡ has self.now trip comp }
     {
         self.sets[trip.place()].has(comp)
@@ -85,7 +85,7 @@ impl Region {
     pub fn size(&self, trip: TripNo) -> u32
         requires { trip < length self.now }
         ensures value { result ≡ size_of (set_at self.now trip) }
-        ensures few { result ≤ MOST_COMPOSITIONS }
+        ensures few { result ≤ MAX_COMPOSITIONS }
     {
         self.sets[trip.place()].size()
     }
@@ -152,7 +152,7 @@ impl Region {
                 unit_type,
                 count,
                 ..
-            } => unit_type.place() < MOST_TYPES && (*count as usize) < MOST_COMPOSITION,
+            } => unit_type.place() < MAX_TYPES && (*count as usize) < MAX_COMPOSITION_UNITS,
         }
     }
 }

@@ -65,12 +65,12 @@ pub trait Relaxation {
     ghost meanings: { Self.Problem → Meanings };
 
     /// What is known of every problem that is worked on.
-    ghost IsAccepted: { Self.Problem → Type 0 };
+    ghost IsWellPosed: { Self.Problem → Type 0 };
 
     /// How many trips there are.
     fn trips(&self) -> u32
         ensures value { result ≡ (meanings (problem self.now)).trips }
-        ensures accepted { IsAccepted (problem self.now) };
+        ensures accepted { IsWellPosed (problem self.now) };
 
     /// How many multiplier indices there are.
     fn indices(&self) -> u32
@@ -120,5 +120,5 @@ pub trait Relaxation {
         ensures slacks { AreSlacks (meanings (problem self.old)) picks.now into.new };
 
     /// An accepted problem is a relaxation of its solutions.
-    ghost relaxes: { (accepted : Self.Problem) → IsAccepted accepted → IsRelaxation (meanings accepted) };
+    ghost relaxes: { (accepted : Self.Problem) → IsWellPosed accepted → IsRelaxation (meanings accepted) };
 }

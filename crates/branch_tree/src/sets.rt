@@ -5,7 +5,7 @@ ghost use Rattle.std.specs.Prelude.{MatchOption};
 ghost use Rattle.branch_tree.specs.Sets.{is_member, set_of, size_of};
 
 use rail_base::CompNo;
-use rail_base::limits::MOST_COMPOSITIONS;
+use rail_base::limits::MAX_COMPOSITIONS;
 use std::marker::Model;
 
 /// The bits of one word.
@@ -52,7 +52,7 @@ impl CompositionSet {
 
     /// Whether a composition is a member. Its number is below that of the most compositions.
     pub fn has(&self, comp: CompNo) -> bool
-        requires { comp < MOST_COMPOSITIONS }
+        requires { comp < MAX_COMPOSITIONS }
         ensures { result ≡ is_member self.now comp }
     {
         let place = comp.place();
@@ -68,7 +68,7 @@ impl CompositionSet {
 
     /// Makes a composition a member. Its number is below that of the most compositions.
     pub fn insert(&mut self, comp: CompNo)
-        requires { comp < MOST_COMPOSITIONS }
+        requires { comp < MAX_COMPOSITIONS }
         ensures { self.new ≡ set self.old comp true }
     {
         let place = comp.place();
@@ -77,7 +77,7 @@ impl CompositionSet {
 
     /// Takes a composition out. Its number is below that of the most compositions.
     pub fn remove(&mut self, comp: CompNo)
-        requires { comp < MOST_COMPOSITIONS }
+        requires { comp < MAX_COMPOSITIONS }
         ensures { self.new ≡ set self.old comp false }
     {
         let place = comp.place();
@@ -87,7 +87,7 @@ impl CompositionSet {
     /// How many members there are.
     pub fn size(&self) -> u32
         ensures value { result ≡ size_of self.now }
-        ensures few { result ≤ MOST_COMPOSITIONS }
+        ensures few { result ≤ MAX_COMPOSITIONS }
     {
         let mut size = 0;
         for comp in 0..self.numbers() {
@@ -113,7 +113,7 @@ impl CompositionSet {
     /// The members as words of 64 bits: composition `p` is bit `p % 64` of word `p / 64`, and every other bit is 0.
     pub fn words(&self) -> &[u64]
         ensures length { length result.now ≡ WORDS }
-        ensures numbers { length self.now ≡ MOST_COMPOSITIONS }
+        ensures numbers { length self.now ≡ MAX_COMPOSITIONS }
         ensures bits { (comp : ℕ) →
             is_member self.now comp
             ≡ (slice_index result.now (comp / WORD_BITS) / 2 ^ (comp % WORD_BITS) % 2 == 1) }
@@ -124,8 +124,8 @@ impl CompositionSet {
     /// For how many numbers of compositions it is kept whether they are members.
     pub(crate) fn numbers(&self) -> u32
         ensures value { result ≡ length self.now }
-        ensures most { result ≡ MOST_COMPOSITIONS }
+        ensures most { result ≡ MAX_COMPOSITIONS }
     {
-        (self.words().len() * WORD_BITS).min(MOST_COMPOSITIONS) as u32
+        (self.words().len() * WORD_BITS).min(MAX_COMPOSITIONS) as u32
     }
 }

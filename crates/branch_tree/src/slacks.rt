@@ -5,7 +5,7 @@ ghost use Rattle.branch_tree.specs.Entries.{AreSlackEntries, IsPastLast};
 
 use crate::multipliers::Entry;
 use rail_base::NoMemory;
-use rail_base::limits::MOST_SLACKS;
+use rail_base::limits::MAX_SLACKS;
 use std::alloc::Global;
 use std::marker::Model;
 
@@ -18,14 +18,14 @@ pub struct Slacks {
 impl Model for Slacks {
     ghost use Rattle.std.specs.Prelude.{List, ◌≤◌, vec_capacity};
     ghost use Rattle.branch_tree.specs.declared.multipliers.Entry.{Entry};
-    ghost use Rattle.rail_base.specs.declared.limits.TheConstants.{MOST_SLACKS};
+    ghost use Rattle.rail_base.specs.declared.limits.TheConstants.{MAX_SLACKS};
     ghost use Rattle.branch_tree.specs.Entries.{AreSlackEntries};
 
     ghost Value = { List Entry };
 
     ghost view = { λ a. a.entries.items };
 
-    ghost invariant = { λ a. AreSlackEntries a.entries.items × (MOST_SLACKS ≤ vec_capacity a.entries) };
+    ghost invariant = { λ a. AreSlackEntries a.entries.items × (MAX_SLACKS ≤ vec_capacity a.entries) };
 }
 
 impl Slacks {
@@ -34,7 +34,7 @@ impl Slacks {
         ensures { IfOk result (λ slacks. slacks ≡ []) }
     {
         Ok(Slacks {
-            entries: Vec::with_capacity(alloc, MOST_SLACKS)?,
+            entries: Vec::with_capacity(alloc, MAX_SLACKS)?,
         })
     }
 
@@ -48,7 +48,7 @@ impl Slacks {
     /// Adds a slack other than 0 at the end, behind those of lower indices, of which fewer than 4,000 are there. It
     /// takes no memory.
     pub fn put(&mut self, entry: Entry)
-        requires room { length self.old < MOST_SLACKS }
+        requires room { length self.old < MAX_SLACKS }
         requires rising { IsPastLast self.old entry.index }
         requires value { entry.value ≢ pos 0 }
         ensures { self.new ≡ self.old ++ entry ∷ [] }

@@ -8,7 +8,7 @@ ghost use Rattle.branch_tree.specs.Trees.{multipliers_of};
 
 use crate::cuts::Cut;
 use crate::multipliers::Multipliers;
-use rail_base::limits::MOST_NODES;
+use rail_base::limits::MAX_NODES;
 use rail_base::{Money, NoMemory, NodeNo};
 use std::alloc::Global;
 use std::marker::Model;
@@ -77,13 +77,13 @@ pub struct Tree {
 impl Model for Tree {
     ghost use Rattle.std.specs.Prelude.{List, length, ◌≤◌};
     ghost use Rattle.branch_tree.specs.declared.tree.Node.{Node};
-    ghost use Rattle.rail_base.specs.declared.limits.TheConstants.{MOST_NODES};
+    ghost use Rattle.rail_base.specs.declared.limits.TheConstants.{MAX_NODES};
 
     ghost Value = { List Node };
 
     ghost view = { λ a. a.nodes.items };
 
-    ghost invariant = { λ a. length a.nodes.items ≤ MOST_NODES };
+    ghost invariant = { λ a. length a.nodes.items ≤ MAX_NODES };
 }
 
 impl Tree {
@@ -98,7 +98,7 @@ impl Tree {
 
     /// Adds a node at the end; fewer than 8,001 are there. On `NoMemory` the tree is as before.
     pub fn push(&mut self, node: Node) -> Result<(), NoMemory>
-        requires { length self.old < MOST_NODES }
+        requires { length self.old < MAX_NODES }
         ensures pushed { OnOk result (self.new ≡ self.old ++ node ∷ []) }
         ensures unchanged { OnErr result (self.new ≡ self.old) }
     {
@@ -109,7 +109,7 @@ impl Tree {
     /// How many nodes there are.
     pub fn len(&self) -> u32
         ensures value { result ≡ length self.now }
-        ensures few { result ≤ MOST_NODES }
+        ensures few { result ≤ MAX_NODES }
     {
         self.nodes.len() as u32
     }

@@ -1,14 +1,14 @@
 -- Rows that were read so far, and what comes of the next one.
 use Rattle.std.proofs.Common.{◌≡◌, ℕ, ◌+◌, ◌≤◌, List, [], ◌∷◌, ◌++◌, length, refl, sym, ap, subst, ◌∙◌, arith, append_assoc, append-nil}
 use Rattle.std.proofs.Common.{length-append}
-use Rattle.rail_base.specs.declared.limits.TheConstants.{MOST_TABLE_BYTES}
+use Rattle.rail_base.specs.declared.limits.TheConstants.{MAX_TABLE_BYTES}
 use Rattle.rail_csv.specs.Records.{Records, ReadsOn, records_left}
 use Rattle.rail_csv.specs.Tables.{records_of}
 use Rattle.timetable.specs.Day.{Day}
 use Rattle.cancellations.specs.declared.cancelling.CancelRefusal.{CancelRefusal}
 use Rattle.cancellations.specs.declared.cancelling.CancelRefusal.TheVariants.{WrongHeader, BadRow, NoMemory}
-use Rattle.cancellations.specs.Cancellations.{CancelAll, CancelEach, IsRefused, header}
-use Rattle.cancellations.specs.ReadRows.{AreRefused, HasNoMore, HasOneMore, IsNextRefused}
+use Rattle.cancellations.specs.Cancellations.{CancelAll, CancelEach, IsCancelRefusal, header}
+use Rattle.cancellations.specs.ReadRows.{IsRowsRefusal, HasNoMore, HasOneMore, IsNextRowRefusal}
 use Rattle.cancellations.proofs.Reading.{few_records}
 use Rattle.cancellations.proofs.Rows.{more_cancel, none_cancel}
 
@@ -48,7 +48,7 @@ module _ (day : Day) (minute : ℕ) where
         subst (λ (rs : Rows). CancelEach day minute rs same) (sym whole) (subst (CancelEach day minute so.front) (sym none.items) so.right)
 
     pub next_refused : (before : Records) (trips : List ℕ) (why : CancelRefusal) → ReadSoFar day minute rows before trips
-        → IsNextRefused day minute trips (records_left before) why → AreRefused day minute rows why
+        → IsNextRowRefusal day minute trips (records_left before) why → IsRowsRefusal day minute rows why
     next_refused before trips WrongHeader so wrong = wrong
     next_refused before trips (BadRow row) so wrong = record {
       before = so.front;
@@ -63,20 +63,20 @@ module _ (day : Day) (minute : ℕ) where
     next_refused before trips NoMemory so wrong = wrong
 
     -- the trips so far and the rows that are left are as many as the rows
-    pub few_left : (before : Records) (trips : List ℕ) → ReadSoFar day minute rows before trips → length rows ≤ MOST_TABLE_BYTES
-        → length trips + length (records_left before) ≤ MOST_TABLE_BYTES
+    pub few_left : (before : Records) (trips : List ℕ) → ReadSoFar day minute rows before trips → length rows ≤ MAX_TABLE_BYTES
+        → length trips + length (records_left before) ≤ MAX_TABLE_BYTES
     few_left before trips so few =
         let all : length rows ≡ length so.front + length (records_left before) = ap length so.whole ∙ length-append so.front (records_left before) in
         omega (arith, all, so.right.count, few)
 
   module _ (bytes : List ℕ) (rows : Rows) (under : records_of bytes ≡ header ∷ rows) where
-    pub few_under : length bytes ≤ MOST_TABLE_BYTES → length rows ≤ MOST_TABLE_BYTES
+    pub few_under : length bytes ≤ MAX_TABLE_BYTES → length rows ≤ MAX_TABLE_BYTES
     few_under small = omega (arith, ap length under, few_records bytes, small)
 
     pub all_cancel : (trips : List ℕ) → CancelEach day minute rows trips → CancelAll day minute (records_of bytes) trips
     all_cancel trips each = record { rows = rows; under_header = under; rows_cancel = each }
 
-    pub all_refused : (why : CancelRefusal) → AreRefused day minute rows why → IsRefused day minute (records_of bytes) why
+    pub all_refused : (why : CancelRefusal) → IsRowsRefusal day minute rows why → IsCancelRefusal day minute (records_of bytes) why
     all_refused WrongHeader wrong = absurd wrong
     all_refused (BadRow row) wrong = (rows, under, wrong)
     all_refused NoMemory wrong = wrong

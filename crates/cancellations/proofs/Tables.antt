@@ -6,7 +6,7 @@ use Rattle.timetable.specs.Accepted.{HaveNames}
 use Rattle.timetable.specs.Day.{Day}
 use Rattle.cancellations.specs.declared.cancelling.CancelRefusal.{CancelRefusal}
 use Rattle.cancellations.specs.declared.cancelling.CancelRefusal.TheVariants.{WrongHeader, BadRow, NoMemory}
-use Rattle.cancellations.specs.Cancellations.{CancelAll, CancelEach, IsFirstWrong, IsRefused, header}
+use Rattle.cancellations.specs.Cancellations.{CancelAll, CancelEach, IsFirstWrong, IsCancelRefusal, header}
 use Rattle.cancellations.specs.Laws.{TablesAreDecided}
 use Rattle.cancellations.proofs.Rows.{none_further, one_list}
 
@@ -44,15 +44,15 @@ module _ (day : Day) (minute : ℕ) (names : HaveNames day) where
         let same : b.rows ≡ a.rows = one_table records b.rows a.rows b.under_header a.under_header in
         one_list day minute names a.rows some others a.rows_cancel (subst (λ (rows : Rows). CancelEach day minute rows others) same b.rows_cancel)
 
-    refused : (trips : List ℕ) (refusal : CancelRefusal) → CancelAll day minute records trips → IsRefused day minute records refusal → refusal ≡ NoMemory
+    refused : (trips : List ℕ) (refusal : CancelRefusal) → CancelAll day minute records trips → IsCancelRefusal day minute records refusal → refusal ≡ NoMemory
     refused trips WrongHeader all why = absurd (why all.rows all.under_header)
     refused trips (BadRow row) all why =
         let same : why.0 ≡ all.rows = one_table records why.0 all.rows why.1 all.under_header in
         absurd (cancels_or_not all.rows row trips (subst (λ (rows : Rows). IsFirstWrong day minute rows row) same why.2) all.rows_cancel)
     refused trips NoMemory all why = refl
 
-    one_refusal : (some other : CancelRefusal) → some ≢ NoMemory → other ≢ NoMemory → IsRefused day minute records some
-        → IsRefused day minute records other → some ≡ other
+    one_refusal : (some other : CancelRefusal) → some ≢ NoMemory → other ≢ NoMemory → IsCancelRefusal day minute records some
+        → IsCancelRefusal day minute records other → some ≡ other
     one_refusal WrongHeader WrongHeader n m a b = refl
     one_refusal WrongHeader (BadRow row) n m a b = absurd (a b.0 b.1)
     one_refusal WrongHeader NoMemory n m a b = absurd (m refl)

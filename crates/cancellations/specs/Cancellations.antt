@@ -66,8 +66,8 @@ pub record IsFirstWrong (day : Day) (minute : ℕ) (rows : List (List (List ℕ)
   pub wrong : (t : ℕ) → Cancels day minute trips fields t → ⊥
 
 -- why a table is refused, but for want of memory: it has no header, or a row is the first that is wrong
-abbrev pub IsRefused : Day → ℕ → List (List (List ℕ)) → CancelRefusal → Type 0
-IsRefused day minute records WrongHeader = (rows : List (List (List ℕ))) → records ≡ header ∷ rows → ⊥
-IsRefused day minute records (BadRow row) =
+abbrev pub IsCancelRefusal : Day → ℕ → List (List (List ℕ)) → CancelRefusal → Type 0
+IsCancelRefusal day minute records WrongHeader = (rows : List (List (List ℕ))) → records ≡ header ∷ rows → ⊥
+IsCancelRefusal day minute records (BadRow row) =
     (rows : List (List (List ℕ))) × (records ≡ header ∷ rows) × IsFirstWrong day minute rows row
-IsRefused day minute records NoMemory = ⊤
+IsCancelRefusal day minute records NoMemory = ⊤

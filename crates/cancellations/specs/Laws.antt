@@ -4,7 +4,7 @@ use Rattle.timetable.specs.Accepted.{HaveNames}
 use Rattle.timetable.specs.Day.{Day}
 use Rattle.cancellations.specs.declared.cancelling.CancelRefusal.{CancelRefusal}
 use Rattle.cancellations.specs.declared.cancelling.CancelRefusal.TheVariants.{NoMemory}
-use Rattle.cancellations.specs.Cancellations.{CancelAll, IsRefused}
+use Rattle.cancellations.specs.Cancellations.{CancelAll, IsCancelRefusal}
 
 -- records cancel at most one list of trips, and are then refused for nothing; and they are refused for at most one
 -- thing, but for want of memory
@@ -12,9 +12,9 @@ pub record IsDecided (day : Day) (minute : ℕ) (records : List (List (List ℕ)
   pub one : (some others : List ℕ) → CancelAll day minute records some → CancelAll day minute records others
       → some ≡ others
   pub refused : (trips : List ℕ) (refusal : CancelRefusal) → CancelAll day minute records trips
-      → IsRefused day minute records refusal → refusal ≡ NoMemory
+      → IsCancelRefusal day minute records refusal → refusal ≡ NoMemory
   pub one_refusal : (some other : CancelRefusal) → some ≢ NoMemory → other ≢ NoMemory
-      → IsRefused day minute records some → IsRefused day minute records other → some ≡ other
+      → IsCancelRefusal day minute records some → IsCancelRefusal day minute records other → some ≡ other
 
 abbrev pub TablesAreDecided : Type 0
 TablesAreDecided =

@@ -28,13 +28,13 @@ pub record IsNextWrong (day : Day) (minute : ℕ) (trips : List ℕ) (left : Lis
   pub number : row ≡ length trips + 1
   pub wrong : (t : ℕ) → Cancels day minute trips fields t → ⊥
 
-abbrev pub IsNextRefused : Day → ℕ → List ℕ → List (List (List ℕ)) → CancelRefusal → Type 0
-IsNextRefused day minute trips left WrongHeader = ⊥
-IsNextRefused day minute trips left (BadRow row) = IsNextWrong day minute trips left row
-IsNextRefused day minute trips left NoMemory = ⊤
+abbrev pub IsNextRowRefusal : Day → ℕ → List ℕ → List (List (List ℕ)) → CancelRefusal → Type 0
+IsNextRowRefusal day minute trips left WrongHeader = ⊥
+IsNextRowRefusal day minute trips left (BadRow row) = IsNextWrong day minute trips left row
+IsNextRowRefusal day minute trips left NoMemory = ⊤
 
 -- why rows are refused
-abbrev pub AreRefused : Day → ℕ → List (List (List ℕ)) → CancelRefusal → Type 0
-AreRefused day minute rows WrongHeader = ⊥
-AreRefused day minute rows (BadRow row) = IsFirstWrong day minute rows row
-AreRefused day minute rows NoMemory = ⊤
+abbrev pub IsRowsRefusal : Day → ℕ → List (List (List ℕ)) → CancelRefusal → Type 0
+IsRowsRefusal day minute rows WrongHeader = ⊥
+IsRowsRefusal day minute rows (BadRow row) = IsFirstWrong day minute rows row
+IsRowsRefusal day minute rows NoMemory = ⊤

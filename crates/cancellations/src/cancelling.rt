@@ -1,13 +1,13 @@
 //! The table of the trips that are cancelled: its header, and a row for each trip, which names it.
 
 ghost use Rattle.std.specs.Prelude.{ℕ, ◌≡◌, ◌≤◌, ◌<◌, ◌+◌, ◌↔◌, length, IfOk, IfErr, IfSome, IfNone, IsTrue, MatchBool};
-ghost use Rattle.rail_base.specs.declared.limits.TheConstants.{MOST_TABLE_BYTES};
+ghost use Rattle.rail_base.specs.declared.limits.TheConstants.{MAX_TABLE_BYTES};
 ghost use Rattle.csv.specs.Records.{fields_of};
 ghost use Rattle.rail_csv.specs.Records.{ReadsOn, records_left};
 ghost use Rattle.rail_csv.specs.Tables.{records_of};
-ghost use Rattle.cancellations.specs.Cancellations.{AreCancellable, CancelAll, CancelEach, Cancels, IsRefused};
+ghost use Rattle.cancellations.specs.Cancellations.{AreCancellable, CancelAll, CancelEach, Cancels, IsCancelRefusal};
 ghost use Rattle.cancellations.specs.Cancellations.{MayBeCancelled};
-ghost use Rattle.cancellations.specs.ReadRows.{AreRefused, HasNoMore, HasOneMore, IsNextRefused};
+ghost use Rattle.cancellations.specs.ReadRows.{IsRowsRefusal, HasNoMore, HasOneMore, IsNextRowRefusal};
 
 use crate::past::{has_any_left, has_left};
 use csv::{ByteRecord, ByteRecordsIntoIter};
@@ -80,7 +80,7 @@ impl<T: Drop> From<AllocFailed<T>> for CancelRefusal {
     }
 }
 
-/// The trips that a table cancels at a minute of a day: the bytes of `cancelled.csv`, at most `MOST_TABLE_BYTES` of
+/// The trips that a table cancels at a minute of a day: the bytes of `cancelled.csv`, at most `MAX_TABLE_BYTES` of
 /// them. A byte order mark at the front is dropped once, and empty lines are no records.
 ///
 /// - `WrongHeader`: there is no first record, or it is not the one word `trip`.
@@ -96,10 +96,10 @@ pub fn read_cancelled(
     now: Minute,
     bytes: &[u8],
 ) -> Result<Cancelled, CancelRefusal>
-    requires { length bytes.now ≤ MOST_TABLE_BYTES }
+    requires { length bytes.now ≤ MAX_TABLE_BYTES }
     ensures cancelled { IfOk result (CancelAll instance.now now (records_of bytes.now)) }
     ensures cancellable { IfOk result (AreCancellable instance.now now) }
-    ensures refused { IfErr result (IsRefused instance.now now (records_of bytes.now)) }
+    ensures refused { IfErr result (IsCancelRefusal instance.now now (records_of bytes.now)) }
 {
     let mut records = records_in(alloc, bytes);
     let Some(header) = next_record(&mut records)? else {
@@ -120,9 +120,9 @@ fn read_rows(
     records: &mut ByteRecordsIntoIter<&[u8]>,
 ) -> Result<Vec<TripNo>, CancelRefusal>
     requires reads { ReadsOn records.old }
-    requires few { length (records_left records.old) ≤ MOST_TABLE_BYTES }
+    requires few { length (records_left records.old) ≤ MAX_TABLE_BYTES }
     ensures ok { IfOk result (λ trips. CancelEach instance.now now (records_left records.old) trips.items) }
-    ensures err { IfErr result (AreRefused instance.now now (records_left records.old)) }
+    ensures err { IfErr result (IsRowsRefusal instance.now now (records_left records.old)) }
 {
     let mut trips = Vec::new(alloc);
     while read_next(instance, now, records, &mut trips)? {}
@@ -137,11 +137,11 @@ fn read_next(
     trips: &mut Vec<TripNo>,
 ) -> Result<bool, CancelRefusal>
     requires reads { ReadsOn records.old }
-    requires few { length trips.old.items + length (records_left records.old) ≤ MOST_TABLE_BYTES }
+    requires few { length trips.old.items + length (records_left records.old) ≤ MAX_TABLE_BYTES }
     ensures ok { IfOk result (λ more. MatchBool more
         (HasOneMore instance.now now trips.old.items trips.new.items records.old records.new)
         (HasNoMore trips.old.items trips.new.items records.old)) }
-    ensures err { IfErr result (IsNextRefused instance.now now trips.old.items (records_left records.old)) }
+    ensures err { IfErr result (IsNextRowRefusal instance.now now trips.old.items (records_left records.old)) }
 {
     let Some(row) = next_record(records)? else {
         return Ok(false);

@@ -11,7 +11,7 @@ use rail_csv::TableBytes;
 use std::alloc::Global;
 use timetable::Instance;
 
-/// The day without the cancelled trips. The bytes are those of the tables that made the day, at most `MOST_TABLE_BYTES`
+/// The day without the cancelled trips. The bytes are those of the tables that made the day, at most `MAX_TABLE_BYTES`
 /// of each. The error is want of memory.
 pub fn later(
     alloc: Global,

@@ -11,7 +11,7 @@ use Rattle.branch_tree.specs.declared.relaxation.Weight.TheVariants.{Cost, NoCos
 use Rattle.branch_tree.specs.declared.tree.Node.{Node}
 use Rattle.branch_tree.specs.declared.tree.Node.TheVariants.{Branch, CostLeaf, RayLeaf, EmptyLeaf}
 use Rattle.branch_tree.specs.Bounds.{IsChainValue}
-use Rattle.branch_tree.specs.Claims.{Conclusion, optimal, infeasible, bounded, bounded_plan, Priced, plan_of, said_by}
+use Rattle.branch_tree.specs.Claims.{Conclusion, optimal, infeasible, bounded, bounded_plan, CostedPicks, concluded_plan, said_by}
 use Rattle.branch_tree.specs.Claims.{IsPlanIn, IsRay, IsProvedAt, IsProvedClaim, DoBound}
 use Rattle.branch_tree.specs.Meanings.{Meanings, IsRelaxation}
 use Rattle.branch_tree.specs.Trees.{Covers, IsLeast, IsLeastOf, IsWhole, Walks, branchings_of, bounds_of, cut_of, nodes_in, regions_below}
@@ -68,7 +68,7 @@ none_from problem number (region ∷ regions) (node ∷ nodes) walks =
 
 -- ---- picks
 
-pub none_plan : (problem : Meanings) → IsRelaxation problem → (root : List (List Bool)) (plan : Option Priced) → MatchOption plan (Unit {0}) (IsPlanIn problem root) →
+pub none_plan : (problem : Meanings) → IsRelaxation problem → (root : List (List Bool)) (plan : Option CostedPicks) → MatchOption plan (Unit {0}) (IsPlanIn problem root) →
     NoneFails (plan_tests problem root plan)
 none_plan problem relaxation root None is = tt
 none_plan problem relaxation root (Some plan) is = (
@@ -127,7 +127,7 @@ pub record Proves (problem : Meanings) (root : List (List Bool)) (claim : Claim)
   pub whole : IsWhole claim.tree.now
   pub branchings : branchings_of claim.tree.now ≡ claim.branchings
   pub nodes : Covers problem.catalogue (IsProvedAt problem) root claim.tree.now
-  pub plan : MatchOption (plan_of (said_by claim.head)) (Unit {0}) (IsPlanIn problem root)
+  pub plan : MatchOption (concluded_plan (said_by claim.head)) (Unit {0}) (IsPlanIn problem root)
   pub said : DoBound (bounds_of claim.tree.now) (said_by claim.head)
 
 pub is_proved : (problem : Meanings) (root : List (List Bool)) (claim : Claim) → Proves problem root claim → IsProvedClaim problem root claim
@@ -162,9 +162,9 @@ none_fails problem relaxation root claim proved =
     let proves : Proves problem root claim = does_prove problem root claim proved in
     let said = said_by claim.head in
     none_append (IsMisshapen claim.tree.now ∷ HasOtherBranchings claim.branchings claim.tree.now ∷ [])
-    (tests_from problem 0 (nodes_in cut_of problem.catalogue (root ∷ []) claim.tree.now) ++ (plan_tests problem root (plan_of said) ++ head_tests said claim.tree.now))
+    (tests_from problem 0 (nodes_in cut_of problem.catalogue (root ∷ []) claim.tree.now) ++ (plan_tests problem root (concluded_plan said) ++ head_tests said claim.tree.now))
     (list_passes claim proves.whole proves.branchings)
-    (none_append (tests_from problem 0 (nodes_in cut_of problem.catalogue (root ∷ []) claim.tree.now)) (plan_tests problem root (plan_of said) ++ head_tests said claim.tree.now)
+    (none_append (tests_from problem 0 (nodes_in cut_of problem.catalogue (root ∷ []) claim.tree.now)) (plan_tests problem root (concluded_plan said) ++ head_tests said claim.tree.now)
     (none_from problem 0 (root ∷ []) claim.tree.now proves.nodes)
-    (none_append (plan_tests problem root (plan_of said)) (head_tests said claim.tree.now)
-    (none_plan problem relaxation root (plan_of said) proves.plan) (none_said said claim.tree.now proves.said)))
+    (none_append (plan_tests problem root (concluded_plan said)) (head_tests said claim.tree.now)
+    (none_plan problem relaxation root (concluded_plan said) proves.plan) (none_said said claim.tree.now proves.said)))

@@ -11,7 +11,7 @@ use Rattle.branch_tree.specs.declared.relaxation.Weight.{Weight}
 use Rattle.branch_tree.specs.declared.relaxation.Weight.TheVariants.{Cost, NoCost}
 use Rattle.branch_tree.specs.declared.tree.Node.{Node}
 use Rattle.branch_tree.specs.declared.tree.Node.TheVariants.{Branch, CostLeaf, RayLeaf, EmptyLeaf}
-use Rattle.branch_tree.specs.Claims.{Conclusion, optimal, infeasible, bounded, bounded_plan, Priced, plan_of, said_by}
+use Rattle.branch_tree.specs.Claims.{Conclusion, optimal, infeasible, bounded, bounded_plan, CostedPicks, concluded_plan, said_by}
 use Rattle.branch_tree.specs.Meanings.{Meanings}
 use Rattle.branch_tree.specs.Trees.{IsLeastOf, IsWhole, bounds_of, cut_of, nodes_in}
 use Rattle.branch_tree.proofs.Duality.{chain_values_are_one}
@@ -96,7 +96,7 @@ one_from problem number (at ∷ rest) = are_one-append (node_tests problem numbe
 
 -- ---- picks, and what is said
 
-one_plan : (problem : Meanings) (root : List (List Bool)) (plan : Option Priced) → AreOne (plan_tests problem root plan)
+one_plan : (problem : Meanings) (root : List (List Bool)) (plan : Option CostedPicks) → AreOne (plan_tests problem root plan)
 one_plan problem root None = tt
 one_plan problem root (Some plan) = ((λ one other a b. a.0 ∙ sym b.0), ((λ one other a b. a.0 ∙ sym b.0), tt))
 
@@ -130,9 +130,9 @@ one_claim problem root claim =
       one_shape claim.tree.now,
       (
         (λ one other a b. a.0 ∙ sym b.0),
-        are_one-append (tests_from problem 0 (nodes_in cut_of problem.catalogue (root ∷ []) claim.tree.now)) (plan_tests problem root (plan_of said) ++ head_tests said claim.tree.now)
+        are_one-append (tests_from problem 0 (nodes_in cut_of problem.catalogue (root ∷ []) claim.tree.now)) (plan_tests problem root (concluded_plan said) ++ head_tests said claim.tree.now)
             (one_from problem 0 (nodes_in cut_of problem.catalogue (root ∷ []) claim.tree.now))
-            (are_one-append (plan_tests problem root (plan_of said)) (head_tests said claim.tree.now) (one_plan problem root (plan_of said)) (one_head said claim.tree.now)),
+            (are_one-append (plan_tests problem root (concluded_plan said)) (head_tests said claim.tree.now) (one_plan problem root (concluded_plan said)) (one_head said claim.tree.now)),
       ),
     )
 

@@ -10,7 +10,8 @@ use Rattle.branch_tree.specs.declared.relaxation.Weight.TheVariants.{Cost, NoCos
 use Rattle.branch_tree.specs.declared.tree.Node.{Node}
 use Rattle.branch_tree.specs.declared.tree.Node.TheVariants.{Branch, CostLeaf, RayLeaf, EmptyLeaf}
 use Rattle.branch_tree.specs.Bounds.{IsEmpty, IsChainValue}
-use Rattle.branch_tree.specs.Claims.{Conclusion, optimal, infeasible, bounded, bounded_plan, Priced, plan_of, said_by}
+use Rattle.branch_tree.specs.Claims.{Conclusion, optimal, infeasible, bounded, bounded_plan, CostedPicks}
+use Rattle.branch_tree.specs.Claims.{concluded_plan, said_by}
 use Rattle.branch_tree.specs.Cuts.{IsProper}
 use Rattle.branch_tree.specs.Meanings.{Meanings, DoFitFor}
 use Rattle.branch_tree.specs.Regions.{are_in}
@@ -94,20 +95,20 @@ tests_from problem number (placed ∷ rest) =
 -- ---- the claim's picks
 
 -- the picks are outside the root, do not follow, or are no solution
-abbrev pub DoPicksFail : Meanings → List (List Bool) → Priced → Reason → Type 0
+abbrev pub DoPicksFail : Meanings → List (List Bool) → CostedPicks → Reason → Type 0
 DoPicksFail problem root plan reason = (reason ≡ PicksFail) ×
     ((¬ IsTrue (are_in plan.picks root)) ⊎ ((¬ problem.Follow plan.picks) ⊎ (¬ problem.IsSolution plan.picks)))
 
 -- the picks have another cost than is said
-abbrev pub HasOtherCost : Meanings → Priced → Reason → Type 0
+abbrev pub HasOtherCost : Meanings → CostedPicks → Reason → Type 0
 HasOtherCost problem plan reason =
     (reason ≡ CostDiffers (money plan.cost) (money (problem.cost plan.picks))) × (plan.cost ≢ problem.cost plan.picks)
 
 -- picks with the cost that is said
-abbrev pub priced_at : Money → List ℕ → Priced
+abbrev pub priced_at : Money → List ℕ → CostedPicks
 priced_at cost picks = record { cost = cost.0; picks = picks }
 
-abbrev pub plan_tests : Meanings → List (List Bool) → Option Priced → List Test
+abbrev pub plan_tests : Meanings → List (List Bool) → Option CostedPicks → List Test
 plan_tests problem root None = []
 plan_tests problem root (Some plan) = DoPicksFail problem root plan ∷ HasOtherCost problem plan ∷ []
 
@@ -146,4 +147,4 @@ abbrev pub claim_tests : Meanings → List (List Bool) → Claim → List Test
 claim_tests problem root claim =
     (IsMisshapen claim.tree.now ∷ HasOtherBranchings claim.branchings claim.tree.now ∷ []) ++
     (tests_from problem 0 (nodes_in cut_of problem.catalogue (root ∷ []) claim.tree.now) ++
-    (plan_tests problem root (plan_of (said_by claim.head)) ++ head_tests (said_by claim.head) claim.tree.now))
+    (plan_tests problem root (concluded_plan (said_by claim.head)) ++ head_tests (said_by claim.head) claim.tree.now))

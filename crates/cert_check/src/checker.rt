@@ -1,7 +1,7 @@
 //! The checker of claims.
 
 ghost use Rattle.std.specs.Prelude.{◌≡◌, ◌≤◌, [], length, vec_capacity, IfOk, IfErr};
-ghost use Rattle.rail_base.specs.declared.limits.TheConstants.{MOST_NODES};
+ghost use Rattle.rail_base.specs.declared.limits.TheConstants.{MAX_NODES};
 ghost use Rattle.branch_tree.specs.Claims.{IsConcluded, IsProvedClaim, said_by};
 ghost use Rattle.branch_tree.specs.Regions.{IsOver};
 ghost use Rattle.cert_check.specs.Reasons.{claim_tests};
@@ -10,7 +10,7 @@ ghost use Rattle.cert_check.specs.Verdicts.{IsVerdict};
 
 use crate::heads::{test_head, test_picks};
 use crate::nodes::test_nodes;
-use crate::path::Taken;
+use crate::path::TakenSide;
 use crate::shape::{test_branchings, test_shape};
 use crate::verdict::{Reason, Verdict};
 use branch_tree::{Claim, Multipliers, Region, Relaxation};
@@ -23,7 +23,7 @@ use timetable::Picks;
 #[derive(Drop)]
 pub struct Checker {
     nodes: u32,
-    taken: Vec<Taken>,
+    taken: Vec<TakenSide>,
     best: Picks,
     no_multipliers: Multipliers,
 }
@@ -43,7 +43,7 @@ impl Checker {
     /// A checker for trees of at most so many nodes, which are at most 8,001, and problems of so many trips. It takes
     /// all the memory that a check needs; the error is want of it.
     pub fn new(alloc: Global, nodes: u32, trips: u32) -> Result<Checker, NoMemory>
-        requires { nodes ≤ MOST_NODES }
+        requires { nodes ≤ MAX_NODES }
         ensures nodes { IfOk result (λ checker. checker.nodes ≡ nodes) }
         ensures trips { IfOk result (λ checker. checker.trips ≡ trips) }
     {
@@ -123,12 +123,12 @@ fn test_claim<R: Relaxation>(
     problem: &mut R,
     root: &mut Region,
     claim: &Claim<'_>,
-    taken: &mut Vec<Taken>,
+    taken: &mut Vec<TakenSide>,
     best: &mut Picks,
     no_multipliers: &Multipliers,
 ) -> Result<(), Reason>
     // A tree for which there is room, and a set and a pick for each trip.
-    requires accepted { R.IsAccepted (R.problem problem.old) }
+    requires accepted { R.IsWellPosed (R.problem problem.old) }
     requires room { length claim.now.tree.now ≤ vec_capacity taken.old }
     requires root { length root.old ≡ (R.meanings (R.problem problem.old)).trips }
     requires best { length best.old ≡ (R.meanings (R.problem problem.old)).trips }

@@ -2,7 +2,7 @@
 
 ghost use Rattle.std.specs.Prelude.{◌≡◌, ◌≢◌, ◌↔◌, length, All, ◌≤ℤ◌, ◌<ℤ◌, int_lt, [], IsTrue, IfOk, IfErr};
 ghost use Rattle.std.specs.Prelude.{MatchOption, Some};
-ghost use Rattle.branch_tree.specs.Claims.{DoBound, IsPlanIn, plan_of, said_by};
+ghost use Rattle.branch_tree.specs.Claims.{DoBound, IsPlanIn, concluded_plan, said_by};
 ghost use Rattle.branch_tree.specs.Trees.{IsLeast, bounds_of};
 ghost use Rattle.cert_check.specs.Reasons.{HasOtherLeast, IsBelowCost, IsLeft, head_tests, leaf_tests};
 ghost use Rattle.cert_check.specs.Reasons.{plan_tests, priced_at};
@@ -21,10 +21,10 @@ pub fn test_picks<R: Relaxation>(
     head: &ClaimHead<'_>,
 ) -> Result<(), Reason>
     requires { length root.now ≡ (R.meanings (R.problem problem.old)).trips }
-    ensures passed { IfOk result (λ _. MatchOption (plan_of (said_by head.now)) (Unit {0})
+    ensures passed { IfOk result (λ _. MatchOption (concluded_plan (said_by head.now)) (Unit {0})
         (IsPlanIn (R.meanings (R.problem problem.old)) root.now)) }
     ensures reason { IfErr result (FirstFails
-        (plan_tests (R.meanings (R.problem problem.old)) root.now (plan_of (said_by head.now)))) }
+        (plan_tests (R.meanings (R.problem problem.old)) root.now (concluded_plan (said_by head.now)))) }
     ensures problem { R.problem problem.new ≡ R.problem problem.old }
 {
     match head {

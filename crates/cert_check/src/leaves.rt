@@ -26,7 +26,7 @@ pub fn test_node<R: Relaxation>(
     no_multipliers: &Multipliers,
 ) -> Result<(), Reason>
     // A problem, and a set and a pick for each of its trips.
-    requires accepted { R.IsAccepted (R.problem problem.old) }
+    requires accepted { R.IsWellPosed (R.problem problem.old) }
     requires region { length region.now ≡ (R.meanings (R.problem problem.old)).trips }
     requires best { length best.old ≡ (R.meanings (R.problem problem.old)).trips }
     requires none { no_multipliers.now ≡ [] }
@@ -75,7 +75,7 @@ fn test_bound<R: Relaxation>(
     best: &mut Picks,
 ) -> Result<(), Reason>
     // A problem, and a set and a pick for each of its trips.
-    requires accepted { R.IsAccepted (R.problem problem.old) }
+    requires accepted { R.IsWellPosed (R.problem problem.old) }
     requires region { length region.now ≡ (R.meanings (R.problem problem.old)).trips }
     requires best { length best.old ≡ (R.meanings (R.problem problem.old)).trips }
     // What is found.
@@ -114,7 +114,7 @@ fn test_ray<R: Relaxation>(
     best: &mut Picks,
 ) -> Result<(), Reason>
     // A problem, and a set and a pick for each of its trips.
-    requires accepted { R.IsAccepted (R.problem problem.old) }
+    requires accepted { R.IsWellPosed (R.problem problem.old) }
     requires region { length region.now ≡ (R.meanings (R.problem problem.old)).trips }
     requires best { length best.old ≡ (R.meanings (R.problem problem.old)).trips }
     // What is found.
@@ -150,7 +150,7 @@ fn test_empty<R: Relaxation>(
     no_multipliers: &Multipliers,
 ) -> Result<(), Reason>
     // A problem, and a set and a pick for each of its trips.
-    requires accepted { R.IsAccepted (R.problem problem.old) }
+    requires accepted { R.IsWellPosed (R.problem problem.old) }
     requires region { length region.now ≡ (R.meanings (R.problem problem.old)).trips }
     requires best { length best.old ≡ (R.meanings (R.problem problem.old)).trips }
     requires none { no_multipliers.now ≡ [] }
@@ -176,7 +176,7 @@ fn find<R: Relaxation>(
     best: &mut Picks,
 ) -> Option<Money>
     // A problem, and a set and a pick for each of its trips.
-    requires accepted { R.IsAccepted (R.problem problem.old) }
+    requires accepted { R.IsWellPosed (R.problem problem.old) }
     requires fit { DoFitFor (R.meanings (R.problem problem.old)) multipliers.now }
     requires region { length region.now ≡ (R.meanings (R.problem problem.old)).trips }
     requires best { length best.old ≡ (R.meanings (R.problem problem.old)).trips }

@@ -7,7 +7,7 @@ ghost use Rattle.cert_check.specs.Reasons.{tests_from};
 ghost use Rattle.cert_check.specs.Tests.{FirstFails};
 
 use crate::leaves::test_node;
-use crate::path::{Taken, go_back, go_on};
+use crate::path::{TakenSide, go_back, go_on};
 use crate::verdict::Reason;
 use branch_tree::{Multipliers, Region, Relaxation, Tree};
 use rail_base::NodeNo;
@@ -19,12 +19,12 @@ pub fn test_nodes<R: Relaxation>(
     problem: &mut R,
     root: &mut Region,
     tree: &Tree,
-    taken: &mut Vec<Taken>,
+    taken: &mut Vec<TakenSide>,
     best: &mut Picks,
     no_multipliers: &Multipliers,
 ) -> Result<(), Reason>
     // A whole tree for which there is room, and a set and a pick for each trip.
-    requires accepted { R.IsAccepted (R.problem problem.old) }
+    requires accepted { R.IsWellPosed (R.problem problem.old) }
     requires whole { IsWhole tree.now }
     requires room { length tree.now ≤ vec_capacity taken.old }
     requires root { length root.old ≡ (R.meanings (R.problem problem.old)).trips }

@@ -11,7 +11,7 @@ use compositions::Catalogue;
 
 /// A side of a cut that was taken.
 #[derive(Drop)]
-pub struct Taken {
+pub struct TakenSide {
     /// The cut.
     pub cut: Cut,
     /// The side.
@@ -22,7 +22,12 @@ pub struct Taken {
 
 /// Goes on after a node: to the left side of its cut, or after a leaf to the nearest right side that was not taken yet.
 /// Where there is none, the region is the root again, and no side is taken.
-pub fn go_on(taken: &mut Vec<Taken>, catalogue: &Catalogue, region: &mut Region, cut: Option<Cut>)
+pub fn go_on(
+    taken: &mut Vec<TakenSide>,
+    catalogue: &Catalogue,
+    region: &mut Region,
+    cut: Option<Cut>,
+)
     requires taken { AreTaken catalogue.now taken.old.items region.old }
     requires proper { MatchOption cut ⊤ (IsProper catalogue.now region.old) }
     requires room { length taken.old.items < vec_capacity taken.old }
@@ -44,7 +49,7 @@ pub fn go_on(taken: &mut Vec<Taken>, catalogue: &Catalogue, region: &mut Region,
 }
 
 /// Puts back every set, so that the region is the root again.
-pub fn go_back(taken: &mut Vec<Taken>, region: &mut Region)
+pub fn go_back(taken: &mut Vec<TakenSide>, region: &mut Region)
     requires { All (λ one. one.mark.trip < length region.old) taken.old.items }
     ensures root { region.new ≡ root_from taken.old.items region.old }
     ensures none { taken.new.items ≡ [] }
@@ -56,7 +61,13 @@ pub fn go_back(taken: &mut Vec<Taken>, region: &mut Region)
 }
 
 /// Takes a side of a cut.
-fn take(taken: &mut Vec<Taken>, catalogue: &Catalogue, region: &mut Region, cut: Cut, side: Side)
+fn take(
+    taken: &mut Vec<TakenSide>,
+    catalogue: &Catalogue,
+    region: &mut Region,
+    cut: Cut,
+    side: Side,
+)
     requires taken { AreTaken catalogue.now taken.old.items region.old }
     requires proper { IsProper catalogue.now region.old cut }
     requires room { length taken.old.items < vec_capacity taken.old }
@@ -71,11 +82,11 @@ fn take(taken: &mut Vec<Taken>, catalogue: &Catalogue, region: &mut Region, cut:
     ensures room { vec_capacity taken.old ≤ vec_capacity taken.new }
 {
     let mark = region.cut(catalogue, &cut, side);
-    add(taken, Taken { cut, side, mark });
+    add(taken, TakenSide { cut, side, mark });
 }
 
 /// Adds a side at the end, where there is room for one more.
-fn add(taken: &mut Vec<Taken>, one: Taken)
+fn add(taken: &mut Vec<TakenSide>, one: TakenSide)
     requires { length taken.old.items < vec_capacity taken.old }
     ensures items { taken.new.items ≡ taken.old.items ++ one ∷ [] }
     ensures room { vec_capacity taken.old ≤ vec_capacity taken.new }
@@ -85,7 +96,7 @@ fn add(taken: &mut Vec<Taken>, one: Taken)
 }
 
 /// Puts back the sets of right sides up to the nearest left one, and takes its right side.
-fn take_right(taken: &mut Vec<Taken>, catalogue: &Catalogue, region: &mut Region)
+fn take_right(taken: &mut Vec<TakenSide>, catalogue: &Catalogue, region: &mut Region)
     requires { AreTaken catalogue.now taken.old.items region.old }
     // The region is the first of those that were left.
     ensures first { IsAtFirst catalogue.now (left_in catalogue.now taken.old.items region.old)

@@ -8,7 +8,7 @@ use Rattle.command_line.specs.declared.form.OptionName.TheVariants.{Nodes, Round
 use Rattle.command_line.specs.declared.form.Kind.{Kind}
 use Rattle.command_line.specs.declared.form.Kind.TheVariants.{Plain, Name, Whole, Other}
 use Rattle.plain_words.specs.Items.{WordList}
-use Rattle.command_line.specs.Parts.{Counts, Parts, counted, counts_of, kind_of, no_parts, parts_of, stepped}
+use Rattle.command_line.specs.Parts.{Counts, Parts, counts_after, counts_of, kind_of, no_parts, parts_of, stepped}
 use Rattle.command_line.specs.Parts.{value_of, with_option, with_value, with_word}
 
 -- each was counted at most so often
@@ -28,7 +28,7 @@ counts_value Rounds value parts =
     ap (λ (n : ℕ). record (counts_of parts) { rounds = n }) (one_longer parts.rounds value)
 
 counts_stepped : (waiting : Option OptionName) (kind : Kind) (word : List ℕ) (parts : Parts)
-    → counts_of (stepped waiting kind word parts) ≡ counted waiting kind (counts_of parts)
+    → counts_of (stepped waiting kind word parts) ≡ counts_after waiting kind (counts_of parts)
 counts_stepped (Some name) Plain word parts = counts_value name word (record parts { waiting = None })
 counts_stepped (Some name) (Name other) word parts = refl
 counts_stepped (Some name) (Whole other) word parts = refl
@@ -40,7 +40,7 @@ counts_stepped None (Whole name) word parts = counts_value name (value_of name w
 counts_stepped None Other word parts = refl
 
 pub counts_word : (parts : Parts) (word : List ℕ)
-    → counts_of (with_word parts word) ≡ counted parts.waiting (kind_of word) (counts_of parts)
+    → counts_of (with_word parts word) ≡ counts_after parts.waiting (kind_of word) (counts_of parts)
 unfolding with_word
 counts_word parts word = counts_stepped parts.waiting (kind_of word) word parts
 
@@ -68,7 +68,7 @@ more n counts waiting has_others most = record {
 
 -- one word counts once
 pub most_counted : (n : ℕ) (waiting : Option OptionName) (kind : Kind) (counts : Counts) → AreAtMost n counts
-    → AreAtMost (n + 1) (counted waiting kind counts)
+    → AreAtMost (n + 1) (counts_after waiting kind counts)
 most_counted n (Some name) Plain counts most =
     most_option n name (record counts { waiting = None })
     (record { positional = most.positional; nodes = most.nodes; rounds = most.rounds })

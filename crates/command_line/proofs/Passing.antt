@@ -17,7 +17,7 @@ use Rattle.command_line.specs.declared.form.Form.TheVariants.{Folder, FolderSear
 use Rattle.command_line.specs.Apps.{app, nodes_rule, rules}
 use Rattle.command_line.proofs.OptionItems.{option_name}
 use Rattle.command_line.proofs.Rows.{put}
-use Rattle.command_line.proofs.Stepping.{Place, First, Second, Third, position, has_place, place_id}
+use Rattle.command_line.proofs.Stepping.{Ordinal, First, Second, Third, position, has_place, place_id}
 use Rattle.command_line.proofs.Stepping.{has_options, id_of}
 use Rattle.command_line.proofs.Stepping.{rule_for, settle, stand, await, hold, no_long, no_short, plain_met}
 
@@ -41,7 +41,7 @@ plain_passes form waiting position word h =
     let met : Held × Step = plain_word (rules form) waiting word h in
     step_passes (shape form) position met.0 met.1
 
-place_passes : (form : Form) (place : Place) → has_place form place ≡ true → (h : Held) (x : ℕ) (xs : List ℕ)
+place_passes : (form : Form) (place : Ordinal) → has_place form place ≡ true → (h : Held) (x : ℕ) (xs : List ℕ)
     → settle_passes (rules form) false h ≡ true → plain_passes form idle (position place) (x ∷ xs) h ≡ true
 place_passes Folder First has h x xs settles = or_right _ _ settles
 place_passes Folder Second none h x xs settles = absurd cc
@@ -53,7 +53,7 @@ place_passes DaySearch First has h x xs settles = or_right _ _ settles
 place_passes DaySearch Second has h x xs settles = or_right _ _ settles
 place_passes DaySearch Third none h x xs settles = absurd cc
 
-pub positional_passes_here : (form : Form) (place : Place) → has_place form place ≡ true
+pub positional_passes_here : (form : Form) (place : Ordinal) → has_place form place ≡ true
     → (h : Held) (x : ℕ) (xs : List ℕ) → (x == 45) ≡ false → settle_passes (rules form) false h ≡ true
     → turn_passes (shape form) [] (stand h (position place)) (x ∷ xs) ≡ true
 positional_passes_here form place has h x xs e settles =
@@ -121,7 +121,7 @@ value_settles FolderSearch Rounds has rows h v new = once _ new
 value_settles DaySearch Nodes has rows h v new = once _ new
 value_settles DaySearch Rounds has rows h v new = once _ new
 
-pub place_settles : (form : Form) (place : Place) → has_place form place ≡ true
+pub place_settles : (form : Form) (place : Ordinal) → has_place form place ≡ true
     → (rows : List Row) (h : Held) (v : Text) → has_row (place_id form place) rows ≡ false
     → settle_passes (rules form) false (hold rows (Some (place_id form place, v ∷ [])) h) ≡ true
 place_settles Folder First has rows h v new = once _ new
@@ -149,7 +149,7 @@ pub settled_whole : (name : OptionName) (rows : List Row) (v : Text)
 settled_whole Nodes rows v = refl
 settled_whole Rounds rows v = refl
 
-pub settled_place : (form : Form) (place : Place) → has_place form place ≡ true
+pub settled_place : (form : Form) (place : Ordinal) → has_place form place ≡ true
     → (rows : List Row) (h : Held) (v : Text)
     → settle form (hold rows (Some (place_id form place, v ∷ [])) h) ≡ put (place_id form place) how v rows
 settled_place Folder First has rows h v = refl

@@ -19,23 +19,23 @@ use Rattle.command_line.proofs.OptionItems.{option_name}
 -- ---- where the walk stands
 
 -- how many positional words came before
-pub data Place : Type 0 where
-  First : Place
-  Second : Place
-  Third : Place
+pub data Ordinal : Type 0 where
+  First : Ordinal
+  Second : Ordinal
+  Third : Ordinal
 
-abbrev pub position : Place → ℕ
+abbrev pub position : Ordinal → ℕ
 position First = 1
 position Second = 2
 position Third = 3
 
-abbrev pub next : Place → Place
+abbrev pub next : Ordinal → Ordinal
 next First = Second
 next Second = Third
 next Third = Third
 
 -- the form has a positional word at this place
-abbrev pub has_place : Form → Place → Bool
+abbrev pub has_place : Form → Ordinal → Bool
 has_place Folder First = true
 has_place Folder Second = false
 has_place Folder Third = false
@@ -46,7 +46,7 @@ has_place DaySearch First = true
 has_place DaySearch Second = true
 has_place DaySearch Third = false
 
-abbrev pub place_id : Form → Place → Text
+abbrev pub place_id : Form → Ordinal → Text
 place_id form First = first_id form
 place_id form Second = codes "trips"
 place_id form Third = codes "trips"
@@ -168,7 +168,7 @@ value_step form name has rows h position x xs e =
 abbrev again : Text → Held → Bool
 again id h = option_map_or (λ q. bytes_eq q.0 id) h.pending false
 
-place_there : (form : Form) (place : Place) → has_place form place ≡ true → (h : Held) (x : ℕ) (xs : List ℕ)
+place_there : (form : Form) (place : Ordinal) → has_place form place ≡ true → (h : Held) (x : ℕ) (xs : List ℕ)
     → (let met : Held × Step = plain_word (rules form) idle (x ∷ xs) h in
     after_step (rules form) (x ∷ xs) (stand h (position place)) met.0 met.1)
     ≡ stand (pushed (place_id form place) (x ∷ xs)
@@ -183,7 +183,7 @@ place_there DaySearch First has h x xs = refl
 place_there DaySearch Second has h x xs = refl
 place_there DaySearch Third none h x xs = absurd cc
 
-pub positional_step : (form : Form) (place : Place) → has_place form place ≡ true
+pub positional_step : (form : Form) (place : Ordinal) → has_place form place ≡ true
     → (h : Held) (x : ℕ) (xs : List ℕ) → (x == 45) ≡ false
     → walked (rules form) [] (stand h (position place)) (x ∷ xs)
     ≡ stand (hold (settle form h) (Some (place_id form place, (x ∷ xs) ∷ [])) h) (position (next place))

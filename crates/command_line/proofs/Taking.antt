@@ -27,7 +27,7 @@ use Rattle.command_line.specs.Texts.{said, texts_in, texts_of}
 use Rattle.command_line.specs.Parts.{Parts, fits, is_whole, parts_of, places, times}
 use Rattle.command_line.proofs.PlainForms.{Made, clean, made, parts_are}
 use Rattle.command_line.proofs.Rows.{one_row, value_in}
-use Rattle.command_line.proofs.Stepping.{Place, First, Second, Third, has_place, next, place_id, id_of, settle}
+use Rattle.command_line.proofs.Stepping.{Ordinal, First, Second, Third, has_place, next, place_id, id_of, settle}
 use Rattle.command_line.proofs.Passing.{how, shape}
 use Rattle.command_line.proofs.Walking.{HasRoomFor, Stands, Walks, apart, apart_too, before, item_rows, walks}
 
@@ -39,7 +39,7 @@ none_given name = false
 nothing_stands : (form : Form) → Stands form First none_given []
 nothing_stands form = record { options = λ name. refl; places = nowhere }
   where
-    nowhere : (other : Place) → has_place form other ≡ true → false ≡ before other First
+    nowhere : (other : Ordinal) → has_place form other ≡ true → false ≡ before other First
     nowhere First has = refl
     nowhere Second has = refl
     nowhere Third has = refl
@@ -178,7 +178,7 @@ option_row Nodes Rounds value rows values same = same
 option_row Rounds Nodes value rows values same = same
 option_row Rounds Rounds value rows values same = refl
 
-option_text : (form : Form) (place : Place) (asked : OptionName) (items : List Item)
+option_text : (form : Form) (place : Ordinal) (asked : OptionName) (items : List Item)
     → first_of (id_of asked) (item_rows form place items) ≡ slice_get (values_in asked items) 0
 option_text form place asked [] = refl
 option_text form place asked (Positional word ∷ items) =

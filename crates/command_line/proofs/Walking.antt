@@ -19,7 +19,7 @@ use Rattle.command_line.proofs.OptionItems.{option_name}
 use Rattle.command_line.proofs.OptionItems.{positional_in, value_before, values_in, words_of}
 use Rattle.command_line.specs.Parts.{places, times}
 use Rattle.command_line.proofs.Rows.{has_row-more, one_row, put_is}
-use Rattle.command_line.proofs.Stepping.{Place, First, Second, Third, position, next, has_place, place_id}
+use Rattle.command_line.proofs.Stepping.{Ordinal, First, Second, Third, position, next, has_place, place_id}
 use Rattle.command_line.proofs.Stepping.{has_options}
 use Rattle.command_line.proofs.Stepping.{id_of, rule_for, settle, stand, await, hold}
 use Rattle.command_line.proofs.Stepping.{name_step, positional_step, value_step, whole_step}
@@ -29,7 +29,7 @@ use Rattle.command_line.proofs.Passing.{whole_passes_here}
 
 -- ---- the rows of items
 
-abbrev pub item_rows : Form → Place → List Item → List Row
+abbrev pub item_rows : Form → Ordinal → List Item → List Row
 item_rows form place [] = []
 item_rows form place (Positional word ∷ items) =
     one_row (place_id form place) how word ∷ item_rows form (next place) items
@@ -38,7 +38,7 @@ item_rows form place (OneWord name value ∷ items) = one_row (id_of name) how v
 
 -- ---- which arguments have their row already
 
-abbrev pub before : Place → Place → Bool
+abbrev pub before : Ordinal → Ordinal → Bool
 before First First = false
 before First Second = true
 before First Third = true
@@ -53,9 +53,9 @@ same_name Nodes Rounds = false
 same_name Rounds Nodes = false
 same_name Rounds Rounds = true
 
-pub record Stands (form : Form) (place : Place) (given : OptionName → Bool) (rows : List Row) : Type 0 where
+pub record Stands (form : Form) (place : Ordinal) (given : OptionName → Bool) (rows : List Row) : Type 0 where
   pub options : (name : OptionName) → has_row (id_of name) rows ≡ given name
-  pub places : (other : Place) → has_place form other ≡ true → has_row (place_id form other) rows ≡ before other place
+  pub places : (other : Ordinal) → has_place form other ≡ true → has_row (place_id form other) rows ≡ before other place
 
 abbrev with_given : OptionName → (OptionName → Bool) → OptionName → Bool
 with_given name given other = given other || same_name name other
@@ -64,13 +64,13 @@ or_false : (b : Bool) → (b || false) ≡ b
 or_false true = refl
 or_false false = refl
 
-not_before : (place : Place) → before place place ≡ false
+not_before : (place : Ordinal) → before place place ≡ false
 not_before First = refl
 not_before Second = refl
 not_before Third = refl
 
 -- names of options are no names of positional words
-pub apart : (form : Form) (place : Place) (name : OptionName) → bytes_eq (place_id form place) (id_of name) ≡ false
+pub apart : (form : Form) (place : Ordinal) (name : OptionName) → bytes_eq (place_id form place) (id_of name) ≡ false
 apart Folder First Nodes = refl
 apart Folder First Rounds = refl
 apart FolderSearch First Nodes = refl
@@ -82,7 +82,7 @@ apart form Second Rounds = refl
 apart form Third Nodes = refl
 apart form Third Rounds = refl
 
-pub apart_too : (form : Form) (place : Place) (name : OptionName) → bytes_eq (id_of name) (place_id form place) ≡ false
+pub apart_too : (form : Form) (place : Ordinal) (name : OptionName) → bytes_eq (id_of name) (place_id form place) ≡ false
 apart_too Folder First Nodes = refl
 apart_too Folder First Rounds = refl
 apart_too FolderSearch First Nodes = refl
@@ -100,7 +100,7 @@ same_id Nodes Rounds = refl
 same_id Rounds Nodes = refl
 same_id Rounds Rounds = refl
 
-next_place : (form : Form) (place other : Place) → has_place form place ≡ true → has_place form other ≡ true
+next_place : (form : Form) (place other : Ordinal) → has_place form place ≡ true → has_place form other ≡ true
     → (before other place || bytes_eq (place_id form place) (place_id form other)) ≡ before other (next place)
 next_place Folder First First has there = refl
 next_place Folder First Second has none = absurd cc
@@ -126,7 +126,7 @@ grown asked id v rows was same now had is sum =
     has_row-more asked id how v rows ∙ ap (λ (b : Bool). b || bytes_eq id asked) had
     ∙ ap (λ (b : Bool). was || b) is ∙ sum
 
-after_place : (form : Form) (place : Place) (given : OptionName → Bool) (rows : List Row) (v : Text)
+after_place : (form : Form) (place : Ordinal) (given : OptionName → Bool) (rows : List Row) (v : Text)
     → has_place form place ≡ true → Stands form place given rows
     → Stands form (next place) given (rows ++ one_row (place_id form place) how v ∷ [])
 after_place form place given rows v has stands = record {
@@ -137,7 +137,7 @@ after_place form place given rows v has stands = record {
       (stands.places other there) refl (next_place form place other has there);
 }
 
-after_option : (form : Form) (place : Place) (given : OptionName → Bool) (rows : List Row) (name : OptionName) (v : Text)
+after_option : (form : Form) (place : Ordinal) (given : OptionName → Bool) (rows : List Row) (name : OptionName) (v : Text)
     → Stands form place given rows
     → Stands form place (with_given name given) (rows ++ one_row (id_of name) how v ∷ [])
 after_option form place given rows name v stands = record {
@@ -149,7 +149,7 @@ after_option form place given rows name v stands = record {
 
 -- ---- how many more there may be
 
-abbrev number : Place → ℕ
+abbrev number : Ordinal → ℕ
 number First = 0
 number Second = 1
 number Third = 2
@@ -158,11 +158,11 @@ abbrev bit : Bool → ℕ
 bit false = 0
 bit true = 1
 
-pub record HasRoomFor (form : Form) (place : Place) (given : OptionName → Bool) (items : List Item) : Type 0 where
+pub record HasRoomFor (form : Form) (place : Ordinal) (given : OptionName → Bool) (items : List Item) : Type 0 where
   pub places_left : number place + length (positional_in items) ≤ places form
   pub options_left : (name : OptionName) → bit (given name) + length (values_in name items) ≤ times form
 
-has_it : (form : Form) (place : Place) (n : ℕ) → number place + (n + 1) ≤ places form → has_place form place ≡ true
+has_it : (form : Form) (place : Ordinal) (n : ℕ) → number place + (n + 1) ≤ places form → has_place form place ≡ true
 has_it Folder First n room = refl
 has_it Folder Second n room = absurd (omega (arith, room))
 has_it Folder Third n room = absurd (omega (arith, room))
@@ -173,7 +173,7 @@ has_it DaySearch First n room = refl
 has_it DaySearch Second n room = refl
 has_it DaySearch Third n room = absurd (omega (arith, room))
 
-next_number : (form : Form) (place : Place) (n : ℕ) → has_place form place ≡ true
+next_number : (form : Form) (place : Ordinal) (n : ℕ) → has_place form place ≡ true
     → number place + (n + 1) ≤ places form → number (next place) + n ≤ places form
 next_number form First n has room = omega (arith, room)
 next_number form Second n has room = omega (arith, room)
@@ -249,7 +249,7 @@ no_dash x xs holds = from (x == 45) holds
     from true e = absurd cc
     from false e = refl
 
-pub walks : (form : Form) (items : List Item) (place : Place) (given : OptionName → Bool) (h : Held)
+pub walks : (form : Form) (items : List Item) (place : Ordinal) (given : OptionName → Bool) (h : Held)
     → settle_passes (rules form) false h ≡ true → Stands form place given (settle form h)
     → HasRoomFor form place given items → HaveTheirForm items
     → Walks form (stand h (position place)) (words_of items) (settle form h ++ item_rows form place items)

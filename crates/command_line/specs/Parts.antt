@@ -96,12 +96,12 @@ abbrev pub with_option : OptionName → Counts → Counts
 with_option Nodes counts = record counts { nodes = counts.nodes + 1 }
 with_option Rounds counts = record counts { rounds = counts.rounds + 1 }
 
-abbrev pub counted : Option OptionName → Kind → Counts → Counts
-counted (Some name) Plain counts = with_option name (record counts { waiting = None })
-counted None Plain counts = record counts { positional = counts.positional + 1 }
-counted None (Name name) counts = record counts { waiting = Some name }
-counted None (Whole name) counts = with_option name counts
-counted _ _ counts = record counts { has_others = true }
+abbrev pub counts_after : Option OptionName → Kind → Counts → Counts
+counts_after (Some name) Plain counts = with_option name (record counts { waiting = None })
+counts_after None Plain counts = record counts { positional = counts.positional + 1 }
+counts_after None (Name name) counts = record counts { waiting = Some name }
+counts_after None (Whole name) counts = with_option name counts
+counts_after _ _ counts = record counts { has_others = true }
 
 -- each can be counted once more
 pub record HasRoom (counts : Counts) : Type 0 where

@@ -3,7 +3,7 @@
 ghost use Rattle.std.specs.Prelude.{◌≡◌, ◌↔◌, map, true};
 ghost use Rattle.plain_words.specs.Items.{is_positional};
 ghost use Rattle.command_line.specs.Forms.{ArePlain};
-ghost use Rattle.command_line.specs.Parts.{HasRoom, counted, fits, kind_of, no_counts, parts_of, times};
+ghost use Rattle.command_line.specs.Parts.{HasRoom, counts_after, fits, kind_of, no_counts, parts_of, times};
 ghost use Rattle.command_line.specs.Parts.{fitting, places, whole_kind_of, with_option};
 
 use crate::form::{Form, Kind, OptionName};
@@ -72,7 +72,7 @@ impl Seen {
     /// Counts one more word.
     fn count_word(&mut self, word: &str)
         requires { HasRoom self.old }
-        ensures { self.new ≡ counted self.old.waiting (kind_of word.now) self.old }
+        ensures { self.new ≡ counts_after self.old.waiting (kind_of word.now) self.old }
     {
         match (self.waiting, kind_of(word)) {
             (Some(name), Kind::Plain) => {

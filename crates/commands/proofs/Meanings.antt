@@ -6,7 +6,7 @@ use Rattle.std.specs.Str.{bytes_eq}
 use Rattle.std.proofs.lemmas.Bool.{and_parts}
 use Rattle.std.proofs.lemmas.Bool.Decides.{nat_tests}
 use Rattle.std.proofs.lemmas.Slice.Eq.{bytes_eq-Decides}
-use Rattle.rail_base.specs.declared.limits.TheConstants.{MOST_BRANCHINGS, MOST_ROUNDS, MOST_TRIPS}
+use Rattle.rail_base.specs.declared.limits.TheConstants.{MAX_BRANCHINGS, MAX_ROUNDS, MAX_TRIPS}
 use Rattle.plain_words.specs.Numbers.{IsNumber, IsOption, number_up_to}
 use Rattle.plain_words.proofs.Spelled.{if_some, le_of, le_true, number_back, number_forth, option_back, option_few}
 use Rattle.plain_words.proofs.Spelled.{option_forth}
@@ -24,10 +24,10 @@ use Rattle.command_line.proofs.AsItems.{IsSized, all_named, as_items, as_parts, 
 use Rattle.command_line.proofs.AsItems.{positional_same, values_same}
 use Rattle.commands.specs.declared.command.Command.{Command}
 use Rattle.commands.specs.declared.command.Command.TheVariants.{Plan, Simulate, Check, Duties, Yards, Costs, Trial}
-use Rattle.commands.specs.declared.command.TheConstants.{MOST_SEED, USUAL_NODES, USUAL_ROUNDS}
+use Rattle.commands.specs.declared.command.TheConstants.{MAX_SEED, USUAL_NODES, USUAL_ROUNDS}
 use Rattle.commands.specs.Commands.{command_of, day_of, even_trips, form_of, in_folder, named, named_plain}
-use Rattle.commands.specs.Commands.{nodes_of, numbers_of, plan_of, rounds_of}
-use Rattle.commands.specs.Commands.{trial_of, trips_of}
+use Rattle.commands.specs.Commands.{nodes_of, numbers_of, plan_command, rounds_of}
+use Rattle.commands.specs.Commands.{trial_command, trips_of}
 use Rattle.commands.specs.PlainForm.{IsInFolder, IsPlainForm, IsTrial, Means, command_word, form_for}
 
 -- ---- folders and days
@@ -55,10 +55,10 @@ folder_sized dir p n r is = record {
   few_rounds = omega (arith, ap length is.2);
 }
 
-trips_forth : (text : List ℕ) (trips : ℕ) → IsNumber MOST_TRIPS text trips → 2 ≤ trips → trips % 2 ≡ 0
+trips_forth : (text : List ℕ) (trips : ℕ) → IsNumber MAX_TRIPS text trips → 2 ≤ trips → trips % 2 ≡ 0
     → trips_of text ≡ Some trips
 trips_forth text trips is some even =
-    let number : number_up_to MOST_TRIPS text ≡ Some trips = number_forth MOST_TRIPS text trips is in
+    let number : number_up_to MAX_TRIPS text ≡ Some trips = number_forth MAX_TRIPS text trips is in
     let enough : nat_le 2 trips ≡ true = le_true 2 trips some in
     rw (number, enough, even) refl
 
@@ -70,15 +70,15 @@ even_back trips found e =
     (is.1, subst (λ (n : ℕ). 2 ≤ n) is.1 (le_of 2 found tests.0), subst (λ (n : ℕ). n % 2 ≡ 0) is.1 even)
 
 trips_back : (text : List ℕ) (trips : ℕ) → trips_of text ≡ Some trips
-    → IsNumber MOST_TRIPS text trips × (2 ≤ trips) × (trips % 2 ≡ 0)
-trips_back text trips e = from (number_up_to MOST_TRIPS text) refl e
+    → IsNumber MAX_TRIPS text trips × (2 ≤ trips) × (trips % 2 ≡ 0)
+trips_back text trips e = from (number_up_to MAX_TRIPS text) refl e
   where
-    from : (o : Option ℕ) → number_up_to MOST_TRIPS text ≡ o → option_and_then even_trips o ≡ Some trips
-        → IsNumber MOST_TRIPS text trips × (2 ≤ trips) × (trips % 2 ≡ 0)
+    from : (o : Option ℕ) → number_up_to MAX_TRIPS text ≡ o → option_and_then even_trips o ≡ Some trips
+        → IsNumber MAX_TRIPS text trips × (2 ≤ trips) × (trips % 2 ≡ 0)
     from None same e = absurd cc
     from (Some found) same e =
         let is = even_back trips found e in
-        (number_back MOST_TRIPS text trips (same ∙ ap (λ (n : ℕ). Some n) is.0), is.1, is.2)
+        (number_back MAX_TRIPS text trips (same ∙ ap (λ (n : ℕ). Some n) is.0), is.1, is.2)
 
 day_parts : (a b : Option ℕ) (seed trips : ℕ)
     → ◌≡◌ {A = Option (ℕ × ℕ)} (option_and_then (λ number. option_map (λ count. (number, count)) b) a)
@@ -95,13 +95,13 @@ day_back [] n r seed trips two e = absurd cc
 day_back (first ∷ []) n r seed trips two e = absurd cc
 day_back (first ∷ second ∷ third ∷ words) n r seed trips two e = absurd (omega (arith, two))
 day_back (first ∷ second ∷ []) n r seed trips two e =
-    let parts = day_parts (number_up_to MOST_SEED first) (trips_of second) seed trips e in
+    let parts = day_parts (number_up_to MAX_SEED first) (trips_of second) seed trips e in
     let day = trips_back second trips parts.1 in
     record {
       seed_text = first;
       trips_text = second;
       both = refl;
-      seed_number = number_back MOST_SEED first seed parts.0;
+      seed_number = number_back MAX_SEED first seed parts.0;
       trips_number = day.0;
       some = day.1;
       even = day.2;
@@ -109,8 +109,8 @@ day_back (first ∷ second ∷ []) n r seed trips two e =
 
 day_forth : (p n r : WordList) (seed trips : ℕ) → IsTrial p seed trips → day_of (said p n r) ≡ Some (seed, trips)
 day_forth p n r seed trips is =
-    let seed_is : number_up_to MOST_SEED is.seed_text ≡ Some seed =
-    number_forth MOST_SEED is.seed_text seed is.seed_number in
+    let seed_is : number_up_to MAX_SEED is.seed_text ≡ Some seed =
+    number_forth MAX_SEED is.seed_text seed is.seed_number in
     let trips_is : trips_of is.trips_text ≡ Some trips =
     trips_forth is.trips_text trips is.trips_number is.some is.even in
     let two : numbers_of is.seed_text is.trips_text ≡ Some (seed, trips) = rw (seed_is, trips_is) refl in
@@ -146,25 +146,25 @@ abbrev Is : List ℕ → WordList → WordList → WordList → Command → Type
 Is word p n r command = (word ≡ command_word command) × Means p n r command
 
 plan_back : (word : List ℕ) (p n r : WordList) (command : Command) → word ≡ codes "plan" → IsSized FolderSearch p n r
-    → plan_of (said p n r) ≡ Some command → Is word p n r command
+    → plan_command (said p n r) ≡ Some command → Is word p n r command
 plan_back word p n r command plan size e =
     let found = plan_parts (slice_get p 0) (nodes_of (said p n r)) (rounds_of (said p n r)) command e in
-    let nodes_is : IsOption USUAL_NODES MOST_BRANCHINGS n found.1 =
-    option_back USUAL_NODES MOST_BRANCHINGS n found.1 size.few_nodes found.4 in
-    let rounds_is : IsOption USUAL_ROUNDS MOST_ROUNDS r found.2 =
-    option_back USUAL_ROUNDS MOST_ROUNDS r found.2 size.few_rounds found.5 in
+    let nodes_is : IsOption USUAL_NODES MAX_BRANCHINGS n found.1 =
+    option_back USUAL_NODES MAX_BRANCHINGS n found.1 size.few_nodes found.4 in
+    let rounds_is : IsOption USUAL_ROUNDS MAX_ROUNDS r found.2 =
+    option_back USUAL_ROUNDS MAX_ROUNDS r found.2 size.few_rounds found.5 in
     let means : Is word p n r (Plan found.0 found.1 found.2) =
     (plan, (one_word p found.0 size.as_many found.3, (nodes_is, rounds_is))) in
     subst (λ (c : Command). Is word p n r c) found.6 means
 
 trial_back : (word : List ℕ) (p n r : WordList) (command : Command) → word ≡ codes "trial" → IsSized DaySearch p n r
-    → trial_of (said p n r) ≡ Some command → Is word p n r command
+    → trial_command (said p n r) ≡ Some command → Is word p n r command
 trial_back word p n r command trial size e =
     let found = trial_parts (day_of (said p n r)) (nodes_of (said p n r)) (rounds_of (said p n r)) command e in
-    let nodes_is : IsOption USUAL_NODES MOST_BRANCHINGS n found.2 =
-    option_back USUAL_NODES MOST_BRANCHINGS n found.2 size.few_nodes found.5 in
-    let rounds_is : IsOption USUAL_ROUNDS MOST_ROUNDS r found.3 =
-    option_back USUAL_ROUNDS MOST_ROUNDS r found.3 size.few_rounds found.6 in
+    let nodes_is : IsOption USUAL_NODES MAX_BRANCHINGS n found.2 =
+    option_back USUAL_NODES MAX_BRANCHINGS n found.2 size.few_nodes found.5 in
+    let rounds_is : IsOption USUAL_ROUNDS MAX_ROUNDS r found.3 =
+    option_back USUAL_ROUNDS MAX_ROUNDS r found.3 size.few_rounds found.6 in
     let means : Is word p n r (Trial found.0 found.1 found.2 found.3) =
     (trial, (day_back p n r found.0 found.1 size.as_many found.4, (nodes_is, rounds_is))) in
     subst (λ (c : Command). Is word p n r c) found.7 means
@@ -217,12 +217,12 @@ folder_command_back word p n r command size e = from (slice_get p 0) refl e
 named_back : (word : List ℕ) (p n r : WordList) (command : Command) → IsSized (form_of word) p n r
     → named word (said p n r) ≡ Some command → Is word p n r command
 named_back word p n r command size e = elim (cases (bytes_eq word (codes "plan"))) [
-  | inl same ↦ let at : named word (said p n r) ≡ plan_of (said p n r) = rw same refl in
+  | inl same ↦ let at : named word (said p n r) ≡ plan_command (said p n r) = rw same refl in
       let form : form_of word ≡ FolderSearch = rw same refl in
       plan_back word p n r command (text_of word (codes "plan") same)
       (subst (λ (f : Form). IsSized f p n r) form size) (sym at ∙ e)
   | inr not_plan ↦ elim (cases (bytes_eq word (codes "trial"))) [
-    | inl same ↦ let at : named word (said p n r) ≡ trial_of (said p n r) = rw (not_plan, same) refl in
+    | inl same ↦ let at : named word (said p n r) ≡ trial_command (said p n r) = rw (not_plan, same) refl in
         let form : form_of word ≡ DaySearch = rw (not_plan, same) refl in
         trial_back word p n r command (text_of word (codes "trial") same)
         (subst (λ (f : Form). IsSized f p n r) form size) (sym at ∙ e)
@@ -237,16 +237,16 @@ named_back word p n r command size e = elim (cases (bytes_eq word (codes "plan")
 named_forth : (command : Command) (p n r : WordList) → Means p n r command
     → named (command_word command) (said p n r) ≡ Some command
 named_forth (Plan dir nodes rounds) p n r is =
-    let nodes_is : nodes_of (said p n r) ≡ Some nodes = option_forth USUAL_NODES MOST_BRANCHINGS n nodes is.1.0 in
-    let rounds_is : rounds_of (said p n r) ≡ Some rounds = option_forth USUAL_ROUNDS MOST_ROUNDS r rounds is.1.1 in
+    let nodes_is : nodes_of (said p n r) ≡ Some nodes = option_forth USUAL_NODES MAX_BRANCHINGS n nodes is.1.0 in
+    let rounds_is : rounds_of (said p n r) ≡ Some rounds = option_forth USUAL_ROUNDS MAX_ROUNDS r rounds is.1.1 in
     let dir_is : slice_get p 0 ≡ Some dir = ap (λ (words : WordList). slice_get words 0) is.0 in
-    let at : plan_of (said p n r) ≡ Some (Plan dir nodes rounds) = rw (dir_is, nodes_is, rounds_is) refl in
+    let at : plan_command (said p n r) ≡ Some (Plan dir nodes rounds) = rw (dir_is, nodes_is, rounds_is) refl in
     at
 named_forth (Trial seed trips nodes rounds) p n r is =
-    let nodes_is : nodes_of (said p n r) ≡ Some nodes = option_forth USUAL_NODES MOST_BRANCHINGS n nodes is.1.0 in
-    let rounds_is : rounds_of (said p n r) ≡ Some rounds = option_forth USUAL_ROUNDS MOST_ROUNDS r rounds is.1.1 in
+    let nodes_is : nodes_of (said p n r) ≡ Some nodes = option_forth USUAL_NODES MAX_BRANCHINGS n nodes is.1.0 in
+    let rounds_is : rounds_of (said p n r) ≡ Some rounds = option_forth USUAL_ROUNDS MAX_ROUNDS r rounds is.1.1 in
     let day_is : day_of (said p n r) ≡ Some (seed, trips) = day_forth p n r seed trips is.0 in
-    let at : trial_of (said p n r) ≡ Some (Trial seed trips nodes rounds) = rw (day_is, nodes_is, rounds_is) refl in
+    let at : trial_command (said p n r) ≡ Some (Trial seed trips nodes rounds) = rw (day_is, nodes_is, rounds_is) refl in
     at
 named_forth (Simulate dir) p n r is =
     ap (λ (o : Option (List ℕ)). option_and_then (in_folder (codes "simulate")) o) (folder_forth dir p n r is)
@@ -264,13 +264,13 @@ sized_forth : (command : Command) (p n r : WordList) → Means p n r command
     → IsSized (form_of (command_word command)) p n r
 sized_forth (Plan dir nodes rounds) p n r is = record {
   as_many = omega (arith, ap length is.0);
-  few_nodes = option_few USUAL_NODES MOST_BRANCHINGS n nodes is.1.0;
-  few_rounds = option_few USUAL_ROUNDS MOST_ROUNDS r rounds is.1.1;
+  few_nodes = option_few USUAL_NODES MAX_BRANCHINGS n nodes is.1.0;
+  few_rounds = option_few USUAL_ROUNDS MAX_ROUNDS r rounds is.1.1;
 }
 sized_forth (Trial seed trips nodes rounds) p n r is = record {
   as_many = omega (arith, ap length is.0.both);
-  few_nodes = option_few USUAL_NODES MOST_BRANCHINGS n nodes is.1.0;
-  few_rounds = option_few USUAL_ROUNDS MOST_ROUNDS r rounds is.1.1;
+  few_nodes = option_few USUAL_NODES MAX_BRANCHINGS n nodes is.1.0;
+  few_rounds = option_few USUAL_ROUNDS MAX_ROUNDS r rounds is.1.1;
 }
 sized_forth (Simulate dir) p n r is = folder_sized dir p n r is
 sized_forth (Check dir) p n r is = folder_sized dir p n r is

@@ -1,6 +1,6 @@
 -- The plain form: how a command is written as words.
 use Rattle.std.specs.Prelude.{ℕ, ◌≡◌, ◌≤◌, ◌%◌, List, [], ◌∷◌, codes}
-use Rattle.rail_base.specs.declared.limits.TheConstants.{MOST_BRANCHINGS, MOST_ROUNDS, MOST_TRIPS}
+use Rattle.rail_base.specs.declared.limits.TheConstants.{MAX_BRANCHINGS, MAX_ROUNDS, MAX_TRIPS}
 use Rattle.plain_words.specs.Items.{IsPlain, Item, WordList, positional_in, values_in}
 use Rattle.plain_words.specs.Numbers.{IsNumber, IsOption}
 use Rattle.command_line.specs.declared.form.Form.{Form}
@@ -8,7 +8,7 @@ use Rattle.command_line.specs.declared.form.Form.TheVariants.{Folder, FolderSear
 use Rattle.command_line.specs.Forms.{form_of}
 use Rattle.commands.specs.declared.command.Command.{Command}
 use Rattle.commands.specs.declared.command.Command.TheVariants.{Plan, Simulate, Check, Duties, Yards, Costs, Trial}
-use Rattle.commands.specs.declared.command.TheConstants.{MOST_SEED, USUAL_NODES, USUAL_ROUNDS}
+use Rattle.commands.specs.declared.command.TheConstants.{MAX_SEED, USUAL_NODES, USUAL_ROUNDS}
 
 -- ---- what it means
 
@@ -18,15 +18,15 @@ IsInFolder dir positional nodes rounds = (positional ≡ dir ∷ []) × (nodes �
 
 -- the grant and the rounds of a search
 abbrev pub IsSearch : ℕ → ℕ → WordList → WordList → Type 0
-IsSearch n k nodes rounds = IsOption USUAL_NODES MOST_BRANCHINGS nodes n × IsOption USUAL_ROUNDS MOST_ROUNDS rounds k
+IsSearch n k nodes rounds = IsOption USUAL_NODES MAX_BRANCHINGS nodes n × IsOption USUAL_ROUNDS MAX_ROUNDS rounds k
 
 -- what a trial day is made from, and its trips, an even number that is not 0
 pub record IsTrial (positional : WordList) (seed trips : ℕ) : Type 0 where
   pub seed_text : List ℕ
   pub trips_text : List ℕ
   pub both : positional ≡ seed_text ∷ trips_text ∷ []
-  pub seed_number : IsNumber MOST_SEED seed_text seed
-  pub trips_number : IsNumber MOST_TRIPS trips_text trips
+  pub seed_number : IsNumber MAX_SEED seed_text seed
+  pub trips_number : IsNumber MAX_TRIPS trips_text trips
   pub some : 2 ≤ trips
   pub even : trips % 2 ≡ 0
 

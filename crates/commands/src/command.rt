@@ -53,7 +53,7 @@ pub enum Command {
 }
 
 /// The greatest number that a trial day may be made from.
-pub const MOST_SEED: u32 = 4_294_967_295;
+pub const MAX_SEED: u32 = 4_294_967_295;
 /// Branchings that are granted where the words say nothing of them.
 pub const USUAL_NODES: u32 = 200;
 /// Rounds of advice at each node where the words say nothing of them.

@@ -9,13 +9,13 @@ ghost use Rattle.plain_words.specs.declared.refusal.WordsRefusal.TheVariants.{No
 ghost use Rattle.plain_words.specs.Commands.{Reads, is_memory};
 ghost use Rattle.commands.specs.PlainForm.{IsPlainForm};
 ghost use Rattle.commands.specs.Commands.{command_of, day_of, form_of, in_folder, named};
-ghost use Rattle.commands.specs.Commands.{named_plain, nodes_of, plan_of, rounds_of, trial_of, trips_of};
+ghost use Rattle.commands.specs.Commands.{named_plain, nodes_of, plan_command, rounds_of, trial_command, trips_of};
 
-use crate::command::{Command, MOST_SEED, USUAL_NODES, USUAL_ROUNDS};
+use crate::command::{Command, MAX_SEED, USUAL_NODES, USUAL_ROUNDS};
 use command_line::{Form, GivenTexts, is_plain, take_apart};
 use plain_words::{Text, WordsRefusal, number, option_number, words_after};
 use rail_base::Words;
-use rail_base::limits::{MOST_BRANCHINGS, MOST_ROUNDS, MOST_TRIPS};
+use rail_base::limits::{MAX_BRANCHINGS, MAX_ROUNDS, MAX_TRIPS};
 use std::alloc::Global;
 
 /// Reads the words of a command line, of which the first stands for the program's name and is not looked at.
@@ -112,7 +112,7 @@ fn in_folder(alloc: Global, word: &str, dir: &str) -> Result<Command, WordsRefus
 
 /// The command `plan DIR`.
 fn plan(alloc: Global, taken: GivenTexts<'_>) -> Result<Command, WordsRefusal>
-    ensures { Gives is_memory result (ok_or (plan_of (texts_in taken.entry)) NotUnderstood) }
+    ensures { Gives is_memory result (ok_or (plan_command (texts_in taken.entry)) NotUnderstood) }
 {
     let Some(dir) = taken.first else {
         return Err(WordsRefusal::NotUnderstood);
@@ -129,7 +129,7 @@ fn plan(alloc: Global, taken: GivenTexts<'_>) -> Result<Command, WordsRefusal>
 
 /// The command `trial SEED TRIPS`.
 fn trial(taken: GivenTexts<'_>) -> Result<Command, WordsRefusal>
-    ensures { result ≡ ok_or (trial_of (texts_in taken.entry)) NotUnderstood }
+    ensures { result ≡ ok_or (trial_command (texts_in taken.entry)) NotUnderstood }
 {
     let Some((seed, trips)) = day(taken) else {
         return Err(WordsRefusal::NotUnderstood);
@@ -152,14 +152,14 @@ fn trial(taken: GivenTexts<'_>) -> Result<Command, WordsRefusal>
 fn nodes_of(taken: GivenTexts<'_>) -> Option<u32>
     ensures { result ≡ nodes_of (texts_in taken.entry) }
 {
-    option_number(taken.nodes, USUAL_NODES, MOST_BRANCHINGS)
+    option_number(taken.nodes, USUAL_NODES, MAX_BRANCHINGS)
 }
 
 /// The rounds of advice at each node.
 fn rounds_of(taken: GivenTexts<'_>) -> Option<u8>
     ensures { result ≡ rounds_of (texts_in taken.entry) }
 {
-    match option_number(taken.rounds, USUAL_ROUNDS, MOST_ROUNDS) {
+    match option_number(taken.rounds, USUAL_ROUNDS, MAX_ROUNDS) {
         Some(rounds) => Some(rounds as u8),
         None => None,
     }
@@ -175,7 +175,7 @@ fn day(taken: GivenTexts<'_>) -> Option<(u32, u32)>
     let Some(trips) = taken.second else {
         return None;
     };
-    let Some(seed) = number(seed.as_bytes(), MOST_SEED) else {
+    let Some(seed) = number(seed.as_bytes(), MAX_SEED) else {
         return None;
     };
     let Some(trips) = trips_of(trips) else {
@@ -188,7 +188,7 @@ fn day(taken: GivenTexts<'_>) -> Option<(u32, u32)>
 fn trips_of(word: &str) -> Option<u32>
     ensures { result ≡ trips_of word.now }
 {
-    let Some(trips) = number(word.as_bytes(), MOST_TRIPS as u32) else {
+    let Some(trips) = number(word.as_bytes(), MAX_TRIPS as u32) else {
         return None;
     };
     if trips < 2 {

@@ -7,7 +7,7 @@ use Rattle.std.proofs.lemmas.List.{take_more}
 use Rattle.std.proofs.lemmas.List.Elements.{All-get_or}
 use Rattle.std.proofs.lemmas.List.Sums.{AllPass-from_list_all, count_by-le-length}
 use Rattle.std.proofs.lemmas.Bool.{ltb-true, leb-true, and_parts}
-use Rattle.rail_base.specs.declared.limits.TheConstants.{MOST_CARRIAGES, MOST_FIRST_SEATS, MOST_METRES, MOST_SEATS}
+use Rattle.rail_base.specs.declared.limits.TheConstants.{MAX_CARRIAGES, MAX_FIRST_SEATS, MAX_METRES, MAX_SEATS}
 use Rattle.rules.specs.declared.records.UnitType.{UnitType}
 use Rattle.compositions.specs.declared.composition.Measure.{Measure}
 use Rattle.compositions.specs.declared.composition.Measure.TheVariants.{Carriages, Seats, FirstSeats, Metres}
@@ -39,14 +39,14 @@ up_to : (limit n : ℕ) → is_up_to limit n ≡ true → n ≤ limit
 up_to limit n h = leb-true n limit (and_parts _ _ h).1
 
 -- a measure of a type within the limits
-pub measure_le : (m : Measure) (t : UnitType) → is_within_limits t ≡ true → measure_of m t ≤ MOST_SEATS
+pub measure_le : (m : Measure) (t : UnitType) → is_within_limits t ≡ true → measure_of m t ≤ MAX_SEATS
 measure_le m t h =
     let (rest, first) = and_parts _ _ h in
     let (others, metres) = and_parts _ _ rest in
     let (carriages, seats) = and_parts _ _ others in
-    at_most m (up_to MOST_CARRIAGES t.carriages carriages) (up_to MOST_SEATS t.seats seats) (leb-true t.first MOST_FIRST_SEATS first) (up_to MOST_METRES t.metres metres)
+    at_most m (up_to MAX_CARRIAGES t.carriages carriages) (up_to MAX_SEATS t.seats seats) (leb-true t.first MAX_FIRST_SEATS first) (up_to MAX_METRES t.metres metres)
   where
-    at_most : (m : Measure) → t.carriages ≤ MOST_CARRIAGES → t.seats ≤ MOST_SEATS → t.first ≤ MOST_FIRST_SEATS → t.metres ≤ MOST_METRES → measure_of m t ≤ MOST_SEATS
+    at_most : (m : Measure) → t.carriages ≤ MAX_CARRIAGES → t.seats ≤ MAX_SEATS → t.first ≤ MAX_FIRST_SEATS → t.metres ≤ MAX_METRES → measure_of m t ≤ MAX_SEATS
     at_most Carriages carriages seats first metres = omega arith
     at_most Seats carriages seats first metres = omega arith
     at_most FirstSeats carriages seats first metres = omega arith

@@ -2,7 +2,7 @@
 use Rattle.std.specs.Prelude.{ℕ, zero, suc, Bool, false, ◌&&◌, ◌||◌, ◌==◌, IsTrue, List, [], ◌∷◌, ◌++◌, length, nat_lt}
 use Rattle.std.specs.Prelude.{filter, All, AllPairs, Contains}
 use Rattle.std.specs.List.{flat_map}
-use Rattle.rail_base.specs.declared.limits.TheConstants.{MOST_COMPOSITION}
+use Rattle.rail_base.specs.declared.limits.TheConstants.{MAX_COMPOSITION_UNITS}
 use Rattle.rules.specs.declared.records.UnitType.{UnitType}
 use Rattle.compositions.specs.Composition.{fits_in}
 
@@ -33,7 +33,7 @@ lists_up_to n (suc units) = lists_up_to n units ++ lists_of n (suc units)
 
 -- the compositions that fit in so many metres
 unfoldable pub catalogue_of : List UnitType → ℕ → List (List ℕ)
-catalogue_of types longest = filter (fits_in types longest) (lists_up_to (length types) MOST_COMPOSITION)
+catalogue_of types longest = filter (fits_in types longest) (lists_up_to (length types) MAX_COMPOSITION_UNITS)
 
 -- compositions that fit in so many metres, each once, in the order of the catalogue
 pub record FitInOrder (types : List UnitType) (longest : ℕ) (compositions : List (List ℕ)) : Type 0 where

@@ -9,7 +9,7 @@ ghost use Rattle.compositions.specs.declared.catalogue.CatalogueRefusal.TheVaria
 
 use crate::composition::Composition;
 use crate::types::UnitTypes;
-use rail_base::limits::{MOST_COMPOSITION, MOST_COMPOSITIONS};
+use rail_base::limits::{MAX_COMPOSITION_UNITS, MAX_COMPOSITIONS};
 use rail_base::{CompNo, TypeNo};
 use std::alloc::Global;
 use std::marker::Model;
@@ -35,14 +35,14 @@ pub struct Catalogue {
 
 impl Model for Catalogue {
     ghost use Rattle.std.specs.Prelude.{List, ℕ, length, ◌≤◌, IsTrue, AllPairs};
-    ghost use Rattle.rail_base.specs.declared.limits.TheConstants.{MOST_COMPOSITIONS};
+    ghost use Rattle.rail_base.specs.declared.limits.TheConstants.{MAX_COMPOSITIONS};
     ghost use Rattle.compositions.specs.Catalogue.{comes_before};
 
     ghost Value = { List (List ℕ) };
 
     ghost view = { λ a. a.compositions.items };
 
-    ghost invariant = { λ a. (length a.compositions.items ≤ MOST_COMPOSITIONS)
+    ghost invariant = { λ a. (length a.compositions.items ≤ MAX_COMPOSITIONS)
         × AllPairs (λ ms ns. IsTrue (comes_before ms ns)) a.compositions.items };
 }
 
@@ -55,9 +55,9 @@ impl Catalogue {
         longest: u32,
     ) -> Result<Catalogue, CatalogueRefusal>
         ensures ok { IfOk result (λ catalogue. catalogue ≡ catalogue_of types.now longest) }
-        ensures few { IfOk result (λ catalogue. length catalogue ≤ MOST_COMPOSITIONS) }
+        ensures few { IfOk result (λ catalogue. length catalogue ≤ MAX_COMPOSITIONS) }
         ensures too_many { IfErr result
-            (λ refusal. refusal ≡ TooMany → MOST_COMPOSITIONS < length (catalogue_of types.now longest)) }
+            (λ refusal. refusal ≡ TooMany → MAX_COMPOSITIONS < length (catalogue_of types.now longest)) }
         ensures law { IsCatalogue types.now longest (catalogue_of types.now longest) }
     {
         let mut compositions = Vec::new(alloc);
@@ -74,7 +74,7 @@ impl Catalogue {
     /// How many compositions there are.
     pub fn len(&self) -> u32
         ensures value { result ≡ length self.now }
-        ensures few { result ≤ MOST_COMPOSITIONS }
+        ensures few { result ≤ MAX_COMPOSITIONS }
         ensures in_order { AllPairs (λ ms ns. IsTrue (comes_before ms ns)) self.now }
     {
         self.compositions.len() as u32
@@ -133,16 +133,16 @@ fn add_extensions(
     types: &UnitTypes,
     longest: u32,
 ) -> Result<(), CatalogueRefusal>
-    requires few { length compositions.old.items ≤ MOST_COMPOSITIONS }
-    requires front_few { length front.now ≤ MOST_COMPOSITION }
+    requires few { length compositions.old.items ≤ MAX_COMPOSITIONS }
+    requires front_few { length front.now ≤ MAX_COMPOSITION_UNITS }
     ensures ok { OnOk result
         (compositions.new.items
         ≡ compositions.old.items ++ extensions (fits_in types.now longest) (length types.now) front.now) }
-    ensures within { OnOk result (length compositions.new.items ≤ MOST_COMPOSITIONS) }
+    ensures within { OnOk result (length compositions.new.items ≤ MAX_COMPOSITIONS) }
     ensures too_many { IfErr result
         (λ refusal. refusal ≡ TooMany
         → (k : ℕ)
-        × (MOST_COMPOSITIONS
+        × (MAX_COMPOSITIONS
         < length (compositions.old.items ++ extensions (fits_in types.now longest) k front.now))) }
 {
     for number in 0..types.len() {
@@ -159,15 +159,15 @@ fn add_extension(
     types: &UnitTypes,
     longest: u32,
 ) -> Result<(), CatalogueRefusal>
-    requires few { length compositions.old.items ≤ MOST_COMPOSITIONS }
-    requires front_few { length front.now ≤ MOST_COMPOSITION }
+    requires few { length compositions.old.items ≤ MAX_COMPOSITIONS }
+    requires front_few { length front.now ≤ MAX_COMPOSITION_UNITS }
     ensures ok { OnOk result
         (compositions.new.items
         ≡ compositions.old.items ++ where_it_fits (fits_in types.now longest) (front.now ++ unit_type ∷ [])) }
-    ensures within { OnOk result (length compositions.new.items ≤ MOST_COMPOSITIONS) }
+    ensures within { OnOk result (length compositions.new.items ≤ MAX_COMPOSITIONS) }
     ensures too_many { IfErr result
         (λ refusal. refusal ≡ TooMany
-        → MOST_COMPOSITIONS
+        → MAX_COMPOSITIONS
         < length (compositions.old.items ++ where_it_fits (fits_in types.now longest) (front.now ++ unit_type ∷ []))) }
 {
     let Some(composition) = Composition::extended(front, unit_type) else {
@@ -176,7 +176,7 @@ fn add_extension(
     if !composition.fits(types, longest) {
         return Ok(());
     }
-    if compositions.len() == MOST_COMPOSITIONS {
+    if compositions.len() == MAX_COMPOSITIONS {
         return Err(CatalogueRefusal::TooMany);
     }
     compositions

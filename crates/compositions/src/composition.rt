@@ -12,7 +12,7 @@ ghost use Rattle.compositions.specs.UnitTypes.{is_within_limits};
 
 use crate::types::{UnitType, UnitTypes};
 use arrayvec::ArrayVec;
-use rail_base::limits::{MOST_COMPOSITION, MOST_SEATS};
+use rail_base::limits::{MAX_COMPOSITION_UNITS, MAX_SEATS};
 use rail_base::{Name, TypeNo};
 use std::marker::Model;
 
@@ -20,24 +20,24 @@ use std::marker::Model;
 /// numbers.
 #[derive(Drop)]
 pub struct Composition {
-    units: ArrayVec<TypeNo, MOST_COMPOSITION>,
+    units: ArrayVec<TypeNo, MAX_COMPOSITION_UNITS>,
 }
 
 impl Model for Composition {
     ghost use Rattle.std.specs.Prelude.{List, ℕ, length, ◌≤◌};
-    ghost use Rattle.rail_base.specs.declared.limits.TheConstants.{MOST_COMPOSITION};
+    ghost use Rattle.rail_base.specs.declared.limits.TheConstants.{MAX_COMPOSITION_UNITS};
 
     ghost Value = { List ℕ };
 
     ghost view = { λ a. a.units.items };
 
-    ghost invariant = { λ a. (1 ≤ length a.units.items) × (length a.units.items ≤ MOST_COMPOSITION) };
+    ghost invariant = { λ a. (1 ≤ length a.units.items) × (length a.units.items ≤ MAX_COMPOSITION_UNITS) };
 }
 
 impl Composition {
     /// The composition of these units, or nothing where they are none or more than six. It takes no memory.
     pub fn of(types: &[TypeNo]) -> Option<Composition>
-        ensures none { IsNone result ↔ (length types.now < 1) ⊎ (MOST_COMPOSITION < length types.now) }
+        ensures none { IsNone result ↔ (length types.now < 1) ⊎ (MAX_COMPOSITION_UNITS < length types.now) }
         ensures some { IfSome result (λ composition. composition ≡ types.now) }
     {
         if types.is_empty() {
@@ -52,8 +52,8 @@ impl Composition {
 
     /// A front of at most six units with one more at its rear, or nothing where these are more than six.
     pub(crate) fn extended(front: &[TypeNo], unit_type: TypeNo) -> Option<Composition>
-        requires { length front.now ≤ MOST_COMPOSITION }
-        ensures none { IsNone result ↔ (MOST_COMPOSITION < length front.now + 1) }
+        requires { length front.now ≤ MAX_COMPOSITION_UNITS }
+        ensures none { IsNone result ↔ (MAX_COMPOSITION_UNITS < length front.now + 1) }
         ensures some { IfSome result (λ composition. composition ≡ front.now ++ unit_type ∷ []) }
     {
         let mut units = copies_of(front);
@@ -76,7 +76,7 @@ impl Composition {
     pub fn len(&self) -> u32
         ensures value { result ≡ length self.now }
         ensures some { 1 ≤ result }
-        ensures few { result ≤ MOST_COMPOSITION }
+        ensures few { result ≤ MAX_COMPOSITION_UNITS }
     {
         self.units.len() as u32
     }
@@ -93,7 +93,7 @@ impl Composition {
     pub fn units(&self) -> &[TypeNo]
         ensures value { result.now ≡ self.now }
         ensures some { 1 ≤ length self.now }
-        ensures few { length self.now ≤ MOST_COMPOSITION }
+        ensures few { length self.now ≤ MAX_COMPOSITION_UNITS }
     {
         self.units.as_slice()
     }
@@ -127,7 +127,7 @@ impl Composition {
 
     /// These units with those of `rear` behind them, or nothing where they are more than six together.
     pub fn joined(&self, rear: &Composition) -> Option<Composition>
-        ensures none { IsNone result ↔ (MOST_COMPOSITION < length self.now + length rear.now) }
+        ensures none { IsNone result ↔ (MAX_COMPOSITION_UNITS < length self.now + length rear.now) }
         ensures some { IfSome result (λ composition. composition ≡ self.now ++ rear.now) }
     {
         let mut units = copies_of(self.units());
@@ -206,7 +206,7 @@ impl Composition {
     #[tactic(auto, using(crate::proofs::Sums::few_count))]
     pub fn count(&self, unit_type: TypeNo) -> u32
         ensures value { result ≡ count_by (λ m. m == unit_type) self.now }
-        ensures few { result ≤ MOST_COMPOSITION }
+        ensures few { result ≤ MAX_COMPOSITION_UNITS }
     {
         self.units()
             .iter()
@@ -243,7 +243,7 @@ impl Measure {
     fn of(self, unit_type: &UnitType) -> u32
         requires { IsTrue (is_within_limits unit_type.now) }
         ensures value { result ≡ measure_of self unit_type.now }
-        ensures few { result ≤ MOST_SEATS }
+        ensures few { result ≤ MAX_SEATS }
     {
         match self {
             Measure::Carriages => unit_type.carriages,
@@ -256,7 +256,7 @@ impl Measure {
     /// The measure of all units.
     #[tactic(auto, using(crate::proofs::Sums::sums))]
     fn total(self, types: &UnitTypes, units: &[TypeNo]) -> u32
-        requires few { length units.now ≤ MOST_COMPOSITION }
+        requires few { length units.now ≤ MAX_COMPOSITION_UNITS }
         requires known { IsTrue (are_types types.now units.now) }
         ensures { result ≡ sum_over (measure_of self) types.now units.now }
     {
@@ -269,8 +269,8 @@ impl Measure {
 }
 
 /// The units in the same order, at most six.
-fn copies_of(units: &[TypeNo]) -> ArrayVec<TypeNo, MOST_COMPOSITION>
-    requires { length units.now ≤ MOST_COMPOSITION }
+fn copies_of(units: &[TypeNo]) -> ArrayVec<TypeNo, MAX_COMPOSITION_UNITS>
+    requires { length units.now ≤ MAX_COMPOSITION_UNITS }
     ensures { result.items ≡ units.now }
 {
     let mut copies = ArrayVec::new();

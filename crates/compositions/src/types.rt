@@ -4,10 +4,9 @@ ghost use Rattle.std.specs.Prelude.{◌≡◌, ◌<◌, ◌≤◌, IsTrue, Some,
 ghost use Rattle.std.specs.List.{list_all};
 ghost use Rattle.compositions.specs.UnitTypes.{is_within_limits};
 
-pub use rules::UnitType;
-
 use rail_base::TypeNo;
-use rail_base::limits::MOST_TYPES;
+use rail_base::limits::MAX_TYPES;
+pub use rules::UnitType;
 use std::marker::Model;
 
 /// The unit types of a day, at most six. A contract sees the list of them.
@@ -19,7 +18,7 @@ pub struct UnitTypes {
 impl Model for UnitTypes {
     ghost use Rattle.std.specs.Prelude.{List, IsTrue, length, ◌≤◌};
     ghost use Rattle.std.specs.List.{list_all};
-    ghost use Rattle.rail_base.specs.declared.limits.TheConstants.{MOST_TYPES};
+    ghost use Rattle.rail_base.specs.declared.limits.TheConstants.{MAX_TYPES};
     ghost use Rattle.rules.specs.declared.records.UnitType.{UnitType};
     ghost use Rattle.compositions.specs.UnitTypes.{is_within_limits};
 
@@ -27,13 +26,13 @@ impl Model for UnitTypes {
 
     ghost view = { λ a. a.types.items };
 
-    ghost invariant = { λ a. (length a.types.items ≤ MOST_TYPES) × IsTrue (list_all is_within_limits a.types.items) };
+    ghost invariant = { λ a. (length a.types.items ≤ MAX_TYPES) × IsTrue (list_all is_within_limits a.types.items) };
 }
 
 impl UnitTypes {
     /// These unit types: at most six, each with its numbers within the limits. It takes no memory.
     pub fn new(types: Vec<UnitType>) -> UnitTypes
-        requires few { length types.items ≤ MOST_TYPES }
+        requires few { length types.items ≤ MAX_TYPES }
         requires limits { IsTrue (list_all is_within_limits types.items) }
         ensures { result ≡ types.items }
     {
@@ -43,7 +42,7 @@ impl UnitTypes {
     /// How many unit types there are.
     pub fn len(&self) -> u32
         ensures value { result ≡ length self.now }
-        ensures few { result ≤ MOST_TYPES }
+        ensures few { result ≤ MAX_TYPES }
         ensures limits { IsTrue (list_all is_within_limits self.now) }
     {
         self.types.len() as u32

@@ -6,18 +6,17 @@ ghost use Rattle.timetable.specs.Running.{IsPlan};
 ghost use Rattle.timetable.specs.Picks.{ArePicks, picked};
 ghost use Rattle.cost_model.specs.Sums.{carriage_of, shortage_of, shunting_of};
 
-use crate::links::{MOST_LINK_COST, link_cost};
+use crate::links::{MAX_LINK_COST, link_cost};
 use crate::lists::TypeLists;
 use crate::trips::{
-    MOST_CARRIAGE_COST, MOST_SHORTAGE_COST, MOST_TRIP_COST, carriage_cost, shortage_cost,
+    MAX_CARRIAGE_COST, MAX_SHORTAGE_COST, MAX_TRIP_COST, carriage_cost, shortage_cost,
 };
-use rail_base::limits::{MOST_LINKS, MOST_TRIPS};
+use rail_base::limits::{MAX_LINKS, MAX_TRIPS};
 use rail_base::{LinkNo, Money, TripNo};
 use timetable::{Instance, NamedPlan, Picks};
 
 /// No day costs more, in the unit of the weights: the bound of each trip, and of each link.
-pub const MOST_DAY_COST: u64 = MOST_TRIP_COST * MOST_TRIPS as u64
-    + MOST_LINK_COST * MOST_LINKS as u64;
+pub const MAX_DAY_COST: u64 = MAX_TRIP_COST * MAX_TRIPS as u64 + MAX_LINK_COST * MAX_LINKS as u64;
 
 /// The three parts that add up to the cost of picks. None is negative.
 #[derive(Clone, Copy)]
@@ -36,7 +35,7 @@ pub struct CostParts {
 pub fn cost(instance: &Instance, picks: &Picks) -> Money
     requires { ArePicks instance.now picks.now }
     ensures cost { result.0 ≡ pos (cost_of instance.now (picked instance.now picks.now)) }
-    ensures range { result.0 ≤ℤ pos MOST_DAY_COST }
+    ensures range { result.0 ≤ℤ pos MAX_DAY_COST }
 {
     whole_cost(instance, picks)
 }
@@ -70,7 +69,7 @@ pub fn plan_cost(instance: &Instance, plan: &NamedPlan) -> Money
 fn whole_cost<L: TypeLists>(instance: &Instance, lists: &L) -> Money
     requires { L.are_of lists.now instance.now }
     ensures cost { result.0 ≡ pos (cost_of instance.now (L.lists lists.now instance.now)) }
-    ensures range { result.0 ≤ℤ pos MOST_DAY_COST }
+    ensures range { result.0 ≤ℤ pos MAX_DAY_COST }
 {
     money(
         carriages_cost(instance, lists)
@@ -84,7 +83,7 @@ fn whole_cost<L: TypeLists>(instance: &Instance, lists: &L) -> Money
 fn carriages_cost<L: TypeLists>(instance: &Instance, lists: &L) -> u64
     requires { L.are_of lists.now instance.now }
     ensures cost { result ≡ carriage_of instance.now (L.lists lists.now instance.now) }
-    ensures range { result ≤ MOST_CARRIAGE_COST * MOST_TRIPS }
+    ensures range { result ≤ MAX_CARRIAGE_COST * MAX_TRIPS }
 {
     let mut cost = 0;
     for number in 0..instance.trips() {
@@ -100,7 +99,7 @@ fn carriages_cost<L: TypeLists>(instance: &Instance, lists: &L) -> u64
 fn shortages_cost<L: TypeLists>(instance: &Instance, lists: &L) -> u64
     requires { L.are_of lists.now instance.now }
     ensures cost { result ≡ shortage_of instance.now (L.lists lists.now instance.now) }
-    ensures range { result ≤ MOST_SHORTAGE_COST * MOST_TRIPS }
+    ensures range { result ≤ MAX_SHORTAGE_COST * MAX_TRIPS }
 {
     let mut cost = 0;
     for number in 0..instance.trips() {
@@ -116,7 +115,7 @@ fn shortages_cost<L: TypeLists>(instance: &Instance, lists: &L) -> u64
 fn links_cost<L: TypeLists>(instance: &Instance, lists: &L) -> u64
     requires { L.are_of lists.now instance.now }
     ensures cost { result ≡ shunting_of instance.now (L.lists lists.now instance.now) }
-    ensures range { result ≤ MOST_LINK_COST * MOST_LINKS }
+    ensures range { result ≤ MAX_LINK_COST * MAX_LINKS }
 {
     let mut cost = 0;
     for number in 0..instance.links() {
@@ -130,7 +129,7 @@ fn cost_of_link<L: TypeLists>(instance: &Instance, lists: &L, link: LinkNo) -> u
     requires lists { L.are_of lists.now instance.now }
     requires link { link < length instance.now.links }
     ensures cost { result ≡ link_cost instance.now link (L.lists lists.now instance.now) }
-    ensures range { result ≤ MOST_LINK_COST }
+    ensures range { result ≤ MAX_LINK_COST }
 {
     let kind = &instance.link(link).kind;
     let arriving = lists.types_on(instance, kind.leads_from());

@@ -7,6 +7,6 @@ pub mod links;
 mod lists;
 pub mod trips;
 
-pub use costs::{CostParts, MOST_DAY_COST, cost, parts, plan_cost};
+pub use costs::{CostParts, MAX_DAY_COST, cost, parts, plan_cost};
 pub use links::link_cost;
 pub use trips::trip_cost;

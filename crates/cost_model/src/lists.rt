@@ -8,7 +8,7 @@ ghost use Rattle.timetable.specs.Running.{IsPlan};
 ghost use Rattle.timetable.specs.Picks.{ArePicks, picked};
 
 use arrayvec::ArrayVec;
-use rail_base::limits::MOST_COMPOSITION;
+use rail_base::limits::MAX_COMPOSITION_UNITS;
 use rail_base::{TripNo, TypeNo};
 use timetable::{Instance, NamedPlan, Picks, copy_of};
 
@@ -21,7 +21,7 @@ pub(crate) trait TypeLists {
     ghost lists: { Self → Day → List (List ℕ) };
 
     /// The types on a trip: at most six, and all of the day.
-    fn types_on(&self, instance: &Instance, trip: TripNo) -> ArrayVec<TypeNo, MOST_COMPOSITION>
+    fn types_on(&self, instance: &Instance, trip: TripNo) -> ArrayVec<TypeNo, MAX_COMPOSITION_UNITS>
         requires of_day { are_of self.now instance.now }
         requires trip { trip < length instance.now.trips }
         ensures types { result.items ≡ list_of (lists self.now instance.now) trip }
@@ -33,7 +33,11 @@ impl TypeLists for Picks {
 
     ghost lists = { λ picks day. picked day picks };
 
-    fn types_on(&self, instance: &Instance, trip: TripNo) -> ArrayVec<TypeNo, MOST_COMPOSITION> {
+    fn types_on(
+        &self,
+        instance: &Instance,
+        trip: TripNo,
+    ) -> ArrayVec<TypeNo, MAX_COMPOSITION_UNITS> {
         copy_of(instance.composition(self, trip).units())
     }
 }
@@ -43,7 +47,11 @@ impl TypeLists for NamedPlan {
 
     ghost lists = { λ plan day. map (types_of day) plan };
 
-    fn types_on(&self, instance: &Instance, trip: TripNo) -> ArrayVec<TypeNo, MOST_COMPOSITION> {
+    fn types_on(
+        &self,
+        instance: &Instance,
+        trip: TripNo,
+    ) -> ArrayVec<TypeNo, MAX_COMPOSITION_UNITS> {
         self.types(instance, trip)
     }
 }

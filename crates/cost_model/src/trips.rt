@@ -8,25 +8,23 @@ ghost use Rattle.cost_model.specs.Sums.{carriages_on, missing_on};
 
 use compositions::Composition;
 use rail_base::limits::{
-    MOST_CARRIAGES, MOST_COMPOSITION, MOST_DEMAND, MOST_FIRST_DEMAND, MOST_KM, MOST_WEIGHT,
+    MAX_CARRIAGES, MAX_COMPOSITION_UNITS, MAX_DEMAND, MAX_FIRST_DEMAND, MAX_KM, MAX_WEIGHT,
 };
 use rail_base::{TripNo, TypeNo};
 use timetable::Instance;
 
 /// The most carriages that a trip has: those of the most units.
-const MOST_TRIP_CARRIAGES: u32 = MOST_CARRIAGES * MOST_COMPOSITION as u32;
+const MAX_TRIP_CARRIAGES: u32 = MAX_CARRIAGES * MAX_COMPOSITION_UNITS as u32;
 /// The most that the carriages of a trip cost, in the unit of the weights: the most weight, for the most carriages, for
 /// the most kilometres.
-pub const MOST_CARRIAGE_COST: u64 = MOST_WEIGHT as u64
-    * MOST_TRIP_CARRIAGES as u64
-    * MOST_KM as u64;
+pub const MAX_CARRIAGE_COST: u64 = MAX_WEIGHT as u64 * MAX_TRIP_CARRIAGES as u64 * MAX_KM as u64;
 /// The most seats that are missing on a trip: the most demand of both classes.
-const MOST_MISSING_SEATS: u32 = MOST_FIRST_DEMAND + MOST_DEMAND;
+const MAX_MISSING_SEATS: u32 = MAX_FIRST_DEMAND + MAX_DEMAND;
 /// The most that the missing seats of a trip cost, in the unit of the weights: the most weight, for the most missing
 /// seats, for the most kilometres.
-pub const MOST_SHORTAGE_COST: u64 = MOST_WEIGHT as u64 * MOST_MISSING_SEATS as u64 * MOST_KM as u64;
+pub const MAX_SHORTAGE_COST: u64 = MAX_WEIGHT as u64 * MAX_MISSING_SEATS as u64 * MAX_KM as u64;
 /// No trip costs more, in the unit of the weights.
-pub const MOST_TRIP_COST: u64 = MOST_CARRIAGE_COST + MOST_SHORTAGE_COST;
+pub const MAX_TRIP_COST: u64 = MAX_CARRIAGE_COST + MAX_SHORTAGE_COST;
 
 /// What a trip costs with units of these types: the weight of a carriage for each of its carriages and kilometres, and
 /// the weight of a missing seat for each seat that is missing, in first and in second class, and each kilometre. The
@@ -35,10 +33,10 @@ pub const MOST_TRIP_COST: u64 = MOST_CARRIAGE_COST + MOST_SHORTAGE_COST;
 #[tactic(auto, unfolding(rules::specs::Cost::trip_cost))]
 pub fn trip_cost(instance: &Instance, trip: TripNo, types: &[TypeNo]) -> u64
     requires trip { trip < length instance.now.trips }
-    requires few { length types.now ≤ MOST_COMPOSITION }
+    requires few { length types.now ≤ MAX_COMPOSITION_UNITS }
     requires known { IsTrue (are_types instance.now.types types.now) }
     ensures cost { result ≡ trip_cost instance.now trip types.now }
-    ensures range { result ≤ MOST_TRIP_COST }
+    ensures range { result ≤ MAX_TRIP_COST }
 {
     carriage_cost(instance, trip, types) + shortage_cost(instance, trip, types)
 }
@@ -47,10 +45,10 @@ pub fn trip_cost(instance: &Instance, trip: TripNo, types: &[TypeNo]) -> u64
 #[tactic(auto, unfolding(rules::specs::Day::km_of))]
 pub(crate) fn carriage_cost(instance: &Instance, trip: TripNo, types: &[TypeNo]) -> u64
     requires trip { trip < length instance.now.trips }
-    requires few { length types.now ≤ MOST_COMPOSITION }
+    requires few { length types.now ≤ MAX_COMPOSITION_UNITS }
     requires known { IsTrue (are_types instance.now.types types.now) }
     ensures cost { result ≡ carriages_on instance.now trip types.now }
-    ensures range { result ≤ MOST_CARRIAGE_COST }
+    ensures range { result ≤ MAX_CARRIAGE_COST }
 {
     let carriages = carriages_of(instance, types);
     let weight = instance.weights().carriage;
@@ -61,10 +59,10 @@ pub(crate) fn carriage_cost(instance: &Instance, trip: TripNo, types: &[TypeNo])
 #[tactic(auto, unfolding(rules::specs::Day::km_of))]
 pub(crate) fn shortage_cost(instance: &Instance, trip: TripNo, types: &[TypeNo]) -> u64
     requires trip { trip < length instance.now.trips }
-    requires few { length types.now ≤ MOST_COMPOSITION }
+    requires few { length types.now ≤ MAX_COMPOSITION_UNITS }
     requires known { IsTrue (are_types instance.now.types types.now) }
     ensures cost { result ≡ missing_on instance.now trip types.now }
-    ensures range { result ≤ MOST_SHORTAGE_COST }
+    ensures range { result ≤ MAX_SHORTAGE_COST }
 {
     let missing = missing_seats(instance, trip, types);
     let weight = instance.weights().shortage;
@@ -76,10 +74,10 @@ pub(crate) fn shortage_cost(instance: &Instance, trip: TripNo, types: &[TypeNo])
 #[tactic(auto, unfolding(rules::specs::Cost::missing_seats))]
 fn missing_seats(instance: &Instance, trip: TripNo, types: &[TypeNo]) -> u32
     requires trip { trip < length instance.now.trips }
-    requires few { length types.now ≤ MOST_COMPOSITION }
+    requires few { length types.now ≤ MAX_COMPOSITION_UNITS }
     requires known { IsTrue (are_types instance.now.types types.now) }
     ensures value { result ≡ missing_seats instance.now trip types.now }
-    ensures few { result ≤ MOST_MISSING_SEATS }
+    ensures few { result ≤ MAX_MISSING_SEATS }
 {
     let wanted = wanted_seats(instance, trip);
     let seats = seats_of(instance, types);
@@ -88,10 +86,10 @@ fn missing_seats(instance: &Instance, trip: TripNo, types: &[TypeNo]) -> u32
 
 /// The carriages of units of these types.
 fn carriages_of(instance: &Instance, types: &[TypeNo]) -> u32
-    requires few { length types.now ≤ MOST_COMPOSITION }
+    requires few { length types.now ≤ MAX_COMPOSITION_UNITS }
     requires known { IsTrue (are_types instance.now.types types.now) }
     ensures value { result ≡ carriages_of instance.now.types types.now }
-    ensures few { result ≤ MOST_TRIP_CARRIAGES }
+    ensures few { result ≤ MAX_TRIP_CARRIAGES }
 {
     match Composition::of(types) {
         Some(composition) => composition.carriages(instance.types()),
@@ -112,8 +110,8 @@ fn wanted_seats(instance: &Instance, trip: TripNo) -> Seats
     requires { trip < length instance.now.trips }
     ensures first { result.first ≡ first_demand_of instance.now trip }
     ensures second { result.second ≡ demand_of instance.now trip }
-    ensures few_first { result.first ≤ MOST_FIRST_DEMAND }
-    ensures few_second { result.second ≤ MOST_DEMAND }
+    ensures few_first { result.first ≤ MAX_FIRST_DEMAND }
+    ensures few_second { result.second ≤ MAX_DEMAND }
 {
     let trip = instance.trip(trip);
     Seats {
@@ -124,7 +122,7 @@ fn wanted_seats(instance: &Instance, trip: TripNo) -> Seats
 
 /// The seats of units of these types.
 fn seats_of(instance: &Instance, types: &[TypeNo]) -> Seats
-    requires few { length types.now ≤ MOST_COMPOSITION }
+    requires few { length types.now ≤ MAX_COMPOSITION_UNITS }
     requires known { IsTrue (are_types instance.now.types types.now) }
     ensures first { result.first ≡ first_seats_of instance.now.types types.now }
     ensures second { result.second ≡ seats_of instance.now.types types.now }

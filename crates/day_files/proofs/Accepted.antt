@@ -3,7 +3,7 @@
 use Rattle.std.proofs.Common.{◌≡◌, ℕ, Bool, true, false, cond, ltb, List, length, Result, Ok, Err, refl, sym, ap, subst}
 use Rattle.std.proofs.lemmas.Bool.{ltb-false, le-ltb}
 use Rattle.rail_base.specs.Answers.{◌>>=◌}
-use Rattle.rail_base.specs.declared.limits.TheConstants.{MOST_TABLE_BYTES}
+use Rattle.rail_base.specs.declared.limits.TheConstants.{MAX_TABLE_BYTES}
 use Rattle.rail_io.specs.Folders.{Files}
 use Rattle.rail_csv.specs.declared.rows.Table.{Table}
 use Rattle.rail_csv.specs.declared.rows.Table.TheVariants as table
@@ -67,7 +67,7 @@ pub file_of : (files : Files) (dir : List ℕ) (table : Table) (rows : RowsOf ta
 unfolding read_by bytes_in
 file_of files dir table rows e =
     step e (λ bytes e1 e2.
-    let k = few (ltb MOST_TABLE_BYTES (length (bytes_of files dir table))) (bytes_of files dir table) bytes _ e1 in
+    let k = few (ltb MAX_TABLE_BYTES (length (bytes_of files dir table))) (bytes_of files dir table) bytes _ e1 in
     record {
       few = ltb-false _ _ k.0;
       read = subst (λ (b : List ℕ). reading table b ≡ Ok rows) (sym k.1) (table_read table (reading table bytes) rows e2);

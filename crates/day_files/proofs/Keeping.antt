@@ -3,7 +3,7 @@ use Rattle.std.proofs.Common.{List, refl}
 use Rattle.rail_csv.specs.declared.rows.TripRow.{TripRow}
 use Rattle.rail_csv.specs.declared.rows.LinkRow.{LinkRow}
 use Rattle.rail_csv.specs.declared.rows.WeightsRow.{WeightsRow}
-use Rattle.rail_csv.specs.Tables.{links_of, trips_of, weights_of}
+use Rattle.rail_csv.specs.Tables.{link_rows_of, trip_rows_of, weights_row_of}
 use Rattle.timetable.specs.DayTables.{tables_of}
 use Rattle.day_files.specs.declared.inputs.UnitTables.{UnitTables}
 use Rattle.day_files.specs.declared.tables.ReadTable.{ReadTable}
@@ -11,8 +11,8 @@ use Rattle.day_files.specs.Kept.{AreReadFrom, IsReadTable}
 use Rattle.day_files.specs.UnitTables.{AreUnitTables}
 
 pub kept : (units : UnitTables) (trips : ReadTable (List TripRow)) (links : ReadTable (List LinkRow))
-    (weights : ReadTable WeightsRow) → AreUnitTables units → IsReadTable trips_of trips → IsReadTable links_of links
-    → IsReadTable weights_of weights
+    (weights : ReadTable WeightsRow) → AreUnitTables units → IsReadTable trip_rows_of trips → IsReadTable link_rows_of links
+    → IsReadTable weights_row_of weights
     → AreReadFrom
     (record {
       types = units.types.bytes;

@@ -9,7 +9,7 @@ use Rattle.day_files.specs.declared.errors.Refusal.TheVariants.{TooLong, WrongTa
 use Rattle.day_files.specs.Tables.{bytes_in, read_by, table_in}
 use Rattle.day_files.specs.Inputs.{day_in, inputs_in}
 use Rattle.day_files.specs.Order.{Reaches}
-use Rattle.day_files.specs.Acceptance.{IsFirstRefused, IsOfPlan}
+use Rattle.day_files.specs.Acceptance.{IsFirstRefusal, IsOfPlan}
 use Rattle.day_files.proofs.Accepted.{file_is, tables_of_files, day_if_accepted}
 use Rattle.day_files.proofs.Reached.{tables_ended}
 
@@ -32,7 +32,7 @@ inputs_ended : (files : Files) (dir : List ℕ) (why : Refusal) → day_in files
 unfolding inputs_in
 inputs_ended files dir why e = rw e refl
 
-pub day_if_refused : (files : Files) (dir : List ℕ) (why : Refusal) → IsFirstRefused files dir why → ¬ IsOfPlan why
+pub day_if_refused : (files : Files) (dir : List ℕ) (why : Refusal) → IsFirstRefusal files dir why → ¬ IsOfPlan why
     → day_in files dir ≡ Err why
 unfolding day_in read_by bytes_in
 day_if_refused files dir (TooLong t) h no_plan = day_ended files dir t (TooLong t) no_plan h.0 (rw (lt-ltb _ _ h.1) refl)
@@ -60,7 +60,7 @@ ended files dir t why r e = by_table (of_plan_or_day t)
         plan_ended files dir why at_plan.0 at_plan.1
     by_table (inr no_plan) = inputs_ended files dir why (day_ended files dir t why no_plan r e)
 
-pub if_refused : (files : Files) (dir : List ℕ) (why : Refusal) → IsFirstRefused files dir why → inputs_in files dir ≡ Err why
+pub if_refused : (files : Files) (dir : List ℕ) (why : Refusal) → IsFirstRefusal files dir why → inputs_in files dir ≡ Err why
 unfolding inputs_in read_by bytes_in
 if_refused files dir (TooLong t) h = ended files dir t (TooLong t) h.0 (rw (lt-ltb _ _ h.1) refl)
 if_refused files dir (WrongTable t why) h = ended files dir t (WrongTable t why) h.0 (rw (le-ltb _ _ h.1, h.2) refl)

@@ -1,6 +1,6 @@
 -- What it means that the files of a folder are accepted, and that one of them is the first that is refused.
 use Rattle.std.specs.Prelude.{ℕ, ◌≡◌, ◌<◌, ◌≤◌, List, length, Ok, Err, ⊤}
-use Rattle.rail_base.specs.declared.limits.TheConstants.{MOST_TABLE_BYTES}
+use Rattle.rail_base.specs.declared.limits.TheConstants.{MAX_TABLE_BYTES}
 use Rattle.rail_io.specs.Folders.{Files}
 use Rattle.rail_csv.specs.declared.rows.PlanRow.{PlanRow}
 use Rattle.rail_csv.specs.declared.rows.Table.TheVariants as table
@@ -26,14 +26,14 @@ pub record AreAccepted (files : Files) (dir : List ℕ) (inputs : Inputs) : Type
 
 -- The first file that is refused, and why: the reading reaches it, and it is too long, or no such table; or the six
 -- files are tables that make no day; or they are accepted as a day, and the rows of the plan make no plan of it.
-abbrev pub IsFirstRefused : Files → List ℕ → Refusal → Type 0
-IsFirstRefused files dir (TooLong table) =
-    Reaches files dir table × (MOST_TABLE_BYTES < length (bytes_of files dir table))
-IsFirstRefused files dir (WrongTable table why) =
-    Reaches files dir table × (length (bytes_of files dir table) ≤ MOST_TABLE_BYTES)
+abbrev pub IsFirstRefusal : Files → List ℕ → Refusal → Type 0
+IsFirstRefusal files dir (TooLong table) =
+    Reaches files dir table × (MAX_TABLE_BYTES < length (bytes_of files dir table))
+IsFirstRefusal files dir (WrongTable table why) =
+    Reaches files dir table × (length (bytes_of files dir table) ≤ MAX_TABLE_BYTES)
     × (reading table (bytes_of files dir table) ≡ Err why)
-IsFirstRefused files dir (NoDay why) = (tables : Tables) × AreFilesOf files dir tables × (day_of tables ≡ Err why)
-IsFirstRefused files dir (NoPlan why) =
+IsFirstRefusal files dir (NoDay why) = (tables : Tables) × AreFilesOf files dir tables × (day_of tables ≡ Err why)
+IsFirstRefusal files dir (NoPlan why) =
     (day : Day) × AreAcceptedAsDay files dir day × (rows : List PlanRow) × IsFileOf files dir table.Plan rows
     × (plan_of day rows ≡ Err why)
 

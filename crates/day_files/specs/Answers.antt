@@ -1,6 +1,6 @@
 -- What a call that reads a folder answers.
 use Rattle.std.specs.Prelude.{ℕ, ◌≡◌, ◌≤◌, List, length, Bool, true, false, IsTrue, if◌then◌else◌, Result, Ok, Err, ⊤}
-use Rattle.rail_base.specs.declared.limits.TheConstants.{MOST_TABLE_BYTES}
+use Rattle.rail_base.specs.declared.limits.TheConstants.{MAX_TABLE_BYTES}
 use Rattle.rail_io.specs.Folders.{Rose, RosePast}
 use Rattle.rail_csv.specs.declared.rows.PlanRow.{PlanRow}
 use Rattle.rail_csv.specs.declared.rows.Table.{Table}
@@ -41,7 +41,7 @@ abbrev pub IsCaused : {F : Type 0} → (F → List ℕ → Bool) → (F → ℕ)
 IsCaused may_fail faults taken dir before after (CannotRead table) =
     Rose (faults before) (faults after) × IsTrue (may_fail before (path_of dir table))
 IsCaused may_fail faults taken dir before after (Refused (TooLong table)) =
-    RosePast MOST_TABLE_BYTES (taken before) (taken after)
+    RosePast MAX_TABLE_BYTES (taken before) (taken after)
 IsCaused may_fail faults taken dir before after _ = ⊤
 
 -- whether an error is that a file could not be read
@@ -51,8 +51,8 @@ is_unread (Refused why) = false
 is_unread NoMemory = false
 
 -- bytes that are no longer than a table may be, and of which the reader of the table gives this refusal
-pub record AreRefused (table : Table) (bytes : List ℕ) (why : TableRefusal) : Type 0 where
-  pub few : length bytes ≤ MOST_TABLE_BYTES
+pub record IsTableRefusal (table : Table) (bytes : List ℕ) (why : TableRefusal) : Type 0 where
+  pub few : length bytes ≤ MAX_TABLE_BYTES
   pub read : reading table bytes ≡ Err why
 
 -- What an error says whatever the folder tells, where a call reads these tables: a file that could not be read, that is
@@ -64,7 +64,7 @@ abbrev pub IsErrorOf : (Table → Type 0) → ReadError → Type 0
 IsErrorOf AreRead (CannotRead table) = AreRead table
 IsErrorOf AreRead (Refused (TooLong table)) = AreRead table
 IsErrorOf AreRead (Refused (WrongTable table why)) =
-    AreRead table × (is_memory why ≡ false) × (bytes : List ℕ) × AreRefused table bytes why
+    AreRead table × (is_memory why ≡ false) × (bytes : List ℕ) × IsTableRefusal table bytes why
 IsErrorOf AreRead (Refused (NoDay why)) =
     (build.is_memory why ≡ false) × (tables : Tables) × AreTables tables × (day_of tables ≡ Err why)
 IsErrorOf AreRead (Refused (NoPlan why)) =

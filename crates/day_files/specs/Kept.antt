@@ -1,6 +1,6 @@
 -- Tables with the bytes that they were read from.
 use Rattle.std.specs.Prelude.{ℕ, ◌≡◌, ◌≤◌, List, length, Result, Ok}
-use Rattle.rail_base.specs.declared.limits.TheConstants.{MOST_TABLE_BYTES}
+use Rattle.rail_base.specs.declared.limits.TheConstants.{MAX_TABLE_BYTES}
 use Rattle.rail_csv.specs.declared.refusal.TableRefusal.{TableRefusal}
 use Rattle.rail_csv.specs.declared.table_bytes.TableBytes.{TableBytes}
 use Rattle.rail_csv.specs.Tables.{AreShort}
@@ -10,7 +10,7 @@ use Rattle.day_files.specs.declared.tables.ReadTable.{ReadTable}
 
 -- a table is what its bytes are read as, which are not too many
 pub record IsReadTable {T : Type 0} (reading : List ℕ → Result T TableRefusal) (read : ReadTable T) : Type 0 where
-  pub few : length read.bytes ≤ MOST_TABLE_BYTES
+  pub few : length read.bytes ≤ MAX_TABLE_BYTES
   pub exact : reading read.bytes ≡ Ok read.table
 
 -- the six tables are what these bytes are read as, none of them longer than a table may be

@@ -12,18 +12,18 @@ abbrev pub in_order : List Table
 in_order = Types ∷ Stations ∷ Stock ∷ Trips ∷ Links ∷ Weights ∷ Plan ∷ []
 
 -- the place of a table's file in that order, counted from 0
-abbrev pub place_of : Table → ℕ
-place_of Types = 0
-place_of Stations = 1
-place_of Stock = 2
-place_of Trips = 3
-place_of Links = 4
-place_of Weights = 5
-place_of Plan = 6
+abbrev pub reading_rank : Table → ℕ
+reading_rank Types = 0
+reading_rank Stations = 1
+reading_rank Stock = 2
+reading_rank Trips = 3
+reading_rank Links = 4
+reading_rank Weights = 5
+reading_rank Plan = 6
 
 -- the files that are read before a table's file
 abbrev pub before : Table → List Table
-before table = take (place_of table) in_order
+before table = take (reading_rank table) in_order
 
 -- the file of a table is right by itself: it is a table of some rows
 abbrev pub IsRead : Files → List ℕ → Table → Type 0

@@ -1,7 +1,7 @@
 -- The tables of a folder: what its files are read as, and what is known of accepted rows, days and plans.
 use Rattle.std.specs.Prelude.{ℕ, ◌≡◌, ◌≤◌, List, length, nat_lt, if◌then◌else◌, Result, Ok, Err}
 use Rattle.rail_base.specs.Answers.{◌>>=◌}
-use Rattle.rail_base.specs.declared.limits.TheConstants.{MOST_TABLE_BYTES}
+use Rattle.rail_base.specs.declared.limits.TheConstants.{MAX_TABLE_BYTES}
 use Rattle.rail_io.specs.Folders.{Files, file_at}
 use Rattle.rail_csv.specs.declared.rows.Table.{Table}
 use Rattle.rail_csv.specs.declared.rows.Table.TheVariants as table
@@ -37,7 +37,7 @@ bytes_of files dir table = file_at files (path_of dir table)
 
 -- a table's file is no longer than a table may be, and its bytes read as these rows
 pub record IsFileOf (files : Files) (dir : List ℕ) (table : Table) (rows : RowsOf table) : Type 0 where
-  pub few : length (bytes_of files dir table) ≤ MOST_TABLE_BYTES
+  pub few : length (bytes_of files dir table) ≤ MAX_TABLE_BYTES
   pub read : reading table (bytes_of files dir table) ≡ Ok rows
 
 -- each of the six files is the table of its rows
@@ -60,7 +60,7 @@ pub record AreAcceptedAsDay (files : Files) (dir : List ℕ) (day : Day) : Type 
 -- the bytes of a table's file, where they are not too many
 unfoldable pub bytes_in : Files → List ℕ → Table → Result (List ℕ) Refusal
 bytes_in files dir table =
-    if nat_lt MOST_TABLE_BYTES (length (bytes_of files dir table)) then Err (TooLong table)
+    if nat_lt MAX_TABLE_BYTES (length (bytes_of files dir table)) then Err (TooLong table)
     else Ok (bytes_of files dir table)
 
 -- a table's refusal is one of its file

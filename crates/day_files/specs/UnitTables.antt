@@ -3,7 +3,7 @@ use Rattle.std.specs.Prelude.{ℕ, ◌≡◌, List, Ok}
 use Rattle.rail_io.specs.Folders.{Files}
 use Rattle.rail_csv.specs.declared.rows.Table.TheVariants as table
 use Rattle.rail_csv.specs.Rows.{AreTypeRows, AreStationRows, AreStockRows}
-use Rattle.rail_csv.specs.Tables.{stations_of, stock_of, types_of}
+use Rattle.rail_csv.specs.Tables.{station_rows_of, stock_rows_of, type_rows_of}
 use Rattle.day_files.specs.declared.inputs.UnitTables.{UnitTables}
 use Rattle.day_files.specs.Kept.{IsReadTable}
 use Rattle.day_files.specs.Tables.{table_in}
@@ -13,9 +13,9 @@ pub record AreUnitTables (units : UnitTables) : Type 0 where
   pub types : AreTypeRows units.types.table
   pub stations : AreStationRows units.stations.table
   pub stock : AreStockRows units.stock.table
-  pub types_kept : IsReadTable types_of units.types
-  pub stations_kept : IsReadTable stations_of units.stations
-  pub stock_kept : IsReadTable stock_of units.stock
+  pub types_kept : IsReadTable type_rows_of units.types
+  pub stations_kept : IsReadTable station_rows_of units.stations
+  pub stock_kept : IsReadTable stock_rows_of units.stock
 
 -- the files of a folder hold these three tables
 pub record AreUnitTablesIn (files : Files) (dir : List ℕ) (units : UnitTables) : Type 0 where

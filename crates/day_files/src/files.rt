@@ -1,7 +1,7 @@
 //! One file of a folder, read whole.
 
 ghost use Rattle.std.specs.Prelude.{◌≡◌, ◌≤◌, true, Some, length, IfOk, IfErr, string_bytes};
-ghost use Rattle.rail_base.specs.declared.limits.TheConstants.{MOST_FILE_BYTES};
+ghost use Rattle.rail_base.specs.declared.limits.TheConstants.{MAX_FILE_BYTES};
 ghost use Rattle.rail_io.specs.Folders.{Files, OnlyReads, faults_after};
 ghost use Rattle.rail_io.specs.Wholes.{tells_read_fault};
 ghost use Rattle.day_files.specs.OneFile.{IsFileCaused, ReadsFile, bytes_at, path_in};
@@ -36,7 +36,7 @@ pub fn file_in<F: Folder>(
     name: &str,
     limit: u64,
 ) -> Result<Bytes, FileRefusal>
-    requires { limit ≤ MOST_FILE_BYTES }
+    requires { limit ≤ MAX_FILE_BYTES }
     ensures told { (files : Files) → F.holds folder.old ≡ Some files
         → ReadsFile (bytes_at files dir.now name.now) limit result }
     ensures few { IfOk result (λ bytes. length bytes ≤ limit) }

@@ -9,7 +9,7 @@ ghost use Rattle.day_files.specs.Inputs.{day_in, inputs_in};
 ghost use Rattle.day_files.specs.OneFile.{PathsNest};
 ghost use Rattle.day_files.specs.Tables.{AreAcceptedAsDay, IsMadeDay};
 ghost use Rattle.timetable.specs.Accepted.{IsSoundDay};
-ghost use Rattle.day_files.specs.Acceptance.{AreAccepted, IsFirstRefused, IsOfPlan};
+ghost use Rattle.day_files.specs.Acceptance.{AreAccepted, IsFirstRefusal, IsOfPlan};
 
 /// For every folder: its six files are accepted as a day exactly where each of them is a table of its rows, and the
 /// tables make the day. A refusal comes exactly where its file is the first that is wrong by itself, and wrong in this
@@ -18,7 +18,7 @@ pub fn what_is_accepted_as_day()
     ensures accepted { (files : Files) (dir : List ℕ) (day : Day)
         → (day_in files dir ≡ Ok day) ↔ AreAcceptedAsDay files dir day }
     ensures refused { (files : Files) (dir : List ℕ) (why : Refusal)
-        → (day_in files dir ≡ Err why) ↔ (IsFirstRefused files dir why × ¬ IsOfPlan why) }
+        → (day_in files dir ≡ Err why) ↔ (IsFirstRefusal files dir why × ¬ IsOfPlan why) }
 {}
 
 /// For every folder: its files are accepted as a day and a plan exactly where each of the seven is a table of its rows,
@@ -30,7 +30,7 @@ pub fn what_is_accepted()
     ensures accepted { (files : Files) (dir : List ℕ) (inputs : Inputs)
         → (inputs_in files dir ≡ Ok inputs) ↔ AreAccepted files dir inputs }
     ensures refused { (files : Files) (dir : List ℕ) (why : Refusal)
-        → (inputs_in files dir ≡ Err why) ↔ IsFirstRefused files dir why }
+        → (inputs_in files dir ≡ Err why) ↔ IsFirstRefusal files dir why }
 {}
 
 /// A day as which the files of a folder are accepted is one that tables make whose rows keep within the ranges of their

@@ -11,7 +11,7 @@ use crate::errors::{ReadError, Refusal};
 use crate::files::file_in;
 use crate::names::file_name;
 use rail_base::Bytes;
-use rail_base::limits::MOST_TABLE_BYTES;
+use rail_base::limits::MAX_TABLE_BYTES;
 use rail_csv::{Table, TableRefusal};
 use rail_io::{FileRefusal, Folder};
 use std::alloc::Global;
@@ -27,14 +27,14 @@ fn bytes_of<F: Folder>(
 ) -> Result<Bytes, ReadError>
     ensures told { (files : Files) → F.holds folder.old ≡ Some files
         → Reads (λ other. other ≡ table) result (bytes_in files dir.now table) }
-    ensures few { IfOk result (λ bytes. length bytes ≤ MOST_TABLE_BYTES) }
+    ensures few { IfOk result (λ bytes. length bytes ≤ MAX_TABLE_BYTES) }
     ensures says { IfErr result (IsErrorOf (λ other. other ≡ table)) }
     ensures caused { IfErr result (IsCaused F.may_fail F.faults F.taken dir.now folder.old folder.new) }
     ensures fault_counted { F.counts_failed ≡ true
         → F.faults folder.new ≡ faults_after (tells_unread is_unread result) (F.faults folder.old) }
     ensures only_reads { OnlyReads F.holds F.may_fail F.faults F.taken folder.old folder.new }
 {
-    match file_in(alloc, folder, dir, file_name(table), MOST_TABLE_BYTES) {
+    match file_in(alloc, folder, dir, file_name(table), MAX_TABLE_BYTES) {
         Ok(bytes) => Ok(bytes),
         Err(FileRefusal::ReadFault) => Err(ReadError::CannotRead(table)),
         Err(FileRefusal::TooLong) => Err(ReadError::Refused(Refusal::TooLong(table))),
@@ -45,7 +45,7 @@ fn bytes_of<F: Folder>(
 /// What the refusal of a table comes to.
 fn error_of(table: Table, refusal: TableRefusal) -> ReadError
     ensures value { result ≡ error_of table refusal }
-    ensures says { (bytes : List ℕ) → length bytes ≤ MOST_TABLE_BYTES → IsWrong table bytes refusal
+    ensures says { (bytes : List ℕ) → length bytes ≤ MAX_TABLE_BYTES → IsWrong table bytes refusal
         → IsErrorOf (λ other. other ≡ table) result }
 {
     match refusal {

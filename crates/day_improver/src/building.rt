@@ -10,7 +10,7 @@ use moves::clusters::Clusters;
 use moves::events::{Arrival, Event, EventKind};
 use moves::network::{EdgeRow, LinkRow, TripRow, Units, YardRow};
 use price_guide::PriceGuide;
-use rail_base::limits::MOST_TYPES;
+use rail_base::limits::MAX_TYPES;
 use rail_base::{CompNo, LinkNo, Minute, NoMemory, StationNo, TripNo, TypeNo};
 use std::alloc::Global;
 use timetable::{Instance, Link, beyond, turned};
@@ -158,19 +158,19 @@ fn trip_row(instance: &Instance, trip: TripNo) -> TripRow
 fn units_of(alloc: Global, instance: &Instance) -> Result<Vec<Units>, NoMemory> {
     let mut rows = Vec::new(alloc);
     for comp in 0..instance.catalogue().len() {
-        rows.push(counted(instance.catalogue().get(CompNo(comp)).units()))?;
+        rows.push(units_of_types(instance.catalogue().get(CompNo(comp)).units()))?;
     }
     Ok(rows)
 }
 
 /// How many units of each type there are in a list.
-fn counted(types: &[TypeNo]) -> Units {
+fn units_of_types(types: &[TypeNo]) -> Units {
     let mut units = Units {
-        by_type: [0; MOST_TYPES],
+        by_type: [0; MAX_TYPES],
     };
     for unit_type in types {
         let place = unit_type.place();
-        if place < MOST_TYPES {
+        if place < MAX_TYPES {
             units.by_type[place] = units.by_type[place].saturating_add(1);
         }
     }

@@ -2,7 +2,7 @@
 
 use branch_tree::{Cut, Region};
 use moves::Network;
-use rail_base::limits::MOST_TYPES;
+use rail_base::limits::MAX_TYPES;
 use rail_base::{NoMemory, TripNo, TypeNo};
 use std::alloc::Global;
 use timetable::Picks;
@@ -41,7 +41,7 @@ impl PickCounts {
         self.taken = self.taken.saturating_add(1);
         for trip in 0..picks.len() {
             let units = network.units(picks.get(TripNo(trip)));
-            for unit_type in 0..self.types.min(MOST_TYPES) {
+            for unit_type in 0..self.types.min(MAX_TYPES) {
                 let place = (trip as usize)
                     .saturating_mul(self.types)
                     .saturating_add(unit_type);

@@ -18,11 +18,11 @@ use timetable::{Instance, Picks};
 use transitions::Graphs;
 
 /// How many moves in turn may gain nothing while a plan has violations, before all is built anew.
-const MOST_STALLED: u32 = 40;
+const MAX_STALLED: u32 = 40;
 /// How many clusters a move frees at most, where it does not free all.
-const MOST_FREED: u32 = 8;
+const MAX_FREED: u32 = 8;
 /// How many clusters a move frees at most at a node that is not the root.
-const MOST_FREED_BELOW: u32 = 5;
+const MAX_FREED_BELOW: u32 = 5;
 
 /// Plans of a day, and the room in which they are changed.
 #[derive(Drop)]
@@ -216,7 +216,7 @@ impl PlanSearch {
     pub(crate) fn take_move(&mut self) {
         self.made = self.made.saturating_add(1);
         self.stalled = self.stalled.saturating_add(1);
-        let is_whole = self.plans.current.violations != 0 && self.stalled >= MOST_STALLED;
+        let is_whole = self.plans.current.violations != 0 && self.stalled >= MAX_STALLED;
         let by_lists = if is_whole {
             self.rebuilt % 2 != 0
         } else {
@@ -247,7 +247,7 @@ impl PlanSearch {
         let clusters = self.room.clusters();
         let count = self
             .draws
-            .below(clusters.min(MOST_FREED_BELOW))
+            .below(clusters.min(MAX_FREED_BELOW))
             .saturating_add(1);
         for _ in 0..count {
             let cluster = self.draws.below(clusters) as usize;
@@ -300,8 +300,8 @@ impl PlanSearch {
         }
         let clusters = self.room.clusters();
         let limit = clusters
-            .min(MOST_FREED)
-            .min((self.stalled / MOST_STALLED).saturating_add(3));
+            .min(MAX_FREED)
+            .min((self.stalled / MAX_STALLED).saturating_add(3));
         let count = self.draws.below(limit).saturating_add(1);
         for number in 0..count {
             let alike = manner == 0 || (manner == 1 && number > 0);

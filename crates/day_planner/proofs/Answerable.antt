@@ -13,13 +13,13 @@ use Rattle.price_bound.specs.DayMeanings.{meanings_of}
 use Rattle.price_bound.proofs.ChangedRelaxation.{changed_relaxes}
 use Rattle.price_bound.proofs.SmallValues.{changed_values_are_small, values_are_small}
 use Rattle.price_bound.proofs.Whole.{relaxes}
-use Rattle.answer_text.specs.declared.limits.TheConstants.{MOST_INDEX}
+use Rattle.answer_text.specs.declared.limits.TheConstants.{MAX_INDEX}
 use Rattle.answer_check.proofs.Unchanged.{unchanged_means}
 use Rattle.day_planner.specs.Answerable.{IsAnswerable}
 use Rattle.day_planner.specs.Laws.{ChangedDaysAreAnswerable, DaysAreAnswerable}
 
 -- a document writes the indices of an accepted day
-few_indices : (day : Day) → IsSoundDay day → length (places_of day) ≤ MOST_INDEX
+few_indices : (day : Day) → IsSoundDay day → length (places_of day) ≤ MAX_INDEX
 few_indices day sound = omega (arith, sound.indices)
 
 pub days_are_answerable : DaysAreAnswerable

@@ -4,7 +4,7 @@ use Rattle.std.proofs.Common.{arith}
 use Rattle.std.specs.Prelude.{if◌then◌else◌}
 use Rattle.branch_tree.specs.declared.tree.Node.{Node}
 use Rattle.branch_tree.specs.declared.tree.Node.TheVariants.{Branch, CostLeaf, RayLeaf, EmptyLeaf}
-use Rattle.branch_tree.specs.Claims.{EndsInTime, HasOpenLeaf, IsNotEvidentAt, Priced, is_below, open_leaves_of}
+use Rattle.branch_tree.specs.Claims.{EndsInTime, HasOpenLeaf, IsNotEvidentAt, CostedPicks, is_below, open_leaves_of}
 use Rattle.branch_tree.specs.Laws.{AreFewBranches}
 use Rattle.branch_tree.specs.Meanings.{IsRelaxation, Meanings}
 use Rattle.branch_tree.specs.Regions.{IsFilled, choices_of}
@@ -12,7 +12,7 @@ use Rattle.branch_tree.specs.Trees.{Covers, IsProperAt, IsSingleAt, Walks, branc
 use Rattle.branch_tree.proofs.Ending.{proper_cuts_end}
 use Rattle.branch_tree.proofs.Settling.{single_picks_are_evident}
 
-module _ (problem : Meanings) (relaxation : IsRelaxation problem) (plan : Option Priced) where
+module _ (problem : Meanings) (relaxation : IsRelaxation problem) (plan : Option CostedPicks) where
   abbrev NotEvident : List (List Bool) → Node → Type 0
   NotEvident = IsNotEvidentAt problem plan
 
@@ -39,7 +39,7 @@ module _ (problem : Meanings) (relaxation : IsRelaxation problem) (plan : Option
 
 -- where as many branchings were made as the root has choices, less one, no leaf is open
 pub enough_leave_none_open : (problem : Meanings) → IsRelaxation problem → (root : List (List Bool)) → IsFilled root
-    → (plan : Option Priced) (nodes : List Node)
+    → (plan : Option CostedPicks) (nodes : List Node)
     → Covers problem.catalogue (IsProperAt problem.catalogue) root nodes → EndsInTime problem root plan nodes
     → choices_of root ≤ branchings_of nodes + 1 → HasOpenLeaf plan nodes → ⊥
 enough_leave_none_open problem relaxation root filled plan nodes proper in_time enough some =

@@ -5,7 +5,7 @@ use Rattle.std.specs.Prelude.{All, unsigned_abs}
 use Rattle.std.proofs.lemmas.Int.{ints}
 use Rattle.std.proofs.lemmas.List.{length-set}
 use Rattle.std.proofs.lemmas.List.Elements.{All-cons, All-head, All-nil, All-tail}
-use Rattle.rail_base.specs.declared.limits.TheConstants.{MOST_COMPOSITIONS, MOST_TRIPS}
+use Rattle.rail_base.specs.declared.limits.TheConstants.{MAX_COMPOSITIONS, MAX_TRIPS}
 use Rattle.timetable.specs.Day.{Day}
 use Rattle.branch_tree.specs.declared.cuts.Cut.{Cut}
 use Rattle.branch_tree.specs.declared.cuts.Cut.TheVariants.{Only, AtMost}
@@ -20,9 +20,9 @@ use Rattle.branch_tree.specs.Cuts.{is_on, side_of, trip_of, IsProper}
 use Rattle.branch_tree.specs.Entries.{AreMultipliers, DoFit}
 use Rattle.branch_tree.specs.Meanings.{Meanings, priced}
 use Rattle.branch_tree.specs.Regions.{set_at}
-use Rattle.branch_tree.specs.Sets.{kept}
+use Rattle.branch_tree.specs.Sets.{restricted}
 use Rattle.branch_tree.specs.Trees.{KeepLimits, Walks, bounds_of, cut_of, multipliers_of, regions_below}
-use Rattle.price_bound.specs.declared.sizes.TheConstants.{MOST_VALUE}
+use Rattle.price_bound.specs.declared.sizes.TheConstants.{MAX_PRICED_VALUE}
 use Rattle.answer_text.specs.Limits.{AreEntries, IsAmount, IsCut, IsNode}
 use Rattle.day_planner.specs.Answerable.{IsAnswerable}
 
@@ -38,13 +38,13 @@ sides_long : (trips : ℕ) (catalogue : List (List ℕ)) (region : List (List Bo
 sides_long trips catalogue region None regions long others = others
 sides_long trips catalogue region (Some cut) regions long others =
     All-cons (IsLong trips) (side_of catalogue cut Left region) (side_of catalogue cut Right region ∷ regions)
-    (length-set region (trip_of cut) (kept (is_on catalogue cut Left) (set_at region (trip_of cut))) ∙ long)
+    (length-set region (trip_of cut) (restricted (is_on catalogue cut Left) (set_at region (trip_of cut))) ∙ long)
     (All-cons (IsLong trips) (side_of catalogue cut Right region) regions
-    (length-set region (trip_of cut) (kept (is_on catalogue cut Right) (set_at region (trip_of cut))) ∙ long) others)
+    (length-set region (trip_of cut) (restricted (is_on catalogue cut Right) (set_at region (trip_of cut))) ∙ long) others)
 
 -- the numbers of a proper cut are within the limits
-cut_within : (catalogue : List (List ℕ)) (region : List (List Bool)) (cut : Cut) → length region ≤ MOST_TRIPS
-    → length catalogue ≤ MOST_COMPOSITIONS → IsProper catalogue region cut → IsCut cut
+cut_within : (catalogue : List (List ℕ)) (region : List (List Bool)) (cut : Cut) → length region ≤ MAX_TRIPS
+    → length catalogue ≤ MAX_COMPOSITIONS → IsProper catalogue region cut → IsCut cut
 cut_within catalogue region (Only trip comp) long few proper =
     (omega (arith, proper.in_range.0, long), omega (arith, proper.in_range.1, few))
 cut_within catalogue region (AtMost trip unit_type count) long few proper =
@@ -63,10 +63,10 @@ module _ (day : Day) (problem : Meanings) (root : List (List Bool)) (is : IsAnsw
   value_within : (region : List (List Bool)) (entries : List Entry) (value : ℤ) → AreMultipliers entries
       → IsChainValue problem region entries Cost value → IsAmount value
   value_within region entries value keeps chain =
-      let below : unsigned_abs (priced problem entries Cost chain.picks) < MOST_VALUE =
+      let below : unsigned_abs (priced problem entries Cost chain.picks) < MAX_PRICED_VALUE =
       is.small chain.picks entries (is.relaxation.near_follow chain.picks region chain.near) keeps in
-      let known : unsigned_abs value < MOST_VALUE =
-      subst (λ (v : ℤ). unsigned_abs v < MOST_VALUE) chain.reached below in
+      let known : unsigned_abs value < MAX_PRICED_VALUE =
+      subst (λ (v : ℤ). unsigned_abs v < MAX_PRICED_VALUE) chain.reached below in
       omega (arith, known)
 
   node_within : (region : List (List Bool)) (node : Node) → IsLong problem.trips region
@@ -104,16 +104,16 @@ module _ (day : Day) (problem : Meanings) (root : List (List Bool)) (is : IsAnsw
         within = λ k d below. absurd (omega (arith, below));
         few = omega arith;
       } in
-      let below : unsigned_abs (problem.cost picks +ℤ pos 0) < MOST_VALUE =
+      let below : unsigned_abs (problem.cost picks +ℤ pos 0) < MAX_PRICED_VALUE =
       is.small picks [] follow none in
-      let known : unsigned_abs (cost +ℤ pos 0) < MOST_VALUE =
-      subst (λ (c : ℤ). unsigned_abs (c +ℤ pos 0) < MOST_VALUE) same_cost below in
+      let known : unsigned_abs (cost +ℤ pos 0) < MAX_PRICED_VALUE =
+      subst (λ (c : ℤ). unsigned_abs (c +ℤ pos 0) < MAX_PRICED_VALUE) same_cost below in
       alone cost known
     where
-      alone : (c : ℤ) → unsigned_abs (c +ℤ pos 0) < MOST_VALUE → IsAmount c
+      alone : (c : ℤ) → unsigned_abs (c +ℤ pos 0) < MAX_PRICED_VALUE → IsAmount c
       alone c below =
           let same : c +ℤ pos 0 ≡ c = omega (arith, ints) in
-          let known : unsigned_abs c < MOST_VALUE = subst (λ (n : ℤ). unsigned_abs n < MOST_VALUE) same below in
+          let known : unsigned_abs c < MAX_PRICED_VALUE = subst (λ (n : ℤ). unsigned_abs n < MAX_PRICED_VALUE) same below in
           omega (arith, known)
 
 -- the bounds of nodes within the limits are amounts

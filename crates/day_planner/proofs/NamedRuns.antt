@@ -5,7 +5,7 @@ use Rattle.std.specs.Prelude.{All, MatchOption, Option, Some, None}
 use Rattle.std.proofs.lemmas.Bool.{eq-eqb, le-leb, leb-true}
 use Rattle.std.proofs.lemmas.List.{get_or-map, get_or_default, length-map}
 use Rattle.std.proofs.lemmas.List.Elements.{All-cons, All-nil}
-use Rattle.rail_base.specs.declared.limits.TheConstants.{MOST_TRIPS, MOST_UNITS}
+use Rattle.rail_base.specs.declared.limits.TheConstants.{MAX_TRIPS, MAX_UNITS}
 use Rattle.timetable.specs.Accepted.{IsDay}
 use Rattle.timetable.specs.Day.{Day, type_of, types_of}
 use Rattle.timetable.specs.Links.{list_of}
@@ -14,7 +14,7 @@ use Rattle.timetable.specs.Running.{Runs}
 use Rattle.timetable.specs.Admissible.{is_admissible}
 use Rattle.timetable.specs.Picks.{IsSolution}
 use Rattle.unit_duties.specs.Broken.{AreAdmissible}
-use Rattle.branch_tree.specs.Claims.{IsPlanIn, Priced}
+use Rattle.branch_tree.specs.Claims.{IsPlanIn, CostedPicks}
 use Rattle.branch_tree.specs.Meanings.{Meanings}
 use Rattle.branch_tree.specs.Regions.{are_in}
 use Rattle.price_bound.proofs.Solving.{list_read}
@@ -53,7 +53,7 @@ module _ (day : Day) (sound : IsDay day) (plan : List (List ℕ)) (runs : Runs d
       some_units day trip (types_of day (list_of plan trip)) (runs.lists trip inside).admissible in
       record {
         few = omega (arith, few.few, length-map (list_of plan trip) (type_of day));
-        numbers = each_unit MOST_UNITS (list_of plan trip)
+        numbers = each_unit MAX_UNITS (list_of plan trip)
             (λ u here. omega (arith, runs.is_plan.units trip u here, sound.units.few));
       }
 
@@ -61,7 +61,7 @@ module _ (day : Day) (sound : IsDay day) (plan : List (List ℕ)) (runs : Runs d
   pub runs_within : All IsRun plan
   runs_within k d below = subst IsRun (list_read plan k below ∙ get_or_default plan k [] d below) (run_within k below)
 
-  pub few_runs : length plan ≤ MOST_TRIPS
+  pub few_runs : length plan ≤ MAX_TRIPS
   few_runs = omega (arith, runs.is_plan.trips, sound.timetable.trip_count)
 
 -- each pick of a solution may run on its trip
@@ -85,7 +85,7 @@ pub nameable_found : (CanName : List ℕ → Type 0) (found : Found) (problem : 
     → MatchOption (plan_found found) (Unit {0}) (IsPlanIn problem root) → IsNameable CanName found
 nameable_found CanName found problem root names plan = by (plan_found found) plan
   where
-    by : (some : Option Priced) → MatchOption some (Unit {0}) (IsPlanIn problem root)
+    by : (some : Option CostedPicks) → MatchOption some (Unit {0}) (IsPlanIn problem root)
         → MatchOption some (Unit {0}) (λ one. CanName one.picks)
     by None none = tt
     by (Some one) is = names one.picks is.solution is.inside

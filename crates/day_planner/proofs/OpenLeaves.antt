@@ -3,7 +3,7 @@ use Rattle.std.proofs.Common.{◌≡◌, ℕ, ◌+◌, List, [], ◌∷◌, ℤ,
 use Rattle.std.specs.Prelude.{if◌then◌else◌}
 use Rattle.branch_tree.specs.declared.tree.Node.{Node}
 use Rattle.branch_tree.specs.declared.tree.Node.TheVariants.{Branch, CostLeaf, RayLeaf, EmptyLeaf}
-use Rattle.branch_tree.specs.Claims.{is_below, open_leaves_of, plan_of}
+use Rattle.branch_tree.specs.Claims.{is_below, open_leaves_of, concluded_plan}
 use Rattle.answer_text.specs.declared.answer.Answer.{Answer}
 use Rattle.rules.specs.declared.heads.Head.{Head}
 use Rattle.rules.specs.declared.heads.Head.TheVariants.{Optimal, Infeasible, Bounded, BoundedPlan}
@@ -22,7 +22,7 @@ same_open cost picks others (RayLeaf entries ∷ nodes) = ap (λ (n : ℕ). 0 + 
 same_open cost picks others (EmptyLeaf ∷ nodes) = ap (λ (n : ℕ). 0 + n) (same_open cost picks others nodes)
 
 of_head : (head : Head) (picks : List ℕ) (nodes : List Node)
-    → open_leaves_of (plan_of (conclusion_of head picks)) nodes ≡ open_leaves_of (plan_of (conclusion_of head [])) nodes
+    → open_leaves_of (concluded_plan (conclusion_of head picks)) nodes ≡ open_leaves_of (concluded_plan (conclusion_of head [])) nodes
 of_head (Optimal cost) picks nodes = same_open cost.0 picks [] nodes
 of_head Infeasible picks nodes = refl
 of_head (Bounded bound) picks nodes = refl

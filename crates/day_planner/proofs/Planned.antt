@@ -3,11 +3,11 @@ use Rattle.std.proofs.Common.{◌≡◌, ℕ, ◌+◌, ◌*◌, ◌≤◌, List,
 use Rattle.std.proofs.Common.{subst, arith, Option, Some, None}
 use Rattle.std.specs.Prelude.{All, IsSome}
 use Rattle.std.proofs.lemmas.List.Elements.{All-cons, All-contains, All-nil}
-use Rattle.rail_base.specs.declared.limits.TheConstants.{MOST_BRANCHINGS, MOST_NODES, MOST_TRIPS}
+use Rattle.rail_base.specs.declared.limits.TheConstants.{MAX_BRANCHINGS, MAX_NODES, MAX_TRIPS}
 use Rattle.timetable.specs.Day.{Day}
 use Rattle.timetable.specs.Picks.{RunsByPicks}
 use Rattle.branch_tree.specs.declared.tree.Node.{Node}
-use Rattle.branch_tree.specs.Claims.{Conclusion, Priced, plan_of, EndsInTime, HasOpenLeaf, IsPlanIn, IsProved}
+use Rattle.branch_tree.specs.Claims.{Conclusion, CostedPicks, concluded_plan, EndsInTime, HasOpenLeaf, IsPlanIn, IsProved}
 use Rattle.branch_tree.specs.Meanings.{Meanings}
 use Rattle.branch_tree.specs.Trees.{branchings_of, bounds_of}
 use Rattle.branch_tree.proofs.Concluding.{proved_is_concluded}
@@ -20,7 +20,7 @@ use Rattle.search.specs.Conclusions as search
 use Rattle.answer_text.specs.declared.answer.Answer.{Answer}
 use Rattle.rules.specs.declared.heads.Head.{Head}
 use Rattle.rules.specs.declared.heads.Head.TheVariants.{Optimal, Infeasible, Bounded, BoundedPlan}
-use Rattle.answer_text.specs.Limits.{IsAmount, IsHead, IsNode, IsRun, IsWithin, has_plan}
+use Rattle.answer_text.specs.Limits.{IsAmount, IsHead, IsNode, IsRun, IsAnswerWithin, has_plan}
 use Rattle.answer_check.specs.ProvedTrees.{HasProvedTreeIn, bound_said, plan_said}
 use Rattle.answer_check.specs.Validity.{conclusion_of}
 use Rattle.day_planner.specs.Answerable.{IsAnswerable}
@@ -31,7 +31,7 @@ use Rattle.day_planner.proofs.Leaves.{bounds_within, cost_within, nodes_within}
 use Rattle.day_planner.proofs.NamedRuns.{few_runs, runs_within}
 
 -- a head with a bound says what was found with a bound
-bound_found : (head : Head) (picks : List ℕ) (found : Found) → conclusion_of head picks ≡ search.conclusion_of found
+bound_found : (head : Head) (picks : List ℕ) (found : Found) → conclusion_of head picks ≡ search.conclusion_found found
     → IsSome (bound_said head) → IsBounded found
 bound_found head picks (found.Bounded best bound tree) same some = tt
 bound_found (Optimal cost) picks (found.Optimal others least tree) same some = absurd cc
@@ -44,7 +44,7 @@ bound_found (BoundedPlan bound cost) picks (found.Optimal others least tree) sam
 bound_found (BoundedPlan bound cost) picks (found.Infeasible tree) same some = absurd cc
 
 -- what was found with a bound is said by a head with a bound
-bound_of_found : (head : Head) (picks : List ℕ) (found : Found) → conclusion_of head picks ≡ search.conclusion_of found
+bound_of_found : (head : Head) (picks : List ℕ) (found : Found) → conclusion_of head picks ≡ search.conclusion_found found
     → IsBounded found → IsSome (bound_said head)
 bound_of_found head picks (found.Optimal others least tree) same is = absurd is
 bound_of_found head picks (found.Infeasible tree) same is = absurd is
@@ -64,7 +64,7 @@ no_bound (BoundedPlan bound cost) none = absurd (none refl)
 
 module _ (day : Day) (problem : Meanings) (root : List (List Bool)) (is : IsAnswerable day problem root) where
   -- the picks of a plan that was found follow
-  follows : (picks : List ℕ) (plan : Priced) → plan.picks ≡ picks → IsPlanIn problem root plan → problem.Follow picks
+  follows : (picks : List ℕ) (plan : CostedPicks) → plan.picks ≡ picks → IsPlanIn problem root plan → problem.Follow picks
   follows picks plan same inside =
       subst problem.Follow same (is.relaxation.near_follow plan.picks root
       (is.relaxation.solution_near plan.picks root inside.solution inside.inside))
@@ -96,25 +96,25 @@ module _ (day : Day) (problem : Meanings) (root : List (List Bool)) (is : IsAnsw
         → IsProved problem root (conclusion_of answer.head says.picks) answer.branchings answer.tree
     proves granted solved =
         subst (λ (c : Conclusion). IsProved problem root c answer.branchings answer.tree) (sym says.concludes)
-        (subst (λ (nodes : List Node). IsProved problem root (search.conclusion_of found) answer.branchings nodes)
+        (subst (λ (nodes : List Node). IsProved problem root (search.conclusion_found found) answer.branchings nodes)
         (sym says.tree)
-        (subst (λ (n : ℕ). IsProved problem root (search.conclusion_of found) n (nodes_found found))
+        (subst (λ (n : ℕ). IsProved problem root (search.conclusion_found found) n (nodes_found found))
         (sym said_branchings) solved.proved))
 
     -- the runs are within the limits
     runs_are : (planned : Bool) → has_plan answer.head ≡ planned
-        → All IsRun answer.runs × (length answer.runs ≤ MOST_TRIPS)
+        → All IsRun answer.runs × (length answer.runs ≤ MAX_TRIPS)
     runs_are true some =
         let plan : RunsByPicks day answer.runs says.picks = says.planned some in
         (runs_within day is.limits answer.runs plan.runs, few_runs day is.limits answer.runs plan.runs)
     runs_are false none = (
       subst (All IsRun) (sym (says.no_runs none)) (All-nil IsRun),
-      subst (λ (runs : List (List ℕ)). length runs ≤ MOST_TRIPS) (sym (says.no_runs none)) (omega arith),
+      subst (λ (runs : List (List ℕ)). length runs ≤ MAX_TRIPS) (sym (says.no_runs none)) (omega arith),
     )
 
     -- the answer is within the limits of its text
-    is_within : (granted : ℕ) → granted ≤ MOST_BRANCHINGS → IsSolved problem root granted found
-        → IsWithin MOST_NODES answer
+    is_within : (granted : ℕ) → granted ≤ MAX_BRANCHINGS → IsSolved problem root granted found
+        → IsAnswerWithin MAX_NODES answer
     is_within granted few solved =
         let proved : IsProved problem root (conclusion_of answer.head says.picks) answer.branchings answer.tree =
         proves granted solved in
@@ -140,13 +140,13 @@ module _ (day : Day) (problem : Meanings) (root : List (List Bool)) (is : IsAnsw
         }
 
     -- all is so that is said of the tree
-    says_proved : (granted : ℕ) → granted ≤ MOST_BRANCHINGS → IsSolved problem root granted found
+    says_proved : (granted : ℕ) → granted ≤ MAX_BRANCHINGS → IsSolved problem root granted found
         → HasProvedTreeIn day problem root naming granted answer
     says_proved granted few solved =
-        let plan : plan_found found ≡ plan_said answer says.picks = ap plan_of (sym says.concludes) in
+        let plan : plan_found found ≡ plan_said answer says.picks = ap concluded_plan (sym says.concludes) in
         let in_time : EndsInTime problem root (plan_said answer says.picks) answer.tree =
         subst (λ (nodes : List Node). EndsInTime problem root (plan_said answer says.picks) nodes) (sym says.tree)
-        (subst (λ (p : Option Priced). EndsInTime problem root p (nodes_found found)) plan solved.in_time) in
+        (subst (λ (p : Option CostedPicks). EndsInTime problem root p (nodes_found found)) plan solved.in_time) in
         let bound : IsBounded found → IsSome (bound_said answer.head) =
         bound_of_found answer.head says.picks found says.concludes in
         let as_said : IsSome (bound_said answer.head)
@@ -155,13 +155,13 @@ module _ (day : Day) (problem : Meanings) (root : List (List Bool)) (is : IsAnsw
         let both = solved.bounded.0 (bound_found answer.head says.picks found says.concludes some) in (
           ap branchings_of says.tree ∙ both.0,
           subst (λ (nodes : List Node). HasOpenLeaf (plan_said answer says.picks) nodes) (sym says.tree)
-              (subst (λ (p : Option Priced). HasOpenLeaf p (nodes_found found)) plan both.1),
+              (subst (λ (p : Option CostedPicks). HasOpenLeaf p (nodes_found found)) plan both.1),
         ) in
         let as_found : (branchings_of answer.tree ≡ granted) × HasOpenLeaf (plan_said answer says.picks) answer.tree
         → IsBounded found =
         λ both. solved.bounded.1 (
           ap branchings_of (sym says.tree) ∙ both.0,
-          subst (λ (p : Option Priced). HasOpenLeaf p (nodes_found found)) (sym plan)
+          subst (λ (p : Option CostedPicks). HasOpenLeaf p (nodes_found found)) (sym plan)
               (subst (λ (nodes : List Node). HasOpenLeaf (plan_said answer says.picks) nodes) says.tree both.1),
         ) in
         record {

@@ -18,7 +18,7 @@ pub record SaysFound (day : Day) (naming : List ℕ → List (List ℕ)) (found 
   pub planned : HasPicks day answer.head answer.runs picks
   -- the units of the plan, where there is one, are named by the rule
   pub named : IsTrue (has_plan answer.head) → answer.runs ≡ naming picks
-  pub concludes : conclusion_of answer.head picks ≡ search.conclusion_of found
+  pub concludes : conclusion_of answer.head picks ≡ search.conclusion_found found
   pub branchings : answer.branchings ≡ branchings_of answer.tree
   pub tree : answer.tree ≡ search.nodes_found found
   -- runs, only where there is a plan

@@ -1,6 +1,6 @@
 -- What holds of answers that say what a search has found.
 use Rattle.std.specs.Prelude.{ℕ, ◌≡◌, ◌≤◌, List, Bool, length}
-use Rattle.rail_base.specs.declared.limits.TheConstants.{MOST_BRANCHINGS}
+use Rattle.rail_base.specs.declared.limits.TheConstants.{MAX_BRANCHINGS}
 use Rattle.timetable.specs.Accepted.{IsSoundDay}
 use Rattle.timetable.specs.Day.{Day}
 use Rattle.branch_tree.specs.Meanings.{Meanings}
@@ -19,7 +19,7 @@ use Rattle.day_planner.specs.FoundAnswers.{SaysFound}
 -- found there has a tree of which all is so that is said of such trees.
 abbrev pub SaidAnswersAreProved : Meanings → Type 0
 SaidAnswersAreProved problem = (day : Day) (root : List (List Bool)) (naming : List ℕ → List (List ℕ))
-    (grant : ℕ) (found : Found) (answer : Answer) → IsAnswerable day problem root → grant ≤ MOST_BRANCHINGS →
+    (grant : ℕ) (found : Found) (answer : Answer) → IsAnswerable day problem root → grant ≤ MAX_BRANCHINGS →
     IsSolved problem root grant found → SaysFound day naming found answer →
     HasProvedTreeIn day problem root naming grant answer
 

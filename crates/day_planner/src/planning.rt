@@ -1,7 +1,7 @@
 //! From a day to a proved answer: the search, the plan of named units for what it found, and the tree that proves it.
 
 ghost use Rattle.std.specs.Prelude.{ℕ, List, ◌≡◌, ◌≤◌, ◌+◌, ◌*◌, ◌^◌, All, IfOk, IsTrue};
-ghost use Rattle.rail_base.specs.declared.limits.TheConstants.{MOST_BRANCHINGS, MOST_ROUNDS};
+ghost use Rattle.rail_base.specs.declared.limits.TheConstants.{MAX_BRANCHINGS, MAX_ROUNDS};
 ghost use Rattle.transitions.specs.Edges.{AreGraphs};
 ghost use Rattle.branch_tree.specs.Regions.{IsOver, are_in};
 ghost use Rattle.search.specs.Questions.{AreAsked, AreTheSame, in_rounds};
@@ -53,8 +53,8 @@ pub fn answer_to<R: Relaxation, N: Naming, I: Improver>(
         (R.meanings (R.problem problem.old)).catalogue scope.root.now }
     requires names { (picks : List ℕ) → (R.meanings (R.problem problem.old)).IsSolution picks →
         IsTrue (are_in picks scope.root.now) → N.CanName scope.naming.now picks }
-    requires branchings { allowed.branchings ≤ MOST_BRANCHINGS }
-    requires rounds { allowed.rounds ≤ MOST_ROUNDS }
+    requires branchings { allowed.branchings ≤ MAX_BRANCHINGS }
+    requires rounds { allowed.rounds ≤ MAX_ROUNDS }
     requires asked { All (λ advisor. asked advisor ≤ 2 ^ 63) advisors.old.items }
 
     // The problem, and the answer.
@@ -78,9 +78,9 @@ pub fn answer_to<R: Relaxation, N: Naming, I: Improver>(
 
 /// Plans a day by a search of at most so many branchings, and answers it with a proof of what it says.
 ///
-/// `nodes` is how many branchings are granted, at most 4,000, and `rounds` in how many rounds the advisors may be asked
+/// `grant` is how many branchings are granted, at most 4,000, and `rounds` in how many rounds the advisors may be asked
 /// at a node, at most 100: in all, each is asked at most `rounds` times for each node of the tree, of which there are
-/// at most `2 * nodes + 1`. Each advisor was asked at most 2^63 times before.
+/// at most `2 * grant + 1`. Each advisor was asked at most 2^63 times before.
 ///
 /// The answer is true whatever the advisors propose: its plan, where it has one, runs and costs what it says, what it
 /// says of all plans of named units is true of them, and its tree proves that, so that `check_answer` finds it valid.
@@ -92,24 +92,24 @@ pub fn answer_to<R: Relaxation, N: Naming, I: Improver>(
 pub fn answer_for(
     alloc: Global,
     instance: &Instance,
-    nodes: u32,
+    grant: u32,
     rounds: u8,
     advisors: &mut Vec<Box<dyn Advisor>>,
 ) -> Result<Answer, NoMemory>
-    requires nodes { nodes ≤ MOST_BRANCHINGS }
-    requires rounds { rounds ≤ MOST_ROUNDS }
+    requires grant { grant ≤ MAX_BRANCHINGS }
+    requires rounds { rounds ≤ MAX_ROUNDS }
     requires asked { All (λ advisor. asked advisor ≤ 2 ^ 63) advisors.old.items }
-    ensures headline { IfOk result (IsHeadline instance.now nodes) }
+    ensures headline { IfOk result (IsHeadline instance.now grant) }
     ensures checks { IfOk result (λ answer. (verdict : AnswerVerdict) →
         IsAnswerVerdict instance.now answer verdict → verdict ≡ AnswerVerdict.Valid) }
     ensures advisors { AreTheSame advisors.old.items advisors.new.items identity }
-    ensures asked { AreAsked advisors.old.items advisors.new.items asked has_quit 0 (rounds * (2 * nodes + 1)) }
+    ensures asked { AreAsked advisors.old.items advisors.new.items asked has_quit 0 (rounds * (2 * grant + 1)) }
     ensures counted { IfOk result (λ answer. AreAsked advisors.old.items advisors.new.items asked has_quit
         (in_rounds rounds (answer.branchings + open_leaves answer)) (rounds * (2 * answer.branchings + 1))) }
 {
     let graphs = Graphs::build(alloc, instance)?;
     let allowed = Allowed {
-        branchings: nodes,
+        branchings: grant,
         rounds,
     };
     improved_answer_for(alloc, instance, &graphs, allowed, &mut NoImprover, advisors)
@@ -130,8 +130,8 @@ pub fn improved_answer_for<I: Improver>(
     advisors: &mut Vec<Box<dyn Advisor>>,
 ) -> Result<Answer, NoMemory>
     requires graphs { AreGraphs instance.now graphs.now }
-    requires branchings { allowed.branchings ≤ MOST_BRANCHINGS }
-    requires rounds { allowed.rounds ≤ MOST_ROUNDS }
+    requires branchings { allowed.branchings ≤ MAX_BRANCHINGS }
+    requires rounds { allowed.rounds ≤ MAX_ROUNDS }
     requires asked { All (λ advisor. asked advisor ≤ 2 ^ 63) advisors.old.items }
 
     // The answer.
@@ -163,8 +163,8 @@ fn day_answer<I: Improver>(
     advisors: &mut Vec<Box<dyn Advisor>>,
 ) -> Result<Answer, NoMemory>
     requires graphs { AreGraphs instance.now graphs.now }
-    requires branchings { allowed.branchings ≤ MOST_BRANCHINGS }
-    requires rounds { allowed.rounds ≤ MOST_ROUNDS }
+    requires branchings { allowed.branchings ≤ MAX_BRANCHINGS }
+    requires rounds { allowed.rounds ≤ MAX_ROUNDS }
     requires asked { All (λ advisor. asked advisor ≤ 2 ^ 63) advisors.old.items }
     ensures tree { IfOk result (HasProvedTree instance.now allowed.branchings) }
     ensures advisors { AreTheSame advisors.old.items advisors.new.items identity }

@@ -12,7 +12,7 @@ use Rattle.timetable.specs.Starts.{start_of}
 use Rattle.timetable.proofs.Minutes.{are_minutes}
 use Rattle.timetable.proofs.Sums.{sum_same, sum_add, sum_zero}
 use Rattle.inventory.specs.Counts.{takes_of, gives_of, taken_until, ready_until, all_taken, all_given, count_at}
-use Rattle.inventory.specs.Counts.{last_of}
+use Rattle.inventory.specs.Counts.{end_count_of}
 use Rattle.day_reports.specs.YardRows.{YardOf, YardRow, takes_at, taken_at, gives_between, ready_between}
 use Rattle.day_reports.specs.YardRows.{start_row, minute_row, end_row, rows_after}
 use Rattle.day_reports.specs.Laws.{Totals, with_row, IsOfMinute, IsOfEnd, AddUpAfter, YardsAddUp}
@@ -206,7 +206,7 @@ module _ (yard : YardOf) where
 
   last_count : (before : Option ℕ) → taken_so_far yard before ≡ all_taken yard.day yard.lists yard.station yard.unit_type
       → ready_so_far yard before + ready_between yard before None ≡ all_given yard.day yard.lists yard.station yard.unit_type
-      → last_of yard.day yard.lists yard.station yard.unit_type ≡ count_of_row yard before +ℤ pos (ready_between yard before None)
+      → end_count_of yard.day yard.lists yard.station yard.unit_type ≡ count_of_row yard before +ℤ pos (ready_between yard before None)
   last_count None taken ready =
       count_only (start_of yard.day yard.station yard.unit_type) (ready_between yard None None) (all_given yard.day yard.lists yard.station yard.unit_type)
       (all_taken yard.day yard.lists yard.station yard.unit_type) taken ready

@@ -2,7 +2,7 @@
 -- given, and each count follows from that of the row before. And the times that reports print.
 use Rattle.std.specs.Prelude.{ℕ, ◌+◌, ◌≡◌, ◌<◌, List, [], ◌∷◌, true, codes, pos, ◌+ℤ◌}
 use Rattle.rail_base.specs.Times.{clock_text}
-use Rattle.rail_base.specs.declared.limits.TheConstants.{MOST_MINUTES}
+use Rattle.rail_base.specs.declared.limits.TheConstants.{MAX_MINUTES}
 use Rattle.rail_csv.specs.Fields.{is_time, time_of}
 use Rattle.timetable.specs.Minutes.{minutes_of}
 use Rattle.timetable.specs.Starts.{start_of}
@@ -73,4 +73,4 @@ pub record IsReadAgain (minute : ℕ) : Type 0 where
   pub same : time_of (clock_text minute) ≡ minute
 
 abbrev pub TimesAreReadAgain : Type 0
-TimesAreReadAgain = (minute : ℕ) → minute < MOST_MINUTES → IsReadAgain minute
+TimesAreReadAgain = (minute : ℕ) → minute < MAX_MINUTES → IsReadAgain minute

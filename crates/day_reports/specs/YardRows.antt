@@ -8,7 +8,7 @@ use Rattle.timetable.specs.Day.{Day, leaves, from_of, to_of, ready_at}
 use Rattle.timetable.specs.Lists.{sum_below, joined}
 use Rattle.timetable.specs.Minutes.{minutes_of}
 use Rattle.timetable.specs.Starts.{start_of}
-use Rattle.inventory.specs.Counts.{takes_of, gives_of, count_at, last_of}
+use Rattle.inventory.specs.Counts.{takes_of, gives_of, count_at, end_count_of}
 use Rattle.day_reports.specs.Named.{type_name, station_name}
 use Rattle.day_reports.specs.Text.{Column, header_of, row_fields, rows_text}
 
@@ -86,7 +86,7 @@ end_row yard since = record {
   time = codes "end";
   taken = 0;
   ready = ready_between yard since None;
-  count = last_of yard.day yard.lists yard.station yard.unit_type;
+  count = end_count_of yard.day yard.lists yard.station yard.unit_type;
 }
 
 -- the rows of departure minutes and of the end, behind a row of a minute, or behind the row of the start, which has

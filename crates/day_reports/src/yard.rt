@@ -5,7 +5,7 @@ ghost use Rattle.timetable.specs.Lists.{count_of};
 ghost use Rattle.day_reports.specs.YardRows.{gives_between, is_later, is_no_later, ready_between, taken_at, takes_at};
 
 use inventory::Ledger;
-use rail_base::limits::MOST_COMPOSITION;
+use rail_base::limits::MAX_COMPOSITION_UNITS;
 use rail_base::{Minute, StationNo, TripNo, TypeNo};
 use std::marker::Model;
 use timetable::{Instance, Picks};
@@ -65,9 +65,9 @@ pub(crate) struct RowCounts {
 
 /// How many times a type is in a list of at most six.
 fn count_of(unit_type: TypeNo, types: &[TypeNo]) -> u32
-    requires { length types.now ≤ MOST_COMPOSITION }
+    requires { length types.now ≤ MAX_COMPOSITION_UNITS }
     ensures value { result ≡ count_of unit_type types.now }
-    ensures few { result ≤ MOST_COMPOSITION }
+    ensures few { result ≤ MAX_COMPOSITION_UNITS }
 {
     let mut count = 0;
     for each in types {
@@ -111,7 +111,7 @@ impl<'day, 'picks, 'ledger> Yard<'day, 'picks, 'ledger> {
     fn takes_at(&self, trip: TripNo, minute: Minute) -> u32
         requires { trip < length self.now.day.trips }
         ensures value { result ≡ takes_at self.now minute trip }
-        ensures few { result ≤ MOST_COMPOSITION }
+        ensures few { result ≤ MAX_COMPOSITION_UNITS }
     {
         let timetabled = self.instance.trip(trip);
         if timetabled.from != self.station || timetabled.departure != minute {
@@ -138,7 +138,7 @@ impl<'day, 'picks, 'ledger> Yard<'day, 'picks, 'ledger> {
     fn gives_between(&self, trip: TripNo, span: &Span) -> u32
         requires { trip < length self.now.day.trips }
         ensures value { result ≡ gives_between self.now span.now.after span.now.by trip }
-        ensures few { result ≤ MOST_COMPOSITION }
+        ensures few { result ≤ MAX_COMPOSITION_UNITS }
     {
         let ready = self.instance.ready_at(trip).minutes();
         if self.instance.trip(trip).to != self.station || !is_in(span, ready) {

@@ -9,11 +9,11 @@ use Rattle.timetable.specs.Duties.{last_place}
 use Rattle.timetable.specs.Running.{ending, ending_of}
 use Rattle.day_simulator.specs.declared.events.DayEvent.{DayEvent}
 use Rattle.day_simulator.specs.declared.events.DayEvent.TheVariants.{Depart, Arrive}
-use Rattle.day_simulator.specs.declared.events.Place.TheVariants.{Yard}
+use Rattle.day_simulator.specs.declared.events.UnitLocation.TheVariants.{Yard}
 use Rattle.day_simulator.specs.declared.events.Stage.TheVariants as stage
 use Rattle.day_simulator.specs.declared.events.StepFault.{StepFault}
 use Rattle.day_simulator.specs.declared.events.StepFault.TheVariants.{Balance}
-use Rattle.day_simulator.specs.State.{State, place_of, stage_of, is_waiting, has_arrived, is_in_yard}
+use Rattle.day_simulator.specs.State.{State, location_of, stage_of, is_waiting, has_arrived, is_in_yard}
 use Rattle.day_simulator.specs.Finish.{first_not_made, yard_count, first_differing_type, or_else, first_differing}
 use Rattle.day_simulator.specs.Finish.{ended}
 use Rattle.timetable.proofs.Ones.{one_same, one_other, count_below_in, count_below_out}
@@ -79,10 +79,10 @@ pub none_from_balance : (day : Day) (state : State) → ((s m : ℕ) → s < len
 none_from_balance day state h = stations_none day state (below (length day.stations)) (λ s m c d. h s m (is_below (length day.stations) s c) (is_below (length day.types) m d))
 
 -- where each unit is in the yard at the end of its duty, a yard's count is how many units end there
-pub same_count : (day : Day) (plan : List (List ℕ)) (state : State) → ((u : ℕ) → u < unit_count day → (r : ℕ) × (place_of state.places u ≡ Yard (last_place day plan u) r)) → (s m : ℕ) → yard_count day state s m ≡ ending day plan s m
+pub same_count : (day : Day) (plan : List (List ℕ)) (state : State) → ((u : ℕ) → u < unit_count day → (r : ℕ) × (location_of state.locations u ≡ Yard (last_place day plan u) r)) → (s m : ℕ) → yard_count day state s m ≡ ending day plan s m
 unfolding yard_count ending_of
 same_count day plan state h s m =
-    sum_same (λ u. if is_in_yard s (place_of state.places u) && (type_of day u == m) then 1 else 0) (λ u. if (last_place day plan u == s) && (type_of day u == m) then 1 else 0) (unit_count day)
+    sum_same (λ u. if is_in_yard s (location_of state.locations u) && (type_of day u == m) then 1 else 0) (λ u. if (last_place day plan u == s) && (type_of day u == m) then 1 else 0) (unit_count day)
     (λ u lt. ap (λ p. if is_in_yard s p && (type_of day u == m) then 1 else 0) (h u lt).1)
 
 pub ended_ok : (event : Option DayEvent) (fault : Option StepFault) (n cost : ℕ) → ended event fault n ≡ Ok cost → (event ≡ None) × (fault ≡ None) × (cost ≡ n)

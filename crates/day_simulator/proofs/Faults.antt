@@ -50,9 +50,9 @@ module _ (day : Day) (state : State) where
 
 module _ (day : Day) (plan : List (List ℕ)) (state : State) (t : ℕ) where
   -- the faults of a departure that is now
-  pub departure_now : is_now day state (Depart t) ≡ true → train_fault day plan state.places t ≡ fault_of day plan state (Depart t)
+  pub departure_now : is_now day state (Depart t) ≡ true → train_fault day plan state.locations t ≡ fault_of day plan state (Depart t)
   unfolding fault_of
-  departure_now now = sym (ap (λ (b : Bool). cond (not b) (Some (NotNow (Depart t))) (train_fault day plan state.places t)) now)
+  departure_now now = sym (ap (λ (b : Bool). cond (not b) (Some (NotNow (Depart t))) (train_fault day plan state.locations t)) now)
 
   -- the faults of an arrival that is now
   pub arrival_now : is_now day state (Arrive t) ≡ true → option_map (λ l. LinkBroken l) (broken_out day plan t) ≡ fault_of day plan state (Arrive t)

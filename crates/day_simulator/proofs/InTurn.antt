@@ -14,7 +14,7 @@ use Rattle.day_simulator.specs.declared.events.Stage.TheVariants as stage
 use Rattle.day_simulator.specs.declared.events.StepFault.{StepFault}
 use Rattle.day_simulator.specs.declared.events.StepFault.TheVariants.{NotNow, NoUnits, NotAdmissible, LinkBroken}
 use Rattle.day_simulator.specs.declared.events.StepFault.TheVariants.{NotInYard, Balance}
-use Rattle.day_simulator.specs.State.{State, start_of, stage_of, is_waiting, has_arrived}
+use Rattle.day_simulator.specs.State.{State, first_state, stage_of, is_waiting, has_arrived}
 use Rattle.day_simulator.specs.Steps.{is_now, broken_into, broken_out, first_missing, fault_of, after, unless_fault}
 use Rattle.day_simulator.specs.Steps.{steps, fixed_order}
 use Rattle.day_simulator.specs.Finish.{is_made, first_not_made, yard_count, first_differing_type, first_differing}
@@ -43,7 +43,7 @@ departure_tests e t false true link unit h = broken_or_missing e t link unit h
 departure_in_turn : (day : Day) (plan : List (List ℕ)) (state : State) (t : ℕ) (e : DayEvent) → is_now day state (Depart t) ≡ true → fault_of day plan state (Depart t) ≡ Some (NotNow e) → ⊥
 unfolding fault_of
 departure_in_turn day plan state t e now h =
-    departure_tests e t (eqb (length (list_of plan t)) 0) (is_admissible day t (types_of day (list_of plan t))) (broken_into day plan t) (first_missing day t state.places (taken day plan t)) (rw now at h)
+    departure_tests e t (eqb (length (list_of plan t)) 0) (is_admissible day t (types_of day (list_of plan t))) (broken_into day plan t) (first_missing day t state.locations (taken day plan t)) (rw now at h)
 
 only_broken : (e : DayEvent) (link : Option ℕ) → option_map (λ l. LinkBroken l) link ≡ Some (NotNow e) → ⊥
 only_broken e (Some l) h = cc
@@ -128,21 +128,21 @@ end_in_turn (Some fault) cost e balanced h = balanced (ap (λ (f : StepFault). S
 
 never_out_of_turn : (day : Day) (plan : List (List ℕ)) → IsDay day → AreLinks day → (e : DayEvent) → simulation day plan ≡ Err (NotNow e) → ⊥
 unfolding simulation finish_of
-never_out_of_turn day plan is_day links e h = by_steps (steps day plan (start_of day) (fixed_order day)) refl h
+never_out_of_turn day plan is_day links e h = by_steps (steps day plan (first_state day) (fixed_order day)) refl h
   where
     before : ArriveInTime day
     before = arrive_in_time day plan links
 
-    start : Timely day (start_of day) (fixed_order day)
+    start : Timely day (first_state day) (fixed_order day)
     start = timely_start day (fixed_order day) (fixed_is_order day)
 
-    by_steps : (r : Result State StepFault) → steps day plan (start_of day) (fixed_order day) ≡ r → finish_after day plan r ≡ Err (NotNow e) → ⊥
-    by_steps (Err fault) is h = steps_in_turn day plan is_day before (start_of day) (fixed_order day) e start (is ∙ ap (λ (f : StepFault). Err f) (same fault h))
+    by_steps : (r : Result State StepFault) → steps day plan (first_state day) (fixed_order day) ≡ r → finish_after day plan r ≡ Err (NotNow e) → ⊥
+    by_steps (Err fault) is h = steps_in_turn day plan is_day before (first_state day) (fixed_order day) e start (is ∙ ap (λ (f : StepFault). Err f) (same fault h))
       where
         same : (fault : StepFault) → ◌≡◌ {A = Result ℕ StepFault} (Err fault) (Err (NotNow e)) → fault ≡ NotNow e
         same fault h = cc
     by_steps (Ok final) is h =
-        let end = timely_end day plan is_day before (start_of day) final (fixed_order day) start is in
+        let end = timely_end day plan is_day before (first_state day) final (fixed_order day) start is in
         let none : first_not_made final (fixed_order day) ≡ None = none_missing final (fixed_order day) (λ t. end.arrived t refl) in
         end_in_turn (first_differing day final (below (length day.stations))) (plan_cost day plan) e (balance day final (below (length day.stations)) e)
         (subst (λ (o : Option DayEvent). ended o (first_differing day final (below (length day.stations))) (plan_cost day plan) ≡ Err (NotNow e)) none h)

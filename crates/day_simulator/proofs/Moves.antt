@@ -12,8 +12,8 @@ use Rattle.timetable.specs.Links.{list_of, kept, given, taken}
 use Rattle.timetable.specs.Running.{IsPlan, MayFollow}
 use Rattle.day_simulator.specs.declared.events.DayEvent.{DayEvent}
 use Rattle.day_simulator.specs.declared.events.DayEvent.TheVariants.{Depart, Arrive}
-use Rattle.day_simulator.specs.declared.events.Place.{Place}
-use Rattle.day_simulator.specs.declared.events.Place.TheVariants.{Yard, Aboard, Standing}
+use Rattle.day_simulator.specs.declared.events.UnitLocation.{UnitLocation}
+use Rattle.day_simulator.specs.declared.events.UnitLocation.TheVariants.{Yard, Aboard, Standing}
 use Rattle.day_simulator.specs.State.{is_ready, moment_of}
 use Rattle.day_simulator.specs.Orders.{departures, arrivals}
 use Rattle.timetable.proofs.Ones.{one_same, one_other}
@@ -36,7 +36,7 @@ is_trip day plan u t is_plan c =
 
 -- a unit is where the events still to come say: in the train of its trip that is under way, or of its trip that arrived
 -- and whose next trip is still to depart, and else in a yard
-pub record Fits (day : Day) (plan : List (List ℕ)) (u : ℕ) (place : Place) (es : List DayEvent) : Type 0 where
+pub record Fits (day : Day) (plan : List (List ℕ)) (u : ℕ) (place : UnitLocation) (es : List DayEvent) : Type 0 where
   pub under_way : (t : ℕ) → 1 ≤ count_of u (list_of plan t) → departures t es ≡ 0 → 1 ≤ arrivals t es → place ≡ Aboard t
   pub pending : (a b : ℕ) → 1 ≤ count_of u (kept day plan a b) → arrivals a es ≡ 0 → 1 ≤ departures b es → place ≡ Standing a
   pub aboard : (t : ℕ) → place ≡ Aboard t → (1 ≤ count_of u (list_of plan t)) × (departures t es ≡ 0) × (1 ≤ arrivals t es)
@@ -47,24 +47,24 @@ pub record DistinctSoFar (plan : List (List ℕ)) (es : List DayEvent) : Type 0 
   pub distinct : (a : ℕ) → departures a es ≡ 0 → IsDistinct (list_of plan a)
 
 -- how a unit boards a trip
-abbrev pub Boards : Day → List (List ℕ) → ℕ → Place → ℕ → Type 0
+abbrev pub Boards : Day → List (List ℕ) → ℕ → UnitLocation → ℕ → Type 0
 Boards day plan u (Yard s r) t = (1 ≤ count_of u (taken day plan t)) × (from_of day t ≡ s) × (r ≤ leaves day t)
 Boards day plan u (Aboard a) t = MayFollow day plan u a t
 Boards day plan u (Standing a) t = 1 ≤ count_of u (kept day plan a t)
 
 -- a unit can board these trips one after another
-abbrev pub BoardsAll : Day → List (List ℕ) → ℕ → Place → List ℕ → Type 0
+abbrev pub BoardsAll : Day → List (List ℕ) → ℕ → UnitLocation → List ℕ → Type 0
 BoardsAll day plan u place [] = Unit {0}
 BoardsAll day plan u place (t ∷ ts) = Boards day plan u place t × BoardsAll day plan u (Aboard t) ts
 
 -- what a unit that boards a trip comes from
-pub record Boarding (day : Day) (plan : List (List ℕ)) (u t : ℕ) (place : Place) : Type 0 where
+pub record Boarding (day : Day) (plan : List (List ℕ)) (u t : ℕ) (place : UnitLocation) : Type 0 where
   pub boards : Boards day plan u place t
   pub not_aboard : (s : ℕ) → place ≡ Aboard s → ⊥
   pub stood : (a : ℕ) → place ≡ Standing a → 1 ≤ count_of u (kept day plan a t)
 
 module _ (day : Day) (plan : List (List ℕ)) (is_day : IsDay day) (is_plan : IsPlan day plan) (accounted : IsUnbroken day plan) where
-  pub fits_board : (u t : ℕ) (place : Place) (es : List DayEvent) → Lawful day (Depart t ∷ es) → DistinctSoFar plan (Depart t ∷ es) → 1 ≤ count_of u (list_of plan t) → Fits day plan u place (Depart t ∷ es) → Boarding day plan u t place → Fits day plan u (Aboard t) es
+  pub fits_board : (u t : ℕ) (place : UnitLocation) (es : List DayEvent) → Lawful day (Depart t ∷ es) → DistinctSoFar plan (Depart t ∷ es) → 1 ≤ count_of u (list_of plan t) → Fits day plan u place (Depart t ∷ es) → Boarding day plan u t place → Fits day plan u (Aboard t) es
   fits_board u t place es lawful so_far mine fits boarding =
       let left = left_depart day t es lawful in
       record {
@@ -86,7 +86,7 @@ module _ (day : Day) (plan : List (List ℕ)) (is_day : IsDay day) (is_plan : Is
         standing = λ a e. absurd (cc);
       }
 
-  pub fits_pass_depart : (u t : ℕ) (place : Place) (es : List DayEvent) → count_of u (list_of plan t) ≡ 0 → Fits day plan u place (Depart t ∷ es) → Fits day plan u place es
+  pub fits_pass_depart : (u t : ℕ) (place : UnitLocation) (es : List DayEvent) → count_of u (list_of plan t) ≡ 0 → Fits day plan u place (Depart t ∷ es) → Fits day plan u place es
   fits_pass_depart u t place es none fits = record {
     under_way = λ s c d a.
         let ne : t ≢ s = λ e. (let z = subst (λ x. count_of u (list_of plan x) ≡ 0) e none in absurd (omega arith)) in
@@ -103,12 +103,12 @@ module _ (day : Day) (plan : List (List ℕ)) (is_day : IsDay day) (is_plan : Is
         (f.0, f.1, f.2, (let d = f.3 in omega arith));
   }
 
-  pub arrives_aboard : (u t : ℕ) (place : Place) (es : List DayEvent) → Lawful day (Arrive t ∷ es) → 1 ≤ count_of u (list_of plan t) → Fits day plan u place (Arrive t ∷ es) → place ≡ Aboard t
+  pub arrives_aboard : (u t : ℕ) (place : UnitLocation) (es : List DayEvent) → Lawful day (Arrive t ∷ es) → 1 ≤ count_of u (list_of plan t) → Fits day plan u place (Arrive t ∷ es) → place ≡ Aboard t
   arrives_aboard u t place es lawful mine fits =
       let o = one_same t t refl in
       fits.under_way t mine (left_arrive day t es is_day lawful).departs (omega arith)
 
-  pub fits_give : (u t s r : ℕ) (place : Place) (es : List DayEvent) → Lawful day (Arrive t ∷ es) → DistinctSoFar plan (Arrive t ∷ es) → 1 ≤ count_of u (list_of plan t) → 1 ≤ count_of u (given day plan t) → Fits day plan u place (Arrive t ∷ es) → Fits day plan u (Yard s r) es
+  pub fits_give : (u t s r : ℕ) (place : UnitLocation) (es : List DayEvent) → Lawful day (Arrive t ∷ es) → DistinctSoFar plan (Arrive t ∷ es) → 1 ≤ count_of u (list_of plan t) → 1 ≤ count_of u (given day plan t) → Fits day plan u place (Arrive t ∷ es) → Fits day plan u (Yard s r) es
   fits_give u t s r place es lawful so_far mine gives fits =
       let left = left_arrive day t es is_day lawful in
       let at : place ≡ Aboard t = arrives_aboard u t place es lawful mine fits in
@@ -131,7 +131,7 @@ module _ (day : Day) (plan : List (List ℕ)) (is_day : IsDay day) (is_plan : Is
         standing = λ x e. absurd (cc);
       }
 
-  pub fits_keep : (u t : ℕ) (place : Place) (es : List DayEvent) → Lawful day (Arrive t ∷ es) → 1 ≤ count_of u (list_of plan t) → count_of u (given day plan t) ≡ 0 → Fits day plan u place (Arrive t ∷ es) → Fits day plan u (Standing t) es
+  pub fits_keep : (u t : ℕ) (place : UnitLocation) (es : List DayEvent) → Lawful day (Arrive t ∷ es) → 1 ≤ count_of u (list_of plan t) → count_of u (given day plan t) ≡ 0 → Fits day plan u place (Arrive t ∷ es) → Fits day plan u (Standing t) es
   fits_keep u t place es lawful mine not_given fits =
       let left = left_arrive day t es is_day lawful in
       let at : place ≡ Aboard t = arrives_aboard u t place es lawful mine fits in
@@ -159,7 +159,7 @@ module _ (day : Day) (plan : List (List ℕ)) (is_day : IsDay day) (is_plan : Is
             subst (λ y. (b : ℕ) × (1 ≤ count_of u (kept day plan y b)) × (arrivals y es ≡ 0) × (1 ≤ departures b es)) same (goes.0, goes.1, left.arrives, yet);
       }
 
-  pub fits_pass_arrive : (u t : ℕ) (place : Place) (es : List DayEvent) → count_of u (list_of plan t) ≡ 0 → Fits day plan u place (Arrive t ∷ es) → Fits day plan u place es
+  pub fits_pass_arrive : (u t : ℕ) (place : UnitLocation) (es : List DayEvent) → count_of u (list_of plan t) ≡ 0 → Fits day plan u place (Arrive t ∷ es) → Fits day plan u place es
   fits_pass_arrive u t place es none fits = record {
     under_way = λ s c d a. fits.under_way s c d (omega arith);
     pending = λ a b k gone yet.
@@ -177,20 +177,20 @@ module _ (day : Day) (plan : List (List ℕ)) (is_day : IsDay day) (is_plan : Is
   }
 
   -- a unit that was kept for a trip stands in the train that it is kept from when the trip departs
-  pub kept_stands : (u a t : ℕ) (place : Place) (es : List DayEvent) → Lawful day (Depart t ∷ es) → 1 ≤ count_of u (kept day plan a t) → Fits day plan u place (Depart t ∷ es) → place ≡ Standing a
+  pub kept_stands : (u a t : ℕ) (place : UnitLocation) (es : List DayEvent) → Lawful day (Depart t ∷ es) → 1 ≤ count_of u (kept day plan a t) → Fits day plan u place (Depart t ∷ es) → place ≡ Standing a
   kept_stands u a t place es lawful k fits =
       let o = one_same t t refl in
       fits.pending a t k (arrived_before day a t es (accounted.accounts.time u a t k) lawful) (omega arith)
 
   -- a unit of a trip that departs, where those that it takes are ready, comes from a yard or from a train that it is
   -- kept from
-  pub boarding_of : (u t : ℕ) (place : Place) (es : List DayEvent) → Lawful day (Depart t ∷ es) → 1 ≤ count_of u (list_of plan t) → (1 ≤ count_of u (taken day plan t) → is_ready (from_of day t) (leaves day t) place ≡ true) → Fits day plan u place (Depart t ∷ es) → Boarding day plan u t place
+  pub boarding_of : (u t : ℕ) (place : UnitLocation) (es : List DayEvent) → Lawful day (Depart t ∷ es) → 1 ≤ count_of u (list_of plan t) → (1 ≤ count_of u (taken day plan t) → is_ready (from_of day t) (leaves day t) place ≡ true) → Fits day plan u place (Depart t ∷ es) → Boarding day plan u t place
   boarding_of u t place es lawful mine ready fits =
       ⊎_elim (λ (c : 1 ≤ count_of u (taken day plan t)). from_yard place c (ready c))
       (λ (k : (a : ℕ) × (1 ≤ count_of u (kept day plan a t))). from_train k.0 k.1 (kept_stands u k.0 t place es lawful k.1 fits))
       (comes_from day plan accounted.accounts u t mine)
     where
-      from_yard : (p : Place) → 1 ≤ count_of u (taken day plan t) → is_ready (from_of day t) (leaves day t) p ≡ true → Boarding day plan u t p
+      from_yard : (p : UnitLocation) → 1 ≤ count_of u (taken day plan t) → is_ready (from_of day t) (leaves day t) p ≡ true → Boarding day plan u t p
       from_yard (Yard s r) c is =
           let both = and_parts (eqb s (from_of day t)) (leb r (leaves day t)) is in
           record { boards = (c, sym (eqb-true s (from_of day t) both.0), leb-true r (leaves day t) both.1); not_aboard = λ x e. absurd (cc); stood = λ x e. absurd (cc) }
@@ -202,7 +202,7 @@ module _ (day : Day) (plan : List (List ℕ)) (is_day : IsDay day) (is_plan : Is
           (record { boards = k; not_aboard = λ x e. absurd (cc); stood = λ x e. (let same : a ≡ x = cc in subst (λ y. 1 ≤ count_of u (kept day plan y t)) same k) })
 
   -- such a unit is in the trip's list once
-  pub boards_once : (u t : ℕ) (place : Place) (es : List DayEvent) → Lawful day (Depart t ∷ es) → DistinctSoFar plan (Depart t ∷ es) → count_of u (taken day plan t) ≤ 1 → (1 ≤ count_of u (taken day plan t) → is_ready (from_of day t) (leaves day t) place ≡ true) → Fits day plan u place (Depart t ∷ es) → count_of u (list_of plan t) ≤ 1
+  pub boards_once : (u t : ℕ) (place : UnitLocation) (es : List DayEvent) → Lawful day (Depart t ∷ es) → DistinctSoFar plan (Depart t ∷ es) → count_of u (taken day plan t) ≤ 1 → (1 ≤ count_of u (taken day plan t) → is_ready (from_of day t) (leaves day t) place ≡ true) → Fits day plan u place (Depart t ∷ es) → count_of u (list_of plan t) ≤ 1
   boards_once u t place es lawful so_far once ready fits =
       let total = (accounted.accounts.takes t).total u in
       let first = kept_once (accounted.accounts.takes t).first in
@@ -247,7 +247,7 @@ module _ (day : Day) (plan : List (List ℕ)) (is_day : IsDay day) (is_plan : Is
           (accounted.accounts.takes t).apart same
 
   -- the other way round: a unit that can board the trip, and is taken for it, is ready in the yard
-  pub ready_from_boards : (u t : ℕ) (place : Place) (es : List DayEvent) → Lawful day (Depart t ∷ es) → count_of u (list_of plan t) ≤ 1 → 1 ≤ count_of u (taken day plan t) → Fits day plan u place (Depart t ∷ es) → Boards day plan u place t → is_ready (from_of day t) (leaves day t) place ≡ true
+  pub ready_from_boards : (u t : ℕ) (place : UnitLocation) (es : List DayEvent) → Lawful day (Depart t ∷ es) → count_of u (list_of plan t) ≤ 1 → 1 ≤ count_of u (taken day plan t) → Fits day plan u place (Depart t ∷ es) → Boards day plan u place t → is_ready (from_of day t) (leaves day t) place ≡ true
   unfolding moment_of
   ready_from_boards u t (Yard s r) es lawful once c fits h = and_from (eqb s (from_of day t)) (leb r (leaves day t)) (eq-eqb s (from_of day t) (sym h.1)) (le-leb r (leaves day t) h.2)
   ready_from_boards u t (Aboard a) es lawful once c fits (inl k) = absurd (not_taken_and_kept day plan accounted.accounts u a t once c (leb-true 1 _ k))

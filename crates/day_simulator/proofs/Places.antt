@@ -7,24 +7,24 @@ use Rattle.std.proofs.lemmas.List.{get_or-set_same, get_or-set_other, length-set
 use Rattle.std.proofs.lemmas.Bool.{cases_eq, cases_lt, cases_Bool, cond-true, cond-false, false≢true}
 use Rattle.timetable.specs.Day.{Day, leaves, from_of}
 use Rattle.timetable.specs.Lists.{count_of, IsDistinct}
-use Rattle.day_simulator.specs.declared.events.Place.{Place}
-use Rattle.day_simulator.specs.declared.events.Place.TheVariants.{Yard, Aboard}
+use Rattle.day_simulator.specs.declared.events.UnitLocation.{UnitLocation}
+use Rattle.day_simulator.specs.declared.events.UnitLocation.TheVariants.{Yard, Aboard}
 use Rattle.day_simulator.specs.declared.events.Stage.{Stage}
 use Rattle.day_simulator.specs.declared.events.Stage.TheVariants as stage
-use Rattle.day_simulator.specs.State.{place_of, stage_of, is_ready, put_all}
+use Rattle.day_simulator.specs.State.{location_of, stage_of, is_ready, put_all}
 use Rattle.day_simulator.specs.Steps.{first_missing}
 use Rattle.timetable.proofs.Ones.{one_same, one_other}
 
-pub place_same : (places : List Place) (u : ℕ) (p : Place) → u < length places → place_of (slice_set places u p) u ≡ p
-unfolding place_of
-place_same places u p lt = unwrap_or-slice_get (slice_set places u p) u (Yard 0 0) ∙ get_or-set_same places u p (Yard 0 0) lt
+pub place_same : (locations : List UnitLocation) (u : ℕ) (p : UnitLocation) → u < length locations → location_of (slice_set locations u p) u ≡ p
+unfolding location_of
+place_same locations u p lt = unwrap_or-slice_get (slice_set locations u p) u (Yard 0 0) ∙ get_or-set_same locations u p (Yard 0 0) lt
 
-pub place_other : (places : List Place) (u v : ℕ) (p : Place) → v ≢ u → place_of (slice_set places u p) v ≡ place_of places v
-unfolding place_of
-place_other places u v p ne =
-    unwrap_or-slice_get (slice_set places u p) v (Yard 0 0)
-    ∙ get_or-set_other places u v p (Yard 0 0) ne
-    ∙ sym (unwrap_or-slice_get places v (Yard 0 0))
+pub place_other : (locations : List UnitLocation) (u v : ℕ) (p : UnitLocation) → v ≢ u → location_of (slice_set locations u p) v ≡ location_of locations v
+unfolding location_of
+place_other locations u v p ne =
+    unwrap_or-slice_get (slice_set locations u p) v (Yard 0 0)
+    ∙ get_or-set_other locations u v p (Yard 0 0) ne
+    ∙ sym (unwrap_or-slice_get locations v (Yard 0 0))
 
 pub stage_same : (stages : List Stage) (t : ℕ) (s : Stage) → t < length stages → stage_of (slice_set stages t s) t ≡ s
 unfolding stage_of
@@ -47,64 +47,64 @@ have_places_tail n u us h = record { within = λ v c. h.within v (omega arith) }
 pub has_place_head : (n u : ℕ) (us : List ℕ) → HavePlaces n (u ∷ us) → u < n
 has_place_head n u us h = let o = one_same u u refl in h.within u (omega arith)
 
-pub length-put_all : (places : List Place) (us : List ℕ) (p : Place) → length (put_all places us p) ≡ length places
-length-put_all places [] p = refl
-length-put_all places (u ∷ us) p = length-put_all (slice_set places u p) us p ∙ length-set places u p
+pub length-put_all : (locations : List UnitLocation) (us : List ℕ) (p : UnitLocation) → length (put_all locations us p) ≡ length locations
+length-put_all locations [] p = refl
+length-put_all locations (u ∷ us) p = length-put_all (slice_set locations u p) us p ∙ length-set locations u p
 
 -- the other units stay where they are
-pub put_out : (places : List Place) (us : List ℕ) (p : Place) (v : ℕ) → count_of v us ≡ 0 → place_of (put_all places us p) v ≡ place_of places v
-put_out places [] p v c = refl
-put_out places (u ∷ us) p v c =
+pub put_out : (locations : List UnitLocation) (us : List ℕ) (p : UnitLocation) (v : ℕ) → count_of v us ≡ 0 → location_of (put_all locations us p) v ≡ location_of locations v
+put_out locations [] p v c = refl
+put_out locations (u ∷ us) p v c =
     let ne : v ≢ u = λ e. (let o = one_same u v (sym e) in absurd (omega arith)) in
-    put_out (slice_set places u p) us p v (omega arith) ∙ place_other places u v p ne
+    put_out (slice_set locations u p) us p v (omega arith) ∙ place_other locations u v p ne
 
 -- these units are at the place
-pub put_in : (places : List Place) (us : List ℕ) (p : Place) (v : ℕ) → HavePlaces (length places) us → 1 ≤ count_of v us → place_of (put_all places us p) v ≡ p
-put_in places [] p v h c = absurd (omega arith)
-put_in places (u ∷ us) p v h c =
-    let tail = have_places_tail (length places) u us h in
-    let longer = length-set places u p in
+pub put_in : (locations : List UnitLocation) (us : List ℕ) (p : UnitLocation) (v : ℕ) → HavePlaces (length locations) us → 1 ≤ count_of v us → location_of (put_all locations us p) v ≡ p
+put_in locations [] p v h c = absurd (omega arith)
+put_in locations (u ∷ us) p v h c =
+    let tail = have_places_tail (length locations) u us h in
+    let longer = length-set locations u p in
     ⊎_elim
-    (λ (more : 0 < count_of v us). put_in (slice_set places u p) us p v (subst (λ n. HavePlaces n us) (sym longer) tail) (omega arith))
+    (λ (more : 0 < count_of v us). put_in (slice_set locations u p) us p v (subst (λ n. HavePlaces n us) (sym longer) tail) (omega arith))
     (λ (gone : count_of v us ≤ 0).
     let here : u ≡ v = ⊎_elim (λ (e : u ≡ v). e) (λ (ne : u ≢ v). let o = one_other u v ne in absurd (omega arith)) (cases_eq u v) in
-    put_out (slice_set places u p) us p v (omega arith)
-    ∙ subst (λ w. place_of (slice_set places u p) w ≡ p) here (place_same places u p (has_place_head (length places) u us h)))
+    put_out (slice_set locations u p) us p v (omega arith)
+    ∙ subst (λ w. location_of (slice_set locations u p) w ≡ p) here (place_same locations u p (has_place_head (length locations) u us h)))
     (cases_lt 0 (count_of v us))
 
 -- all these units are in the yard where the trip takes them, and ready
-pub record AllReady (day : Day) (t : ℕ) (places : List Place) (us : List ℕ) : Type 0 where
-  pub ready : (v : ℕ) → 1 ≤ count_of v us → is_ready (from_of day t) (leaves day t) (place_of places v) ≡ true
+pub record AllReady (day : Day) (t : ℕ) (locations : List UnitLocation) (us : List ℕ) : Type 0 where
+  pub ready : (v : ℕ) → 1 ≤ count_of v us → is_ready (from_of day t) (leaves day t) (location_of locations v) ≡ true
 
-ready_once : (day : Day) (t : ℕ) (places : List Place) (u : ℕ) (us : List ℕ) → u < length places → AllReady day t (slice_set places u (Aboard t)) us → count_of u us ≡ 0
-ready_once day t places u us lt h =
+ready_once : (day : Day) (t : ℕ) (locations : List UnitLocation) (u : ℕ) (us : List ℕ) → u < length locations → AllReady day t (slice_set locations u (Aboard t)) us → count_of u us ≡ 0
+ready_once day t locations u us lt h =
     ⊎_elim (λ (more : 0 < count_of u us).
     let r = h.ready u (omega arith) in
-    let at = place_same places u (Aboard t) lt in
+    let at = place_same locations u (Aboard t) lt in
     let r' : false ≡ true = subst (λ p. is_ready (from_of day t) (leaves day t) p ≡ true) at r in
     absurd (false≢true r'))
     (λ (gone : count_of u us ≤ 0). omega arith) (cases_lt 0 (count_of u us))
 
-pub record Served (day : Day) (t : ℕ) (places : List Place) (us : List ℕ) : Type 0 where
+pub record Served (day : Day) (t : ℕ) (locations : List UnitLocation) (us : List ℕ) : Type 0 where
   pub distinct : IsDistinct us
-  pub ready : AllReady day t places us
+  pub ready : AllReady day t locations us
 
-served_more : (day : Day) (t : ℕ) (places : List Place) (u : ℕ) (us : List ℕ) → u < length places → is_ready (from_of day t) (leaves day t) (place_of places u) ≡ true → Served day t (slice_set places u (Aboard t)) us → Served day t places (u ∷ us)
-served_more day t places u us lt is h =
-    let gone = ready_once day t places u us lt h.ready in
+served_more : (day : Day) (t : ℕ) (locations : List UnitLocation) (u : ℕ) (us : List ℕ) → u < length locations → is_ready (from_of day t) (leaves day t) (location_of locations u) ≡ true → Served day t (slice_set locations u (Aboard t)) us → Served day t locations (u ∷ us)
+served_more day t locations u us lt is h =
+    let gone = ready_once day t locations u us lt h.ready in
     record {
       distinct = λ v. ⊎_elim (λ (e : u ≡ v). let z = subst (λ w. count_of w us ≡ 0) e gone in let o = one_same u v e in omega arith)
           (λ (ne : u ≢ v). let o = one_other u v ne in let d = h.distinct v in omega arith) (cases_eq u v);
       ready = record {
-        ready = λ v c. ⊎_elim (λ (e : u ≡ v). subst (λ w. is_ready (from_of day t) (leaves day t) (place_of places w) ≡ true) e is)
+        ready = λ v c. ⊎_elim (λ (e : u ≡ v). subst (λ w. is_ready (from_of day t) (leaves day t) (location_of locations w) ≡ true) e is)
             (λ (ne : u ≢ v). let o = one_other u v ne in
-            subst (λ p. is_ready (from_of day t) (leaves day t) p ≡ true) (place_other places u v (Aboard t) (λ e. ne (sym e))) (h.ready.ready v (omega arith)))
+            subst (λ p. is_ready (from_of day t) (leaves day t) p ≡ true) (place_other locations u v (Aboard t) (λ e. ne (sym e))) (h.ready.ready v (omega arith)))
             (cases_eq u v);
       };
     }
 
-served_fewer : (day : Day) (t : ℕ) (places : List Place) (u : ℕ) (us : List ℕ) → Served day t places (u ∷ us) → Served day t (slice_set places u (Aboard t)) us
-served_fewer day t places u us h =
+served_fewer : (day : Day) (t : ℕ) (locations : List UnitLocation) (u : ℕ) (us : List ℕ) → Served day t locations (u ∷ us) → Served day t (slice_set locations u (Aboard t)) us
+served_fewer day t locations u us h =
     let o = one_same u u refl in
     let once = h.distinct u in
     record {
@@ -112,27 +112,27 @@ served_fewer day t places u us h =
       ready = record {
         ready = λ v c.
             let ne : v ≢ u = λ e. (let c' = subst (λ w. 1 ≤ count_of w us) e c in absurd (omega arith)) in
-            subst (λ p. is_ready (from_of day t) (leaves day t) p ≡ true) (sym (place_other places u v (Aboard t) ne)) (h.ready.ready v (omega arith));
+            subst (λ p. is_ready (from_of day t) (leaves day t) p ≡ true) (sym (place_other locations u v (Aboard t) ne)) (h.ready.ready v (omega arith));
       };
     }
 
 -- none is missing exactly where none is there twice and all are ready
-pub served_from_none : (day : Day) (t : ℕ) (places : List Place) (us : List ℕ) → HavePlaces (length places) us → first_missing day t places us ≡ None → Served day t places us
-served_from_none day t places [] h e = record { distinct = λ v. omega arith; ready = record { ready = λ v c. absurd (omega arith) } }
-served_from_none day t places (u ∷ us) h e =
+pub served_from_none : (day : Day) (t : ℕ) (locations : List UnitLocation) (us : List ℕ) → HavePlaces (length locations) us → first_missing day t locations us ≡ None → Served day t locations us
+served_from_none day t locations [] h e = record { distinct = λ v. omega arith; ready = record { ready = λ v c. absurd (omega arith) } }
+served_from_none day t locations (u ∷ us) h e =
     ⊎_elim
-    (λ is. served_more day t places u us (has_place_head _ u us h) is
-    (served_from_none day t (slice_set places u (Aboard t)) us
-    (subst (λ n. HavePlaces n us) (sym (length-set places u (Aboard t))) (have_places_tail _ u us h))
-    (sym (cond-true (is_ready (from_of day t) (leaves day t) (place_of places u)) (first_missing day t (slice_set places u (Aboard t)) us) (Some u) is) ∙ e)))
+    (λ is. served_more day t locations u us (has_place_head _ u us h) is
+    (served_from_none day t (slice_set locations u (Aboard t)) us
+    (subst (λ n. HavePlaces n us) (sym (length-set locations u (Aboard t))) (have_places_tail _ u us h))
+    (sym (cond-true (is_ready (from_of day t) (leaves day t) (location_of locations u)) (first_missing day t (slice_set locations u (Aboard t)) us) (Some u) is) ∙ e)))
     (λ isnt.
-    let some : Some u ≡ None = sym (cond-false (is_ready (from_of day t) (leaves day t) (place_of places u)) (first_missing day t (slice_set places u (Aboard t)) us) (Some u) isnt) ∙ e in
+    let some : Some u ≡ None = sym (cond-false (is_ready (from_of day t) (leaves day t) (location_of locations u)) (first_missing day t (slice_set locations u (Aboard t)) us) (Some u) isnt) ∙ e in
     absurd (cc))
-    (cases_Bool (is_ready (from_of day t) (leaves day t) (place_of places u)))
+    (cases_Bool (is_ready (from_of day t) (leaves day t) (location_of locations u)))
 
-pub none_from_served : (day : Day) (t : ℕ) (places : List Place) (us : List ℕ) → Served day t places us → first_missing day t places us ≡ None
-none_from_served day t places [] h = refl
-none_from_served day t places (u ∷ us) h =
+pub none_from_served : (day : Day) (t : ℕ) (locations : List UnitLocation) (us : List ℕ) → Served day t locations us → first_missing day t locations us ≡ None
+none_from_served day t locations [] h = refl
+none_from_served day t locations (u ∷ us) h =
     let o = one_same u u refl in
-    cond-true (is_ready (from_of day t) (leaves day t) (place_of places u)) (first_missing day t (slice_set places u (Aboard t)) us) (Some u) (h.ready.ready u (omega arith))
-    ∙ none_from_served day t (slice_set places u (Aboard t)) us (served_fewer day t places u us h)
+    cond-true (is_ready (from_of day t) (leaves day t) (location_of locations u)) (first_missing day t (slice_set locations u (Aboard t)) us) (Some u) (h.ready.ready u (omega arith))
+    ∙ none_from_served day t (slice_set locations u (Aboard t)) us (served_fewer day t locations u us h)

@@ -15,7 +15,7 @@ use Rattle.day_simulator.specs.declared.events.DayEvent.{DayEvent}
 use Rattle.day_simulator.specs.declared.events.StepFault.{StepFault}
 use Rattle.day_simulator.specs.Calls.{MakesSteps, Finishes, IsCost}
 use Rattle.day_simulator.specs.Machine.{Machine}
-use Rattle.day_simulator.specs.State.{State, start_of}
+use Rattle.day_simulator.specs.State.{State, first_state}
 use Rattle.day_simulator.specs.State.{trip_of}
 use Rattle.day_simulator.specs.Steps.{steps, fixed_order, insert_event, sorted_events, events_by_trip}
 use Rattle.day_simulator.specs.Finish.{finish_of, finish_after, simulation}
@@ -104,7 +104,7 @@ finishes_as now r r' e ends = subst (Finishes now) e ends
 module _ (day : Day) (plan : List (List ℕ)) where
   -- the day at its start
   abbrev pub beginning : Machine
-  beginning = record { day = day; plan = plan; state = start_of day }
+  beginning = record { day = day; plan = plan; state = first_state day }
 
   pub simulation_stops : (f : StepFault) (new : Machine) → MakesSteps beginning (fixed_order day) (Err f) new → simulation day plan ≡ Err f
   unfolding simulation

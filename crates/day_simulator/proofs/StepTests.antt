@@ -18,14 +18,14 @@ use Rattle.timetable.specs.Running.{IsPlan}
 use Rattle.timetable.specs.Tests.{Test, ◌when◌}
 use Rattle.timetable.proofs.Ones.{one_same, one_other}
 use Rattle.day_simulator.specs.declared.events.DayEvent.TheVariants.{Depart, Arrive}
-use Rattle.day_simulator.specs.declared.events.Place.{Place}
-use Rattle.day_simulator.specs.declared.events.Place.TheVariants.{Yard, Aboard, Standing}
+use Rattle.day_simulator.specs.declared.events.UnitLocation.{UnitLocation}
+use Rattle.day_simulator.specs.declared.events.UnitLocation.TheVariants.{Yard, Aboard, Standing}
 use Rattle.day_simulator.specs.declared.events.Stage.{Stage}
 use Rattle.day_simulator.specs.declared.events.Stage.TheVariants as stage
 use Rattle.day_simulator.specs.declared.events.StepFault.{StepFault}
 use Rattle.day_simulator.specs.declared.events.StepFault.TheVariants.{NotNow, NoUnits, NotAdmissible, LinkBroken}
 use Rattle.day_simulator.specs.declared.events.StepFault.TheVariants.{NotInYard}
-use Rattle.day_simulator.specs.State.{State, place_of, stage_of, moment_of, is_waiting, is_under_way, has_arrived, is_ready}
+use Rattle.day_simulator.specs.State.{State, location_of, stage_of, moment_of, is_waiting, is_under_way, has_arrived, is_ready}
 use Rattle.day_simulator.specs.State.{put_all}
 use Rattle.day_simulator.specs.Steps.{is_now, is_tested_at, broken, broken_into, broken_out, first_missing}
 use Rattle.day_simulator.specs.Steps.{train_fault, fault_of}
@@ -34,7 +34,7 @@ use Rattle.day_simulator.specs.StepTests.{CannotBeTaken, unit_tests, step_tests,
 use Rattle.day_simulator.proofs.FirstTests.{Tested, tested_none, tested_failed, tested_passed, tested_unless, tested_where}
 use Rattle.day_simulator.proofs.FirstTests.{tested_before, tested_behind, told}
 use Rattle.day_simulator.proofs.LinkTrips.{taken_known}
-use Rattle.day_simulator.proofs.PutPlaces.{place_of-put_all, put_all-append}
+use Rattle.day_simulator.proofs.PutPlaces.{location_of-put_all, put_all-append}
 use Rattle.day_simulator.proofs.Timely.{all_arrived}
 
 -- ---- that an event comes now
@@ -198,13 +198,13 @@ below_is (suc n) =
     ap (λ (l : List ℕ). l ++ n ∷ []) (below_is n) ∙ sym (numbers_more 0 n ∙ ap (λ (m : ℕ). numbers_from 0 n ++ m ∷ []) same)
 
 module _ (day : Day) (state : State) (t : ℕ) where
-  abbrev ready_in : Place → Bool
+  abbrev ready_in : UnitLocation → Bool
   ready_in place = is_ready (from_of day t) (leaves day t) place
 
-  stands_ready : (u : ℕ) → ready_in (place_of state.places u) ≡ true → StandsReady day state t u
-  stands_ready u = by_place (place_of state.places u) refl
+  stands_ready : (u : ℕ) → ready_in (location_of state.locations u) ≡ true → StandsReady day state t u
+  stands_ready u = by_place (location_of state.locations u) refl
     where
-      by_place : (p : Place) → place_of state.places u ≡ p → ready_in p ≡ true → StandsReady day state t u
+      by_place : (p : UnitLocation) → location_of state.locations u ≡ p → ready_in p ≡ true → StandsReady day state t u
       by_place (Yard s ready) is h =
           let parts = and_parts (s == from_of day t) (nat_le ready (leaves day t)) h in
           record {
@@ -215,7 +215,7 @@ module _ (day : Day) (state : State) (t : ℕ) where
       by_place (Aboard s) is h = absurd cc
       by_place (Standing s) is h = absurd cc
 
-  is_ready_there : (u : ℕ) → StandsReady day state t u → ready_in (place_of state.places u) ≡ true
+  is_ready_there : (u : ℕ) → StandsReady day state t u → ready_in (location_of state.locations u) ≡ true
   is_ready_there u stands =
       ap ready_in stands.yard ∙ and_from (eqb (from_of day t) (from_of day t)) (nat_le stands.ready (leaves day t)) (eq-eqb (from_of day t) (from_of day t) refl) (le-leb stands.ready (leaves day t) stands.in_time)
 
@@ -223,13 +223,13 @@ module _ (day : Day) (state : State) (t : ℕ) where
   abbrev unit_test : List ℕ → ℕ → Test StepFault
   unit_test before u = NotInYard u t when ((¬ StandsReady day state t u) ⊎ IsTrue (has u before))
 
-  abbrev places_after : List ℕ → List Place
-  places_after before = put_all state.places before (Aboard t)
+  abbrev places_after : List ℕ → List UnitLocation
+  places_after before = put_all state.locations before (Aboard t)
 
-  ready_after : (before : List ℕ) (u : ℕ) (b : Bool) → u < length state.places → has u before ≡ b → ready_in (place_of (places_after before) u) ≡ ready_in (cond b (Aboard t) (place_of state.places u))
-  ready_after before u b inside h = ap ready_in (place_of-put_all state.places before (Aboard t) u inside ∙ ap (λ (c : Bool). cond c (Aboard t) (place_of state.places u)) h)
+  ready_after : (before : List ℕ) (u : ℕ) (b : Bool) → u < length state.locations → has u before ≡ b → ready_in (location_of (places_after before) u) ≡ ready_in (cond b (Aboard t) (location_of state.locations u))
+  ready_after before u b inside h = ap ready_in (location_of-put_all state.locations before (Aboard t) u inside ∙ ap (λ (c : Bool). cond c (Aboard t) (location_of state.locations u)) h)
 
-  can_be_taken : (before : List ℕ) (u : ℕ) → u < length state.places → ready_in (place_of (places_after before) u) ≡ true → ¬ (unit_test before u).fault
+  can_be_taken : (before : List ℕ) (u : ℕ) → u < length state.locations → ready_in (location_of (places_after before) u) ≡ true → ¬ (unit_test before u).fault
   can_be_taken before u inside ready fault = by_taken (has u before) refl
     where
       by_taken : (b : Bool) → has u before ≡ b → ⊥
@@ -238,12 +238,12 @@ module _ (day : Day) (state : State) (t : ℕ) where
           ⊎_elim (λ (absent : ¬ StandsReady day state t u). absent (stands_ready u (sym (ready_after before u false inside h) ∙ ready)))
           (λ (there : IsTrue (has u before)). both_ways (has u before) h there) fault
 
-  cannot_be_taken : (before : List ℕ) (u : ℕ) → u < length state.places → ready_in (place_of (places_after before) u) ≡ false → (unit_test before u).fault
+  cannot_be_taken : (before : List ℕ) (u : ℕ) → u < length state.locations → ready_in (location_of (places_after before) u) ≡ false → (unit_test before u).fault
   cannot_be_taken before u inside ready = by_taken (has u before) refl
     where
       by_taken : (b : Bool) → has u before ≡ b → (¬ StandsReady day state t u) ⊎ IsTrue (has u before)
       by_taken true h = inr h
-      by_taken false h = inl (λ stands. both_ways (ready_in (place_of state.places u)) (sym (ready_after before u false inside h) ∙ ready) (is_ready_there u stands))
+      by_taken false h = inl (λ stands. both_ways (ready_in (location_of state.locations u)) (sym (ready_after before u false inside h) ∙ ready) (is_ready_there u stands))
 
   -- the test of a place
   abbrev place_test : List ℕ → ℕ → Test StepFault
@@ -258,31 +258,31 @@ module _ (day : Day) (state : State) (t : ℕ) where
       (subst (λ (l : List ℕ). Tested ((NotInYard u t when ((¬ StandsReady day state t u) ⊎ IsTrue (has u l))) ∷ tests) fault)
       (sym (ap (λ (l : List ℕ). take (length before) l) is ∙ take-append_seam before (u ∷ us))) tested)
 
-  units_tested : (all before us : List ℕ) → all ≡ before ++ us → ((u : ℕ) → 1 ≤ count_of u us → u < length state.places)
+  units_tested : (all before us : List ℕ) → all ≡ before ++ us → ((u : ℕ) → 1 ≤ count_of u us → u < length state.locations)
       → Tested (map (place_test all) (numbers_from (length before) (length us))) (option_map (λ u. NotInYard u t) (first_missing day t (places_after before) us))
   units_tested all before [] is inside = tested_none StepFault
   units_tested all before (u ∷ us) is inside =
       at_seam all before us u (map (place_test all) (numbers_from (suc (length before)) (length us))) _ is
-      (by_test (ready_in (place_of (places_after before) u)) refl
+      (by_test (ready_in (location_of (places_after before) u)) refl
       (subst (λ (n : ℕ). Tested (map (place_test all) (numbers_from n (length us))) (option_map (λ u. NotInYard u t) (first_missing day t (set (places_after before) u (Aboard t)) us)))
       (length-append before (u ∷ []) ∙ omega arith)
-      (subst (λ (ps : List Place). Tested (map (place_test all) (numbers_from (length (before ++ u ∷ [])) (length us))) (option_map (λ u. NotInYard u t) (first_missing day t ps us)))
-      (put_all-append state.places before (u ∷ []) (Aboard t))
+      (subst (λ (ps : List UnitLocation). Tested (map (place_test all) (numbers_from (length (before ++ u ∷ [])) (length us))) (option_map (λ u. NotInYard u t) (first_missing day t ps us)))
+      (put_all-append state.locations before (u ∷ []) (Aboard t))
       (units_tested all (before ++ u ∷ []) us (is ∙ sym (append_assoc before (u ∷ []) us)) (λ v c. inside v (omega arith))))))
     where
-      here : u < length state.places
+      here : u < length state.locations
       here = let one = one_same u u refl in inside u (omega arith)
 
-      by_test : (b : Bool) → ready_in (place_of (places_after before) u) ≡ b
+      by_test : (b : Bool) → ready_in (location_of (places_after before) u) ≡ b
           → Tested (map (place_test all) (numbers_from (suc (length before)) (length us))) (option_map (λ u. NotInYard u t) (first_missing day t (set (places_after before) u (Aboard t)) us))
           → Tested (unit_test before u ∷ map (place_test all) (numbers_from (suc (length before)) (length us))) (option_map (λ u. NotInYard u t) (cond b (first_missing day t (set (places_after before) u (Aboard t)) us) (Some u)))
       by_test true ready rest = tested_passed (unit_test before u) (map (place_test all) (numbers_from (suc (length before)) (length us))) _ (can_be_taken before u here ready) rest
       by_test false ready rest = tested_failed (unit_test before u) (map (place_test all) (numbers_from (suc (length before)) (length us))) (cannot_be_taken before u here ready)
 
-  all_tested : (us : List ℕ) → ((u : ℕ) → 1 ≤ count_of u us → u < length state.places)
-      → Tested (unit_tests day state t us) (option_map (λ u. NotInYard u t) (first_missing day t state.places us))
+  all_tested : (us : List ℕ) → ((u : ℕ) → 1 ≤ count_of u us → u < length state.locations)
+      → Tested (unit_tests day state t us) (option_map (λ u. NotInYard u t) (first_missing day t state.locations us))
   all_tested us inside =
-      subst (λ (ks : List ℕ). Tested (map (place_test us) ks) (option_map (λ u. NotInYard u t) (first_missing day t state.places us))) (sym (below_is (length us))) (units_tested us [] us refl inside)
+      subst (λ (ks : List ℕ). Tested (map (place_test us) ks) (option_map (λ u. NotInYard u t) (first_missing day t state.locations us))) (sym (below_is (length us))) (units_tested us [] us refl inside)
 
 -- ---- the tests of an event
 
@@ -311,20 +311,20 @@ module _ (day : Day) (plan : List (List ℕ)) (state : State) (t : ℕ) where
   unfolding broken_into
   join_tested = rule_tested day plan true IsJoin joins (incoming day t)
 
-  departure_tested : IsPlan day plan → length state.places ≡ unit_count day → Tested (step_tests day plan state (Depart t)) (fault_of day plan state (Depart t))
+  departure_tested : IsPlan day plan → length state.locations ≡ unit_count day → Tested (step_tests day plan state (Depart t)) (fault_of day plan state (Depart t))
   unfolding fault_of
-  departure_tested is_plan places =
-      tested_where (NotNow (Depart t) when (¬ MayLeave day state t)) of_train (is_now day state (Depart t)) (train_fault day plan state.places t)
+  departure_tested is_plan locations =
+      tested_where (NotNow (Depart t) when (¬ MayLeave day state t)) of_train (is_now day state (Depart t)) (train_fault day plan state.locations t)
       (λ late may. both_ways (is_now day state (Depart t)) late (leaves_now day state t may)) (λ now refused. refused (may_leave day state t now)) (λ now.
       tested_unless (NoUnits t when (list_of plan t ≡ [])) of_types (eqb (length (list_of plan t)) 0) _
       (empty (list_of plan t)) (not_empty (list_of plan t)) (λ some.
       tested_where (NotAdmissible t when (is_admissible day t (types_of day (list_of plan t)) ≡ false)) of_join (is_admissible day t (types_of day (list_of plan t))) _
       (λ unfit. unfit) (λ fits unfit. both_ways (is_admissible day t (types_of day (list_of plan t))) unfit fits) (λ fits.
-      rule_then (rule_tests (BreaksRule day plan IsJoin) (incoming day t)) of_units (broken_into day plan t) (option_map (λ u. NotInYard u t) (first_missing day t state.places (taken day plan t)))
+      rule_then (rule_tests (BreaksRule day plan IsJoin) (incoming day t)) of_units (broken_into day plan t) (option_map (λ u. NotInYard u t) (first_missing day t state.locations (taken day plan t)))
       join_tested (all_tested day state t (taken day plan t) inside))))
     where
-      inside : (u : ℕ) → 1 ≤ count_of u (taken day plan t) → u < length state.places
-      inside u c = let known = taken_known day plan is_plan t u (le-leb 1 (count_of u (taken day plan t)) c) in omega (arith, known, places)
+      inside : (u : ℕ) → 1 ≤ count_of u (taken day plan t) → u < length state.locations
+      inside u c = let known = taken_known day plan is_plan t u (le-leb 1 (count_of u (taken day plan t)) c) in omega (arith, known, locations)
 
   arrival_tested : Tested (step_tests day plan state (Arrive t)) (fault_of day plan state (Arrive t))
   unfolding fault_of broken_out
@@ -334,5 +334,5 @@ module _ (day : Day) (plan : List (List ℕ)) (state : State) (t : ℕ) where
       (λ now. rule_tested day plan false IsTurnOrSplit turns_and_splits (outgoing day t))
 
 pub steps_are_tested : StepsAreTested
-steps_are_tested day plan state (Depart t) is_plan trip places = told (step_tests day plan state (Depart t)) (fault_of day plan state (Depart t)) (departure_tested day plan state t is_plan places)
-steps_are_tested day plan state (Arrive t) is_plan trip places = told (step_tests day plan state (Arrive t)) (fault_of day plan state (Arrive t)) (arrival_tested day plan state t)
+steps_are_tested day plan state (Depart t) is_plan trip locations = told (step_tests day plan state (Depart t)) (fault_of day plan state (Depart t)) (departure_tested day plan state t is_plan locations)
+steps_are_tested day plan state (Arrive t) is_plan trip locations = told (step_tests day plan state (Arrive t)) (fault_of day plan state (Arrive t)) (arrival_tested day plan state t)

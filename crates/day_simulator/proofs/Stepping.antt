@@ -5,8 +5,8 @@ use Rattle.timetable.specs.Day.{Day, to_of, arrives, reallocation_of}
 use Rattle.timetable.specs.Links.{list_of, given}
 use Rattle.day_simulator.specs.declared.events.DayEvent.{DayEvent}
 use Rattle.day_simulator.specs.declared.events.DayEvent.TheVariants.{Depart, Arrive}
-use Rattle.day_simulator.specs.declared.events.Place.{Place}
-use Rattle.day_simulator.specs.declared.events.Place.TheVariants.{Aboard, Yard, Standing}
+use Rattle.day_simulator.specs.declared.events.UnitLocation.{UnitLocation}
+use Rattle.day_simulator.specs.declared.events.UnitLocation.TheVariants.{Aboard, Yard, Standing}
 use Rattle.day_simulator.specs.declared.events.Stage.{Stage}
 use Rattle.day_simulator.specs.declared.events.Stage.TheVariants as stage
 use Rattle.day_simulator.specs.declared.events.StepFault.{StepFault}
@@ -32,20 +32,20 @@ pub step_goes : (old new : Machine) (e : DayEvent) → None ≡ fault_of old.day
 step_goes old new e is now = subst (StepWith old e (Ok tt) new) is (refl, now)
 
 -- units that were put to a place through a borrow of the places
-pub put_in : {A : Type 0} (v : Vec Place A) (us : List ℕ) (p : Place) (ws : List Place) → ws ≡ put_all v.items us p → (with_items v ws).items ≡ put_all v.items us p
+pub put_in : {A : Type 0} (v : Vec UnitLocation A) (us : List ℕ) (p : UnitLocation) (ws : List UnitLocation) → ws ≡ put_all v.items us p → (with_items v ws).items ≡ put_all v.items us p
 put_in v us p ws e = with_items_is v ws (ap length e ∙ length-put_all v.items us p ∙ sym v.ok.0) ∙ e
 
 -- the state after a departure
-pub departed : (day : Day) (plan : List (List ℕ)) (state : State) (t : ℕ) (places : List Place) (stages : List Stage) (moment : ℕ)
-    → places ≡ put_all state.places (list_of plan t) (Aboard t) → stages ≡ slice_set state.stages t stage.UnderWay → moment ≡ moment_of day (Depart t)
-    → record { places = places; stages = stages; moment = moment } ≡ after day plan state (Depart t)
+pub departed : (day : Day) (plan : List (List ℕ)) (state : State) (t : ℕ) (locations : List UnitLocation) (stages : List Stage) (moment : ℕ)
+    → locations ≡ put_all state.locations (list_of plan t) (Aboard t) → stages ≡ slice_set state.stages t stage.UnderWay → moment ≡ moment_of day (Depart t)
+    → record { locations = locations; stages = stages; moment = moment } ≡ after day plan state (Depart t)
 unfolding after
-departed day plan state t places stages moment p s m = rw (p, s, m) refl
+departed day plan state t locations stages moment p s m = rw (p, s, m) refl
 
 -- the state after an arrival
-pub arrived : (day : Day) (plan : List (List ℕ)) (state : State) (t : ℕ) (places : List Place) (stages : List Stage) (moment : ℕ)
-    → places ≡ put_all (put_all state.places (list_of plan t) (Standing t)) (given day plan t) (Yard (to_of day t) (arrives day t + reallocation_of day (to_of day t)))
+pub arrived : (day : Day) (plan : List (List ℕ)) (state : State) (t : ℕ) (locations : List UnitLocation) (stages : List Stage) (moment : ℕ)
+    → locations ≡ put_all (put_all state.locations (list_of plan t) (Standing t)) (given day plan t) (Yard (to_of day t) (arrives day t + reallocation_of day (to_of day t)))
     → stages ≡ slice_set state.stages t stage.Arrived → moment ≡ moment_of day (Arrive t)
-    → record { places = places; stages = stages; moment = moment } ≡ after day plan state (Arrive t)
+    → record { locations = locations; stages = stages; moment = moment } ≡ after day plan state (Arrive t)
 unfolding after
-arrived day plan state t places stages moment p s m = rw (p, s, m) refl
+arrived day plan state t locations stages moment p s m = rw (p, s, m) refl

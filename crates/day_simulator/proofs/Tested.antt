@@ -16,7 +16,7 @@ use Rattle.day_simulator.specs.declared.events.DayEvent.TheVariants.{Depart, Arr
 use Rattle.day_simulator.specs.declared.events.StepFault.{StepFault}
 use Rattle.day_simulator.specs.declared.events.StepFault.TheVariants.{NotNow, NoUnits, NotAdmissible, LinkBroken}
 use Rattle.day_simulator.specs.declared.events.StepFault.TheVariants.{NotInYard}
-use Rattle.day_simulator.specs.State.{State, start_of}
+use Rattle.day_simulator.specs.State.{State, first_state}
 use Rattle.day_simulator.specs.Steps.{is_now, is_tested_at, broken, broken_into, broken_out, first_missing, fault_of}
 use Rattle.day_simulator.specs.Steps.{after, steps}
 use Rattle.day_simulator.specs.Orders.{IsOrder, departures, arrivals}
@@ -38,7 +38,7 @@ passed false x rest e = absurd (cc)
 into_from_none : (day : Day) (plan : List (List ℕ)) (state : State) (t : ℕ) → fault_of day plan state (Depart t) ≡ None → broken_into day plan t ≡ None
 unfolding fault_of
 into_from_none day plan state t e =
-    let missing : Option StepFault = option_map (λ u. NotInYard u t) (first_missing day t state.places (taken day plan t)) in
+    let missing : Option StepFault = option_map (λ u. NotInYard u t) (first_missing day t state.locations (taken day plan t)) in
     let both = tests_pass (is_now day state (Depart t)) (eqb (length (list_of plan t)) 0) (is_admissible day t (types_of day (list_of plan t))) (NotNow (Depart t)) (NoUnits t) (NotAdmissible t)
     (unwrap_or (option_map (λ l. Some (LinkBroken l)) (broken_into day plan t)) missing) e in
     first_none (broken_into day plan t) missing both.1
@@ -94,9 +94,9 @@ module _ (day : Day) (plan : List (List ℕ)) (links : AreLinks day) (es : List 
       let found = place_is arriving_in day.links t l link (links.arriving_once t) at named in
       holds_from_none day plan false l link at here (ap (broken day plan false) (sym found) ∙ none)
 
-  pub links_hold : (final : State) → steps day plan (start_of day) es ≡ Ok final → LinksHold day plan
+  pub links_hold : (final : State) → steps day plan (first_state day) es ≡ Ok final → LinksHold day plan
   links_hold final e = record {
-    holds = λ l link at. by_kind l link at link.kind refl (tested day plan es (start_of day) final e);
+    holds = λ l link at. by_kind l link at link.kind refl (tested day plan es (first_state day) final e);
   }
     where
       by_kind : (l : ℕ) (link : Link) → slice_get day.links l ≡ Some link → (kind : LinkKind) → link.kind ≡ kind → Tested day plan es → link_holds (type_of day) link plan ≡ true

@@ -12,9 +12,9 @@ use Rattle.timetable.specs.Duties.{duty, last_place, last_place_of}
 use Rattle.timetable.specs.Running.{IsPlan, Runs, MayFollow, EachFollows, BeginsAt}
 use Rattle.timetable.specs.Cost.{plan_cost}
 use Rattle.day_simulator.specs.declared.events.DayEvent.{DayEvent}
-use Rattle.day_simulator.specs.declared.events.Place.TheVariants.{Yard, Aboard}
+use Rattle.day_simulator.specs.declared.events.UnitLocation.TheVariants.{Yard, Aboard}
 use Rattle.day_simulator.specs.declared.events.StepFault.{StepFault}
-use Rattle.day_simulator.specs.State.{State, start_of, place_of}
+use Rattle.day_simulator.specs.State.{State, first_state, location_of}
 use Rattle.day_simulator.specs.Steps.{steps, fixed_order}
 use Rattle.day_simulator.specs.Finish.{finish_of, finish_after, simulation, ended, first_not_made, first_differing}
 use Rattle.day_simulator.specs.Orders.{departures, IsOrder, last_ready, EndsAsPlanned}
@@ -106,7 +106,7 @@ module _ (day : Day) (plan : List (List ℕ)) (is_day : IsDay day) (is_plan : Is
       (λ t c. is_trip day plan u t is_plan (leb-true 1 (count_of u (list_of plan t)) (in_legs (runs_on plan u) t es c).0)) boarding_all)
 
   module _ (es : List DayEvent) (order : IsOrder day es) where
-    good_start : Runs day plan → Good day plan (start_of day) es
+    good_start : Runs day plan → Good day plan (first_state day) es
     good_start runs = record {
       lists = λ t c. runs.lists t (trip t c);
       boardings = λ u lt.
@@ -123,18 +123,18 @@ module _ (day : Day) (plan : List (List ℕ)) (is_day : IsDay day) (is_plan : Is
             (λ (ge : length day.trips ≤ t). let z = order.none_departs_beyond t ge in absurd (omega arith)) (cases_lt t (length day.trips))
 
     -- what a unit boards is its duty, where it can board it
-    good_duty : Good day plan (start_of day) es → (u : ℕ) → u < unit_count day → to_board plan u es ≡ duty day plan u
+    good_duty : Good day plan (first_state day) es → (u : ℕ) → u < unit_count day → to_board plan u es ≡ duty day plan u
     good_duty good u lt =
         same_boards u es (fixed_order day) order (fixed_is_order day) (subst (λ p. BoardsAll day plan u p (to_board plan u es)) (start_place day u lt) (good.boardings u lt))
         ∙ boards_duty day plan u
 
-    good_conditions : Good day plan (start_of day) es → (u : ℕ) → u < unit_count day → BeginsAt day (home_of day u) (duty day plan u) × EachFollows (MayFollow day plan u) (duty day plan u)
+    good_conditions : Good day plan (first_state day) es → (u : ℕ) → u < unit_count day → BeginsAt day (home_of day u) (duty day plan u) × EachFollows (MayFollow day plan u) (duty day plan u)
     good_conditions good u lt =
         begins day plan u (home_of day u) (duty day plan u)
         (subst (λ l. BoardsAll day plan u (Yard (home_of day u) 0) l) (good_duty good u lt)
         (subst (λ p. BoardsAll day plan u p (to_board plan u es)) (start_place day u lt) (good.boardings u lt)))
 
-    yards_end : (final : State) → Ran day plan (start_of day) es final → (u : ℕ) → u < unit_count day → place_of final.places u ≡ Yard (last_place day plan u) (last_ready day plan u)
+    yards_end : (final : State) → Ran day plan (first_state day) es final → (u : ℕ) → u < unit_count day → location_of final.locations u ≡ Yard (last_place day plan u) (last_ready day plan u)
     unfolding last_place_of last_ready
     yards_end final ran u lt =
         ran.ended.yards u lt
@@ -145,8 +145,8 @@ module _ (day : Day) (plan : List (List ℕ)) (is_day : IsDay day) (is_plan : Is
     unfolding finish_of
     runs_then_ends runs =
         let going = going_start day plan es order is_plan accounted in
-        let run = run_forward day plan is_day is_plan accounted es (start_of day) going (good_start runs) in
-        let ran = run_backward day plan is_day is_plan accounted es (start_of day) run.0 going run.1 in
+        let run = run_forward day plan is_day is_plan accounted es (first_state day) going (good_start runs) in
+        let ran = run_backward day plan is_day is_plan accounted es (first_state day) run.0 going run.1 in
         let yards = yards_end run.0 ran in
         let made = all_made run.0 (fixed_order day) ran.ended.arrived in
         let none = none_from_balance day run.0 (λ s m c d. same_count day plan run.0 (λ u lt. (last_ready day plan u, yards u lt)) s m ∙ runs.balance s m c d) in
@@ -159,11 +159,11 @@ module _ (day : Day) (plan : List (List ℕ)) (is_day : IsDay day) (is_plan : Is
               ∙ ap (λ o. ended None o (plan_cost day plan)) none;
         }
 
-    pub ends_then_runs : ((l : ℕ) (link : Link) → slice_get day.links l ≡ Some link → link_holds (type_of day) link plan ≡ true) → (final : State) (cost : ℕ) → steps day plan (start_of day) es ≡ Ok final → finish_of day plan final ≡ Ok cost → Runs day plan × (cost ≡ plan_cost day plan)
+    pub ends_then_runs : ((l : ℕ) (link : Link) → slice_get day.links l ≡ Some link → link_holds (type_of day) link plan ≡ true) → (final : State) (cost : ℕ) → steps day plan (first_state day) es ≡ Ok final → finish_of day plan final ≡ Ok cost → Runs day plan × (cost ≡ plan_cost day plan)
     unfolding finish_of
     ends_then_runs links final cost e f =
         let going = going_start day plan es order is_plan accounted in
-        let ran = run_backward day plan is_day is_plan accounted es (start_of day) final going e in
+        let ran = run_backward day plan is_day is_plan accounted es (first_state day) final going e in
         let yards = yards_end final ran in
         let ok = ended_ok (first_not_made final (fixed_order day)) (first_differing day final (below (length day.stations))) (plan_cost day plan) cost f in (
           record {
@@ -181,7 +181,7 @@ module _ (day : Day) (plan : List (List ℕ)) (is_day : IsDay day) (links : AreL
   planned : Runs day plan → EndsAsPlanned day plan es
   planned runs = runs_then_ends day plan is_day is_plan (linked_hands day plan links (record { holds = runs.links })) es order runs
 
-  run_and_cost : (final : State) (cost : ℕ) → steps day plan (start_of day) es ≡ Ok final → finish_of day plan final ≡ Ok cost → Runs day plan × (cost ≡ plan_cost day plan)
+  run_and_cost : (final : State) (cost : ℕ) → steps day plan (first_state day) es ≡ Ok final → finish_of day plan final ≡ Ok cost → Runs day plan × (cost ≡ plan_cost day plan)
   run_and_cost final cost e f =
       let hold = links_hold day plan links es order final e in
       ends_then_runs day plan is_day is_plan (linked_hands day plan links hold) es order hold.holds final cost e f
@@ -199,6 +199,6 @@ run_in_fixed_order day plan is_day links is_plan = (
       let end = planned day plan is_day links is_plan (fixed_order day) (fixed_is_order day) runs in
       ap (finish_after day plan) end.made ∙ end.cost,
   λ cost e.
-      let final = after_ok day plan (steps day plan (start_of day) (fixed_order day)) cost e in
+      let final = after_ok day plan (steps day plan (first_state day) (fixed_order day)) cost e in
       run_and_cost day plan is_day links is_plan (fixed_order day) (fixed_is_order day) final.0 cost final.1 final.2,
 )

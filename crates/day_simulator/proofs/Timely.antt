@@ -14,7 +14,7 @@ use Rattle.day_simulator.specs.declared.events.DayEvent.{DayEvent}
 use Rattle.day_simulator.specs.declared.events.DayEvent.TheVariants.{Depart, Arrive}
 use Rattle.day_simulator.specs.declared.events.Stage.{Stage}
 use Rattle.day_simulator.specs.declared.events.Stage.TheVariants as stage
-use Rattle.day_simulator.specs.State.{State, start_of, stage_of, is_waiting, is_under_way, has_arrived, moment_of}
+use Rattle.day_simulator.specs.State.{State, first_state, stage_of, is_waiting, is_under_way, has_arrived, moment_of}
 use Rattle.day_simulator.specs.Steps.{is_now, after}
 use Rattle.day_simulator.specs.Orders.{IsOrder, departures, arrivals, AllFrom}
 use Rattle.timetable.proofs.Ones.{one_same, one_other}
@@ -105,12 +105,12 @@ gone_already [] t lt = refl
 gone_already (x ∷ trips) zero lt = absurd (omega arith)
 gone_already (x ∷ trips) (suc t) lt = gone_already trips t (omega arith)
 
-start_waits : (day : Day) (t : ℕ) → t < length day.trips → stage_of (start_of day).stages t ≡ stage.Waiting
-unfolding start_of stage_of
+start_waits : (day : Day) (t : ℕ) → t < length day.trips → stage_of (first_state day).stages t ≡ stage.Waiting
+unfolding first_state stage_of
 start_waits day t lt = waits day.trips t lt
 
-start_gone : (day : Day) (t : ℕ) → length day.trips ≤ t → stage_of (start_of day).stages t ≡ stage.Arrived
-unfolding start_of stage_of
+start_gone : (day : Day) (t : ℕ) → length day.trips ≤ t → stage_of (first_state day).stages t ≡ stage.Arrived
+unfolding first_state stage_of
 start_gone day t ge = gone_already day.trips t ge
 
 from_zero : (day : Day) (es : List DayEvent) → AllFrom day 0 es
@@ -118,8 +118,8 @@ from_zero day [] = tt
 from_zero day (e ∷ es) = (omega arith, from_zero day es)
 
 -- before the first event
-pub timely_start : (day : Day) (es : List DayEvent) → IsOrder day es → Timely day (start_of day) es
-unfolding start_of
+pub timely_start : (day : Day) (es : List DayEvent) → IsOrder day es → Timely day (first_state day) es
+unfolding first_state
 timely_start day es order = record {
   lawful = lawful_order day es order;
   moment = from_zero day es;

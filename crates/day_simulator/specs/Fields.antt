@@ -11,7 +11,7 @@ abbrev pub machine_in : Inside → Machine
 machine_in a = record {
   day = a.instance.now;
   plan = a.plan.now;
-  state = record { places = a.places.items; stages = a.stages.items; moment = a.moment };
+  state = record { locations = a.locations.items; stages = a.stages.items; moment = a.moment };
 }
 
 -- the plan is one of the day, and each unit and each trip has its entry
@@ -19,5 +19,5 @@ pub record AreFields (a : Inside) : Type 0 where
   pub sound : IsDay a.instance.now
   pub plan : IsPlan a.instance.now a.plan.now
   pub order : a.order.items ≡ fixed_order a.instance.now
-  pub places : length a.places.items ≡ unit_count a.instance.now
+  pub locations : length a.locations.items ≡ unit_count a.instance.now
   pub stages : length a.stages.items ≡ length a.instance.now.trips

@@ -9,7 +9,7 @@ use Rattle.day_simulator.specs.declared.events.DayEvent.{DayEvent}
 use Rattle.day_simulator.specs.declared.events.DayEvent.TheVariants.{Depart, Arrive}
 use Rattle.day_simulator.specs.declared.events.StepFault.{StepFault}
 use Rattle.day_simulator.specs.declared.events.StepFault.TheVariants.{NotNow, Balance}
-use Rattle.day_simulator.specs.State.{State, start_of, place_of, stage_of, is_waiting, has_arrived, is_in_yard}
+use Rattle.day_simulator.specs.State.{State, first_state, location_of, stage_of, is_waiting, has_arrived, is_in_yard}
 use Rattle.day_simulator.specs.Steps.{steps, fixed_order}
 
 abbrev pub is_made : State → DayEvent → Bool
@@ -23,7 +23,7 @@ first_not_made state (e ∷ es) = if is_made state e then first_not_made state e
 -- how many units of a type stand in the yard of a station
 unfoldable pub yard_count : Day → State → ℕ → ℕ → ℕ
 yard_count day state s m =
-    count_below (λ u. is_in_yard s (place_of state.places u) && (type_of day u == m)) (unit_count day)
+    count_below (λ u. is_in_yard s (location_of state.locations u) && (type_of day u == m)) (unit_count day)
 
 -- the first type whose count at a station differs, as a fault
 abbrev pub first_differing_type : Day → State → ℕ → List ℕ → Option StepFault
@@ -59,4 +59,4 @@ finish_after day plan (Ok state) = finish_of day plan state
 
 -- the whole day in the fixed order: its cost, or the first fault
 unfoldable pub simulation : Day → List (List ℕ) → Result ℕ StepFault
-simulation day plan = finish_after day plan (steps day plan (start_of day) (fixed_order day))
+simulation day plan = finish_after day plan (steps day plan (first_state day) (fixed_order day))

@@ -6,8 +6,8 @@ use Rattle.timetable.specs.Running.{Runs}
 use Rattle.timetable.specs.Cost.{plan_cost}
 use Rattle.day_simulator.specs.declared.events.DayEvent.{DayEvent}
 use Rattle.day_simulator.specs.declared.events.DayEvent.TheVariants.{Depart, Arrive}
-use Rattle.day_simulator.specs.declared.events.Place.TheVariants.{Yard}
-use Rattle.day_simulator.specs.State.{State, start_of, place_of, moment_of, trip_of}
+use Rattle.day_simulator.specs.declared.events.UnitLocation.TheVariants.{Yard}
+use Rattle.day_simulator.specs.State.{State, first_state, location_of, moment_of, trip_of}
 use Rattle.day_simulator.specs.Steps.{steps}
 use Rattle.day_simulator.specs.Finish.{finish_of}
 
@@ -65,13 +65,13 @@ last_ready day plan u = ready_after day 0 (duty day plan u)
 -- these events all go through, each unit ends in the yard of its last place, and the day costs what the plan costs
 pub record EndsAsPlanned (day : Day) (plan : List (List ℕ)) (events : List DayEvent) : Type 0 where
   pub final : State
-  pub made : steps day plan (start_of day) events ≡ Ok final
+  pub made : steps day plan (first_state day) events ≡ Ok final
   pub yards : (u : ℕ) → u < unit_count day
-      → place_of final.places u ≡ Yard (last_place day plan u) (last_ready day plan u)
+      → location_of final.locations u ≡ Yard (last_place day plan u) (last_ready day plan u)
   pub cost : finish_of day plan final ≡ Ok (plan_cost day plan)
 
 -- the events go through to the end of the day exactly where the plan runs
 pub record RunsInOrder (day : Day) (plan : List (List ℕ)) (events : List DayEvent) : Type 0 where
   pub ends : Runs day plan → EndsAsPlanned day plan events
-  pub runs : (final : State) (cost : ℕ) → steps day plan (start_of day) events ≡ Ok final
+  pub runs : (final : State) (cost : ℕ) → steps day plan (first_state day) events ≡ Ok final
       → finish_of day plan final ≡ Ok cost → Runs day plan

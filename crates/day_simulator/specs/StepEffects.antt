@@ -6,9 +6,9 @@ use Rattle.timetable.specs.Lists.{has}
 use Rattle.timetable.specs.Running.{IsPlan}
 use Rattle.day_simulator.specs.declared.events.DayEvent.{DayEvent}
 use Rattle.day_simulator.specs.declared.events.DayEvent.TheVariants.{Depart, Arrive}
-use Rattle.day_simulator.specs.declared.events.Place.TheVariants.{Yard, Aboard, Standing}
+use Rattle.day_simulator.specs.declared.events.UnitLocation.TheVariants.{Yard, Aboard, Standing}
 use Rattle.day_simulator.specs.declared.events.Stage.TheVariants as stage
-use Rattle.day_simulator.specs.State.{State, place_of, stage_of, trip_of}
+use Rattle.day_simulator.specs.State.{State, location_of, stage_of, trip_of}
 use Rattle.day_simulator.specs.Steps.{after}
 use Rattle.day_simulator.specs.StepTests.{last_minute, DepartedInLastMinute}
 
@@ -16,12 +16,12 @@ use Rattle.day_simulator.specs.StepTests.{last_minute, DepartedInLastMinute}
 -- units and trips are as they were. There are as many places as units and as many stages as trips. The last minute is
 -- that of the departure, and a trip departed in it.
 pub record Leaves (day : Day) (plan : List (List ℕ)) (before next : State) (t : ℕ) : Type 0 where
-  pub listed : (u : ℕ) → IsTrue (has u (list_of plan t)) → place_of next.places u ≡ Aboard t
+  pub listed : (u : ℕ) → IsTrue (has u (list_of plan t)) → location_of next.locations u ≡ Aboard t
   pub other_units : (u : ℕ) → u < unit_count day → has u (list_of plan t) ≡ false
-      → place_of next.places u ≡ place_of before.places u
+      → location_of next.locations u ≡ location_of before.locations u
   pub trip : stage_of next.stages t ≡ stage.UnderWay
   pub other_trips : (s : ℕ) → s ≢ t → stage_of next.stages s ≡ stage_of before.stages s
-  pub places : length next.places ≡ unit_count day
+  pub locations : length next.locations ≡ unit_count day
   pub stages : length next.stages ≡ length day.trips
   pub minute : last_minute next ≡ leaves day t
   pub event : DepartedInLastMinute next
@@ -32,14 +32,14 @@ pub record Leaves (day : Day) (plan : List (List ℕ)) (before next : State) (t 
 -- last minute is that of the arrival, and it counts as one in which no trip departed.
 pub record Arrives (day : Day) (plan : List (List ℕ)) (before next : State) (t : ℕ) : Type 0 where
   pub in_yard : (u : ℕ) → IsTrue (has u (given day plan t))
-      → place_of next.places u ≡ Yard (to_of day t) (ready_at day t)
+      → location_of next.locations u ≡ Yard (to_of day t) (ready_at day t)
   pub in_train : (u : ℕ) → IsTrue (has u (list_of plan t)) → has u (given day plan t) ≡ false
-      → place_of next.places u ≡ Standing t
+      → location_of next.locations u ≡ Standing t
   pub other_units : (u : ℕ) → u < unit_count day → has u (list_of plan t) ≡ false → has u (given day plan t) ≡ false
-      → place_of next.places u ≡ place_of before.places u
+      → location_of next.locations u ≡ location_of before.locations u
   pub trip : stage_of next.stages t ≡ stage.Arrived
   pub other_trips : (s : ℕ) → s ≢ t → stage_of next.stages s ≡ stage_of before.stages s
-  pub places : length next.places ≡ unit_count day
+  pub locations : length next.locations ≡ unit_count day
   pub stages : length next.stages ≡ length day.trips
   pub minute : last_minute next ≡ arrives day t
   pub event : ¬ DepartedInLastMinute next
@@ -53,5 +53,5 @@ DoesChange day plan before next (Arrive t) = Arrives day plan before next t
 abbrev pub StepsChangeStates : Type 0
 StepsChangeStates = (day : Day) (plan : List (List ℕ)) (state : State) (event : DayEvent)
     → IsPlan day plan → trip_of event < length day.trips
-    → length state.places ≡ unit_count day → length state.stages ≡ length day.trips
+    → length state.locations ≡ unit_count day → length state.stages ≡ length day.trips
     → DoesChange day plan state (after day plan state event) event

@@ -12,12 +12,12 @@ use Rattle.timetable.specs.Running.{IsPlan}
 use Rattle.timetable.specs.Tests.{Test, ◌when◌, NoneFailed, IsFirstFailed}
 use Rattle.day_simulator.specs.declared.events.DayEvent.{DayEvent}
 use Rattle.day_simulator.specs.declared.events.DayEvent.TheVariants.{Depart, Arrive}
-use Rattle.day_simulator.specs.declared.events.Place.TheVariants.{Yard}
+use Rattle.day_simulator.specs.declared.events.UnitLocation.TheVariants.{Yard}
 use Rattle.day_simulator.specs.declared.events.Stage.TheVariants as stage
 use Rattle.day_simulator.specs.declared.events.StepFault.{StepFault}
 use Rattle.day_simulator.specs.declared.events.StepFault.TheVariants.{NotNow, NoUnits, NotAdmissible, LinkBroken}
 use Rattle.day_simulator.specs.declared.events.StepFault.TheVariants.{NotInYard}
-use Rattle.day_simulator.specs.State.{State, place_of, stage_of, trip_of}
+use Rattle.day_simulator.specs.State.{State, location_of, stage_of, trip_of}
 use Rattle.day_simulator.specs.Steps.{fault_of}
 
 -- ---- that an event comes now
@@ -74,7 +74,7 @@ rule_tests Breaks (Some l) = LinkBroken l when Breaks l ∷ []
 -- the unit stands in the yard of the station that the trip leaves, and is ready when it leaves
 pub record StandsReady (day : Day) (state : State) (t u : ℕ) : Type 0 where
   pub ready : ℕ
-  pub yard : place_of state.places u ≡ Yard (from_of day t) ready
+  pub yard : location_of state.locations u ≡ Yard (from_of day t) ready
   pub in_time : ready ≤ leaves day t
 
 -- Of the units that a trip takes, front to rear, the one at a place cannot be taken: it does not stand ready, or it is
@@ -110,5 +110,5 @@ pub record IsToldBy {E : Type 0} (tests : List (Test E)) (fault : Option E) : Ty
 -- day and each unit has its place.
 abbrev pub StepsAreTested : Type 0
 StepsAreTested = (day : Day) (plan : List (List ℕ)) (state : State) (event : DayEvent)
-    → IsPlan day plan → trip_of event < length day.trips → length state.places ≡ unit_count day
+    → IsPlan day plan → trip_of event < length day.trips → length state.locations ≡ unit_count day
     → IsToldBy (step_tests day plan state event) (fault_of day plan state event)

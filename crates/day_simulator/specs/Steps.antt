@@ -11,13 +11,13 @@ use Rattle.timetable.specs.Links.{list_of, incoming, outgoing, trips_into, link_
 use Rattle.timetable.specs.Lists.{below}
 use Rattle.day_simulator.specs.declared.events.DayEvent.{DayEvent}
 use Rattle.day_simulator.specs.declared.events.DayEvent.TheVariants.{Depart, Arrive}
-use Rattle.day_simulator.specs.declared.events.Place.{Place}
-use Rattle.day_simulator.specs.declared.events.Place.TheVariants.{Yard, Aboard, Standing}
+use Rattle.day_simulator.specs.declared.events.UnitLocation.{UnitLocation}
+use Rattle.day_simulator.specs.declared.events.UnitLocation.TheVariants.{Yard, Aboard, Standing}
 use Rattle.day_simulator.specs.declared.events.Stage.TheVariants as stage
 use Rattle.day_simulator.specs.declared.events.StepFault.{StepFault}
 use Rattle.day_simulator.specs.declared.events.StepFault.TheVariants.{NotNow, NoUnits, NotAdmissible, LinkBroken}
 use Rattle.day_simulator.specs.declared.events.StepFault.TheVariants.{NotInYard}
-use Rattle.day_simulator.specs.State.{State, place_of, stage_of, is_waiting, is_under_way, has_arrived, is_ready}
+use Rattle.day_simulator.specs.State.{State, location_of, stage_of, is_waiting, is_under_way, has_arrived, is_ready}
 use Rattle.day_simulator.specs.State.{moment_of, put_all}
 
 -- an event may be made now: its moment has not passed, and its trip, with the trips that it waits for, has come so far
@@ -45,26 +45,26 @@ unfoldable pub broken_out : Day → List (List ℕ) → ℕ → Option ℕ
 broken_out day plan t = broken day plan false (outgoing day t)
 
 -- the first of these units that is not in the yard and ready, where a trip takes them one by one
-abbrev pub first_missing : Day → ℕ → List Place → List ℕ → Option ℕ
-first_missing day t places [] = None
-first_missing day t places (u ∷ us) =
-    if is_ready (from_of day t) (leaves day t) (place_of places u)
-    then first_missing day t (slice_set places u (Aboard t)) us
+abbrev pub first_missing : Day → ℕ → List UnitLocation → List ℕ → Option ℕ
+first_missing day t locations [] = None
+first_missing day t locations (u ∷ us) =
+    if is_ready (from_of day t) (leaves day t) (location_of locations u)
+    then first_missing day t (slice_set locations u (Aboard t)) us
     else Some u
 
 -- the first fault of the train that a trip leaves with, if it has one
-abbrev pub train_fault : Day → List (List ℕ) → List Place → ℕ → Option StepFault
-train_fault day plan places t =
+abbrev pub train_fault : Day → List (List ℕ) → List UnitLocation → ℕ → Option StepFault
+train_fault day plan locations t =
     if length (list_of plan t) == 0 then Some (NoUnits t)
     else if not (is_admissible day t (types_of day (list_of plan t))) then Some (NotAdmissible t)
     else unwrap_or (option_map (λ l. Some (LinkBroken l)) (broken_into day plan t))
-    (option_map (λ u. NotInYard u t) (first_missing day t places (taken day plan t)))
+    (option_map (λ u. NotInYard u t) (first_missing day t locations (taken day plan t)))
 
 -- the first fault of an event, if it has one
 unfoldable pub fault_of : Day → List (List ℕ) → State → DayEvent → Option StepFault
 fault_of day plan state (Depart t) =
     if not (is_now day state (Depart t)) then Some (NotNow (Depart t))
-    else train_fault day plan state.places t
+    else train_fault day plan state.locations t
 fault_of day plan state (Arrive t) =
     if not (is_now day state (Arrive t)) then Some (NotNow (Arrive t))
     else option_map (λ l. LinkBroken l) (broken_out day plan t)
@@ -73,12 +73,12 @@ fault_of day plan state (Arrive t) =
 -- yard, ready once the reallocation time is over, and the others stand in its train
 unfoldable pub after : Day → List (List ℕ) → State → DayEvent → State
 after day plan state (Depart t) = record {
-  places = put_all state.places (list_of plan t) (Aboard t);
+  locations = put_all state.locations (list_of plan t) (Aboard t);
   stages = slice_set state.stages t stage.UnderWay;
   moment = moment_of day (Depart t);
 }
 after day plan state (Arrive t) = record {
-  places = put_all (put_all state.places (list_of plan t) (Standing t)) (given day plan t)
+  locations = put_all (put_all state.locations (list_of plan t) (Standing t)) (given day plan t)
       (Yard (to_of day t) (ready_at day t));
   stages = slice_set state.stages t stage.Arrived;
   moment = moment_of day (Arrive t);

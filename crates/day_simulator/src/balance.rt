@@ -7,7 +7,7 @@ ghost use Rattle.day_simulator.specs.Finish.{is_made, first_not_made, yard_count
 ghost use Rattle.day_simulator.specs.Finish.{first_differing};
 ghost use Rattle.timetable.specs.Lists.{below};
 
-use crate::events::{DayEvent, Place, Stage, StepFault};
+use crate::events::{DayEvent, Stage, StepFault, UnitLocation};
 use rail_base::{StationNo, TripNo, TypeNo, UnitNo};
 use timetable::Instance;
 
@@ -45,15 +45,15 @@ pub(crate) fn first_not_made(stages: &[Stage], order: &[DayEvent]) -> Option<Day
 }
 
 /// Whether a place is in the yard of a station.
-fn is_in_yard(station: StationNo, place: Place) -> bool
+fn is_in_yard(station: StationNo, place: UnitLocation) -> bool
     ensures { result ≡ is_in_yard station place }
 {
     match &place {
-        Place::Yard {
+        UnitLocation::Yard {
             station: at,
             ready: _,
         } => *at == station,
-        Place::Aboard(_) | Place::Standing(_) => false,
+        UnitLocation::Aboard(_) | UnitLocation::Standing(_) => false,
     }
 }
 
@@ -64,7 +64,7 @@ fn is_counted(
     station: StationNo,
     unit_type: TypeNo,
     unit: UnitNo,
-    place: Place,
+    place: UnitLocation,
 ) -> bool
     requires { unit < unit_count instance.now }
     ensures { result ≡ (is_in_yard station place && (type_of instance.now unit == unit_type)) }
@@ -75,17 +75,18 @@ fn is_counted(
 /// How many units of a type stand in the yard of a station.
 pub(crate) fn yard_count(
     instance: &Instance,
-    places: &[Place],
+    locations: &[UnitLocation],
     station: StationNo,
     unit_type: TypeNo,
 ) -> u32
-    requires { length places.now ≡ unit_count instance.now }
-    ensures { (state : State) → state.places ≡ places.now → result ≡ yard_count instance.now state station unit_type }
+    requires { length locations.now ≡ unit_count instance.now }
+    ensures { (state : State) → state.locations ≡ locations.now
+        → result ≡ yard_count instance.now state station unit_type }
 {
     let mut count = 0;
     for number in 0..instance.units() {
         let unit = UnitNo(number);
-        let place = places[unit.place()];
+        let place = locations[unit.place()];
         if is_counted(instance, station, unit_type, unit, place) {
             count += 1;
         }
@@ -96,16 +97,16 @@ pub(crate) fn yard_count(
 /// The first type of which another number of units stands in the yard of a station than is wanted at the end.
 fn first_differing_type(
     instance: &Instance,
-    places: &[Place],
+    locations: &[UnitLocation],
     station: StationNo,
 ) -> Option<StepFault>
-    requires { length places.now ≡ unit_count instance.now }
-    ensures { (state : State) → state.places ≡ places.now →
+    requires { length locations.now ≡ unit_count instance.now }
+    ensures { (state : State) → state.locations ≡ locations.now →
         result ≡ first_differing_type instance.now state station (below (length instance.now.types)) }
 {
     for number in 0..instance.types().len() {
         let unit_type = TypeNo(number);
-        let count = yard_count(instance, places, station, unit_type);
+        let count = yard_count(instance, locations, station, unit_type);
         let wanted = instance.end(station, unit_type);
         if count != wanted {
             return Some(StepFault::Balance {
@@ -120,13 +121,13 @@ fn first_differing_type(
 }
 
 /// The first station and type of which another number of units stands in the yard than is wanted at the end.
-pub(crate) fn first_differing(instance: &Instance, places: &[Place]) -> Option<StepFault>
-    requires { length places.now ≡ unit_count instance.now }
-    ensures { (state : State) → state.places ≡ places.now →
+pub(crate) fn first_differing(instance: &Instance, locations: &[UnitLocation]) -> Option<StepFault>
+    requires { length locations.now ≡ unit_count instance.now }
+    ensures { (state : State) → state.locations ≡ locations.now →
         result ≡ first_differing instance.now state (below (length instance.now.stations)) }
 {
     for number in 0..instance.stations() {
-        if let Some(fault) = first_differing_type(instance, places, StationNo(number)) {
+        if let Some(fault) = first_differing_type(instance, locations, StationNo(number)) {
             return Some(fault);
         }
     }

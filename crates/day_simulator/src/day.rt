@@ -3,18 +3,18 @@
 ghost use Rattle.std.specs.Prelude.{◌≡◌, ◌<◌, length, map, slice_get, replicate, Some, IfOk};
 ghost use Rattle.timetable.specs.Day.{units_of, unit_count};
 ghost use Rattle.timetable.specs.Running.{IsPlan};
-ghost use Rattle.day_simulator.specs.State.{start_of, is_waiting, is_under_way};
+ghost use Rattle.day_simulator.specs.State.{first_state, is_waiting, is_under_way};
 ghost use Rattle.day_simulator.specs.State.{trip_of};
 ghost use Rattle.day_simulator.specs.Steps.{fault_of, train_fault, is_now, fixed_order};
 ghost use Rattle.day_simulator.specs.Calls.{MakesStep, Finishes};
 ghost use Rattle.day_simulator.specs.Finish.{first_not_made, first_differing};
 ghost use Rattle.timetable.specs.Lists.{below};
 ghost use Rattle.day_simulator.specs.declared.events.DayEvent.TheVariants.{Depart, Arrive};
-ghost use Rattle.day_simulator.specs.declared.events.Place.TheVariants.{Yard};
+ghost use Rattle.day_simulator.specs.declared.events.UnitLocation.TheVariants.{Yard};
 ghost use Rattle.day_simulator.specs.declared.events.Stage.TheVariants as stage;
 
 use crate::balance::{first_differing, first_not_made};
-use crate::events::{DayEvent, Place, Stage, StepFault};
+use crate::events::{DayEvent, Stage, StepFault, UnitLocation};
 use crate::links::{broken_into, broken_out, have_trips_into_arrived};
 use crate::sequence::{fixed_order, moment_of};
 use crate::trips::{is_admissible, to_of};
@@ -31,7 +31,7 @@ pub struct Day<'a> {
     instance: &'a Instance,
     plan: &'a NamedPlan,
     order: Vec<DayEvent>,
-    places: Vec<Place>,
+    locations: Vec<UnitLocation>,
     stages: Vec<Stage>,
     moment: u32,
 }
@@ -60,17 +60,17 @@ impl<'a> Day<'a> {
         ensures { IfOk result (λ day. day ≡ record {
           day = instance.now;
           plan = plan.now;
-          state = start_of instance.now;
+          state = first_state instance.now;
         }) }
     {
         let order = fixed_order(alloc, instance)?;
-        let places = places_at_home(alloc, instance)?;
+        let locations = locations_at_home(alloc, instance)?;
         let stages = stages_of_waiting(alloc, instance.trips())?;
         Ok(Day {
             instance,
             plan,
             order,
-            places,
+            locations,
             stages,
             moment: 0,
         })
@@ -78,11 +78,11 @@ impl<'a> Day<'a> {
 
     /// Where a unit of the day is: in a yard with the minute from which it is ready, under way, or standing in a train
     /// that has arrived.
-    pub fn place(&self, unit: UnitNo) -> Place
+    pub fn location(&self, unit: UnitNo) -> UnitLocation
         requires { unit < unit_count self.now.day }
-        ensures { slice_get self.now.state.places unit ≡ Some result }
+        ensures { slice_get self.now.state.locations unit ≡ Some result }
     {
-        self.places[unit.place()]
+        self.locations[unit.place()]
     }
 
     /// Makes one step of a trip of the day. After a fault, the first of these that holds, the day is as before.
@@ -128,7 +128,7 @@ impl<'a> Day<'a> {
     fn first_imbalance(&self) -> Option<StepFault>
         ensures { result ≡ first_differing self.now.day self.now.state (below (length self.now.day.stations)) }
     {
-        first_differing(self.instance, self.places.as_slice())
+        first_differing(self.instance, self.locations.as_slice())
     }
 
     /// Whether an event may be made now.
@@ -156,7 +156,7 @@ impl<'a> Day<'a> {
         if !self.is_now(DayEvent::Depart(trip)) {
             return Some(StepFault::NotNow(DayEvent::Depart(trip)));
         }
-        train_fault(self.instance, self.plan, self.places.as_slice(), trip)
+        train_fault(self.instance, self.plan, self.locations.as_slice(), trip)
     }
 
     fn depart(&mut self, trip: TripNo) -> Result<(), StepFault>
@@ -168,7 +168,7 @@ impl<'a> Day<'a> {
         }
         let moment = moment_of(self.instance, DayEvent::Depart(trip));
         let units = self.plan.units(trip);
-        put_all(&mut self.places, units, &Place::Aboard(trip));
+        put_all(&mut self.locations, units, &UnitLocation::Aboard(trip));
         self.stages[trip.place()] = Stage::UnderWay;
         self.moment = moment;
         Ok(())
@@ -189,14 +189,14 @@ impl<'a> Day<'a> {
         let ready = self.instance.ready_at(trip).minutes();
         let given = self.plan.given(self.instance, trip);
         put_all(
-            &mut self.places,
+            &mut self.locations,
             self.plan.units(trip),
-            &Place::Standing(trip),
+            &UnitLocation::Standing(trip),
         );
         put_all(
-            &mut self.places,
+            &mut self.locations,
             given.as_slice(),
-            &Place::Yard { station, ready },
+            &UnitLocation::Yard { station, ready },
         );
         self.stages[trip.place()] = Stage::Arrived;
         self.moment = moment;
@@ -209,13 +209,13 @@ impl<'a> Day<'a> {
 fn train_fault(
     instance: &Instance,
     plan: &NamedPlan,
-    places: &[Place],
+    locations: &[UnitLocation],
     trip: TripNo,
 ) -> Option<StepFault>
     requires trip { trip < length instance.now.trips }
     requires plan { IsPlan instance.now plan.now }
-    requires places { length places.now ≡ unit_count instance.now }
-    ensures { result ≡ train_fault instance.now plan.now places.now trip }
+    requires locations { length locations.now ≡ unit_count instance.now }
+    ensures { result ≡ train_fault instance.now plan.now locations.now trip }
 {
     let units = plan.units(trip);
     if units.is_empty() {
@@ -228,7 +228,7 @@ fn train_fault(
         return Some(StepFault::LinkBroken(link));
     }
     let taken = plan.taken(instance, trip);
-    match first_missing(instance, trip, places, taken.as_slice()) {
+    match first_missing(instance, trip, locations, taken.as_slice()) {
         Some(unit) => Some(StepFault::NotInYard { unit, trip }),
         None => None,
     }
@@ -249,15 +249,15 @@ fn is_under_way(stage: Stage) -> bool
 }
 
 /// Each unit in the yard of its home, ready from the first minute on.
-fn places_at_home(alloc: Global, instance: &Instance) -> Result<Vec<Place>, NoMemory>
-    ensures { IfOk result (λ places. places.items ≡ map (λ unit. Yard unit.home 0) (units_of instance.now)) }
+fn locations_at_home(alloc: Global, instance: &Instance) -> Result<Vec<UnitLocation>, NoMemory>
+    ensures { IfOk result (λ locations. locations.items ≡ map (λ unit. Yard unit.home 0) (units_of instance.now)) }
 {
-    let mut places = Vec::new(alloc);
+    let mut locations = Vec::new(alloc);
     for number in 0..instance.units() {
         let station = instance.unit(UnitNo(number)).home;
-        places.push(Place::Yard { station, ready: 0 })?;
+        locations.push(UnitLocation::Yard { station, ready: 0 })?;
     }
-    Ok(places)
+    Ok(locations)
 }
 
 /// So many trips waiting.

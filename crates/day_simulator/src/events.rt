@@ -14,7 +14,7 @@ pub enum DayEvent {
 
 /// Where a unit is.
 #[derive(Clone, Copy)]
-pub enum Place {
+pub enum UnitLocation {
     /// In the yard of a station, ready from a minute on.
     Yard {
         /// The station.

@@ -12,5 +12,5 @@ pub mod whole_day;
 mod yards;
 
 pub use day::Day;
-pub use events::{DayEvent, Place, Stage, StepFault};
+pub use events::{DayEvent, Stage, StepFault, UnitLocation};
 pub use whole_day::{Ran, SimulateRefusal, simulate};

@@ -6,7 +6,7 @@ ghost use Rattle.timetable.specs.Admissible.{is_admissible, longest_of};
 ghost use Rattle.timetable.specs.Running.{AreUnits};
 
 use compositions::Composition;
-use rail_base::limits::{MOST_COMPOSITION, MOST_MINUTES};
+use rail_base::limits::{MAX_COMPOSITION_UNITS, MAX_MINUTES};
 use rail_base::{StationNo, TripNo, UnitNo};
 use timetable::Instance;
 
@@ -14,7 +14,7 @@ use timetable::Instance;
 #[tactic(auto, unfolding(rules::specs::Day::leaves))]
 pub(crate) fn departure(instance: &Instance, trip: TripNo) -> u32
     ensures minute { result ≡ leaves instance.now trip }
-    ensures range { result < MOST_MINUTES }
+    ensures range { result < MAX_MINUTES }
 {
     if trip.0 >= instance.trips() {
         return 0;
@@ -26,7 +26,7 @@ pub(crate) fn departure(instance: &Instance, trip: TripNo) -> u32
 #[tactic(auto, unfolding(rules::specs::Day::arrives))]
 pub(crate) fn arrival(instance: &Instance, trip: TripNo) -> u32
     ensures minute { result ≡ arrives instance.now trip }
-    ensures range { result < MOST_MINUTES }
+    ensures range { result < MAX_MINUTES }
 {
     if trip.0 >= instance.trips() {
         return 1;
@@ -70,7 +70,7 @@ fn longest(instance: &Instance, trip: TripNo) -> u32
 pub(crate) fn is_admissible(instance: &Instance, trip: TripNo, units: &[UnitNo]) -> bool
     requires trip { trip < length instance.now.trips }
     requires known { AreUnits instance.now units.now }
-    requires few { length units.now ≤ MOST_COMPOSITION }
+    requires few { length units.now ≤ MAX_COMPOSITION_UNITS }
     ensures { result ≡ is_admissible instance.now trip (types_of instance.now units.now) }
 {
     let types = instance.types_of(units);

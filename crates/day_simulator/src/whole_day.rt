@@ -11,7 +11,7 @@ ghost use Rattle.day_simulator.specs.Laws.{IsInTurn};
 use crate::day::Day;
 use crate::events::{DayEvent, StepFault};
 use crate::sequence::fixed_order;
-use rail_base::limits::{MOST_LINKS, MOST_TRIPS};
+use rail_base::limits::{MAX_LINKS, MAX_TRIPS};
 use rail_base::{Money, NoMemory};
 use std::alloc::Global;
 use thiserror::Error;
@@ -62,8 +62,8 @@ pub fn simulate(
     ensures in_turn { (fault : StepFault) → IsErrOf result (SimulateRefusal.Stops fault) → IsInTurn fault }
 {
     // What these two calls ensure of trips and links is what the law of running asks of the day.
-    prove!(instance.trips() as usize <= MOST_TRIPS);
-    prove!(instance.links() as usize <= MOST_LINKS);
+    prove!(instance.trips() as usize <= MAX_TRIPS);
+    prove!(instance.links() as usize <= MAX_LINKS);
     let order = fixed_order(alloc, instance)?;
     let mut day = Day::new(alloc, instance, plan)?;
     if let Err(fault) = step_all(&mut day, order.as_slice()) {

@@ -7,18 +7,18 @@ ghost use Rattle.timetable.specs.Running.{AreUnits};
 ghost use Rattle.day_simulator.specs.State.{is_ready, put_all};
 ghost use Rattle.day_simulator.specs.Steps.{first_missing};
 
-use crate::events::Place;
+use crate::events::UnitLocation;
 use crate::trips::{departure, from_of};
 use rail_base::{StationNo, TripNo, UnitNo};
 use timetable::Instance;
 
 /// Whether a unit stands in the yard of a station and is ready at a minute.
-fn is_ready(station: StationNo, minute: u32, place: Place) -> bool
+fn is_ready(station: StationNo, minute: u32, place: UnitLocation) -> bool
     ensures { result ≡ is_ready station minute place }
 {
     match place {
-        Place::Yard { station: at, ready } => at == station && ready <= minute,
-        Place::Aboard(_) | Place::Standing(_) => false,
+        UnitLocation::Yard { station: at, ready } => at == station && ready <= minute,
+        UnitLocation::Aboard(_) | UnitLocation::Standing(_) => false,
     }
 }
 
@@ -26,13 +26,13 @@ fn is_ready(station: StationNo, minute: u32, place: Place) -> bool
 pub(crate) fn first_missing(
     instance: &Instance,
     trip: TripNo,
-    places: &[Place],
+    locations: &[UnitLocation],
     units: &[UnitNo],
 ) -> Option<UnitNo>
     requires trip { trip < length instance.now.trips }
-    requires places { length places.now ≡ unit_count instance.now }
+    requires locations { length locations.now ≡ unit_count instance.now }
     requires known { AreUnits instance.now units.now }
-    ensures { result ≡ first_missing instance.now trip places.now units.now }
+    ensures { result ≡ first_missing instance.now trip locations.now units.now }
 {
     let station = from_of(instance, trip);
     let minute = departure(instance, trip);
@@ -41,7 +41,7 @@ pub(crate) fn first_missing(
         if units[..i].contains(&unit) {
             return Some(unit);
         }
-        if !is_ready(station, minute, places[unit.place()]) {
+        if !is_ready(station, minute, locations[unit.place()]) {
             return Some(unit);
         }
     }
@@ -49,19 +49,19 @@ pub(crate) fn first_missing(
 }
 
 /// Puts a unit to a place.
-fn put(places: &mut [Place], unit: UnitNo, place: Place)
-    requires { unit < length places.old }
-    ensures { places.new ≡ slice_set places.old unit place }
+fn put(locations: &mut [UnitLocation], unit: UnitNo, place: UnitLocation)
+    requires { unit < length locations.old }
+    ensures { locations.new ≡ slice_set locations.old unit place }
 {
-    places[unit.place()] = place;
+    locations[unit.place()] = place;
 }
 
 /// Puts units to one place.
-pub(crate) fn put_all(places: &mut [Place], units: &[UnitNo], place: &Place)
-    requires { (u : ℕ) → IsTrue (has u units.now) → u < length places.old }
-    ensures { places.new ≡ put_all places.old units.now place.now }
+pub(crate) fn put_all(locations: &mut [UnitLocation], units: &[UnitNo], place: &UnitLocation)
+    requires { (u : ℕ) → IsTrue (has u units.now) → u < length locations.old }
+    ensures { locations.new ≡ put_all locations.old units.now place.now }
 {
     for unit in units {
-        put(places, *unit, *place);
+        put(locations, *unit, *place);
     }
 }

@@ -12,8 +12,8 @@ use Rattle.desk_commands.specs.declared.swapping.Swapping.{Swapping}
 use Rattle.desk_commands.specs.declared.week_planning.WeekPlanning.{WeekPlanning}
 use Rattle.desk_commands.specs.PlainForm.{IsPlainForm}
 use Rattle.desk_commands.proofs.OneCommand.{one_command}
-use Rattle.desk_app.specs.declared.outcome.Outcome.{Outcome}
-use Rattle.desk_app.specs.declared.outcome.Outcome.TheVariants.{NoMemory}
+use Rattle.desk_app.specs.declared.outcome.DeskOutcome.{DeskOutcome}
+use Rattle.desk_app.specs.declared.outcome.DeskOutcome.TheVariants.{NoMemory}
 use Rattle.desk_app.specs.Documents.{IsDocument, table_refused_line, usage_line}
 use Rattle.desk_app.specs.Outcomes.{AskForWeek, AskInVain, AskToPlan, AskToReplan, AskToSwap, ComesTo, IsOutcome}
 use Rattle.desk_app.specs.Outcomes.{OfCommand, InVain, Unread}
@@ -29,30 +29,30 @@ use Rattle.desk_app.proofs.SwappedUnits.{swap_status, swapping_ends}
 use Rattle.desk_app.proofs.PlannedWeeks.{week_ends, week_status}
 
 -- want of memory has no document
-no_document : (outcome : Outcome) (text : List ℕ) → outcome ≡ NoMemory → IsDocument outcome text → ⊥
-no_document outcome text is document = subst (λ (it : Outcome). IsDocument it text) is document
+no_document : (outcome : DeskOutcome) (text : List ℕ) → outcome ≡ NoMemory → IsDocument outcome text → ⊥
+no_document outcome text is document = subst (λ (it : DeskOutcome). IsDocument it text) is document
 
-module _ {F : Type 0} (holds : F → Option Files) (may_fail : F → List ℕ → Bool) (counted taken : F → ℕ) (words : List (List ℕ)) (before after : F)
-    (outcome : Outcome) (status : ℕ) (written written' : Option (List ℕ)) (faults faults' : ℕ)
-    (is : IsOutcome holds may_fail counted taken words before after outcome) (wrote : WroteOutcome outcome status written written' faults faults') where
+module _ {F : Type 0} (holds : F → Option Files) (may_fail : F → List ℕ → Bool) (faults_of taken : F → ℕ) (words : List (List ℕ)) (before after : F)
+    (outcome : DeskOutcome) (status : ℕ) (written written' : Option (List ℕ)) (faults faults' : ℕ)
+    (is : IsOutcome holds may_fail faults_of taken words before after outcome) (wrote : WroteOutcome outcome status written written' faults faults') where
   abbrev Wrote' : Type 0
   Wrote' = WroteOutcome outcome status written written' faults faults'
 
   abbrev Comes : Command → Type 0
-  Comes named = ComesTo holds may_fail counted taken named before after outcome
+  Comes named = ComesTo holds may_fail faults_of taken named before after outcome
 
   -- what a command has no status for, and what its status tells
-  status_fits : (named : Command) → Comes named → IsOfCommand outcome (Rose (counted before) (counted after))
-  status_fits (command.Plan planning) comes = plan_status holds may_fail counted taken planning before after outcome comes
-  status_fits (command.Urgent swapping) comes = swap_status holds may_fail counted taken swapping.dir before after outcome comes
-  status_fits (command.Replan replanning) comes = replan_status holds may_fail counted taken replanning before after outcome comes
-  status_fits (command.Week planning) comes = week_status holds may_fail counted taken planning before after outcome comes
+  status_fits : (named : Command) → Comes named → IsOfCommand outcome (Rose (faults_of before) (faults_of after))
+  status_fits (command.Plan planning) comes = plan_status holds may_fail faults_of taken planning before after outcome comes
+  status_fits (command.Urgent swapping) comes = swap_status holds may_fail faults_of taken swapping.dir before after outcome comes
+  status_fits (command.Replan replanning) comes = replan_status holds may_fail faults_of taken replanning before after outcome comes
+  status_fits (command.Week planning) comes = week_status holds may_fail faults_of taken planning before after outcome comes
 
   -- the outcome of words that ask for a command
   of_command : (named : Command) → IsPlainForm words named → (outcome ≡ NoMemory → ⊥) → Comes named
   of_command named asked made = by is
     where
-      by : IsOutcome holds may_fail counted taken words before after outcome → Comes named
+      by : IsOutcome holds may_fail faults_of taken words before after outcome → Comes named
       by (OfCommand other asked' comes) = subst (λ (it : Command). Comes it) (one_command words other named asked' asked) comes
       by (InVain vain usage) = absurd (vain named asked)
       by (Unread none) = absurd (made none)
@@ -64,7 +64,7 @@ module _ {F : Type 0} (holds : F → Option Files) (may_fail : F → List ℕ �
       by : Wrote' → EndsPlanning table_refused_line files planning.dir planning.nodes status written written'
       by (Whole text document appends e) =
           subst (λ (n : ℕ). EndsPlanning table_refused_line files planning.dir planning.nodes n written written') (sym e)
-          (planning_ends holds may_fail counted taken planning before after outcome
+          (planning_ends holds may_fail faults_of taken planning before after outcome
           (of_command (command.Plan planning) asked (λ none. no_document outcome text none document)) files tells text document
           written written' appends (subst IsUndisturbed e undisturbed))
       by (Part text document appends rose six) = absurd (undisturbed.1 six)
@@ -77,7 +77,7 @@ module _ {F : Type 0} (holds : F → Option Files) (may_fail : F → List ℕ �
       by : Wrote' → EndsSwapping files swapping.dir status written written'
       by (Whole text document appends e) =
           subst (λ (n : ℕ). EndsSwapping files swapping.dir n written written') (sym e)
-          (swapping_ends holds may_fail counted taken swapping.dir before after outcome
+          (swapping_ends holds may_fail faults_of taken swapping.dir before after outcome
           (of_command (command.Urgent swapping) asked (λ none. no_document outcome text none document)) files tells text document
           written written' appends (subst IsUndisturbed e undisturbed))
       by (Part text document appends rose six) = absurd (undisturbed.1 six)
@@ -90,7 +90,7 @@ module _ {F : Type 0} (holds : F → Option Files) (may_fail : F → List ℕ �
       by : Wrote' → EndsReplanning files replanning status written written'
       by (Whole text document appends e) =
           subst (λ (n : ℕ). EndsReplanning files replanning n written written') (sym e)
-          (replanning_ends holds may_fail counted taken replanning before after outcome
+          (replanning_ends holds may_fail faults_of taken replanning before after outcome
           (of_command (command.Replan replanning) asked (λ none. no_document outcome text none document)) files tells text document
           written written' appends (subst IsUndisturbed e undisturbed))
       by (Part text document appends rose six) = absurd (undisturbed.1 six)
@@ -103,7 +103,7 @@ module _ {F : Type 0} (holds : F → Option Files) (may_fail : F → List ℕ �
       by : Wrote' → EndsWeek files planning status written written'
       by (Whole text document appends e) =
           subst (λ (n : ℕ). EndsWeek files planning n written written') (sym e)
-          (week_ends holds may_fail counted taken planning before after outcome
+          (week_ends holds may_fail faults_of taken planning before after outcome
           (of_command (command.Week planning) asked (λ none. no_document outcome text none document)) files tells text document
           written written' appends (subst IsUndisturbed e undisturbed))
       by (Part text document appends rose six) = absurd (undisturbed.1 six)
@@ -113,12 +113,12 @@ module _ {F : Type 0} (holds : F → Option Files) (may_fail : F → List ℕ �
   ends_in_usage undisturbed = by wrote
     where
       of : (text : List ℕ) → IsDocument outcome text → Appends text written written' → status ≡ status_of outcome
-          → IsOutcome holds may_fail counted taken words before after outcome → EndsInUsage words status written written'
+          → IsOutcome holds may_fail faults_of taken words before after outcome → EndsInUsage words status written written'
       of text document appends e (OfCommand named asked comes) =
           let other : status ≢ 2 = λ two. (status_fits named comes).not_usage (sym e ∙ two) in
           record { told = (λ two. absurd (other two), λ vain. absurd (vain named asked)); written = λ two. absurd (other two) }
       of text document appends e (InVain vain usage) =
-          let line : text ≡ usage_line = subst (λ (it : Outcome). IsDocument it text) usage document in
+          let line : text ≡ usage_line = subst (λ (it : DeskOutcome). IsDocument it text) usage document in
           record {
             told = (λ two. vain, λ _. e ∙ ap status_of usage);
             written = λ two. subst (λ (t : List ℕ). Appends t written written') line appends;
@@ -140,32 +140,32 @@ module _ {F : Type 0} (holds : F → Option Files) (may_fail : F → List ℕ �
 
   -- ---- the folder
 
-  rose_of : status_of outcome ≡ 5 → Rose (counted before) (counted after)
+  rose_of : status_of outcome ≡ 5 → Rose (faults_of before) (faults_of after)
   rose_of five = by is
     where
-      by : IsOutcome holds may_fail counted taken words before after outcome → Rose (counted before) (counted after)
+      by : IsOutcome holds may_fail faults_of taken words before after outcome → Rose (faults_of before) (faults_of after)
       by (OfCommand named asked comes) = (status_fits named comes).unread five
       by (InVain vain usage) = absurd (omega (arith, five, ap status_of usage))
       by (Unread none) = absurd (omega (arith, five, ap status_of none))
 
-  unread : status ≡ 5 → Rose (counted before) (counted after)
+  unread : status ≡ 5 → Rose (faults_of before) (faults_of after)
   unread five = by wrote
     where
-      by : Wrote' → Rose (counted before) (counted after)
+      by : Wrote' → Rose (faults_of before) (faults_of after)
       by (Whole text document appends e) = rose_of (sym e ∙ five)
       by (Part text document appends rose six) = absurd (omega (arith, five, six))
       by (Nothing kept seven) = absurd (omega (arith, five, seven))
 
-  counts_reads : counted after ≡ faults_after (is_unread outcome) (counted before) → CountsFailedReads status (counted before) (counted after)
+  counts_reads : faults_of after ≡ faults_after (is_unread outcome) (faults_of before) → CountsFailedReads status (faults_of before) (faults_of after)
   counts_reads counts = by (unread_is_five outcome) wrote
     where
-      failed : is_unread outcome ≡ true → counted after ≡ faults_after true (counted before)
-      failed unread = counts ∙ ap (λ (failed : Bool). faults_after failed (counted before)) unread
+      failed : is_unread outcome ≡ true → faults_of after ≡ faults_after true (faults_of before)
+      failed unread = counts ∙ ap (λ (failed : Bool). faults_after failed (faults_of before)) unread
 
-      same : is_unread outcome ≡ false → counted after ≡ counted before
-      same read = counts ∙ ap (λ (failed : Bool). faults_after failed (counted before)) read
+      same : is_unread outcome ≡ false → faults_of after ≡ faults_of before
+      same read = counts ∙ ap (λ (failed : Bool). faults_after failed (faults_of before)) read
 
-      by : IsToldByFive outcome → Wrote' → CountsFailedReads status (counted before) (counted after)
+      by : IsToldByFive outcome → Wrote' → CountsFailedReads status (faults_of before) (faults_of after)
       by (inl (unread, five)) (Whole text d appends e) = record { failed = λ _. failed unread; undisturbed = λ undisturbed. absurd (undisturbed.0 (e ∙ five)); at_most_one = inr (failed unread) }
       by (inl (unread, five)) (Part text d appends rose six) = record { failed = λ _. failed unread; undisturbed = λ undisturbed. absurd (undisturbed.1 six); at_most_one = inr (failed unread) }
       by (inl (unread, five)) (Nothing kept seven) = record { failed = λ _. failed unread; undisturbed = λ undisturbed. absurd (undisturbed.2 seven); at_most_one = inr (failed unread) }
@@ -173,9 +173,9 @@ module _ {F : Type 0} (holds : F → Option Files) (may_fail : F → List ℕ �
       by (inr (read, not_five, not_six)) (Part text d appends rose six) = record { failed = λ five. absurd (omega (arith, five, six)); undisturbed = λ _. same read; at_most_one = inl (same read) }
       by (inr (read, not_five, not_six)) (Nothing kept seven) = record { failed = λ five. absurd (omega (arith, five, seven)); undisturbed = λ _. same read; at_most_one = inl (same read) }
 
-  pub leaves_folder : (counts_failed : Bool) → OnlyReads holds may_fail counted taken before after → (AskInVain words → after ≡ before)
-      → (counts_failed ≡ true → counted after ≡ faults_after (is_unread outcome) (counted before))
-      → LeavesFolder holds may_fail counted taken counts_failed words status before after
+  pub leaves_folder : (counts_failed : Bool) → OnlyReads holds may_fail faults_of taken before after → (AskInVain words → after ≡ before)
+      → (counts_failed ≡ true → faults_of after ≡ faults_after (is_unread outcome) (faults_of before))
+      → LeavesFolder holds may_fail faults_of taken counts_failed words status before after
   leaves_folder counts_failed only_reads untouched counts =
       record { only_reads = only_reads; untouched = untouched; unread = unread; failed_reads = λ counting. counts_reads (counts counting) }
 

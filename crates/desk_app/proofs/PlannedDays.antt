@@ -19,9 +19,9 @@ use Rattle.desk_commands.specs.declared.command.Command.TheVariants as command
 use Rattle.desk_commands.specs.declared.planning.Planning.{Planning}
 use Rattle.desk_commands.specs.PlainForm.{IsPlainForm}
 use Rattle.desk_commands.proofs.OneCommand.{one_command}
-use Rattle.desk_app.specs.declared.outcome.Outcome.{Outcome}
-use Rattle.desk_app.specs.declared.outcome.Outcome.TheVariants.{Planned, Swapped, Replanned, PlannedWeek, Stops}
-use Rattle.desk_app.specs.declared.outcome.Outcome.TheVariants.{Usage, Refused, CannotRead, NoMemory}
+use Rattle.desk_app.specs.declared.outcome.DeskOutcome.{DeskOutcome}
+use Rattle.desk_app.specs.declared.outcome.DeskOutcome.TheVariants.{Planned, Swapped, Replanned, PlannedWeek, Stops}
+use Rattle.desk_app.specs.declared.outcome.DeskOutcome.TheVariants.{Usage, Refused, CannotRead, NoMemory}
 use Rattle.desk_app.specs.Documents.{IsDocument, table_refused_line}
 use Rattle.desk_app.specs.Outcomes.{status_of}
 use Rattle.desk_app.specs.PlanOutcomes.{IsDayOutcome, IsPlanOutcome, NoDay, OfDay}
@@ -33,7 +33,7 @@ use Rattle.desk_app.proofs.Statuses.{head_status}
 
 -- an outcome of a command: it isn't that the words are not understood, and it tells of a file that could not be read
 -- only where the folder's count of faults rose
-pub record IsOfCommand (it : Outcome) (DidRise : Type 0) : Type 0 where
+pub record IsOfCommand (it : DeskOutcome) (DidRise : Type 0) : Type 0 where
   pub not_usage : status_of it ≢ 2
   pub unread : status_of it ≡ 5 → DidRise
 
@@ -47,11 +47,11 @@ error_status may_fail faults taken dir before after (read_error.CannotRead read)
 error_status may_fail faults taken dir before after read_error.NoMemory caused =
     record { not_usage = λ two. omega (arith, two); unread = λ five. absurd (omega (arith, five)) }
 
-pub made_of : (error : ReadError) (it : Outcome) (DidRise : Type 0) → it ≡ outcome_of_error error → IsOfCommand (outcome_of_error error) DidRise
+pub made_of : (error : ReadError) (it : DeskOutcome) (DidRise : Type 0) → it ≡ outcome_of_error error → IsOfCommand (outcome_of_error error) DidRise
     → IsOfCommand it DidRise
-made_of error it DidRise is status = subst (λ (it : Outcome). IsOfCommand it DidRise) (sym is) status
+made_of error it DidRise is status = subst (λ (it : DeskOutcome). IsOfCommand it DidRise) (sym is) status
 
-day_status : (day : Day) (nodes : ℕ) (it : Outcome) (DidRise : Type 0) → IsDayOutcome day nodes it → IsOfCommand it DidRise
+day_status : (day : Day) (nodes : ℕ) (it : DeskOutcome) (DidRise : Type 0) → IsDayOutcome day nodes it → IsOfCommand it DidRise
 day_status day nodes (Planned answer) DidRise is =
     let head = head_status answer.head in
     record { not_usage = head.not_usage; unread = λ five. absurd (omega (arith, head.low, five)) }
@@ -69,7 +69,7 @@ day_status day nodes (CannotRead file) DidRise is = absurd is
 module _ {F : Type 0} (holds : F → Option Files) (may_fail : F → List ℕ → Bool) (faults taken : F → ℕ) (planning : Planning) (before after : F) (dir : List ℕ)
     (here : dir ≡ planning.dir) where
   -- an error of the tables
-  pub no_day : (error : ReadError) (it : Outcome) → it ≡ outcome_of_error error
+  pub no_day : (error : ReadError) (it : DeskOutcome) → it ≡ outcome_of_error error
       → ((files : Files) → holds before ≡ Some files → Reads {Y = Day} (Reaches files dir) (Err error) (day_in files dir))
       → IsErrorOf (λ read. read ≢ table.Plan) error → IsCaused may_fail faults taken dir before after error
       → IsPlanOutcome holds may_fail faults taken planning before after it
@@ -83,7 +83,7 @@ module _ {F : Type 0} (holds : F → Option Files) (may_fail : F → List ℕ �
       is
 
   -- a day that was planned
-  pub day_planned : (day : Day) (it : Outcome) → IsMadeDay day → ((files : Files) → holds before ≡ Some files → day_in files dir ≡ Ok day)
+  pub day_planned : (day : Day) (it : DeskOutcome) → IsMadeDay day → ((files : Files) → holds before ≡ Some files → day_in files dir ≡ Ok day)
       → IsDayOutcome day planning.nodes it → IsPlanOutcome holds may_fail faults taken planning before after it
   day_planned day it made told is =
       OfDay day
@@ -105,7 +105,7 @@ ended_by_error files planning (read_error.CannotRead read) said text is written 
 ended_by_error files planning read_error.NoMemory said text is written written' appends undisturbed = absurd (undisturbed.2 refl)
 
 -- and so does an answer
-ended_by_day : (files : Files) (planning : Planning) (day : Day) → day_in files planning.dir ≡ Ok day → (it : Outcome) → IsDayOutcome day planning.nodes it
+ended_by_day : (files : Files) (planning : Planning) (day : Day) → day_in files planning.dir ≡ Ok day → (it : DeskOutcome) → IsDayOutcome day planning.nodes it
     → (text : List ℕ) → IsDocument it text → (written written' : Option (List ℕ)) → Appends text written written' → IsUndisturbed (status_of it)
     → EndsPlanning table_refused_line files planning.dir planning.nodes (status_of it) written written'
 ended_by_day files planning day accepted (Planned answer) meets text is written written' appends undisturbed =
@@ -133,7 +133,7 @@ ended_by_day files planning day accepted Usage meets text is written written' ap
 ended_by_day files planning day accepted (Refused file) meets text is written written' appends undisturbed = absurd meets
 ended_by_day files planning day accepted (CannotRead file) meets text is written written' appends undisturbed = absurd meets
 
-module _ {F : Type 0} (holds : F → Option Files) (may_fail : F → List ℕ → Bool) (faults taken : F → ℕ) (planning : Planning) (before after : F) (it : Outcome) where
+module _ {F : Type 0} (holds : F → Option Files) (may_fail : F → List ℕ → Bool) (faults taken : F → ℕ) (planning : Planning) (before after : F) (it : DeskOutcome) where
   pub plan_status : IsPlanOutcome holds may_fail faults taken planning before after it → IsOfCommand it (Rose (faults before) (faults after))
   plan_status (NoDay error read is) =
       made_of error it (Rose (faults before) (faults after)) is (error_status may_fail faults taken planning.dir before after error read.caused)
@@ -143,19 +143,19 @@ module _ {F : Type 0} (holds : F → Option Files) (may_fail : F → List ℕ �
       → (text : List ℕ) → IsDocument it text → (written written' : Option (List ℕ)) → Appends text written written' → IsUndisturbed (status_of it)
       → EndsPlanning table_refused_line files planning.dir planning.nodes (status_of it) written written'
   planning_ends (NoDay error read is) files tells text document written written' appends undisturbed =
-      subst (λ (it : Outcome). EndsPlanning table_refused_line files planning.dir planning.nodes (status_of it) written written') (sym is)
-      (ended_by_error files planning error (read.told files tells) text (subst (λ (it : Outcome). IsDocument it text) is document) written written' appends
-      (subst (λ (it : Outcome). IsUndisturbed (status_of it)) is undisturbed))
+      subst (λ (it : DeskOutcome). EndsPlanning table_refused_line files planning.dir planning.nodes (status_of it) written written') (sym is)
+      (ended_by_error files planning error (read.told files tells) text (subst (λ (it : DeskOutcome). IsDocument it text) is document) written written' appends
+      (subst (λ (it : DeskOutcome). IsUndisturbed (status_of it)) is undisturbed))
   planning_ends (OfDay day read is) files tells text document written written' appends undisturbed =
       ended_by_day files planning day (read.told files tells) it is text document written written' appends undisturbed
 
 -- ---- the advisors
 
 -- where no day is read, no advisor is asked
-pub none_asked_for : {A : Type 0} (asked : A → ℕ) (has_quit : A → Bool) (rounds : ℕ) (error : ReadError) (it : Outcome)
+pub none_asked_for : {A : Type 0} (asked : A → ℕ) (has_quit : A → Bool) (rounds : ℕ) (error : ReadError) (it : DeskOutcome)
     (advisors : List A) → it ≡ outcome_of_error error → AreAskedFor rounds it advisors advisors asked has_quit
 none_asked_for asked has_quit rounds error it advisors is =
-    subst (λ (other : Outcome). AreAskedFor rounds other advisors advisors asked has_quit) (sym is) (by error)
+    subst (λ (other : DeskOutcome). AreAskedFor rounds other advisors advisors asked has_quit) (sym is) (by error)
   where
     by : (error : ReadError) → AreAskedFor rounds (outcome_of_error error) advisors advisors asked has_quit
     by (read_error.CannotRead read) = refl
@@ -184,7 +184,7 @@ module _ {A : Type 0} (identity asked : A → ℕ) (has_quit : A → Bool) (word
 
 -- how they were asked for an answer, by whichever command the words ask for
 pub asked_for : {A : Type 0} (asked : A → ℕ) (has_quit : A → Bool) (words : List (List ℕ)) (named other : Command) → IsPlainForm words named
-    → IsPlainForm words other → (it : Outcome) (before after : List A) → AreAskedFor (rounds_of named) it before after asked has_quit
+    → IsPlainForm words other → (it : DeskOutcome) (before after : List A) → AreAskedFor (rounds_of named) it before after asked has_quit
     → AreAskedFor (rounds_of other) it before after asked has_quit
 asked_for asked has_quit words named other form given it before after is =
     subst (λ (c : Command). AreAskedFor (rounds_of c) it before after asked has_quit) (one_command words named other form given) is

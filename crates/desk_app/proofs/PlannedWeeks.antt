@@ -33,13 +33,13 @@ use Rattle.week_text.specs.WeekLines.{week_text}
 use Rattle.desk_commands.specs.declared.week_planning.WeekPlanning.{WeekPlanning}
 use Rattle.desk_app.specs.declared.files.DeskFile.{DeskFile}
 use Rattle.desk_app.specs.declared.files.DeskFile.TheVariants.{OfDay}
-use Rattle.desk_app.specs.declared.outcome.Outcome.{Outcome}
-use Rattle.desk_app.specs.declared.outcome.Outcome.TheVariants.{Planned, Swapped, Replanned, PlannedWeek, Stops}
-use Rattle.desk_app.specs.declared.outcome.Outcome.TheVariants.{Usage, Refused, CannotRead, NoMemory}
+use Rattle.desk_app.specs.declared.outcome.DeskOutcome.{DeskOutcome}
+use Rattle.desk_app.specs.declared.outcome.DeskOutcome.TheVariants.{Planned, Swapped, Replanned, PlannedWeek, Stops}
+use Rattle.desk_app.specs.declared.outcome.DeskOutcome.TheVariants.{Usage, Refused, CannotRead, NoMemory}
 use Rattle.desk_app.specs.Documents.{IsDocument, refused_line}
 use Rattle.desk_app.specs.Outcomes.{is_unread, status_of}
 use Rattle.desk_app.specs.Statuses.{AreAskedFor}
-use Rattle.desk_app.specs.WeekDays.{AreWeekIn, IsRefusedInWeek, OfReading, OfWeek, fault_file}
+use Rattle.desk_app.specs.WeekDays.{AreWeekIn, IsRefusedForWeek, OfReading, OfWeek, fault_file}
 use Rattle.desk_app.specs.WeekEndings.{EndsWeek, IsWeekWritten}
 use Rattle.desk_app.specs.WeekOutcomes.{IsDaysOutcome, IsWeekOutcome, NoDays, OfDays, outcome_of_day_error}
 use Rattle.desk_app.specs.WeekOutcomes.{outcome_of_fault, outcome_on_day}
@@ -74,7 +74,7 @@ module _ (files : Files) (planning : WeekPlanning) where
       let none = refused.refused in
       cc
 
-  week_or_refused : (days : List Day) (file : DeskFile) → AreWeekIn files planning days → IsRefusedInWeek files planning file → ⊥
+  week_or_refused : (days : List Day) (file : DeskFile) → AreWeekIn files planning days → IsRefusedForWeek files planning file → ⊥
   week_or_refused days file are (OfReading number why refused is) = days_or_refused days number why are.accepted refused
   week_or_refused days file are (OfWeek other why accepted fault is) =
       no_fault days why are.week
@@ -98,7 +98,7 @@ module _ (files : Files) (planning : WeekPlanning) where
       accepted = λ other. (days, are);
     }
 
-    ended_refused : (file : DeskFile) → IsRefusedInWeek files planning file → Appends (refused_line file) before after
+    ended_refused : (file : DeskFile) → IsRefusedForWeek files planning file → Appends (refused_line file) before after
         → EndsWeek files planning 3 before after
     ended_refused file refused written = record {
       planned = λ days are. absurd (week_or_refused days file are refused);
@@ -120,7 +120,7 @@ module _ (files : Files) (planning : WeekPlanning) where
     ended_on_day number read_error.NoMemory from_one within ended text is appends undisturbed = absurd (undisturbed.2 refl)
 
     -- days that were read
-    ended_by_days : (days : List Day) → AreDaysIn files planning.dir planning.days days → (it : Outcome) → IsDaysOutcome days planning.nodes it
+    ended_by_days : (days : List Day) → AreDaysIn files planning.dir planning.days days → (it : DeskOutcome) → IsDaysOutcome days planning.nodes it
         → (text : List ℕ) → IsDocument it text → Appends text before after → IsUndisturbed (status_of it)
         → EndsWeek files planning (status_of it) before after
     ended_by_days days accepted (PlannedWeek week) says text is appends undisturbed =
@@ -141,7 +141,7 @@ module _ (files : Files) (planning : WeekPlanning) where
 module _ {F : Type 0} (holds : F → Option Files) (may_fail : F → List ℕ → Bool) (faults taken : F → ℕ) (planning : WeekPlanning) (before after : F)
     (dir : List ℕ) (here : dir ≡ planning.dir) where
   -- a day that was not read
-  pub no_days : (error : DayError) (it : Outcome) → it ≡ outcome_of_day_error error
+  pub no_days : (error : DayError) (it : DeskOutcome) → it ≡ outcome_of_day_error error
       → ((files : Files) → holds before ≡ Some files → IsEndedAt files dir error) → IsErrorAt planning.days error
       → IsCausedAt may_fail faults taken dir before after error → IsWeekOutcome holds may_fail faults taken planning before after it
   no_days error it is told says caused =
@@ -154,7 +154,7 @@ module _ {F : Type 0} (holds : F → Option Files) (may_fail : F → List ℕ �
       is
 
   -- days that were read
-  pub days_read : (days listed : List Day) (it : Outcome) → listed ≡ days → All IsMadeDay days → length days ≡ planning.days
+  pub days_read : (days listed : List Day) (it : DeskOutcome) → listed ≡ days → All IsMadeDay days → length days ≡ planning.days
       → ((files : Files) → holds before ≡ Some files → AreDaysIn files dir planning.days days) → IsDaysOutcome listed planning.nodes it
       → IsWeekOutcome holds may_fail faults taken planning before after it
   days_read days listed it same made count told says =
@@ -167,7 +167,7 @@ module _ {F : Type 0} (holds : F → Option Files) (may_fail : F → List ℕ �
       (subst (λ (ds : List Day). IsDaysOutcome ds planning.nodes it) same says)
 
 -- the fault of days that is said
-pub fault_comes : (days : List Day) (nodes : ℕ) (why : WeekRefusal) (it : Outcome) → it ≡ outcome_of_fault why
+pub fault_comes : (days : List Day) (nodes : ℕ) (why : WeekRefusal) (it : DeskOutcome) → it ≡ outcome_of_fault why
     → MatchOption (fault_said why) (AreWeek days) (IsFirstFault days) → IsDaysOutcome days nodes it
 fault_comes days nodes why it is said = subst (IsDaysOutcome days nodes) (sym is) (by why said)
   where
@@ -178,7 +178,7 @@ fault_comes days nodes why it is said = subst (IsDaysOutcome days nodes) (sym is
     by (LateTrip day trip) fault = (LateTrip day trip, fault, refl)
     by week_refusal.NoMemory fault = tt
 
-pub fault_read : (why : WeekRefusal) (it : Outcome) → it ≡ outcome_of_fault why → is_unread it ≡ false
+pub fault_read : (why : WeekRefusal) (it : DeskOutcome) → it ≡ outcome_of_fault why → is_unread it ≡ false
 fault_read why it is = ap is_unread is ∙ by why
   where
     by : (why : WeekRefusal) → is_unread (outcome_of_fault why) ≡ false
@@ -189,10 +189,10 @@ fault_read why it is = ap is_unread is ∙ by why
     by week_refusal.NoMemory = refl
 
 -- advisors that were not asked where a fault is said
-pub fault_asks_none : {A : Type 0} (asked : A → ℕ) (has_quit : A → Bool) (rounds : ℕ) (why : WeekRefusal) (it : Outcome) (before after : List A)
+pub fault_asks_none : {A : Type 0} (asked : A → ℕ) (has_quit : A → Bool) (rounds : ℕ) (why : WeekRefusal) (it : DeskOutcome) (before after : List A)
     → it ≡ outcome_of_fault why → MatchOption (fault_said why) ⊤ (λ _. after ≡ before) → AreAskedFor rounds it before after asked has_quit
 fault_asks_none asked has_quit rounds why it before after is said =
-    subst (λ (other : Outcome). AreAskedFor rounds other before after asked has_quit) (sym is) (by why said)
+    subst (λ (other : DeskOutcome). AreAskedFor rounds other before after asked has_quit) (sym is) (by why said)
   where
     by : (why : WeekRefusal) → MatchOption (fault_said why) ⊤ (λ _. after ≡ before) → AreAskedFor rounds (outcome_of_fault why) before after asked has_quit
     by (TypesDiffer day) same = same
@@ -202,10 +202,10 @@ fault_asks_none asked has_quit rounds why it before after is said =
     by week_refusal.NoMemory same = tt
 
 -- where a day is not read, no advisor is asked
-pub error_asks_none : {A : Type 0} (asked : A → ℕ) (has_quit : A → Bool) (rounds : ℕ) (error : DayError) (it : Outcome) (advisors : List A)
+pub error_asks_none : {A : Type 0} (asked : A → ℕ) (has_quit : A → Bool) (rounds : ℕ) (error : DayError) (it : DeskOutcome) (advisors : List A)
     → it ≡ outcome_of_day_error error → AreAskedFor rounds it advisors advisors asked has_quit
 error_asks_none asked has_quit rounds error it advisors is =
-    subst (λ (other : Outcome). AreAskedFor rounds other advisors advisors asked has_quit) (sym is) (by error.error)
+    subst (λ (other : DeskOutcome). AreAskedFor rounds other advisors advisors asked has_quit) (sym is) (by error.error)
   where
     by : (why : ReadError) → AreAskedFor rounds (outcome_on_day error.day why) advisors advisors asked has_quit
     by (read_error.CannotRead read) = refl
@@ -227,7 +227,7 @@ module _ {F : Type 0} (holds : F → Option Files) (may_fail : F → List ℕ �
   on_day_status dir before after number read_error.NoMemory caused =
       record { not_usage = λ two. omega (arith, two); unread = λ five. absurd (omega (arith, five)) }
 
-  days_status : (days : List Day) (it : Outcome) (DidRise : Type 0) → IsDaysOutcome days planning.nodes it → IsOfCommand it DidRise
+  days_status : (days : List Day) (it : DeskOutcome) (DidRise : Type 0) → IsDaysOutcome days planning.nodes it → IsOfCommand it DidRise
   days_status days (PlannedWeek week) DidRise says =
       let head = head_status week.head in
       record { not_usage = head.not_usage; unread = λ five. absurd (omega (arith, head.low, five)) }
@@ -240,10 +240,10 @@ module _ {F : Type 0} (holds : F → Option Files) (may_fail : F → List ℕ �
   days_status days Usage DidRise says = absurd says
   days_status days (CannotRead file) DidRise says = absurd says
 
-  module _ (before after : F) (it : Outcome) where
+  module _ (before after : F) (it : DeskOutcome) where
     pub week_status : IsWeekOutcome holds may_fail faults taken planning before after it → IsOfCommand it (RoseFrom before after)
     week_status (NoDays error read is) =
-        subst (λ (it : Outcome). IsOfCommand it (RoseFrom before after)) (sym is)
+        subst (λ (it : DeskOutcome). IsOfCommand it (RoseFrom before after)) (sym is)
         (on_day_status (day_folder planning.dir error.day) before after error.day error.error read.caused)
     week_status (OfDays days read says) = days_status days it (RoseFrom before after) says
 
@@ -251,9 +251,9 @@ module _ {F : Type 0} (holds : F → Option Files) (may_fail : F → List ℕ �
         → (text : List ℕ) → IsDocument it text → (written written' : Option (List ℕ)) → Appends text written written' → IsUndisturbed (status_of it)
         → EndsWeek files planning (status_of it) written written'
     week_ends (NoDays error read is) files tells text document written written' appends undisturbed =
-        subst (λ (it : Outcome). EndsWeek files planning (status_of it) written written') (sym is)
+        subst (λ (it : DeskOutcome). EndsWeek files planning (status_of it) written written') (sym is)
         (ended_on_day files planning written written' error.day error.error read.says.from_one read.says.within (read.told files tells) text
-        (subst (λ (it : Outcome). IsDocument it text) is document) appends (subst (λ (it : Outcome). IsUndisturbed (status_of it)) is undisturbed))
+        (subst (λ (it : DeskOutcome). IsDocument it text) is document) appends (subst (λ (it : DeskOutcome). IsUndisturbed (status_of it)) is undisturbed))
     week_ends (OfDays days read says) files tells text document written written' appends undisturbed =
         ended_by_days files planning written written' days (read.told files tells) it says text document appends undisturbed
 
@@ -264,7 +264,7 @@ least_none [] = refl
 least_none (answer ∷ answers) = omega (arith, least_none answers)
 
 -- whatever comes of it, advisors that were not asked were asked as often as no rounds grant
-pub none_asked_in_no_rounds : {A : Type 0} (asked : A → ℕ) (has_quit : A → Bool) (advisors : List A) (it : Outcome)
+pub none_asked_in_no_rounds : {A : Type 0} (asked : A → ℕ) (has_quit : A → Bool) (advisors : List A) (it : DeskOutcome)
     → AreAskedFor 0 it advisors advisors asked has_quit
 none_asked_in_no_rounds asked has_quit advisors (Planned answer) = are_unasked asked has_quit (0 * (2 * answer.branchings + 1)) advisors
 none_asked_in_no_rounds asked has_quit advisors (Replanned rest) =

@@ -1,7 +1,7 @@
 -- What the planning of the rest of a folder's day comes to, and how it ends.
 use Rattle.std.proofs.Common.{◌≡◌, ◌≢◌, ℕ, Bool, List, Option, Some, Ok, Err, inl, inr, refl, sym, ◌∙◌, subst, arith}
 use Rattle.std.specs.Prelude.{⊤}
-use Rattle.rail_base.specs.declared.limits.TheConstants.{MOST_TABLE_BYTES}
+use Rattle.rail_base.specs.declared.limits.TheConstants.{MAX_TABLE_BYTES}
 use Rattle.rail_csv.specs.Tables.{records_of}
 use Rattle.rail_io.specs.declared.whole.FileRefusal.{FileRefusal}
 use Rattle.rail_io.specs.declared.whole.FileRefusal.TheVariants as file
@@ -26,11 +26,11 @@ use Rattle.replan_text.specs.ReplanLines.{document_of}
 use Rattle.desk_commands.specs.declared.replanning.Replanning.{Replanning}
 use Rattle.desk_app.specs.declared.files.DeskFile.{DeskFile}
 use Rattle.desk_app.specs.declared.files.DeskFile.TheVariants.{CancelledTrips, OfDay, OfTable, UrgentUnits}
-use Rattle.desk_app.specs.declared.outcome.Outcome.{Outcome}
-use Rattle.desk_app.specs.declared.outcome.Outcome.TheVariants.{Planned, Swapped, Replanned, PlannedWeek, Stops}
-use Rattle.desk_app.specs.declared.outcome.Outcome.TheVariants.{Usage, Refused, CannotRead, NoMemory}
+use Rattle.desk_app.specs.declared.outcome.DeskOutcome.{DeskOutcome}
+use Rattle.desk_app.specs.declared.outcome.DeskOutcome.TheVariants.{Planned, Swapped, Replanned, PlannedWeek, Stops}
+use Rattle.desk_app.specs.declared.outcome.DeskOutcome.TheVariants.{Usage, Refused, CannotRead, NoMemory}
 use Rattle.desk_app.specs.declared.outcome.PlannedRest.{PlannedRest}
-use Rattle.desk_app.specs.Cancelled.{AreDisturbed, AreWrong, IsRefusedToReplan, OfCancelled, SayCancelled, SayNoneCancelled}
+use Rattle.desk_app.specs.Cancelled.{AreDisturbed, AreWrong, IsRefusedForReplan, OfCancelled, SayCancelled, SayNoneCancelled}
 use Rattle.desk_app.specs.Cancelled.{TooMany, cancelled_bytes}
 use Rattle.desk_app.specs.Cancelled as told
 use Rattle.desk_app.specs.Documents.{IsDocument, refused_line, stops_line}
@@ -59,12 +59,12 @@ module _ (files : Files) (replanning : Replanning) where
   abbrev dir : List ℕ
   dir = replanning.dir
 
-  stops_or_refused : (inputs : Inputs) (file : DeskFile) → AreStopped files dir inputs → IsRefusedToReplan files replanning file → ⊥
+  stops_or_refused : (inputs : Inputs) (file : DeskFile) → AreStopped files dir inputs → IsRefusedForReplan files replanning file → ⊥
   stops_or_refused inputs file stopped (told.OfInputs why said is) = let accepted = stopped.accepted in cc
   stops_or_refused inputs file stopped (OfCancelled other running none is) = runs_or_stops files dir other inputs running stopped
 
   disturbed_or_refused : (inputs : Inputs) (cancelled : List ℕ) (file : DeskFile) → HaveNames inputs.instance
-      → AreDisturbed files replanning inputs cancelled → IsRefusedToReplan files replanning file → ⊥
+      → AreDisturbed files replanning inputs cancelled → IsRefusedForReplan files replanning file → ⊥
   disturbed_or_refused inputs cancelled file names are (told.OfInputs why said is) = let accepted = are.running.accepted in cc
   disturbed_or_refused inputs cancelled file names are (OfCancelled other running none is) =
       says_not inputs.instance replanning.minute (cancelled_bytes files dir) cancelled names are.said
@@ -119,7 +119,7 @@ module _ (files : Files) (replanning : Replanning) where
       ends = inr (inl (record { inputs = inputs; stopped = stopped; one = refl; written = written }));
     }
 
-    ended_refused : (file : DeskFile) → IsRefusedToReplan files replanning file
+    ended_refused : (file : DeskFile) → IsRefusedForReplan files replanning file
         → ((inputs : Inputs) → inputs_in files dir ≡ Ok inputs → HaveNames inputs.instance)
         → Appends (refused_line file) before after → EndsReplanning files replanning 3 before after
     ended_refused file refused names written = record {
@@ -145,7 +145,7 @@ module _ (files : Files) (replanning : Replanning) where
       named : (other : Inputs) → inputs_in files dir ≡ Ok other → HaveNames other.instance
       named other accepted = subst (λ (it : Inputs). HaveNames it.instance) (same_inputs files dir inputs other running.accepted accepted) names
 
-      ended_by_table : (bytes : List ℕ) (it : Outcome) → bytes ≡ cancelled_bytes files dir → IsCancelledOutcome inputs replanning bytes it
+      ended_by_table : (bytes : List ℕ) (it : DeskOutcome) → bytes ≡ cancelled_bytes files dir → IsCancelledOutcome inputs replanning bytes it
           → (text : List ℕ) → IsDocument it text → Appends text before after → IsUndisturbed (status_of it)
           → EndsReplanning files replanning (status_of it) before after
       ended_by_table bytes (Replanned rest) same says text is appends undisturbed =
@@ -174,7 +174,7 @@ module _ (files : Files) (replanning : Replanning) where
 module _ {F : Type 0} (holds : F → Option Files) (may_fail : F → List ℕ → Bool) (faults taken : F → ℕ) (replanning : Replanning) (dir : List ℕ)
     (here : dir ≡ replanning.dir) where
   -- an error of the tables of the day and its plan
-  pub no_inputs : (before after : F) (error : ReadError) (it : Outcome) → it ≡ outcome_of_error error
+  pub no_inputs : (before after : F) (error : ReadError) (it : DeskOutcome) → it ≡ outcome_of_error error
       → ((files : Files) → holds before ≡ Some files → Reads {Y = Inputs} (Reaches files dir) (Err error) (inputs_in files dir))
       → IsErrorOf (λ _. ⊤) error → IsCaused may_fail faults taken dir before after error
       → IsReplanOutcome holds may_fail faults taken replanning before after it
@@ -189,7 +189,7 @@ module _ {F : Type 0} (holds : F → Option Files) (may_fail : F → List ℕ �
       is
 
   -- a day and its plan that were read
-  pub inputs_read : (before between after : F) (inputs : Inputs) (it : Outcome) → IsMadeDay inputs.instance → IsMadePlan inputs.instance inputs.plan
+  pub inputs_read : (before between after : F) (inputs : Inputs) (it : DeskOutcome) → IsMadeDay inputs.instance → IsMadePlan inputs.instance inputs.plan
       → ((files : Files) → holds before ≡ Some files → inputs_in files dir ≡ Ok inputs)
       → OnlyReads holds may_fail faults taken before between
       → IsRunningOutcome holds may_fail faults taken replanning inputs between after it
@@ -205,8 +205,8 @@ module _ {F : Type 0} (holds : F → Option Files) (may_fail : F → List ℕ �
 
   module _ (inputs : Inputs) (before after : F) where
     -- the bytes of the table of cancelled trips were read
-    pub bytes_read : (bytes items : List ℕ) (same : items ≡ bytes) (it : Outcome)
-        → ((files : Files) → holds before ≡ Some files → ReadsFile (bytes_at files dir cancelled_file) MOST_TABLE_BYTES (Ok bytes))
+    pub bytes_read : (bytes items : List ℕ) (same : items ≡ bytes) (it : DeskOutcome)
+        → ((files : Files) → holds before ≡ Some files → ReadsFile (bytes_at files dir cancelled_file) MAX_TABLE_BYTES (Ok bytes))
         → IsCancelledOutcome inputs replanning items it → IsTripsOutcome holds may_fail faults taken replanning inputs before after it
     bytes_read bytes items same it told says =
         OfBytes items
@@ -214,7 +214,7 @@ module _ {F : Type 0} (holds : F → Option Files) (may_fail : F → List ℕ �
 
     module _ (why : FileRefusal) where
       abbrev Caused : FileRefusal → List ℕ → Type 0
-      Caused it d = IsFileCaused may_fail faults taken (path_in d cancelled_file) MOST_TABLE_BYTES before after it
+      Caused it d = IsFileCaused may_fail faults taken (path_in d cancelled_file) MAX_TABLE_BYTES before after it
 
       -- it could not be read
       pub file_unread : why ≡ file.ReadFault → Caused why dir
@@ -226,18 +226,18 @@ module _ {F : Type 0} (holds : F → Option Files) (may_fail : F → List ℕ �
 
       -- it is too long
       pub file_too_long : why ≡ file.TooLong → Caused why dir
-          → ((files : Files) → holds before ≡ Some files → ReadsFile (bytes_at files dir cancelled_file) MOST_TABLE_BYTES (Err why))
+          → ((files : Files) → holds before ≡ Some files → ReadsFile (bytes_at files dir cancelled_file) MAX_TABLE_BYTES (Err why))
           → IsTripsOutcome holds may_fail faults taken replanning inputs before after (Refused CancelledTrips)
       file_too_long is caused told =
           TooLong (subst (λ (it : FileRefusal). Caused it dir) is caused)
-          (λ files tells. subst (λ (d : List ℕ). ReadsFile (bytes_at files d cancelled_file) MOST_TABLE_BYTES (Err file.TooLong)) here
-          (subst (λ (it : FileRefusal). ReadsFile (bytes_at files dir cancelled_file) MOST_TABLE_BYTES (Err it)) is (told files tells))) refl
+          (λ files tells. subst (λ (d : List ℕ). ReadsFile (bytes_at files d cancelled_file) MAX_TABLE_BYTES (Err file.TooLong)) here
+          (subst (λ (it : FileRefusal). ReadsFile (bytes_at files dir cancelled_file) MAX_TABLE_BYTES (Err it)) is (told files tells))) refl
 
 module _ {F : Type 0} (holds : F → Option Files) (may_fail : F → List ℕ → Bool) (faults taken : F → ℕ) (replanning : Replanning) where
   abbrev RoseFrom : F → F → Type 0
   RoseFrom before after = Rose (faults before) (faults after)
 
-  table_status : (inputs : Inputs) (bytes : List ℕ) (it : Outcome) (DidRise : Type 0) → IsCancelledOutcome inputs replanning bytes it → IsOfCommand it DidRise
+  table_status : (inputs : Inputs) (bytes : List ℕ) (it : DeskOutcome) (DidRise : Type 0) → IsCancelledOutcome inputs replanning bytes it → IsOfCommand it DidRise
   table_status inputs bytes (Replanned rest) DidRise says =
       let head = head_status rest.replanned.head in
       record { not_usage = head.not_usage; unread = λ five. absurd (omega (arith, head.low, five)) }
@@ -254,11 +254,11 @@ module _ {F : Type 0} (holds : F → Option Files) (may_fail : F → List ℕ �
   table_status inputs bytes (CannotRead file) DidRise says = absurd says
 
   -- an outcome that is one with another status
-  other_status : (it other : Outcome) (DidRise : Type 0) → it ≡ other → status_of other ≢ 2 → status_of other ≢ 5 → IsOfCommand it DidRise
+  other_status : (it other : DeskOutcome) (DidRise : Type 0) → it ≡ other → status_of other ≢ 2 → status_of other ≢ 5 → IsOfCommand it DidRise
   other_status it other DidRise is not_usage read =
-      subst (λ (it : Outcome). IsOfCommand it DidRise) (sym is) (record { not_usage = not_usage; unread = λ five. absurd (read five) })
+      subst (λ (it : DeskOutcome). IsOfCommand it DidRise) (sym is) (record { not_usage = not_usage; unread = λ five. absurd (read five) })
 
-  module _ (before after : F) (it : Outcome) where
+  module _ (before after : F) (it : DeskOutcome) where
     pub replan_status : IsReplanOutcome holds may_fail faults taken replanning before after it → IsOfCommand it (RoseFrom before after)
     replan_status (NoInputs error read is) =
         made_of error it (RoseFrom before after) is (error_status may_fail faults taken replanning.dir before after error read.caused)
@@ -270,7 +270,7 @@ module _ {F : Type 0} (holds : F → Option Files) (may_fail : F → List ℕ �
 
         of_trips : IsTripsOutcome holds may_fail faults taken replanning inputs between after it → IsOfCommand it (RoseFrom before after)
         of_trips (Unread did_rise may is) =
-            subst (λ (it : Outcome). IsOfCommand it (RoseFrom before after)) (sym is)
+            subst (λ (it : DeskOutcome). IsOfCommand it (RoseFrom before after)) (sym is)
             (record { not_usage = λ two. omega (arith, two); unread = λ five. rose did_rise })
         of_trips (TooLong did_rise more is) =
             other_status it (Refused CancelledTrips) (RoseFrom before after) is (λ two. omega (arith, two)) (λ five. omega (arith, five))
@@ -285,21 +285,21 @@ module _ {F : Type 0} (holds : F → Option Files) (may_fail : F → List ℕ �
     module _ (files : Files) (tells : holds before ≡ Some files) (text : List ℕ) (document : IsDocument it text) (written written' : Option (List ℕ))
         (appends : Appends text written written') (undisturbed : IsUndisturbed (status_of it)) where
       -- the end of what is another outcome
-      abbrev Ends : Outcome → Type 0
+      abbrev Ends : DeskOutcome → Type 0
       Ends other = EndsReplanning files replanning (status_of other) written written'
 
       -- what was written, where the outcome is this one
-      wrote : (other : Outcome) → it ≡ other → IsDocument other text
-      wrote other is = subst (λ (it : Outcome). IsDocument it text) is document
+      wrote : (other : DeskOutcome) → it ≡ other → IsDocument other text
+      wrote other is = subst (λ (it : DeskOutcome). IsDocument it text) is document
 
       line_is : (line : List ℕ) → text ≡ line → Appends line written written'
       line_is line same = subst (λ (t : List ℕ). Appends t written written') same appends
 
-      as_other : (other : Outcome) → it ≡ other → Ends other → Ends it
-      as_other other is ends = subst (λ (it : Outcome). Ends it) (sym is) ends
+      as_other : (other : DeskOutcome) → it ≡ other → Ends other → Ends it
+      as_other other is ends = subst (λ (it : DeskOutcome). Ends it) (sym is) ends
 
-      calm : (other : Outcome) → it ≡ other → IsUndisturbed (status_of other)
-      calm other is = subst (λ (it : Outcome). IsUndisturbed (status_of it)) is undisturbed
+      calm : (other : DeskOutcome) → it ≡ other → IsUndisturbed (status_of other)
+      calm other is = subst (λ (it : DeskOutcome). IsUndisturbed (status_of it)) is undisturbed
 
       ended_by_trips : (inputs : Inputs) → HaveNames inputs.instance → (running : AreRunning files replanning.dir inputs) (between : F) → holds between ≡ Some files
           → IsTripsOutcome holds may_fail faults taken replanning inputs between after it → Ends it

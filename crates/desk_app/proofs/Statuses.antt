@@ -7,9 +7,9 @@ use Rattle.statuses.specs.Written.{IsTextOf}
 use Rattle.rules.specs.declared.heads.Head.{Head}
 use Rattle.rules.specs.declared.heads.Head.TheVariants.{Optimal, Infeasible, Bounded, BoundedPlan}
 use Rattle.answer_check.specs.Headline.{status_said}
-use Rattle.desk_app.specs.declared.outcome.Outcome.{Outcome}
-use Rattle.desk_app.specs.declared.outcome.Outcome.TheVariants.{Planned, Swapped, Replanned, PlannedWeek, Stops}
-use Rattle.desk_app.specs.declared.outcome.Outcome.TheVariants.{Usage, Refused, CannotRead, NoMemory}
+use Rattle.desk_app.specs.declared.outcome.DeskOutcome.{DeskOutcome}
+use Rattle.desk_app.specs.declared.outcome.DeskOutcome.TheVariants.{Planned, Swapped, Replanned, PlannedWeek, Stops}
+use Rattle.desk_app.specs.declared.outcome.DeskOutcome.TheVariants.{Usage, Refused, CannotRead, NoMemory}
 use Rattle.desk_app.specs.Documents.{IsDocument}
 use Rattle.desk_app.specs.Outcomes.{status_of, is_unread}
 
@@ -26,7 +26,7 @@ head_status (Bounded bound) = record { not_usage = λ e. omega (arith, e); not_r
 head_status (BoundedPlan bound cost) = record { not_usage = λ e. omega (arith, e); not_refused = λ e. omega (arith, e); low = omega arith }
 
 -- an outcome that has a document has a status that says of no write that it failed, and not that memory ran out
-pub few_with_document : (outcome : Outcome) (text : List ℕ) → IsDocument outcome text → status_of outcome ≤ 5
+pub few_with_document : (outcome : DeskOutcome) (text : List ℕ) → IsDocument outcome text → status_of outcome ≤ 5
 few_with_document (Planned answer) text is = omega (arith, (head_status answer.head).low)
 few_with_document (Swapped swapped) text is = omega arith
 few_with_document (Replanned rest) text is = omega (arith, (head_status rest.replanned.head).low)
@@ -37,20 +37,20 @@ few_with_document (Refused file) text is = omega arith
 few_with_document (CannotRead file) text is = omega arith
 few_with_document NoMemory text is = absurd is
 
-pub few_where_made : (outcome : Outcome) (made : Result (Vec ℕ) memory.NoMemory) → IfOk made (λ text. IsDocument outcome text.items) → IfOk made (λ _. status_of outcome ≤ 5)
+pub few_where_made : (outcome : DeskOutcome) (made : Result (Vec ℕ) memory.NoMemory) → IfOk made (λ text. IsDocument outcome text.items) → IfOk made (λ _. status_of outcome ≤ 5)
 few_where_made outcome (Ok text) is = few_with_document outcome text.items is
 few_where_made outcome (Err why) is = tt
 
 -- the text that was made is that of the outcome
-pub text_of_outcome : (outcome : Outcome) (made : Result (Vec ℕ) memory.NoMemory) → IfOk made (λ text. IsDocument outcome text.items) → (text : List ℕ) → IsTextOf made text → IsDocument outcome text
+pub text_of_outcome : (outcome : DeskOutcome) (made : Result (Vec ℕ) memory.NoMemory) → IfOk made (λ text. IsDocument outcome text.items) → (text : List ℕ) → IsTextOf made text → IsDocument outcome text
 text_of_outcome outcome (Ok document) is text same = subst (λ text. IsDocument outcome text) (sym same) is
 text_of_outcome outcome (Err why) is text none = absurd none
 
 -- an outcome says that a file could not be read, and has status 5; or it doesn't, and has another, which is never 6
-abbrev pub IsToldByFive : Outcome → Type 0
+abbrev pub IsToldByFive : DeskOutcome → Type 0
 IsToldByFive outcome = ((is_unread outcome ≡ true) × (status_of outcome ≡ 5)) ⊎ ((is_unread outcome ≡ false) × (status_of outcome ≢ 5) × (status_of outcome ≢ 6))
 
-pub unread_is_five : (outcome : Outcome) → IsToldByFive outcome
+pub unread_is_five : (outcome : DeskOutcome) → IsToldByFive outcome
 unread_is_five (Planned answer) =
     let low = (head_status answer.head).low in inr (refl, λ five. omega (arith, low, five), λ six. omega (arith, low, six))
 unread_is_five (Replanned rest) =

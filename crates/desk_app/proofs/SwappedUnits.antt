@@ -1,6 +1,6 @@
 -- What the swapping of a folder's units comes to, and how it ends.
 use Rattle.std.proofs.Common.{◌≡◌, ◌≢◌, ℕ, Bool, List, Option, Some, Ok, Err, inl, inr, refl, sym, ◌∙◌, subst, arith}
-use Rattle.rail_base.specs.declared.limits.TheConstants.{MOST_TABLE_BYTES}
+use Rattle.rail_base.specs.declared.limits.TheConstants.{MAX_TABLE_BYTES}
 use Rattle.rail_io.specs.declared.whole.FileRefusal.{FileRefusal}
 use Rattle.rail_io.specs.declared.whole.FileRefusal.TheVariants as file
 use Rattle.rail_io.specs.Folders.{Files, Rose}
@@ -22,9 +22,9 @@ use Rattle.urgent_units.specs.Answers.{BringsMost}
 use Rattle.urgent_units.proofs.Decided.{tables_are_decided}
 use Rattle.desk_app.specs.declared.files.DeskFile.{DeskFile}
 use Rattle.desk_app.specs.declared.files.DeskFile.TheVariants.{CancelledTrips, OfDay, OfTable, UrgentUnits}
-use Rattle.desk_app.specs.declared.outcome.Outcome.{Outcome}
-use Rattle.desk_app.specs.declared.outcome.Outcome.TheVariants.{Planned, Swapped, Replanned, PlannedWeek, Stops}
-use Rattle.desk_app.specs.declared.outcome.Outcome.TheVariants.{Usage, Refused, CannotRead, NoMemory}
+use Rattle.desk_app.specs.declared.outcome.DeskOutcome.{DeskOutcome}
+use Rattle.desk_app.specs.declared.outcome.DeskOutcome.TheVariants.{Planned, Swapped, Replanned, PlannedWeek, Stops}
+use Rattle.desk_app.specs.declared.outcome.DeskOutcome.TheVariants.{Usage, Refused, CannotRead, NoMemory}
 use Rattle.desk_app.specs.Documents.{IsDocument, refused_line, stops_line}
 use Rattle.desk_app.specs.FileNames.{urgent_file}
 use Rattle.desk_app.specs.Outcomes.{status_of}
@@ -33,7 +33,7 @@ use Rattle.desk_app.specs.SwapEndings.{EndsSwapping}
 use Rattle.desk_app.specs.SwapOutcomes.{DoesRun, DoesStop, IsInputsOutcome, IsSwapOutcome, IsTableOutcome, IsWishOutcome}
 use Rattle.desk_app.specs.SwapOutcomes.{NoInputs, OfBytes, OfInputs, OutOfMemory, TooLong, Unread, Unsimulated}
 use Rattle.desk_app.specs.SwapTexts.{swapped_text}
-use Rattle.desk_app.specs.Wished.{AreRunning, AreStopped, AreWished, AreWrong, IsRefusedFile, OfWish, SayNoWish, SayWish}
+use Rattle.desk_app.specs.Wished.{AreRunning, AreStopped, AreWished, AreWrong, IsRefusedForUrgent, OfWish, SayNoWish, SayWish}
 use Rattle.desk_app.specs.Wished.{TooMany, urgent_bytes}
 use Rattle.desk_app.specs.Wished as wished
 use Rattle.desk_app.proofs.PlannedDays.{IsOfCommand, error_status, made_of}
@@ -52,11 +52,11 @@ module _ (files : Files) (dir : List ℕ) where
   runs_or_stops one other running stopped =
       stopped.stops (subst (λ (it : Inputs). Runs it.instance it.plan) (same_inputs one other running.accepted stopped.accepted) running.runs)
 
-  stops_or_refused : (inputs : Inputs) (file : DeskFile) → AreStopped files dir inputs → IsRefusedFile files dir file → ⊥
+  stops_or_refused : (inputs : Inputs) (file : DeskFile) → AreStopped files dir inputs → IsRefusedForUrgent files dir file → ⊥
   stops_or_refused inputs file stopped (wished.OfInputs why said is) = let accepted = stopped.accepted in cc
   stops_or_refused inputs file stopped (OfWish other running none is) = runs_or_stops other inputs running stopped
 
-  wished_or_refused : (inputs : Inputs) (wish : Wish) (file : DeskFile) → AreWished files dir inputs wish → IsRefusedFile files dir file → ⊥
+  wished_or_refused : (inputs : Inputs) (wish : Wish) (file : DeskFile) → AreWished files dir inputs wish → IsRefusedForUrgent files dir file → ⊥
   wished_or_refused inputs wish file are (wished.OfInputs why said is) = let accepted = are.running.accepted in cc
   wished_or_refused inputs wish file are (OfWish other running none is) =
       says_not inputs.instance (urgent_bytes files dir) wish are.said
@@ -88,7 +88,7 @@ module _ (files : Files) (dir : List ℕ) where
       no_other = inr (inl refl);
     }
 
-    ended_refused : (file : DeskFile) → IsRefusedFile files dir file → Appends (refused_line file) before after → EndsSwapping files dir 3 before after
+    ended_refused : (file : DeskFile) → IsRefusedForUrgent files dir file → Appends (refused_line file) before after → EndsSwapping files dir 3 before after
     ended_refused file refused written = record {
       swapped = (λ zero. absurd (omega (arith, zero)), λ said. absurd (wished_or_refused said.0 said.1 file said.2 refused));
       most = λ zero. absurd (omega (arith, zero));
@@ -110,7 +110,7 @@ module _ (files : Files) (dir : List ℕ) where
     -- ---- of a plan that runs
 
     module _ (inputs : Inputs) (running : AreRunning files dir inputs) where
-      ended_by_table : (bytes : List ℕ) (it : Outcome) → bytes ≡ urgent_bytes files dir → IsTableOutcome inputs bytes it → (text : List ℕ)
+      ended_by_table : (bytes : List ℕ) (it : DeskOutcome) → bytes ≡ urgent_bytes files dir → IsTableOutcome inputs bytes it → (text : List ℕ)
           → IsDocument it text → Appends text before after → IsUndisturbed (status_of it) → EndsSwapping files dir (status_of it) before after
       ended_by_table bytes (Swapped swapped) same says text is appends undisturbed =
           let said : SayWish inputs.instance (urgent_bytes files dir) says.0 =
@@ -136,34 +136,34 @@ module _ (files : Files) (dir : List ℕ) where
 
 -- in a folder of the same name
 pub swapped_there : {F : Type 0} (holds : F → Option Files) (may_fail : F → List ℕ → Bool) (faults taken : F → ℕ) (dir other : List ℕ) (before after : F)
-    (it : Outcome) → dir ≡ other → IsSwapOutcome holds may_fail faults taken dir before after it → IsSwapOutcome holds may_fail faults taken other before after it
+    (it : DeskOutcome) → dir ≡ other → IsSwapOutcome holds may_fail faults taken dir before after it → IsSwapOutcome holds may_fail faults taken other before after it
 swapped_there holds may_fail faults taken dir other before after it here comes =
     subst (λ (d : List ℕ). IsSwapOutcome holds may_fail faults taken d before after it) here comes
 
 module _ {F : Type 0} (holds : F → Option Files) (may_fail : F → List ℕ → Bool) (faults taken : F → ℕ) (dir : List ℕ) (inputs : Inputs) (before after : F)
     (why : FileRefusal) where
   abbrev Caused : Type 0
-  Caused = IsFileCaused may_fail faults taken (path_in dir urgent_file) MOST_TABLE_BYTES before after why
+  Caused = IsFileCaused may_fail faults taken (path_in dir urgent_file) MAX_TABLE_BYTES before after why
 
   -- the table of urgent units could not be read
   pub file_unread : why ≡ file.ReadFault → Caused → IsWishOutcome holds may_fail faults taken dir inputs before after (CannotRead UrgentUnits)
   file_unread is caused =
-      let so = subst (λ (it : FileRefusal). IsFileCaused may_fail faults taken (path_in dir urgent_file) MOST_TABLE_BYTES before after it) is caused in
+      let so = subst (λ (it : FileRefusal). IsFileCaused may_fail faults taken (path_in dir urgent_file) MAX_TABLE_BYTES before after it) is caused in
       Unread so.0 so.1 refl
 
   -- it is too long
   pub file_too_long : why ≡ file.TooLong → Caused
-      → ((files : Files) → holds before ≡ Some files → ReadsFile (urgent_bytes files dir) MOST_TABLE_BYTES (Err why))
+      → ((files : Files) → holds before ≡ Some files → ReadsFile (urgent_bytes files dir) MAX_TABLE_BYTES (Err why))
       → IsWishOutcome holds may_fail faults taken dir inputs before after (Refused UrgentUnits)
   file_too_long is caused told =
-      TooLong (subst (λ (it : FileRefusal). IsFileCaused may_fail faults taken (path_in dir urgent_file) MOST_TABLE_BYTES before after it) is caused)
-      (λ files tells. subst (λ (it : FileRefusal). ReadsFile (urgent_bytes files dir) MOST_TABLE_BYTES (Err it)) is (told files tells)) refl
+      TooLong (subst (λ (it : FileRefusal). IsFileCaused may_fail faults taken (path_in dir urgent_file) MAX_TABLE_BYTES before after it) is caused)
+      (λ files tells. subst (λ (it : FileRefusal). ReadsFile (urgent_bytes files dir) MAX_TABLE_BYTES (Err it)) is (told files tells)) refl
 
 module _ {F : Type 0} (holds : F → Option Files) (may_fail : F → List ℕ → Bool) (faults taken : F → ℕ) (dir : List ℕ) where
   abbrev RoseFrom : F → F → Type 0
   RoseFrom before after = Rose (faults before) (faults after)
 
-  table_status : (inputs : Inputs) (bytes : List ℕ) (it : Outcome) (DidRise : Type 0) → IsTableOutcome inputs bytes it → IsOfCommand it DidRise
+  table_status : (inputs : Inputs) (bytes : List ℕ) (it : DeskOutcome) (DidRise : Type 0) → IsTableOutcome inputs bytes it → IsOfCommand it DidRise
   table_status inputs bytes (Swapped swapped) DidRise says = record { not_usage = λ two. omega (arith, two); unread = λ five. absurd (omega (arith, five)) }
   table_status inputs bytes (Refused UrgentUnits) DidRise says = record { not_usage = λ two. omega (arith, two); unread = λ five. absurd (omega (arith, five)) }
   table_status inputs bytes NoMemory DidRise says = record { not_usage = λ two. omega (arith, two); unread = λ five. absurd (omega (arith, five)) }
@@ -178,11 +178,11 @@ module _ {F : Type 0} (holds : F → Option Files) (may_fail : F → List ℕ �
   table_status inputs bytes (CannotRead file) DidRise says = absurd says
 
   -- an outcome that is one with another status
-  other_status : (it other : Outcome) (DidRise : Type 0) → it ≡ other → status_of other ≢ 2 → status_of other ≢ 5 → IsOfCommand it DidRise
+  other_status : (it other : DeskOutcome) (DidRise : Type 0) → it ≡ other → status_of other ≢ 2 → status_of other ≢ 5 → IsOfCommand it DidRise
   other_status it other DidRise is not_usage read =
-      subst (λ (it : Outcome). IsOfCommand it DidRise) (sym is) (record { not_usage = not_usage; unread = λ five. absurd (read five) })
+      subst (λ (it : DeskOutcome). IsOfCommand it DidRise) (sym is) (record { not_usage = not_usage; unread = λ five. absurd (read five) })
 
-  module _ (before after : F) (it : Outcome) where
+  module _ (before after : F) (it : DeskOutcome) where
     pub swap_status : IsSwapOutcome holds may_fail faults taken dir before after it → IsOfCommand it (RoseFrom before after)
     swap_status (NoInputs error read is) =
         made_of error it (RoseFrom before after) is (error_status may_fail faults taken dir before after error read.caused)
@@ -194,7 +194,7 @@ module _ {F : Type 0} (holds : F → Option Files) (may_fail : F → List ℕ �
 
         of_wish : IsWishOutcome holds may_fail faults taken dir inputs between after it → IsOfCommand it (RoseFrom before after)
         of_wish (Unread did_rise may is) =
-            subst (λ (it : Outcome). IsOfCommand it (RoseFrom before after)) (sym is)
+            subst (λ (it : DeskOutcome). IsOfCommand it (RoseFrom before after)) (sym is)
             (record { not_usage = λ two. omega (arith, two); unread = λ five. rose did_rise })
         of_wish (TooLong did_rise more is) =
             other_status it (Refused UrgentUnits) (RoseFrom before after) is (λ two. omega (arith, two)) (λ five. omega (arith, five))
@@ -209,21 +209,21 @@ module _ {F : Type 0} (holds : F → Option Files) (may_fail : F → List ℕ �
     module _ (files : Files) (tells : holds before ≡ Some files) (text : List ℕ) (document : IsDocument it text) (written written' : Option (List ℕ))
         (appends : Appends text written written') (undisturbed : IsUndisturbed (status_of it)) where
       -- the end of what is another outcome
-      abbrev Ends : Outcome → Type 0
+      abbrev Ends : DeskOutcome → Type 0
       Ends other = EndsSwapping files dir (status_of other) written written'
 
       -- what was written, where the outcome is this one
-      wrote : (other : Outcome) → it ≡ other → IsDocument other text
-      wrote other is = subst (λ (it : Outcome). IsDocument it text) is document
+      wrote : (other : DeskOutcome) → it ≡ other → IsDocument other text
+      wrote other is = subst (λ (it : DeskOutcome). IsDocument it text) is document
 
       line_is : (line : List ℕ) → text ≡ line → Appends line written written'
       line_is line same = subst (λ (t : List ℕ). Appends t written written') same appends
 
-      as_other : (other : Outcome) → it ≡ other → Ends other → Ends it
-      as_other other is ends = subst (λ (it : Outcome). Ends it) (sym is) ends
+      as_other : (other : DeskOutcome) → it ≡ other → Ends other → Ends it
+      as_other other is ends = subst (λ (it : DeskOutcome). Ends it) (sym is) ends
 
-      calm : (other : Outcome) → it ≡ other → IsUndisturbed (status_of other)
-      calm other is = subst (λ (it : Outcome). IsUndisturbed (status_of it)) is undisturbed
+      calm : (other : DeskOutcome) → it ≡ other → IsUndisturbed (status_of other)
+      calm other is = subst (λ (it : DeskOutcome). IsUndisturbed (status_of it)) is undisturbed
 
       ended_by_wish : (inputs : Inputs) (running : AreRunning files dir inputs) (between : F) → holds between ≡ Some files
           → IsWishOutcome holds may_fail faults taken dir inputs between after it → Ends it

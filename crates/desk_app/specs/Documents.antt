@@ -8,9 +8,9 @@ use Rattle.replan_text.specs.ReplanLines.{document_of}
 use Rattle.week_text.specs.WeekLines.{week_text}
 use Rattle.desk_app.specs.declared.files.DeskFile.{DeskFile}
 use Rattle.desk_app.specs.declared.files.DeskFile.TheVariants.{OfTable}
-use Rattle.desk_app.specs.declared.outcome.Outcome.{Outcome}
-use Rattle.desk_app.specs.declared.outcome.Outcome.TheVariants.{Planned, Swapped, Replanned, PlannedWeek, Stops}
-use Rattle.desk_app.specs.declared.outcome.Outcome.TheVariants.{Usage, Refused, CannotRead, NoMemory}
+use Rattle.desk_app.specs.declared.outcome.DeskOutcome.{DeskOutcome}
+use Rattle.desk_app.specs.declared.outcome.DeskOutcome.TheVariants.{Planned, Swapped, Replanned, PlannedWeek, Stops}
+use Rattle.desk_app.specs.declared.outcome.DeskOutcome.TheVariants.{Usage, Refused, CannotRead, NoMemory}
 use Rattle.desk_app.specs.FileNames.{name_of}
 use Rattle.desk_app.specs.SwapTexts.{swapped_text}
 
@@ -35,7 +35,7 @@ abbrev pub unread_line : DeskFile → List ℕ
 unread_line file = file_unread_line (name_of file)
 
 -- the document of an outcome; there is none for want of memory
-abbrev pub IsDocument : Outcome → List ℕ → Type 0
+abbrev pub IsDocument : DeskOutcome → List ℕ → Type 0
 IsDocument (Planned answer) text = text ≡ text_of answer
 IsDocument (Swapped swapped) text = text ≡ swapped_text swapped
 IsDocument (Replanned rest) text = text ≡ document_of rest.later.numbers.items rest.replanned

@@ -9,9 +9,9 @@ use Rattle.desk_commands.specs.declared.replanning.Replanning.{Replanning}
 use Rattle.desk_commands.specs.declared.swapping.Swapping.{Swapping}
 use Rattle.desk_commands.specs.declared.week_planning.WeekPlanning.{WeekPlanning}
 use Rattle.desk_commands.specs.PlainForm.{IsPlainForm}
-use Rattle.desk_app.specs.declared.outcome.Outcome.{Outcome}
-use Rattle.desk_app.specs.declared.outcome.Outcome.TheVariants.{Planned, Swapped, Replanned, PlannedWeek, Stops}
-use Rattle.desk_app.specs.declared.outcome.Outcome.TheVariants.{Usage, Refused, CannotRead, NoMemory}
+use Rattle.desk_app.specs.declared.outcome.DeskOutcome.{DeskOutcome}
+use Rattle.desk_app.specs.declared.outcome.DeskOutcome.TheVariants.{Planned, Swapped, Replanned, PlannedWeek, Stops}
+use Rattle.desk_app.specs.declared.outcome.DeskOutcome.TheVariants.{Usage, Refused, CannotRead, NoMemory}
 use Rattle.desk_app.specs.PlanOutcomes.{IsPlanOutcome}
 use Rattle.desk_app.specs.ReplanOutcomes.{IsReplanOutcome}
 use Rattle.desk_app.specs.SwapOutcomes.{IsSwapOutcome}
@@ -43,7 +43,7 @@ AskInVain words = (named : Command) → ¬ IsPlainForm words named
 
 -- what a command came to, from a folder before to the same folder after
 abbrev pub ComesTo : {F : Type 0} → (F → Option Files) → (F → List ℕ → Bool) → (F → ℕ) → (F → ℕ) → Command → F → F
-    → Outcome → Type 0
+    → DeskOutcome → Type 0
 ComesTo holds may_fail faults taken (command.Plan planning) before after outcome =
     IsPlanOutcome holds may_fail faults taken planning before after outcome
 ComesTo holds may_fail faults taken (command.Urgent swapping) before after outcome =
@@ -56,7 +56,7 @@ ComesTo holds may_fail faults taken (command.Week planning) before after outcome
 -- A run of these words comes to this: their command came to it; or they ask for no command, and are not understood; or
 -- memory ran out before they were read.
 pub data IsOutcome {F : Type 0} (holds : F → Option Files) (may_fail : F → List ℕ → Bool) (faults taken : F → ℕ)
-    (words : List (List ℕ)) (before after : F) (outcome : Outcome) : Type 0 where
+    (words : List (List ℕ)) (before after : F) (outcome : DeskOutcome) : Type 0 where
   OfCommand : (named : Command) → IsPlainForm words named
       → ComesTo holds may_fail faults taken named before after outcome
       → IsOutcome holds may_fail faults taken words before after outcome
@@ -66,7 +66,7 @@ pub data IsOutcome {F : Type 0} (holds : F → Option Files) (may_fail : F → L
 -- ---- what follows from an outcome
 
 -- the status of an outcome whose document was written, and of want of memory
-abbrev pub status_of : Outcome → ℕ
+abbrev pub status_of : DeskOutcome → ℕ
 status_of (Planned answer) = status_said answer.head
 status_of (Swapped swapped) = 0
 status_of (Replanned rest) = status_said rest.replanned.head
@@ -78,6 +78,6 @@ status_of (CannotRead file) = 5
 status_of NoMemory = 7
 
 -- whether an outcome is that a file could not be read
-abbrev pub is_unread : Outcome → Bool
+abbrev pub is_unread : DeskOutcome → Bool
 is_unread (CannotRead file) = true
 is_unread other = false

@@ -8,8 +8,8 @@ use Rattle.day_files.specs.Inputs.{day_in}
 use Rattle.day_files.specs.Tables.{IsMadeDay}
 use Rattle.answer_check.specs.Headline.{IsHeadline}
 use Rattle.desk_commands.specs.declared.planning.Planning.{Planning}
-use Rattle.desk_app.specs.declared.outcome.Outcome.{Outcome}
-use Rattle.desk_app.specs.declared.outcome.Outcome.TheVariants.{Planned, NoMemory}
+use Rattle.desk_app.specs.declared.outcome.DeskOutcome.{DeskOutcome}
+use Rattle.desk_app.specs.declared.outcome.DeskOutcome.TheVariants.{Planned, NoMemory}
 use Rattle.desk_app.specs.ReadErrors.{IsReadError, outcome_of_error}
 
 -- a day that tables make was read: where the folder tells what it holds, the one that its tables make
@@ -18,7 +18,7 @@ pub record IsReadDay {F : Type 0} (holds : F → Option Files) (dir : List ℕ) 
   pub told : (files : Files) → holds before ≡ Some files → day_in files dir ≡ Ok day
 
 -- a day was planned: its answer meets the headline; or memory ran out
-abbrev pub IsDayOutcome : Day → ℕ → Outcome → Type 0
+abbrev pub IsDayOutcome : Day → ℕ → DeskOutcome → Type 0
 IsDayOutcome day nodes (Planned answer) = IsHeadline day nodes answer
 IsDayOutcome day nodes NoMemory = ⊤
 IsDayOutcome day nodes other = ⊥
@@ -26,7 +26,7 @@ IsDayOutcome day nodes other = ⊥
 -- The day of a folder was planned so, from the folder before to the same folder after, and came to this: there is no
 -- day, for an error of its tables; or the day was read and planned.
 pub data IsPlanOutcome {F : Type 0} (holds : F → Option Files) (may_fail : F → List ℕ → Bool) (faults taken : F → ℕ)
-    (planning : Planning) (before after : F) (outcome : Outcome) : Type 0 where
+    (planning : Planning) (before after : F) (outcome : DeskOutcome) : Type 0 where
   NoDay : (error : ReadError)
       → IsReadError {Y = Day} holds may_fail faults taken (λ read. read ≢ table.Plan)
       (λ files. day_in files planning.dir) planning.dir before after error

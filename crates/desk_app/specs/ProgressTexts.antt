@@ -3,7 +3,7 @@ use Rattle.std.specs.Prelude.{ℕ, List, [], ◌++◌, codes, Option, Some, None
 use Rattle.std.specs.Prelude.{ℤ, pos, ◌+ℤ◌, ◌-ℤ◌, ◌*ℤ◌, int_div, int_le, int_lt}
 use Rattle.std.specs.Fmt.{decimal, signed_decimal}
 use Rattle.rail_base.specs.declared.numbers.Money.{Money}
-use Rattle.answer_text.specs.declared.limits.TheConstants.{MOST_AMOUNT}
+use Rattle.answer_text.specs.declared.limits.TheConstants.{MAX_AMOUNT}
 
 -- an amount, or that there is none
 abbrev pub amount_text : Option Money → List ℕ
@@ -14,7 +14,7 @@ amount_text None = codes "none"
 -- that of an answer
 abbrev pub has_gap : ℤ → ℤ → Bool
 has_gap bound plan =
-    int_le (pos 0) bound && (int_le bound plan && (int_lt (pos 0) plan && int_le plan (pos MOST_AMOUNT)))
+    int_le (pos 0) bound && (int_le bound plan && (int_lt (pos 0) plan && int_le plan (pos MAX_AMOUNT)))
 
 -- a part in whole percent of a whole, the nearest, and a half upwards
 abbrev pub nearest_percent : ℤ → ℤ → ℤ

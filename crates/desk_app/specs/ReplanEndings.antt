@@ -10,7 +10,7 @@ use Rattle.replan.specs.Promises.{IsReplanned}
 use Rattle.replan_text.specs.ReplanLines.{document_of}
 use Rattle.desk_commands.specs.declared.replanning.Replanning.{Replanning}
 use Rattle.desk_app.specs.declared.files.DeskFile.{DeskFile}
-use Rattle.desk_app.specs.Cancelled.{AreDisturbed, IsRefusedToReplan, disturbed_at}
+use Rattle.desk_app.specs.Cancelled.{AreDisturbed, IsRefusedForReplan, disturbed_at}
 use Rattle.desk_app.specs.Documents.{refused_line, stops_line}
 use Rattle.desk_app.specs.Wished.{AreStopped}
 
@@ -44,7 +44,7 @@ pub record IsStopOfFolder (files : Files) (dir : List ℕ) (status : ℕ) (befor
 pub record IsRefusalOfFolder (files : Files) (replanning : Replanning) (status : ℕ) (before after : Option (List ℕ))
     : Type 0 where
   pub file : DeskFile
-  pub refused : IsRefusedToReplan files replanning file
+  pub refused : IsRefusedForReplan files replanning file
   pub three : status ≡ 3
   pub written : Appends (refused_line file) before after
 
@@ -58,10 +58,10 @@ pub record EndsReplanning (files : Files) (replanning : Replanning) (status : �
   pub stopped : (inputs : Inputs) → AreStopped files replanning.dir inputs
       → (status ≡ 1) × Appends stops_line before after
   -- 3 exactly where a file is refused
-  pub refused : (status ≡ 3) ↔ ((file : DeskFile) × IsRefusedToReplan files replanning file)
+  pub refused : (status ≡ 3) ↔ ((file : DeskFile) × IsRefusedForReplan files replanning file)
   -- then it was named
   pub named : status ≡ 3
-      → (file : DeskFile) × IsRefusedToReplan files replanning file × Appends (refused_line file) before after
+      → (file : DeskFile) × IsRefusedForReplan files replanning file × Appends (refused_line file) before after
   -- and one of these three it is
   pub ends : IsRestOfFolder files replanning status before after
       ⊎ (IsStopOfFolder files replanning.dir status before after

@@ -7,14 +7,14 @@ use Rattle.branch_tree.specs.Trees.{branchings_of}
 use Rattle.search.specs.Questions.{AreAsked, AreTheSame, in_rounds}
 use Rattle.answer_check.specs.ProvedTrees.{open_leaves}
 use Rattle.replan.specs.Promises.{as_answer}
-use Rattle.week_units.specs.declared.nights.TheConstants.{MOST_DAYS}
+use Rattle.week_units.specs.declared.nights.TheConstants.{MAX_DAYS}
 use Rattle.week_plan.specs.DayAnswers as week
 use Rattle.desk_commands.specs.declared.command.Command.{Command}
 use Rattle.desk_commands.specs.declared.command.Command.TheVariants as command
 use Rattle.desk_commands.specs.PlainForm.{IsPlainForm}
-use Rattle.desk_app.specs.declared.outcome.Outcome.{Outcome}
-use Rattle.desk_app.specs.declared.outcome.Outcome.TheVariants.{Planned, Swapped, Replanned, PlannedWeek, Stops}
-use Rattle.desk_app.specs.declared.outcome.Outcome.TheVariants.{Usage, Refused, CannotRead, NoMemory}
+use Rattle.desk_app.specs.declared.outcome.DeskOutcome.{DeskOutcome}
+use Rattle.desk_app.specs.declared.outcome.DeskOutcome.TheVariants.{Planned, Swapped, Replanned, PlannedWeek, Stops}
+use Rattle.desk_app.specs.declared.outcome.DeskOutcome.TheVariants.{Usage, Refused, CannotRead, NoMemory}
 use Rattle.desk_app.specs.Documents.{IsDocument, usage_line}
 use Rattle.desk_app.specs.Outcomes.{AskInVain, status_of}
 
@@ -29,7 +29,7 @@ pub record EndsInUsage (words : List (List ℕ)) (status : ℕ) (before after : 
 -- ---- whatever the words and the files say
 
 -- what was written of an outcome's document, and the status that says so
-abbrev pub WroteOutcome : Outcome → ℕ → Option (List ℕ) → Option (List ℕ) → ℕ → ℕ → Type 0
+abbrev pub WroteOutcome : DeskOutcome → ℕ → Option (List ℕ) → Option (List ℕ) → ℕ → ℕ → Type 0
 WroteOutcome outcome status before after faults faults' =
     Wrote (IsDocument outcome) (status_of outcome) status before after faults faults'
 
@@ -66,7 +66,7 @@ abbrev pub most_asked : Command → ℕ
 most_asked (command.Plan planning) = planning.rounds * (2 * planning.nodes + 1)
 most_asked (command.Urgent swapping) = 0
 most_asked (command.Replan replanning) = replanning.rounds * (2 * replanning.nodes + 1)
-most_asked (command.Week planning) = MOST_DAYS * (planning.rounds * (2 * planning.nodes + 1))
+most_asked (command.Week planning) = MAX_DAYS * (planning.rounds * (2 * planning.nodes + 1))
 
 -- in how many rounds they may be asked at a node
 abbrev pub rounds_of : Command → ℕ
@@ -88,7 +88,7 @@ pub record LeavesAdvisors {A : Type 0} (words : List (List ℕ)) (before after :
 -- the answer has branchings and open leaves, unless there are no rounds; and at most as many times a round as there are
 -- a root and both sides of each branching. For a week it is so for the answers to its days together. Where no answer
 -- comes, other than for want of memory, none was asked.
-abbrev pub AreAskedFor : {A : Type 0} → ℕ → Outcome → List A → List A → (A → ℕ) → (A → Bool) → Type 0
+abbrev pub AreAskedFor : {A : Type 0} → ℕ → DeskOutcome → List A → List A → (A → ℕ) → (A → Bool) → Type 0
 AreAskedFor rounds (Planned answer) before after asked has_quit =
     AreAsked before after asked has_quit (in_rounds rounds (answer.branchings + open_leaves answer))
     (rounds * (2 * answer.branchings + 1))

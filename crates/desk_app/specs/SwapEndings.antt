@@ -9,7 +9,7 @@ use Rattle.urgent_units.specs.Answers.{BringsMost}
 use Rattle.desk_app.specs.declared.files.DeskFile.{DeskFile}
 use Rattle.desk_app.specs.Documents.{refused_line, stops_line}
 use Rattle.desk_app.specs.SwapTexts.{swapped_text}
-use Rattle.desk_app.specs.Wished.{AreStopped, AreWished, IsRefusedFile}
+use Rattle.desk_app.specs.Wished.{AreStopped, AreWished, IsRefusedForUrgent}
 
 -- There are swapped units that bring as many urgent ones to the depot as can be, and exactly their text was written: a
 -- plan that runs and has the given types, how many it brings, and a cut which shows that no such plan brings more.
@@ -30,8 +30,9 @@ pub record EndsSwapping (files : Files) (dir : List ℕ) (status : ℕ) (before 
   -- then that was told
   pub stopped : status ≡ 1 → Appends stops_line before after
   -- 3 exactly where a file is refused
-  pub refused : (status ≡ 3) ↔ ((file : DeskFile) × IsRefusedFile files dir file)
+  pub refused : (status ≡ 3) ↔ ((file : DeskFile) × IsRefusedForUrgent files dir file)
   -- then it was named
-  pub named : status ≡ 3 → (file : DeskFile) × IsRefusedFile files dir file × Appends (refused_line file) before after
+  pub named : status ≡ 3 → (file : DeskFile) × IsRefusedForUrgent files dir file
+      × Appends (refused_line file) before after
   -- and there is no other status
   pub no_other : (status ≡ 0) ⊎ (status ≡ 1) ⊎ (status ≡ 3)

@@ -1,6 +1,6 @@
 -- What the swapping of units comes to.
 use Rattle.std.specs.Prelude.{ℕ, ◌≡◌, ◌≢◌, ◌<◌, List, length, Bool, IsTrue, Option, Some, Ok, Err, ⊤}
-use Rattle.rail_base.specs.declared.limits.TheConstants.{MOST_TABLE_BYTES}
+use Rattle.rail_base.specs.declared.limits.TheConstants.{MAX_TABLE_BYTES}
 use Rattle.rail_io.specs.Folders.{Files, OnlyReads, Rose, RosePast}
 use Rattle.timetable.specs.Running.{Runs}
 use Rattle.day_files.specs.declared.errors.ReadError.{ReadError}
@@ -16,8 +16,8 @@ use Rattle.urgent_units.specs.declared.wish.Wish.{Wish}
 use Rattle.urgent_units.specs.Answers.{BringsMost}
 use Rattle.urgent_units.specs.Wishes.{IsWishRefusal}
 use Rattle.desk_app.specs.declared.files.DeskFile.TheVariants.{UrgentUnits}
-use Rattle.desk_app.specs.declared.outcome.Outcome.{Outcome}
-use Rattle.desk_app.specs.declared.outcome.Outcome.TheVariants.{Swapped, Stops, Refused, CannotRead, NoMemory}
+use Rattle.desk_app.specs.declared.outcome.DeskOutcome.{DeskOutcome}
+use Rattle.desk_app.specs.declared.outcome.DeskOutcome.TheVariants.{Swapped, Stops, Refused, CannotRead, NoMemory}
 use Rattle.desk_app.specs.FileNames.{urgent_file}
 use Rattle.desk_app.specs.ReadErrors.{IsReadError, outcome_of_error}
 use Rattle.desk_app.specs.Wished.{SayWish, urgent_bytes}
@@ -29,13 +29,13 @@ GoesThrough inputs = (fault : StepFault) → ¬ (simulation inputs.instance inpu
 -- ---- what comes of a wish, and of the bytes of a table of urgent units
 
 -- units were swapped for a wish, and the most are brought; or memory ran out
-abbrev pub IsMostOutcome : Inputs → Wish → Outcome → Type 0
+abbrev pub IsMostOutcome : Inputs → Wish → DeskOutcome → Type 0
 IsMostOutcome inputs wish (Swapped swapped) = BringsMost inputs.instance inputs.plan wish swapped
 IsMostOutcome inputs wish NoMemory = ⊤
 IsMostOutcome inputs wish other = ⊥
 
 -- units were swapped for the wish that they say; or they are refused, and not for want of memory; or memory ran out
-abbrev pub IsTableOutcome : Inputs → List ℕ → Outcome → Type 0
+abbrev pub IsTableOutcome : Inputs → List ℕ → DeskOutcome → Type 0
 IsTableOutcome inputs bytes (Swapped swapped) =
     (wish : Wish) × SayWish inputs.instance bytes wish × BringsMost inputs.instance inputs.plan wish swapped
 IsTableOutcome inputs bytes (Refused UrgentUnits) =
@@ -56,18 +56,18 @@ module _ {F : Type 0} (holds : F → Option Files) (may_fail : F → List ℕ �
     -- Of a plan that runs, units are to be swapped, from the folder before to the same folder after: the table of
     -- urgent units could not be read, and its cause is seen in the counts of the folder; or it is too long, likewise;
     -- or its bytes, which are those of the file where the folder tells what it holds, came to this; or memory ran out.
-    pub data IsWishOutcome (inputs : Inputs) (before after : F) (outcome : Outcome) : Type 0 where
+    pub data IsWishOutcome (inputs : Inputs) (before after : F) (outcome : DeskOutcome) : Type 0 where
       Unread : Rose (faults before) (faults after) → IsTrue (may_fail before (path_in dir urgent_file))
           → outcome ≡ CannotRead UrgentUnits → IsWishOutcome inputs before after outcome
-      TooLong : RosePast MOST_TABLE_BYTES (taken before) (taken after)
-          → ((files : Files) → holds before ≡ Some files → MOST_TABLE_BYTES < length (urgent_bytes files dir))
+      TooLong : RosePast MAX_TABLE_BYTES (taken before) (taken after)
+          → ((files : Files) → holds before ≡ Some files → MAX_TABLE_BYTES < length (urgent_bytes files dir))
           → outcome ≡ Refused UrgentUnits → IsWishOutcome inputs before after outcome
       OfBytes : (bytes : List ℕ) → ((files : Files) → holds before ≡ Some files → bytes ≡ urgent_bytes files dir)
           → IsTableOutcome inputs bytes outcome → IsWishOutcome inputs before after outcome
       OutOfMemory : outcome ≡ NoMemory → IsWishOutcome inputs before after outcome
 
     -- The plan doesn't run; or it does, and units are to be swapped; or memory ran out.
-    pub data IsInputsOutcome (inputs : Inputs) (before after : F) (outcome : Outcome) : Type 0 where
+    pub data IsInputsOutcome (inputs : Inputs) (before after : F) (outcome : DeskOutcome) : Type 0 where
       DoesStop : ¬ Runs inputs.instance inputs.plan → outcome ≡ Stops → IsInputsOutcome inputs before after outcome
       DoesRun : Runs inputs.instance inputs.plan → IsWishOutcome inputs before after outcome
           → IsInputsOutcome inputs before after outcome
@@ -76,7 +76,7 @@ module _ {F : Type 0} (holds : F → Option Files) (may_fail : F → List ℕ �
     -- Units of a folder's plan were to be swapped, from the folder before to the same folder after, and that came to
     -- this: there is no day or no plan, for an error of their tables; or they were read, and this came of them from the
     -- folder on as it stood then.
-    pub data IsSwapOutcome (before after : F) (outcome : Outcome) : Type 0 where
+    pub data IsSwapOutcome (before after : F) (outcome : DeskOutcome) : Type 0 where
       NoInputs : (error : ReadError)
           → IsReadError {Y = Inputs} holds may_fail faults taken (λ _. ⊤) (λ files. inputs_in files dir) dir before
           after error

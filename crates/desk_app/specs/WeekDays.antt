@@ -30,8 +30,8 @@ fault_file NoMemory = None
 
 -- A file is refused: one of the first day whose files are refused; or, where those of all days are accepted, the one
 -- that tells the first reason why they make no week.
-pub data IsRefusedInWeek (files : Files) (planning : WeekPlanning) (file : DeskFile) : Type 0 where
+pub data IsRefusedForWeek (files : Files) (planning : WeekPlanning) (file : DeskFile) : Type 0 where
   OfReading : (number : ℕ) (why : Refusal) → IsFirstRefusedDay files planning.dir planning.days number why
-      → file ≡ OfDay number (refusal_file why) → IsRefusedInWeek files planning file
+      → file ≡ OfDay number (refusal_file why) → IsRefusedForWeek files planning file
   OfWeek : (days : List Day) (why : WeekRefusal) → AreDaysIn files planning.dir planning.days days
-      → IsFirstFault days why → fault_file why ≡ Some file → IsRefusedInWeek files planning file
+      → IsFirstFault days why → fault_file why ≡ Some file → IsRefusedForWeek files planning file

@@ -14,35 +14,35 @@ use Rattle.week_plan.specs.WeekAnswers.{IsWeekAnswer}
 use Rattle.desk_commands.specs.declared.week_planning.WeekPlanning.{WeekPlanning}
 use Rattle.desk_app.specs.declared.files.DeskFile.{DeskFile}
 use Rattle.desk_app.specs.declared.files.DeskFile.TheVariants.{OfDay}
-use Rattle.desk_app.specs.declared.outcome.Outcome.{Outcome}
-use Rattle.desk_app.specs.declared.outcome.Outcome.TheVariants.{PlannedWeek, Refused, CannotRead, NoMemory}
+use Rattle.desk_app.specs.declared.outcome.DeskOutcome.{DeskOutcome}
+use Rattle.desk_app.specs.declared.outcome.DeskOutcome.TheVariants.{PlannedWeek, Refused, CannotRead, NoMemory}
 use Rattle.desk_app.specs.WeekDays.{fault_file}
 
 -- ---- what errors come to
 
 -- an error of the tables of the day of this number
-abbrev pub outcome_on_day : ℕ → ReadError → Outcome
+abbrev pub outcome_on_day : ℕ → ReadError → DeskOutcome
 outcome_on_day day (read_error.Refused why) = Refused (OfDay day (refusal_file why))
 outcome_on_day day (read_error.CannotRead read) = CannotRead (OfDay day read)
 outcome_on_day day read_error.NoMemory = NoMemory
 
-abbrev pub outcome_of_day_error : DayError → Outcome
+abbrev pub outcome_of_day_error : DayError → DeskOutcome
 outcome_of_day_error error = outcome_on_day error.day error.error
 
 -- a file that is refused, or want of memory where there is none
-abbrev pub refused_if : Option DeskFile → Outcome
+abbrev pub refused_if : Option DeskFile → DeskOutcome
 refused_if (Some file) = Refused file
 refused_if None = NoMemory
 
 -- the reason why days make no week
-abbrev pub outcome_of_fault : WeekRefusal → Outcome
+abbrev pub outcome_of_fault : WeekRefusal → DeskOutcome
 outcome_of_fault why = refused_if (fault_file why)
 
 -- ---- what the planning comes to
 
 -- the days make a week, which was planned; or they make none, and the file that tells the first reason is refused; or
 -- memory ran out
-abbrev pub IsDaysOutcome : List Day → ℕ → Outcome → Type 0
+abbrev pub IsDaysOutcome : List Day → ℕ → DeskOutcome → Type 0
 IsDaysOutcome days nodes (PlannedWeek week) = AreWeek days × IsWeekAnswer days nodes week
 IsDaysOutcome days nodes (Refused file) = (why : WeekRefusal) × IsFirstFault days why × (fault_file why ≡ Some file)
 IsDaysOutcome days nodes NoMemory = ⊤
@@ -66,7 +66,7 @@ module _ {F : Type 0} (holds : F → Option Files) (may_fail : F → List ℕ �
 
   -- The week of a folder was to be planned, from the folder before to the same folder after, and that came to this: a
   -- day was not read; or all were, and this came of them.
-  pub data IsWeekOutcome (before after : F) (outcome : Outcome) : Type 0 where
+  pub data IsWeekOutcome (before after : F) (outcome : DeskOutcome) : Type 0 where
     NoDays : (error : DayError) → IsWeekReadError before after error → outcome ≡ outcome_of_day_error error
         → IsWeekOutcome before after outcome
     OfDays : (days : List Day) → AreReadDays before days → IsDaysOutcome days planning.nodes outcome

@@ -1,6 +1,6 @@
 -- What the files of a folder say of urgent units.
 use Rattle.std.specs.Prelude.{ℕ, ◌≡◌, ◌≢◌, ◌<◌, ◌≤◌, List, length, Ok, Err}
-use Rattle.rail_base.specs.declared.limits.TheConstants.{MOST_TABLE_BYTES}
+use Rattle.rail_base.specs.declared.limits.TheConstants.{MAX_TABLE_BYTES}
 use Rattle.rail_io.specs.Folders.{Files}
 use Rattle.timetable.specs.Day.{Day}
 use Rattle.timetable.specs.Running.{Runs}
@@ -25,12 +25,12 @@ urgent_bytes files dir = bytes_at files dir urgent_file
 
 -- they are no more than a table may have, and say this wish for a day
 pub record SayWish (day : Day) (bytes : List ℕ) (wish : Wish) : Type 0 where
-  pub few : length bytes ≤ MOST_TABLE_BYTES
+  pub few : length bytes ≤ MAX_TABLE_BYTES
   pub says : IsWishOf day bytes wish
 
 -- they are more; or they are refused as a table of urgent units of the day, and not for want of memory
 pub data SayNoWish (day : Day) (bytes : List ℕ) : Type 0 where
-  TooMany : MOST_TABLE_BYTES < length bytes → SayNoWish day bytes
+  TooMany : MAX_TABLE_BYTES < length bytes → SayNoWish day bytes
   AreWrong : (why : WishRefusal) → why ≢ NoMemory → IsWishRefusal day bytes why → SayNoWish day bytes
 
 -- ---- files
@@ -51,8 +51,8 @@ pub record AreStopped (files : Files) (dir : List ℕ) (inputs : Inputs) : Type 
   pub stops : ¬ Runs inputs.instance inputs.plan
 
 -- A file is refused: one of the day and its plan; or, where the plan runs, the table of urgent units.
-pub data IsRefusedFile (files : Files) (dir : List ℕ) (file : DeskFile) : Type 0 where
+pub data IsRefusedForUrgent (files : Files) (dir : List ℕ) (file : DeskFile) : Type 0 where
   OfInputs : (why : Refusal) → inputs_in files dir ≡ Err why → file ≡ OfTable (refusal_file why)
-      → IsRefusedFile files dir file
+      → IsRefusedForUrgent files dir file
   OfWish : (inputs : Inputs) → AreRunning files dir inputs → SayNoWish inputs.instance (urgent_bytes files dir)
-      → file ≡ UrgentUnits → IsRefusedFile files dir file
+      → file ≡ UrgentUnits → IsRefusedForUrgent files dir file

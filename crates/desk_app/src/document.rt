@@ -5,7 +5,7 @@ ghost use Rattle.std.specs.Prelude.{◌≡◌, IfOk, string_bytes};
 ghost use Rattle.desk_app.specs.Documents.{IsDocument, refused_line, stops_line, unread_line, usage_line};
 
 use crate::files::DeskFile;
-use crate::outcome::{Outcome, PlannedRest};
+use crate::outcome::{DeskOutcome, PlannedRest};
 use crate::swapped_text::swapped_text;
 use answer_text::print;
 use day_files::{file_refused_alone_line, file_unread_line};
@@ -17,21 +17,21 @@ use week_text::print_week;
 /// The document that a run writes for its outcome: the text of an answer, of a plan with units swapped, or of the
 /// answer to a disturbed day or to a week, or one line with its line feed. There is none for want of memory, which is
 /// the error.
-pub fn document(alloc: Global, outcome: Outcome) -> Result<Vec<u8>, NoMemory>
+pub fn document(alloc: Global, outcome: DeskOutcome) -> Result<Vec<u8>, NoMemory>
     ensures { IfOk result (λ text. IsDocument outcome text.items) }
 {
     match outcome {
-        Outcome::Planned(answer) => print(alloc, &answer),
-        Outcome::Swapped(swapped) => swapped_text(alloc, &swapped),
-        Outcome::Replanned(PlannedRest { later, replanned }) => {
+        DeskOutcome::Planned(answer) => print(alloc, &answer),
+        DeskOutcome::Swapped(swapped) => swapped_text(alloc, &swapped),
+        DeskOutcome::Replanned(PlannedRest { later, replanned }) => {
             print_replanned(alloc, &later, replanned)
         }
-        Outcome::PlannedWeek(week) => print_week(alloc, &week),
-        Outcome::Stops => Ok(stops_line(alloc)?.into_bytes()),
-        Outcome::Usage => Ok(usage_line(alloc)?.into_bytes()),
-        Outcome::Refused(file) => refused_line(alloc, file),
-        Outcome::CannotRead(file) => unread_line(alloc, file),
-        Outcome::NoMemory => Err(NoMemory),
+        DeskOutcome::PlannedWeek(week) => print_week(alloc, &week),
+        DeskOutcome::Stops => Ok(stops_line(alloc)?.into_bytes()),
+        DeskOutcome::Usage => Ok(usage_line(alloc)?.into_bytes()),
+        DeskOutcome::Refused(file) => refused_line(alloc, file),
+        DeskOutcome::CannotRead(file) => unread_line(alloc, file),
+        DeskOutcome::NoMemory => Err(NoMemory),
     }
 }
 

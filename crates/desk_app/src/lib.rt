@@ -15,6 +15,6 @@ mod top;
 mod week_planning;
 
 pub use files::DeskFile;
-pub use outcome::{Outcome, PlannedRest};
+pub use outcome::{DeskOutcome, PlannedRest};
 pub use progress::ProgressLines;
 pub use top::{raildesk, raildesk_watched};

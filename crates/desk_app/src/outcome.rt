@@ -28,7 +28,7 @@ pub struct PlannedRest {
 
 /// What a run comes to: the document that it writes and the status that it ends with follow from it.
 #[derive(Drop)]
-pub enum Outcome {
+pub enum DeskOutcome {
     /// The day is planned, and this is the answer to it.
     Planned(Answer),
     /// Units of the plan are swapped: a plan that brings as many urgent ones to the depot as can be, and a cut that
@@ -50,47 +50,50 @@ pub enum Outcome {
     NoMemory,
 }
 
-impl From<ReadError> for Outcome {
+impl From<ReadError> for DeskOutcome {
     ghost use Rattle.std.specs.Prelude.{◌≡◌};
     ghost use Rattle.desk_app.specs.ReadErrors.{outcome_of_error};
 
     ghost from_gives = { λ error outcome. outcome ≡ outcome_of_error error };
 
-    fn from(error: ReadError) -> Outcome {
+    fn from(error: ReadError) -> DeskOutcome {
         match error {
-            ReadError::Refused(refusal) => Outcome::Refused(DeskFile::OfTable(refusal.table())),
-            ReadError::CannotRead(table) => Outcome::CannotRead(DeskFile::OfTable(table)),
-            ReadError::NoMemory => Outcome::NoMemory,
+            ReadError::Refused(refusal) => DeskOutcome::Refused(DeskFile::OfTable(refusal.table())),
+            ReadError::CannotRead(table) => DeskOutcome::CannotRead(DeskFile::OfTable(table)),
+            ReadError::NoMemory => DeskOutcome::NoMemory,
         }
     }
 }
 
-impl From<DayError> for Outcome {
+impl From<DayError> for DeskOutcome {
     ghost use Rattle.std.specs.Prelude.{◌≡◌};
     ghost use Rattle.desk_app.specs.WeekOutcomes.{outcome_of_day_error};
 
     ghost from_gives = { λ error outcome. outcome ≡ outcome_of_day_error error };
 
-    fn from(error: DayError) -> Outcome {
+    fn from(error: DayError) -> DeskOutcome {
         let day = error.day;
         match error.error {
-            ReadError::Refused(refusal) => Outcome::Refused(DeskFile::OfDay(day, refusal.table())),
-            ReadError::CannotRead(table) => Outcome::CannotRead(DeskFile::OfDay(day, table)),
-            ReadError::NoMemory => Outcome::NoMemory,
+            ReadError::Refused(refusal) => DeskOutcome::Refused(DeskFile::OfDay(
+                day,
+                refusal.table(),
+            )),
+            ReadError::CannotRead(table) => DeskOutcome::CannotRead(DeskFile::OfDay(day, table)),
+            ReadError::NoMemory => DeskOutcome::NoMemory,
         }
     }
 }
 
-impl From<WeekRefusal> for Outcome {
+impl From<WeekRefusal> for DeskOutcome {
     ghost use Rattle.std.specs.Prelude.{◌≡◌};
     ghost use Rattle.desk_app.specs.WeekOutcomes.{outcome_of_fault};
 
     ghost from_gives = { λ fault outcome. outcome ≡ outcome_of_fault fault };
 
-    fn from(fault: WeekRefusal) -> Outcome {
+    fn from(fault: WeekRefusal) -> DeskOutcome {
         match fault_file(&fault) {
-            Some(file) => Outcome::Refused(file),
-            None => Outcome::NoMemory,
+            Some(file) => DeskOutcome::Refused(file),
+            None => DeskOutcome::NoMemory,
         }
     }
 }
@@ -111,21 +114,21 @@ fn fault_file(fault: &WeekRefusal) -> Option<DeskFile>
     }
 }
 
-impl Outcome {
+impl DeskOutcome {
     /// The status of an outcome whose document was written, and of want of memory.
     pub fn status(&self) -> u8
         ensures { result ≡ status_of self.now }
     {
         match self {
-            Outcome::Planned(answer) => status_said(answer.head),
-            Outcome::Swapped(_) => SUCCESS,
-            Outcome::Replanned(rest) => status_said(rest.replanned.head),
-            Outcome::PlannedWeek(week) => status_said(week.head),
-            Outcome::Stops => FAILURE,
-            Outcome::Usage => USAGE,
-            Outcome::Refused(_) => REFUSED,
-            Outcome::CannotRead(_) => UNREAD,
-            Outcome::NoMemory => NO_MEMORY,
+            DeskOutcome::Planned(answer) => status_said(answer.head),
+            DeskOutcome::Swapped(_) => SUCCESS,
+            DeskOutcome::Replanned(rest) => status_said(rest.replanned.head),
+            DeskOutcome::PlannedWeek(week) => status_said(week.head),
+            DeskOutcome::Stops => FAILURE,
+            DeskOutcome::Usage => USAGE,
+            DeskOutcome::Refused(_) => REFUSED,
+            DeskOutcome::CannotRead(_) => UNREAD,
+            DeskOutcome::NoMemory => NO_MEMORY,
         }
     }
 }

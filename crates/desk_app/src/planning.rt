@@ -1,7 +1,7 @@
 //! The command that plans a day.
 
 ghost use Rattle.std.specs.Prelude.{true, false, ◌≡◌, ◌≤◌, ◌+◌, ◌*◌, ◌^◌, All, IfOk};
-ghost use Rattle.rail_base.specs.declared.limits.TheConstants.{MOST_BRANCHINGS, MOST_ROUNDS};
+ghost use Rattle.rail_base.specs.declared.limits.TheConstants.{MAX_BRANCHINGS, MAX_ROUNDS};
 ghost use Rattle.rail_io.specs.Folders.{OnlyReads, faults_after};
 ghost use Rattle.search.specs.Questions.{AreAsked, AreTheSame, in_rounds};
 ghost use Rattle.answer_check.specs.Headline.{IsHeadline};
@@ -10,7 +10,7 @@ ghost use Rattle.desk_app.specs.Outcomes.{is_unread};
 ghost use Rattle.desk_app.specs.PlanOutcomes.{IsDayOutcome, IsPlanOutcome};
 ghost use Rattle.desk_app.specs.Statuses.{AreAskedFor};
 
-use crate::outcome::Outcome;
+use crate::outcome::DeskOutcome;
 use advisors::Advisor;
 use answer_text::Answer;
 use day_files::day_in;
@@ -30,10 +30,10 @@ pub(crate) fn planned<F: Folder, W: Watcher>(
     planning: &Planning,
     advisors: &mut Vec<Box<dyn Advisor>>,
     watcher: &mut W,
-) -> Outcome
+) -> DeskOutcome
     // The grants, and the advisors before.
-    requires nodes { planning.now.nodes ≤ MOST_BRANCHINGS }
-    requires rounds { planning.now.rounds ≤ MOST_ROUNDS }
+    requires nodes { planning.now.nodes ≤ MAX_BRANCHINGS }
+    requires rounds { planning.now.rounds ≤ MAX_ROUNDS }
     requires asked { All (λ advisor. asked advisor ≤ 2 ^ 62) advisors.old.items }
 
     // What it comes to.
@@ -52,7 +52,7 @@ pub(crate) fn planned<F: Folder, W: Watcher>(
 {
     match day_in(alloc, folder, planning.dir.as_str()) {
         Ok(instance) => planned_day(alloc, &instance, planning, advisors, watcher),
-        Err(error) => Outcome::from(error),
+        Err(error) => DeskOutcome::from(error),
     }
 }
 
@@ -63,10 +63,10 @@ fn planned_day<W: Watcher>(
     planning: &Planning,
     advisors: &mut Vec<Box<dyn Advisor>>,
     watcher: &mut W,
-) -> Outcome
+) -> DeskOutcome
     // The grants, and the advisors before.
-    requires nodes { planning.now.nodes ≤ MOST_BRANCHINGS }
-    requires rounds { planning.now.rounds ≤ MOST_ROUNDS }
+    requires nodes { planning.now.nodes ≤ MAX_BRANCHINGS }
+    requires rounds { planning.now.rounds ≤ MAX_ROUNDS }
     requires asked { All (λ advisor. asked advisor ≤ 2 ^ 62) advisors.old.items }
 
     // What it comes to.
@@ -80,8 +80,8 @@ fn planned_day<W: Watcher>(
     ensures asked_for { AreAskedFor planning.now.rounds result advisors.old.items advisors.new.items asked has_quit }
 {
     match answer(alloc, instance, planning, advisors, watcher) {
-        Ok(answer) => Outcome::Planned(answer),
-        Err(NoMemory) => Outcome::NoMemory,
+        Ok(answer) => DeskOutcome::Planned(answer),
+        Err(NoMemory) => DeskOutcome::NoMemory,
     }
 }
 
@@ -94,8 +94,8 @@ fn answer<W: Watcher>(
     watcher: &mut W,
 ) -> Result<Answer, NoMemory>
     // The grants, and the advisors before.
-    requires nodes { planning.now.nodes ≤ MOST_BRANCHINGS }
-    requires rounds { planning.now.rounds ≤ MOST_ROUNDS }
+    requires nodes { planning.now.nodes ≤ MAX_BRANCHINGS }
+    requires rounds { planning.now.rounds ≤ MAX_ROUNDS }
     requires asked { All (λ advisor. asked advisor ≤ 2 ^ 62) advisors.old.items }
 
     // The answer.

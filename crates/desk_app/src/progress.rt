@@ -1,11 +1,11 @@
 //! How far a search has come, told in lines on the standard error.
 
 ghost use Rattle.std.specs.Prelude.{◌≡◌, IfOk, IsTrue, int_le, int_lt, pos, string_bytes};
-ghost use Rattle.answer_text.specs.declared.limits.TheConstants.{MOST_AMOUNT};
+ghost use Rattle.answer_text.specs.declared.limits.TheConstants.{MAX_AMOUNT};
 ghost use Rattle.desk_app.specs.ProgressTexts.{amount_text, gap_between, gap_of, gap_text, nearest_percent};
 ghost use Rattle.desk_app.specs.ProgressTexts.{progress_line};
 
-use answer_text::limits::MOST_AMOUNT;
+use answer_text::limits::MAX_AMOUNT;
 use day_improver::{Progress, Watcher};
 use rail_base::{Money, NoMemory};
 use std::alloc::Global;
@@ -113,7 +113,7 @@ fn gap_of(bound: Option<Money>, plan: Option<Money>) -> Option<i128>
 fn gap_between(bound: i128, plan: i128) -> Option<i128>
     ensures { result ≡ gap_between bound plan }
 {
-    if 0 <= bound && bound <= plan && 0 < plan && plan <= MOST_AMOUNT as i128 {
+    if 0 <= bound && bound <= plan && 0 < plan && plan <= MAX_AMOUNT as i128 {
         return Some(nearest_percent(plan - bound, plan));
     }
     None
@@ -124,7 +124,7 @@ fn nearest_percent(part: i128, whole: i128) -> i128
     requires low { IsTrue (int_le (pos 0) part) }
     requires within { IsTrue (int_le part whole) }
     requires positive { IsTrue (int_lt (pos 0) whole) }
-    requires limit { IsTrue (int_le whole (pos MOST_AMOUNT)) }
+    requires limit { IsTrue (int_le whole (pos MAX_AMOUNT)) }
     ensures { result ≡ nearest_percent part whole }
 {
     (part * 200 + whole) / (whole * 2)

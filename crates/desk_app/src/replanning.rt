@@ -1,8 +1,8 @@
 //! The command that plans the rest of a disturbed day.
 
 ghost use Rattle.std.specs.Prelude.{true, false, ◌≡◌, ◌≤◌, ◌+◌, ◌*◌, ◌^◌, All, IfOk, length};
-ghost use Rattle.rail_base.specs.declared.limits.TheConstants.{MOST_BRANCHINGS, MOST_CHANGE, MOST_ROUNDS};
-ghost use Rattle.rail_base.specs.declared.limits.TheConstants.{MOST_TABLE_BYTES};
+ghost use Rattle.rail_base.specs.declared.limits.TheConstants.{MAX_BRANCHINGS, MAX_CHANGE, MAX_ROUNDS};
+ghost use Rattle.rail_base.specs.declared.limits.TheConstants.{MAX_TABLE_BYTES};
 ghost use Rattle.rail_io.specs.Folders.{OnlyReads, faults_after};
 ghost use Rattle.timetable.specs.Running.{IsPlan, Runs};
 ghost use Rattle.timetable.specs.DayTables.{IsDayOfBytes};
@@ -17,7 +17,7 @@ ghost use Rattle.desk_app.specs.ReplanOutcomes.{IsRunningOutcome, IsTripsOutcome
 ghost use Rattle.desk_app.specs.Statuses.{AreAskedFor};
 
 use crate::files::{CANCELLED_FILE, DeskFile};
-use crate::outcome::{Outcome, PlannedRest};
+use crate::outcome::{DeskOutcome, PlannedRest};
 use advisors::Advisor;
 use cancellations::{CancelRefusal, Cancelled, later, read_cancelled};
 use day_files::{InputsWithBytes, file_in, inputs_with_bytes_in};
@@ -27,7 +27,7 @@ use day_simulator::{SimulateRefusal, simulate};
 use desk_commands::Replanning;
 use improvers::NoImprover;
 use rail_base::NoMemory;
-use rail_base::limits::MOST_TABLE_BYTES;
+use rail_base::limits::MAX_TABLE_BYTES;
 use rail_io::{FileRefusal, Folder};
 use replan::{Disturbance, ReplanRefusal, Replanned, improved_replan, rest_of};
 use std::alloc::Global;
@@ -39,11 +39,11 @@ pub(crate) fn replanned<F: Folder>(
     folder: &mut F,
     replanning: &Replanning,
     advisors: &mut Vec<Box<dyn Advisor>>,
-) -> Outcome
+) -> DeskOutcome
     // The grants, what a change costs, and the advisors before.
-    requires nodes { replanning.now.nodes ≤ MOST_BRANCHINGS }
-    requires rounds { replanning.now.rounds ≤ MOST_ROUNDS }
-    requires change { replanning.now.change ≤ MOST_CHANGE }
+    requires nodes { replanning.now.nodes ≤ MAX_BRANCHINGS }
+    requires rounds { replanning.now.rounds ≤ MAX_ROUNDS }
+    requires change { replanning.now.change ≤ MAX_CHANGE }
     requires asked { All (λ advisor. asked advisor ≤ 2 ^ 62) advisors.old.items }
 
     // What it comes to.
@@ -62,7 +62,7 @@ pub(crate) fn replanned<F: Folder>(
 {
     match inputs_with_bytes_in(alloc, folder, replanning.dir.as_str()) {
         Ok(read) => replanned_plan(alloc, folder, &read, replanning, advisors),
-        Err(error) => Outcome::from(error),
+        Err(error) => DeskOutcome::from(error),
     }
 }
 
@@ -74,11 +74,11 @@ fn replanned_plan<F: Folder>(
     read: &InputsWithBytes,
     replanning: &Replanning,
     advisors: &mut Vec<Box<dyn Advisor>>,
-) -> Outcome
+) -> DeskOutcome
     // The grants, what a change costs, and the advisors before.
-    requires nodes { replanning.now.nodes ≤ MOST_BRANCHINGS }
-    requires rounds { replanning.now.rounds ≤ MOST_ROUNDS }
-    requires change { replanning.now.change ≤ MOST_CHANGE }
+    requires nodes { replanning.now.nodes ≤ MAX_BRANCHINGS }
+    requires rounds { replanning.now.rounds ≤ MAX_ROUNDS }
+    requires change { replanning.now.change ≤ MAX_CHANGE }
     requires asked { All (λ advisor. asked advisor ≤ 2 ^ 62) advisors.old.items }
 
     // The day and its plan, which runs.
@@ -102,8 +102,8 @@ fn replanned_plan<F: Folder>(
 {
     match simulate(alloc, &read.inputs.instance, &read.inputs.plan) {
         Ok(_) => replanned_as_told(alloc, folder, read, replanning, advisors),
-        Err(SimulateRefusal::Stops(_)) => Outcome::Stops,
-        Err(SimulateRefusal::NoMemory) => Outcome::NoMemory,
+        Err(SimulateRefusal::Stops(_)) => DeskOutcome::Stops,
+        Err(SimulateRefusal::NoMemory) => DeskOutcome::NoMemory,
     }
 }
 
@@ -115,11 +115,11 @@ fn replanned_as_told<F: Folder>(
     read: &InputsWithBytes,
     replanning: &Replanning,
     advisors: &mut Vec<Box<dyn Advisor>>,
-) -> Outcome
+) -> DeskOutcome
     // The grants, what a change costs, and the advisors before.
-    requires nodes { replanning.now.nodes ≤ MOST_BRANCHINGS }
-    requires rounds { replanning.now.rounds ≤ MOST_ROUNDS }
-    requires change { replanning.now.change ≤ MOST_CHANGE }
+    requires nodes { replanning.now.nodes ≤ MAX_BRANCHINGS }
+    requires rounds { replanning.now.rounds ≤ MAX_ROUNDS }
+    requires change { replanning.now.change ≤ MAX_CHANGE }
     requires asked { All (λ advisor. asked advisor ≤ 2 ^ 62) advisors.old.items }
 
     // The day and its plan, which runs.
@@ -143,11 +143,11 @@ fn replanned_as_told<F: Folder>(
     ensures asked_for { AreAskedFor replanning.now.rounds result advisors.old.items advisors.new.items asked has_quit }
 {
     let dir = replanning.dir.as_str();
-    match file_in(alloc, folder, dir, CANCELLED_FILE, MOST_TABLE_BYTES) {
+    match file_in(alloc, folder, dir, CANCELLED_FILE, MAX_TABLE_BYTES) {
         Ok(bytes) => replanned_by_table(alloc, read, bytes.items(), replanning, advisors),
-        Err(FileRefusal::ReadFault) => Outcome::CannotRead(DeskFile::CancelledTrips),
-        Err(FileRefusal::TooLong) => Outcome::Refused(DeskFile::CancelledTrips),
-        Err(FileRefusal::NoMemory) => Outcome::NoMemory,
+        Err(FileRefusal::ReadFault) => DeskOutcome::CannotRead(DeskFile::CancelledTrips),
+        Err(FileRefusal::TooLong) => DeskOutcome::Refused(DeskFile::CancelledTrips),
+        Err(FileRefusal::NoMemory) => DeskOutcome::NoMemory,
     }
 }
 
@@ -159,18 +159,18 @@ fn replanned_by_table(
     bytes: &[u8],
     replanning: &Replanning,
     advisors: &mut Vec<Box<dyn Advisor>>,
-) -> Outcome
+) -> DeskOutcome
     // The grants, what a change costs, and the advisors before.
-    requires nodes { replanning.now.nodes ≤ MOST_BRANCHINGS }
-    requires rounds { replanning.now.rounds ≤ MOST_ROUNDS }
-    requires change { replanning.now.change ≤ MOST_CHANGE }
+    requires nodes { replanning.now.nodes ≤ MAX_BRANCHINGS }
+    requires rounds { replanning.now.rounds ≤ MAX_ROUNDS }
+    requires change { replanning.now.change ≤ MAX_CHANGE }
     requires asked { All (λ advisor. asked advisor ≤ 2 ^ 62) advisors.old.items }
 
     // The day and its plan, which runs.
     requires plan { IsPlan read.now.inputs.instance read.now.inputs.plan }
     requires kept { IsDayOfBytes read.now.bytes read.now.inputs.instance }
     requires runs { Runs read.now.inputs.instance read.now.inputs.plan }
-    requires few { length bytes.now ≤ MOST_TABLE_BYTES }
+    requires few { length bytes.now ≤ MAX_TABLE_BYTES }
 
     // What it comes to.
     ensures outcome { IsCancelledOutcome read.now.inputs replanning.now bytes.now result }
@@ -184,8 +184,8 @@ fn replanned_by_table(
 {
     match read_cancelled(alloc, &read.inputs.instance, replanning.minute, bytes) {
         Ok(cancelled) => replanned_without(alloc, read, &cancelled, replanning, advisors),
-        Err(CancelRefusal::NoMemory) => Outcome::NoMemory,
-        Err(_) => Outcome::Refused(DeskFile::CancelledTrips),
+        Err(CancelRefusal::NoMemory) => DeskOutcome::NoMemory,
+        Err(_) => DeskOutcome::Refused(DeskFile::CancelledTrips),
     }
 }
 
@@ -196,11 +196,11 @@ fn replanned_without(
     cancelled: &Cancelled,
     replanning: &Replanning,
     advisors: &mut Vec<Box<dyn Advisor>>,
-) -> Outcome
+) -> DeskOutcome
     // The grants, what a change costs, and the advisors before.
-    requires nodes { replanning.now.nodes ≤ MOST_BRANCHINGS }
-    requires rounds { replanning.now.rounds ≤ MOST_ROUNDS }
-    requires change { replanning.now.change ≤ MOST_CHANGE }
+    requires nodes { replanning.now.nodes ≤ MAX_BRANCHINGS }
+    requires rounds { replanning.now.rounds ≤ MAX_ROUNDS }
+    requires change { replanning.now.change ≤ MAX_CHANGE }
     requires asked { All (λ advisor. asked advisor ≤ 2 ^ 62) advisors.old.items }
 
     // The day and its plan, which runs.
@@ -220,8 +220,8 @@ fn replanned_without(
     ensures asked_for { AreAskedFor replanning.now.rounds result advisors.old.items advisors.new.items asked has_quit }
 {
     match planned_rest(alloc, read, cancelled, replanning, advisors) {
-        Ok(rest) => Outcome::Replanned(rest),
-        Err(NoMemory) => Outcome::NoMemory,
+        Ok(rest) => DeskOutcome::Replanned(rest),
+        Err(NoMemory) => DeskOutcome::NoMemory,
     }
 }
 
@@ -235,9 +235,9 @@ fn planned_rest(
     advisors: &mut Vec<Box<dyn Advisor>>,
 ) -> Result<PlannedRest, NoMemory>
     // The grants, what a change costs, and the advisors before.
-    requires nodes { replanning.now.nodes ≤ MOST_BRANCHINGS }
-    requires rounds { replanning.now.rounds ≤ MOST_ROUNDS }
-    requires change { replanning.now.change ≤ MOST_CHANGE }
+    requires nodes { replanning.now.nodes ≤ MAX_BRANCHINGS }
+    requires rounds { replanning.now.rounds ≤ MAX_ROUNDS }
+    requires change { replanning.now.change ≤ MAX_CHANGE }
     requires asked { All (λ advisor. asked advisor ≤ 2 ^ 62) advisors.old.items }
 
     // The day and its plan, which runs.
@@ -282,8 +282,8 @@ fn searched(
     advisors: &mut Vec<Box<dyn Advisor>>,
 ) -> Result<Replanned, NoMemory>
     // The grants, and the advisors before.
-    requires nodes { replanning.now.nodes ≤ MOST_BRANCHINGS }
-    requires rounds { replanning.now.rounds ≤ MOST_ROUNDS }
+    requires nodes { replanning.now.nodes ≤ MAX_BRANCHINGS }
+    requires rounds { replanning.now.rounds ≤ MAX_ROUNDS }
     requires asked { All (λ advisor. asked advisor ≤ 2 ^ 62) advisors.old.items }
 
     // The plan runs.

@@ -7,7 +7,7 @@ ghost use Rattle.desk_commands.specs.PlainForm.{IsPlainForm};
 ghost use Rattle.desk_app.specs.Outcomes.{AskInVain, IsOutcome, is_unread};
 ghost use Rattle.desk_app.specs.Statuses.{AreAskedFor, LeavesAdvisors, rounds_of};
 
-use crate::outcome::Outcome;
+use crate::outcome::DeskOutcome;
 use crate::planning::planned;
 use crate::replanning::replanned;
 use crate::swapping::swapped;
@@ -27,7 +27,7 @@ pub(crate) fn outcome_of<F: Folder, W: Watcher>(
     folder: &mut F,
     advisors: &mut Vec<Box<dyn Advisor>>,
     watcher: &mut W,
-) -> Outcome
+) -> DeskOutcome
     // The advisors before.
     requires asked { All (λ advisor. asked advisor ≤ 2 ^ 62) advisors.old.items }
 
@@ -50,7 +50,7 @@ pub(crate) fn outcome_of<F: Folder, W: Watcher>(
         Ok(Command::Urgent(swapping)) => swapped(alloc, folder, swapping.dir.as_str()),
         Ok(Command::Replan(replanning)) => replanned(alloc, folder, &replanning, advisors),
         Ok(Command::Week(planning)) => planned_week(alloc, folder, &planning, advisors),
-        Err(WordsRefusal::NotUnderstood) => Outcome::Usage,
-        Err(WordsRefusal::NoMemory) => Outcome::NoMemory,
+        Err(WordsRefusal::NotUnderstood) => DeskOutcome::Usage,
+        Err(WordsRefusal::NoMemory) => DeskOutcome::NoMemory,
     }
 }

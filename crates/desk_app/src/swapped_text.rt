@@ -1,5 +1,5 @@
-//! The text of a plan with units swapped: how many urgent units are brought, the plan that brings them, and the cut that
-//! shows that none brings more.
+//! The text of a plan with units swapped: how many urgent units are brought, the plan that brings them, and the cut
+//! that shows that none brings more.
 
 ghost use Rattle.std.specs.Prelude.{◌≡◌, ◌<◌, ◌++◌, ◌∷◌, [], length, IfOk, OnOk, string_bytes};
 ghost use Rattle.timetable.specs.Links.{list_of};

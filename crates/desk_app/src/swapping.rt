@@ -1,7 +1,7 @@
 //! The command that swaps units of a day's plan.
 
 ghost use Rattle.std.specs.Prelude.{true, false, ◌≡◌, ◌≤◌, length};
-ghost use Rattle.rail_base.specs.declared.limits.TheConstants.{MOST_TABLE_BYTES};
+ghost use Rattle.rail_base.specs.declared.limits.TheConstants.{MAX_TABLE_BYTES};
 ghost use Rattle.rail_io.specs.Folders.{OnlyReads, faults_after};
 ghost use Rattle.timetable.specs.Running.{IsPlan};
 ghost use Rattle.urgent_units.specs.Wishes.{IsWish};
@@ -10,16 +10,16 @@ ghost use Rattle.desk_app.specs.SwapOutcomes.{GoesThrough, IsInputsOutcome, IsMo
 ghost use Rattle.desk_app.specs.SwapOutcomes.{IsTableOutcome, IsWishOutcome};
 
 use crate::files::{DeskFile, URGENT_FILE};
-use crate::outcome::Outcome;
+use crate::outcome::DeskOutcome;
 use day_files::{Inputs, file_in, inputs_in};
 use day_simulator::{SimulateRefusal, simulate};
-use rail_base::limits::MOST_TABLE_BYTES;
+use rail_base::limits::MAX_TABLE_BYTES;
 use rail_io::{FileRefusal, Folder};
 use std::alloc::Global;
 use urgent_units::{UrgentRefusal, Wish, WishRefusal, urgent};
 
 /// Swaps units of a folder's plan. The plan is simulated before the table of urgent units is read.
-pub(crate) fn swapped<F: Folder>(alloc: Global, folder: &mut F, dir: &str) -> Outcome
+pub(crate) fn swapped<F: Folder>(alloc: Global, folder: &mut F, dir: &str) -> DeskOutcome
     ensures outcome { IsSwapOutcome F.holds F.may_fail F.faults F.taken dir.now folder.old folder.new result }
     ensures only_reads { OnlyReads F.holds F.may_fail F.faults F.taken folder.old folder.new }
     ensures fault_counted { F.counts_failed ≡ true
@@ -27,12 +27,12 @@ pub(crate) fn swapped<F: Folder>(alloc: Global, folder: &mut F, dir: &str) -> Ou
 {
     match inputs_in(alloc, folder, dir) {
         Ok(inputs) => swapped_plan(alloc, folder, dir, &inputs),
-        Err(error) => Outcome::from(error),
+        Err(error) => DeskOutcome::from(error),
     }
 }
 
 /// Swaps units of a plan, where it runs.
-fn swapped_plan<F: Folder>(alloc: Global, folder: &mut F, dir: &str, inputs: &Inputs) -> Outcome
+fn swapped_plan<F: Folder>(alloc: Global, folder: &mut F, dir: &str, inputs: &Inputs) -> DeskOutcome
     requires plan { IsPlan inputs.now.instance inputs.now.plan }
     ensures outcome { IsInputsOutcome F.holds F.may_fail F.faults F.taken dir.now inputs.now folder.old folder.new
         result }
@@ -42,8 +42,8 @@ fn swapped_plan<F: Folder>(alloc: Global, folder: &mut F, dir: &str, inputs: &In
 {
     match simulate(alloc, &inputs.instance, &inputs.plan) {
         Ok(_) => swapped_as_wished(alloc, folder, dir, inputs),
-        Err(SimulateRefusal::Stops(_)) => Outcome::Stops,
-        Err(SimulateRefusal::NoMemory) => Outcome::NoMemory,
+        Err(SimulateRefusal::Stops(_)) => DeskOutcome::Stops,
+        Err(SimulateRefusal::NoMemory) => DeskOutcome::NoMemory,
     }
 }
 
@@ -53,7 +53,7 @@ fn swapped_as_wished<F: Folder>(
     folder: &mut F,
     dir: &str,
     inputs: &Inputs,
-) -> Outcome
+) -> DeskOutcome
     requires plan { IsPlan inputs.now.instance inputs.now.plan }
     requires goes { GoesThrough inputs.now }
     ensures outcome { IsWishOutcome F.holds F.may_fail F.faults F.taken dir.now inputs.now folder.old folder.new
@@ -62,31 +62,31 @@ fn swapped_as_wished<F: Folder>(
     ensures fault_counted { F.counts_failed ≡ true
         → F.faults folder.new ≡ faults_after (is_unread result) (F.faults folder.old) }
 {
-    match file_in(alloc, folder, dir, URGENT_FILE, MOST_TABLE_BYTES) {
+    match file_in(alloc, folder, dir, URGENT_FILE, MAX_TABLE_BYTES) {
         Ok(bytes) => swapped_by_table(alloc, inputs, bytes.items()),
-        Err(FileRefusal::ReadFault) => Outcome::CannotRead(DeskFile::UrgentUnits),
-        Err(FileRefusal::TooLong) => Outcome::Refused(DeskFile::UrgentUnits),
-        Err(FileRefusal::NoMemory) => Outcome::NoMemory,
+        Err(FileRefusal::ReadFault) => DeskOutcome::CannotRead(DeskFile::UrgentUnits),
+        Err(FileRefusal::TooLong) => DeskOutcome::Refused(DeskFile::UrgentUnits),
+        Err(FileRefusal::NoMemory) => DeskOutcome::NoMemory,
     }
 }
 
 /// Swaps units of a plan that runs, as these bytes say.
-fn swapped_by_table(alloc: Global, inputs: &Inputs, bytes: &[u8]) -> Outcome
+fn swapped_by_table(alloc: Global, inputs: &Inputs, bytes: &[u8]) -> DeskOutcome
     requires plan { IsPlan inputs.now.instance inputs.now.plan }
     requires goes { GoesThrough inputs.now }
-    requires few { length bytes.now ≤ MOST_TABLE_BYTES }
+    requires few { length bytes.now ≤ MAX_TABLE_BYTES }
     ensures outcome { IsTableOutcome inputs.now bytes.now result }
     ensures read { is_unread result ≡ false }
 {
     match Wish::read(alloc, &inputs.instance, bytes) {
         Ok(wish) => swapped_for(alloc, inputs, &wish),
-        Err(WishRefusal::NoMemory) => Outcome::NoMemory,
-        Err(_) => Outcome::Refused(DeskFile::UrgentUnits),
+        Err(WishRefusal::NoMemory) => DeskOutcome::NoMemory,
+        Err(_) => DeskOutcome::Refused(DeskFile::UrgentUnits),
     }
 }
 
 /// Swaps units of a plan that runs for a wish.
-fn swapped_for(alloc: Global, inputs: &Inputs, wish: &Wish) -> Outcome
+fn swapped_for(alloc: Global, inputs: &Inputs, wish: &Wish) -> DeskOutcome
     requires plan { IsPlan inputs.now.instance inputs.now.plan }
     requires goes { GoesThrough inputs.now }
     requires wish { IsWish inputs.now.instance wish.now }
@@ -94,9 +94,9 @@ fn swapped_for(alloc: Global, inputs: &Inputs, wish: &Wish) -> Outcome
     ensures read { is_unread result ≡ false }
 {
     match urgent(alloc, &inputs.instance, &inputs.plan, wish) {
-        Ok(swapped) => Outcome::Swapped(swapped),
+        Ok(swapped) => DeskOutcome::Swapped(swapped),
         // A plan that runs doesn't stop.
         Err(UrgentRefusal::Stops(_)) => unreachable!(),
-        Err(UrgentRefusal::NoMemory) => Outcome::NoMemory,
+        Err(UrgentRefusal::NoMemory) => DeskOutcome::NoMemory,
     }
 }

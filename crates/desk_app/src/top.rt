@@ -10,7 +10,7 @@ ghost use Rattle.desk_commands.specs.declared.replanning.Replanning.{Replanning}
 ghost use Rattle.desk_commands.specs.declared.swapping.Swapping.{Swapping};
 ghost use Rattle.desk_commands.specs.declared.week_planning.WeekPlanning.{WeekPlanning};
 ghost use Rattle.desk_commands.specs.PlainForm.{IsPlainForm};
-ghost use Rattle.desk_app.specs.declared.outcome.Outcome.{Outcome};
+ghost use Rattle.desk_app.specs.declared.outcome.DeskOutcome.{DeskOutcome};
 ghost use Rattle.desk_app.specs.Documents.{table_refused_line};
 ghost use Rattle.desk_app.specs.Outcomes.{AskForWeek, AskToPlan, AskToReplan, AskToSwap, IsOutcome, is_unread};
 ghost use Rattle.desk_app.specs.ReplanEndings.{EndsReplanning};
@@ -20,7 +20,7 @@ ghost use Rattle.desk_app.specs.SwapEndings.{EndsSwapping};
 ghost use Rattle.desk_app.specs.WeekEndings.{EndsWeek};
 
 use crate::document::document;
-use crate::outcome::Outcome;
+use crate::outcome::DeskOutcome;
 use crate::run::outcome_of;
 use advisors::Advisor;
 use day_improver::{NoWatcher, Watcher};
@@ -30,7 +30,7 @@ use statuses::write_document;
 use std::alloc::Global;
 
 /// Writes the document of an outcome, made whole in memory before the first write, and answers the status.
-fn write_outcome<K: Sink>(alloc: Global, outcome: Outcome, out: &mut K) -> u8
+fn write_outcome<K: Sink>(alloc: Global, outcome: DeskOutcome, out: &mut K) -> u8
     ensures wrote { WroteOutcome outcome result (K.written out.old) (K.written out.new) (K.faults out.old)
         (K.faults out.new) }
     ensures lasting { K.faults out.old ≤ K.faults out.new }
@@ -55,13 +55,13 @@ fn write_outcome<K: Sink>(alloc: Global, outcome: Outcome, out: &mut K) -> u8
 ///   how many these are, the plan that brings them, which has the same types on every trip, and a yard cut that shows
 ///   that no plan which runs with these types brings more. It asks no advisor.
 ///
-/// - `replan DIR NOW --change W --nodes N --rounds K --evaluations E` reads `plan.csv` as well, and where the plan runs,
-///   `cancelled.csv`: the trips that are cancelled at the minute NOW. It plans the rest of the day without them by a
-///   search of at most N branchings, 200 where no N is given, and writes a plan that keeps what has happened: each trip
-///   that has left has the very units that it had, and each frozen one their types. A trip with other types than were
-///   planned costs W more, nothing where no W is given, and what the answer says of the price is true of every such
-///   plan. The advisors are asked in at most K rounds at each node, in 20 where no K is given, and the improver may take
-///   E bounds at the root; it is not asked where no E is given.
+/// - `replan DIR NOW --change W --nodes N --rounds K --evaluations E` reads `plan.csv` as well, and where the plan
+///   runs, `cancelled.csv`: the trips that are cancelled at the minute NOW. It plans the rest of the day without them
+///   by a search of at most N branchings, 200 where no N is given, and writes a plan that keeps what has happened: each
+///   trip that has left has the very units that it had, and each frozen one their types. A trip with other types than
+///   were planned costs W more, nothing where no W is given, and what the answer says of the price is true of every
+///   such plan. The advisors are asked in at most K rounds at each node, in 20 where no K is given, and the improver
+///   may take E bounds at the root; it is not asked where no E is given.
 /// - `week DIR DAYS --nodes N --rounds K --evaluations E` reads the tables of DAYS days, at most seven, in DIR/1, DIR/2
 ///   and so on; of each day all files, before those of the next. Where each day goes on from the day before, it plans
 ///   each by a search of its own, with N, K and E as in `replan`, and writes the answers to the days and what they say
@@ -122,7 +122,7 @@ pub fn raildesk<F: Folder, K: Sink>(
 
     // What was written is the document of an outcome of these words and this folder, whose status is the result unless
     // that is 6 or 7; and the advisors were asked as it tells.
-    ensures document { (outcome : Outcome)
+    ensures document { (outcome : DeskOutcome)
         × IsOutcome F.holds F.may_fail F.faults F.taken words.now folder.old folder.new outcome
         × WroteOutcome outcome result (K.written out.old) (K.written out.new) (K.faults out.old) (K.faults out.new)
         × (F.counts_failed ≡ true
@@ -172,7 +172,7 @@ pub fn raildesk_watched<F: Folder, K: Sink, W: Watcher>(
 
     // What was written is the document of an outcome of these words and this folder, whose status is the result unless
     // that is 6 or 7; and the advisors were asked as it tells.
-    ensures document { (outcome : Outcome)
+    ensures document { (outcome : DeskOutcome)
         × IsOutcome F.holds F.may_fail F.faults F.taken words.now folder.old folder.new outcome
         × WroteOutcome outcome result (K.written out.old) (K.written out.new) (K.faults out.old) (K.faults out.new)
         × (F.counts_failed ≡ true

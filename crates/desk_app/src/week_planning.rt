@@ -1,15 +1,15 @@
 //! The command that plans a week.
 
 ghost use Rattle.std.specs.Prelude.{true, false, ◌≡◌, ◌≤◌, ◌+◌, ◌*◌, ◌^◌, All, length};
-ghost use Rattle.rail_base.specs.declared.limits.TheConstants.{MOST_BRANCHINGS, MOST_ROUNDS};
+ghost use Rattle.rail_base.specs.declared.limits.TheConstants.{MAX_BRANCHINGS, MAX_ROUNDS};
 ghost use Rattle.rail_io.specs.Folders.{OnlyReads, faults_after};
 ghost use Rattle.search.specs.Questions.{AreAsked, AreTheSame};
-ghost use Rattle.week_units.specs.declared.nights.TheConstants.{MOST_DAYS};
+ghost use Rattle.week_units.specs.declared.nights.TheConstants.{MAX_DAYS};
 ghost use Rattle.desk_app.specs.Outcomes.{is_unread};
 ghost use Rattle.desk_app.specs.Statuses.{AreAskedFor};
 ghost use Rattle.desk_app.specs.WeekOutcomes.{IsDaysOutcome, IsWeekOutcome};
 
-use crate::outcome::Outcome;
+use crate::outcome::DeskOutcome;
 use advisors::Advisor;
 use desk_commands::WeekPlanning;
 use rail_io::Folder;
@@ -24,11 +24,11 @@ pub(crate) fn planned_week<F: Folder>(
     folder: &mut F,
     planning: &WeekPlanning,
     advisors: &mut Vec<Box<dyn Advisor>>,
-) -> Outcome
+) -> DeskOutcome
     // The days, the grants, and the advisors before.
-    requires days { planning.now.days ≤ MOST_DAYS }
-    requires nodes { planning.now.nodes ≤ MOST_BRANCHINGS }
-    requires rounds { planning.now.rounds ≤ MOST_ROUNDS }
+    requires days { planning.now.days ≤ MAX_DAYS }
+    requires nodes { planning.now.nodes ≤ MAX_BRANCHINGS }
+    requires rounds { planning.now.rounds ≤ MAX_ROUNDS }
     requires asked { All (λ advisor. asked advisor ≤ 2 ^ 62) advisors.old.items }
 
     // What it comes to.
@@ -42,12 +42,12 @@ pub(crate) fn planned_week<F: Folder>(
     // The advisors.
     ensures advisors { AreTheSame advisors.old.items advisors.new.items identity }
     ensures asked { AreAsked advisors.old.items advisors.new.items asked has_quit 0
-        (MOST_DAYS * (planning.now.rounds * (2 * planning.now.nodes + 1))) }
+        (MAX_DAYS * (planning.now.rounds * (2 * planning.now.nodes + 1))) }
     ensures asked_for { AreAskedFor planning.now.rounds result advisors.old.items advisors.new.items asked has_quit }
 {
     match days_in(alloc, folder, planning.dir.as_str(), planning.days) {
         Ok(days) => planned_days(alloc, &days, planning, advisors),
-        Err(error) => Outcome::from(error),
+        Err(error) => DeskOutcome::from(error),
     }
 }
 
@@ -57,11 +57,11 @@ fn planned_days(
     days: &[Instance],
     planning: &WeekPlanning,
     advisors: &mut Vec<Box<dyn Advisor>>,
-) -> Outcome
+) -> DeskOutcome
     // The days, the grants, and the advisors before.
-    requires days { length days.now ≤ MOST_DAYS }
-    requires nodes { planning.now.nodes ≤ MOST_BRANCHINGS }
-    requires rounds { planning.now.rounds ≤ MOST_ROUNDS }
+    requires days { length days.now ≤ MAX_DAYS }
+    requires nodes { planning.now.nodes ≤ MAX_BRANCHINGS }
+    requires rounds { planning.now.rounds ≤ MAX_ROUNDS }
     requires asked { All (λ advisor. asked advisor ≤ 2 ^ 62) advisors.old.items }
 
     // What it comes to.
@@ -71,13 +71,13 @@ fn planned_days(
     // The advisors.
     ensures advisors { AreTheSame advisors.old.items advisors.new.items identity }
     ensures asked { AreAsked advisors.old.items advisors.new.items asked has_quit 0
-        (MOST_DAYS * (planning.now.rounds * (2 * planning.now.nodes + 1))) }
+        (MAX_DAYS * (planning.now.rounds * (2 * planning.now.nodes + 1))) }
     ensures asked_for { AreAskedFor planning.now.rounds result advisors.old.items advisors.new.items asked has_quit }
 {
     let nodes = planning.nodes;
     let rounds = planning.rounds;
     match week(alloc, days, nodes, rounds, planning.evaluations, advisors) {
-        Ok(week) => Outcome::PlannedWeek(week),
-        Err(refusal) => Outcome::from(refusal),
+        Ok(week) => DeskOutcome::PlannedWeek(week),
+        Err(refusal) => DeskOutcome::from(refusal),
     }
 }

@@ -1,7 +1,7 @@
 -- Words are the plain form of one command at most, whose numbers are within their limits.
 use Rattle.std.proofs.Common.{◌≡◌, ℕ, ◌≤◌, Bool, List, [], ◌∷◌, Some, None, ap, refl, sym, subst, get_or, ◌∙◌, arith}
 use Rattle.std.specs.Prelude.{codes}
-use Rattle.rail_base.specs.declared.limits.TheConstants.{MOST_BRANCHINGS, MOST_CHANGE, MOST_ROUNDS}
+use Rattle.rail_base.specs.declared.limits.TheConstants.{MAX_BRANCHINGS, MAX_CHANGE, MAX_ROUNDS}
 use Rattle.rail_csv.specs.Fields.{number_of, time_of}
 use Rattle.plain_words.specs.Items.{Form, IsPlain, Item, WordList, values_in}
 use Rattle.plain_words.specs.Numbers.{IsOption}
@@ -10,14 +10,14 @@ use Rattle.plain_words.proofs.Made.{taken}
 use Rattle.desk_commands.specs.declared.command.Command.{Command}
 use Rattle.desk_commands.specs.declared.command.Command.TheVariants.{Plan, Replan, Urgent, Week}
 use Rattle.desk_commands.specs.declared.planning.Planning.{Planning}
-use Rattle.desk_commands.specs.declared.planning.TheConstants.{MOST_EVALUATIONS, USUAL_EVALUATIONS_OF_PLAN}
+use Rattle.desk_commands.specs.declared.planning.TheConstants.{MAX_EVALUATIONS, USUAL_EVALUATIONS_OF_PLAN}
 use Rattle.desk_commands.specs.declared.planning.TheConstants.{USUAL_NODES_OF_PLAN, USUAL_ROUNDS_OF_PLAN}
 use Rattle.desk_commands.specs.declared.replanning.Replanning.{Replanning}
 use Rattle.desk_commands.specs.declared.replanning.TheConstants.{USUAL_CHANGE, USUAL_EVALUATIONS_OF_REPLAN}
 use Rattle.desk_commands.specs.declared.replanning.TheConstants.{USUAL_NODES_OF_REPLAN, USUAL_ROUNDS_OF_REPLAN}
 use Rattle.desk_commands.specs.declared.swapping.Swapping.{Swapping}
 use Rattle.desk_commands.specs.declared.week_planning.WeekPlanning.{WeekPlanning}
-use Rattle.desk_commands.specs.declared.week_planning.TheConstants.{MOST_DAYS_OF_WEEK, USUAL_EVALUATIONS_OF_WEEK}
+use Rattle.desk_commands.specs.declared.week_planning.TheConstants.{MAX_DAYS_OF_WEEK, USUAL_EVALUATIONS_OF_WEEK}
 use Rattle.desk_commands.specs.declared.week_planning.TheConstants.{USUAL_NODES_OF_WEEK, USUAL_ROUNDS_OF_WEEK}
 use Rattle.desk_commands.specs.PlainForm.{IsMeant, IsPlainForm, IsPlanning, IsReplanning, IsSwapping, IsWeekPlanning}
 use Rattle.desk_commands.specs.PlainForm.{command_word, form_for}
@@ -50,9 +50,9 @@ one_planning_of items one other first second =
     let dir : one.dir ≡ other.dir = cc in
     made_alike one.dir other.dir one.nodes other.nodes one.rounds other.rounds one.evaluations other.evaluations
     one.tells_progress other.tells_progress dir
-    (one_number USUAL_NODES_OF_PLAN MOST_BRANCHINGS (values_in (codes "--nodes") items) one.nodes other.nodes first.nodes second.nodes)
-    (one_number USUAL_ROUNDS_OF_PLAN MOST_ROUNDS (values_in (codes "--rounds") items) one.rounds other.rounds first.rounds second.rounds)
-    (one_number USUAL_EVALUATIONS_OF_PLAN MOST_EVALUATIONS (values_in (codes "--evaluations") items) one.evaluations other.evaluations
+    (one_number USUAL_NODES_OF_PLAN MAX_BRANCHINGS (values_in (codes "--nodes") items) one.nodes other.nodes first.nodes second.nodes)
+    (one_number USUAL_ROUNDS_OF_PLAN MAX_ROUNDS (values_in (codes "--rounds") items) one.rounds other.rounds first.rounds second.rounds)
+    (one_number USUAL_EVALUATIONS_OF_PLAN MAX_EVALUATIONS (values_in (codes "--evaluations") items) one.evaluations other.evaluations
     first.evaluations second.evaluations)
     (first.progress ∙ sym second.progress)
 
@@ -80,10 +80,10 @@ one_replanning_of items one other first second =
     let minute : one.minute ≡ other.minute = sym first.minute.1 ∙ ap time_of time ∙ second.minute.1 in
     replanned_alike one.dir other.dir one.minute other.minute one.change other.change one.nodes other.nodes one.rounds other.rounds
     one.evaluations other.evaluations dir minute
-    (one_number USUAL_CHANGE MOST_CHANGE (values_in (codes "--change") items) one.change other.change first.change second.change)
-    (one_number USUAL_NODES_OF_REPLAN MOST_BRANCHINGS (values_in (codes "--nodes") items) one.nodes other.nodes first.nodes second.nodes)
-    (one_number USUAL_ROUNDS_OF_REPLAN MOST_ROUNDS (values_in (codes "--rounds") items) one.rounds other.rounds first.rounds second.rounds)
-    (one_number USUAL_EVALUATIONS_OF_REPLAN MOST_EVALUATIONS (values_in (codes "--evaluations") items) one.evaluations other.evaluations
+    (one_number USUAL_CHANGE MAX_CHANGE (values_in (codes "--change") items) one.change other.change first.change second.change)
+    (one_number USUAL_NODES_OF_REPLAN MAX_BRANCHINGS (values_in (codes "--nodes") items) one.nodes other.nodes first.nodes second.nodes)
+    (one_number USUAL_ROUNDS_OF_REPLAN MAX_ROUNDS (values_in (codes "--rounds") items) one.rounds other.rounds first.rounds second.rounds)
+    (one_number USUAL_EVALUATIONS_OF_REPLAN MAX_EVALUATIONS (values_in (codes "--evaluations") items) one.evaluations other.evaluations
     first.evaluations second.evaluations)
 
 -- and the plannings of weeks of equal parts
@@ -100,9 +100,9 @@ one_week_planning_of items one other first second =
     let days : one.days ≡ other.days = sym first.days.spelled ∙ ap number_of number ∙ second.days.spelled in
     weeks_alike one.dir other.dir one.days other.days one.nodes other.nodes one.rounds other.rounds one.evaluations other.evaluations
     dir days
-    (one_number USUAL_NODES_OF_WEEK MOST_BRANCHINGS (values_in (codes "--nodes") items) one.nodes other.nodes first.nodes second.nodes)
-    (one_number USUAL_ROUNDS_OF_WEEK MOST_ROUNDS (values_in (codes "--rounds") items) one.rounds other.rounds first.rounds second.rounds)
-    (one_number USUAL_EVALUATIONS_OF_WEEK MOST_EVALUATIONS (values_in (codes "--evaluations") items) one.evaluations other.evaluations
+    (one_number USUAL_NODES_OF_WEEK MAX_BRANCHINGS (values_in (codes "--nodes") items) one.nodes other.nodes first.nodes second.nodes)
+    (one_number USUAL_ROUNDS_OF_WEEK MAX_ROUNDS (values_in (codes "--rounds") items) one.rounds other.rounds first.rounds second.rounds)
+    (one_number USUAL_EVALUATIONS_OF_WEEK MAX_EVALUATIONS (values_in (codes "--evaluations") items) one.evaluations other.evaluations
     first.evaluations second.evaluations)
 
 -- two commands of one kind
@@ -187,35 +187,35 @@ number_within usual most [] number fits is = omega (arith, fits, is)
 number_within usual most (text ∷ []) number fits is = is.limit
 number_within usual most (text ∷ again ∷ texts) number fits is = absurd is
 
-pub nodes_within : (words : WordList) (planning : Planning) → IsPlainForm words (Plan planning) → planning.nodes ≤ MOST_BRANCHINGS
-nodes_within words planning form = number_within USUAL_NODES_OF_PLAN MOST_BRANCHINGS _ planning.nodes (omega arith) form.meant.nodes
+pub nodes_within : (words : WordList) (planning : Planning) → IsPlainForm words (Plan planning) → planning.nodes ≤ MAX_BRANCHINGS
+nodes_within words planning form = number_within USUAL_NODES_OF_PLAN MAX_BRANCHINGS _ planning.nodes (omega arith) form.meant.nodes
 
-pub rounds_within : (words : WordList) (planning : Planning) → IsPlainForm words (Plan planning) → planning.rounds ≤ MOST_ROUNDS
-rounds_within words planning form = number_within USUAL_ROUNDS_OF_PLAN MOST_ROUNDS _ planning.rounds (omega arith) form.meant.rounds
+pub rounds_within : (words : WordList) (planning : Planning) → IsPlainForm words (Plan planning) → planning.rounds ≤ MAX_ROUNDS
+rounds_within words planning form = number_within USUAL_ROUNDS_OF_PLAN MAX_ROUNDS _ planning.rounds (omega arith) form.meant.rounds
 
-pub replan_change_within : (words : WordList) (replanning : Replanning) → IsPlainForm words (Replan replanning) → replanning.change ≤ MOST_CHANGE
-replan_change_within words replanning form = number_within USUAL_CHANGE MOST_CHANGE _ replanning.change (omega arith) form.meant.change
+pub replan_change_within : (words : WordList) (replanning : Replanning) → IsPlainForm words (Replan replanning) → replanning.change ≤ MAX_CHANGE
+replan_change_within words replanning form = number_within USUAL_CHANGE MAX_CHANGE _ replanning.change (omega arith) form.meant.change
 
 pub replan_nodes_within : (words : WordList) (replanning : Replanning) → IsPlainForm words (Replan replanning)
-    → replanning.nodes ≤ MOST_BRANCHINGS
+    → replanning.nodes ≤ MAX_BRANCHINGS
 replan_nodes_within words replanning form =
-    number_within USUAL_NODES_OF_REPLAN MOST_BRANCHINGS _ replanning.nodes (omega arith) form.meant.nodes
+    number_within USUAL_NODES_OF_REPLAN MAX_BRANCHINGS _ replanning.nodes (omega arith) form.meant.nodes
 
 pub replan_rounds_within : (words : WordList) (replanning : Replanning) → IsPlainForm words (Replan replanning)
-    → replanning.rounds ≤ MOST_ROUNDS
+    → replanning.rounds ≤ MAX_ROUNDS
 replan_rounds_within words replanning form =
-    number_within USUAL_ROUNDS_OF_REPLAN MOST_ROUNDS _ replanning.rounds (omega arith) form.meant.rounds
+    number_within USUAL_ROUNDS_OF_REPLAN MAX_ROUNDS _ replanning.rounds (omega arith) form.meant.rounds
 
 pub week_days_within : (words : WordList) (planning : WeekPlanning) → IsPlainForm words (Week planning)
-    → planning.days ≤ MOST_DAYS_OF_WEEK
+    → planning.days ≤ MAX_DAYS_OF_WEEK
 week_days_within words planning form = form.meant.days.limit
 
 pub week_nodes_within : (words : WordList) (planning : WeekPlanning) → IsPlainForm words (Week planning)
-    → planning.nodes ≤ MOST_BRANCHINGS
+    → planning.nodes ≤ MAX_BRANCHINGS
 week_nodes_within words planning form =
-    number_within USUAL_NODES_OF_WEEK MOST_BRANCHINGS _ planning.nodes (omega arith) form.meant.nodes
+    number_within USUAL_NODES_OF_WEEK MAX_BRANCHINGS _ planning.nodes (omega arith) form.meant.nodes
 
 pub week_rounds_within : (words : WordList) (planning : WeekPlanning) → IsPlainForm words (Week planning)
-    → planning.rounds ≤ MOST_ROUNDS
+    → planning.rounds ≤ MAX_ROUNDS
 week_rounds_within words planning form =
-    number_within USUAL_ROUNDS_OF_WEEK MOST_ROUNDS _ planning.rounds (omega arith) form.meant.rounds
+    number_within USUAL_ROUNDS_OF_WEEK MAX_ROUNDS _ planning.rounds (omega arith) form.meant.rounds

@@ -1,20 +1,20 @@
 -- The plain form: how a command is written as words.
 use Rattle.std.specs.Prelude.{ℕ, ◌≡◌, ◌≤◌, List, [], ◌∷◌, codes, nat_le}
-use Rattle.rail_base.specs.declared.limits.TheConstants.{MOST_BRANCHINGS, MOST_CHANGE, MOST_ROUNDS}
+use Rattle.rail_base.specs.declared.limits.TheConstants.{MAX_BRANCHINGS, MAX_CHANGE, MAX_ROUNDS}
 use Rattle.rail_csv.specs.Spelling.{SpellsTime}
 use Rattle.plain_words.specs.Items.{Form, IsPlain, Item, WordList, positional_in, times, values_in}
 use Rattle.plain_words.specs.Numbers.{IsNumber, IsOption}
 use Rattle.desk_commands.specs.declared.command.Command.{Command}
 use Rattle.desk_commands.specs.declared.command.Command.TheVariants.{Plan, Replan, Urgent, Week}
 use Rattle.desk_commands.specs.declared.planning.Planning.{Planning}
-use Rattle.desk_commands.specs.declared.planning.TheConstants.{MOST_EVALUATIONS, USUAL_EVALUATIONS_OF_PLAN}
+use Rattle.desk_commands.specs.declared.planning.TheConstants.{MAX_EVALUATIONS, USUAL_EVALUATIONS_OF_PLAN}
 use Rattle.desk_commands.specs.declared.planning.TheConstants.{USUAL_NODES_OF_PLAN, USUAL_ROUNDS_OF_PLAN}
 use Rattle.desk_commands.specs.declared.replanning.Replanning.{Replanning}
 use Rattle.desk_commands.specs.declared.replanning.TheConstants.{USUAL_CHANGE, USUAL_EVALUATIONS_OF_REPLAN}
 use Rattle.desk_commands.specs.declared.replanning.TheConstants.{USUAL_NODES_OF_REPLAN, USUAL_ROUNDS_OF_REPLAN}
 use Rattle.desk_commands.specs.declared.swapping.Swapping.{Swapping}
 use Rattle.desk_commands.specs.declared.week_planning.WeekPlanning.{WeekPlanning}
-use Rattle.desk_commands.specs.declared.week_planning.TheConstants.{MOST_DAYS_OF_WEEK, USUAL_EVALUATIONS_OF_WEEK}
+use Rattle.desk_commands.specs.declared.week_planning.TheConstants.{MAX_DAYS_OF_WEEK, USUAL_EVALUATIONS_OF_WEEK}
 use Rattle.desk_commands.specs.declared.week_planning.TheConstants.{USUAL_NODES_OF_WEEK, USUAL_ROUNDS_OF_WEEK}
 
 -- ---- what stands after the command word
@@ -57,9 +57,9 @@ form_for (Week planning) = week_form
 -- how a day is to be planned: its folder, what is granted, and whether the progress is told
 pub record IsPlanning (items : List Item) (planning : Planning) : Type 0 where
   pub dir : positional_in items ≡ planning.dir ∷ []
-  pub nodes : IsOption USUAL_NODES_OF_PLAN MOST_BRANCHINGS (values_in (codes "--nodes") items) planning.nodes
-  pub rounds : IsOption USUAL_ROUNDS_OF_PLAN MOST_ROUNDS (values_in (codes "--rounds") items) planning.rounds
-  pub evaluations : IsOption USUAL_EVALUATIONS_OF_PLAN MOST_EVALUATIONS (values_in (codes "--evaluations") items)
+  pub nodes : IsOption USUAL_NODES_OF_PLAN MAX_BRANCHINGS (values_in (codes "--nodes") items) planning.nodes
+  pub rounds : IsOption USUAL_ROUNDS_OF_PLAN MAX_ROUNDS (values_in (codes "--rounds") items) planning.rounds
+  pub evaluations : IsOption USUAL_EVALUATIONS_OF_PLAN MAX_EVALUATIONS (values_in (codes "--evaluations") items)
       planning.evaluations
   pub progress : planning.tells_progress ≡ nat_le 1 (times (codes "--progress") items)
 
@@ -72,21 +72,21 @@ pub record IsReplanning (items : List Item) (replanning : Replanning) : Type 0 w
   pub time : List ℕ
   pub places : positional_in items ≡ replanning.dir ∷ time ∷ []
   pub minute : SpellsTime time replanning.minute
-  pub change : IsOption USUAL_CHANGE MOST_CHANGE (values_in (codes "--change") items) replanning.change
-  pub nodes : IsOption USUAL_NODES_OF_REPLAN MOST_BRANCHINGS (values_in (codes "--nodes") items) replanning.nodes
-  pub rounds : IsOption USUAL_ROUNDS_OF_REPLAN MOST_ROUNDS (values_in (codes "--rounds") items) replanning.rounds
-  pub evaluations : IsOption USUAL_EVALUATIONS_OF_REPLAN MOST_EVALUATIONS (values_in (codes "--evaluations") items)
+  pub change : IsOption USUAL_CHANGE MAX_CHANGE (values_in (codes "--change") items) replanning.change
+  pub nodes : IsOption USUAL_NODES_OF_REPLAN MAX_BRANCHINGS (values_in (codes "--nodes") items) replanning.nodes
+  pub rounds : IsOption USUAL_ROUNDS_OF_REPLAN MAX_ROUNDS (values_in (codes "--rounds") items) replanning.rounds
+  pub evaluations : IsOption USUAL_EVALUATIONS_OF_REPLAN MAX_EVALUATIONS (values_in (codes "--evaluations") items)
       replanning.evaluations
 
 -- how a week is to be planned: its folder, its days, and what is granted
 pub record IsWeekPlanning (items : List Item) (planning : WeekPlanning) : Type 0 where
   pub number : List ℕ
   pub places : positional_in items ≡ planning.dir ∷ number ∷ []
-  pub days : IsNumber MOST_DAYS_OF_WEEK number planning.days
+  pub days : IsNumber MAX_DAYS_OF_WEEK number planning.days
   pub some : 1 ≤ planning.days
-  pub nodes : IsOption USUAL_NODES_OF_WEEK MOST_BRANCHINGS (values_in (codes "--nodes") items) planning.nodes
-  pub rounds : IsOption USUAL_ROUNDS_OF_WEEK MOST_ROUNDS (values_in (codes "--rounds") items) planning.rounds
-  pub evaluations : IsOption USUAL_EVALUATIONS_OF_WEEK MOST_EVALUATIONS (values_in (codes "--evaluations") items)
+  pub nodes : IsOption USUAL_NODES_OF_WEEK MAX_BRANCHINGS (values_in (codes "--nodes") items) planning.nodes
+  pub rounds : IsOption USUAL_ROUNDS_OF_WEEK MAX_ROUNDS (values_in (codes "--rounds") items) planning.rounds
+  pub evaluations : IsOption USUAL_EVALUATIONS_OF_WEEK MAX_EVALUATIONS (values_in (codes "--evaluations") items)
       planning.evaluations
 
 abbrev pub IsMeant : List Item → Command → Type 0

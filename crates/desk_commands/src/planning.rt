@@ -18,7 +18,7 @@ pub struct Planning {
 }
 
 /// Evaluations of the bound that an improver may be granted at the root.
-pub const MOST_EVALUATIONS: u32 = 100_000;
+pub const MAX_EVALUATIONS: u32 = 100_000;
 /// Branchings that `plan` is granted where the words say nothing of them.
 pub const USUAL_NODES_OF_PLAN: u32 = 200;
 /// Rounds of advice at each node of `plan` where the words say nothing of them.

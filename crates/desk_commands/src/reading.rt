@@ -9,8 +9,7 @@ ghost use Rattle.desk_commands.specs.Reading.{ReadsAs, ReadsCommand, SaysAs};
 
 use crate::command::Command;
 use crate::planning::{
-    MOST_EVALUATIONS, Planning, USUAL_EVALUATIONS_OF_PLAN, USUAL_NODES_OF_PLAN,
-    USUAL_ROUNDS_OF_PLAN,
+    MAX_EVALUATIONS, Planning, USUAL_EVALUATIONS_OF_PLAN, USUAL_NODES_OF_PLAN, USUAL_ROUNDS_OF_PLAN,
 };
 use crate::replanning::{
     Replanning, USUAL_CHANGE, USUAL_EVALUATIONS_OF_REPLAN, USUAL_NODES_OF_REPLAN,
@@ -18,11 +17,11 @@ use crate::replanning::{
 };
 use crate::swapping::Swapping;
 use crate::week_planning::{
-    MOST_DAYS_OF_WEEK, USUAL_EVALUATIONS_OF_WEEK, USUAL_NODES_OF_WEEK, USUAL_ROUNDS_OF_WEEK,
+    MAX_DAYS_OF_WEEK, USUAL_EVALUATIONS_OF_WEEK, USUAL_NODES_OF_WEEK, USUAL_ROUNDS_OF_WEEK,
     WeekPlanning,
 };
 use plain_words::{Form, GivenWords, Text, WordsRefusal, number, read_form, words_after};
-use rail_base::limits::{MOST_BRANCHINGS, MOST_CHANGE, MOST_ROUNDS};
+use rail_base::limits::{MAX_BRANCHINGS, MAX_CHANGE, MAX_ROUNDS};
 use rail_base::{NoMemory, Words};
 use rail_csv::time_of;
 use std::alloc::Global;
@@ -132,14 +131,14 @@ fn planning_of(alloc: Global, given: &GivenWords<'_>) -> Result<Option<Planning>
     let Some(dir) = given.positional(0) else {
         return Ok(None);
     };
-    let Some(nodes) = given.number("--nodes", USUAL_NODES_OF_PLAN, MOST_BRANCHINGS) else {
+    let Some(nodes) = given.number("--nodes", USUAL_NODES_OF_PLAN, MAX_BRANCHINGS) else {
         return Ok(None);
     };
-    let Some(rounds) = given.number("--rounds", USUAL_ROUNDS_OF_PLAN, MOST_ROUNDS) else {
+    let Some(rounds) = given.number("--rounds", USUAL_ROUNDS_OF_PLAN, MAX_ROUNDS) else {
         return Ok(None);
     };
     let usual = USUAL_EVALUATIONS_OF_PLAN;
-    let Some(evaluations) = given.number("--evaluations", usual, MOST_EVALUATIONS) else {
+    let Some(evaluations) = given.number("--evaluations", usual, MAX_EVALUATIONS) else {
         return Ok(None);
     };
     Ok(Some(Planning {
@@ -211,17 +210,17 @@ fn replanning_of(alloc: Global, given: &GivenWords<'_>) -> Result<Option<Replann
     let Some(minute) = time_of(word.as_bytes()) else {
         return Ok(None);
     };
-    let Some(change) = given.number("--change", USUAL_CHANGE, MOST_CHANGE) else {
+    let Some(change) = given.number("--change", USUAL_CHANGE, MAX_CHANGE) else {
         return Ok(None);
     };
-    let Some(nodes) = given.number("--nodes", USUAL_NODES_OF_REPLAN, MOST_BRANCHINGS) else {
+    let Some(nodes) = given.number("--nodes", USUAL_NODES_OF_REPLAN, MAX_BRANCHINGS) else {
         return Ok(None);
     };
-    let Some(rounds) = given.number("--rounds", USUAL_ROUNDS_OF_REPLAN, MOST_ROUNDS) else {
+    let Some(rounds) = given.number("--rounds", USUAL_ROUNDS_OF_REPLAN, MAX_ROUNDS) else {
         return Ok(None);
     };
     let usual = USUAL_EVALUATIONS_OF_REPLAN;
-    let Some(evaluations) = given.number("--evaluations", usual, MOST_EVALUATIONS) else {
+    let Some(evaluations) = given.number("--evaluations", usual, MAX_EVALUATIONS) else {
         return Ok(None);
     };
     Ok(Some(Replanning {
@@ -263,20 +262,20 @@ fn week_planning_of(alloc: Global, given: &GivenWords<'_>) -> Result<Option<Week
     let Some(word) = given.positional(1) else {
         return Ok(None);
     };
-    let Some(days) = number(word.as_bytes(), MOST_DAYS_OF_WEEK) else {
+    let Some(days) = number(word.as_bytes(), MAX_DAYS_OF_WEEK) else {
         return Ok(None);
     };
     if days == 0 {
         return Ok(None);
     }
-    let Some(nodes) = given.number("--nodes", USUAL_NODES_OF_WEEK, MOST_BRANCHINGS) else {
+    let Some(nodes) = given.number("--nodes", USUAL_NODES_OF_WEEK, MAX_BRANCHINGS) else {
         return Ok(None);
     };
-    let Some(rounds) = given.number("--rounds", USUAL_ROUNDS_OF_WEEK, MOST_ROUNDS) else {
+    let Some(rounds) = given.number("--rounds", USUAL_ROUNDS_OF_WEEK, MAX_ROUNDS) else {
         return Ok(None);
     };
     let usual = USUAL_EVALUATIONS_OF_WEEK;
-    let Some(evaluations) = given.number("--evaluations", usual, MOST_EVALUATIONS) else {
+    let Some(evaluations) = given.number("--evaluations", usual, MAX_EVALUATIONS) else {
         return Ok(None);
     };
     Ok(Some(WeekPlanning {

@@ -19,7 +19,7 @@ pub struct WeekPlanning {
 }
 
 /// The days that `week` may be asked for.
-pub const MOST_DAYS_OF_WEEK: u32 = 7;
+pub const MAX_DAYS_OF_WEEK: u32 = 7;
 /// Branchings that `week` is granted for each day where the words say nothing of them.
 pub const USUAL_NODES_OF_WEEK: u32 = 200;
 /// Rounds of advice at each node of `week` where the words say nothing of them.

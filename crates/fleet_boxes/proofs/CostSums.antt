@@ -2,9 +2,9 @@
 use Rattle.std.proofs.Common.{◌≡◌, ◌∙◌, ℕ, zero, suc, ◌+◌, ◌*◌, ◌≤◌, List, [], ◌∷◌, take, Some, slice_get, sym, ap, arith}
 use Rattle.std.proofs.Math.Nat.{mul-le-mul_left}
 use Rattle.std.proofs.lemmas.Option.{get_or_from_slice_get, slice_get_within}
-use Rattle.rail_base.specs.declared.limits.TheConstants.{MOST_UNITS}
+use Rattle.rail_base.specs.declared.limits.TheConstants.{MAX_UNITS}
 use Rattle.fleets.specs.Fleets.{fleet_size}
-use Rattle.fleet_boxes.specs.declared.prices.TheConstants.{MOST_PRICE}
+use Rattle.fleet_boxes.specs.declared.prices.TheConstants.{MAX_PRICE}
 use Rattle.fleet_boxes.specs.Prices.{cost_from, fleet_cost, price_at}
 
 -- one place more
@@ -44,11 +44,11 @@ part_size (suc k) [] = omega arith
 part_size (suc k) (x ∷ fleet) = let rest = part_size k fleet in omega arith
 
 -- a step of the sum keeps within what so many units can cost
-pub still_few : (cost size n price : ℕ) → cost ≤ MOST_PRICE * size → price ≤ MOST_PRICE → cost + n * price ≤ MOST_PRICE * (size + n)
+pub still_few : (cost size n price : ℕ) → cost ≤ MAX_PRICE * size → price ≤ MAX_PRICE → cost + n * price ≤ MAX_PRICE * (size + n)
 still_few cost size n price few low =
-    let one : n * price ≤ n * MOST_PRICE = mul-le-mul_left n low in
+    let one : n * price ≤ n * MAX_PRICE = mul-le-mul_left n low in
     omega arith
 
 -- so it keeps within what all units that a day may have can cost
-pub few_costs : (cost size n price most : ℕ) → cost ≤ MOST_PRICE * size → price ≤ MOST_PRICE → size + n ≤ most → most ≤ MOST_UNITS → cost + n * price ≤ 1999999998000
+pub few_costs : (cost size n price most : ℕ) → cost ≤ MAX_PRICE * size → price ≤ MAX_PRICE → size + n ≤ most → most ≤ MAX_UNITS → cost + n * price ≤ 1999999998000
 few_costs cost size n price most few low units all = let step = still_few cost size n price few low in omega arith

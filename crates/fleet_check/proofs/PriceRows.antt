@@ -10,10 +10,10 @@ use Rattle.rules.specs.declared.records.UnitType.{UnitType}
 use Rattle.rail_csv.specs.Columns.{field}
 use Rattle.rail_csv.specs.Fields.{are_digits, is_number, number_of}
 use Rattle.rail_csv.specs.Records.{Records, ReadsOn, Took, records_left}
-use Rattle.rail_csv.specs.declared.limits.TheConstants.{MOST_NUMBER_DIGITS}
+use Rattle.rail_csv.specs.declared.limits.TheConstants.{MAX_NUMBER_DIGITS}
 use Rattle.rail_csv.proofs.Numerals.{number_fits}
 use Rattle.timetable.specs.Day.{Day}
-use Rattle.fleet_boxes.specs.declared.prices.TheConstants.{MOST_PRICE}
+use Rattle.fleet_boxes.specs.declared.prices.TheConstants.{MAX_PRICE}
 use Rattle.fleet_check.specs.PriceTables.{AreAllRight, AreRight, IsFirstBad, IsMissing, SpellsPrice}
 
 -- ---- what records spell
@@ -195,19 +195,19 @@ row_missing day all left costs number so_far below none =
 
 -- ---- costs are within the limit
 
-few_number : (text : List ℕ) (number : ℕ) → IsTrue (is_number text) → number_of text ≡ number → number ≤ MOST_PRICE
+few_number : (text : List ℕ) (number : ℕ) → IsTrue (is_number text) → number_of text ≡ number → number ≤ MAX_PRICE
 few_number text number is spelled =
-    let parts = and_parts (nat_le 1 (length text) && nat_le (length text) MOST_NUMBER_DIGITS) (are_digits text) is in
-    let short = and_parts (nat_le 1 (length text)) (nat_le (length text) MOST_NUMBER_DIGITS) parts.0 in
+    let parts = and_parts (nat_le 1 (length text) && nat_le (length text) MAX_NUMBER_DIGITS) (are_digits text) is in
+    let short = and_parts (nat_le 1 (length text)) (nat_le (length text) MAX_NUMBER_DIGITS) parts.0 in
     let below : number_of text < 1000000000 = number_fits text 9 (leb-true (length text) 9 short.1) parts.1 in
     omega (arith, below, spelled)
 
 pub few_costs : (records : List (List (List ℕ))) (types : List UnitType) (costs : List ℕ) → AreRight records types costs
-    → All (λ cost. cost ≤ MOST_PRICE) costs
-few_costs [] types [] right = All-nil (λ cost. cost ≤ MOST_PRICE)
+    → All (λ cost. cost ≤ MAX_PRICE) costs
+few_costs [] types [] right = All-nil (λ cost. cost ≤ MAX_PRICE)
 few_costs [] types (cost ∷ costs) right = absurd right
 few_costs (r ∷ records) [] costs right = absurd right
 few_costs (r ∷ records) (t ∷ types) [] right = absurd right
 few_costs (r ∷ records) (t ∷ types) (cost ∷ costs) right =
-    All-cons (λ cost. cost ≤ MOST_PRICE) cost costs (few_number (field r 1) cost right.0.number.0 right.0.number.1)
+    All-cons (λ cost. cost ≤ MAX_PRICE) cost costs (few_number (field r 1) cost right.0.number.0 right.0.number.1)
     (few_costs records types costs right.1)

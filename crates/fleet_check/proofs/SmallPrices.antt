@@ -20,7 +20,7 @@ use Rattle.branch_tree.specs.Meanings.{priced}
 use Rattle.branch_tree.specs.Regions.{root_of}
 use Rattle.branch_tree.specs.Trees.{KeepLimits, Walks, bounds_of, cut_of, multipliers_of, regions_below}
 use Rattle.branch_tree.proofs.Roots.{solutions_lie_in_roots}
-use Rattle.price_bound.specs.declared.sizes.TheConstants.{MOST_VALUE}
+use Rattle.price_bound.specs.declared.sizes.TheConstants.{MAX_PRICED_VALUE}
 use Rattle.price_bound.specs.DayMeanings.{meanings_of}
 use Rattle.price_bound.specs.FollowingPicks.{Follow}
 use Rattle.price_bound.proofs.Planned.{plans_have_picks, solved_by}
@@ -30,7 +30,7 @@ use Rattle.price_bound.proofs.Whole.{relaxes}
 -- ---- bounds that are proved
 
 abbrev pub IsSmallAmount : ℤ → Type 0
-IsSmallAmount amount = unsigned_abs amount < MOST_VALUE
+IsSmallAmount amount = unsigned_abs amount < MAX_PRICED_VALUE
 
 module _ (day : Day) (sound : IsSoundDay day) where
   small_at : (region : List (List Bool)) (entries : List Entry) (value : ℤ) → AreMultipliers entries
@@ -65,15 +65,15 @@ module _ (day : Day) (sound : IsSoundDay day) where
       subst IsSmallAmount e (small_bounds (root_of day ∷ []) nodes proved.bounds keeps k bound lt)
 
   -- the cost of a plan that runs
-  pub plan_cost_is_small : (plan : List (List ℕ)) → Runs day plan → plan_cost day plan < MOST_VALUE
+  pub plan_cost_is_small : (plan : List (List ℕ)) → Runs day plan → plan_cost day plan < MAX_PRICED_VALUE
   plan_cost_is_small plan runs =
       let some = plans_have_picks day plan runs in
       let solves : IsSolution day some.0 = solved_by day plan some.0 some.1 in
       let inside = solutions_lie_in_roots day some.0 sound solves in
       let follow : Follow day some.0 = (relaxes day sound).near_follow some.0 (root_of day) ((relaxes day sound).solution_near some.0 (root_of day) solves inside) in
-      let small : unsigned_abs (priced (meanings_of day) [] Cost some.0) < MOST_VALUE = values_are_small day some.0 [] Cost sound follow none in
+      let small : unsigned_abs (priced (meanings_of day) [] Cost some.0) < MAX_PRICED_VALUE = values_are_small day some.0 [] Cost sound follow none in
       alone (plan_cost day plan)
-      (subst (λ (n : ℕ). unsigned_abs (pos n +ℤ pos 0) < MOST_VALUE) (ap (cost_of day) some.1.types) small)
+      (subst (λ (n : ℕ). unsigned_abs (pos n +ℤ pos 0) < MAX_PRICED_VALUE) (ap (cost_of day) some.1.types) small)
     where
       none : AreMultipliers []
       none = record {
@@ -83,10 +83,10 @@ module _ (day : Day) (sound : IsSoundDay day) where
         few = omega arith;
       }
 
-      alone : (n : ℕ) → unsigned_abs (pos n +ℤ pos 0) < MOST_VALUE → n < MOST_VALUE
+      alone : (n : ℕ) → unsigned_abs (pos n +ℤ pos 0) < MAX_PRICED_VALUE → n < MAX_PRICED_VALUE
       alone n below =
           let same : pos n +ℤ pos 0 ≡ pos n = omega (arith, ints) in
-          let known : unsigned_abs (pos n) < MOST_VALUE = subst (λ (z : ℤ). unsigned_abs z < MOST_VALUE) same below in known
+          let known : unsigned_abs (pos n) < MAX_PRICED_VALUE = subst (λ (z : ℤ). unsigned_abs z < MAX_PRICED_VALUE) same below in known
 
 -- an amount that is a number is as small
 pub small_number : (amount : ℤ) (n most : ℕ) → amount ≡ pos n → n ≤ most → unsigned_abs amount ≤ most

@@ -3,14 +3,14 @@
 ghost use Rattle.std.specs.Prelude.{◌≡◌, ◌≤◌, ◌∷◌, [], length, IfOk, IfErr};
 ghost use Rattle.timetable.specs.DayTables.{IsDayOfBytes};
 ghost use Rattle.fleet_boxes.specs.Boxes.{box_of};
-ghost use Rattle.fleet_check.specs.declared.found.TheConstants.{MOST_BOX_NODES};
+ghost use Rattle.fleet_check.specs.declared.found.TheConstants.{MAX_BOX_NODES};
 ghost use Rattle.fleet_check.specs.Tests.{StopsAt};
 ghost use Rattle.fleet_check.specs.Verdicts.{IsWhole, tests_from};
 ghost use Rattle.fleet_check.specs.Walks.{AreLeavesOf};
 
 use crate::boxes::{box_of, wait_for_parts};
 use crate::day_of_tables::DayOfTables;
-use crate::found::MOST_BOX_NODES;
+use crate::found::MAX_BOX_NODES;
 use crate::leaves::{Leaves, with_node};
 use crate::proved_nodes::test_node;
 use crate::verdict::Stop;
@@ -27,7 +27,7 @@ pub(crate) fn test_nodes(
 ) -> Result<Leaves, Stop>
     requires made { IsDayOfBytes tables.now.bytes.now tables.now.instance.now }
     requires prices { length prices.now ≡ length tables.now.instance.now.types }
-    requires few { length nodes.now ≤ MOST_BOX_NODES }
+    requires few { length nodes.now ≤ MAX_BOX_NODES }
     requires whole { IsWhole nodes.now }
     ensures leaves { IfOk result (AreLeavesOf tables.now.instance.now prices.now nodes.now) }
     ensures stops { IfErr result (StopsAt

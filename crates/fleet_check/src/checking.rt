@@ -3,7 +3,7 @@
 ghost use Rattle.std.specs.Prelude.{ℤ, ◌≤ℤ◌, List, All, ◌≡◌, ◌≢◌, ◌≤◌, ◌∷◌, ◌↔◌, [], length, IfOk, IfErr, IsTrue, Some};
 ghost use Rattle.timetable.specs.DayTables.{IsDayOfBytes};
 ghost use Rattle.branch_tree.specs.Trees.{IsLeastOf};
-ghost use Rattle.fleet_check.specs.declared.found.TheConstants.{MOST_BOX_NODES};
+ghost use Rattle.fleet_check.specs.declared.found.TheConstants.{MAX_BOX_NODES};
 ghost use Rattle.fleet_check.specs.Heads.{DoesFollow, IsTrueOfFleets};
 ghost use Rattle.fleet_check.specs.Tests.{StopsAt};
 ghost use Rattle.fleet_check.specs.Verdicts.{DoesHeadFail, IsValid, IsVerdict, fleet_tests};
@@ -11,7 +11,7 @@ ghost use Rattle.fleet_check.specs.Verdicts.{DoesHeadFail, IsValid, IsVerdict, f
 use crate::box_trees::test_nodes;
 use crate::chosen::test_chosen;
 use crate::day_of_tables::DayOfTables;
-use crate::found::{Fleet, MOST_BOX_NODES};
+use crate::found::{Fleet, MAX_BOX_NODES};
 use crate::shape::test_shape;
 use crate::verdict::{FleetVerdict, Stop};
 use answer_text::Head;
@@ -26,7 +26,7 @@ use std::alloc::Global;
 /// all fleets and the plans that run with them, whoever wrote it: each leaf's tree is recomputed for the day with the
 /// greatest fleet of its box.
 ///
-/// The day is that of the tables, the prices are those of its types, and there are at most `MOST_BOX_NODES` nodes. How
+/// The day is that of the tables, the prices are those of its types, and there are at most `MAX_BOX_NODES` nodes. How
 /// many splits and branchings were granted is not known here. The error is want of memory.
 pub fn check_fleet(
     alloc: Global,
@@ -36,7 +36,7 @@ pub fn check_fleet(
 ) -> Result<FleetVerdict, NoMemory>
     requires made { IsDayOfBytes tables.now.bytes.now tables.now.instance.now }
     requires prices { length prices.now ≡ length tables.now.instance.now.types }
-    requires few { length fleet.now.boxes ≤ MOST_BOX_NODES }
+    requires few { length fleet.now.boxes ≤ MAX_BOX_NODES }
     ensures verdict { IfOk result (IsVerdict tables.now.instance.now prices.now fleet.now) }
     ensures holds { IfOk result (λ verdict. verdict ≡ FleetVerdict.Valid →
         IsTrueOfFleets tables.now.instance.now prices.now fleet.now.head fleet.now.chosen) }
@@ -59,7 +59,7 @@ fn test_all(
 ) -> Result<(), Stop>
     requires made { IsDayOfBytes tables.now.bytes.now tables.now.instance.now }
     requires prices { length prices.now ≡ length tables.now.instance.now.types }
-    requires few { length fleet.now.boxes ≤ MOST_BOX_NODES }
+    requires few { length fleet.now.boxes ≤ MAX_BOX_NODES }
     ensures valid { IfOk result (λ _. IsValid tables.now.instance.now prices.now fleet.now) }
     ensures stops { IfErr result (StopsAt (fleet_tests tables.now.instance.now prices.now fleet.now)) }
 {

@@ -15,10 +15,10 @@ pub struct Chosen {
 }
 
 /// The most splits that a search for a fleet may be granted.
-pub const MOST_SPLITS: u32 = 200;
+pub const MAX_SPLITS: u32 = 200;
 
 /// The most nodes that its boxes then have: a split adds two.
-pub const MOST_BOX_NODES: u32 = 401;
+pub const MAX_BOX_NODES: u32 = 401;
 
 /// What is found of all fleets of a day.
 #[derive(Drop)]

@@ -9,12 +9,12 @@ ghost use Rattle.price_bound.specs.DayMeanings.{meanings_of};
 ghost use Rattle.fleets.specs.Fleets.{with_fleet};
 ghost use Rattle.fleet_boxes.specs.Prices.{fleet_cost};
 ghost use Rattle.fleet_boxes.specs.ProvedBoxes.{IsProvedAt, values_in};
-ghost use Rattle.fleet_check.specs.declared.found.TheConstants.{MOST_BOX_NODES};
+ghost use Rattle.fleet_check.specs.declared.found.TheConstants.{MAX_BOX_NODES};
 ghost use Rattle.fleet_check.specs.Verdicts.{splits_in};
 ghost use Rattle.fleet_check.specs.Walks.{IsBoxOf};
 
 use crate::amounts::with_units;
-use crate::found::MOST_BOX_NODES;
+use crate::found::MAX_BOX_NODES;
 use branch_tree::Tree;
 use fleet_boxes::{BoxNode, FleetBox, Prices};
 use rail_base::Money;
@@ -40,7 +40,7 @@ pub(crate) fn with_node(
     requires prices { length prices.now ≡ length instance.now.types }
     requires fits { IsBoxOf instance.now fleets.now }
     requires proved { IsProvedAt instance.now fleets.now node.now }
-    requires few { leaves.splits < MOST_BOX_NODES }
+    requires few { leaves.splits < MAX_BOX_NODES }
     ensures splits { result.splits ≡ leaves.splits + splits_in (node.now ∷ []) }
     ensures least { (values : List ℤ) → IsLeastOf values leaves.least → IsLeastOf
         (values ++ values_in (length instance.now.types) prices.now (fleets.now ∷ []) (node.now ∷ [])) result.least }

@@ -22,7 +22,7 @@ pub use boxes::{box_of, place_of};
 pub use checking::check_fleet;
 pub use chosen::cost_of;
 pub use day_of_tables::DayOfTables;
-pub use found::{Chosen, Fleet, MOST_BOX_NODES, MOST_SPLITS};
+pub use found::{Chosen, Fleet, MAX_BOX_NODES, MAX_SPLITS};
 pub use price_table::read_prices;
 pub use refusal::PriceRefusal;
 pub use verdict::FleetVerdict;

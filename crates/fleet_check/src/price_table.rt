@@ -11,19 +11,19 @@ use compositions::UnitType;
 use csv::{ByteRecord, ByteRecordsIntoIter};
 use fleet_boxes::Prices;
 use rail_base::TypeNo;
-use rail_base::limits::MOST_TABLE_BYTES;
+use rail_base::limits::MAX_TABLE_BYTES;
 use rail_csv::{field_bytes, is_header, next_record, number_of, records_in};
 use std::alloc::Global;
 use timetable::Instance;
 
 /// Reads the table of prices of a day. Its columns are `type,cost`, and row k, counted from 1, has the name of type
-/// k - 1 and the cost of one unit of it. The bytes are at most `MOST_TABLE_BYTES`.
+/// k - 1 and the cost of one unit of it. The bytes are at most `MAX_TABLE_BYTES`.
 ///
 /// Refusals, the first that holds: `WrongHeader`, where the first record is missing or another; `BadRow`, with the
 /// first row that does not have two fields, does not name its type, has no number for its cost, or has no type left;
 /// `MissingRow`, with the number of the last row, where types are left. `NoMemory` may come at any of them.
 pub fn read_prices(alloc: Global, instance: &Instance, bytes: &[u8]) -> Result<Prices, PriceRefusal>
-    requires { length bytes.now ≤ MOST_TABLE_BYTES }
+    requires { length bytes.now ≤ MAX_TABLE_BYTES }
     ensures prices { IfOk result (λ prices. ArePricesOf instance.now bytes.now prices) }
     ensures refusal { IfErr result (λ refusal. IsPriceRefusal instance.now bytes.now refusal) }
 {

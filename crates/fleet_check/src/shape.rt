@@ -1,17 +1,17 @@
 //! The test of the nodes as a list: that they are one whole tree.
 
 ghost use Rattle.std.specs.Prelude.{◌≡◌, ◌≤◌, ◌∷◌, [], length, IfOk, IfErr};
-ghost use Rattle.fleet_check.specs.declared.found.TheConstants.{MOST_BOX_NODES};
+ghost use Rattle.fleet_check.specs.declared.found.TheConstants.{MAX_BOX_NODES};
 ghost use Rattle.fleet_check.specs.Tests.{StopsAt};
 ghost use Rattle.fleet_check.specs.Verdicts.{IsMisshapen, IsWhole};
 
-use crate::found::MOST_BOX_NODES;
+use crate::found::MAX_BOX_NODES;
 use crate::verdict::{FleetVerdict, Stop};
 use fleet_boxes::BoxNode;
 
 /// Tests that nodes are one whole tree in preorder.
 pub(crate) fn test_shape(nodes: &[BoxNode]) -> Result<(), Stop>
-    requires { length nodes.now ≤ MOST_BOX_NODES }
+    requires { length nodes.now ≤ MAX_BOX_NODES }
     ensures whole { IfOk result (λ _. IsWhole nodes.now) }
     ensures stops { IfErr result (StopsAt (IsMisshapen nodes.now ∷ [])) }
 {

@@ -8,7 +8,7 @@ use Rattle.timetable.specs.Accepted.{IsSoundDay}
 use Rattle.timetable.specs.Day.{Day}
 use Rattle.branch_tree.specs.declared.tree.Node.{Node}
 use Rattle.branch_tree.specs.declared.tree.Node.TheVariants.{Branch, CostLeaf, RayLeaf, EmptyLeaf}
-use Rattle.branch_tree.specs.Claims.{Conclusion, EndsInTime, HasOpenLeaf, IsNotEvidentAt, IsOpen, IsPlanIn, IsProved, Priced, DoBound, plan_of}
+use Rattle.branch_tree.specs.Claims.{Conclusion, EndsInTime, HasOpenLeaf, IsNotEvidentAt, IsOpen, IsPlanIn, IsProved, CostedPicks, DoBound, concluded_plan}
 use Rattle.branch_tree.specs.Claims.{bounded, bounded_plan, infeasible, optimal}
 use Rattle.branch_tree.specs.Meanings.{IsRelaxation, Meanings}
 use Rattle.branch_tree.specs.Regions.{choices_of, root_of}
@@ -95,7 +95,7 @@ least_of x [] = least_of_one x
 least_of x (y ∷ ys) = let rest : HasLeast (y ∷ ys) = least_of y ys in least_with x (y ∷ ys) rest.least rest.is (int_lt x rest.least) refl
 
 concluded_else : (problem : Meanings) (root : List (List Bool)) (one other : Conclusion) (branchings : ℕ) (nodes : List Node) → IsProved problem root one branchings nodes
-    → MatchOption (plan_of other) (Unit {0}) (IsPlanIn problem root) → DoBound (bounds_of nodes) other → IsProved problem root other branchings nodes
+    → MatchOption (concluded_plan other) (Unit {0}) (IsPlanIn problem root) → DoBound (bounds_of nodes) other → IsProved problem root other branchings nodes
 concluded_else problem root one other branchings nodes proved plan head = record {
   whole = proved.whole;
   proper = proved.proper;
@@ -107,7 +107,7 @@ concluded_else problem root one other branchings nodes proved plan head = record
   head = head;
 }
 
-pub optimal_is_bounded : (problem : Meanings) → IsRelaxation problem → (root : List (List Bool)) (plan : Priced) (branchings : ℕ) (nodes : List Node)
+pub optimal_is_bounded : (problem : Meanings) → IsRelaxation problem → (root : List (List Bool)) (plan : CostedPicks) (branchings : ℕ) (nodes : List Node)
     → IsProved problem root (optimal plan) branchings nodes → IsProved problem root (bounded plan.cost) branchings nodes
 optimal_is_bounded problem relaxation root plan branchings nodes proved = at (bounds_of nodes) refl
   where
@@ -153,13 +153,13 @@ below_both : (value bound cost : ℤ) → bound <ℤ cost → int_lt value (boun
 below_both value bound cost less is = omega (arith, ints, less, is)
 
 -- and where the bound is below the cost of the plan
-open_with_plan : (bound : ℤ) (plan : Priced) (node : Node) → bound <ℤ plan.cost → IsOpen (Some (record { cost = bound +ℤ pos 1; picks = [] })) node → IsOpen (Some plan) node
+open_with_plan : (bound : ℤ) (plan : CostedPicks) (node : Node) → bound <ℤ plan.cost → IsOpen (Some (record { cost = bound +ℤ pos 1; picks = [] })) node → IsOpen (Some plan) node
 open_with_plan bound plan (Branch cut) below opens = opens
 open_with_plan bound plan (CostLeaf value multipliers) below opens = less_is_true value.0 plan.cost (below_both value.0 bound plan.cost below opens)
 open_with_plan bound plan (RayLeaf multipliers) below opens = opens
 open_with_plan bound plan EmptyLeaf below opens = opens
 
-open_is_above : (bound : ℤ) (plan : Priced) (nodes : List Node) → All (λ number. bound ≤ℤ number) (bounds_of nodes) → HasOpenLeaf (Some plan) nodes → bound <ℤ plan.cost
+open_is_above : (bound : ℤ) (plan : CostedPicks) (nodes : List Node) → All (λ number. bound ≤ℤ number) (bounds_of nodes) → HasOpenLeaf (Some plan) nodes → bound <ℤ plan.cost
 open_is_above bound plan [] all some = absurd (omega (arith, some))
 open_is_above bound plan (Branch cut ∷ nodes) all some = open_is_above bound plan nodes all (omega (arith, some))
 open_is_above bound plan (CostLeaf value multipliers ∷ nodes) all some = at (int_lt value.0 plan.cost) refl
@@ -186,7 +186,7 @@ module _ (day : Day) (prices : List ℕ) (grant : ℕ) (price : Option ℤ) (box
   abbrev at_most : Day
   at_most = with_fleet box.greatest day
 
-  searched : (bound : ℤ) (nodes : List Node) (plan : Option Priced) → branchings_of nodes ≡ grant → EndsInTime (meanings_of at_most) (root_of at_most) plan nodes
+  searched : (bound : ℤ) (nodes : List Node) (plan : Option CostedPicks) → branchings_of nodes ≡ grant → EndsInTime (meanings_of at_most) (root_of at_most) plan nodes
       → ((node : Node) → IsOpen (Some (record { cost = bound +ℤ pos 1; picks = [] })) node → IsOpen plan node)
       → IsSearched day grant (record { fleets = box; bound = bound; tree = nodes })
   searched bound nodes plan all ends opens = record {
@@ -199,9 +199,9 @@ module _ (day : Day) (prices : List ℕ) (grant : ℕ) (price : Option ℤ) (box
 
   pub node_is_of_kind : (head : Head) (picks : List ℕ) (branchings : ℕ) (nodes : List Node)
       → IsProved (meanings_of at_most) (root_of at_most) (conclusion_of head picks) branchings nodes
-      → (IsSome (bound_said head) → (branchings_of nodes ≡ grant) × HasOpenLeaf (plan_of (conclusion_of head picks)) nodes)
+      → (IsSome (bound_said head) → (branchings_of nodes ≡ grant) × HasOpenLeaf (concluded_plan (conclusion_of head picks)) nodes)
       → (choices_of (root_of at_most) ≤ grant + 1 → bound_said head ≡ None)
-      → EndsInTime (meanings_of at_most) (root_of at_most) (plan_of (conclusion_of head picks)) nodes
+      → EndsInTime (meanings_of at_most) (root_of at_most) (concluded_plan (conclusion_of head picks)) nodes
       → IsTaken prices box.greatest head price
       → IsOfKind day prices grant price box (node_said head branchings nodes)
   node_is_of_kind (Optimal cost) picks branchings nodes proved spent enough ends taken = inl taken
@@ -211,7 +211,7 @@ module _ (day : Day) (prices : List ℕ) (grant : ℕ) (price : Option ℤ) (box
       inr (searched bound.0 nodes None both.0 ends (λ node opens. open_with_none (bound.0 +ℤ pos 1) node opens), λ few. never_none bound.0 (enough few))
   node_is_of_kind (BoundedPlan bound cost) picks branchings nodes proved spent enough ends taken =
       let both = spent refl in
-      let plan : Priced = record { cost = cost.0; picks = picks } in
+      let plan : CostedPicks = record { cost = cost.0; picks = picks } in
       let below : bound.0 <ℤ cost.0 = open_is_above bound.0 plan nodes proved.head.all both.1 in
       inr (searched bound.0 nodes (Some plan) both.0 ends (λ node opens. open_with_plan bound.0 plan node below opens), λ few. never_none bound.0 (enough few))
 

@@ -1,7 +1,7 @@
 -- What a search for a fleet has found, where so many splits, and so many branchings of each tree, are granted.
 use Rattle.std.specs.Prelude.{ℕ, ◌≡◌, ◌+◌, ◌*◌, ◌≤◌, ◌↔◌, ◌⊎◌, List, [], ◌∷◌, ◌++◌, length, All, Any, ℤ, pos}
 use Rattle.std.specs.Prelude.{◌+ℤ◌, ◌≤ℤ◌, ◌<ℤ◌, Option, Some, None, MatchOption, IsSome}
-use Rattle.rail_base.specs.declared.limits.TheConstants.{MOST_ROUNDS}
+use Rattle.rail_base.specs.declared.limits.TheConstants.{MAX_ROUNDS}
 use Rattle.timetable.specs.Day.{Day}
 use Rattle.branch_tree.specs.declared.tree.Node.{Node}
 use Rattle.branch_tree.specs.Claims.{IsRaisedAt, IsNotEvidentAt}
@@ -17,17 +17,17 @@ use Rattle.fleet_boxes.specs.Boxes.{box_of}
 use Rattle.fleet_boxes.specs.Prices.{fleet_cost}
 use Rattle.fleet_boxes.specs.ProvedBoxes.{boxes_below}
 use Rattle.fleet_check.specs.declared.found.Fleet.{Fleet}
-use Rattle.fleet_check.specs.declared.found.TheConstants.{MOST_SPLITS}
+use Rattle.fleet_check.specs.declared.found.TheConstants.{MAX_SPLITS}
 use Rattle.fleet_check.specs.Heads.{IsTrueOfFleets}
 use Rattle.fleet_check.specs.Verdicts.{IsValid, price_said}
 use Rattle.fleet_size.specs.declared.planning.Granted.{Granted}
-use Rattle.fleet_size.specs.declared.planning.TheConstants.{MOST_DAY_BRANCHINGS}
+use Rattle.fleet_size.specs.declared.planning.TheConstants.{MAX_DAY_BRANCHINGS}
 
 -- as much as may be granted
 pub record IsGranted (granted : Granted) : Type 0 where
-  pub branchings : granted.branchings ≤ MOST_DAY_BRANCHINGS
-  pub rounds : granted.rounds ≤ MOST_ROUNDS
-  pub splits : granted.splits ≤ MOST_SPLITS
+  pub branchings : granted.branchings ≤ MAX_DAY_BRANCHINGS
+  pub rounds : granted.rounds ≤ MAX_ROUNDS
+  pub splits : granted.splits ≤ MAX_SPLITS
 
 -- ---- leaves
 

@@ -1,7 +1,7 @@
 -- What the leaves of a search are worth.
 use Rattle.std.specs.Prelude.{ℕ, ◌≡◌, ◌<◌, ◌≤◌, ◌⊎◌, List, [], ◌∷◌, length, All, ℤ, pos, ◌+ℤ◌, int_lt, true}
 use Rattle.std.specs.Prelude.{if◌then◌else◌, Option, Some, None, option_map}
-use Rattle.rail_base.specs.declared.limits.TheConstants.{MOST_UNITS}
+use Rattle.rail_base.specs.declared.limits.TheConstants.{MAX_UNITS}
 use Rattle.rail_base.specs.declared.numbers.Money.{Money}
 use Rattle.branch_tree.specs.Trees.{IsLeastOf}
 use Rattle.fleets.specs.Fleets.{IsNowhereAbove, fleet_size}
@@ -36,7 +36,7 @@ values_at prices (slot ∷ slots) = and_values (value_at prices slot) (values_at
 -- there is a price for the units of its least fleet, and the sums keep within limits
 pub record CanBeValued (prices : List ℕ) (slot : Slot) : Type 0 where
   pub priced : 0 < length slot.fleets.least → 0 < length prices
-  pub few : fleet_size slot.fleets.least ≤ MOST_UNITS
+  pub few : fleet_size slot.fleets.least ≤ MAX_UNITS
   pub small : IsSmall slot.node
   pub ordered : IsNowhereAbove slot.fleets.least slot.fleets.greatest
 

@@ -9,5 +9,5 @@ mod planning;
 mod searching;
 mod slots;
 
-pub use planning::{Granted, MOST_DAY_BRANCHINGS};
+pub use planning::{Granted, MAX_DAY_BRANCHINGS};
 pub use searching::fleet;

@@ -2,7 +2,7 @@
 
 ghost use Rattle.std.specs.Prelude.{int_lt};
 ghost use Rattle.std.specs.Prelude.{◌≡◌, ◌≤◌, ◌≤ℤ◌, ◌+ℤ◌, option_map, pos, length, Some, IfOk, MatchOption, OnOk};
-ghost use Rattle.rail_base.specs.declared.limits.TheConstants.{MOST_COMPOSITION, MOST_TRIPS};
+ghost use Rattle.rail_base.specs.declared.limits.TheConstants.{MAX_COMPOSITION_UNITS, MAX_TRIPS};
 ghost use Rattle.timetable.specs.DayTables.{IsDayOfBytes};
 ghost use Rattle.answer_text.specs.Limits.{IsAmount, IsHead};
 ghost use Rattle.answer_check.specs.Headline.{IsTrueOf};
@@ -69,7 +69,7 @@ pub(crate) fn take_plan(
     requires fleet { IsNowhereAbove answer.fleet.now (own_fleet tables.instance.now) }
     requires holds { IsTrueOf answer.day.now answer.head answer.runs }
     requires amounts { IsHead answer.head }
-    requires few { length answer.runs ≤ MOST_TRIPS }
+    requires few { length answer.runs ≤ MAX_TRIPS }
     requires best { IsBest tables.instance.now prices.now best.old }
     ensures best { OnOk result (IsBest tables.entry.instance.now prices.now best.new) }
     ensures no_dearer { OnOk result (IsNoDearer (price_in best.old) (price_in best.new)) }
@@ -282,7 +282,7 @@ fn with_leaving_alone(
 
 /// The units of a trip with those numbers. The error is want of memory.
 fn leaving_alone(alloc: Global, units: &[UnitNo], leaves: &[bool]) -> Result<UnitList, NoMemory>
-    requires { length units.now ≤ MOST_COMPOSITION }
+    requires { length units.now ≤ MAX_COMPOSITION_UNITS }
 {
     let mut list = Vec::new(alloc);
     for place in 0..units.len() {

@@ -15,7 +15,7 @@ use timetable::Instance;
 use transitions::Graphs;
 
 /// The most branchings of one day's tree that a search for a fleet may be granted.
-pub const MOST_DAY_BRANCHINGS: u32 = 200;
+pub const MAX_DAY_BRANCHINGS: u32 = 200;
 
 /// What a search for a fleet may take.
 #[derive(Clone, Copy)]

@@ -2,7 +2,7 @@
 use Rattle.std.proofs.Common.{◌≡◌, ◌∙◌, ℕ, zero, suc, ◌+◌, ◌*◌, ◌/◌, ◌%◌, ◌<◌, ◌≤◌, List, [], ◌∷◌, length, refl, sym, ap, arith}
 use Rattle.std.proofs.Common.{subst}
 use Rattle.std.specs.List.{AllZip}
-use Rattle.rail_base.specs.declared.limits.TheConstants.{MOST_UNITS, MOST_COMPOSITIONS}
+use Rattle.rail_base.specs.declared.limits.TheConstants.{MAX_UNITS, MAX_COMPOSITIONS}
 use Rattle.rules.specs.declared.records.UnitType.{UnitType}
 use Rattle.rail_csv.specs.declared.rows.LinkRow.{LinkRow}
 use Rattle.rail_csv.specs.declared.rows.TripRow.{TripRow}
@@ -87,8 +87,8 @@ meant_with tables day fleet is fits =
       station_names = is.station_names;
       trip_names = is.trip_names;
       stock_rows = stock_apart (length day.types) 0 fleet;
-      units = subst (λ (n : ℕ). n ≤ MOST_UNITS) (sym units) fits.few;
-      compositions = subst (λ (n : ℕ). n ≤ MOST_COMPOSITIONS) (sym (ap length keeps.compositions)) is.compositions;
+      units = subst (λ (n : ℕ). n ≤ MAX_UNITS) (sym units) fits.few;
+      compositions = subst (λ (n : ℕ). n ≤ MAX_COMPOSITIONS) (sym (ap length keeps.compositions)) is.compositions;
       elsewhere = is.elsewhere;
       later = is.later;
       served = keeps.served is.served;

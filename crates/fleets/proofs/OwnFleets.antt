@@ -3,7 +3,7 @@ use Rattle.std.proofs.Common.{◌<◌, ◌≡◌, ◌∙◌, ℕ, zero, suc, ◌
 use Rattle.std.proofs.Common.{Bool, true, false, inl, inr}
 use Rattle.std.specs.Prelude.{◌==◌, ◌&&◌, if◌then◌else◌}
 use Rattle.std.proofs.lemmas.Bool.{cases_Bool, and_parts, eqb-true, cond-true, cond-false}
-use Rattle.rail_base.specs.declared.limits.TheConstants.{MOST_UNITS}
+use Rattle.rail_base.specs.declared.limits.TheConstants.{MAX_UNITS}
 use Rattle.rules.specs.declared.records.Stock.{Stock}
 use Rattle.timetable.specs.Build.{starts_of}
 use Rattle.timetable.specs.Day.{Day, unit_count}
@@ -83,7 +83,7 @@ module _ (types : ℕ) where
       let one = row_once row n in
       omega arith
 
-pub own_fleet_fits : (day : Day) → unit_count day ≤ MOST_UNITS → IsFleet day (own_fleet day)
+pub own_fleet_fits : (day : Day) → unit_count day ≤ MAX_UNITS → IsFleet day (own_fleet day)
 unfolding start_of
 own_fleet_fits day few =
     let places : ℕ = length day.stations * length day.types in

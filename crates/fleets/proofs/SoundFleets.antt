@@ -4,7 +4,7 @@ use Rattle.std.proofs.Common.{Bool, true, false}
 use Rattle.std.specs.Prelude.{◌==◌, ◌&&◌, if◌then◌else◌}
 use Rattle.std.specs.List.{All}
 use Rattle.std.proofs.lemmas.List.Elements.{All-nil, All-cons}
-use Rattle.rail_base.specs.declared.limits.TheConstants.{MOST_UNITS, MOST_COMPOSITIONS}
+use Rattle.rail_base.specs.declared.limits.TheConstants.{MAX_UNITS, MAX_COMPOSITIONS}
 use Rattle.rules.specs.declared.records.Stock.{Stock}
 use Rattle.rules.specs.declared.records.Unit as unit
 use Rattle.timetable.specs.Accepted.{IsSoundDay, AreUnitsOf, IsStocked}
@@ -47,7 +47,7 @@ units_there day fleet fits =
     record {
       home = λ u below. let (one, is, at) = unit_at u below in rw (entry_is (λ x. x.home) (units_in stock) u 0 one is) at.home;
       unit_type = λ u below. let (one, is, at) = unit_at u below in rw (entry_is (λ x. x.unit_type) (units_in stock) u 0 one is) at.unit_type;
-      few = subst (λ (n : ℕ). n ≤ MOST_UNITS) (sym count) fits.few;
+      few = subst (λ (n : ℕ). n ≤ MAX_UNITS) (sym count) fits.few;
     }
 
 stocked : (day : Day) (fleet : List ℕ) → IsFleet day fleet → IsStocked (with_fleet fleet day)
@@ -62,7 +62,7 @@ days_of_fleets_are_sound day fleet sound fits =
     let keeps : KeepsTimetable day (stock_from (length day.types) 0 fleet) = other_stock_keeps_timetables day (stock_from (length day.types) 0 fleet) in
     let timetable = keeps.timetable sound.limits.timetable in
     let links = keeps.links sound.links in
-    let compositions = subst (λ (n : ℕ). n ≤ MOST_COMPOSITIONS) (sym (ap length keeps.compositions)) sound.compositions in
+    let compositions = subst (λ (n : ℕ). n ≤ MAX_COMPOSITIONS) (sym (ap length keeps.compositions)) sound.compositions in
     record {
       limits = record { timetable = timetable; units = units_there day fleet fits };
       names = record { types = sound.names.types; stations = sound.names.stations; trips = sound.names.trips };

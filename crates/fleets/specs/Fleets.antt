@@ -2,7 +2,7 @@
 -- the units of a fleet in place of its stock. A fleet is the list of these numbers, by station and then type.
 use Rattle.std.specs.Prelude.{ℕ, ◌≡◌, ◌+◌, ◌*◌, ◌/◌, ◌%◌, ◌≤◌, List, [], ◌∷◌, length, option_map, unwrap_or, slice_get}
 use Rattle.std.specs.List.{AllZip}
-use Rattle.rail_base.specs.declared.limits.TheConstants.{MOST_UNITS}
+use Rattle.rail_base.specs.declared.limits.TheConstants.{MAX_UNITS}
 use Rattle.rail_csv.specs.declared.rows.StockRow.{StockRow}
 use Rattle.timetable.specs.declared.building.tables.Tables.{Tables}
 use Rattle.rules.specs.declared.records.Stock.{Stock}
@@ -21,7 +21,7 @@ fleet_size (units ∷ fleet) = units + fleet_size fleet
 -- one number for each station and type of the day, and no more units in all than a day may have
 pub record IsFleet (day : Day) (fleet : List ℕ) : Type 0 where
   pub each : length fleet ≡ length day.stations * length day.types
-  pub few : fleet_size fleet ≤ MOST_UNITS
+  pub few : fleet_size fleet ≤ MAX_UNITS
 
 -- nowhere has the one more units of a type than the other
 abbrev pub IsNowhereAbove : List ℕ → List ℕ → Type 0

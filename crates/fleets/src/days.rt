@@ -1,7 +1,7 @@
 //! The day with the units of a fleet in place of its stock.
 
 ghost use Rattle.std.specs.Prelude.{◌≡◌, ◌<◌, ◌≤◌, ◌*◌, length, IfOk};
-ghost use Rattle.rail_base.specs.declared.limits.TheConstants.{MOST_STOCK};
+ghost use Rattle.rail_base.specs.declared.limits.TheConstants.{MAX_STOCK};
 ghost use Rattle.rail_csv.specs.Rows.{AreStockRows, IsStockRow};
 ghost use Rattle.timetable.specs.DayTables.{IsDayOfBytes};
 ghost use Rattle.fleets.specs.Fleets.{IsFleet, own_fleet, row_in, rows_from, start_at, with_fleet};
@@ -81,7 +81,7 @@ fn rows_of(alloc: Global, instance: &Instance, fleet: &Counts) -> Result<Vec<Sto
 /// The stock row of a place of a fleet of the day, with so many units.
 fn row_in(alloc: Global, instance: &Instance, place: u32, units: u32) -> Result<StockRow, NoMemory>
     requires place { place < length instance.now.stations * length instance.now.types }
-    requires units { units ≤ MOST_STOCK }
+    requires units { units ≤ MAX_STOCK }
     ensures row { IfOk result (λ row. row ≡ row_in instance.now place units) }
     ensures within { IfOk result IsStockRow }
 {

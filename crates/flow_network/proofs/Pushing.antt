@@ -10,7 +10,7 @@ use Rattle.std.proofs.lemmas.List.Sums.{sum_by-set}
 use Rattle.flow_network.specs.declared.network.Arc.{Arc}
 use Rattle.flow_network.specs.declared.reach.Step.{Step}
 use Rattle.flow_network.specs.Flows.{Net, IsFlow, IsArcOf, coming_to, leaving_from, empty}
-use Rattle.flow_network.specs.Steps.{AreTraced, IsPushed, IsReachedBy, LeadsTo, has, head_of, is_open, pushed, rank_of, room_out, step_to, tail_of, when_same}
+use Rattle.flow_network.specs.Steps.{AreTraced, IsPushed, IsReachedBy, LeadsTo, has, head_of, has_residual, pushed, rank_of, room_out, step_to, tail_of, when_same}
 use Rattle.flow_network.proofs.Reaching.{no_none, same_some, no_arc}
 
 -- ---- numbers
@@ -56,12 +56,12 @@ tail_stays : (b c : Bool) (a : Arc) → tail_of b (pushed c a) ≡ tail_of b a
 tail_stays true c a = refl
 tail_stays false c a = refl
 
-pushed_within : (net : Net) (b : Bool) (a : Arc) → is_open b a ≡ true → IsArcOf net a → IsArcOf net (pushed b a)
+pushed_within : (net : Net) (b : Bool) (a : Arc) → has_residual b a ≡ true → IsArcOf net a → IsArcOf net (pushed b a)
 pushed_within net true a opens is = record { from = is.from; to = is.to; not_to_source = is.not_to_source; within = (let less = ltb-true a.flow a.capacity opens in omega (arith, less)) }
 pushed_within net false a opens is = record { from = is.from; to = is.to; not_to_source = is.not_to_source; within = (let le = is.within in omega (arith, le)) }
 
 -- it can give a unit back that it took, and take one that it gave back
-opens_back : (b c : Bool) (a : Arc) → (b ≡ c → ⊥) → is_open c a ≡ true → a.flow ≤ a.capacity → is_open b (pushed c a) ≡ true
+opens_back : (b c : Bool) (a : Arc) → (b ≡ c → ⊥) → has_residual c a ≡ true → a.flow ≤ a.capacity → has_residual b (pushed c a) ≡ true
 opens_back true true a differs opens le = absurd (differs refl)
 opens_back false false a differs opens le = absurd (differs refl)
 opens_back true false a differs opens le = lt-ltb (a.flow - 1) a.capacity (let some = ltb-true 0 a.flow opens in omega (arith, some, le))
@@ -139,7 +139,7 @@ module _ (net : Net) (steps : List (Option Step)) (start : step_to steps net.sou
       was : coming_to arcs n + when_same n node ≡ leaving_from arcs n
       was = so.kept n not_start not_end
 
-      by : (b : Bool) → head_of b a ≡ node → is_open b a ≡ true
+      by : (b : Bool) → head_of b a ≡ node → has_residual b a ≡ true
           → coming_to more n + (if a.to == n then a.flow else 0) ≡ coming_to arcs n + (if (pushed b a).to == n then (pushed b a).flow else 0)
           → leaving_from more n + (if a.from == n then a.flow else 0) ≡ leaving_from arcs n + (if (pushed b a).from == n then (pushed b a).flow else 0)
           → coming_to more n + when_same n (tail_of b a) ≡ leaving_from more n
@@ -163,7 +163,7 @@ module _ (net : Net) (steps : List (Option Step)) (start : step_to steps net.sou
       was : room_out net.source arcs ≡ room_out net.source net.arcs
       was = (let h = so.room in let none = when_other node net.source not_source in omega (arith, h, none))
 
-      by : (b : Bool) → head_of b a ≡ node → is_open b a ≡ true
+      by : (b : Bool) → head_of b a ≡ node → has_residual b a ≡ true
           → room_out net.source more + (if a.from == net.source then a.capacity - a.flow else 0)
           ≡ room_out net.source arcs + (if (pushed b a).from == net.source then (pushed b a).capacity - (pushed b a).flow else 0)
           → room_out net.source more + when_same (tail_of b a) net.source ≡ room_out net.source net.arcs
@@ -193,7 +193,7 @@ module _ (net : Net) (steps : List (Option Step)) (start : step_to steps net.sou
             record {
               there = subst (λ (k : ℕ). s.arc < k) (sym (length-set arcs step.arc (pushed step.is_along a))) was.there;
               head = λ d. ap (head_of s.is_along) (at d) ∙ was.head d;
-              passes = λ d. ap (is_open s.is_along) (at d) ∙ was.passes d;
+              passes = λ d. ap (has_residual s.is_along) (at d) ∙ was.passes d;
               from = λ d. ap (λ (x : Arc). has net.source steps (tail_of s.is_along x)) (at d) ∙ was.from d;
               earlier = λ d. subst (λ (x : Arc). rank_of net.source steps (tail_of s.is_along x) < s.rank) (sym (at d)) (was.earlier d);
             }
@@ -210,7 +210,7 @@ module _ (net : Net) (steps : List (Option Step)) (start : step_to steps net.sou
             record {
               there = subst (λ (k : ℕ). s.arc < k) (sym (length-set arcs step.arc (pushed step.is_along a))) was.there;
               head = λ d. ap (head_of s.is_along) (at d) ∙ head_stays s.is_along step.is_along a ∙ ap (head_of s.is_along) (sym old) ∙ was.head no_arc;
-              passes = λ d. ap (is_open s.is_along) (at d) ∙ opens_back s.is_along step.is_along a other_way (leads.passes no_arc) arc_is.within;
+              passes = λ d. ap (has_residual s.is_along) (at d) ∙ opens_back s.is_along step.is_along a other_way (leads.passes no_arc) arc_is.within;
               from = λ d. ap (has net.source steps) (tails d) ∙ was.from no_arc;
               earlier = λ d. subst (λ (x : ℕ). rank_of net.source steps x < s.rank) (sym (tails d)) (was.earlier no_arc);
             }

@@ -10,7 +10,7 @@ use Rattle.std.proofs.lemmas.List.{get_or-set_same, get_or-set_other}
 use Rattle.std.proofs.lemmas.List.Sums.{sum_by-set}
 use Rattle.flow_network.specs.declared.network.Arc.{Arc}
 use Rattle.flow_network.specs.declared.reach.Step.{Step}
-use Rattle.flow_network.specs.Steps.{CanReach, ClosesBoth, IsReaching, LeadsTo, has, head_of, is_open, rank_of, step_to, tail_of}
+use Rattle.flow_network.specs.Steps.{CanReach, ClosesBoth, IsReaching, LeadsTo, has, head_of, has_residual, rank_of, step_to, tail_of}
 
 -- ---- tests
 
@@ -104,7 +104,7 @@ module _ (arcs : List Arc) (nodes source found : ℕ) (steps : List (Option Step
       omega (arith, sum, was)
 
   pub extended : (d : Arc) → number < length arcs → h ≡ head_of is_along (get_or arcs number d) → has source steps (tail_of is_along (get_or arcs number d)) ≡ true
-      → is_open is_along (get_or arcs number d) ≡ true → IsReaching arcs nodes source more (found + 1)
+      → has_residual is_along (get_or arcs number d) ≡ true → IsReaching arcs nodes source more (found + 1)
   extended d there head from opens = record {
     long = length-set steps h (Some s) ∙ reaching.long;
     start = other source (λ e. not_source (sym e)) ∙ reaching.start;
@@ -136,7 +136,7 @@ module _ (arcs : List Arc) (nodes source found : ℕ) (steps : List (Option Step
       leads = record {
         there = there;
         head = λ e. ap (head_of is_along) (at e) ∙ sym head;
-        passes = λ e. ap (is_open is_along) (at e) ∙ opens;
+        passes = λ e. ap (has_residual is_along) (at e) ∙ opens;
         from = λ e. ap (λ (a : Arc). has source more (tail_of is_along a)) (at e) ∙ still (tail_of is_along (get_or arcs number d)) from;
         earlier = λ e. (
             let same = ap (λ (a : Arc). rank_of source more (tail_of is_along a)) (at e) in

@@ -66,4 +66,5 @@ pub record IsReach (net : Net) (reached : List Bool) : Type 0 where
 -- how much may go from the nodes that are reached to the others
 abbrev pub capacity_out : List Bool → List Arc → ℕ
 capacity_out reached arcs =
-    sum_by (λ arc. if is_reached reached arc.from then (if is_reached reached arc.to then 0 else arc.capacity) else 0) arcs
+    sum_by (λ arc. if is_reached reached arc.from then (if is_reached reached arc.to then 0 else arc.capacity) else 0)
+    arcs

@@ -17,8 +17,8 @@ abbrev pub head_of : Bool → Arc → ℕ
 head_of is_along arc = if is_along then arc.to else arc.from
 
 -- along an arc that takes one unit more, or against one that has one to give back
-abbrev pub is_open : Bool → Arc → Bool
-is_open is_along arc = if is_along then nat_lt arc.flow arc.capacity else nat_lt 0 arc.flow
+abbrev pub has_residual : Bool → Arc → Bool
+has_residual is_along arc = if is_along then nat_lt arc.flow arc.capacity else nat_lt 0 arc.flow
 
 -- the arc once one unit more is sent that way
 abbrev pub pushed : Bool → Arc → Arc
@@ -40,7 +40,7 @@ rank_of source steps n = if n == source then 0 else unwrap_or (option_map (λ st
 pub record LeadsTo (arcs : List Arc) (source : ℕ) (steps : List (Option Step)) (n : ℕ) (step : Step) : Type 0 where
   pub there : step.arc < length arcs
   pub head : (d : Arc) → head_of step.is_along (get_or arcs step.arc d) ≡ n
-  pub passes : (d : Arc) → is_open step.is_along (get_or arcs step.arc d) ≡ true
+  pub passes : (d : Arc) → has_residual step.is_along (get_or arcs step.arc d) ≡ true
   pub from : (d : Arc) → has source steps (tail_of step.is_along (get_or arcs step.arc d)) ≡ true
   pub earlier : (d : Arc) → rank_of source steps (tail_of step.is_along (get_or arcs step.arc d)) < step.rank
 
@@ -74,7 +74,7 @@ AreFewer more before after =
 -- the arc leads on to no node that isn't reached
 abbrev pub Closes : ℕ → List (Option Step) → Bool → Arc → Type 0
 Closes source steps is_along arc =
-    has source steps (tail_of is_along arc) ≡ true → is_open is_along arc ≡ true
+    has source steps (tail_of is_along arc) ≡ true → has_residual is_along arc ≡ true
     → has source steps (head_of is_along arc) ≡ true
 
 abbrev pub ClosesBoth : ℕ → List (Option Step) → Arc → Type 0

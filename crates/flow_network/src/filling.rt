@@ -3,7 +3,7 @@
 ghost use Rattle.std.specs.Prelude.{ℕ, ◌≡◌, ◌≢◌, ◌<◌, ◌≤◌, ◌+◌, ◌^◌, length, map, true, false, IfOk, Some, None};
 ghost use Rattle.std.specs.Prelude.{get_or, slice_set};
 ghost use Rattle.flow_network.specs.Flows.{IsFlow, Net, empty};
-ghost use Rattle.flow_network.specs.Steps.{IsReachedBy, has, is_open, pushed, room_out, step_to, tail_of};
+ghost use Rattle.flow_network.specs.Steps.{IsReachedBy, has, has_residual, pushed, room_out, step_to, tail_of};
 ghost use Rattle.flow_network.specs.declared.network.Arc.{Arc};
 
 use crate::network::Arc;
@@ -54,7 +54,7 @@ fn push(arcs: &mut [Arc], source: usize, sink: usize, steps: &[Option<Step>])
 /// Sends one unit more over the arc of a step: the node that it comes from.
 fn push_over(arcs: &mut [Arc], step: Step) -> usize
     requires there { step.arc < length arcs.old }
-    requires passes { (d : Arc) → is_open step.is_along (get_or arcs.old step.arc d) ≡ true }
+    requires passes { (d : Arc) → has_residual step.is_along (get_or arcs.old step.arc d) ≡ true }
     requires within { (d : Arc) → (get_or arcs.old step.arc d).flow ≤ (get_or arcs.old step.arc d).capacity }
     ensures arcs { (d : Arc) →
         arcs.new ≡ slice_set arcs.old step.arc (pushed step.is_along (get_or arcs.old step.arc d)) }

@@ -1,6 +1,7 @@
 //! A network of nodes and arcs, and a largest flow through it.
 
-ghost use Rattle.std.specs.Prelude.{ℕ, ◌≡◌, ◌≢◌, ◌<◌, ◌++◌, ◌∷◌, ◌^◌, [], length, IfOk, OnErr, OnOk, slice_get, Some, true};
+ghost use Rattle.std.specs.Prelude.{ℕ, ◌≡◌, ◌≢◌, ◌<◌, ◌++◌, ◌∷◌, ◌^◌, [], length, IfOk, OnErr, OnOk, slice_get, Some};
+ghost use Rattle.std.specs.Prelude.{true};
 ghost use Rattle.flow_network.specs.Flows.{IsFlow, IsReach, IsSameNet, is_reached};
 ghost use Rattle.flow_network.specs.Steps.{has};
 

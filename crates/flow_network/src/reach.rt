@@ -5,7 +5,7 @@ ghost use Rattle.std.specs.Prelude.{is_none, get_or};
 ghost use Rattle.std.specs.List.{All, count_by};
 ghost use Rattle.flow_network.specs.declared.network.Arc.{Arc};
 ghost use Rattle.flow_network.specs.Steps.{AreFewer, CanReach, Closes, ClosesBoth, IsReachedBy, IsReaching, has};
-ghost use Rattle.flow_network.specs.Steps.{head_of, is_open, pushed, tail_of};
+ghost use Rattle.flow_network.specs.Steps.{head_of, has_residual, pushed, tail_of};
 
 use crate::network::Arc;
 use rail_base::NoMemory;
@@ -103,7 +103,7 @@ fn extend(arcs: &[Arc], source: usize, reach: &mut Reach, number: usize, is_alon
     let head = arc.head(is_along);
     if has(source, &reach.steps, head)
         || !has(source, &reach.steps, tail)
-        || !arc.is_open(is_along)
+        || !arc.has_residual(is_along)
     {
         return false;
     }
@@ -132,8 +132,8 @@ impl Arc {
     }
 
     /// Whether the arc takes one unit more, or has one to give back.
-    pub(crate) fn is_open(&self, is_along: bool) -> bool
-        ensures { result ≡ is_open is_along self.now }
+    pub(crate) fn has_residual(&self, is_along: bool) -> bool
+        ensures { result ≡ has_residual is_along self.now }
     {
         if is_along {
             self.flow < self.capacity
@@ -144,7 +144,7 @@ impl Arc {
 
     /// The arc once one unit more is sent over it. It is open for that.
     pub(crate) fn pushed(self, is_along: bool) -> Arc
-        requires passes { is_open is_along self ≡ true }
+        requires passes { has_residual is_along self ≡ true }
         ensures { result ≡ pushed is_along self }
     {
         let flow = if is_along {

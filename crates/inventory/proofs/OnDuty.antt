@@ -45,26 +45,26 @@ filter_out p x (y ∷ ys) isnt = let rest = filter_out p x ys isnt in elim (case
 ]
 
 -- the last of trips that are not none
-abbrev pub last_of : ℕ → List ℕ → ℕ
-last_of a [] = a
-last_of a (b ∷ ts) = last_of b ts
+abbrev pub last_of_duty : ℕ → List ℕ → ℕ
+last_of_duty a [] = a
+last_of_duty a (b ∷ ts) = last_of_duty b ts
 
-pub last_there : (a : ℕ) (ts : List ℕ) → 1 ≤ count_of (last_of a ts) (a ∷ ts)
+pub last_there : (a : ℕ) (ts : List ℕ) → 1 ≤ count_of (last_of_duty a ts) (a ∷ ts)
 last_there a [] = let o = one_same a a refl in omega arith
 last_there a (b ∷ ts) = let rest = last_there b ts in omega arith
 
 -- no trip of the line leaves after its last
-last_is_latest : (day : Day) (a : ℕ) (ts : List ℕ) → InLine day (a ∷ ts) → (x : ℕ) → 1 ≤ count_of x (a ∷ ts) → is_before day (last_of a ts) x ≡ false
+last_is_latest : (day : Day) (a : ℕ) (ts : List ℕ) → InLine day (a ∷ ts) → (x : ℕ) → 1 ≤ count_of x (a ∷ ts) → is_before day (last_of_duty a ts) x ≡ false
 last_is_latest day a [] line x c = elim (in_list x a [] c) [
   | inl e ↦ subst (λ y. is_before day a y ≡ false) e (not_itself day a)
   | inr nowhere ↦ absurd (omega arith)
 ]
 last_is_latest day a (b ∷ ts) line x c = elim (in_list x a (b ∷ ts) c) [
-  | inl e ↦ subst (λ y. is_before day (last_of b ts) y ≡ false) e (line.0 (last_of b ts) (last_there b ts))
+  | inl e ↦ subst (λ y. is_before day (last_of_duty b ts) y ≡ false) e (line.0 (last_of_duty b ts) (last_there b ts))
   | inr later ↦ last_is_latest day b ts line.1 x later
 ]
 
-ends_at_last : (day : Day) (station a : ℕ) (ts : List ℕ) → ends_at day station (a ∷ ts) ≡ to_of day (last_of a ts)
+ends_at_last : (day : Day) (station a : ℕ) (ts : List ℕ) → ends_at day station (a ∷ ts) ≡ to_of day (last_of_duty a ts)
 ends_at_last day station a [] = refl
 ends_at_last day station a (b ∷ ts) = ends_at_last day (to_of day a) b ts
 
@@ -75,7 +75,7 @@ steps_most R takes gives step a [] h = omega arith
 steps_most R takes gives step a (b ∷ ts) h = let first = step a b h.0 in let rest = steps_most R takes gives step b ts h.1 in omega arith
 
 steps_same : (R : ℕ → ℕ → Type 0) (takes gives : ℕ → ℕ) → ((a b : ℕ) → R a b → takes b ≡ gives a) → (a : ℕ) (ts : List ℕ) → EachFollows R (a ∷ ts)
-    → list_sum takes ts + gives (last_of a ts) ≡ list_sum gives (a ∷ ts)
+    → list_sum takes ts + gives (last_of_duty a ts) ≡ list_sum gives (a ∷ ts)
 unfolding list_sum
 steps_same R takes gives step a [] h = omega arith
 steps_same R takes gives step a (b ∷ ts) h = let first = step a b h.0 in let rest = steps_same R takes gives step b ts h.1 in omega arith
@@ -267,38 +267,38 @@ module _ (day : Day) (plan : List (List ℕ)) (is_day : IsDay day) (links : AreL
       ]
 
   -- a unit goes on in no train from the trip that it runs on last
-  pub last_gives : (u a : ℕ) (ts : List ℕ) → duty day plan u ≡ a ∷ ts → count_of u (given day plan (last_of a ts)) ≡ 1
+  pub last_gives : (u a : ℕ) (ts : List ℕ) → duty day plan u ≡ a ∷ ts → count_of u (given day plan (last_of_duty a ts)) ≡ 1
   last_gives u a ts is =
-      let last = last_of a ts in
-      let g : Goes day types (last_of a ts) = goes day types links (last_of a ts) in
+      let last = last_of_duty a ts in
+      let g : Goes day types (last_of_duty a ts) = goes day types links (last_of_duty a ts) in
       let line : InLine day (a ∷ ts) = subst (InLine day) is (duty_in_line day plan u) in
       let there = last_there a ts in
-      let on = ap (count_of (last_of a ts)) is in
-      let runs_on = duty_has u (last_of a ts) (omega arith) in
-      let few = once (last_of a ts) u in
-      let total = g.total u (list_of plan (last_of a ts)) in
-      let gives = given_at (last_of a ts) u in
-      elim (cases_lt 0 (count_of u (going_on day types (last_of a ts) g.first (list_of plan (last_of a ts))))) [
+      let on = ap (count_of (last_of_duty a ts)) is in
+      let runs_on = duty_has u (last_of_duty a ts) (omega arith) in
+      let few = once (last_of_duty a ts) u in
+      let total = g.total u (list_of plan (last_of_duty a ts)) in
+      let gives = given_at (last_of_duty a ts) u in
+      elim (cases_lt 0 (count_of u (going_on day types (last_of_duty a ts) g.first (list_of plan (last_of_duty a ts))))) [
         | inl first ↦ absurd (goes_nowhere g.first (omega arith))
-        | inr none ↦ elim (cases_lt 0 (count_of u (going_on day types (last_of a ts) g.second (list_of plan (last_of a ts))))) [
+        | inr none ↦ elim (cases_lt 0 (count_of u (going_on day types (last_of_duty a ts) g.second (list_of plan (last_of_duty a ts))))) [
           | inl second ↦ absurd (goes_nowhere g.second (omega arith))
           | inr none' ↦ omega arith
         ]
       ]
     where
-      goes_nowhere : (c : ℕ) → 1 ≤ count_of u (going_on day types (last_of a ts) c (list_of plan (last_of a ts))) → ⊥
+      goes_nowhere : (c : ℕ) → 1 ≤ count_of u (going_on day types (last_of_duty a ts) c (list_of plan (last_of_duty a ts))) → ⊥
       goes_nowhere c h =
-          let into = going_leads_into day types links u (last_of a ts) c (list_of plan (last_of a ts)) h in
-          let leads : LeadsInto day (last_of a ts) c = leads_into day types links (last_of a ts) c into in
-          let came = coming_has day types (list_of plan) u (last_of a ts) c into in
+          let into = going_leads_into day types links u (last_of_duty a ts) c (list_of plan (last_of_duty a ts)) h in
+          let leads : LeadsInto day (last_of_duty a ts) c = leads_into day types links (last_of_duty a ts) c into in
+          let came = coming_has day types (list_of plan) u (last_of_duty a ts) c into in
           let come = come_at c u in
           let share = places_share day types c u (list_of plan c) in
           let later = on_duty u c leads.to (omega arith) in
           let on_it = ap (count_of c) is in
           let line : InLine day (a ∷ ts) = subst (InLine day) is (duty_in_line day plan u) in
           let in_time = leads.in_time in
-          let time = is_day.timetable.time (last_of a ts) leads.from in
-          false≢true (sym (last_is_latest day a ts line c (omega arith)) ∙ leaves_before day (last_of a ts) c (omega arith))
+          let time = is_day.timetable.time (last_of_duty a ts) leads.from in
+          false≢true (sym (last_is_latest day a ts line c (omega arith)) ∙ leaves_before day (last_of_duty a ts) c (omega arith))
 
   -- ---- a whole duty
 
@@ -335,8 +335,8 @@ module _ (day : Day) (plan : List (List ℕ)) (is_day : IsDay day) (links : AreL
       on (a ∷ ts) is begins follows =
           let rest = steps_same (MayFollow day plan u) (takes_here s u) (gives_here s u) (here_step s u) a ts follows in
           let first : takes_here s u a ≡ at_home s u = ap (λ (n : ℕ). cond {A = ℕ} (from_of day a == s) n 0) (first_takes u a ts is) ∙ ap (λ (t : ℕ). cond {A = ℕ} (t == s) 1 0) begins in
-          let last : gives_here s u (last_of a ts) ≡ (if ends_at day (home_of day u) (a ∷ ts) == s then 1 else 0) =
-          ap (λ (n : ℕ). cond {A = ℕ} (to_of day (last_of a ts) == s) n 0) (last_gives u a ts is) ∙ ap (λ (t : ℕ). cond {A = ℕ} (t == s) 1 0) (sym (ends_at_last day (home_of day u) a ts)) in
+          let last : gives_here s u (last_of_duty a ts) ≡ (if ends_at day (home_of day u) (a ∷ ts) == s then 1 else 0) =
+          ap (λ (n : ℕ). cond {A = ℕ} (to_of day (last_of_duty a ts) == s) n 0) (last_gives u a ts is) ∙ ap (λ (t : ℕ). cond {A = ℕ} (t == s) 1 0) (sym (ends_at_last day (home_of day u) a ts)) in
           omega arith
 
   -- ---- all trips

@@ -17,7 +17,7 @@ use Rattle.inventory.specs.Counts.{taken_until, ready_until}
 use Rattle.inventory.specs.NamedBefore.{duty_before}
 use Rattle.inventory.specs.ReadyUnits.{stands_ready, ready_units, YardsHoldReadyUnits}
 use Rattle.inventory.proofs.Earlier.{early_begins, early_follows, all_late}
-use Rattle.inventory.proofs.OnDuty.{last_of, filter_out, stays, given_less, taken_less, once}
+use Rattle.inventory.proofs.OnDuty.{last_of_duty, filter_out, stays, given_less, taken_less, once}
 use Rattle.inventory.proofs.OnDuty.{first_takes, of_duty, duty_within, takes_until, gives_until, here_step, takes_here}
 use Rattle.inventory.proofs.OnDuty.{gives_here}
 use Rattle.inventory.proofs.Order.{InLine, duty_in_line}
@@ -73,7 +73,7 @@ sum_passing f p (t ∷ ts) none =
 
 -- sums along trips that follow one another, where each step to an early trip is balanced
 steps_early : (R : ℕ → ℕ → Type 0) (early : ℕ → Type 0) (takes gives : ℕ → ℕ) → ((a b : ℕ) → early b → R a b → takes b ≡ gives a) → (a : ℕ) (ts : List ℕ) → ((t : ℕ) → 1 ≤ count_of t ts → early t) → EachFollows R (a ∷ ts)
-    → list_sum takes ts + gives (last_of a ts) ≡ list_sum gives (a ∷ ts)
+    → list_sum takes ts + gives (last_of_duty a ts) ≡ list_sum gives (a ∷ ts)
 unfolding list_sum
 steps_early R early takes gives step a [] all h = omega arith
 steps_early R early takes gives step a (b ∷ ts) all h =
@@ -140,7 +140,7 @@ module _ (day : Day) (plan : List (List ℕ)) (is_day : IsDay day) (links : AreL
     | inr isnt ↦ let none = filter_out is_early t (duty day plan u) isnt in absurd (omega arith)
   ]
 
-  stands_last : (u a : ℕ) (ts : List ℕ) → stands_ready day plan s minute u (a ∷ ts) ≡ (has u (given day plan (last_of a ts)) && (to_of day (last_of a ts) == s) && nat_le (ready_at day (last_of a ts)) minute)
+  stands_last : (u a : ℕ) (ts : List ℕ) → stands_ready day plan s minute u (a ∷ ts) ≡ (has u (given day plan (last_of_duty a ts)) && (to_of day (last_of_duty a ts) == s) && nat_le (ready_at day (last_of_duty a ts)) minute)
   stands_last u a [] = refl
   stands_last u a (b ∷ ts) = stands_last u b ts
 
@@ -178,10 +178,10 @@ module _ (day : Day) (plan : List (List ℕ)) (is_day : IsDay day) (links : AreL
       ∙ ap (λ (n : ℕ). cond {A = ℕ} (from_of day a == s) n 0) (first_takes day plan is_day links runs u a whole.0 whole.1) ∙ ap (λ (t : ℕ). cond {A = ℕ} (t == s) 1 0) begins in
       let rest = steps_early (MayFollow day plan u) (λ t. leaves day t ≤ minute) (takes u) (gives u) (step u) a ts
       (λ t c. let on_it = ap (count_of t) is in all_early u t (omega arith)) follows in
-      let less = given_less day plan is_day links runs (last_of a ts) u in
-      let few = once day plan is_day links runs (last_of a ts) u in
-      let last : gives u (last_of a ts) ≡ (if stands_ready day plan s minute u (a ∷ ts) then 1 else 0) =
-      told (count_of u (given day plan (last_of a ts))) (to_of day (last_of a ts) == s) (nat_le (ready_at day (last_of a ts)) minute) (omega arith)
+      let less = given_less day plan is_day links runs (last_of_duty a ts) u in
+      let few = once day plan is_day links runs (last_of_duty a ts) u in
+      let last : gives u (last_of_duty a ts) ≡ (if stands_ready day plan s minute u (a ∷ ts) then 1 else 0) =
+      told (count_of u (given day plan (last_of_duty a ts))) (to_of day (last_of_duty a ts) == s) (nat_le (ready_at day (last_of_duty a ts)) minute) (omega arith)
       ∙ ap (λ (b : Bool). cond {A = ℕ} b 1 0) (sym (stands_last u a ts)) in
       omega arith
 

@@ -6,7 +6,7 @@ use Rattle.std.proofs.lemmas.Bool.{cases_lt, cases_Bool, cond-true, cond-false, 
 use Rattle.std.proofs.lemmas.Bool.{leb-true, le-leb}
 use Rattle.std.proofs.lemmas.List.{length-map}
 use Rattle.std.proofs.lemmas.Option.{slice_get_past}
-use Rattle.rail_base.specs.declared.limits.TheConstants.{MOST_MINUTES, MOST_REALLOCATION}
+use Rattle.rail_base.specs.declared.limits.TheConstants.{MAX_MINUTES, MAX_REALLOCATION}
 use Rattle.timetable.specs.Accepted.{IsDay, AreLinks, IsStocked}
 use Rattle.timetable.specs.Admissible.{is_admissible}
 use Rattle.timetable.specs.Day.{Day, leaves, from_of, to_of, home_of, type_of, types_of, unit_count, ready_at}
@@ -235,11 +235,11 @@ module _ (day : Day) (types plan : List (List ℕ)) (links : AreLinks day) (is_d
         | inr none ↦ omega arith
       ]
 
-  all_ready : (t : ℕ) → t < length day.trips → ready_at day t ≤ MOST_MINUTES + MOST_REALLOCATION
+  all_ready : (t : ℕ) → t < length day.trips → ready_at day t ≤ MAX_MINUTES + MAX_REALLOCATION
   all_ready t lt = let a = is_day.timetable.late t lt in let r = is_day.timetable.reallocation (to_of day t) in omega arith
 
   -- it stands where its duty ends
-  ends_there : (u s : ℕ) → may_be_taken s (MOST_MINUTES + MOST_REALLOCATION) (standing day types (list_of plan) (latest_first day) u) ≡ (last_place day plan u == s)
+  ends_there : (u s : ℕ) → may_be_taken s (MAX_MINUTES + MAX_REALLOCATION) (standing day types (list_of plan) (latest_first day) u) ≡ (last_place day plan u == s)
   unfolding last_place_of runs_on
   ends_there u s = on (latest day types (list_of plan) (latest_first day) u) refl
     where
@@ -247,23 +247,23 @@ module _ (day : Day) (types plan : List (List ℕ)) (links : AreLinks day) (is_d
       ends o is = ap (ends_at day (home_of day u)) (duty_is u) ∙ ends_last day (home_of day u) (runs_on u (latest_first day)) o (latest_is_last day types (list_of plan) (latest_first day) u ∙ is)
 
       on : (o : Option ℕ) → latest day types (list_of plan) (latest_first day) u ≡ o
-          → may_be_taken s (MOST_MINUTES + MOST_REALLOCATION) (standing day types (list_of plan) (latest_first day) u) ≡ (last_place day plan u == s)
+          → may_be_taken s (MAX_MINUTES + MAX_REALLOCATION) (standing day types (list_of plan) (latest_first day) u) ≡ (last_place day plan u == s)
       on None is =
-          ap (may_be_taken s (MOST_MINUTES + MOST_REALLOCATION)) (standing_is day types (list_of plan) (latest_first day) u ∙ ap (stands_after day types (list_of plan) u) is ∙ after_none day types (list_of plan) u)
-          ∙ and_true (home_of day u == s) (nat_le 0 (MOST_MINUTES + MOST_REALLOCATION)) (le-leb 0 (MOST_MINUTES + MOST_REALLOCATION) (omega arith))
+          ap (may_be_taken s (MAX_MINUTES + MAX_REALLOCATION)) (standing_is day types (list_of plan) (latest_first day) u ∙ ap (stands_after day types (list_of plan) u) is ∙ after_none day types (list_of plan) u)
+          ∙ and_true (home_of day u == s) (nat_le 0 (MAX_MINUTES + MAX_REALLOCATION)) (le-leb 0 (MAX_MINUTES + MAX_REALLOCATION) (omega arith))
           ∙ ap (λ (k : ℕ). k == s) (sym (ends None is))
       on (Some a) is =
           let ran = latest_some day types (list_of plan) (latest_first day) u a is in
-          ap (may_be_taken s (MOST_MINUTES + MOST_REALLOCATION)) (standing_is day types (list_of plan) (latest_first day) u ∙ ap (stands_after day types (list_of plan) u) is ∙ after_some day types (list_of plan) u a
+          ap (may_be_taken s (MAX_MINUTES + MAX_REALLOCATION)) (standing_is day types (list_of plan) (latest_first day) u ∙ ap (stands_after day types (list_of plan) u) is ∙ after_some day types (list_of plan) u a
           ∙ cond-true (has u (given_places day types a (list_of plan a))) (Some (record { station = to_of day a; ready = ready_at day a })) None (le_has u (given_places day types a (list_of plan a)) (given_last u a is)))
-          ∙ and_true (to_of day a == s) (nat_le (ready_at day a) (MOST_MINUTES + MOST_REALLOCATION)) (le-leb (ready_at day a) (MOST_MINUTES + MOST_REALLOCATION) (all_ready a (is_trip day a ran.0)))
+          ∙ and_true (to_of day a == s) (nat_le (ready_at day a) (MAX_MINUTES + MAX_REALLOCATION)) (le-leb (ready_at day a) (MAX_MINUTES + MAX_REALLOCATION) (all_ready a (is_trip day a ran.0)))
           ∙ ap (λ (k : ℕ). k == s) (sym (ends (Some a) is))
 
-  ending_is : (s m : ℕ) → ending day plan s m ≡ yard_count day types (list_of plan) links is_day (latest_first day) s m (MOST_MINUTES + MOST_REALLOCATION)
+  ending_is : (s m : ℕ) → ending day plan s m ≡ yard_count day types (list_of plan) links is_day (latest_first day) s m (MAX_MINUTES + MAX_REALLOCATION)
   unfolding ending_of yard_count tally
   ending_is s m =
       sum_same (λ u. if (last_place day plan u == s) && (type_of day u == m) then 1 else 0)
-      (λ u. if type_of day u == m then (if may_be_taken s (MOST_MINUTES + MOST_REALLOCATION) (standing day types (list_of plan) (latest_first day) u) then 1 else 0) else 0) (unit_count day)
+      (λ u. if type_of day u == m then (if may_be_taken s (MAX_MINUTES + MAX_REALLOCATION) (standing day types (list_of plan) (latest_first day) u) then 1 else 0) else 0) (unit_count day)
       (λ u lt. both (last_place day plan u == s) (type_of day u == m) ∙ ap (λ (b : Bool). cond {A = ℕ} (type_of day u == m) (cond {A = ℕ} b 1 0) 0) (sym (ends_there u s)))
     where
       both : (b c : Bool) → cond {A = ℕ} (b && c) 1 0 ≡ cond {A = ℕ} c (cond {A = ℕ} b 1 0) 0
@@ -282,5 +282,5 @@ module _ (day : Day) (types plan : List (List ℕ)) (links : AreLinks day) (is_d
     links = all_links.holds;
     homes = λ u lt. subst (BeginsAt day (home_of day u)) (sym (duty_is u)) (duty_runs u (latest_first day) (latest_in_turn day) rights).0;
     follows = λ u lt. subst (EachFollows (MayFollow day plan u)) (sym (duty_is u)) (duty_runs u (latest_first day) (latest_in_turn day) rights).1;
-    balance = λ s m station unit_type. ending_is s m ∙ all_stand day types (list_of plan) links is_day stocked served rights (MOST_MINUTES + MOST_REALLOCATION) all_ready s m station unit_type;
+    balance = λ s m station unit_type. ending_is s m ∙ all_stand day types (list_of plan) links is_day stocked served rights (MAX_MINUTES + MAX_REALLOCATION) all_ready s m station unit_type;
   }

@@ -4,7 +4,7 @@
 use Rattle.std.specs.Prelude.{ℕ, zero, suc, ◌+◌, ◌≤◌, List, [], ◌∷◌, length, map, set, get_or, replicate, if◌then◌else◌}
 use Rattle.std.specs.Prelude.{nat_lt, ℤ, pos, negsuc, ◌+ℤ◌}
 use Rattle.std.specs.Int.{saturate_to_bits}
-use Rattle.rail_base.specs.declared.limits.TheConstants.{MOST_COMPOSITION}
+use Rattle.rail_base.specs.declared.limits.TheConstants.{MAX_COMPOSITION_UNITS}
 use Rattle.timetable.specs.Day.{Day, leaves, from_of, to_of, ready_at}
 use Rattle.timetable.specs.Lists.{listed}
 use Rattle.timetable.specs.Links.{itself, given_with, taken_with}
@@ -55,8 +55,8 @@ with_trips day lists (suc n) table = with_taken day lists n (with_given day list
 
 -- a trip gives and takes no more units than a composition may have
 pub record MoveFew (day : Day) (lists : List (List ℕ)) (t : ℕ) : Type 0 where
-  pub given : length (given_with itself day lists t) ≤ MOST_COMPOSITION
-  pub taken : length (taken_with itself day lists t) ≤ MOST_COMPOSITION
+  pub given : length (given_with itself day lists t) ≤ MAX_COMPOSITION_UNITS
+  pub taken : length (taken_with itself day lists t) ≤ MAX_COMPOSITION_UNITS
 
 -- ---- added up
 

@@ -2,7 +2,7 @@
 use Rattle.std.specs.Prelude.{ℕ, ◌+◌, ◌≡◌, ◌<◌, List, [], length, get_or, ℤ, pos}
 use Rattle.timetable.specs.Day.{Day}
 use Rattle.timetable.specs.Minutes.{minutes_of}
-use Rattle.inventory.specs.Counts.{count_of_place, last_of}
+use Rattle.inventory.specs.Counts.{count_of_place, end_count_of}
 
 -- the numbers of a station and a type, and one of them
 abbrev pub counts_of : List (List (List ℤ)) → ℕ → ℕ → List ℤ
@@ -25,4 +25,4 @@ pub record IsCountTable (day : Day) (lists : List (List ℕ)) (table : List (Lis
       → k < length (minutes_of day s)
       → number_at table s m k ≡ count_of_place day lists s m k
   pub ends : (s m : ℕ) → s < length day.stations → m < length day.types
-      → number_at table s m (length (minutes_of day s)) ≡ last_of day lists s m
+      → number_at table s m (length (minutes_of day s)) ≡ end_count_of day lists s m

@@ -46,8 +46,8 @@ abbrev pub count_of_place : Day → List (List ℕ) → ℕ → ℕ → ℕ → 
 count_of_place day lists s m k = count_at day lists s m (get_or (minutes_of day s) k 0)
 
 -- how many stand there at the end of the day
-abbrev pub last_of : Day → List (List ℕ) → ℕ → ℕ → ℤ
-last_of day lists s m = pos (start_of day s m + all_given day lists s m) -ℤ pos (all_taken day lists s m)
+abbrev pub end_count_of : Day → List (List ℕ) → ℕ → ℕ → ℤ
+end_count_of day lists s m = pos (start_of day s m + all_given day lists s m) -ℤ pos (all_taken day lists s m)
 
 -- The yards serve the compositions: each may run on its trip, each link's rule holds, no yard is ever short of a unit,
 -- and every end count is the one that is wanted.

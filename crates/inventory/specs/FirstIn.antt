@@ -4,7 +4,7 @@ use Rattle.timetable.specs.Day.{Day, wanted_of}
 use Rattle.timetable.specs.Minutes.{minutes_of}
 use Rattle.inventory.specs.declared.faults.StockFault.{StockFault}
 use Rattle.inventory.specs.declared.faults.StockFault.TheVariants.{Short, Balance}
-use Rattle.inventory.specs.Counts.{count_of_place, last_of}
+use Rattle.inventory.specs.Counts.{count_of_place, end_count_of}
 
 -- it is found at a number, and not at those before
 pub record IsFirstIn (fine : ℕ → Type 0) (faulty : ℕ → StockFault → Type 0) (bound : ℕ)
@@ -56,12 +56,12 @@ ShortOn day lists fault = FirstIn (NoneShortIn day lists) (IsShortIn day lists) 
 -- ---- ends
 
 abbrev pub IsBalanced : Day → List (List ℕ) → ℕ → ℕ → Type 0
-IsBalanced day lists s m = last_of day lists s m ≡ pos (wanted_of day s m)
+IsBalanced day lists s m = end_count_of day lists s m ≡ pos (wanted_of day s m)
 
 pub record IsUnbalanced (day : Day) (lists : List (List ℕ)) (s m : ℕ) (fault : StockFault) : Type 0 where
   pub count : ℤ
   pub differs : count ≢ pos (wanted_of day s m)
-  pub is : count ≡ last_of day lists s m
+  pub is : count ≡ end_count_of day lists s m
   pub fault_is : fault ≡ Balance s m count
 
 abbrev pub UnbalancedAt : Day → List (List ℕ) → ℕ → ℕ → Option StockFault → Type 0

@@ -4,7 +4,7 @@ use Rattle.timetable.specs.Day.{Day, wanted_of}
 use Rattle.timetable.specs.Minutes.{minutes_of}
 use Rattle.inventory.specs.declared.faults.StockFault.{StockFault}
 use Rattle.inventory.specs.declared.faults.StockFault.TheVariants.{Short, Balance}
-use Rattle.inventory.specs.Counts.{count_of_place, last_of}
+use Rattle.inventory.specs.Counts.{count_of_place, end_count_of}
 
 -- a station and a type of the day
 pub record IsYard (day : Day) (s m : ℕ) : Type 0 where
@@ -22,7 +22,7 @@ NoneShort day lists = (s m k : ℕ) → IsYard day s m → k < length (minutes_o
 
 -- every end is the one that is wanted
 abbrev pub AllBalanced : Day → List (List ℕ) → Type 0
-AllBalanced day lists = (s m : ℕ) → IsYard day s m → last_of day lists s m ≡ pos (wanted_of day s m)
+AllBalanced day lists = (s m : ℕ) → IsYard day s m → end_count_of day lists s m ≡ pos (wanted_of day s m)
 
 -- The count is negative, and those of the yards before, and of the minutes before at its own, are not.
 pub record IsFirstShort (day : Day) (lists : List (List ℕ)) (station unit_type place : ℕ) (count : ℤ) : Type 0 where
@@ -38,10 +38,10 @@ pub record IsFirstShort (day : Day) (lists : List (List ℕ)) (station unit_type
 -- The end is not the one that is wanted, and those of the yards before are.
 pub record IsFirstUnbalanced (day : Day) (lists : List (List ℕ)) (station unit_type : ℕ) (count : ℤ) : Type 0 where
   pub yard : IsYard day station unit_type
-  pub is : count ≡ last_of day lists station unit_type
+  pub is : count ≡ end_count_of day lists station unit_type
   pub differs : count ≢ pos (wanted_of day station unit_type)
   pub before : (s m : ℕ) → IsYard day s m → IsYardBefore s m station unit_type
-      → last_of day lists s m ≡ pos (wanted_of day s m)
+      → end_count_of day lists s m ≡ pos (wanted_of day s m)
 
 -- it is the fault that these yards have
 abbrev pub IsFault : Day → List (List ℕ) → StockFault → Type 0

@@ -15,7 +15,7 @@ ghost use Rattle.inventory.specs.CountTable.{earlier, changed_at, changed_in, ch
 ghost use Rattle.inventory.specs.CountTable.{with_taken, with_trips, sums_from, zeros, zeros_for, zero_table, cleared};
 ghost use Rattle.inventory.specs.CountTable.{sums_for, all_sums, MoveFew};
 
-use rail_base::limits::{MOST_COMPOSITION, MOST_TYPES};
+use rail_base::limits::{MAX_COMPOSITION_UNITS, MAX_TYPES};
 use rail_base::{Minute, NoMemory, StationNo, TripNo, TypeNo};
 use std::alloc::Global;
 use std::marker::Model;
@@ -43,13 +43,13 @@ pub struct StationCounts {
 
 impl Model for StationCounts {
     ghost use Rattle.std.specs.Prelude.{List, ℤ, length, ◌≤◌};
-    ghost use Rattle.rail_base.specs.declared.limits.TheConstants.{MOST_TYPES};
+    ghost use Rattle.rail_base.specs.declared.limits.TheConstants.{MAX_TYPES};
 
     ghost Value = { List (List ℤ) };
 
     ghost view = { λ a. a.types.items };
 
-    ghost invariant = { λ a. length a.types.items ≤ MOST_TYPES };
+    ghost invariant = { λ a. length a.types.items ≤ MAX_TYPES };
 }
 
 /// The counts of all stations. A contract sees a list for each.
@@ -60,13 +60,13 @@ pub struct CountTable {
 
 impl Model for CountTable {
     ghost use Rattle.std.specs.Prelude.{List, ℤ, length, ◌≤◌};
-    ghost use Rattle.rail_base.specs.declared.limits.TheConstants.{MOST_STATIONS};
+    ghost use Rattle.rail_base.specs.declared.limits.TheConstants.{MAX_STATIONS};
 
     ghost Value = { List (List (List ℤ)) };
 
     ghost view = { λ a. a.stations.items };
 
-    ghost invariant = { λ a. length a.stations.items ≤ MOST_STATIONS };
+    ghost invariant = { λ a. length a.stations.items ≤ MAX_STATIONS };
 }
 
 impl TypeCounts {
@@ -113,7 +113,7 @@ impl TypeCounts {
 impl StationCounts {
     /// Zeros for each of so many types.
     fn new(alloc: Global, types: usize, minutes: usize) -> Result<StationCounts, NoMemory>
-        requires types { types ≤ MOST_TYPES }
+        requires types { types ≤ MAX_TYPES }
         requires minutes { minutes < 2 ^ 32 }
         ensures { IfOk result (λ counts. counts ≡ zeros_for types minutes) }
     {
@@ -210,7 +210,8 @@ impl CountTable {
         requires picks { ArePicks instance.now picks.now }
         requires trip { trip < length instance.now.trips }
         ensures noted { self.new ≡ with_given instance.now (picked instance.now picks.now) trip self.old }
-        ensures few { length (given_with itself instance.now (picked instance.now picks.now) trip) ≤ MOST_COMPOSITION }
+        ensures few { length (given_with itself instance.now (picked instance.now picks.now) trip) ≤
+            MAX_COMPOSITION_UNITS }
     {
         let run = instance.trip(trip);
         let minutes = instance.minutes(run.to);
@@ -225,7 +226,8 @@ impl CountTable {
         requires picks { ArePicks instance.now picks.now }
         requires trip { trip < length instance.now.trips }
         ensures noted { self.new ≡ with_taken instance.now (picked instance.now picks.now) trip self.old }
-        ensures few { length (taken_with itself instance.now (picked instance.now picks.now) trip) ≤ MOST_COMPOSITION }
+        ensures few { length (taken_with itself instance.now (picked instance.now picks.now) trip) ≤
+            MAX_COMPOSITION_UNITS }
     {
         let run = instance.trip(trip);
         let minutes = instance.minutes(run.from);

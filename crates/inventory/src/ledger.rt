@@ -3,7 +3,7 @@
 ghost use Rattle.std.specs.Prelude.{◌≡◌, ◌<◌, length, IfOk, []};
 ghost use Rattle.timetable.specs.Minutes.{minutes_of};
 ghost use Rattle.timetable.specs.Picks.{ArePicks, picked};
-ghost use Rattle.inventory.specs.Counts.{count_of_place, last_of};
+ghost use Rattle.inventory.specs.Counts.{count_of_place, end_count_of};
 ghost use Rattle.inventory.specs.FirstIn.{ShortAt, ShortIn, ShortOn, UnbalancedAt, UnbalancedIn, UnbalancedOn};
 ghost use Rattle.inventory.specs.Loaded.{Loaded};
 ghost use Rattle.inventory.specs.StockFaults.{IsFirstFault};
@@ -90,7 +90,7 @@ impl<'a> Ledger<'a> {
     pub fn end(&self, station: StationNo, unit_type: TypeNo) -> i64
         requires station { station < length self.now.day.stations }
         requires unit_type { unit_type < length self.now.day.types }
-        ensures { result ≡ last_of self.now.day self.now.lists station unit_type }
+        ensures { result ≡ end_count_of self.now.day self.now.lists station unit_type }
     {
         let end = self.instance.minutes(station).len();
         self.counts.get(station, unit_type, end)

@@ -1,7 +1,7 @@
 //! Counts of the yards, which are kept up to date with each change.
 
 use crate::network::{Network, Units};
-use rail_base::limits::MOST_TYPES;
+use rail_base::limits::MAX_TYPES;
 use rail_base::{NoMemory, StationNo};
 use std::alloc::Global;
 
@@ -69,7 +69,7 @@ impl Counts {
         sign: i32,
     ) {
         let places = network.places(station);
-        for unit_type in 0..network.types.min(MOST_TYPES) {
+        for unit_type in 0..network.types.min(MAX_TYPES) {
             let change = i32::from(units.by_type[unit_type]).saturating_mul(sign);
             if change != 0 {
                 let yard = network.yard_place(station, unit_type);

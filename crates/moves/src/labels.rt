@@ -4,7 +4,7 @@ use crate::counts::Counts;
 use crate::events::{Arrival, Event};
 use crate::network::{LinkRow, Network, Units};
 use crate::plans::{Plan, pick_in};
-use rail_base::limits::MOST_TYPES;
+use rail_base::limits::MAX_TYPES;
 use rail_base::{CompNo, LinkNo, NoMemory, StationNo, TripNo};
 use std::alloc::Global;
 
@@ -177,7 +177,7 @@ impl Label {
         sign: i32,
     ) {
         self.counts.change(network, station, units, place, sign);
-        for unit_type in 0..network.types.min(MOST_TYPES) {
+        for unit_type in 0..network.types.min(MAX_TYPES) {
             let moved = u64::from(units.by_type[unit_type]);
             let yard = network.yard_place(station, unit_type) as u64;
             let change = mixed(yard).wrapping_mul(moved);

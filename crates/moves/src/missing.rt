@@ -6,7 +6,7 @@ use crate::events::{Arrival, Event};
 use crate::network::{Network, Units};
 use crate::reaches::{Reach, Reaches};
 use rail_base::StationNo;
-use rail_base::limits::MOST_TYPES;
+use rail_base::limits::MAX_TYPES;
 
 /// What there is of one type before an event.
 #[derive(Clone, Copy)]
@@ -30,7 +30,7 @@ struct Low {
 /// What there is of each type before an event.
 #[derive(Clone, Copy)]
 pub(crate) struct Lows {
-    by_type: [Low; MOST_TYPES],
+    by_type: [Low; MAX_TYPES],
     types: usize,
     gives_first: bool,
 }
@@ -68,8 +68,8 @@ impl Lows {
         counts: &Counts,
     ) -> Lows {
         let mut lows = Lows {
-            by_type: [ENOUGH; MOST_TYPES],
-            types: network.types.min(MOST_TYPES),
+            by_type: [ENOUGH; MAX_TYPES],
+            types: network.types.min(MAX_TYPES),
             gives_first: event.give_place <= event.take_place,
         };
         let low = event.give_place.min(event.take_place);
@@ -92,7 +92,7 @@ impl Lows {
     /// What is missing after the event moves units.
     pub(crate) fn missing(&self, moved: &Moved) -> i64 {
         let mut sum: i64 = 0;
-        for unit_type in 0..self.types.min(MOST_TYPES) {
+        for unit_type in 0..self.types.min(MAX_TYPES) {
             sum = sum.saturating_add(self.missing_of(moved, unit_type));
         }
         sum
@@ -100,7 +100,7 @@ impl Lows {
 
     /// The same of one type.
     fn missing_of(&self, moved: &Moved, unit_type: usize) -> i64 {
-        if unit_type >= MOST_TYPES {
+        if unit_type >= MAX_TYPES {
             return 0;
         }
         let low = self.by_type[unit_type];

@@ -1,14 +1,14 @@
 //! A day as moves see it: flat tables of its trips, links, edges, compositions and yards.
 
 use crate::events::Event;
-use rail_base::limits::MOST_TYPES;
+use rail_base::limits::MAX_TYPES;
 use rail_base::{CompNo, LinkNo, StationNo, TripNo};
 
 /// How many units of each type a composition has.
 #[derive(Clone, Copy)]
 pub struct Units {
     /// By type; 0 where the day has no such type.
-    pub by_type: [u8; MOST_TYPES],
+    pub by_type: [u8; MAX_TYPES],
 }
 
 /// A trip.
@@ -206,7 +206,7 @@ impl Network {
 
 /// No units.
 pub const NO_UNITS: Units = Units {
-    by_type: [0; MOST_TYPES],
+    by_type: [0; MAX_TYPES],
 };
 
 /// What stands for a yard that is not there.

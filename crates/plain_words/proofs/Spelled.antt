@@ -6,7 +6,7 @@ use Rattle.std.specs.Str.{bytes_eq}
 use Rattle.std.proofs.lemmas.Bool.{and_parts}
 use Rattle.std.proofs.lemmas.Bool.Decides.{nat_tests}
 use Rattle.rail_csv.specs.Fields.{are_digits, number_of}
-use Rattle.plain_words.specs.declared.numbers.TheConstants.{MOST_WORD_DIGITS}
+use Rattle.plain_words.specs.declared.numbers.TheConstants.{MAX_WORD_DIGITS}
 use Rattle.plain_words.specs.Items.{Item, Positional, TwoWords, OneWord, Alone, WordList, times, values_in}
 use Rattle.plain_words.specs.Numbers.{IsNumber, IsNumberOr, IsOption, number_up_to, option_number}
 use Rattle.plain_words.proofs.Parting.{cases}
@@ -26,7 +26,7 @@ pub number_forth : (most : ℕ) (text : List ℕ) (number : ℕ) → IsNumber mo
     → number_up_to most text ≡ Some number
 number_forth most text number is =
     let least : nat_le 1 (length text) ≡ true = le_true 1 (length text) is.not_empty in
-    let longest : nat_le (length text) MOST_WORD_DIGITS ≡ true = le_true (length text) MOST_WORD_DIGITS is.not_long in
+    let longest : nat_le (length text) MAX_WORD_DIGITS ≡ true = le_true (length text) MAX_WORD_DIGITS is.not_long in
     let fits : nat_le (number_of text) most ≡ true =
     le_true (number_of text) most (omega (arith, is.spelled, is.limit)) in
     rw (least, longest, is.digits, fits) (ap (λ (n : ℕ). Some n) is.spelled)
@@ -36,16 +36,16 @@ pub number_back : (most : ℕ) (text : List ℕ) (number : ℕ) → number_up_to
 number_back most text number e =
     let found =
     if_some (nat_le 1 (length text) &&
-    (nat_le (length text) MOST_WORD_DIGITS && (are_digits text && nat_le (number_of text) most))) (number_of text) number e in
+    (nat_le (length text) MAX_WORD_DIGITS && (are_digits text && nat_le (number_of text) most))) (number_of text) number e in
     let first =
     and_parts (nat_le 1 (length text))
-    (nat_le (length text) MOST_WORD_DIGITS && (are_digits text && nat_le (number_of text) most)) found.0 in
-    let second = and_parts (nat_le (length text) MOST_WORD_DIGITS) (are_digits text && nat_le (number_of text) most) first.1 in
+    (nat_le (length text) MAX_WORD_DIGITS && (are_digits text && nat_le (number_of text) most)) found.0 in
+    let second = and_parts (nat_le (length text) MAX_WORD_DIGITS) (are_digits text && nat_le (number_of text) most) first.1 in
     let third = and_parts (are_digits text) (nat_le (number_of text) most) second.1 in
     let fits : number_of text ≤ most = le_of (number_of text) most third.1 in
     record {
       not_empty = le_of 1 (length text) first.0;
-      not_long = le_of (length text) MOST_WORD_DIGITS second.0;
+      not_long = le_of (length text) MAX_WORD_DIGITS second.0;
       digits = third.0;
       spelled = found.1;
       limit = omega (arith, fits, found.1);

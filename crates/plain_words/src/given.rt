@@ -78,7 +78,7 @@ impl<'a> GivenWords<'a> {
     }
 
     /// The number that the option of this name is given, and its usual number where it is not given; there is nothing
-    /// where its value is not 1 to `MOST_WORD_DIGITS` digits of a number that is at most `most`. The usual number is at
+    /// where its value is not 1 to `MAX_WORD_DIGITS` digits of a number that is at most `most`. The usual number is at
     /// most `most` too, and the option is given at most once, as it is where the words are of a form. It takes no
     /// memory.
     pub fn number(&self, name: &str, usual: u32, most: u32) -> Option<u32>

@@ -12,7 +12,7 @@ pub mod text;
 
 pub use form::Form;
 pub use given::GivenWords;
-pub use numbers::{MOST_WORD_DIGITS, number, option_number};
+pub use numbers::{MAX_WORD_DIGITS, number, option_number};
 pub use program::program_words;
 pub use reading::{read_form, words_after};
 pub use refusal::WordsRefusal;

@@ -6,10 +6,10 @@ ghost use Rattle.plain_words.specs.Numbers.{IsNumber, IsNumberOr, number_up_to, 
 use rail_csv::digits_value;
 
 /// The most digits that a number on the command line may have.
-pub const MOST_WORD_DIGITS: usize = 10;
+pub const MAX_WORD_DIGITS: usize = 10;
 
 /// The number of an option's value, and its usual number where it has none; there is nothing where the value is not 1
-/// to `MOST_WORD_DIGITS` digits of a number that is at most `most`. The usual number is at most `most` too. It takes no
+/// to `MAX_WORD_DIGITS` digits of a number that is at most `most`. The usual number is at most `most` too. It takes no
 /// memory.
 #[tactic(auto, using(crate::proofs::Spelled::or_means))]
 pub fn option_number(text: Option<&str>, usual: u32, most: u32) -> Option<u32>
@@ -25,7 +25,7 @@ pub fn option_number(text: Option<&str>, usual: u32, most: u32) -> Option<u32>
     }
 }
 
-/// The number that a text spells, where it is 1 to `MOST_WORD_DIGITS` digits and at most `most`. It takes no memory.
+/// The number that a text spells, where it is 1 to `MAX_WORD_DIGITS` digits and at most `most`. It takes no memory.
 #[tactic(auto, using(crate::proofs::Spelled::means))]
 pub fn number(text: &[u8], most: u32) -> Option<u32>
     ensures meaning { (spelled : ℕ) → (result ≡ Some spelled) ↔ IsNumber most text.now spelled }
@@ -35,7 +35,7 @@ pub fn number(text: &[u8], most: u32) -> Option<u32>
     if text.is_empty() {
         return None;
     }
-    if text.len() > MOST_WORD_DIGITS {
+    if text.len() > MAX_WORD_DIGITS {
         return None;
     }
     let Some(value) = digits_value(text) else {

@@ -2,7 +2,7 @@
 use Rattle.std.proofs.Common.{◌≡◌, ℕ, ◌≤◌, List, [], ◌∷◌, Option, Some, None, sym, ap, ◌∙◌, arith, Bool}
 use Rattle.std.proofs.Common.{codes, refl, subst}
 use Rattle.std.specs.Prelude.{◌+◌, ◌*◌}
-use Rattle.rail_base.specs.declared.limits.TheConstants.{MOST_BRANCHINGS, MOST_ROUNDS}
+use Rattle.rail_base.specs.declared.limits.TheConstants.{MAX_BRANCHINGS, MAX_ROUNDS}
 use Rattle.day_files.specs.declared.errors.ReadError.{ReadError}
 use Rattle.day_files.specs.declared.errors.ReadError.TheVariants.{CannotRead, Refused, NoMemory}
 use Rattle.run_documents.specs.declared.outcome.Outcome.{Outcome}
@@ -35,10 +35,10 @@ option_within usual most [] number fits is = omega (arith, fits, is)
 option_within usual most (text ∷ []) number fits is = is.limit
 option_within usual most (text ∷ again ∷ texts) number fits is = absurd is
 
-search_within : (n k : ℕ) (nodes rounds : WordList) → IsSearch n k nodes rounds → (n ≤ MOST_BRANCHINGS) × (k ≤ MOST_ROUNDS)
+search_within : (n k : ℕ) (nodes rounds : WordList) → IsSearch n k nodes rounds → (n ≤ MAX_BRANCHINGS) × (k ≤ MAX_ROUNDS)
 search_within n k nodes rounds is = (
-  option_within USUAL_NODES MOST_BRANCHINGS nodes n (omega arith) is.0,
-  option_within USUAL_ROUNDS MOST_ROUNDS rounds k (omega arith) is.1,
+  option_within USUAL_NODES MAX_BRANCHINGS nodes n (omega arith) is.0,
+  option_within USUAL_ROUNDS MAX_ROUNDS rounds k (omega arith) is.1,
 )
 
 -- no more branchings, rounds and trips are asked for than may be

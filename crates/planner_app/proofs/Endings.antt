@@ -24,27 +24,27 @@ use Rattle.planner_app.proofs.Simulating.{simulation_ends, simulation_status}
 use Rattle.planner_app.proofs.Statuses.{few_with_document, unread_is_five}
 use Rattle.planner_app.proofs.Written.{IsOfCommand, IsWritten, not_memory}
 
-module _ {F : Type 0} (holds : F → Option Files) (may_fail : F → List ℕ → Bool) (counted taken : F → ℕ) (words : List (List ℕ)) (old new : F)
+module _ {F : Type 0} (holds : F → Option Files) (may_fail : F → List ℕ → Bool) (faults_of taken : F → ℕ) (words : List (List ℕ)) (old new : F)
     (outcome : Outcome) (status : ℕ) (before after : Option (List ℕ)) (faults faults' : ℕ)
-    (is : IsOutcome holds may_fail counted taken words old new outcome) (wrote : WroteOutcome outcome status before after faults faults') where
+    (is : IsOutcome holds may_fail faults_of taken words old new outcome) (wrote : WroteOutcome outcome status before after faults faults') where
   abbrev Comes : Command → Type 0
-  Comes named = ComesTo holds may_fail counted taken named old new outcome
+  Comes named = ComesTo holds may_fail faults_of taken named old new outcome
 
   -- a report on the answer of a folder
-  reported : (kind : ReportKind) (dir : List ℕ) → Comes (command_for kind dir) → IsAnswerReported holds may_fail counted taken dir kind old new outcome
+  reported : (kind : ReportKind) (dir : List ℕ) → Comes (command_for kind dir) → IsAnswerReported holds may_fail faults_of taken dir kind old new outcome
   reported report.Duties dir comes = comes
   reported report.Yards dir comes = comes
   reported report.Costs dir comes = comes
 
   -- what a command has no status for, and what its status tells
-  status_fits : (named : Command) → Comes named → IsOfCommand outcome (Rose (counted old) (counted new))
-  status_fits (command.Plan dir nodes rounds) comes = planning_status holds may_fail counted taken dir nodes old new outcome comes
-  status_fits (command.Simulate dir) comes = simulation_status holds may_fail counted taken dir old new outcome comes
-  status_fits (command.Check dir) comes = checking_status holds may_fail counted taken dir old new outcome comes
-  status_fits (command.Duties dir) comes = reporting_status holds may_fail counted taken dir report.Duties old new outcome comes
-  status_fits (command.Yards dir) comes = reporting_status holds may_fail counted taken dir report.Yards old new outcome comes
-  status_fits (command.Costs dir) comes = reporting_status holds may_fail counted taken dir report.Costs old new outcome comes
-  status_fits (command.Trial seed trips nodes rounds) comes = trial_status seed trips nodes outcome (Rose (counted old) (counted new)) comes
+  status_fits : (named : Command) → Comes named → IsOfCommand outcome (Rose (faults_of old) (faults_of new))
+  status_fits (command.Plan dir nodes rounds) comes = planning_status holds may_fail faults_of taken dir nodes old new outcome comes
+  status_fits (command.Simulate dir) comes = simulation_status holds may_fail faults_of taken dir old new outcome comes
+  status_fits (command.Check dir) comes = checking_status holds may_fail faults_of taken dir old new outcome comes
+  status_fits (command.Duties dir) comes = reporting_status holds may_fail faults_of taken dir report.Duties old new outcome comes
+  status_fits (command.Yards dir) comes = reporting_status holds may_fail faults_of taken dir report.Yards old new outcome comes
+  status_fits (command.Costs dir) comes = reporting_status holds may_fail faults_of taken dir report.Costs old new outcome comes
+  status_fits (command.Trial seed trips nodes rounds) comes = trial_status seed trips nodes outcome (Rose (faults_of old) (faults_of new)) comes
 
   -- ---- where no call failed, and memory was enough
 
@@ -52,7 +52,7 @@ module _ {F : Type 0} (holds : F → Option Files) (may_fail : F → List ℕ �
   of_words : (named : Command) → IsPlainForm words named → IsWritten outcome before after → Comes named
   of_words named asked written = by is
     where
-      by : IsOutcome holds may_fail counted taken words old new outcome → Comes named
+      by : IsOutcome holds may_fail faults_of taken words old new outcome → Comes named
       by (OfCommand other asked' comes) = subst (λ (it : Command). Comes it) (one_command words other named asked' asked) comes
       by (InVain vain usage) = absurd (vain named asked)
       by (Unread none) = absurd (not_memory none written)
@@ -70,25 +70,25 @@ module _ {F : Type 0} (holds : F → Option Files) (may_fail : F → List ℕ �
       → EndsPlanning refused_line files dir nodes status before after
   ends_planning files dir nodes rounds tells asked undisturbed =
       ends_as (λ n. EndsPlanning refused_line files dir nodes n before after) (command.Plan dir nodes rounds) asked undisturbed
-      (λ comes written. planning_ends holds may_fail counted taken dir nodes old new outcome comes files tells before after written)
+      (λ comes written. planning_ends holds may_fail faults_of taken dir nodes old new outcome comes files tells before after written)
 
   pub ends_simulation : (files : Files) (dir : List ℕ) → holds old ≡ Some files → AskToSimulate words dir → IsUndisturbed status
       → EndsSimulation files dir status before after
   ends_simulation files dir tells asked undisturbed =
       ends_as (λ n. EndsSimulation files dir n before after) (command.Simulate dir) asked undisturbed
-      (λ comes written. simulation_ends holds may_fail counted taken dir old new outcome comes files tells before after written)
+      (λ comes written. simulation_ends holds may_fail faults_of taken dir old new outcome comes files tells before after written)
 
   pub ends_check : (files : Files) (dir : List ℕ) → holds old ≡ Some files → AskToCheck words dir → IsUndisturbed status
       → EndsCheck files dir status before after
   ends_check files dir tells asked undisturbed =
       ends_as (λ n. EndsCheck files dir n before after) (command.Check dir) asked undisturbed
-      (λ comes written. checking_ends holds may_fail counted taken dir old new outcome comes files tells before after written)
+      (λ comes written. checking_ends holds may_fail faults_of taken dir old new outcome comes files tells before after written)
 
   pub ends_report : (files : Files) (dir : List ℕ) (kind : ReportKind) → holds old ≡ Some files → AskToReport words kind dir → IsUndisturbed status
       → EndsReport files dir kind status before after
   ends_report files dir kind tells asked undisturbed =
       ends_as (λ n. EndsReport files dir kind n before after) (command_for kind dir) asked undisturbed
-      (λ comes written. reporting_ends holds may_fail counted taken dir kind old new outcome (reported kind dir comes) files tells before after written)
+      (λ comes written. reporting_ends holds may_fail faults_of taken dir kind old new outcome (reported kind dir comes) files tells before after written)
 
   pub ends_trial : (seed trips nodes rounds : ℕ) → AskToTry words seed trips nodes rounds → IsUndisturbed status
       → EndsTrial seed trips nodes status before after
@@ -102,7 +102,7 @@ module _ {F : Type 0} (holds : F → Option Files) (may_fail : F → List ℕ �
       own : (text : List ℕ) × IsDocument outcome text × Appends text before after × (status ≡ status_of outcome)
       own = ends.whole (IsDocument outcome) (status_of outcome) status before after faults faults' wrote undisturbed
 
-      by : IsOutcome holds may_fail counted taken words old new outcome → EndsInUsage (AskInVain words) usage_text status before after
+      by : IsOutcome holds may_fail faults_of taken words old new outcome → EndsInUsage (AskInVain words) usage_text status before after
       by (OfCommand named asked comes) =
           let other : status ≢ 2 = λ two. (status_fits named comes).not_usage (sym own.3 ∙ two) in
           record { told = (λ two. absurd (other two), λ vain. absurd (vain named asked)); written = λ two. absurd (other two) }
@@ -127,21 +127,21 @@ module _ {F : Type 0} (holds : F → Option Files) (may_fail : F → List ℕ �
   leaves_sink counts_failed counts lasting =
       ends.leaves_sink (IsDocument outcome) (status_of outcome) status before after faults faults' wrote low counts_failed counts lasting
 
-  rose_of : status_of outcome ≡ 5 → Rose (counted old) (counted new)
+  rose_of : status_of outcome ≡ 5 → Rose (faults_of old) (faults_of new)
   rose_of five = by is
     where
-      by : IsOutcome holds may_fail counted taken words old new outcome → Rose (counted old) (counted new)
+      by : IsOutcome holds may_fail faults_of taken words old new outcome → Rose (faults_of old) (faults_of new)
       by (OfCommand named asked comes) = (status_fits named comes).unread five
       by (InVain vain usage) = absurd (omega (arith, five, ap status_of usage))
       by (Unread none) = absurd (omega (arith, five, ap status_of none))
 
-  pub leaves_folder : (counts_failed : Bool) → OnlyReads holds may_fail counted taken old new → (AskForNoFolder words → new ≡ old)
-      → (counts_failed ≡ true → counted new ≡ faults_after (is_unread outcome) (counted old))
-      → LeavesFolder holds may_fail counted taken counts_failed (AskForNoFolder words) status old new
+  pub leaves_folder : (counts_failed : Bool) → OnlyReads holds may_fail faults_of taken old new → (AskForNoFolder words → new ≡ old)
+      → (counts_failed ≡ true → faults_of new ≡ faults_after (is_unread outcome) (faults_of old))
+      → LeavesFolder holds may_fail faults_of taken counts_failed (AskForNoFolder words) status old new
   leaves_folder counts_failed only_reads untouched counts = record {
     only_reads = only_reads;
     untouched = untouched;
     unread = λ five. rose_of (ends.own_five (IsDocument outcome) (status_of outcome) status before after faults faults' wrote five);
     failed_reads = λ counting. ends.counts_reads (IsDocument outcome) (status_of outcome) status before after faults faults' wrote
-        (is_unread outcome) (counted old) (counted new) (unread_is_five outcome) (counts counting);
+        (is_unread outcome) (faults_of old) (faults_of new) (unread_is_five outcome) (counts counting);
   }

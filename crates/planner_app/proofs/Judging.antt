@@ -30,7 +30,7 @@ use Rattle.planner_app.specs.DayOutcomes.{IsReportOutcome, IsWrong, IsReported, 
 use Rattle.planner_app.specs.Outcomes.{IsAnswerChecked, IsAnswerReported, NoAnswer, OfAnswer}
 use Rattle.planner_app.specs.Readings.{AreAnswered, IsReadAnswer, IsUnanswered, NoDay, NoneRead, NoMemoryToRead}
 use Rattle.planner_app.specs.ReportTexts.{report_text}
-use Rattle.planner_app.specs.Statuses.{AreRefused, EndsCheck, EndsReport, IsNotReported, NotValid, WithoutPlan, NoText, OfTable, TooLong, status_of, status_of_verdict}
+use Rattle.planner_app.specs.Statuses.{TellsRefusal, EndsCheck, EndsReport, IsNotReported, NotValid, WithoutPlan, NoText, OfTable, TooLong, status_of, status_of_verdict}
 use Rattle.planner_app.proofs.Simulating.{error_status, memory_status}
 use Rattle.planner_app.proofs.Statuses.{verdict_status, wrong_status}
 use Rattle.planner_app.proofs.Written.{IsOfCommand, IsWritten, appends_line, not_memory, of_command, read_status, with_status, written_as}
@@ -62,7 +62,7 @@ module _ (files : Files) (dir : List ℕ) where
       subst (λ (a : Answer). has_plan answer.head ≡ has_plan a.head) (same_answer day other answer another first second) refl
 
   -- files that are accepted are not refused
-  answered_right : (day : Day) (answer : Answer) (line : List ℕ) → AreAnswered files dir day answer → AreRefused files dir line → ⊥
+  answered_right : (day : Day) (answer : Answer) (line : List ℕ) → AreAnswered files dir day answer → TellsRefusal files dir line → ⊥
   answered_right day answer line accepted (OfTable why refused is) = day_or_not day why accepted.of_tables refused
   answered_right day answer line accepted (TooLong other known longer is) = omega (arith, accepted.of_file.few, longer)
   answered_right day answer line accepted (NoText other known refusal refused is) = accepted.of_file.right refusal refused
@@ -70,7 +70,7 @@ module _ (files : Files) (dir : List ℕ) where
   -- an outcome that says that files are refused, and its line, which was written
   record AreToldRefused (it : Outcome) (before after : Option (List ℕ)) : Type 0 where
     pub line : List ℕ
-    pub refused : AreRefused files dir line
+    pub refused : TellsRefusal files dir line
     pub appended : Appends line before after
     pub status : status_of it ≡ 3
 
@@ -172,7 +172,7 @@ module _ (files : Files) (dir : List ℕ) (before after : Option (List ℕ)) whe
       | inr both ↦ subst Ends (sym (wrong_status verdict both.0)) (checked_invalid both.1)
     ]
 
-  checked_refused : (line : List ℕ) → AreRefused files dir line → Appends line before after → Ends 3
+  checked_refused : (line : List ℕ) → TellsRefusal files dir line → Appends line before after → Ends 3
   checked_refused line wrong appended = record {
     valid = (λ e. absurd (omega (arith, e)), λ said. absurd (answered_right files dir said.0 said.1 line said.2 wrong));
     holds = λ e. absurd (omega (arith, e));
@@ -252,7 +252,7 @@ module _ (files : Files) (dir : List ℕ) (kind : ReportKind) (before after : Op
       refute (inr none) other another is valid planned =
           true_or_false (has_plan another.head) planned (one_plan files dir other day another answer is accepted ∙ none)
 
-  ends_refused : (line : List ℕ) → AreRefused files dir line → Appends line before after → EndsSo 3
+  ends_refused : (line : List ℕ) → TellsRefusal files dir line → Appends line before after → EndsSo 3
   ends_refused line wrong appended = record {
     reported = (λ e. absurd (omega (arith, e)), λ said. absurd (answered_right files dir said.0 said.1 line said.2 wrong));
     written = λ e. absurd (omega (arith, e));

@@ -1,6 +1,6 @@
 -- An answer that meets the headline is read again from its text, and is valid.
 use Rattle.std.proofs.Common.{◌≡◌, ◌≤◌, ℕ, List, length, sym, subst}
-use Rattle.rail_base.specs.declared.limits.TheConstants.{MOST_FILE_BYTES}
+use Rattle.rail_base.specs.declared.limits.TheConstants.{MAX_FILE_BYTES}
 use Rattle.timetable.specs.Day.{Day}
 use Rattle.answer_text.specs.declared.answer.Answer.{Answer}
 use Rattle.answer_text.specs.Grammar.{IsText}
@@ -17,7 +17,7 @@ pub is_answer_of : (day : Day) (granted : ℕ) (answer : Answer) (bytes : List �
 is_answer_of day granted answer bytes is headline =
     let text : IsText bytes answer = record { within = headline.tree.within; text = is } in
     record {
-      few = subst (λ (t : List ℕ). length t ≤ MOST_FILE_BYTES) (sym is)
+      few = subst (λ (t : List ℕ). length t ≤ MAX_FILE_BYTES) (sym is)
           (texts_fit_files answer headline.tree.within headline.tree.valid.proved.whole.0);
       text = text;
       only = λ other. texts_are_of_one_answer bytes answer other text;

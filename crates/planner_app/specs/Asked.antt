@@ -1,6 +1,6 @@
 -- What words ask for.
 use Rattle.std.specs.Prelude.{ℕ, ◌≡◌, ◌≤◌, List, Option, Some, None, ⊤}
-use Rattle.rail_base.specs.declared.limits.TheConstants.{MOST_BRANCHINGS, MOST_ROUNDS}
+use Rattle.rail_base.specs.declared.limits.TheConstants.{MAX_BRANCHINGS, MAX_ROUNDS}
 use Rattle.trial_day.specs.Trial.{IsTrialSize}
 use Rattle.commands.specs.declared.command.Command.{Command}
 use Rattle.commands.specs.declared.command.Command.TheVariants as command
@@ -70,7 +70,7 @@ AskForNoFolder words = (named : Command) → IsPlainForm words named → folder_
 
 -- a command grants no more than may be granted, and a trial day has as many trips as one may have
 abbrev pub IsWithinLimits : Command → Type 0
-IsWithinLimits (command.Plan dir nodes rounds) = (nodes ≤ MOST_BRANCHINGS) × (rounds ≤ MOST_ROUNDS)
+IsWithinLimits (command.Plan dir nodes rounds) = (nodes ≤ MAX_BRANCHINGS) × (rounds ≤ MAX_ROUNDS)
 IsWithinLimits (command.Trial seed trips nodes rounds) =
-    IsTrialSize trips × (nodes ≤ MOST_BRANCHINGS) × (rounds ≤ MOST_ROUNDS)
+    IsTrialSize trips × (nodes ≤ MAX_BRANCHINGS) × (rounds ≤ MAX_ROUNDS)
 IsWithinLimits other = ⊤

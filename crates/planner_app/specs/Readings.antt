@@ -1,13 +1,13 @@
 -- The answer that is read of a folder, and what a day or an answer that is not read comes to.
 use Rattle.std.specs.Prelude.{ℕ, ◌≡◌, ◌≢◌, List, Bool, Option, Some, Ok}
-use Rattle.rail_base.specs.declared.limits.TheConstants.{MOST_NODES}
+use Rattle.rail_base.specs.declared.limits.TheConstants.{MAX_NODES}
 use Rattle.rail_csv.specs.declared.rows.Table.TheVariants as table
 use Rattle.rail_io.specs.Folders.{Files}
 use Rattle.timetable.specs.Day.{Day}
 use Rattle.day_files.specs.declared.errors.ReadError.{ReadError}
 use Rattle.day_files.specs.Inputs.{day_in}
 use Rattle.answer_text.specs.declared.answer.Answer.{Answer}
-use Rattle.answer_text.specs.Limits.{IsWithin}
+use Rattle.answer_text.specs.Limits.{IsAnswerWithin}
 use Rattle.run_documents.specs.declared.answer_file.AnswerError.{AnswerError}
 use Rattle.run_documents.specs.declared.outcome.Outcome.{Outcome}
 use Rattle.run_documents.specs.declared.outcome.Outcome.TheVariants.{NoAnswer, NoMemory}
@@ -25,7 +25,7 @@ pub record AreAnswered (files : Files) (dir : List ℕ) (day : Day) (answer : An
 pub record IsReadAnswer {F : Type 0} (holds : F → Option Files) (dir : List ℕ) (before : F) (day : Day)
     (answer : Answer) : Type 0 where
   pub of_day : IsReadDay holds dir before day
-  pub within : IsWithin MOST_NODES answer
+  pub within : IsAnswerWithin MAX_NODES answer
   pub told : (files : Files) → holds before ≡ Some files → IsAnswerOf (answer_bytes files dir) answer
 
 -- ---- what is not read

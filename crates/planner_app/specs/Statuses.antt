@@ -1,7 +1,7 @@
 -- The status that a run ends with, and what it wrote.
 use Rattle.std.specs.Prelude.{ℕ, ◌≡◌, ◌≢◌, ◌⊎◌, ◌<◌, ◌↔◌, List, length, Option, Bool, true, false, IsTrue}
 use Rattle.std.specs.Prelude.{Ok, Err}
-use Rattle.rail_base.specs.declared.limits.TheConstants.{MOST_FILE_BYTES}
+use Rattle.rail_base.specs.declared.limits.TheConstants.{MAX_FILE_BYTES}
 use Rattle.rail_base.specs.declared.numbers.Money.{Money}
 use Rattle.rail_io.specs.Folders.{Files}
 use Rattle.rail_io.specs.Sinks.{Appends}
@@ -14,7 +14,7 @@ use Rattle.day_files.specs.Inputs.{day_in, inputs_in}
 use Rattle.day_simulator.specs.declared.events.StepFault.{StepFault}
 use Rattle.answer_text.specs.declared.answer.Answer.{Answer}
 use Rattle.answer_text.specs.declared.refusal.AnswerRefusal.{AnswerRefusal}
-use Rattle.answer_text.specs.Grammar.{IsRefused}
+use Rattle.answer_text.specs.Grammar.{IsAnswerRefusal}
 use Rattle.answer_text.specs.Limits.{has_plan}
 use Rattle.trial_day.specs.Trial.{trial_tables_of}
 use Rattle.answer_check.specs.declared.checking.AnswerVerdict.{AnswerVerdict}
@@ -61,13 +61,13 @@ pub record EndsSimulation (files : Files) (dir : List ℕ) (status : ℕ) (befor
 
 -- A table of the day is refused, or the file of the answer is: it is too long, or it is the text of none; and this line
 -- tells it.
-pub data AreRefused (files : Files) (dir : List ℕ) (line : List ℕ) : Type 0 where
-  OfTable : (why : Refusal) → day_in files dir ≡ Err why → line ≡ refused_line why → AreRefused files dir line
-  TooLong : (day : Day) → day_in files dir ≡ Ok day → MOST_FILE_BYTES < length (answer_bytes files dir)
-      → line ≡ file_refused_line answer_file too_long_text → AreRefused files dir line
+pub data TellsRefusal (files : Files) (dir : List ℕ) (line : List ℕ) : Type 0 where
+  OfTable : (why : Refusal) → day_in files dir ≡ Err why → line ≡ refused_line why → TellsRefusal files dir line
+  TooLong : (day : Day) → day_in files dir ≡ Ok day → MAX_FILE_BYTES < length (answer_bytes files dir)
+      → line ≡ file_refused_line answer_file too_long_text → TellsRefusal files dir line
   NoText : (day : Day) → day_in files dir ≡ Ok day → (refusal : AnswerRefusal)
-      → IsRefused (answer_bytes files dir) refusal
-      → line ≡ file_refused_line answer_file (answer_refusal_text refusal) → AreRefused files dir line
+      → IsAnswerRefusal (answer_bytes files dir) refusal
+      → line ≡ file_refused_line answer_file (answer_refusal_text refusal) → TellsRefusal files dir line
 
 -- the status with which an answer of a folder is checked, and what was written
 pub record EndsCheck (files : Files) (dir : List ℕ) (status : ℕ) (before after : Option (List ℕ)) : Type 0 where
@@ -80,9 +80,9 @@ pub record EndsCheck (files : Files) (dir : List ℕ) (status : ℕ) (before aft
   pub invalid : (status ≡ 1) ↔ ((day : Day) × (answer : Answer) × AreAnswered files dir day answer
       × ¬ (IsValid day answer))
   -- 3 exactly where a table or the answer is refused
-  pub refused : (status ≡ 3) ↔ ((line : List ℕ) × AreRefused files dir line)
+  pub refused : (status ≡ 3) ↔ ((line : List ℕ) × TellsRefusal files dir line)
   -- then the refusal was told
-  pub told : status ≡ 3 → (line : List ℕ) × AreRefused files dir line × Appends line before after
+  pub told : status ≡ 3 → (line : List ℕ) × TellsRefusal files dir line × Appends line before after
   -- where it isn't 3, what a valid answer says was told, or the first thing that is wrong with it
   pub verdict : status ≢ 3 → (day : Day) × (answer : Answer) × AreAnswered files dir day answer
       × (verdict : AnswerVerdict) × IsAnswerVerdict day answer verdict
@@ -112,9 +112,9 @@ pub record EndsReport (files : Files) (dir : List ℕ) (kind : ReportKind) (stat
   pub why : status ≡ 1 → (day : Day) × (answer : Answer) × AreAnswered files dir day answer
       × (line : List ℕ) × IsNotReported day answer line × Appends line before after
   -- 3 exactly where a table or the answer is refused
-  pub refused : (status ≡ 3) ↔ ((line : List ℕ) × AreRefused files dir line)
+  pub refused : (status ≡ 3) ↔ ((line : List ℕ) × TellsRefusal files dir line)
   -- then the refusal was told
-  pub told : status ≡ 3 → (line : List ℕ) × AreRefused files dir line × Appends line before after
+  pub told : status ≡ 3 → (line : List ℕ) × TellsRefusal files dir line × Appends line before after
 
 -- ---- a trial day
 

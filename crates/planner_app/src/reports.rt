@@ -1,7 +1,7 @@
 //! Reports on the plan of a folder's answer, once it is found valid.
 
 ghost use Rattle.std.specs.Prelude.{true, ◌≡◌, ◌≤◌, IfOk, length};
-ghost use Rattle.rail_base.specs.declared.limits.TheConstants.{MOST_TRIPS};
+ghost use Rattle.rail_base.specs.declared.limits.TheConstants.{MAX_TRIPS};
 ghost use Rattle.rail_io.specs.Folders.{OnlyReads, faults_after};
 ghost use Rattle.timetable.specs.Running as running;
 ghost use Rattle.answer_text.specs.Limits.{has_plan};
@@ -60,7 +60,7 @@ fn report_on(
     answer: &Answer,
     kind: ReportKind,
 ) -> Result<Outcome, NoMemory>
-    requires { length answer.now.runs ≤ MOST_TRIPS }
+    requires { length answer.now.runs ≤ MAX_TRIPS }
     ensures { IfOk result (IsReportOutcome kind instance.now answer.now) }
 {
     let verdict = verdict_on(alloc, instance, answer)?;
@@ -84,7 +84,7 @@ fn table_of(
     answer: &Answer,
     kind: ReportKind,
 ) -> Result<Vec<u8>, NoMemory>
-    requires few { length answer.now.runs ≤ MOST_TRIPS }
+    requires few { length answer.now.runs ≤ MAX_TRIPS }
     requires runs { running.Runs instance.now answer.now.runs }
     ensures { IfOk result (λ text. text.items ≡ report_text kind instance.now answer.now.runs) }
 {

@@ -1,7 +1,7 @@
 //! From the words to the outcome: what each command does with the files of its folder.
 
 ghost use Rattle.std.specs.Prelude.{ℕ, true, false, ◌≡◌, ◌≤◌, ◌+◌, ◌*◌, ◌^◌, All, None, length};
-ghost use Rattle.rail_base.specs.declared.limits.TheConstants.{MOST_BRANCHINGS, MOST_ROUNDS, MOST_TRIPS};
+ghost use Rattle.rail_base.specs.declared.limits.TheConstants.{MAX_BRANCHINGS, MAX_ROUNDS, MAX_TRIPS};
 ghost use Rattle.rail_io.specs.Folders.{OnlyReads, faults_after};
 ghost use Rattle.timetable.specs.Running.{IsPlan};
 ghost use Rattle.search.specs.Questions.{AreAsked, AreTheSame, LeavesAdvisors};
@@ -110,17 +110,17 @@ fn planned<F: Folder>(
     alloc: Global,
     folder: &mut F,
     dir: &str,
-    nodes: u32,
+    grant: u32,
     rounds: u8,
     advisors: &mut Vec<Box<dyn Advisor>>,
 ) -> Outcome
     // The grants, and the advisors before.
-    requires nodes { nodes ≤ MOST_BRANCHINGS }
-    requires rounds { rounds ≤ MOST_ROUNDS }
+    requires grant { grant ≤ MAX_BRANCHINGS }
+    requires rounds { rounds ≤ MAX_ROUNDS }
     requires asked { All (λ advisor. asked advisor ≤ 2 ^ 63) advisors.old.items }
 
     // What it comes to.
-    ensures outcome { IsDayPlanned F.holds F.may_fail F.faults F.taken dir.now nodes folder.old folder.new result }
+    ensures outcome { IsDayPlanned F.holds F.may_fail F.faults F.taken dir.now grant folder.old folder.new result }
 
     // The folder.
     ensures only_reads { OnlyReads F.holds F.may_fail F.faults F.taken folder.old folder.new }
@@ -129,11 +129,11 @@ fn planned<F: Folder>(
 
     // The advisors.
     ensures advisors { AreTheSame advisors.old.items advisors.new.items identity }
-    ensures asked { AreAsked advisors.old.items advisors.new.items asked has_quit 0 (rounds * (2 * nodes + 1)) }
+    ensures asked { AreAsked advisors.old.items advisors.new.items asked has_quit 0 (rounds * (2 * grant + 1)) }
     ensures asked_for { AreAskedFor rounds result advisors.old.items advisors.new.items asked has_quit }
 {
     match day_in(alloc, folder, dir) {
-        Ok(instance) => planned_day(alloc, &instance, nodes, rounds, advisors),
+        Ok(instance) => planned_day(alloc, &instance, grant, rounds, advisors),
         Err(error) => Outcome::from(error),
     }
 }
@@ -142,25 +142,25 @@ fn planned<F: Folder>(
 fn planned_day(
     alloc: Global,
     instance: &Instance,
-    nodes: u32,
+    grant: u32,
     rounds: u8,
     advisors: &mut Vec<Box<dyn Advisor>>,
 ) -> Outcome
     // The grants, and the advisors before.
-    requires nodes { nodes ≤ MOST_BRANCHINGS }
-    requires rounds { rounds ≤ MOST_ROUNDS }
+    requires grant { grant ≤ MAX_BRANCHINGS }
+    requires rounds { rounds ≤ MAX_ROUNDS }
     requires asked { All (λ advisor. asked advisor ≤ 2 ^ 63) advisors.old.items }
 
     // What it comes to.
-    ensures outcome { IsPlanOutcome instance.now nodes result }
+    ensures outcome { IsPlanOutcome instance.now grant result }
     ensures read { is_unread result ≡ false }
 
     // The advisors.
     ensures advisors { AreTheSame advisors.old.items advisors.new.items identity }
-    ensures asked { AreAsked advisors.old.items advisors.new.items asked has_quit 0 (rounds * (2 * nodes + 1)) }
+    ensures asked { AreAsked advisors.old.items advisors.new.items asked has_quit 0 (rounds * (2 * grant + 1)) }
     ensures asked_for { AreAskedFor rounds result advisors.old.items advisors.new.items asked has_quit }
 {
-    match answer_for(alloc, instance, nodes, rounds, advisors) {
+    match answer_for(alloc, instance, grant, rounds, advisors) {
         Ok(answer) => Outcome::Planned(answer),
         Err(NoMemory) => Outcome::NoMemory,
     }
@@ -171,28 +171,28 @@ fn tried(
     alloc: Global,
     seed: u32,
     trips: u32,
-    nodes: u32,
+    grant: u32,
     rounds: u8,
     advisors: &mut Vec<Box<dyn Advisor>>,
 ) -> Outcome
     // The size, the grants, and the advisors before.
     requires size { IsTrialSize trips }
-    requires nodes { nodes ≤ MOST_BRANCHINGS }
-    requires rounds { rounds ≤ MOST_ROUNDS }
+    requires grant { grant ≤ MAX_BRANCHINGS }
+    requires rounds { rounds ≤ MAX_ROUNDS }
     requires asked { All (λ advisor. asked advisor ≤ 2 ^ 63) advisors.old.items }
 
     // What it comes to.
-    ensures outcome { IsTrialOutcome seed trips nodes result }
+    ensures outcome { IsTrialOutcome seed trips grant result }
 
     // The advisors.
     ensures advisors { AreTheSame advisors.old.items advisors.new.items identity }
-    ensures asked { AreAsked advisors.old.items advisors.new.items asked has_quit 0 (rounds * (2 * nodes + 1)) }
+    ensures asked { AreAsked advisors.old.items advisors.new.items asked has_quit 0 (rounds * (2 * grant + 1)) }
     ensures asked_for { AreAskedFor rounds result advisors.old.items advisors.new.items asked has_quit }
 {
     let Ok(instance) = trial_instance(alloc, seed, trips) else {
         return Outcome::NoMemory;
     };
-    match answer_for(alloc, &instance, nodes, rounds, advisors) {
+    match answer_for(alloc, &instance, grant, rounds, advisors) {
         Ok(answer) => Outcome::Tried {
             seed,
             trips,
@@ -243,7 +243,7 @@ fn checked<F: Folder>(alloc: Global, folder: &mut F, dir: &str) -> Outcome
 
 /// Checks an answer to a day.
 fn checked_answer(alloc: Global, instance: &Instance, answer: &Answer) -> Outcome
-    requires { length answer.now.runs ≤ MOST_TRIPS }
+    requires { length answer.now.runs ≤ MAX_TRIPS }
     ensures outcome { IsCheckOutcome instance.now answer.now result }
     ensures read { is_unread result ≡ false }
 {

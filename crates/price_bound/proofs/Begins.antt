@@ -148,10 +148,10 @@ module _ (n : ℕ) (stage : Stage) (stages : List Stage) (over : All (IsOver n) 
 
   -- a path begins with a composition of the row
   path_within : (stage : Stage) (stages : List Stage) → IsOver n stage → (comp : ℕ) (path : List ℕ) (value : ℤ) → IsPath (stage ∷ stages) (comp ∷ path) value → comp < n
-  path_within stage [] is comp [] value path = is.worths comp value path
+  path_within stage [] is comp [] value path = is.priced_costs comp value path
   path_within stage [] is comp (next ∷ path) value never = absurd never
   path_within stage (after ∷ stages) is comp [] value never = absurd never
-  path_within stage (after ∷ stages) is comp (next ∷ path) value (here, step, rest, here_is, is_step, is_rest, total) = is.worths comp here here_is
+  path_within stage (after ∷ stages) is comp (next ∷ path) value (here, step, rest, here_is, is_step, is_rest, total) = is.priced_costs comp here here_is
 
   stage_over : IsOver n stage
   stage_over = over 0 stage (omega arith)

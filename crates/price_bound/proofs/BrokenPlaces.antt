@@ -10,7 +10,7 @@ use Rattle.branch_tree.specs.declared.relaxation.Settled.TheVariants.{Broken}
 use Rattle.branch_tree.specs.Bounds.{IsSettled}
 use Rattle.price_bound.specs.BrokenLaws.{AreBrokenAt, BrokenAtFirstMissed, BrokenAtFirstFault, SolvedWithoutFault}
 use Rattle.price_bound.specs.DayMeanings.{meanings_of}
-use Rattle.price_bound.specs.BrokenPlaces.{fault_sign, place_of}
+use Rattle.price_bound.specs.BrokenPlaces.{fault_sign, place_of_fault}
 use Rattle.price_bound.specs.Slacks.{broken_index, sign_of, slack_at}
 use Rattle.price_bound.proofs.SettledBy.{fault_first, fault_place, fault_signed, first_place, named, sigma_first}
 use Rattle.price_bound.proofs.SettledBy.{sigma_signed, solution}
@@ -41,7 +41,7 @@ broken_at_first_missed day picks place accepted follow first =
 
 pub broken_at_first_fault : BrokenAtFirstFault
 broken_at_first_fault day picks fault accepted follow none is =
-    broken_first day picks accepted (place_of fault) (fault_sign day fault) (fault_place day picks accepted fault is) (fault_signed day picks accepted fault is)
+    broken_first day picks accepted (place_of_fault fault) (fault_sign day fault) (fault_place day picks accepted fault is) (fault_signed day picks accepted fault is)
     (fault_first day picks accepted fault none is)
 
 pub solved_without_fault : SolvedWithoutFault

@@ -17,13 +17,13 @@ use Rattle.rules.specs.declared.records.LinkKind.TheVariants.{Turn, Join, Split}
 use Rattle.timetable.specs.Compositions.{compositions_of}
 use Rattle.timetable.specs.Day.{Day}
 use Rattle.price_bound.specs.declared.cells.Cell.{Cell}
-use Rattle.price_bound.specs.declared.worths.Amount.{Amount}
+use Rattle.price_bound.specs.declared.priced_costs.Amount.{Amount}
 use Rattle.price_bound.specs.CellRows.{HaveRoom, MayRunOn, all_bare, bare, chain_rows, comps_of, edges_offered, lower_at, put_along}
 use Rattle.price_bound.specs.CellRows.{row_on}
-use Rattle.price_bound.specs.CellSizes.{AreSmallCells, IsSmall, most_worth}
+use Rattle.price_bound.specs.CellSizes.{AreSmallCells, IsSmall, most_priced_cost}
 use Rattle.price_bound.specs.ChainStages.{Priced, edges_of, price_of, stage_of, stages_of}
 use Rattle.price_bound.specs.Paths.{Stage, begin_of, last_row, least_from, lower_cell, next_of, offer_by, offered, row_before, row_by, rows_of}
-use Rattle.price_bound.specs.Paths.{path_from, with_worth, with_worths}
+use Rattle.price_bound.specs.Paths.{path_from, with_priced_cost, with_priced_costs}
 use Rattle.price_bound.specs.Pricing.{IsListed}
 use Rattle.price_bound.proofs.Adding.{small_more, small_total}
 use Rattle.price_bound.proofs.Offers.{cell_is}
@@ -77,14 +77,14 @@ lower_small bound (Some a) (Some b) p q = by (int_lt b.value a.value)
 pub cells_more : (a b : ℕ) (row : List (Option Cell)) → a ≤ b → AreSmallCells a row → AreSmallCells b row
 cells_more a b row le small comp cell at = small_more a b cell.value le (small comp cell at)
 
--- ---- a cell with a worth
+-- ---- a cell with a priced cost
 
-pub with_worth_small : (bound most : ℕ) (worth : Option ℤ) (cell : Option Cell) → IfSome worth (IsSmall most)
-    → IfSome cell (λ it. IsSmall bound it.value) → IfSome (with_worth worth cell) (λ it. IsSmall (bound + most) it.value)
-with_worth_small bound most None cell few small = tt
-with_worth_small bound most (Some worth) None few small = tt
-with_worth_small bound most (Some worth) (Some it) few small =
-    small_total most bound (bound + most) worth it.value (worth +ℤ it.value) (omega arith) refl few small
+pub with_priced_cost_small : (bound most : ℕ) (priced_cost : Option ℤ) (cell : Option Cell) → IfSome priced_cost (IsSmall most)
+    → IfSome cell (λ it. IsSmall bound it.value) → IfSome (with_priced_cost priced_cost cell) (λ it. IsSmall (bound + most) it.value)
+with_priced_cost_small bound most None cell few small = tt
+with_priced_cost_small bound most (Some priced_cost) None few small = tt
+with_priced_cost_small bound most (Some priced_cost) (Some it) few small =
+    small_total most bound (bound + most) priced_cost it.value (priced_cost +ℤ it.value) (omega arith) refl few small
 
 -- ---- edges that offer one after another
 
@@ -114,18 +114,18 @@ length-offered priced link ahead row = each (edges_of priced link) row
 
 -- ---- how much a row differs from the row ahead
 
-pub worth_few : (ends : Bool) → most_worth ends ≤ 21000000000000000
-worth_few true = omega arith
-worth_few false = omega arith
+pub priced_cost_few : (ends : Bool) → most_priced_cost ends ≤ 21000000000000000
+priced_cost_few true = omega arith
+priced_cost_few false = omega arith
 
-pub worth_in_step : (ends : Bool) (o : Option Amount) → IfSome o (λ it. IsSmall (most_worth ends) it.0)
+pub priced_cost_in_step : (ends : Bool) (o : Option Amount) → IfSome o (λ it. IsSmall (most_priced_cost ends) it.0)
     → IfSome o (λ it. IsSmall 21000000000000000 it.0)
-worth_in_step ends None small = tt
-worth_in_step ends (Some worth) small = small_more (most_worth ends) 21000000000000000 worth.0 (worth_few ends) small
+priced_cost_in_step ends None small = tt
+priced_cost_in_step ends (Some priced_cost) small = small_more (most_priced_cost ends) 21000000000000000 priced_cost.0 (priced_cost_few ends) small
 
-pub worth_at : (most : ℕ) (o : Option Amount) (worth : Option ℤ) → option_map (λ it. it.0) o ≡ worth → IfSome o (λ it. IsSmall most it.0)
-    → IfSome worth (IsSmall most)
-worth_at most o worth is small = subst (λ (w : Option ℤ). IfSome w (IsSmall most)) is (by o small)
+pub priced_cost_at : (most : ℕ) (o : Option Amount) (priced_cost : Option ℤ) → option_map (λ it. it.0) o ≡ priced_cost → IfSome o (λ it. IsSmall most it.0)
+    → IfSome priced_cost (IsSmall most)
+priced_cost_at most o priced_cost is small = subst (λ (w : Option ℤ). IfSome w (IsSmall most)) is (by o small)
   where
     by : (x : Option Amount) → IfSome x (λ it. IsSmall most it.0) → IfSome (option_map (λ it. it.0) x) (IsSmall most)
     by None few = tt
@@ -149,7 +149,7 @@ offer_of_bare to (Some price) None = refl
 offer_of_bare to (Some price) (Some cell) = refl
 
 pub row_of_bare : (n : ℕ) (stage : Stage) (ahead : List (Option Cell)) → row_before n stage (all_bare ahead) ≡ row_before n stage ahead
-row_of_bare n stage ahead = ap (with_worths stage 0) (each stage.edges (replicate n None))
+row_of_bare n stage ahead = ap (with_priced_costs stage 0) (each stage.edges (replicate n None))
   where
     each : (edges : List Edge) (row : List (Option Cell))
         → fold (offered stage (all_bare ahead)) row edges ≡ fold (offered stage ahead) row edges

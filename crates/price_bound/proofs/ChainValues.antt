@@ -19,11 +19,11 @@ use Rattle.timetable.specs.Running.{EachFollows}
 use Rattle.timetable.proofs.NamedTrips.{place_is}
 use Rattle.timetable.proofs.Ones.{one_same, one_other}
 use Rattle.transitions.specs.declared.edge.Edge.{Edge}
-use Rattle.transitions.specs.Edges.{AreGraphs, IsEdge, IsKindEdge, MayRun}
+use Rattle.transitions.specs.Edges.{AreGraphs, IsEdge, IsKindEdge, IsAdmittedComp}
 use Rattle.branch_tree.specs.Regions.{has}
 use Rattle.branch_tree.specs.IntSums.{int_sum}
 use Rattle.price_bound.specs.ChainStages.{Priced, along, cost_on, edges_of, may_have, part_is_in, price_by_link}
-use Rattle.price_bound.specs.ChainStages.{price_of, stage_of, stages_of, worth_of}
+use Rattle.price_bound.specs.ChainStages.{price_of, stage_of, stages_of, priced_cost_of}
 use Rattle.price_bound.specs.EdgeValues.{edge_value}
 use Rattle.price_bound.specs.FollowingPicks.{IsStep, pick_of}
 use Rattle.price_bound.specs.Paths.{IsPath, IsStepAt}
@@ -37,7 +37,7 @@ use Rattle.price_bound.proofs.Steps.{entry_below}
 
 -- what picks that are near a region are on a trip: the trip's pick may run and is in the region
 pub record IsNearOn (priced : Priced) (picks : List ℕ) (t : ℕ) : Type 0 where
-  pub runs : MayRun priced.day t (pick_of picks t)
+  pub runs : IsAdmittedComp priced.day t (pick_of picks t)
   pub inside : IsTrue (has priced.region t (pick_of picks t))
 
 -- what they are at a link: its edge is allowed, with a part in the region
@@ -51,22 +51,22 @@ module _ (priced : Priced) (picks : List ℕ) (links : AreLinks priced.day) (gra
 
   -- ---- trips
 
-  abbrev pub worth_on : ℕ → ℤ
-  worth_on t = trip_value priced.day (cost_on priced) priced.entries priced.weight t (pick_of picks t)
+  abbrev pub priced_cost_on : ℕ → ℤ
+  priced_cost_on t = trip_value priced.day (cost_on priced) priced.entries priced.weight t (pick_of picks t)
 
-  near_worth : (t : ℕ) → IsNearOn priced picks t → worth_of priced t (pick_of picks t) ≡ Some (worth_on t)
-  near_worth t near =
-      cond-true (may_have priced.day priced.region t (pick_of picks t)) (Some (worth_on t)) None
+  near_priced_cost : (t : ℕ) → IsNearOn priced picks t → priced_cost_of priced t (pick_of picks t) ≡ Some (priced_cost_on t)
+  near_priced_cost t near =
+      cond-true (may_have priced.day priced.region t (pick_of picks t)) (Some (priced_cost_on t)) None
       (and_from (has priced.region t (pick_of picks t)) (nat_lt (pick_of picks t) (length (compositions_of priced.day)) && is_admissible priced.day t (composition_at priced.day (pick_of picks t)))
       near.inside (and_from (nat_lt (pick_of picks t) (length (compositions_of priced.day))) (is_admissible priced.day t (composition_at priced.day (pick_of picks t))) (lt-ltb (pick_of picks t) (length (compositions_of priced.day)) near.runs.listed) near.runs.admissible))
 
-  pub record HasWorth (t : ℕ) (value : ℤ) : Type 0 where
+  pub record HasPricedCost (t : ℕ) (value : ℤ) : Type 0 where
     pub near : IsNearOn priced picks t
-    pub same : value ≡ worth_on t
+    pub same : value ≡ priced_cost_on t
 
-  worth_near : (t : ℕ) (value : ℤ) → worth_of priced t (pick_of picks t) ≡ Some value → HasWorth t value
-  worth_near t value e =
-      let both = cond_some (may_have priced.day priced.region t (pick_of picks t)) (worth_on t) value e in
+  priced_cost_near : (t : ℕ) (value : ℤ) → priced_cost_of priced t (pick_of picks t) ≡ Some value → HasPricedCost t value
+  priced_cost_near t value e =
+      let both = cond_some (may_have priced.day priced.region t (pick_of picks t)) (priced_cost_on t) value e in
       let in_region = and_parts (has priced.region t (pick_of picks t)) (nat_lt (pick_of picks t) (length (compositions_of priced.day)) && is_admissible priced.day t (composition_at priced.day (pick_of picks t))) both.0 in
       let runs = and_parts (nat_lt (pick_of picks t) (length (compositions_of priced.day))) (is_admissible priced.day t (composition_at priced.day (pick_of picks t))) in_region.1 in
       record {
@@ -158,7 +158,7 @@ module _ (priced : Priced) (picks : List ℕ) (links : AreLinks priced.day) (gra
   into t = adds_to departing_in leads_to to_named priced.day.links links.departing_once (λ l link. value_of_link link l) t
 
   abbrev pub total_on : ℕ → ℤ
-  total_on t = worth_on t +ℤ into t
+  total_on t = priced_cost_on t +ℤ into t
 
   into_led : (a b : ℕ) (leads : Leads priced.day a b) → into b ≡ value_of_link leads.link leads.number
   into_led a b leads =
@@ -205,9 +205,9 @@ module _ (priced : Priced) (picks : List ℕ) (links : AreLinks priced.day) (gra
   pub near_path : (t : ℕ) (ts : List ℕ) → EachFollows (Leads priced.day) (t ∷ ts) → AreBelow (t ∷ ts) → ((u : ℕ) → u < length priced.day.trips → IsNearOn priced picks u)
       → ((u : ℕ) → u < length priced.day.trips → IsNearInto u) → HasPath t ts
   near_path t [] follows below on into_all = record {
-    value = worth_on t;
-    path = near_worth t (on t (below t (head_in t [])));
-    total = one_total (into t) (worth_on t);
+    value = priced_cost_on t;
+    path = near_priced_cost t (on t (below t (head_in t [])));
+    total = one_total (into t) (priced_cost_on t);
   }
   near_path t (next ∷ ts) follows below on into_all =
       let leads : Leads priced.day t next = follows.0 in
@@ -216,17 +216,17 @@ module _ (priced : Priced) (picks : List ℕ) (links : AreLinks priced.day) (gra
       let next_below : next < length priced.day.trips = below next (rest_in next t (next ∷ ts) (head_in next ts)) in
       let step : ℤ = value_of_link leads.link leads.number in
       record {
-        value = worth_on t +ℤ (step +ℤ rest.value);
+        value = priced_cost_on t +ℤ (step +ℤ rest.value);
         path = (
-          worth_on t,
+          priced_cost_on t,
           step,
           rest.value,
-          near_worth t (on t t_below),
+          near_priced_cost t (on t t_below),
           near_step t next leads t_below next_below (into_all next next_below leads.number leads.link leads.at leads.to),
           rest.path,
           refl,
         );
-        total = more_total (into t) (worth_on t) (into next) step rest.value (int_sum total_on (next ∷ ts)) (into_led t next leads) rest.total;
+        total = more_total (into t) (priced_cost_on t) (into next) step rest.value (int_sum total_on (next ∷ ts)) (into_led t next leads) rest.total;
       }
 
   -- the other way
@@ -249,17 +249,17 @@ module _ (priced : Priced) (picks : List ℕ) (links : AreLinks priced.day) (gra
   pub path_near : (t : ℕ) (ts : List ℕ) (value : ℤ) → EachFollows (Leads priced.day) (t ∷ ts) → AreBelow (t ∷ ts)
       → IsPath (stages_of priced (t ∷ ts)) (along picks (t ∷ ts)) value → IsNearAlong t ts value
   path_near t [] value follows below path =
-      let has : HasWorth t value = worth_near t value path in
+      let has : HasPricedCost t value = priced_cost_near t value path in
       record {
         on = λ u here. elim (head_or_rest u t [] here) [ inl same ↦ subst (IsNearOn priced picks) same has.near | inr none ↦ absurd (omega (arith, none)) ];
         led = λ u none. absurd (omega (arith, none));
-        total = ap (λ (v : ℤ). into t +ℤ v) has.same ∙ one_total (into t) (worth_on t);
+        total = ap (λ (v : ℤ). into t +ℤ v) has.same ∙ one_total (into t) (priced_cost_on t);
       }
   path_near t (next ∷ ts) value follows below (here, step, rest, is_here, is_step, is_rest, total) =
       let leads : Leads priced.day t next = follows.0 in
       let t_below : t < length priced.day.trips = below t (head_in t (next ∷ ts)) in
       let next_below : next < length priced.day.trips = below next (rest_in next t (next ∷ ts) (head_in next ts)) in
-      let has : HasWorth t here = worth_near t here is_here in
+      let has : HasPricedCost t here = priced_cost_near t here is_here in
       let stepped : HasStep t next leads t_below next_below step = step_near t next leads t_below next_below step is_step in
       let more : IsNearAlong next ts rest = path_near next ts rest follows.1 (λ u in_rest. below u (rest_in u t (next ∷ ts) in_rest)) is_rest in
       record {
@@ -269,5 +269,5 @@ module _ (priced : Priced) (picks : List ℕ) (links : AreLinks priced.day) (gra
           | inr later ↦ more.led u later
         ];
         total = ap (λ (v : ℤ). into t +ℤ v) (total ∙ ap (λ (v : ℤ). v +ℤ (step +ℤ rest)) has.same)
-            ∙ more_total (into t) (worth_on t) (into next) step rest (int_sum total_on (next ∷ ts)) (into_led t next leads ∙ sym stepped.same) more.total;
+            ∙ more_total (into t) (priced_cost_on t) (into next) step rest (int_sum total_on (next ∷ ts)) (into_led t next leads ∙ sym stepped.same) more.total;
       }

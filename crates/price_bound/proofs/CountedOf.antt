@@ -2,7 +2,7 @@
 use Rattle.std.proofs.Common.{◌≡◌, ℕ, List, subst, ap, sym, ◌∙◌, ℤ, pos, neg_ℤ, ◌≤ℤ◌}
 use Rattle.timetable.specs.Day.{Day}
 use Rattle.timetable.specs.Picks.{picked}
-use Rattle.inventory.specs.Counts.{count_of_place, last_of}
+use Rattle.inventory.specs.Counts.{count_of_place, end_count_of}
 use Rattle.inventory.specs.Loaded.{Loaded}
 use Rattle.transitions.specs.declared.edge.Edge.{Edge}
 use Rattle.price_bound.specs.Entered.{Counted, IsCounted}
@@ -18,13 +18,13 @@ module _ (counted : Counted) (graphs : List (List Edge)) (ledger : Loaded) (is :
   pub count_is : (s m k : ℕ) (count : ℤ) → count ≡ count_of_place ledger.day ledger.lists s m k → count ≡ count_of_place counted.day (picked counted.day counted.picks) s m k
   count_is s m k count e = e ∙ ap (λ (x : Loaded). count_of_place x.day x.lists s m k) is.counted
 
-  pub end_is : (s m : ℕ) (count : ℤ) → count ≡ last_of ledger.day ledger.lists s m → count ≡ last_of counted.day (picked counted.day counted.picks) s m
-  end_is s m count e = e ∙ ap (λ (x : Loaded). last_of x.day x.lists s m) is.counted
+  pub end_is : (s m : ℕ) (count : ℤ) → count ≡ end_count_of ledger.day ledger.lists s m → count ≡ end_count_of counted.day (picked counted.day counted.picks) s m
+  end_is s m count e = e ∙ ap (λ (x : Loaded). end_count_of x.day x.lists s m) is.counted
 
   pub least_counted : (s m k : ℕ) (count : ℤ) → count ≡ count_of_place ledger.day ledger.lists s m k → neg_ℤ (pos 2400) ≤ℤ count
   least_counted s m k count e =
       subst (λ (x : ℤ). neg_ℤ (pos 2400) ≤ℤ x) (sym (count_is s m k count e)) (least_count counted.day counted.picks is.accepted.limits (are_picks counted.day counted.picks is.follow) s m _)
 
-  pub least_end : (s m : ℕ) (count : ℤ) → count ≡ last_of ledger.day ledger.lists s m → neg_ℤ (pos 2400) ≤ℤ count
+  pub least_end : (s m : ℕ) (count : ℤ) → count ≡ end_count_of ledger.day ledger.lists s m → neg_ℤ (pos 2400) ≤ℤ count
   least_end s m count e =
       subst (λ (x : ℤ). neg_ℤ (pos 2400) ≤ℤ x) (sym (end_is s m count e)) (least_last counted.day counted.picks is.accepted.limits (are_picks counted.day counted.picks is.follow) s m)

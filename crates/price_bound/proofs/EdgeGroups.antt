@@ -10,16 +10,16 @@ use Rattle.timetable.specs.Links.{outgoing}
 use Rattle.transitions.specs.declared.edge.Edge.{Edge}
 use Rattle.transitions.specs.Edges.{AreGraphs, AreInOrder}
 use Rattle.price_bound.specs.declared.cells.Cell.{Cell}
-use Rattle.price_bound.specs.declared.worths.Amount.{Amount}
+use Rattle.price_bound.specs.declared.priced_costs.Amount.{Amount}
 use Rattle.price_bound.specs.CellRows.{all_bare, bare, comps_of, edges_offered, last_row_on, offered_from, row_on}
-use Rattle.price_bound.specs.CellSizes.{AreSmallCells, IsSmall, most_worth}
-use Rattle.price_bound.specs.ChainStages.{Priced, edges_of, price_of, stage_of, worth_of}
+use Rattle.price_bound.specs.CellSizes.{AreSmallCells, IsSmall, most_priced_cost}
+use Rattle.price_bound.specs.ChainStages.{Priced, edges_of, price_of, stage_of, priced_cost_of}
 use Rattle.price_bound.specs.EdgeGroups.{IsAtGroup, IsGroupPlace, IsInGroup}
-use Rattle.price_bound.specs.Paths.{Stage, lower_cell, offer_by, with_worth, with_worths}
+use Rattle.price_bound.specs.Paths.{Stage, lower_cell, offer_by, with_priced_cost, with_priced_costs}
 use Rattle.price_bound.proofs.Adding.{small_more, small_zero}
-use Rattle.price_bound.proofs.ChainCells.{fold_more, get-bare, length-offered, lower_small, offered_at, some_small, with_worth_small}
-use Rattle.price_bound.proofs.ChainCells.{worth_at, worth_few}
-use Rattle.price_bound.proofs.Rows.{get-with_worths}
+use Rattle.price_bound.proofs.ChainCells.{fold_more, get-bare, length-offered, lower_small, offered_at, some_small, with_priced_cost_small}
+use Rattle.price_bound.proofs.ChainCells.{priced_cost_at, priced_cost_few}
+use Rattle.price_bound.proofs.Rows.{get-with_priced_costs}
 
 -- ---- where the edges from a composition begin
 
@@ -178,12 +178,12 @@ pub some_more : (a b : ℕ) (o : Option Cell) → a ≤ b → IfSome o (λ cell.
 some_more a b None le small = tt
 some_more a b (Some cell) le small = small_more a b cell.value le small
 
--- a worth on a trip from which a link leads on, after the price of an edge
-pub worth_step : (bound : ℕ) (worth : ℤ) (cell new : Option Cell) → new ≡ with_worth (Some worth) cell → IsSmall 8000000000000000 worth
+-- a priced cost on a trip from which a link leads on, after the price of an edge
+pub priced_cost_step : (bound : ℕ) (priced_cost : ℤ) (cell new : Option Cell) → new ≡ with_priced_cost (Some priced_cost) cell → IsSmall 8000000000000000 priced_cost
     → IfSome cell (λ it. IsSmall (bound + 13000000000000000) it.value) → IfSome new (λ it. IsSmall (bound + 21000000000000000) it.value)
-worth_step bound worth cell new is few small = subst (λ (o : Option Cell). IfSome o (λ it. IsSmall (bound + 21000000000000000) it.value)) (sym is)
-    (some_more (bound + 13000000000000000 + 8000000000000000) (bound + 21000000000000000) (with_worth (Some worth) cell) (omega arith)
-    (with_worth_small (bound + 13000000000000000) 8000000000000000 (Some worth) cell few small))
+priced_cost_step bound priced_cost cell new is few small = subst (λ (o : Option Cell). IfSome o (λ it. IsSmall (bound + 21000000000000000) it.value)) (sym is)
+    (some_more (bound + 13000000000000000 + 8000000000000000) (bound + 21000000000000000) (with_priced_cost (Some priced_cost) cell) (omega arith)
+    (with_priced_cost_small (bound + 13000000000000000) 8000000000000000 (Some priced_cost) cell few small))
 
 pub least_ends : (priced : Priced) (l : ℕ) (edges : List Edge) (ahead : List (Option Cell)) (comp begin place : ℕ) (least : Option Cell)
     → AreGraphs priced.day priced.graphs → slice_get priced.graphs l ≡ Some edges
@@ -239,17 +239,17 @@ module _ (n : ℕ) (cell : ℕ → Option Cell) (IsFew : Option Cell → Type 0)
     | inr out ↦ let none : None ≡ Some it = sym (get_or_past row k None (omega (arith, out, done.long))) ∙ at in absurd cc
   ]
 
-length-with_worths : (stage : Stage) (comp : ℕ) (row : List (Option Cell)) → length (with_worths stage comp row) ≡ length row
-length-with_worths stage comp [] = refl
-length-with_worths stage comp (cell ∷ row) = ap suc (length-with_worths stage (suc comp) row)
+length-with_priced_costs : (stage : Stage) (comp : ℕ) (row : List (Option Cell)) → length (with_priced_costs stage comp row) ≡ length row
+length-with_priced_costs stage comp [] = refl
+length-with_priced_costs stage comp (cell ∷ row) = ap suc (length-with_priced_costs stage (suc comp) row)
 
 -- ---- the cells of the rows of a day
 
 abbrev pub cell_on : Priced → ℕ → List (Option Cell) → ℕ → Option Cell
-cell_on priced t ahead comp = with_worth (worth_of priced t comp) (offered_from priced (outgoing priced.day t) ahead comp)
+cell_on priced t ahead comp = with_priced_cost (priced_cost_of priced t comp) (offered_from priced (outgoing priced.day t) ahead comp)
 
 abbrev pub last_cell_on : Priced → ℕ → ℕ → Option Cell
-last_cell_on priced t comp = with_worth (worth_of priced t comp) (Some (record { value = pos 0; next = 0 }))
+last_cell_on priced t comp = with_priced_cost (priced_cost_of priced t comp) (Some (record { value = pos 0; next = 0 }))
 
 -- a cell is a step from those ahead
 abbrev pub IsStepFrom : List (Option Cell) → Option Cell → Type 0
@@ -266,53 +266,53 @@ module _ (priced : Priced) (t : ℕ) (ahead : List (Option Cell)) where
   length_offered = length-offered priced (outgoing priced.day t) ahead (none_row priced) ∙ length-replicate {A = Option Cell} (comps_of priced) None
 
   pub row_long : length (row_on priced t ahead) ≡ comps_of priced
-  row_long = length-with_worths (stage_of priced t) 0 all_offered ∙ length_offered
+  row_long = length-with_priced_costs (stage_of priced t) 0 all_offered ∙ length_offered
 
   pub row_cell : (k : ℕ) → k < comps_of priced → get_or (row_on priced t ahead) k None ≡ cell_on priced t ahead k
   row_cell k below =
       let same : 0 + k ≡ k = omega arith in
-      get-with_worths (stage_of priced t) 0 all_offered k (omega (arith, below, length_offered))
-      ∙ ap (λ (i : ℕ). with_worth (worth_of priced t i) (get_or all_offered k None)) same
+      get-with_priced_costs (stage_of priced t) 0 all_offered k (omega (arith, below, length_offered))
+      ∙ ap (λ (i : ℕ). with_priced_cost (priced_cost_of priced t i) (get_or all_offered k None)) same
 
 module _ (priced : Priced) (t : ℕ) where
   pub last_long : length (last_row_on priced t) ≡ comps_of priced
-  last_long = length-with_worths (stage_of priced t) 0 _ ∙ length-replicate {A = Option Cell} (comps_of priced) _
+  last_long = length-with_priced_costs (stage_of priced t) 0 _ ∙ length-replicate {A = Option Cell} (comps_of priced) _
 
   pub last_cell : (k : ℕ) → k < comps_of priced → get_or (last_row_on priced t) k None ≡ last_cell_on priced t k
   last_cell k below =
       let same : 0 + k ≡ k = omega arith in
-      get-with_worths (stage_of priced t) 0 (replicate (comps_of priced) (Some (record { value = pos 0; next = 0 }))) k
+      get-with_priced_costs (stage_of priced t) 0 (replicate (comps_of priced) (Some (record { value = pos 0; next = 0 }))) k
       (omega (arith, below, length-replicate {A = Option Cell} (comps_of priced) (Some (record { value = pos 0; next = 0 }))))
-      ∙ ap (λ (i : ℕ). with_worth (worth_of priced t i) (get_or (replicate (comps_of priced) (Some (record { value = pos 0; next = 0 }))) k None)) same
-      ∙ ap (with_worth (worth_of priced t k)) (get_or-replicate (comps_of priced) k (Some (record { value = pos 0; next = 0 })) None below)
+      ∙ ap (λ (i : ℕ). with_priced_cost (priced_cost_of priced t i) (get_or (replicate (comps_of priced) (Some (record { value = pos 0; next = 0 }))) k None)) same
+      ∙ ap (with_priced_cost (priced_cost_of priced t k)) (get_or-replicate (comps_of priced) k (Some (record { value = pos 0; next = 0 })) None below)
 
--- a worth alone is small
-pub last_small : (ends : Bool) (worth : Option Amount) (cell : Option Cell) → IfSome worth (λ it. IsSmall (most_worth ends) it.0)
-    → cell ≡ with_worth (option_map (λ it. it.0) worth) (Some (record { value = pos 0; next = 0 }))
+-- a priced cost alone is small
+pub last_small : (ends : Bool) (priced_cost : Option Amount) (cell : Option Cell) → IfSome priced_cost (λ it. IsSmall (most_priced_cost ends) it.0)
+    → cell ≡ with_priced_cost (option_map (λ it. it.0) priced_cost) (Some (record { value = pos 0; next = 0 }))
     → IfSome cell (λ it. IsSmall 21000000000000000 it.value)
-last_small ends worth cell few is = subst (λ (o : Option Cell). IfSome o (λ it. IsSmall 21000000000000000 it.value)) (sym is)
-    (some_more (0 + most_worth ends) 21000000000000000 (with_worth (option_map (λ it. it.0) worth) (Some (record { value = pos 0; next = 0 })))
-    (omega (arith, worth_few ends))
-    (with_worth_small 0 (most_worth ends) (option_map (λ it. it.0) worth) (Some (record { value = pos 0; next = 0 }))
-    (worth_at (most_worth ends) worth (option_map (λ it. it.0) worth) refl few) (small_zero 0)))
+last_small ends priced_cost cell few is = subst (λ (o : Option Cell). IfSome o (λ it. IsSmall 21000000000000000 it.value)) (sym is)
+    (some_more (0 + most_priced_cost ends) 21000000000000000 (with_priced_cost (option_map (λ it. it.0) priced_cost) (Some (record { value = pos 0; next = 0 })))
+    (omega (arith, priced_cost_few ends))
+    (with_priced_cost_small 0 (most_priced_cost ends) (option_map (λ it. it.0) priced_cost) (Some (record { value = pos 0; next = 0 }))
+    (priced_cost_at (most_priced_cost ends) priced_cost (option_map (λ it. it.0) priced_cost) refl few) (small_zero 0)))
 
 -- ---- a trip from which no link leads on
 
-pub worths_of_none : (stage : Stage) (at n : ℕ) → with_worths stage at (replicate n None) ≡ replicate n None
-worths_of_none stage at zero = refl
-worths_of_none stage at (suc n) =
-    ap (λ (cell : Option Cell). cell ∷ with_worths stage (suc at) (replicate n None)) (none (stage.worth at))
-    ∙ ap (λ (row : List (Option Cell)). None ∷ row) (worths_of_none stage (suc at) n)
+pub priced_costs_of_none : (stage : Stage) (at n : ℕ) → with_priced_costs stage at (replicate n None) ≡ replicate n None
+priced_costs_of_none stage at zero = refl
+priced_costs_of_none stage at (suc n) =
+    ap (λ (cell : Option Cell). cell ∷ with_priced_costs stage (suc at) (replicate n None)) (none (stage.priced_cost at))
+    ∙ ap (λ (row : List (Option Cell)). None ∷ row) (priced_costs_of_none stage (suc at) n)
   where
-    none : (worth : Option _) → with_worth worth None ≡ None
+    none : (priced_cost : Option _) → with_priced_cost priced_cost None ≡ None
     none None = refl
-    none (Some worth) = refl
+    none (Some priced_cost) = refl
 
 pub row_of_none : (priced : Priced) (t : ℕ) (ahead : List (Option Cell)) → outgoing priced.day t ≡ None
     → row_on priced t ahead ≡ replicate (comps_of priced) None
 row_of_none priced t ahead none =
-    ap (λ (link : Option ℕ). with_worths (stage_of priced t) 0 (edges_offered priced link ahead (none_row priced))) none
-    ∙ worths_of_none (stage_of priced t) 0 (comps_of priced)
+    ap (λ (link : Option ℕ). with_priced_costs (stage_of priced t) 0 (edges_offered priced link ahead (none_row priced))) none
+    ∙ priced_costs_of_none (stage_of priced t) 0 (comps_of priced)
 
 pub bare_none : (n : ℕ) → all_bare (replicate n None) ≡ replicate n None
 bare_none zero = refl
@@ -320,10 +320,10 @@ bare_none (suc n) = ap (λ (row : List (Option Cell)). None ∷ row) (bare_none 
 
 -- a cell is that of the row of a trip from which a link leads on
 pub cell_read : (priced : Priced) (t l : ℕ) (ahead : List (Option Cell)) (comp : ℕ) (cell : Option Cell) → outgoing priced.day t ≡ Some l
-    → comp < comps_of priced → cell ≡ with_worth (worth_of priced t comp) (offered_from priced (Some l) ahead comp)
+    → comp < comps_of priced → cell ≡ with_priced_cost (priced_cost_of priced t comp) (offered_from priced (Some l) ahead comp)
     → cell ≡ get_or (row_on priced t ahead) comp None
 cell_read priced t l ahead comp cell leads below is =
-    is ∙ sym (ap (λ (link : Option ℕ). with_worth (worth_of priced t comp) (offered_from priced link ahead comp)) leads)
+    is ∙ sym (ap (λ (link : Option ℕ). with_priced_cost (priced_cost_of priced t comp) (offered_from priced link ahead comp)) leads)
     ∙ sym (row_cell priced t ahead comp below)
 
 pub past_next : (priced : Priced) (t : ℕ) (ahead : List (Option Cell)) (comp : ℕ) → comps_of priced ≤ comp

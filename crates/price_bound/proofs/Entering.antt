@@ -5,7 +5,7 @@ use Rattle.std.proofs.Common.{length-append, ℤ, pos, negsuc, unsigned_abs, inl
 use Rattle.std.specs.Prelude.{MatchOption}
 use Rattle.std.proofs.lemmas.Bool.{cases_lt, eq-eqb, ne_eqb}
 use Rattle.branch_tree.specs.declared.multipliers.Entry.{Entry}
-use Rattle.branch_tree.specs.Entries.{IsPastLast, entry_of, last_of, value_at}
+use Rattle.branch_tree.specs.Entries.{IsPastLast, entry_of, last_entry_of, value_at}
 use Rattle.price_bound.specs.Entered.{entries_below}
 
 one_entry : (index n : ℕ) (v : ℤ) → unsigned_abs v ≡ suc n → entry_of index v ≡ record { index = index; value = v } ∷ []
@@ -19,10 +19,10 @@ no_or_one index (pos zero) = inl (refl, refl)
 no_or_one index (pos (suc n)) = inr (one_entry index n (pos (suc n)) refl)
 no_or_one index (negsuc n) = inr (one_entry index n (negsuc n) refl)
 
-last_of-push : (entries : List Entry) (entry : Entry) → last_of (entries ++ entry ∷ []) ≡ Some entry
-last_of-push [] entry = refl
-last_of-push (x ∷ []) entry = refl
-last_of-push (x ∷ y ∷ entries) entry = last_of-push (y ∷ entries) entry
+last_entry_of-push : (entries : List Entry) (entry : Entry) → last_entry_of (entries ++ entry ∷ []) ≡ Some entry
+last_entry_of-push [] entry = refl
+last_entry_of-push (x ∷ []) entry = refl
+last_entry_of-push (x ∷ y ∷ entries) entry = last_entry_of-push (y ∷ entries) entry
 
 -- entries that have no value at an index change none there
 value_at-more : (entries more : List Entry) (index : ℕ) → value_at more index ≡ pos 0 → value_at (entries ++ more) index ≡ value_at entries index
@@ -87,7 +87,7 @@ module _ (value : ℕ → ℤ) where
         (subst (λ (entries : List Entry). IsPastLast entries index) (sym (append-nil (entries_below value n))) (past_last n index (omega arith)))
     | inr one ↦
         subst (λ (more : List Entry). IsPastLast (entries_below value n ++ more) index) (sym one)
-        (subst (λ (o : Option Entry). MatchOption o (Unit {0}) (λ last. last.index < index)) (sym (last_of-push (entries_below value n) (record { index = n; value = value n })))
+        (subst (λ (o : Option Entry). MatchOption o (Unit {0}) (λ last. last.index < index)) (sym (last_entry_of-push (entries_below value n) (record { index = n; value = value n })))
         (omega arith))
   ])
 

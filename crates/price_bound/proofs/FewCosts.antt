@@ -14,7 +14,7 @@ use Rattle.timetable.specs.Links.{list_of, turned}
 use Rattle.timetable.specs.Lists.{sum_below}
 use Rattle.timetable.specs.Picks.{ArePicks, picked}
 use Rattle.timetable.proofs.Carriages.{carriages_le}
-use Rattle.cost_model.specs.declared.costs.TheConstants.{MOST_DAY_COST}
+use Rattle.cost_model.specs.declared.costs.TheConstants.{MAX_DAY_COST}
 use Rattle.price_bound.proofs.FewTaken.{few_listed}
 
 -- a sum of numbers that are at most one
@@ -63,7 +63,7 @@ module _ (day : Day) (is_day : IsDay day) where
       by None = omega arith
       by (Some link) = kind_costs link.kind link.reverse lists
 
-  pub day_costs : (picks : List ℕ) → ArePicks day picks → cost_of day (picked day picks) ≤ MOST_DAY_COST
+  pub day_costs : (picks : List ℕ) → ArePicks day picks → cost_of day (picked day picks) ≤ MAX_DAY_COST
   unfolding cost_of
   day_costs picks are_picks =
       let trips = summed (λ t. trip_cost day t (list_of (picked day picks) t)) 201200000000 (length day.trips)

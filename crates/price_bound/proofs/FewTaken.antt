@@ -20,7 +20,7 @@ use Rattle.timetable.specs.Lists.{count_of, sum_below}
 use Rattle.timetable.specs.Picks.{ArePicks, picked}
 use Rattle.timetable.specs.Turns.{Parts, beyond, kept_length, may_shunt, parts_at, same, staying, turn_parts}
 use Rattle.transitions.proofs.Listed.{few_units}
-use Rattle.inventory.specs.Counts.{all_taken, count_at, last_of, takes_of, taken_until}
+use Rattle.inventory.specs.Counts.{all_taken, count_at, end_count_of, takes_of, taken_until}
 use Rattle.price_bound.specs.FollowingPicks.{pick_of}
 use Rattle.price_bound.proofs.Solving.{list_picked}
 
@@ -120,5 +120,5 @@ module _ (day : Day) (picks : List ℕ) (is_day : IsDay day) (are_picks : ArePic
   pub least_count : (s m minute : ℕ) → neg_ℤ (pos 2400) ≤ℤ count_at day (picked day picks) s m minute
   least_count s m minute = least _ (taken_until day (picked day picks) s m minute) (few_taken s m minute)
 
-  pub least_last : (s m : ℕ) → neg_ℤ (pos 2400) ≤ℤ last_of day (picked day picks) s m
+  pub least_last : (s m : ℕ) → neg_ℤ (pos 2400) ≤ℤ end_count_of day (picked day picks) s m
   least_last s m = least _ (all_taken day (picked day picks) s m) (few_all_taken s m)

@@ -8,7 +8,7 @@ use Rattle.std.proofs.lemmas.Int.{ints}
 use Rattle.std.proofs.lemmas.List.{append-nil, get_or-map, get_or_append_left, get_or_default, length-map}
 use Rattle.std.proofs.lemmas.List.Elements.{All-get_or}
 use Rattle.std.proofs.lemmas.Option.{get_or_from_slice_get}
-use Rattle.rail_base.specs.declared.limits.TheConstants.{MOST_ENTRIES, MOST_MULTIPLIER}
+use Rattle.rail_base.specs.declared.limits.TheConstants.{MAX_ENTRIES, MAX_MULTIPLIER}
 use Rattle.timetable.specs.declared.day.indices.Place.{Place}
 use Rattle.timetable.specs.declared.day.indices.Place.TheVariants.{Lambda, Mu, Sigma}
 use Rattle.timetable.specs.declared.day.records.Handover.{Handover}
@@ -190,13 +190,13 @@ module _ (day : Day) where
   -- ---- all multipliers
 
   abbrev AreFew : List Entry → Type 0
-  AreFew entries = (length entries ≤ MOST_ENTRIES) × ((k : ℕ) (d : Entry) → k < length entries → IsSmall MOST_MULTIPLIER ((get_or entries k d).value))
+  AreFew entries = (length entries ≤ MAX_ENTRIES) × ((k : ℕ) (d : Entry) → k < length entries → IsSmall MAX_MULTIPLIER ((get_or entries k d).value))
 
   entries_small : (f : Place → ℤ → ℤ) → ((place : Place) (v : ℤ) → IsValueOrNone v (f place v)) → (entries : List Entry) → AreFew entries
       → IsSmall most_price (int_sum (by_place day f) entries)
   entries_small f each entries few =
-      small_more (length entries * MOST_MULTIPLIER) most_price (int_sum (by_place day f) entries) (omega (arith, few.0))
-      (sum_small (by_place day f) MOST_MULTIPLIER entries (λ k d lt. place_small f each MOST_MULTIPLIER (get_or entries k d) (few.1 k d lt)))
+      small_more (length entries * MAX_MULTIPLIER) most_price (int_sum (by_place day f) entries) (omega (arith, few.0))
+      (sum_small (by_place day f) MAX_MULTIPLIER entries (λ k d lt. place_small f each MAX_MULTIPLIER (get_or entries k d) (few.1 k d lt)))
 
   pub yard_small : (entries : List Entry) (s minute m : ℕ) → AreFew entries → IsSmall most_price (yard_price day entries s minute m)
   unfolding yard_price
@@ -236,12 +236,12 @@ module _ (day : Day) where
       last : (a b : ℤ) → a +ℤ (b +ℤ pos 0) ≡ a +ℤ b
       last a b = omega (arith, ints)
 
-  next : (done : List Entry) (entry : Entry) (tables : PriceTables) → AreFew done → IsSmall MOST_MULTIPLIER entry.value → ArePut done tables
+  next : (done : List Entry) (entry : Entry) (tables : PriceTables) → AreFew done → IsSmall MAX_MULTIPLIER entry.value → ArePut done tables
       → ArePut (done ++ entry ∷ []) (with_entry day tables entry)
   unfolding second_price part_multiplier
   next done entry tables few small are =
       let more : AreMore (λ f. by_place day f entry) tables (with_entry day tables entry) =
-      entry_more tables entry are.sized (put_small done tables few are) (small_more MOST_MULTIPLIER 2000000000000000000 entry.value (omega arith) small) in
+      entry_more tables entry are.sized (put_small done tables few are) (small_more MAX_MULTIPLIER 2000000000000000000 entry.value (omega arith) small) in
       record {
         sized = more.sized;
         yards = λ s m k lt lt' le. more.yards s m k lt lt' le ∙ ap (λ (v : ℤ). v +ℤ by_place day (put_at day s m k) entry) (are.yards s m k lt lt' le)
@@ -253,7 +253,7 @@ module _ (day : Day) where
   first_few : (done rest : List Entry) → AreFew (done ++ rest) → AreFew done
   first_few done rest few = (
     omega (arith, few.0, length-append done rest),
-    λ k d lt. subst (λ (e : Entry). IsSmall MOST_MULTIPLIER e.value) (get_or_append_left done rest d k lt) (few.1 k d (omega (arith, lt, length-append done rest))),
+    λ k d lt. subst (λ (e : Entry). IsSmall MAX_MULTIPLIER e.value) (get_or_append_left done rest d k lt) (few.1 k d (omega (arith, lt, length-append done rest))),
   )
 
   at_seam : (done : List Entry) (entry : Entry) (rest : List Entry) (d : Entry) → get_or (done ++ entry ∷ rest) (length done) d ≡ entry
@@ -264,13 +264,13 @@ module _ (day : Day) where
   go done [] tables few are = subst (λ (es : List Entry). ArePut es tables) (sym (append-nil done)) are
   go done (entry ∷ rest) tables few are =
       let same : (done ++ entry ∷ []) ++ rest ≡ done ++ entry ∷ rest = append_assoc done (entry ∷ []) rest in
-      let here : IsSmall MOST_MULTIPLIER entry.value =
-      subst (λ (e : Entry). IsSmall MOST_MULTIPLIER e.value) (at_seam done entry rest entry) (few.1 (length done) entry (omega (arith, length-append done (entry ∷ rest)))) in
+      let here : IsSmall MAX_MULTIPLIER entry.value =
+      subst (λ (e : Entry). IsSmall MAX_MULTIPLIER e.value) (at_seam done entry rest entry) (few.1 (length done) entry (omega (arith, length-append done (entry ∷ rest)))) in
       subst (λ (es : List Entry). ArePut es (fold (with_entry day) (with_entry day tables entry) rest)) same
       (go (done ++ entry ∷ []) rest (with_entry day tables entry) (subst AreFew (sym same) few) (next done entry tables (first_few done (entry ∷ rest) few) here are))
 
   pub are_few : (entries : List Entry) → AreMultipliers entries → AreFew entries
-  are_few entries are = (are.few, λ k d lt. small_by_size MOST_MULTIPLIER (get_or entries k d).value (are.within k d lt))
+  are_few entries are = (are.few, λ k d lt. small_by_size MAX_MULTIPLIER (get_or entries k d).value (are.within k d lt))
 
   all_are_put : (entries : List Entry) (tables : PriceTables) → AreMultipliers entries → AreSized day tables
       → ArePut entries (fold (with_entry day) (cleared tables) entries)

@@ -30,7 +30,7 @@ use Rattle.price_bound.specs.Near.{AreNear, LieIn}
 use Rattle.price_bound.specs.Regrouped.{constant_of, link_value, regrouped}
 use Rattle.price_bound.proofs.ByLink.{adds_all}
 use Rattle.price_bound.proofs.ChainValues.{AreBelow, HasPath, IsNearAlong, IsNearAt, IsNearInto, IsNearOn, into}
-use Rattle.price_bound.proofs.ChainValues.{into_none, near_path, path_near, total_on, value_of_link, worth_on}
+use Rattle.price_bound.proofs.ChainValues.{into_none, near_path, path_near, total_on, value_of_link, priced_cost_on}
 use Rattle.price_bound.proofs.IntLaws.{below_add, below_none, below_same, only_at, only_here, only_other, only_within}
 use Rattle.price_bound.proofs.IntLaws.{sum_append}
 use Rattle.price_bound.proofs.Ordering.{count_joined}
@@ -153,13 +153,13 @@ module _ (priced : Priced) (picks : List ℕ) (links : AreLinks priced.day) (gra
     all = one_after_another (chains_of priced.day)
 
     -- over all trips and links
-    pub total_is : int_sum total all ≡ int_below (worth_on priced picks links graphs long) (length priced.day.trips)
+    pub total_is : int_sum total all ≡ int_below (priced_cost_on priced picks links graphs long) (length priced.day.trips)
         +ℤ int_below (link_value priced.day priced.entries priced.weight (picked priced.day picks)) (length priced.day.links)
     unfolding link_value
     total_is =
         each_once_sum total (length priced.day.trips) all (λ u lt. count_joined u (chains_of priced.day) ∙ chains.once u lt) (λ u past. count_joined u (chains_of priced.day) ∙ chains.known u past)
-        ∙ below_add (worth_on priced picks links graphs long) (into priced picks links graphs long) (length priced.day.trips)
-        ∙ ap (λ (v : ℤ). int_below (worth_on priced picks links graphs long) (length priced.day.trips) +ℤ v)
+        ∙ below_add (priced_cost_on priced picks links graphs long) (into priced picks links graphs long) (length priced.day.trips)
+        ∙ ap (λ (v : ℤ). int_below (priced_cost_on priced picks links graphs long) (length priced.day.trips) +ℤ v)
         (sym (adds_all departing_in leads_to to_named priced.day.links links.departing_once (λ l link. value_of_link priced picks links graphs long link l) (length priced.day.trips)
         (λ l link at. (lead_within (length priced.day.trips) link.kind (names_below priced.day links l link at)).to)))
 
@@ -167,7 +167,7 @@ module _ (priced : Priced) (picks : List ℕ) (links : AreLinks priced.day) (gra
         → regrouped priced.day (cost_on priced) priced.entries priced.weight picks ≡ constant_of priced.day priced.entries +ℤ value
     unfolding regrouped
     regrouped_is value is =
-        all_of (constant_of priced.day priced.entries) (int_below (worth_on priced picks links graphs long) (length priced.day.trips))
+        all_of (constant_of priced.day priced.entries) (int_below (priced_cost_on priced picks links graphs long) (length priced.day.trips))
         (int_below (link_value priced.day priced.entries priced.weight (picked priced.day picks)) (length priced.day.links)) value (is ∙ total_is)
       where
         all_of : (c w l v : ℤ) → v ≡ w +ℤ l → c +ℤ w +ℤ l ≡ c +ℤ v

@@ -7,13 +7,13 @@ use Rattle.std.proofs.lemmas.Int.{ints}
 use Rattle.std.proofs.lemmas.List.{get_or-set_same, get_or-set_other}
 use Rattle.timetable.specs.Admissible.{is_admissible}
 use Rattle.timetable.specs.Compositions.{compositions_of, composition_at}
-use Rattle.transitions.specs.Edges.{MayRun}
+use Rattle.transitions.specs.Edges.{IsAdmittedComp}
 use Rattle.branch_tree.specs.Regions.{has}
 use Rattle.price_bound.specs.declared.passes.Passes.{Passes}
 use Rattle.price_bound.specs.CellRows.{cell_in, offered_from}
 use Rattle.price_bound.specs.declared.cells.Cell.{Cell}
 use Rattle.price_bound.specs.CellSizes.{AreSmallCells, IsSmall}
-use Rattle.price_bound.specs.ChainStages.{Priced, cost_on, may_have, worth_of}
+use Rattle.price_bound.specs.ChainStages.{Priced, cost_on, may_have, priced_cost_of}
 use Rattle.price_bound.specs.CompositionTrees.{IsMadeOf, place_at}
 use Rattle.price_bound.specs.HeldValues.{HoldsCell, least_none, no_value}
 use Rattle.price_bound.specs.LeastOverTrees.{IsTree, lower}
@@ -26,16 +26,16 @@ use Rattle.price_bound.proofs.PassValues.{held_turning, least_turning, offered_s
 
 -- ---- what may run
 
--- what has a worth on a trip may run on it
-pub worth_runs : (priced : Priced) (t comp : ℕ) (worth : ℤ) → worth_of priced t comp ≡ Some worth → MayRun priced.day t comp
-worth_runs priced t comp worth is = on (cases_Bool (may_have priced.day priced.region t comp))
+-- what has a priced cost on a trip may run on it
+pub priced_cost_runs : (priced : Priced) (t comp : ℕ) (priced_cost : ℤ) → priced_cost_of priced t comp ≡ Some priced_cost → IsAdmittedComp priced.day t comp
+priced_cost_runs priced t comp priced_cost is = on (cases_Bool (may_have priced.day priced.region t comp))
   where
-    on : (may_have priced.day priced.region t comp ≡ true) ⊎ (may_have priced.day priced.region t comp ≡ false) → MayRun priced.day t comp
+    on : (may_have priced.day priced.region t comp ≡ true) ⊎ (may_have priced.day priced.region t comp ≡ false) → IsAdmittedComp priced.day t comp
     on (inl may) =
         let both = and_parts (has priced.region t comp) (nat_lt comp (length (compositions_of priced.day)) && is_admissible priced.day t (composition_at priced.day comp)) may in
         let parts = and_parts (nat_lt comp (length (compositions_of priced.day))) (is_admissible priced.day t (composition_at priced.day comp)) both.1 in
         record { listed = ltb-true comp (length (compositions_of priced.day)) parts.0; admissible = parts.1 }
-    on (inr never) = absurd (let none : None ≡ Some worth = sym (ap (λ (b : Bool). if b then Some (trip_value priced.day (cost_on priced) priced.entries priced.weight t comp) else None) never) ∙ is in cc)
+    on (inr never) = absurd (let none : None ≡ Some priced_cost = sym (ap (λ (b : Bool). if b then Some (trip_value priced.day (cost_on priced) priced.entries priced.weight t comp) else None) never) ∙ is in cc)
 
 -- ---- the lower of two
 
@@ -188,7 +188,7 @@ module _ (passes : Passes) (is : IsForPasses passes) (ahead : List ℤ) (are : A
   abbrev Held : List ℤ → ℕ → Type 0
   Held values from = HoldsCell least_none (value_at values from) (offered_from (priced_for passes) (Some passes.link) (map cell_in ahead) from)
 
-  pass_value : (at : ℕ) → at < comps → MayRun (priced_for passes).day passes.turn.arriving (place at) → (shorter longer : List ℤ)
+  pass_value : (at : ℕ) → at < comps → IsAdmittedComp (priced_for passes).day passes.turn.arriving (place at) → (shorter longer : List ℤ)
       → AreShorter passes ahead at shorter → AreLonger passes ahead 0 longer
       → HoldsCell least_none (put_value shorter longer at) (offered_from (priced_for passes) (Some passes.link) (map cell_in ahead) (place at))
   pass_value at below runs shorter longer up down =
@@ -219,7 +219,7 @@ module _ (passes : Passes) (is : IsForPasses passes) (ahead : List ℤ) (are : A
         each = λ comp under runs. elim (cases_eq comp at) [
           | inl same ↦ subst (λ (k : ℕ). Held new (place k)) (sym same)
               (subst (λ (x : ℤ). HoldsCell least_none x (offered_from (priced_for passes) (Some passes.link) (map cell_in ahead) (place at))) (sym here)
-              (pass_value at below (subst (λ (k : ℕ). MayRun (priced_for passes).day passes.turn.arriving (place k)) same runs) shorter longer up down))
+              (pass_value at below (subst (λ (k : ℕ). IsAdmittedComp (priced_for passes).day passes.turn.arriving (place k)) same runs) shorter longer up down))
           | inr differ ↦
               let before : comp < at = omega (arith, under, differ) in
               let apart : place comp ≢ place at = λ same.
@@ -235,7 +235,7 @@ module _ (passes : Passes) (is : IsForPasses passes) (ahead : List ℤ) (are : A
     each = λ from below runs.
         let there = turned_back (priced_for passes).day passes.turn.reverse place is.places from below in
         subst (λ (k : ℕ). Held values k) there.2
-        (done.each (place from) there.0 (subst (λ (k : ℕ). MayRun (priced_for passes).day passes.turn.arriving k) (sym there.2) runs));
+        (done.each (place from) there.0 (subst (λ (k : ℕ). IsAdmittedComp (priced_for passes).day passes.turn.arriving k) (sym there.2) runs));
   }
 
   -- ---- how large values are
@@ -254,7 +254,7 @@ module _ (passes : Passes) (is : IsForPasses passes) (ahead : List ℤ) (are : A
       less a b x p q e = let r = p.above in let s = p.below in let t = q.above in let v = q.below in
           record { above = omega (arith, ints, r, v, e); below = omega (arith, ints, s, t, e) }
 
-  pub passed_small : (from : ℕ) → from < comps → MayRun (priced_for passes).day passes.turn.arriving from → (it : Cell)
+  pub passed_small : (from : ℕ) → from < comps → IsAdmittedComp (priced_for passes).day passes.turn.arriving from → (it : Cell)
       → offered_from (priced_for passes) (Some passes.link) (map cell_in ahead) from ≡ Some it → (bound : ℕ) → AreSmallCells bound (map cell_in ahead)
       → IsSmall (bound + 13000000000000000) it.value
   passed_small from below runs it at bound each =

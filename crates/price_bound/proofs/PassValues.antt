@@ -16,7 +16,7 @@ use Rattle.timetable.specs.Links.{turned}
 use Rattle.transitions.specs.declared.edge.Edge.{Edge}
 use Rattle.transitions.specs.declared.edge.Shunt.{Shunt}
 use Rattle.transitions.specs.declared.edge.Shunt.TheVariants.{Keep, Uncouple, Couple, Exchange}
-use Rattle.transitions.specs.Edges.{AreEdges, IsEdge, IsKindEdge, IsTurnEdge, MayRun}
+use Rattle.transitions.specs.Edges.{AreEdges, IsEdge, IsKindEdge, IsTurnEdge, IsAdmittedComp}
 use Rattle.branch_tree.specs.Meanings.{weighted}
 use Rattle.price_bound.specs.declared.cells.Cell.{Cell}
 use Rattle.price_bound.specs.CellSizes.{AreSmallCells, IsSmall}
@@ -60,7 +60,7 @@ module _ (priced : Priced) (l : ℕ) (r : Bool) (a b : ℕ) (u c : End) (turn : 
   comps = length (compositions_of priced.day)
 
   abbrev stage : Stage
-  stage = record { worth = λ comp. None; edges = edges_of priced (Some l); price = price_of priced (Some l) }
+  stage = record { priced_cost = λ comp. None; edges = edges_of priced (Some l); price = price_of priced (Some l) }
 
   -- what an edge of the link is priced
   plain_price : (edge : Edge) → price_of priced (Some l) edge ≡ Some (turn_value priced.day priced.entries priced.weight a b c edge)
@@ -92,7 +92,7 @@ module _ (priced : Priced) (l : ℕ) (r : Bool) (a b : ℕ) (u c : End) (turn : 
       subst (AreEdges priced.day l) (sym (ap (λ (o : Option (List Edge)). unwrap_or o []) inside)) (turn.graphs.each l (get_or priced.graphs l []) inside)
 
   module _ (ahead : List (Option Cell)) (row : ℕ → ℤ) (are : IsAhead priced b ahead row) (credit debit : ℕ → ℤ) (shunting : ℤ)
-      (sums : AreTurnSums priced a b credit debit shunting) (from arrived : ℕ) (runs : MayRun priced.day a from) (listed : arrived < comps)
+      (sums : AreTurnSums priced a b credit debit shunting) (from arrived : ℕ) (runs : IsAdmittedComp priced.day a from) (listed : arrived < comps)
       (is : composition_at priced.day arrived ≡ turned r (composition_at priced.day from)) where
     credit_from : giving priced.day priced.entries a (composition_at priced.day from) ≡ credit arrived
     credit_from =

@@ -5,17 +5,17 @@ use Rattle.std.specs.Prelude.{IfSome, if◌then◌else◌}
 use Rattle.std.proofs.lemmas.Int.{ints}
 use Rattle.std.proofs.lemmas.List.{get_or-map, length-map}
 use Rattle.timetable.specs.Links.{outgoing}
-use Rattle.transitions.specs.Edges.{MayRun}
+use Rattle.transitions.specs.Edges.{IsAdmittedComp}
 use Rattle.price_bound.specs.declared.cells.Cell.{Cell}
 use Rattle.price_bound.specs.declared.passes.Passes.{Passes}
 use Rattle.price_bound.specs.CellRows.{AreHeld, IsHeld, MayRunOn, all_bare, bare, cell_in, offered_from}
 use Rattle.price_bound.specs.CellSizes.{AreSmallCells, IsSmall}
-use Rattle.price_bound.specs.ChainStages.{worth_of}
+use Rattle.price_bound.specs.ChainStages.{priced_cost_of}
 use Rattle.price_bound.specs.HeldValues.{HoldsCell, least_none, no_value}
 use Rattle.price_bound.specs.PassValues.{AreAhead, ArePassValues, IsForPasses, IsPassedSmall, comps_for, most_held, priced_for, value_at}
-use Rattle.price_bound.specs.Paths.{with_worth}
+use Rattle.price_bound.specs.Paths.{with_priced_cost}
 use Rattle.price_bound.proofs.EdgeGroups.{IsFilled, cell_on, filled_all, some_more}
-use Rattle.price_bound.proofs.PassLoops.{passed_small, worth_runs}
+use Rattle.price_bound.proofs.PassLoops.{passed_small, priced_cost_runs}
 
 -- ---- what stands in a row
 
@@ -36,15 +36,15 @@ in_high value high = by (int_lt value least_none) refl
     by true is = absurd (omega (arith, ints, is, high))
     by false is = refl
 
--- a cell with a worth, by the value that stands for it
-pub passed_cell : (worth : Option ℤ) (value : ℤ) (offered : Option Cell)
-    → ((w : ℤ) → worth ≡ Some w → HoldsCell least_none value offered × IfSome offered (λ it. it.value <ℤ least_none))
-    → with_worth worth (cell_in value) ≡ bare (with_worth worth offered)
+-- a cell with a priced cost, by the value that stands for it
+pub passed_cell : (priced_cost : Option ℤ) (value : ℤ) (offered : Option Cell)
+    → ((w : ℤ) → priced_cost ≡ Some w → HoldsCell least_none value offered × IfSome offered (λ it. it.value <ℤ least_none))
+    → with_priced_cost priced_cost (cell_in value) ≡ bare (with_priced_cost priced_cost offered)
 passed_cell None value offered held = refl
-passed_cell (Some w) value None held = ap (with_worth (Some w)) (in_high value (held w refl).0)
+passed_cell (Some w) value None held = ap (with_priced_cost (Some w)) (in_high value (held w refl).0)
 passed_cell (Some w) value (Some cell) held =
     let same : value ≡ cell.value = (held w refl).0 in
-    ap (λ (x : ℤ). with_worth (Some w) (cell_in x)) same ∙ ap (with_worth (Some w)) (in_below cell.value (held w refl).1)
+    ap (λ (x : ℤ). with_priced_cost (Some w) (cell_in x)) same ∙ ap (with_priced_cost (Some w)) (in_below cell.value (held w refl).1)
 
 -- ---- the row ahead
 
@@ -107,10 +107,10 @@ module _ (passes : Passes) (is : IsForPasses passes) (ahead : List ℤ) (are : A
       ap (λ (r : List (Option Cell)). offered_from (priced_for passes) (Some passes.link) r comp) view
       ∙ ap (λ (link : Option ℕ). offered_from (priced_for passes) link row comp) (sym leads)
 
-  runs_by : (comp : ℕ) (w : ℤ) → worth_of (priced_for passes) t comp ≡ Some w → MayRun (priced_for passes).day passes.turn.arriving comp
-  runs_by comp w has = subst (λ (k : ℕ). MayRun (priced_for passes).day k comp) arrives (worth_runs (priced_for passes) t comp w has)
+  runs_by : (comp : ℕ) (w : ℤ) → priced_cost_of (priced_for passes) t comp ≡ Some w → IsAdmittedComp (priced_for passes).day passes.turn.arriving comp
+  runs_by comp w has = subst (λ (k : ℕ). IsAdmittedComp (priced_for passes).day k comp) arrives (priced_cost_runs (priced_for passes) t comp w has)
 
-  here_small : (comp : ℕ) → comp < comps_for passes → (w : ℤ) → worth_of (priced_for passes) t comp ≡ Some w → (bound : ℕ) → AreSmallCells bound row
+  here_small : (comp : ℕ) → comp < comps_for passes → (w : ℤ) → priced_cost_of (priced_for passes) t comp ≡ Some w → (bound : ℕ) → AreSmallCells bound row
       → IfSome (here comp) (λ it. IsSmall (bound + 13000000000000000) it.value)
   here_small comp below w has bound each = on (here comp) refl
     where
@@ -119,7 +119,7 @@ module _ (passes : Passes) (is : IsForPasses passes) (ahead : List ℤ) (are : A
       on (Some it) at =
           passed_small passes is ahead are comp below (runs_by comp w has) it (here_is comp ∙ at) bound (subst (AreSmallCells bound) (sym view) each)
 
-  held_here : (comp : ℕ) → comp < comps_for passes → (w : ℤ) → worth_of (priced_for passes) t comp ≡ Some w
+  held_here : (comp : ℕ) → comp < comps_for passes → (w : ℤ) → priced_cost_of (priced_for passes) t comp ≡ Some w
       → HoldsCell least_none (value_at values comp) (here comp) × IfSome (here comp) (λ it. it.value <ℤ least_none)
   held_here comp below w has = (
     subst (HoldsCell least_none (value_at values comp)) (here_is comp) (found.each comp below (runs_by comp w has)),
@@ -135,10 +135,10 @@ module _ (passes : Passes) (is : IsForPasses passes) (ahead : List ℤ) (are : A
 
   -- the cell of a composition, but where it leads
   pub cell_is : (comp : ℕ) → comp < comps_for passes
-      → with_worth (worth_of (priced_for passes) t comp) (cell_in (value_at values comp)) ≡ bare (cell_on (priced_for passes) t row comp)
-  cell_is comp below = passed_cell (worth_of (priced_for passes) t comp) (value_at values comp) (here comp) (held_here comp below)
+      → with_priced_cost (priced_cost_of (priced_for passes) t comp) (cell_in (value_at values comp)) ≡ bare (cell_on (priced_for passes) t row comp)
+  cell_is comp below = passed_cell (priced_cost_of (priced_for passes) t comp) (value_at values comp) (here comp) (held_here comp below)
 
-  -- the value is small where the composition has a worth
+  -- the value is small where the composition has a priced cost
   pub value_few : (comp : ℕ) → comp < comps_for passes → (bound : ℕ) → AreSmallCells bound row → IsPassedSmall (priced_for passes) t comp (bound + 13000000000000000) (value_at values comp)
   value_few comp below bound each w has = on (here comp) (held_here comp below w has) (here_small comp below w has bound each)
     where

@@ -7,7 +7,7 @@ use Rattle.std.proofs.Common.{◌^◌, to_z, of_z, w64, FitsSigned}
 use Rattle.std.proofs.lemmas.Int.{ints, unsigned_abs-mul, to_z-of_z, fits_signed_from_abs, fits_signed_mul}
 use Rattle.std.proofs.lemmas.List.{take_more}
 use Rattle.std.proofs.Math.Nat.{mul-le-mul}
-use Rattle.rail_base.specs.declared.limits.TheConstants.{MOST_MULTIPLIER}
+use Rattle.rail_base.specs.declared.limits.TheConstants.{MAX_MULTIPLIER}
 use Rattle.branch_tree.specs.IntSums.{int_sum}
 
 -- ---- sizes
@@ -43,9 +43,9 @@ int_sum_more f xs i d below = ap (int_sum f) (take_more xs i d below) ∙ int_su
 
 -- ---- products of i128
 
-module _ (value slack : ℤ) (small : unsigned_abs value ≤ MOST_MULTIPLIER) (few : unsigned_abs slack ≤ 2 ^ 64) where
+module _ (value slack : ℤ) (small : unsigned_abs value ≤ MAX_MULTIPLIER) (few : unsigned_abs slack ≤ 2 ^ 64) where
   pub product_fits : FitsSigned w128 (value *ℤ slack)
-  product_fits = fits_signed_mul w128 value slack MOST_MULTIPLIER (2 ^ 64) small few (omega arith)
+  product_fits = fits_signed_mul w128 value slack MAX_MULTIPLIER (2 ^ 64) small few (omega arith)
 
   pub factors_are : (read : ℤ) → read ≡ to_z w64 (of_z w64 value) → (to_z w128 (of_z w128 read) *ℤ to_z w128 (of_z w128 slack)) ≡ value *ℤ slack
   factors_are read is =

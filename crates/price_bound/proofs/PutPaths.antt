@@ -21,7 +21,7 @@ use Rattle.branch_tree.specs.Regions.{has}
 use Rattle.price_bound.specs.declared.cells.Cell.{Cell}
 use Rattle.price_bound.specs.CellRows.{put_along}
 use Rattle.price_bound.specs.ChainStages.{Priced, along, AreFirstPaths, edges_of, may_have, stage_of, stages_of}
-use Rattle.price_bound.specs.ChainStages.{worth_of}
+use Rattle.price_bound.specs.ChainStages.{priced_cost_of}
 use Rattle.price_bound.specs.FollowingPicks.{pick_of}
 use Rattle.price_bound.specs.Paths.{IsFirstPath, IsOver, IsPath, begin_of, rows_of, path_from}
 use Rattle.price_bound.proofs.Begins.{first_path}
@@ -104,8 +104,8 @@ module _ (priced : Priced) (graphs : AreGraphs priced.day priced.graphs) where
   abbrev comps : ℕ
   comps = length (compositions_of priced.day)
 
-  worth_listed : (t comp : ℕ) (value : ℤ) → worth_of priced t comp ≡ Some value → comp < comps
-  worth_listed t comp value e =
+  priced_cost_listed : (t comp : ℕ) (value : ℤ) → priced_cost_of priced t comp ≡ Some value → comp < comps
+  priced_cost_listed t comp value e =
       let both = cond_some (may_have priced.day priced.region t comp) _ value e in
       let in_region = and_parts (has priced.region t comp) (nat_lt comp comps && is_admissible priced.day t (composition_at priced.day comp)) both.0 in
       ltb-true comp comps (and_parts (nat_lt comp comps) (is_admissible priced.day t (composition_at priced.day comp)) in_region.1).0
@@ -114,14 +114,14 @@ module _ (priced : Priced) (graphs : AreGraphs priced.day priced.graphs) where
   listed l edge is = let both : AreListed priced.day edge = edge_listed priced.day is.link.kind is.link.reverse edge is.kind in (both.from, both.to)
 
   over_list : (t l : ℕ) (o : Option (List Edge)) → slice_get priced.graphs l ≡ o → (price : Edge → Option ℤ)
-      → IsOver comps (record { worth = worth_of priced t; edges = unwrap_or o []; price = price })
-  over_list t l None at price = record { in_order = λ i j d lt below. absurd (omega (arith, below)); edges = λ edge there. absurd (no_edge edge there); worths = worth_listed t }
+      → IsOver comps (record { priced_cost = priced_cost_of priced t; edges = unwrap_or o []; price = price })
+  over_list t l None at price = record { in_order = λ i j d lt below. absurd (omega (arith, below)); edges = λ edge there. absurd (no_edge edge there); priced_costs = priced_cost_listed t }
   over_list t l (Some edges) at price =
       let are : AreEdges priced.day l edges = graphs.each l edges at in
-      record { in_order = are.in_order; edges = λ edge there. listed l edge ((are.exact edge).0 there); worths = worth_listed t }
+      record { in_order = are.in_order; edges = λ edge there. listed l edge ((are.exact edge).0 there); priced_costs = priced_cost_listed t }
 
-  over_link : (t : ℕ) (o : Option ℕ) (price : Edge → Option ℤ) → IsOver comps (record { worth = worth_of priced t; edges = edges_of priced o; price = price })
-  over_link t None price = record { in_order = λ i j d lt below. absurd (omega (arith, below)); edges = λ edge there. absurd (no_edge edge there); worths = worth_listed t }
+  over_link : (t : ℕ) (o : Option ℕ) (price : Edge → Option ℤ) → IsOver comps (record { priced_cost = priced_cost_of priced t; edges = edges_of priced o; price = price })
+  over_link t None price = record { in_order = λ i j d lt below. absurd (omega (arith, below)); edges = λ edge there. absurd (no_edge edge there); priced_costs = priced_cost_listed t }
   over_link t (Some l) price = over_list t l (slice_get priced.graphs l) refl price
 
   pub stages_over : (chain : List ℕ) → All (IsOver comps) (stages_of priced chain)

@@ -13,7 +13,7 @@ use Rattle.compositions.specs.Catalogue.{is_lower}
 use Rattle.transitions.specs.declared.edge.Edge.{Edge}
 use Rattle.price_bound.specs.declared.cells.Cell.{Cell}
 use Rattle.price_bound.specs.Paths.{Stage, IsStepAt, IsPath, IsNoLaterPath, IsOver, last_row, next_of, offer, offer_by}
-use Rattle.price_bound.specs.Paths.{offered, row_before, row_by, rows_of, path_from, with_worth, with_worths}
+use Rattle.price_bound.specs.Paths.{offered, row_before, row_by, rows_of, path_from, with_priced_cost, with_priced_costs}
 use Rattle.price_bound.proofs.Offers.{IsLeastOffer, IsOffered, cell_is, row_offered}
 
 -- ---- lists in order
@@ -90,17 +90,17 @@ module _ (comp here_comp there_comp : ℕ) (here c d step rest value other : ℤ
 
 -- ---- rows
 
-length-with_worths : (stage : Stage) (comp : ℕ) (row : List (Option Cell)) → length (with_worths stage comp row) ≡ length row
-length-with_worths stage comp [] = refl
-length-with_worths stage comp (cell ∷ row) = ap suc (length-with_worths stage (suc comp) row)
+length-with_priced_costs : (stage : Stage) (comp : ℕ) (row : List (Option Cell)) → length (with_priced_costs stage comp row) ≡ length row
+length-with_priced_costs stage comp [] = refl
+length-with_priced_costs stage comp (cell ∷ row) = ap suc (length-with_priced_costs stage (suc comp) row)
 
-pub get-with_worths : (stage : Stage) (at : ℕ) (row : List (Option Cell)) (comp : ℕ) → comp < length row
-    → get_or (with_worths stage at row) comp None ≡ with_worth (stage.worth (at + comp)) (get_or row comp None)
-get-with_worths stage at [] comp below = absurd (omega (arith, below))
-get-with_worths stage at (cell ∷ row) zero below = let same : at ≡ at + 0 = omega arith in ap (λ (k : ℕ). with_worth (stage.worth k) cell) same
-get-with_worths stage at (cell ∷ row) (suc comp) below =
+pub get-with_priced_costs : (stage : Stage) (at : ℕ) (row : List (Option Cell)) (comp : ℕ) → comp < length row
+    → get_or (with_priced_costs stage at row) comp None ≡ with_priced_cost (stage.priced_cost (at + comp)) (get_or row comp None)
+get-with_priced_costs stage at [] comp below = absurd (omega (arith, below))
+get-with_priced_costs stage at (cell ∷ row) zero below = let same : at ≡ at + 0 = omega arith in ap (λ (k : ℕ). with_priced_cost (stage.priced_cost k) cell) same
+get-with_priced_costs stage at (cell ∷ row) (suc comp) below =
     let same : suc at + comp ≡ at + suc comp = omega arith in
-    get-with_worths stage (suc at) row comp (omega (arith, below)) ∙ ap (λ (k : ℕ). with_worth (stage.worth k) (get_or row comp None)) same
+    get-with_priced_costs stage (suc at) row comp (omega (arith, below)) ∙ ap (λ (k : ℕ). with_priced_cost (stage.priced_cost k) (get_or row comp None)) same
 
 length-fold : (stage : Stage) (ahead row : List (Option Cell)) (edges : List Edge) → length (fold (offered stage ahead) row edges) ≡ length row
 length-fold stage ahead row [] = refl
@@ -108,9 +108,9 @@ length-fold stage ahead row (edge ∷ edges) =
     length-fold stage ahead (offered stage ahead row edge) edges ∙ length-set row edge.from _
 
 pub length-row : (n : ℕ) (stage : Stage) (rows : List (List (Option Cell))) → length (row_by n stage rows) ≡ n
-length-row n stage [] = length-with_worths stage 0 (replicate n (Some (record { value = pos 0; next = 0 }))) ∙ length-replicate n (Some (record { value = pos 0; next = 0 }))
+length-row n stage [] = length-with_priced_costs stage 0 (replicate n (Some (record { value = pos 0; next = 0 }))) ∙ length-replicate n (Some (record { value = pos 0; next = 0 }))
 length-row n stage (ahead ∷ rows) =
-    length-with_worths stage 0 (fold (offered stage ahead) (replicate n None) stage.edges) ∙ length-fold stage ahead (replicate n None) stage.edges ∙ length-replicate n None
+    length-with_priced_costs stage 0 (fold (offered stage ahead) (replicate n None) stage.edges) ∙ length-fold stage ahead (replicate n None) stage.edges ∙ length-replicate n None
 
 pub path_begins : (row : List (Option Cell)) (rows : List (List (Option Cell))) (comp : ℕ) → (tail : List ℕ) × (path_from (row ∷ rows) comp ≡ comp ∷ tail)
 path_begins row rows comp = (path_from rows (next_of (get_or row comp None)), refl)
@@ -135,29 +135,29 @@ at_most a b e = omega (arith, ints, e)
 -- ---- the last stage
 
 module _ (stage : Stage) (row : List (Option Cell)) where
-  last_is : (comp : ℕ) (worth : Option ℤ) (cell : Option Cell) → stage.worth comp ≡ worth → cell ≡ with_worth worth (Some (record { value = pos 0; next = 0 }))
+  last_is : (comp : ℕ) (priced_cost : Option ℤ) (cell : Option Cell) → stage.priced_cost comp ≡ priced_cost → cell ≡ with_priced_cost priced_cost (Some (record { value = pos 0; next = 0 }))
       → IsCellFor (stage ∷ []) (row ∷ []) comp cell
-  last_is comp None cell worth made = record {
+  last_is comp None cell priced_cost made = record {
     none = λ e others. no_path others;
     some = λ it e. absurd (let none : None ≡ Some it = sym made ∙ e in cc);
   }
     where
       no_path : (others : List ℕ) (other : ℤ) → IsPath (stage ∷ []) (comp ∷ others) other → ⊥
-      no_path [] other is = absurd (let none : None ≡ Some other = sym worth ∙ is in cc)
+      no_path [] other is = absurd (let none : None ≡ Some other = sym priced_cost ∙ is in cc)
       no_path (next ∷ others) other is = is
-  last_is comp (Some value) cell worth made = record {
+  last_is comp (Some value) cell priced_cost made = record {
     none = λ e. absurd (let none : None ≡ Some (record { value = value +ℤ pos 0; next = 0 }) = sym e ∙ made in cc);
     some = λ it e.
         let same : it.value ≡ value +ℤ pos 0 = ap (λ (c : Cell). c.value) (cell_is it (record { value = value +ℤ pos 0; next = 0 }) (sym e ∙ made)) in
         let value_same : value ≡ it.value = plain value it.value same in
-        record { is = worth ∙ ap (λ (v : ℤ). Some v) value_same; first = only it.value value_same };
+        record { is = priced_cost ∙ ap (λ (v : ℤ). Some v) value_same; first = only it.value value_same };
   }
     where
       plain : (a b : ℤ) → b ≡ a +ℤ pos 0 → a ≡ b
       plain a b e = omega (arith, ints, e)
 
       only : (least : ℤ) → value ≡ least → (others : List ℕ) (other : ℤ) → IsPath (stage ∷ []) (comp ∷ others) other → IsNoLaterPath least (comp ∷ []) other (comp ∷ others)
-      only least same [] other is = inl (refl, at_most least other (sym same ∙ value_is value other (sym worth ∙ is)))
+      only least same [] other is = inl (refl, at_most least other (sym same ∙ value_is value other (sym priced_cost ∙ is)))
       only least same (next ∷ others) other is = absurd is
 
 -- ---- a stage before others
@@ -187,7 +187,7 @@ module _ (n : ℕ) (stage after : Stage) (stages : List Stage) (over : IsOver n 
   -- no path where nothing is offered
   none_offered : (comp : ℕ) → comp < n → offers_to comp ≡ None → (others : List ℕ) (other : ℤ) → IsPath all (comp ∷ others) other → ⊥
   none_offered comp below none [] other is = is
-  none_offered comp below none (next ∷ others) other (here, step, rest, worth, is_step, is_rest, total) =
+  none_offered comp below none (next ∷ others) other (here, step, rest, priced_cost, is_step, is_rest, total) =
       on (get_or ahead next None) refl
     where
       apart : (cell : Cell) → None ≡ Some cell → ⊥
@@ -218,8 +218,8 @@ module _ (n : ℕ) (stage after : Stage) (stages : List Stage) (over : IsOver n 
           let same : record { value = price +ℤ there.value; next = edge.to } ≡ cell = cell_is (record { value = price +ℤ there.value; next = edge.to }) cell e in
           record { price = price; there = there; priced = p; ahead_at = q; value = ap (λ (c : Cell). c.value) (sym same); next = ap (λ (c : Cell). c.next) (sym same) }
 
-  module _ (comp : ℕ) (below : comp < n) (worth : ℤ) (worth_is : stage.worth comp ≡ Some worth) (offer_is : Cell) (found : offers_to comp ≡ Some offer_is)
-      (mine : get_or row comp None ≡ Some (record { value = worth +ℤ offer_is.value; next = offer_is.next })) where
+  module _ (comp : ℕ) (below : comp < n) (priced_cost : ℤ) (priced_cost_is : stage.priced_cost comp ≡ Some priced_cost) (offer_is : Cell) (found : offers_to comp ≡ Some offer_is)
+      (mine : get_or row comp None ≡ Some (record { value = priced_cost +ℤ offer_is.value; next = offer_is.next })) where
     least : IsLeastOffer stage ahead (Contains stage.edges) comp offer_is
     least = (offers_is comp below).some offer_is found
 
@@ -236,34 +236,34 @@ module _ (n : ℕ) (stage after : Stage) (stages : List Stage) (over : IsOver n 
     rest_path : path_from (ahead ∷ rows) (next_of (get_or row comp None)) ≡ path_from (ahead ∷ rows) least.edge.to
     rest_path = ap (path_from (ahead ∷ rows)) goes_on
 
-    is_path : (path : List ℕ) (tail : List ℕ) → path ≡ path_from (ahead ∷ rows) least.edge.to → path ≡ least.edge.to ∷ tail → IsPath all (comp ∷ path) (worth +ℤ offer_is.value)
+    is_path : (path : List ℕ) (tail : List ℕ) → path ≡ path_from (ahead ∷ rows) least.edge.to → path ≡ least.edge.to ∷ tail → IsPath all (comp ∷ path) (priced_cost +ℤ offer_is.value)
     is_path path tail same begin =
-        subst (λ (ms : List ℕ). IsPath all (comp ∷ ms) (worth +ℤ offer_is.value)) (sym begin) (
-          worth,
+        subst (λ (ms : List ℕ). IsPath all (comp ∷ ms) (priced_cost +ℤ offer_is.value)) (sym begin) (
+          priced_cost,
           made.price,
           made.there.value,
-          worth_is,
+          priced_cost_is,
           record { edge = least.edge; there = least.seen; origin = least.from; goal = refl; priced = made.priced },
           subst (λ (ms : List ℕ). IsPath (after ∷ stages) ms made.there.value) (sym same ∙ begin) there_first.is,
-          ap (λ (v : ℤ). worth +ℤ v) made.value,
+          ap (λ (v : ℤ). priced_cost +ℤ v) made.value,
         )
 
     first : (others : List ℕ) (other : ℤ) → IsPath all (comp ∷ others) other
-        → IsNoLaterPath (worth +ℤ offer_is.value) (comp ∷ path_from (ahead ∷ rows) least.edge.to) other (comp ∷ others)
+        → IsNoLaterPath (priced_cost +ℤ offer_is.value) (comp ∷ path_from (ahead ∷ rows) least.edge.to) other (comp ∷ others)
     first [] other is = absurd is
     first (next ∷ others) other (here, step, rest, here_is, is_step, is_rest, total) =
         on (get_or ahead next None) refl
       where
-        same_worth : here ≡ worth
-        same_worth = value_is here worth (sym here_is ∙ worth_is)
+        same_priced_cost : here ≡ priced_cost
+        same_priced_cost = value_is here priced_cost (sym here_is ∙ priced_cost_is)
 
-        on : (cell : Option Cell) → get_or ahead next None ≡ cell → IsNoLaterPath (worth +ℤ offer_is.value) (comp ∷ path_from (ahead ∷ rows) least.edge.to) other (comp ∷ next ∷ others)
+        on : (cell : Option Cell) → get_or ahead next None ≡ cell → IsNoLaterPath (priced_cost +ℤ offer_is.value) (comp ∷ path_from (ahead ∷ rows) least.edge.to) other (comp ∷ next ∷ others)
         on None at = absurd ((is_ahead next (next_below comp next step is_step)).none at others rest is_rest)
         on (Some cell) at =
             let begins = path_begins ahead rows least.edge.to in
             let to_next : offer_is.next ≡ least.edge.to = made.next in
-            longer comp least.edge.to next worth offer_is.value cell.value step rest (worth +ℤ offer_is.value) other refl
-            (total ∙ ap (λ (v : ℤ). v +ℤ (step +ℤ rest)) same_worth)
+            longer comp least.edge.to next priced_cost offer_is.value cell.value step rest (priced_cost +ℤ offer_is.value) other refl
+            (total ∙ ap (λ (v : ℤ). v +ℤ (step +ℤ rest)) same_priced_cost)
             (path_from (ahead ∷ rows) least.edge.to) (path_from (ahead ∷ rows) next) others
             (λ e. ap (path_from (ahead ∷ rows)) (sym e)) begins.0 begins.1
             (elim (least.least is_step.edge (record { value = step +ℤ cell.value; next = next }) is_step.there is_step.origin (step_offers comp next step cell is_step at)) [
@@ -272,33 +272,33 @@ module _ (n : ℕ) (stage after : Stage) (stages : List Stage) (over : IsOver n 
             ])
             (((is_ahead next (next_below comp next step is_step)).some cell at).first others rest is_rest)
 
-    pub before_is : IsFirstFrom all comp (path_from (row ∷ ahead ∷ rows) comp) (worth +ℤ offer_is.value)
+    pub before_is : IsFirstFrom all comp (path_from (row ∷ ahead ∷ rows) comp) (priced_cost +ℤ offer_is.value)
     before_is =
         let begins = path_begins ahead rows least.edge.to in record {
           is = is_path (path_from (ahead ∷ rows) (next_of (get_or row comp None))) begins.0 rest_path (rest_path ∙ begins.1);
           first = λ others other is.
-              subst (λ (ms : List ℕ). IsNoLaterPath (worth +ℤ offer_is.value) (comp ∷ ms) other (comp ∷ others)) (sym rest_path) (first others other is);
+              subst (λ (ms : List ℕ). IsNoLaterPath (priced_cost +ℤ offer_is.value) (comp ∷ ms) other (comp ∷ others)) (sym rest_path) (first others other is);
         }
 
-  no_worth : (comp : ℕ) → stage.worth comp ≡ None → (others : List ℕ) (other : ℤ) → IsPath all (comp ∷ others) other → ⊥
-  no_worth comp none [] other is = is
-  no_worth comp none (next ∷ others) other (here, step, rest, here_is, is_step, is_rest, total) = absurd (let some : None ≡ Some here = sym none ∙ here_is in cc)
+  no_priced_cost : (comp : ℕ) → stage.priced_cost comp ≡ None → (others : List ℕ) (other : ℤ) → IsPath all (comp ∷ others) other → ⊥
+  no_priced_cost comp none [] other is = is
+  no_priced_cost comp none (next ∷ others) other (here, step, rest, here_is, is_step, is_rest, total) = absurd (let some : None ≡ Some here = sym none ∙ here_is in cc)
 
-  cell_before : (comp : ℕ) → comp < n → (worth : Option ℤ) (offers : Option Cell) → stage.worth comp ≡ worth → offers_to comp ≡ offers
-      → get_or row comp None ≡ with_worth worth offers → IsCellFor all (row ∷ ahead ∷ rows) comp (get_or row comp None)
-  cell_before comp below None offers worth_is found mine = record {
-    none = λ e. no_worth comp worth_is;
+  cell_before : (comp : ℕ) → comp < n → (priced_cost : Option ℤ) (offers : Option Cell) → stage.priced_cost comp ≡ priced_cost → offers_to comp ≡ offers
+      → get_or row comp None ≡ with_priced_cost priced_cost offers → IsCellFor all (row ∷ ahead ∷ rows) comp (get_or row comp None)
+  cell_before comp below None offers priced_cost_is found mine = record {
+    none = λ e. no_priced_cost comp priced_cost_is;
     some = λ it e. absurd (let none : None ≡ Some it = sym mine ∙ e in cc);
   }
-  cell_before comp below (Some worth) None worth_is found mine = record {
+  cell_before comp below (Some priced_cost) None priced_cost_is found mine = record {
     none = λ e. none_offered comp below found;
     some = λ it e. absurd (let none : None ≡ Some it = sym mine ∙ e in cc);
   }
-  cell_before comp below (Some worth) (Some cell) worth_is found mine = record {
-    none = λ e. absurd (let none : None ≡ Some (record { value = worth +ℤ cell.value; next = cell.next }) = sym e ∙ mine in cc);
+  cell_before comp below (Some priced_cost) (Some cell) priced_cost_is found mine = record {
+    none = λ e. absurd (let none : None ≡ Some (record { value = priced_cost +ℤ cell.value; next = cell.next }) = sym e ∙ mine in cc);
     some = λ it e.
-        let same : record { value = worth +ℤ cell.value; next = cell.next } ≡ it = cell_is (record { value = worth +ℤ cell.value; next = cell.next }) it (sym mine ∙ e) in
-        subst (λ (c : Cell). IsFirstFrom all comp (path_from (row ∷ ahead ∷ rows) comp) c.value) same (before_is comp below worth worth_is cell found mine);
+        let same : record { value = priced_cost +ℤ cell.value; next = cell.next } ≡ it = cell_is (record { value = priced_cost +ℤ cell.value; next = cell.next }) it (sym mine ∙ e) in
+        subst (λ (c : Cell). IsFirstFrom all comp (path_from (row ∷ ahead ∷ rows) comp) c.value) same (before_is comp below priced_cost priced_cost_is cell found mine);
   }
 
 -- ---- all stages
@@ -311,10 +311,10 @@ rows_first n stage [] over comp below =
     let start : Option Cell = Some (record { value = pos 0; next = 0 }) in
     let long : length (replicate n start) ≡ n = length-replicate n start in
     let same : 0 + comp ≡ comp = omega arith in
-    last_is stage row comp (stage.worth comp) (get_or row comp None) refl
-    (get-with_worths stage 0 (replicate n start) comp (omega (arith, long, below))
-    ∙ ap (λ (k : ℕ). with_worth (stage.worth k) (get_or (replicate n start) comp None)) same
-    ∙ ap (with_worth (stage.worth comp)) (get_or-replicate n comp start None below))
+    last_is stage row comp (stage.priced_cost comp) (get_or row comp None) refl
+    (get-with_priced_costs stage 0 (replicate n start) comp (omega (arith, long, below))
+    ∙ ap (λ (k : ℕ). with_priced_cost (stage.priced_cost k) (get_or (replicate n start) comp None)) same
+    ∙ ap (with_priced_cost (stage.priced_cost comp)) (get_or-replicate n comp start None below))
 rows_first n stage (after ∷ stages) over comp below =
     let rows : List (List (Option Cell)) = rows_of n stages in
     let ahead : List (Option Cell) = row_by n after rows in
@@ -323,5 +323,5 @@ rows_first n stage (after ∷ stages) over comp below =
     let same : 0 + comp ≡ comp = omega arith in
     cell_before n stage after stages (All-head (IsOver n) stage (after ∷ stages) over) rows ahead (row_before n stage ahead)
     (λ k lt. rows_first n after stages (All-tail (IsOver n) stage (after ∷ stages) over) k lt)
-    comp below (stage.worth comp) (get_or folded comp None) refl refl
-    (get-with_worths stage 0 folded comp (omega (arith, long, below)) ∙ ap (λ (k : ℕ). with_worth (stage.worth k) (get_or folded comp None)) same)
+    comp below (stage.priced_cost comp) (get_or folded comp None) refl refl
+    (get-with_priced_costs stage 0 folded comp (omega (arith, long, below)) ∙ ap (λ (k : ℕ). with_priced_cost (stage.priced_cost k) (get_or folded comp None)) same)

@@ -12,27 +12,27 @@ use Rattle.timetable.specs.Links.{arriving_in, outgoing}
 use Rattle.timetable.specs.Lists.{count_of}
 use Rattle.timetable.specs.Running.{EachFollows}
 use Rattle.timetable.proofs.NamedTrips.{place_is}
-use Rattle.transitions.specs.Edges.{MayRun}
+use Rattle.transitions.specs.Edges.{IsAdmittedComp}
 use Rattle.price_bound.specs.declared.cells.Cell.{Cell}
 use Rattle.price_bound.specs.CellRows.{LeadsTo, MayRunOn, all_bare, bare, comps_of, last_row_on, offered_from, row_on}
-use Rattle.price_bound.specs.ChainStages.{Priced, worth_of}
-use Rattle.price_bound.specs.Paths.{with_worth}
+use Rattle.price_bound.specs.ChainStages.{Priced, priced_cost_of}
+use Rattle.price_bound.specs.Paths.{with_priced_cost}
 use Rattle.price_bound.proofs.ChainCells.{get-bare}
 use Rattle.price_bound.proofs.EdgeGroups.{last_cell, last_long, row_cell, row_long}
-use Rattle.price_bound.proofs.PassLoops.{worth_runs}
+use Rattle.price_bound.proofs.PassLoops.{priced_cost_runs}
 use Rattle.price_bound.proofs.Regrouping.{from_named}
 
 module _ (priced : Priced) (t : ℕ) where
-  runs_by : (comp : ℕ) (cell : Cell) (worth : Option ℤ) (o : Option Cell) → worth_of priced t comp ≡ worth
-      → bare (with_worth worth o) ≡ Some cell → MayRun priced.day t comp
+  runs_by : (comp : ℕ) (cell : Cell) (priced_cost : Option ℤ) (o : Option Cell) → priced_cost_of priced t comp ≡ priced_cost
+      → bare (with_priced_cost priced_cost o) ≡ Some cell → IsAdmittedComp priced.day t comp
   runs_by comp cell None o is at = absurd (let none : None ≡ Some cell = at in cc)
-  runs_by comp cell (Some worth) o is at = worth_runs priced t comp worth is
+  runs_by comp cell (Some priced_cost) o is at = priced_cost_runs priced t comp priced_cost is
 
   runs_of : (row : List (Option Cell)) (offered : ℕ → Option Cell) → length row ≡ comps_of priced
-      → ((comp : ℕ) → comp < comps_of priced → get_or row comp None ≡ with_worth (worth_of priced t comp) (offered comp))
+      → ((comp : ℕ) → comp < comps_of priced → get_or row comp None ≡ with_priced_cost (priced_cost_of priced t comp) (offered comp))
       → MayRunOn priced.day t (all_bare row)
   runs_of row offered long each comp cell at = elim (cases_lt comp (comps_of priced)) [
-    | inl below ↦ runs_by comp cell (worth_of priced t comp) (offered comp) refl
+    | inl below ↦ runs_by comp cell (priced_cost_of priced t comp) (offered comp) refl
         (sym (get-bare row comp ∙ ap bare (each comp below)) ∙ at)
     | inr past ↦
         let none : None ≡ Some cell =

@@ -21,7 +21,7 @@ use Rattle.timetable.proofs.Handovers.{are_handovers}
 use Rattle.timetable.proofs.Shares.{same_lists}
 use Rattle.inventory.specs.declared.faults.StockFault.{StockFault}
 use Rattle.inventory.specs.declared.faults.StockFault.TheVariants.{Short, Balance}
-use Rattle.inventory.specs.Counts.{count_of_place, last_of}
+use Rattle.inventory.specs.Counts.{count_of_place, end_count_of}
 use Rattle.inventory.specs.StockFaults.{IsFault, IsFirstShort, IsFirstUnbalanced, NoneShort, AllBalanced}
 use Rattle.inventory.proofs.Solutions.{solutions_are_served}
 use Rattle.branch_tree.specs.declared.multipliers.Entry.{Entry}
@@ -32,7 +32,7 @@ use Rattle.branch_tree.specs.Meanings.{IsBroken, IsMet, Meanings}
 use Rattle.price_bound.specs.DayMeanings.{meanings_of}
 use Rattle.price_bound.specs.FollowingPicks.{Follow, part_of, pick_of}
 use Rattle.price_bound.specs.Parts.{HasPart, IsFirstMissed, Misses, NoneMissed, second_pick}
-use Rattle.price_bound.specs.BrokenPlaces.{Names, fault_sign, place_of}
+use Rattle.price_bound.specs.BrokenPlaces.{Names, fault_sign, place_of_fault}
 use Rattle.price_bound.specs.Slacks.{broken_at, broken_index, first_from, is_none, is_part, is_positive, or_else}
 use Rattle.price_bound.specs.Slacks.{sign_of, slack_at, slack_of}
 use Rattle.price_bound.proofs.Breaking.{broken_there}
@@ -178,28 +178,28 @@ module _ (day : Day) (picks : List ℕ) (accepted : IsSoundDay day) where
       let (n, at) = mu_there day s m unbalanced.yard.station unbalanced.yard.unit_type in
       let found : position (λ place. not (is_none day picks place)) (mus_of day) ≡ Some n =
       first_at (λ place. not (is_none day picks place)) (mus_of day) n (Mu s m) at
-      (some_slack (slack_at day picks (Mu s m)) (λ e. unbalanced.differs (unbalanced.is ∙ apart (pos (wanted_of day s m)) (last_of day (picked day picks) s m) e)))
+      (some_slack (slack_at day picks (Mu s m)) (λ e. unbalanced.differs (unbalanced.is ∙ apart (pos (wanted_of day s m)) (end_count_of day (picked day picks) s m) e)))
       (mus_before day (λ (p : Place). not (is_none day picks p) ≡ false) n s m at
       (λ s' m' known before. no_slack (slack_at day picks (Mu s' m'))
-      (level (pos (wanted_of day s' m')) (last_of day (picked day picks) s' m') (unbalanced.before s' m' (record { station = known.0; unit_type = known.1 }) before)))) in
+      (level (pos (wanted_of day s' m')) (end_count_of day (picked day picks) s' m') (unbalanced.before s' m' (record { station = known.0; unit_type = known.1 }) before)))) in
       let one = index_of.alone (length (lambdas_of day) + n) (mu_index day n (Mu s m) at) in
       ap (λ (o : Option ℕ). or_else (option_map (λ i. length (lambdas_of day) + length (mus_of day) + i) o) after_sigmas) (no_sigma_first none)
       ∙ ap (λ (o : Option ℕ). or_else (option_map (λ i. 0 + i) o) after_lambdas) (no_lambda_first short)
       ∙ ap (λ (o : Option ℕ). option_map (λ i. length (lambdas_of day) + i) o) found ∙ ap (λ (i : ℕ). Some i) one
 
-  pub fault_first : (fault : StockFault) → NoneMissed day picks → IsFault day (picked day picks) fault → (index : ℕ) → IsIndexOf day (place_of fault) index → broken_index day picks ≡ Some index
+  pub fault_first : (fault : StockFault) → NoneMissed day picks → IsFault day (picked day picks) fault → (index : ℕ) → IsIndexOf day (place_of_fault fault) index → broken_index day picks ≡ Some index
   fault_first (Short s m k count) none is index index_of = short_first s m k index count none is index_of
   fault_first (Balance s m count) none is index index_of = unbalanced_first s m index count none is.0 is.1 index_of
 
   above_sign : (v : ℤ) → int_lt (pos 0) v ≡ true → sign_of v ≡ pos 1
   above_sign v e = ap (λ (b : Bool). if b then pos 1 else negsuc 0) e
 
-  pub fault_signed : (fault : StockFault) → IsFault day (picked day picks) fault → sign_of (slack_at day picks (place_of fault)) ≡ fault_sign day fault
+  pub fault_signed : (fault : StockFault) → IsFault day (picked day picks) fault → sign_of (slack_at day picks (place_of_fault fault)) ≡ fault_sign day fault
   fault_signed (Short s m k count) is =
       above_sign (neg_ℤ (count_of_place day (picked day picks) s m k)) (ap (λ (v : ℤ). int_lt (pos 0) (neg_ℤ v)) (sym is.is) ∙ is_short count is.negative)
   fault_signed (Balance s m count) is = ap (λ (v : ℤ). sign_of (pos (wanted_of day s m) -ℤ v)) (sym is.1.is)
 
-  pub fault_place : (fault : StockFault) → IsFault day (picked day picks) fault → IsPlace day (place_of fault)
+  pub fault_place : (fault : StockFault) → IsFault day (picked day picks) fault → IsPlace day (place_of_fault fault)
   fault_place (Short s m k count) is = (is.yard.station, is.yard.unit_type, is.known)
   fault_place (Balance s m count) is = (is.1.yard.station, is.1.yard.unit_type)
 

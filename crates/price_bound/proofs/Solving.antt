@@ -23,7 +23,7 @@ use Rattle.timetable.proofs.LinkNames.{names_below}
 use Rattle.timetable.proofs.Shares.{same_lists}
 use Rattle.timetable.proofs.Within.{second_below}
 use Rattle.transitions.specs.declared.edge.Edge.{Edge}
-use Rattle.transitions.specs.Edges.{IsKindEdge, MayRun}
+use Rattle.transitions.specs.Edges.{IsKindEdge, IsAdmittedComp}
 use Rattle.transitions.specs.Laws.{FollowsEdge}
 use Rattle.transitions.proofs.Following.{types_follow}
 use Rattle.transitions.proofs.Kept.{turned_twice, length-turned}
@@ -128,7 +128,7 @@ module _ (day : Day) (picks : List ℕ) (links : AreLinks day) (solves : IsSolut
   listed : (t : ℕ) → t < length day.trips → pick_of picks t < length (compositions_of day)
   listed t below = solves.are_picks.known t 0 (picks_long t below)
 
-  runs_on : (t : ℕ) → t < length day.trips → MayRun day t (pick_of picks t)
+  runs_on : (t : ℕ) → t < length day.trips → IsAdmittedComp day t (pick_of picks t)
   runs_on t below = record {
     listed = listed t below;
     admissible = subst (λ (ms : List ℕ). is_admissible day t ms ≡ true) (typed t below) (solves.runs.lists t below).admissible;

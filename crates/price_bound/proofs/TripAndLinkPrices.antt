@@ -14,7 +14,7 @@ use Rattle.transitions.specs.Edges.{IsEdge, IsKindEdge, IsTurnEdge}
 use Rattle.branch_tree.specs.declared.multipliers.Entry.{Entry}
 use Rattle.price_bound.specs.declared.priced.Pricing.{Pricing}
 use Rattle.price_bound.specs.declared.turn_prices.TurnPrices.{TurnPrices}
-use Rattle.price_bound.specs.declared.worths.Amount.{Amount}
+use Rattle.price_bound.specs.declared.priced_costs.Amount.{Amount}
 use Rattle.price_bound.specs.TripAndLinkPrices.{IsForTurn}
 use Rattle.price_bound.specs.CellSizes.{IsSmall, most_price, most_units_price}
 use Rattle.price_bound.specs.ChainStages.{Priced, part_is_in, price_by_link, price_of}

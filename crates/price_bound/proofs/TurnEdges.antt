@@ -14,7 +14,7 @@ use Rattle.rules.proofs.Turning.{is_staying}
 use Rattle.transitions.specs.declared.edge.Edge.{Edge}
 use Rattle.transitions.specs.declared.edge.Shunt.{Shunt}
 use Rattle.transitions.specs.declared.edge.Shunt.TheVariants.{Keep, Uncouple, Couple, Exchange}
-use Rattle.transitions.specs.Edges.{IsTurnEdge, MayRun}
+use Rattle.transitions.specs.Edges.{IsTurnEdge, IsAdmittedComp}
 use Rattle.transitions.specs.Laws.{IsShuntOfParts, TellsUnits}
 use Rattle.transitions.specs.Turns.{turn_shunt}
 use Rattle.transitions.proofs.Counting.{shunts_count_units}
@@ -154,7 +154,7 @@ other_number day end comp part more consists some same =
     omega (arith, some, length_consists end (composition_at day comp) (composition_at day part) more consists, ap (λ (k : ℕ). length (composition_at day k)) same)
 
 -- from a composition that is this one after a reversal
-module _ (day : Day) (r : Bool) (a b : ℕ) (u c : End) (from arrived : ℕ) (runs : MayRun day a from) (listed : arrived < length (compositions_of day))
+module _ (day : Day) (r : Bool) (a b : ℕ) (u c : End) (from arrived : ℕ) (runs : IsAdmittedComp day a from) (listed : arrived < length (compositions_of day))
     (is : composition_at day arrived ≡ turned r (composition_at day from)) where
   -- what an edge does
   pub data IsTurned (to : ℕ) : Shunt → Type 0 where
@@ -180,7 +180,7 @@ module _ (day : Day) (r : Bool) (a b : ℕ) (u c : End) (from arrived : ℕ) (ru
   abbrev turn_edge : ℕ → Shunt → Edge
   turn_edge to shunt = record { from = from; to = to; shunt = shunt; part = None }
 
-  makes : (to : ℕ) (shunt : Shunt) → MayRun day b to → turn_shunt u c false (composition_at day arrived) (composition_at day to) ≡ Some shunt
+  makes : (to : ℕ) (shunt : Shunt) → IsAdmittedComp day b to → turn_shunt u c false (composition_at day arrived) (composition_at day to) ≡ Some shunt
       → IsTurnEdge day r a b u c false (turn_edge to shunt)
   makes to shunt runs_too rule = record {
     arriving = runs;
@@ -189,10 +189,10 @@ module _ (day : Day) (r : Bool) (a b : ℕ) (u c : End) (from arrived : ℕ) (ru
     no_part = refl;
   }
 
-  pub keep_edge : MayRun day b arrived → IsTurnEdge day r a b u c false (turn_edge arrived Keep)
+  pub keep_edge : IsAdmittedComp day b arrived → IsTurnEdge day r a b u c false (turn_edge arrived Keep)
   keep_edge runs_too = makes arrived Keep runs_too (keep_shunt u c (composition_at day arrived) (composition_at day arrived) (listed_some day arrived listed) refl)
 
-  pub uncouple_edge : (to : ℕ) → MayRun day b to → IsMadeOf day u arrived to → arrived ≢ to
+  pub uncouple_edge : (to : ℕ) → IsAdmittedComp day b to → IsMadeOf day u arrived to → arrived ≢ to
       → (units : ℕ) × IsTurnEdge day r a b u c false (turn_edge to (Uncouple units))
   uncouple_edge to runs_too of differ = (
     length of.more,
@@ -200,7 +200,7 @@ module _ (day : Day) (r : Bool) (a b : ℕ) (u c : End) (from arrived : ℕ) (ru
         (listed_some day to runs_too.listed) (some_more day u arrived to listed of differ) of.is),
   )
 
-  pub couple_edge : (to : ℕ) → MayRun day b to → IsMadeOf day c to arrived → to ≢ arrived
+  pub couple_edge : (to : ℕ) → IsAdmittedComp day b to → IsMadeOf day c to arrived → to ≢ arrived
       → (units : ℕ) × IsTurnEdge day r a b u c false (turn_edge to (Couple units))
   couple_edge to runs_too of differ = (
     length of.more,

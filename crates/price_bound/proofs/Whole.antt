@@ -20,7 +20,7 @@ use Rattle.timetable.specs.Picks.{ArePicks, IsSolution, picked}
 use Rattle.timetable.proofs.Indices.{get_place, have_multipliers, index_in}
 use Rattle.timetable.proofs.Listing.{get_first, get_joined, get_listed, length-listed}
 use Rattle.timetable.proofs.NamedTrips.{position_none}
-use Rattle.inventory.specs.Counts.{AreServed, count_of_place, last_of}
+use Rattle.inventory.specs.Counts.{AreServed, count_of_place, end_count_of}
 use Rattle.inventory.specs.SolutionLaws.{KeepTheRules}
 use Rattle.inventory.specs.StockFaults.{NoneShort, AllBalanced}
 use Rattle.inventory.proofs.Solutions.{faults_decide, solutions_are_served}
@@ -130,7 +130,7 @@ module _ (day : Day) (accepted : IsSoundDay day) where
     all_balanced : AllBalanced day (picked day picks)
     all_balanced s m yard =
         let (n, at) = mu_there day s m yard.station yard.unit_type in
-        level (pos (wanted_of day s m)) (last_of day (picked day picks) s m)
+        level (pos (wanted_of day s m)) (end_count_of day (picked day picks) s m)
         (zero_is (slack_at day picks (Mu s m)) (position_none (λ place. not (is_none day picks place)) (mus_of day) n (Mu s m) no_mu at))
 
     solution : IsSolution day picks

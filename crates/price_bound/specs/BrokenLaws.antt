@@ -16,7 +16,7 @@ use Rattle.price_bound.specs.ChangedDays.{changed_day, changed_meanings}
 use Rattle.price_bound.specs.DayMeanings.{meanings_of}
 use Rattle.price_bound.specs.FollowingPicks.{Follow}
 use Rattle.price_bound.specs.Parts.{IsFirstMissed, NoneMissed}
-use Rattle.price_bound.specs.BrokenPlaces.{fault_sign, place_of}
+use Rattle.price_bound.specs.BrokenPlaces.{fault_sign, place_of_fault}
 use Rattle.price_bound.specs.Slacks.{broken_at}
 
 -- ---- where picks are broken
@@ -40,7 +40,7 @@ BrokenAtFirstMissed = (day : Day) (picks : List ℕ) (place : Place) → IsSound
 abbrev pub BrokenAtFirstFault : Type 0
 BrokenAtFirstFault = (day : Day) (picks : List ℕ) (fault : StockFault) → IsSoundDay day → Follow day picks →
     NoneMissed day picks → IsFirstFault day (picked day picks) (Some fault) →
-    AreBrokenAt day picks (place_of fault) (fault_sign day fault)
+    AreBrokenAt day picks (place_of_fault fault) (fault_sign day fault)
 
 -- Where the yards have no fault either, they are a solution.
 abbrev pub SolvedWithoutFault : Type 0

@@ -11,9 +11,9 @@ use Rattle.branch_tree.specs.declared.relaxation.Settled.TheVariants.{Costs, Bro
 use Rattle.price_bound.specs.Slacks.{sign_of}
 
 -- what a fault of the yards is at
-abbrev pub place_of : StockFault → Place
-place_of (Short s m k count) = Lambda s m k
-place_of (Balance s m count) = Mu s m
+abbrev pub place_of_fault : StockFault → Place
+place_of_fault (Short s m k count) = Lambda s m k
+place_of_fault (Balance s m count) = Mu s m
 
 -- the sign of the slack there
 abbrev pub fault_sign : Day → StockFault → ℤ

@@ -1,12 +1,13 @@
 -- Rows of cells while they are made, and picks along a chain.
-use Rattle.std.specs.Prelude.{ℕ, ◌≡◌, ◌<◌, List, [], ◌∷◌, length, get_or, set, fold, replicate, map, Option, None, Some, slice_get}
+use Rattle.std.specs.Prelude.{ℕ, ◌≡◌, ◌<◌, List, [], ◌∷◌, length, get_or, set, fold, replicate, map, Option, None, Some}
+use Rattle.std.specs.Prelude.{slice_get}
 use Rattle.std.specs.Prelude.{if◌then◌else◌, int_lt, ℤ, pos, ◌<ℤ◌, ◌⊎◌, All}
 use Rattle.timetable.specs.Compositions.{compositions_of}
 use Rattle.rules.specs.declared.records.Link.{Link}
 use Rattle.timetable.specs.Chains.{leads_from, leads_to}
 use Rattle.timetable.specs.Day.{Day}
 use Rattle.timetable.specs.Links.{outgoing}
-use Rattle.transitions.specs.Edges.{MayRun}
+use Rattle.transitions.specs.Edges.{IsAdmittedComp}
 use Rattle.price_bound.specs.declared.cells.Cell.{Cell}
 use Rattle.price_bound.specs.CellSizes.{AreSmallCells, most_ahead}
 use Rattle.price_bound.specs.ChainStages.{Priced, edges_of, price_of, stage_of, stages_of}
@@ -64,7 +65,7 @@ AreSmallBelow rows table = (place : ℕ) → place < rows → AreSmallCells most
 
 -- the cells of a row are those of compositions that may run on a trip
 abbrev pub MayRunOn : Day → ℕ → List (Option Cell) → Type 0
-MayRunOn day t row = (comp : ℕ) (cell : Cell) → get_or row comp None ≡ Some cell → MayRun day t comp
+MayRunOn day t row = (comp : ℕ) (cell : Cell) → get_or row comp None ≡ Some cell → IsAdmittedComp day t comp
 
 -- so the cells ahead are on the trip that the link leads on to, which leads on from a trip
 abbrev pub LeadsTo : Day → ℕ → List (Option Cell) → Type 0

@@ -1,7 +1,7 @@
 -- How large amounts are.
 use Rattle.std.specs.Prelude.{ℕ, ◌+◌, ◌*◌, ◌^◌, List, get_or, Bool, true, false, Option, Some, None, ◌≡◌, ℤ, pos, neg_ℤ}
 use Rattle.std.specs.Prelude.{◌≤ℤ◌}
-use Rattle.rail_base.specs.declared.limits.TheConstants.{MOST_COMPOSITION, MOST_ENTRIES, MOST_MULTIPLIER}
+use Rattle.rail_base.specs.declared.limits.TheConstants.{MAX_COMPOSITION_UNITS, MAX_ENTRIES, MAX_MULTIPLIER}
 use Rattle.price_bound.specs.declared.cells.Cell.{Cell}
 
 -- no larger than a bound, whatever the sign
@@ -12,10 +12,10 @@ pub record IsSmall (bound : ℕ) (x : ℤ) : Type 0 where
 -- the most that a sum of multipliers comes to, as the price of a unit is one; and the most that the units of a
 -- composition are priced
 abbrev pub most_price : ℕ
-most_price = MOST_ENTRIES * MOST_MULTIPLIER
+most_price = MAX_ENTRIES * MAX_MULTIPLIER
 
 abbrev pub most_units_price : ℕ
-most_units_price = MOST_COMPOSITION * most_price
+most_units_price = MAX_COMPOSITION_UNITS * most_price
 
 -- a number of units, or what a change costs: a number of 32 bits, and so no larger than this
 abbrev pub most_number : ℕ
@@ -25,12 +25,12 @@ most_number = 2 ^ 32
 abbrev pub most_cost : ℕ
 most_cost = 1000000000000
 
--- the most that a composition is worth on a trip, rounded up: its cost, the price of its units where they are taken,
--- its multipliers at hand-overs, and, where no link leads on from the trip, which is told, the price of its units where
--- they are given
-abbrev pub most_worth : Bool → ℕ
-most_worth true = 14000000000000000
-most_worth false = 8000000000000000
+-- the most that a composition costs on a trip under prices, rounded up: its cost, the price of its units where they are
+-- taken, its multipliers at hand-overs, and, where no link leads on from the trip, which is told, the price of its
+-- units where they are given
+abbrev pub most_priced_cost : Bool → ℕ
+most_priced_cost true = 14000000000000000
+most_priced_cost false = 8000000000000000
 
 -- the most that an edge is priced, rounded up: at a turn what a shunt costs, the price of the units of the composition
 -- that arrives, and that of the units of the one that departs, each of which has stayed or has come; at a join or a
@@ -38,8 +38,8 @@ most_worth false = 8000000000000000
 abbrev pub most_edge_price : ℕ
 most_edge_price = 13000000000000000
 
--- the most by which the cells of a trip differ from those ahead: the price of an edge, and a worth on a trip from which
--- a link leads on
+-- the most by which the cells of a trip differ from those ahead: the price of an edge, and a priced cost on a trip from
+-- which a link leads on
 abbrev pub most_step : ℕ
 most_step = 21000000000000000
 
@@ -59,8 +59,8 @@ most_ahead = 8500000000000000000
 abbrev pub most_offered : ℕ
 most_offered = 9000000000000000000
 
-abbrev pub most_value : ℕ
-most_value = 1000000000000000000000000000000
+abbrev pub most_chain_value : ℕ
+most_chain_value = 1000000000000000000000000000000
 
 -- each cell of a row has a small value
 abbrev pub AreSmallCells : ℕ → List (Option Cell) → Type 0

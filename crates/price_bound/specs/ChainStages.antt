@@ -1,5 +1,5 @@
--- The stages of a chain of a day: for each of its trips, what the compositions of a region are worth on it, and the
--- edges of the link that leads on from it.
+-- The stages of a chain of a day: for each of its trips, what the compositions of a region cost on it under prices, and
+-- the edges of the link that leads on from it.
 use Rattle.std.specs.Prelude.{ℕ, ◌≡◌, List, [], ◌∷◌, map, length, slice_get, ℤ, pos, ◌+ℤ◌}
 use Rattle.std.specs.Prelude.{true, Bool, ◌&&◌, if◌then◌else◌, nat_lt, Option, Some, None, unwrap_or}
 use Rattle.rules.specs.declared.records.Link.{Link}
@@ -37,8 +37,8 @@ abbrev pub may_have : Day → List (List Bool) → ℕ → ℕ → Bool
 may_have day region t comp =
     has region t comp && (nat_lt comp (length (compositions_of day)) && is_admissible day t (composition_at day comp))
 
-abbrev pub worth_of : Priced → ℕ → ℕ → Option ℤ
-worth_of priced t comp =
+abbrev pub priced_cost_of : Priced → ℕ → ℕ → Option ℤ
+priced_cost_of priced t comp =
     if may_have priced.day priced.region t comp
     then Some (trip_value priced.day (cost_on priced) priced.entries priced.weight t comp) else None
 
@@ -65,7 +65,7 @@ price_of priced (Some l) edge = price_by_link priced l (slice_get priced.day.lin
 
 abbrev pub stage_of : Priced → ℕ → Stage
 stage_of priced t = record {
-  worth = worth_of priced t;
+  priced_cost = priced_cost_of priced t;
   edges = edges_of priced (outgoing priced.day t);
   price = price_of priced (outgoing priced.day t);
 }

@@ -1,7 +1,7 @@
 -- Days under changes: what changes add to the cost of picks, and what the relaxation of such a day means.
 use Rattle.std.specs.Prelude.{ℕ, ◌≡◌, ◌+◌, ◌<◌, ◌≤◌, ◌↔◌, List, [], ◌∷◌, length, Bool, ◌==◌, if◌then◌else◌, pos}
 use Rattle.std.specs.List.{All, AllPairs}
-use Rattle.rail_base.specs.declared.limits.TheConstants.{MOST_CHANGE}
+use Rattle.rail_base.specs.declared.limits.TheConstants.{MAX_CHANGE}
 use Rattle.timetable.specs.Accepted.{IsSoundDay}
 use Rattle.timetable.specs.Compositions.{compositions_of}
 use Rattle.timetable.specs.Cost.{cost_of}
@@ -22,7 +22,7 @@ pub record AreChanges (day : Day) (changes : List Change) : Type 0 where
   pub rising : AllPairs (λ a b. a.trip < b.trip) changes
   pub trips : All (λ change. change.trip < length day.trips) changes
   pub bases : All (λ change. change.base < length (compositions_of day)) changes
-  pub costs : All (λ change. change.cost ≤ MOST_CHANGE) changes
+  pub costs : All (λ change. change.cost ≤ MAX_CHANGE) changes
 
 -- the cost of each change whose trip has another pick than its base
 abbrev pub own_cost : List ℕ → Change → ℕ

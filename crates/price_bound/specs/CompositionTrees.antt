@@ -37,7 +37,8 @@ pub record IsTurnedPlace (day : Day) (reversed : Bool) (comp place : ℕ) : Type
   pub is : composition_at day place ≡ turned reversed (composition_at day comp)
 
 abbrev pub AreTurnedPlaces : Day → Bool → (ℕ → ℕ) → Type 0
-AreTurnedPlaces day reversed place = (comp : ℕ) → comp < length (compositions_of day) → IsTurnedPlace day reversed comp (place comp)
+AreTurnedPlaces day reversed place = (comp : ℕ) → comp < length (compositions_of day)
+    → IsTurnedPlace day reversed comp (place comp)
 
 -- ---- lists of them
 

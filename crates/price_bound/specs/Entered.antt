@@ -1,6 +1,6 @@
 -- The slacks of picks that are entered so far: those of the indices below a number, each that is not 0.
 use Rattle.std.specs.Prelude.{ℕ, ◌≡◌, ◌+◌, ◌*◌, ◌^◌, ◌<◌, List, length, ℤ}
-use Rattle.rail_base.specs.declared.limits.TheConstants.{MOST_SLACKS}
+use Rattle.rail_base.specs.declared.limits.TheConstants.{MAX_SLACKS}
 use Rattle.timetable.specs.Accepted.{IsSoundDay}
 use Rattle.timetable.specs.declared.day.indices.Place.TheVariants.{Mu, Sigma}
 use Rattle.timetable.specs.Compositions.{compositions_of}
@@ -57,4 +57,4 @@ pub record IsCounted (day : Day) (graphs : List (List Edge)) (ledger : Loaded) (
   pub follow : Follow day picks
   pub counted : ledger ≡ record { day = day; lists = picked day picks }
   pub few : length (places_of day) < 2 ^ 32
-  pub room : length (lambdas_of day) + length (mus_of day) + 2 * length (handovers_of day) < MOST_SLACKS
+  pub room : length (lambdas_of day) + length (mus_of day) + 2 * length (handovers_of day) < MAX_SLACKS

@@ -7,7 +7,7 @@ use Rattle.timetable.specs.Chains.{leads_from, leads_to}
 use Rattle.timetable.specs.Day.{Day}
 use Rattle.timetable.specs.Links.{list_of, turned}
 use Rattle.transitions.specs.declared.edge.Edge.{Edge}
-use Rattle.transitions.specs.Edges.{IsEdge, MayRun}
+use Rattle.transitions.specs.Edges.{IsEdge, IsAdmittedComp}
 
 -- the pick of a trip
 abbrev pub pick_of : List ℕ → ℕ → ℕ
@@ -25,7 +25,7 @@ pub record IsStep (day : Day) (picks : List ℕ) (l : ℕ) (link : Link) : Type 
 -- edge.
 pub record Follow (day : Day) (picks : List ℕ) : Type 0 where
   pub trips : length picks ≡ length day.trips
-  pub run : (t : ℕ) → t < length day.trips → MayRun day t (pick_of picks t)
+  pub run : (t : ℕ) → t < length day.trips → IsAdmittedComp day t (pick_of picks t)
   pub steps : (l : ℕ) (link : Link) → slice_get day.links l ≡ Some link → IsStep day picks l link
 
 -- The part of a join or a split, as the lists of its chain's trips leave it: what departs from a join behind the first

@@ -1,17 +1,18 @@
 -- Turns without exchange, whose edges are priced all together: by passes over the compositions.
-use Rattle.std.specs.Prelude.{ℕ, suc, ◌≡◌, ◌<◌, ◌≤◌, List, length, get_or, map, Bool, false, Option, Some, IfSome, slice_get}
+use Rattle.std.specs.Prelude.{ℕ, suc, ◌≡◌, ◌<◌, ◌≤◌, List, length, get_or, map, Bool, false, Option, Some, IfSome}
+use Rattle.std.specs.Prelude.{slice_get}
 use Rattle.std.specs.Prelude.{ℤ, pos, ◌+ℤ◌}
 use Rattle.rules.specs.declared.records.End.{End}
 use Rattle.rules.specs.declared.records.Link.{Link}
 use Rattle.rules.specs.declared.records.LinkKind.TheVariants.{Turn}
 use Rattle.timetable.specs.Compositions.{composition_at}
-use Rattle.transitions.specs.Edges.{AreGraphs, MayRun}
+use Rattle.transitions.specs.Edges.{AreGraphs, IsAdmittedComp}
 use Rattle.branch_tree.specs.Meanings.{weighted}
 use Rattle.price_bound.specs.declared.cells.Cell.{Cell}
 use Rattle.price_bound.specs.declared.passes.Passes.{Passes}
 use Rattle.price_bound.specs.CellRows.{MayRunOn, cell_in, comps_of, offered_from}
 use Rattle.price_bound.specs.CellSizes.{AreSmallCells, IsSmall, most_ahead, most_cost, most_units_price}
-use Rattle.price_bound.specs.ChainStages.{Priced, worth_of}
+use Rattle.price_bound.specs.ChainStages.{Priced, priced_cost_of}
 use Rattle.price_bound.specs.CompositionTrees.{AreRests, AreTurnedPlaces, IsMadeOf, place_at}
 use Rattle.price_bound.specs.HeldValues.{HoldsCell, HoldsRow, least_none, no_value}
 use Rattle.price_bound.specs.LeastOverTrees.{IsLeastOver, IsOver}
@@ -89,7 +90,8 @@ pub record AreAhead (passes : Passes) (values : List ℤ) : Type 0 where
 pub record AreLonger (passes : Passes) (ahead : List ℤ) (from : ℕ) (longer : List ℤ) : Type 0 where
   pub long : length longer ≡ suc (comps_for passes)
   pub least : (comp : ℕ) → comp ≤ comps_for passes
-      → IsLeastOver (IsOver (IsMadeOf (priced_for passes).day passes.turn.couple) (place_at passes.longer.now) (comps_for passes) from comp)
+      → IsLeastOver (IsOver (IsMadeOf (priced_for passes).day passes.turn.couple) (place_at passes.longer.now)
+      (comps_for passes) from comp)
       (λ c. value_at ahead c +ℤ value_at passes.debits.now c) no_value (value_at longer comp)
   pub small : (comp : ℕ) → comp ≤ comps_for passes → IsSmall most_summed (value_at longer comp)
 
@@ -106,17 +108,20 @@ pub record AreShorter (passes : Passes) (ahead : List ℤ) (at : ℕ) (shorter :
 -- of the cell that the edges offer
 pub record ArePassed (passes : Passes) (ahead : List ℤ) (at : ℕ) (values : List ℤ) : Type 0 where
   pub long : length values ≡ comps_for passes
-  pub each : (comp : ℕ) → comp < at → MayRun (priced_for passes).day passes.turn.arriving (place_at passes.turned.now comp)
+  pub each : (comp : ℕ) → comp < at → IsAdmittedComp (priced_for passes).day passes.turn.arriving
+      (place_at passes.turned.now comp)
       → HoldsCell least_none (value_at values (place_at passes.turned.now comp))
       (offered_from (priced_for passes) (Some passes.link) (map cell_in ahead) (place_at passes.turned.now comp))
 
 -- for each composition that may run on the arriving trip the value of the cell that the edges offer
 pub record ArePassValues (passes : Passes) (ahead values : List ℤ) : Type 0 where
   pub long : length values ≡ comps_for passes
-  pub each : (from : ℕ) → from < comps_for passes → MayRun (priced_for passes).day passes.turn.arriving from
-      → HoldsCell least_none (value_at values from) (offered_from (priced_for passes) (Some passes.link) (map cell_in ahead) from)
+  pub each : (from : ℕ) → from < comps_for passes → IsAdmittedComp (priced_for passes).day passes.turn.arriving from
+      → HoldsCell least_none (value_at values from)
+      (offered_from (priced_for passes) (Some passes.link) (map cell_in ahead) from)
 
--- where a composition has a worth on a trip, the value that the passes found, if it is one, is small
+-- where a composition has a priced cost on a trip, the value that the passes found, if it is one, is small
 abbrev pub IsPassedSmall : Priced → ℕ → ℕ → ℕ → ℤ → Type 0
 IsPassedSmall priced t comp bound value =
-    (worth : ℤ) → worth_of priced t comp ≡ Some worth → IfSome (cell_in value) (λ cell. IsSmall bound cell.value)
+    (priced_cost : ℤ) → priced_cost_of priced t comp ≡ Some priced_cost
+    → IfSome (cell_in value) (λ cell. IsSmall bound cell.value)

@@ -1,4 +1,4 @@
--- Cheapest paths over stages: each stage has compositions at a worth, and edges to the next stage at a price.
+-- Cheapest paths over stages: each stage has compositions at a priced cost, and edges to the next stage at a price.
 use Rattle.std.specs.Prelude.{ℕ, suc, ◌≡◌, ◌<◌, ◌⊎◌, List, [], ◌∷◌, IsTrue, get_or, set, replicate, fold}
 use Rattle.std.specs.Prelude.{Option, Some, None, if◌then◌else◌, int_lt, ℤ, pos, ◌+ℤ◌, ◌<ℤ◌, ◌≤ℤ◌, Contains}
 use Rattle.compositions.specs.Catalogue.{is_lower}
@@ -6,10 +6,10 @@ use Rattle.transitions.specs.declared.edge.Edge.{Edge}
 use Rattle.transitions.specs.Edges.{AreInOrder}
 use Rattle.price_bound.specs.declared.cells.Cell.{Cell}
 
--- The compositions of one trip of a chain: what each is worth, and none where it may not be had. The edges to the next
--- trip of the chain: what each is priced, and none where it may not be taken.
+-- The compositions of one trip of a chain: what each costs under prices, and none where it may not be had. The edges to
+-- the next trip of the chain: what each is priced, and none where it may not be taken.
 pub record Stage : Type 0 where
-  pub worth : ℕ → Option ℤ
+  pub priced_cost : ℕ → Option ℤ
   pub edges : List Edge
   pub price : Edge → Option ℤ
 
@@ -27,11 +27,11 @@ pub record IsStepAt (stage : Stage) (from to : ℕ) (price : ℤ) : Type 0 where
 abbrev pub IsPath : List Stage → List ℕ → ℤ → Type 0
 IsPath [] path value = ⊥
 IsPath (stage ∷ stages) [] value = ⊥
-IsPath (stage ∷ []) (comp ∷ []) value = stage.worth comp ≡ Some value
+IsPath (stage ∷ []) (comp ∷ []) value = stage.priced_cost comp ≡ Some value
 IsPath (stage ∷ []) (comp ∷ next ∷ path) value = ⊥
 IsPath (stage ∷ after ∷ stages) (comp ∷ []) value = ⊥
 IsPath (stage ∷ after ∷ stages) (comp ∷ next ∷ path) value =
-    (here step rest : ℤ) × (stage.worth comp ≡ Some here) × IsStepAt stage comp next step
+    (here step rest : ℤ) × (stage.priced_cost comp ≡ Some here) × IsStepAt stage comp next step
     × IsPath (after ∷ stages) (next ∷ path) rest × (value ≡ here +ℤ (step +ℤ rest))
 
 -- a list at a value comes before another: the value is lower, or it is the same and the list comes first
@@ -68,25 +68,26 @@ offer stage ahead edge = offer_by edge.to (stage.price edge) (get_or ahead edge.
 abbrev pub offered : Stage → List (Option Cell) → List (Option Cell) → Edge → List (Option Cell)
 offered stage ahead row edge = set row edge.from (lower_cell (get_or row edge.from None) (offer stage ahead edge))
 
--- a cell with the worth of its composition
-abbrev pub with_worth : Option ℤ → Option Cell → Option Cell
-with_worth None cell = None
-with_worth (Some worth) None = None
-with_worth (Some worth) (Some cell) = Some (record { value = worth +ℤ cell.value; next = cell.next })
+-- a cell with the priced cost of its composition
+abbrev pub with_priced_cost : Option ℤ → Option Cell → Option Cell
+with_priced_cost None cell = None
+with_priced_cost (Some priced_cost) None = None
+with_priced_cost (Some priced_cost) (Some cell) = Some (record { value = priced_cost +ℤ cell.value; next = cell.next })
 
--- the cells of a row, from one composition on, with their worth
-abbrev pub with_worths : Stage → ℕ → List (Option Cell) → List (Option Cell)
-with_worths stage comp [] = []
-with_worths stage comp (cell ∷ row) = with_worth (stage.worth comp) cell ∷ with_worths stage (suc comp) row
+-- the cells of a row, from one composition on, with their priced costs
+abbrev pub with_priced_costs : Stage → ℕ → List (Option Cell) → List (Option Cell)
+with_priced_costs stage comp [] = []
+with_priced_costs stage comp (cell ∷ row) = with_priced_cost (stage.priced_cost comp) cell ∷ with_priced_costs stage
+    (suc comp) row
 
 -- ---- the rows of all stages
 
 -- the row of the last stage; and that of a stage before others, whose first row is ahead
 abbrev pub last_row : ℕ → Stage → List (Option Cell)
-last_row n stage = with_worths stage 0 (replicate n (Some (record { value = pos 0; next = 0 })))
+last_row n stage = with_priced_costs stage 0 (replicate n (Some (record { value = pos 0; next = 0 })))
 
 abbrev pub row_before : ℕ → Stage → List (Option Cell) → List (Option Cell)
-row_before n stage ahead = with_worths stage 0 (fold (offered stage ahead) (replicate n None) stage.edges)
+row_before n stage ahead = with_priced_costs stage 0 (fold (offered stage ahead) (replicate n None) stage.edges)
 
 -- the row of a stage before others, whose rows are these
 abbrev pub row_by : ℕ → Stage → List (List (Option Cell)) → List (Option Cell)
@@ -125,8 +126,8 @@ begin_of [] = None
 begin_of (row ∷ rows) = least_from 0 None row
 
 -- a stage is over so many compositions: its edges are in order, and the compositions of its edges, and those that have
--- a worth, are below
+-- a priced cost, are below
 pub record IsOver (n : ℕ) (stage : Stage) : Type 0 where
   pub in_order : AreInOrder stage.edges
   pub edges : (edge : Edge) → Contains stage.edges edge → (edge.from < n) × (edge.to < n)
-  pub worths : (comp : ℕ) (value : ℤ) → stage.worth comp ≡ Some value → comp < n
+  pub priced_costs : (comp : ℕ) (value : ℤ) → stage.priced_cost comp ≡ Some value → comp < n

@@ -11,7 +11,7 @@ use Rattle.timetable.specs.Handovers.{handovers_of}
 use Rattle.timetable.specs.Indices.{lambdas_of, mus_of, sigmas_of, places_of}
 use Rattle.timetable.specs.Picks.{picked}
 use Rattle.timetable.specs.Turns.{same}
-use Rattle.inventory.specs.Counts.{count_of_place, last_of}
+use Rattle.inventory.specs.Counts.{count_of_place, end_count_of}
 use Rattle.branch_tree.specs.declared.multipliers.Entry.{Entry}
 use Rattle.price_bound.specs.FollowingPicks.{part_of, pick_of}
 
@@ -34,7 +34,7 @@ handover_slack day picks comp handover =
 -- of the picks; at a hand-over the part against the second trip
 abbrev pub slack_at : Day → List ℕ → Place → ℤ
 slack_at day picks (Lambda s m k) = neg_ℤ (count_of_place day (picked day picks) s m k)
-slack_at day picks (Mu s m) = pos (wanted_of day s m) -ℤ last_of day (picked day picks) s m
+slack_at day picks (Mu s m) = pos (wanted_of day s m) -ℤ end_count_of day (picked day picks) s m
 slack_at day picks (Sigma h comp) =
     unwrap_or (option_map (handover_slack day picks comp) (slice_get (handovers_of day) h)) (pos 0)
 

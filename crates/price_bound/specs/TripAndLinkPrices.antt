@@ -14,24 +14,24 @@ use Rattle.branch_tree.specs.Regions.{set_at}
 use Rattle.price_bound.specs.declared.part_prices.PartPrices.{PartPrices}
 use Rattle.price_bound.specs.declared.turn_prices.TurnPrices.{TurnPrices}
 use Rattle.price_bound.specs.declared.turn_prices.TurnTrips.{TurnTrips}
-use Rattle.price_bound.specs.declared.worths.TripWorths.{TripWorths}
+use Rattle.price_bound.specs.declared.priced_costs.PricedCosts.{PricedCosts}
 use Rattle.price_bound.specs.CellSizes.{IsSmall, most_cost}
 use Rattle.price_bound.specs.EdgeValues.{came, coupled}
 use Rattle.price_bound.specs.Pricing.{ArePriced}
 use Rattle.price_bound.specs.YardPrices.{giving, taking}
 
 -- the amounts are those of the trip
-pub record IsForTrip (worths : TripWorths) : Type 0 where
-  pub priced : ArePriced worths.pricing.now
-  pub known : worths.trip < length worths.pricing.now.instance.now.trips
-  pub set : worths.set.now ≡ set_at worths.pricing.now.region.now worths.trip
-  pub costs : worths.costs.now ≡ get_or worths.pricing.now.costs.now worths.trip []
-  pub weight : worths.weight ≡ worths.pricing.now.weight
-  pub begins : worths.begins ≡ is_none (incoming worths.pricing.now.instance.now worths.trip)
-  pub debits : worths.debits.now ≡ get_or worths.pricing.now.debits.now worths.trip []
-  pub ends : worths.ends ≡ is_none (outgoing worths.pricing.now.instance.now worths.trip)
-  pub credits : worths.credits.now ≡ get_or worths.pricing.now.credits.now worths.trip []
-  pub seconds : worths.seconds.now ≡ get_or worths.pricing.now.tables.now.seconds worths.trip []
+pub record IsForTrip (priced_costs : PricedCosts) : Type 0 where
+  pub priced : ArePriced priced_costs.pricing.now
+  pub known : priced_costs.trip < length priced_costs.pricing.now.instance.now.trips
+  pub set : priced_costs.set.now ≡ set_at priced_costs.pricing.now.region.now priced_costs.trip
+  pub costs : priced_costs.costs.now ≡ get_or priced_costs.pricing.now.costs.now priced_costs.trip []
+  pub weight : priced_costs.weight ≡ priced_costs.pricing.now.weight
+  pub begins : priced_costs.begins ≡ is_none (incoming priced_costs.pricing.now.instance.now priced_costs.trip)
+  pub debits : priced_costs.debits.now ≡ get_or priced_costs.pricing.now.debits.now priced_costs.trip []
+  pub ends : priced_costs.ends ≡ is_none (outgoing priced_costs.pricing.now.instance.now priced_costs.trip)
+  pub credits : priced_costs.credits.now ≡ get_or priced_costs.pricing.now.credits.now priced_costs.trip []
+  pub seconds : priced_costs.seconds.now ≡ get_or priced_costs.pricing.now.tables.now.seconds priced_costs.trip []
 
 -- a link is a turn of these trips, which couples at this end
 pub record IsTurnOf (day : Day) (l : ℕ) (turn : TurnTrips) : Type 0 where

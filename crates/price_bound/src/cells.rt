@@ -4,10 +4,10 @@
 ghost use Rattle.std.specs.Prelude.{ℕ, ◌≡◌, ◌<◌, ◌+◌, map, length, get_or, set, replicate, IfOk, IfSome, Some};
 ghost use Rattle.std.specs.Prelude.{None, if◌then◌else◌, option_map, ◌+ℤ◌};
 ghost use Rattle.price_bound.specs.CellRows.{AreHeld, IsHeld, bare, cell_in};
-ghost use Rattle.price_bound.specs.Paths.{entered, least_from, lower_cell, offer_by, with_worth};
+ghost use Rattle.price_bound.specs.Paths.{entered, least_from, lower_cell, offer_by, with_priced_cost};
 ghost use Rattle.price_bound.specs.CellSizes.{IsSmall, most_edge_price, most_offered, most_step};
 
-use crate::worths::Amount;
+use crate::priced_costs::Amount;
 use rail_base::{CompNo, NoMemory};
 use std::alloc::Global;
 use std::marker::Model;
@@ -169,15 +169,15 @@ pub(crate) fn offer_by(to: CompNo, price: Option<Amount>, ahead: Cell) -> Option
     Some(with_amount(ahead, price, to))
 }
 
-/// A cell with the worth of its composition.
-pub(crate) fn with_worth(worth: Option<Amount>, cell: Option<Cell>) -> Option<Cell>
-    requires worth { IfSome worth (λ worth. IsSmall most_step worth.0) }
+/// A cell with the priced cost of its composition.
+pub(crate) fn with_priced_cost(priced_cost: Option<Amount>, cell: Option<Cell>) -> Option<Cell>
+    requires priced_cost { IfSome priced_cost (λ priced_cost. IsSmall most_step priced_cost.0) }
     requires cell { IfSome cell (λ cell. IsSmall most_offered cell.value) }
-    ensures { result ≡ with_worth (option_map (λ worth. worth.0) worth) cell }
+    ensures { result ≡ with_priced_cost (option_map (λ priced_cost. priced_cost.0) priced_cost) cell }
 {
-    let worth = worth?;
+    let priced_cost = priced_cost?;
     let cell = cell?;
-    Some(with_amount(cell, worth, cell.next))
+    Some(with_amount(cell, priced_cost, cell.next))
 }
 
 /// A cell that leads to a composition, with the value of another cell and an amount together.

@@ -16,15 +16,15 @@ ghost use Rattle.price_bound.specs.CellSizes.{most_step};
 ghost use Rattle.price_bound.specs.Paths.{begin_of, next_of, path_from};
 ghost use Rattle.price_bound.specs.Pricing.{ArePriced, priced_by};
 
-use crate::cells::{Cell, CellRow, with_worth};
-use crate::least_edges::{fill_by_edges, least_with_worth};
+use crate::cells::{Cell, CellRow, with_priced_cost};
+use crate::least_edges::{fill_by_edges, least_with_priced_cost};
 use crate::part_prices::PartPrices;
 use crate::pass_room::PassRoom;
 use crate::passes::{Passes, PlainTurn, fill_by_passes};
 use crate::priced::Pricing;
+use crate::priced_costs::PricedCosts;
 use crate::turn_prices::{TurnPrices, TurnTrips};
-use crate::worths::TripWorths;
-use rail_base::limits::{MOST_LINKS, MOST_TRIPS};
+use rail_base::limits::{MAX_LINKS, MAX_TRIPS};
 use rail_base::{CompNo, LinkNo, NoMemory, TripNo};
 use std::alloc::Global;
 use std::marker::Model;
@@ -182,7 +182,7 @@ fn cell_by_link(
     ensures { result ≡ get_or (row_on (priced_by pricing.now) trip ahead.now) comp None }
 {
     let edges = pricing.graphs.edges(link);
-    let worths = TripWorths::new(&*pricing, trip);
+    let priced_costs = PricedCosts::new(&*pricing, trip);
     let kind = &pricing.instance.link(link).kind;
     match kind.second() {
         None => {
@@ -192,11 +192,11 @@ fn cell_by_link(
                 couple: kind.coupling_end(),
             };
             let prices = TurnPrices::new(pricing, link, turn);
-            least_with_worth(&prices, edges, &worths, comp, 0, ahead).cell
+            least_with_priced_cost(&prices, edges, &priced_costs, comp, 0, ahead).cell
         }
         Some(second) => {
             let prices = PartPrices::new(pricing, link, second);
-            least_with_worth(&prices, edges, &worths, comp, 0, ahead).cell
+            least_with_priced_cost(&prices, edges, &priced_costs, comp, 0, ahead).cell
         }
     }
 }
@@ -231,8 +231,8 @@ fn fill_rows(
     ensures first { AreSmallCells (length chain.now * most_step) (get_or rows.new 0 []) }
     ensures small { AreSmallBelow (length chain.now) rows.new }
 {
-    prove!(pricing.instance.trips() as usize <= MOST_TRIPS);
-    prove!(pricing.instance.links() as usize <= MOST_LINKS);
+    prove!(pricing.instance.trips() as usize <= MAX_TRIPS);
+    prove!(pricing.instance.links() as usize <= MAX_LINKS);
     let mut place = chain.len() - 1;
     fill_last(pricing, chain[place], &mut rows[place]);
     while place > 0 {
@@ -276,14 +276,14 @@ fn fill_last(pricing: &Pricing<'_>, trip: TripNo, row: &mut CellRow)
     ensures runs { MayRunOn pricing.now.instance.now trip row.new }
     ensures small { AreSmallCells most_step row.new }
 {
-    let worths = TripWorths::new(&*pricing, trip);
+    let priced_costs = PricedCosts::new(&*pricing, trip);
     for comp in 0..pricing.instance.catalogue().len() {
-        let worth = worths.worth(CompNo(comp));
+        let priced_cost = priced_costs.priced_cost(CompNo(comp));
         let end = Cell {
             value: 0,
             next: CompNo(0),
         };
-        let cell = with_worth(worth, Some(end));
+        let cell = with_priced_cost(priced_cost, Some(end));
         row.put(CompNo(comp), cell);
     }
 }
@@ -346,9 +346,9 @@ fn fill_by_link(
         fill_by_prices(pricing, trip, link, row, ahead);
         return;
     }
-    let worths = TripWorths::new(&*pricing, trip);
+    let priced_costs = PricedCosts::new(&*pricing, trip);
     let passes = Passes::new(pricing, link, turn);
-    fill_by_passes(&passes, &worths, row, ahead, pass_room);
+    fill_by_passes(&passes, &priced_costs, row, ahead, pass_room);
 }
 
 /// Whether the region has few compositions for a trip, so that their edges are gone through sooner.
@@ -411,7 +411,7 @@ fn fill_by_prices(
     ensures small { IsSmallStep most_step ahead.now row.new }
 {
     let edges = pricing.graphs.edges(link);
-    let worths = TripWorths::new(&*pricing, trip);
+    let priced_costs = PricedCosts::new(&*pricing, trip);
     let kind = &pricing.instance.link(link).kind;
     match kind.second() {
         None => {
@@ -421,11 +421,11 @@ fn fill_by_prices(
                 couple: kind.coupling_end(),
             };
             let prices = TurnPrices::new(pricing, link, turn);
-            fill_by_edges(&prices, edges, &worths, row, ahead);
+            fill_by_edges(&prices, edges, &priced_costs, row, ahead);
         }
         Some(second) => {
             let prices = PartPrices::new(pricing, link, second);
-            fill_by_edges(&prices, edges, &worths, row, ahead);
+            fill_by_edges(&prices, edges, &priced_costs, row, ahead);
         }
     }
 }

@@ -1,11 +1,11 @@
 //! Changes: what it costs to give trips other compositions than bases.
 
 ghost use Rattle.std.specs.Prelude.{ℕ, ◌≡◌, ◌<◌, ◌==◌, if◌then◌else◌, All, length, pos};
-ghost use Rattle.price_bound.specs.CellSizes.{IsSmall, most_number, most_value};
+ghost use Rattle.price_bound.specs.CellSizes.{IsSmall, most_number, most_chain_value};
 ghost use Rattle.price_bound.specs.ChangedDays.{added_cost, own_cost};
 ghost use Rattle.price_bound.specs.Changes.{change_cost};
 
-use crate::worths::added;
+use crate::priced_costs::added;
 use rail_base::{CompNo, Money, TripNo};
 use timetable::Picks;
 
@@ -59,7 +59,7 @@ fn cost_from(change: &Change, comp: CompNo) -> u32
 pub(crate) fn added_cost(changes: &[Change], picks: &Picks) -> Money
     requires { All (λ change. change.trip < length picks.now) changes.now }
     ensures value { result.0 ≡ pos (added_cost changes.now picks.now) }
-    ensures small { IsSmall most_value result.0 }
+    ensures small { IsSmall most_chain_value result.0 }
 {
     let mut sum = Money(0);
     for place in 0..changes.len() {

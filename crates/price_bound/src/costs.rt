@@ -13,7 +13,7 @@ ghost use Rattle.price_bound.specs.PriceTables.{HasSize};
 
 use crate::amounts::AmountTable;
 use crate::changes::{Change, change_cost, changes_from};
-use crate::worths::{Amount, types_of};
+use crate::priced_costs::{Amount, types_of};
 use cost_model::trip_cost;
 use rail_base::{CompNo, TripNo};
 use timetable::Instance;

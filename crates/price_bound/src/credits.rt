@@ -1,5 +1,5 @@
-//! Credits and debits: for each trip and composition the price of the composition's units, where the trip gives them, and
-//! where it takes them.
+//! Credits and debits: for each trip and composition the price of the composition's units, where the trip gives them,
+//! and where it takes them.
 //!
 //! They are made once for each list of multipliers, so that no edge sums up the units of whole trains.
 
@@ -12,7 +12,7 @@ ghost use Rattle.price_bound.specs.PriceTables.{HasSize};
 
 use crate::amounts::{AmountRow, AmountTable};
 use crate::fronts::Front;
-use crate::worths::{amount_for, amount_of, plus, sum_of, types_of};
+use crate::priced_costs::{amount_for, amount_of, plus, sum_of, types_of};
 use rail_base::CompNo;
 use timetable::Instance;
 

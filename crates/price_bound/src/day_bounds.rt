@@ -117,7 +117,7 @@ impl<'a> Relaxation for DayBounds<'a> {
 
     ghost meanings = { changed_meanings };
 
-    ghost IsAccepted = { λ changed. IsRelaxation (changed_meanings changed) };
+    ghost IsWellPosed = { λ changed. IsRelaxation (changed_meanings changed) };
 
     fn trips(&self) -> u32 {
         self.instance.trips()

@@ -7,7 +7,7 @@ ghost use Rattle.price_bound.specs.CellSizes.{IsSmall, most_edge_price};
 ghost use Rattle.price_bound.specs.ChainStages.{Priced, price_of};
 ghost use Rattle.price_bound.specs.Pricing.{IsListed};
 
-use crate::worths::Amount;
+use crate::priced_costs::Amount;
 use transitions::Edge;
 
 /// What prices the edges of a link.

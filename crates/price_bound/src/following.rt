@@ -2,7 +2,7 @@
 
 ghost use Rattle.std.specs.Prelude.{ℕ, ◌≡◌, ◌<◌, ◌↔◌, IsTrue, length, slice_get, Some};
 ghost use Rattle.rules.specs.declared.records.Link.{Link};
-ghost use Rattle.transitions.specs.Edges.{AreGraphs, MayRun};
+ghost use Rattle.transitions.specs.Edges.{AreGraphs, IsAdmittedComp};
 ghost use Rattle.price_bound.specs.FollowingPicks.{Follow, IsStep, pick_of};
 
 use rail_base::{CompNo, LinkNo, TripNo};
@@ -21,7 +21,8 @@ pub(crate) fn follow(instance: &Instance, graphs: &Graphs, picks: &Picks) -> boo
 /// Whether each pick may run on its trip.
 fn all_run(instance: &Instance, picks: &Picks) -> bool
     requires { length picks.now ≡ length instance.now.trips }
-    ensures { IsTrue result ↔ ((t : ℕ) → t < length instance.now.trips → MayRun instance.now t (pick_of picks.now t)) }
+    ensures { IsTrue result ↔ ((t : ℕ) → t < length instance.now.trips
+        → IsAdmittedComp instance.now t (pick_of picks.now t)) }
 {
     for trip in 0..instance.trips() {
         if !may_run(instance, TripNo(trip), picks.get(TripNo(trip))) {
@@ -34,7 +35,7 @@ fn all_run(instance: &Instance, picks: &Picks) -> bool
 /// Whether a number is that of a composition that may run on a trip.
 fn may_run(instance: &Instance, trip: TripNo, comp: CompNo) -> bool
     requires { trip < length instance.now.trips }
-    ensures { IsTrue result ↔ MayRun instance.now trip comp }
+    ensures { IsTrue result ↔ IsAdmittedComp instance.now trip comp }
 {
     comp.0 < instance.catalogue().len() && instance.admits(trip, comp)
 }

@@ -15,12 +15,12 @@ use crate::credits::fill_sums;
 use crate::edge_prices::EdgePrices;
 use crate::part_prices::PartPrices;
 use crate::priced::Pricing;
+use crate::priced_costs::PricedCosts;
 use crate::turn_prices::{TurnPrices, TurnTrips};
 use crate::workspaces::Workspace;
-use crate::worths::TripWorths;
 use branch_tree::{Multipliers, Region, Weight};
 use price_guide::PriceGuide;
-use rail_base::limits::{MOST_ENTRIES, MOST_LINKS, MOST_TRIPS};
+use rail_base::limits::{MAX_ENTRIES, MAX_LINKS, MAX_TRIPS};
 use rail_base::{CompNo, LinkNo, TripNo};
 use timetable::Instance;
 use transitions::{Edge, Graphs};
@@ -52,8 +52,8 @@ pub(crate) fn put_prices(room: &mut Workspace, asked: &Asked<'_>, guide: &mut Pr
         asked.now.multipliers.now }
     ensures room { IsRoomFor asked.now.instance.now asked.now.changes.now room.new }
 {
-    prove!(asked.multipliers.entries().len() <= MOST_ENTRIES);
-    prove!(asked.instance.links() as usize <= MOST_LINKS);
+    prove!(asked.multipliers.entries().len() <= MAX_ENTRIES);
+    prove!(asked.instance.links() as usize <= MAX_LINKS);
     room.tables.fill(asked.instance, asked.multipliers);
     fill_sums(
         asked.instance,
@@ -89,7 +89,7 @@ fn put_all(pricing: &Pricing<'_>, rows: &mut ChainRows, guide: &mut PriceGuide)
     requires room { HaveRoomFor (priced_by pricing.now) rows.old }
     ensures room { HaveRoomFor (priced_by pricing.now) rows.new }
 {
-    prove!(pricing.instance.links() as usize <= MOST_LINKS);
+    prove!(pricing.instance.links() as usize <= MAX_LINKS);
     put_cells(pricing, rows, guide);
     put_trips(pricing, guide);
     put_links(pricing, guide);
@@ -102,7 +102,7 @@ fn put_cells(pricing: &Pricing<'_>, rows: &mut ChainRows, guide: &mut PriceGuide
     requires room { HaveRoomFor (priced_by pricing.now) rows.old }
     ensures room { HaveRoomFor (priced_by pricing.now) rows.new }
 {
-    prove!(pricing.instance.trips() as usize <= MOST_TRIPS);
+    prove!(pricing.instance.trips() as usize <= MAX_TRIPS);
     for chain in 0..pricing.instance.chains() {
         let trips = pricing.instance.chain(chain);
         rows.fill(pricing, trips);
@@ -139,10 +139,10 @@ fn put_trip(pricing: &Pricing<'_>, trip: TripNo, guide: &mut PriceGuide)
     requires priced { ArePriced pricing.now }
     requires trip { trip < length pricing.now.instance.now.trips }
 {
-    let worths = TripWorths::new(&*pricing, trip);
+    let priced_costs = PricedCosts::new(&*pricing, trip);
     for comp in 0..pricing.instance.catalogue().len() {
-        let price = match worths.worth(CompNo(comp)) {
-            Some(worth) => Some(worth.0),
+        let price = match priced_costs.priced_cost(CompNo(comp)) {
+            Some(priced_cost) => Some(priced_cost.0),
             None => None,
         };
         guide.put_own(trip, CompNo(comp), price);

@@ -76,9 +76,9 @@ pub fn changed_broken_picks_are_closed()
     ensures law { ChangedBrokenPicksAreClosed }
 {}
 
-/// The slacks of picks that follow are at most `MOST_SLACK` in size, which is 4,400, on the day itself and under any
-/// changes. Under multipliers within their limits the priced values of picks that follow are below `MOST_VALUE` in
-/// size, which is 10^20, on the day itself and under the changes that `DayBounds::with_changes` takes.
+/// The slacks of picks that follow are at most `MAX_SLACK` in size, which is 4,400, on the day itself and under any
+/// changes. Under multipliers within their limits the priced values of picks that follow are below `MAX_PRICED_VALUE`
+/// in size, which is 10^20, on the day itself and under the changes that `DayBounds::with_changes` takes.
 pub fn values_are_small()
     ensures slacks { SlacksAreSmall }
     ensures values { ValuesAreSmall }

@@ -7,16 +7,17 @@ ghost use Rattle.std.specs.Prelude.{ℕ, ◌≡◌, ◌<◌, ◌+◌, ◌↔◌,
 ghost use Rattle.timetable.specs.Links.{outgoing};
 ghost use Rattle.transitions.specs.Edges.{AreGraphs, AreInOrder, IsEdge};
 ghost use Rattle.price_bound.specs.CellRows.{all_bare, comps_of, offered_from, row_on};
-ghost use Rattle.price_bound.specs.CellSizes.{AreSmallCells, IsSmall, IsSmallStep, most_ahead, most_edge_price, most_step};
-ghost use Rattle.price_bound.specs.ChainStages.{price_of, worth_of};
+ghost use Rattle.price_bound.specs.CellSizes.{AreSmallCells, IsSmall, IsSmallStep, most_ahead, most_edge_price};
+ghost use Rattle.price_bound.specs.CellSizes.{most_step};
+ghost use Rattle.price_bound.specs.ChainStages.{price_of, priced_cost_of};
 ghost use Rattle.price_bound.specs.EdgeGroups.{IsAtGroup, IsGroupPlace, IsInGroup};
-ghost use Rattle.price_bound.specs.Paths.{offer_by, with_worth};
+ghost use Rattle.price_bound.specs.Paths.{offer_by, with_priced_cost};
 ghost use Rattle.price_bound.specs.Pricing.{IsListed, priced_by};
 ghost use Rattle.price_bound.specs.TripAndLinkPrices.{IsForTrip};
 
-use crate::cells::{Cell, CellRow, lower_cell, offer_by, with_worth};
+use crate::cells::{Cell, CellRow, lower_cell, offer_by, with_priced_cost};
 use crate::edge_prices::EdgePrices;
-use crate::worths::TripWorths;
+use crate::priced_costs::PricedCosts;
 use rail_base::CompNo;
 use transitions::Edge;
 
@@ -33,36 +34,36 @@ pub(crate) struct Least {
 pub(crate) fn fill_by_edges<P: EdgePrices>(
     prices: &P,
     edges: &[Edge],
-    worths: &TripWorths<'_>,
+    priced_costs: &PricedCosts<'_>,
     row: &mut CellRow,
     ahead: &CellRow,
 )
     requires prices { P.are_of_link prices.now }
     requires graphs { AreGraphs (P.priced prices.now).day (P.priced prices.now).graphs }
     requires edges { slice_get (P.priced prices.now).graphs (P.link prices.now) ≡ Some edges.now }
-    requires worths { IsForTrip worths.now }
-    requires priced { priced_by worths.now.pricing.now ≡ P.priced prices.now }
-    requires link { outgoing (P.priced prices.now).day worths.now.trip ≡ Some (P.link prices.now) }
+    requires priced_costs { IsForTrip priced_costs.now }
+    requires priced { priced_by priced_costs.now.pricing.now ≡ P.priced prices.now }
+    requires link { outgoing (P.priced prices.now).day priced_costs.now.trip ≡ Some (P.link prices.now) }
     requires row { length row.old ≡ comps_of (P.priced prices.now) }
     requires ahead { length ahead.now ≡ comps_of (P.priced prices.now) }
     requires small { AreSmallCells most_ahead ahead.now }
-    ensures row { row.new ≡ all_bare (row_on (P.priced prices.now) worths.now.trip ahead.now) }
+    ensures row { row.new ≡ all_bare (row_on (P.priced prices.now) priced_costs.now.trip ahead.now) }
     ensures small { IsSmallStep most_step ahead.now row.new }
 {
     let mut begin = 0;
-    for comp in 0..worths.pricing.instance.catalogue().len() {
-        let least = least_with_worth(prices, edges, worths, CompNo(comp), begin, ahead);
+    for comp in 0..priced_costs.pricing.instance.catalogue().len() {
+        let least = least_with_priced_cost(prices, edges, priced_costs, CompNo(comp), begin, ahead);
         row.put(CompNo(comp), least.cell);
         begin = least.end;
     }
 }
 
-/// The cell of a composition: the first of least value among those of the edges from it, with what it is worth. The
+/// The cell of a composition: the first of least value among those of the edges from it, with its priced cost. The
 /// edges are looked for at a place first.
-pub(crate) fn least_with_worth<P: EdgePrices>(
+pub(crate) fn least_with_priced_cost<P: EdgePrices>(
     prices: &P,
     edges: &[Edge],
-    worths: &TripWorths<'_>,
+    priced_costs: &PricedCosts<'_>,
     comp: CompNo,
     begin: usize,
     ahead: &CellRow,
@@ -70,18 +71,18 @@ pub(crate) fn least_with_worth<P: EdgePrices>(
     requires prices { P.are_of_link prices.now }
     requires graphs { AreGraphs (P.priced prices.now).day (P.priced prices.now).graphs }
     requires edges { slice_get (P.priced prices.now).graphs (P.link prices.now) ≡ Some edges.now }
-    requires worths { IsForTrip worths.now }
-    requires priced { priced_by worths.now.pricing.now ≡ P.priced prices.now }
-    requires link { outgoing (P.priced prices.now).day worths.now.trip ≡ Some (P.link prices.now) }
+    requires priced_costs { IsForTrip priced_costs.now }
+    requires priced { priced_by priced_costs.now.pricing.now ≡ P.priced prices.now }
+    requires link { outgoing (P.priced prices.now).day priced_costs.now.trip ≡ Some (P.link prices.now) }
     requires comp { comp < comps_of (P.priced prices.now) }
     requires ahead { length ahead.now ≡ comps_of (P.priced prices.now) }
     requires small { AreSmallCells most_ahead ahead.now }
-    ensures cell { result.cell ≡ with_worth (worth_of (P.priced prices.now) worths.now.trip comp)
+    ensures cell { result.cell ≡ with_priced_cost (priced_cost_of (P.priced prices.now) priced_costs.now.trip comp)
         (offered_from (P.priced prices.now) (Some (P.link prices.now)) ahead.now comp) }
     ensures small { (bound : ℕ) → AreSmallCells bound ahead.now
         → IfSome result.cell (λ cell. IsSmall (bound + most_step) cell.value) }
 {
-    let Some(worth) = worths.worth(comp) else {
+    let Some(priced_cost) = priced_costs.priced_cost(comp) else {
         return Least {
             cell: None,
             end: begin,
@@ -90,7 +91,7 @@ pub(crate) fn least_with_worth<P: EdgePrices>(
     let first = first_from(edges, comp, begin);
     let least = least_from(prices, edges, comp, first, ahead);
     Least {
-        cell: with_worth(Some(worth), least.cell),
+        cell: with_priced_cost(Some(priced_cost), least.cell),
         end: least.end,
     }
 }

@@ -20,16 +20,16 @@ mod pass_room;
 mod passes;
 mod price_tables;
 mod priced;
+mod priced_costs;
 mod settling;
 mod sizes;
 mod slacks;
 mod trains;
 mod turn_prices;
 mod workspaces;
-mod worths;
 mod yard_places;
 mod yard_tables;
 
 pub use changes::Change;
 pub use day_bounds::DayBounds;
-pub use sizes::{MOST_SLACK, MOST_VALUE};
+pub use sizes::{MAX_PRICED_VALUE, MAX_SLACK};

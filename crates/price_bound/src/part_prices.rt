@@ -9,9 +9,9 @@ ghost use Rattle.price_bound.specs.Pricing.{ArePriced, priced_by};
 
 use crate::edge_prices::EdgePrices;
 use crate::priced::Pricing;
-use crate::worths::{Amount, amount_for};
+use crate::priced_costs::{Amount, amount_for};
 use branch_tree::CompositionSet;
-use rail_base::limits::MOST_COMPOSITIONS;
+use rail_base::limits::MAX_COMPOSITIONS;
 use rail_base::{CompNo, LinkNo, TripNo};
 use transitions::Edge;
 
@@ -67,7 +67,7 @@ impl<'a> EdgePrices for PartPrices<'a> {
 
     /// What an edge of the link is priced: the multiplier of its part, if it has one.
     fn price(&self, edge: &Edge) -> Option<Amount> {
-        prove!(self.pricing.instance.catalogue().len() as usize <= MOST_COMPOSITIONS);
+        prove!(self.pricing.instance.catalogue().len() as usize <= MAX_COMPOSITIONS);
         let Some(part) = edge.part else {
             return Some(Amount(0));
         };

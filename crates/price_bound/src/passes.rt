@@ -1,31 +1,32 @@
 //! The values of a turn's edges by the compositions that they lead from, without going through the edges.
 //!
-//! A turn without exchange keeps the units, or uncouples some, or couples some. What may be uncoupled from a composition
-//! is the compositions that it is made of, by one unit less at the turn's end at a time; what may be coupled is those
-//! that are made of it. So one pass from the last composition to the first finds for each the least value over the
-//! longer ones, and one from the first to the last that over the shorter ones.
+//! A turn without exchange keeps the units, or uncouples some, or couples some. What may be uncoupled from a
+//! composition is the compositions that it is made of, by one unit less at the turn's end at a time; what may be
+//! coupled is those that are made of it. So one pass from the last composition to the first finds for each the least
+//! value over the longer ones, and one from the first to the last that over the shorter ones.
 
 ghost use Rattle.std.specs.Prelude.{ℕ, ◌≡◌, ◌<◌, ◌+ℤ◌, ◌-ℤ◌, length, set, suc, ℤ, IfSome, Some, ◌+◌, is_none, false};
 ghost use Rattle.timetable.specs.Links.{outgoing};
 ghost use Rattle.price_bound.specs.CellRows.{MayRunOn, all_bare, cell_in, comps_of, row_on};
 ghost use Rattle.price_bound.specs.CellSizes.{AreSmallCells, IsSmall, IsSmallStep, most_ahead, most_offered};
 ghost use Rattle.price_bound.specs.CellSizes.{most_edge_price, most_step, most_units_price};
-ghost use Rattle.price_bound.specs.ChainStages.{worth_of};
+ghost use Rattle.price_bound.specs.ChainStages.{priced_cost_of};
 ghost use Rattle.price_bound.specs.CompositionTrees.{place_at};
 ghost use Rattle.price_bound.specs.HeldValues.{no_value};
 ghost use Rattle.price_bound.specs.LeastOverTrees.{lower};
 ghost use Rattle.price_bound.specs.PassRooms.{IsPassRoom};
 ghost use Rattle.price_bound.specs.PassValues.{AreAhead, AreLonger, ArePassValues, AreShorter, IsForPasses};
-ghost use Rattle.price_bound.specs.PassValues.{IsPassedSmall, IsPlainTurn, comps_for, most_summed, priced_for, value_at};
-ghost use Rattle.price_bound.specs.Paths.{with_worth};
+ghost use Rattle.price_bound.specs.PassValues.{IsPassedSmall, IsPlainTurn, comps_for, most_summed, priced_for};
+ghost use Rattle.price_bound.specs.PassValues.{value_at};
+ghost use Rattle.price_bound.specs.Paths.{with_priced_cost};
 ghost use Rattle.price_bound.specs.Pricing.{ArePriced, priced_by};
 ghost use Rattle.price_bound.specs.TripAndLinkPrices.{IsForTrip};
 
-use crate::cells::{Cell, CellRow, NO_VALUE, cell_in, with_worth};
+use crate::cells::{Cell, CellRow, NO_VALUE, cell_in, with_priced_cost};
 use crate::pass_room::PassRoom;
 use crate::priced::Pricing;
+use crate::priced_costs::{Amount, PricedCosts, weighted};
 use crate::turn_prices::shunting_cost;
-use crate::worths::{Amount, TripWorths, weighted};
 use rail_base::{CompNo, LinkNo, TripNo};
 use rail_csv::End;
 
@@ -70,51 +71,56 @@ pub(crate) struct Passes<'a> {
 /// Makes the row of a trip from which a turn without exchange leads on.
 pub(crate) fn fill_by_passes(
     passes: &Passes<'_>,
-    worths: &TripWorths<'_>,
+    priced_costs: &PricedCosts<'_>,
     row: &mut CellRow,
     ahead: &CellRow,
     room: &mut PassRoom,
 )
     requires is { IsForPasses passes.now }
-    requires worths { IsForTrip worths.now }
-    requires priced { priced_by worths.now.pricing.now ≡ priced_for passes.now }
-    requires arriving { worths.now.trip ≡ passes.now.turn.arriving }
-    requires link { outgoing (priced_for passes.now).day worths.now.trip ≡ Some passes.now.link }
+    requires priced_costs { IsForTrip priced_costs.now }
+    requires priced { priced_by priced_costs.now.pricing.now ≡ priced_for passes.now }
+    requires arriving { priced_costs.now.trip ≡ passes.now.turn.arriving }
+    requires link { outgoing (priced_for passes.now).day priced_costs.now.trip ≡ Some passes.now.link }
     requires row { length row.old ≡ comps_for passes.now }
     requires ahead { length ahead.now ≡ comps_for passes.now }
     requires small { AreSmallCells most_ahead ahead.now }
     requires runs { MayRunOn (priced_for passes.now).day passes.now.turn.departing ahead.now }
     requires room { IsPassRoom (comps_for passes.now) room.old }
     ensures room { IsPassRoom (comps_for passes.now) room.new }
-    ensures row { row.new ≡ all_bare (row_on (priced_for passes.now) worths.now.trip ahead.now) }
+    ensures row { row.new ≡ all_bare (row_on (priced_for passes.now) priced_costs.now.trip ahead.now) }
     ensures small { IsSmallStep most_step ahead.now row.new }
 {
     passes.put_all(ahead.values(), room);
-    for comp in 0..worths.pricing.instance.catalogue().len() {
-        let cell = passed_with_worth(worths, CompNo(comp), &room.values);
+    for comp in 0..priced_costs.pricing.instance.catalogue().len() {
+        let cell = passed_with_priced_cost(priced_costs, CompNo(comp), &room.values);
         row.put(CompNo(comp), cell);
     }
 }
 
-/// The cell of a composition with what it is worth, by the values that the passes found.
-fn passed_with_worth(worths: &TripWorths<'_>, comp: CompNo, values: &[i64]) -> Option<Cell>
-    requires worths { IsForTrip worths.now }
-    requires leads { is_none (outgoing worths.now.pricing.now.instance.now worths.now.trip) ≡ false }
-    requires comp { comp < comps_of (priced_by worths.now.pricing.now) }
-    requires values { length values.now ≡ comps_of (priced_by worths.now.pricing.now) }
-    requires small { IsPassedSmall (priced_by worths.now.pricing.now) worths.now.trip comp most_offered
+/// The cell of a composition with its priced cost, by the values that the passes found.
+fn passed_with_priced_cost(
+    priced_costs: &PricedCosts<'_>,
+    comp: CompNo,
+    values: &[i64],
+) -> Option<Cell>
+    requires priced_costs { IsForTrip priced_costs.now }
+    requires leads { is_none (outgoing priced_costs.now.pricing.now.instance.now priced_costs.now.trip) ≡ false }
+    requires comp { comp < comps_of (priced_by priced_costs.now.pricing.now) }
+    requires values { length values.now ≡ comps_of (priced_by priced_costs.now.pricing.now) }
+    requires small { IsPassedSmall (priced_by priced_costs.now.pricing.now) priced_costs.now.trip comp most_offered
         (value_at values.now comp) }
-    ensures cell { result ≡ with_worth (worth_of (priced_by worths.now.pricing.now) worths.now.trip comp)
+    ensures cell { result ≡ with_priced_cost
+        (priced_cost_of (priced_by priced_costs.now.pricing.now) priced_costs.now.trip comp)
         (cell_in (value_at values.now comp)) }
-    ensures small { (bound : ℕ) → IsPassedSmall (priced_by worths.now.pricing.now) worths.now.trip comp
+    ensures small { (bound : ℕ) → IsPassedSmall (priced_by priced_costs.now.pricing.now) priced_costs.now.trip comp
         (bound + most_edge_price) (value_at values.now comp)
         → IfSome result (λ cell. IsSmall (bound + most_step) cell.value) }
 {
-    let Some(worth) = worths.worth(comp) else {
+    let Some(priced_cost) = priced_costs.priced_cost(comp) else {
         return None;
     };
     let value = value_at(values, comp.place());
-    with_worth(Some(worth), cell_in(value.0))
+    with_priced_cost(Some(priced_cost), cell_in(value.0))
 }
 
 impl<'a> Passes<'a> {

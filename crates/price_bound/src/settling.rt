@@ -7,12 +7,12 @@ ghost use Rattle.transitions.specs.Edges.{AreGraphs};
 ghost use Rattle.branch_tree.specs.Bounds.{IsSettled};
 ghost use Rattle.price_bound.specs.ChangedDays.{AreChanges, changed_day, changed_meanings};
 ghost use Rattle.price_bound.specs.FollowingPicks.{Follow};
-ghost use Rattle.price_bound.specs.BrokenPlaces.{Names, fault_sign, place_of};
+ghost use Rattle.price_bound.specs.BrokenPlaces.{Names, fault_sign, place_of_fault};
 ghost use Rattle.price_bound.specs.Slacks.{sign_of};
 
 use crate::changes::{Change, added_cost};
 use crate::parts::first_missed;
-use crate::worths::added;
+use crate::priced_costs::added;
 use branch_tree::Settled;
 use cost_model::cost;
 use inventory::{Ledger, StockFault};
@@ -52,8 +52,8 @@ pub(crate) fn settle(
 
 /// Broken by a fault of the yards.
 fn broken_by(instance: &Instance, fault: StockFault) -> Settled
-    requires { IsPlace instance.now (place_of fault) }
-    ensures { Names instance.now (place_of fault) (fault_sign instance.now fault) result }
+    requires { IsPlace instance.now (place_of_fault fault) }
+    ensures { Names instance.now (place_of_fault fault) (fault_sign instance.now fault) result }
 {
     match fault {
         StockFault::Short {

@@ -1,7 +1,7 @@
 //! The slacks of picks that follow, those that are not 0, by rising index.
 
 ghost use Rattle.std.specs.Prelude.{ℕ, ◌≡◌, ◌≢◌, ◌+◌, ◌++◌, ◌≤◌, ◌<◌, ◌*◌, ◌^◌, [], length, negsuc, pos, ◌-ℤ◌, ◌≤ℤ◌};
-ghost use Rattle.rail_base.specs.declared.limits.TheConstants.{MOST_SLACKS};
+ghost use Rattle.rail_base.specs.declared.limits.TheConstants.{MAX_SLACKS};
 ghost use Rattle.timetable.specs.Accepted.{IsSoundDay};
 ghost use Rattle.timetable.specs.declared.day.indices.Place.TheVariants.{Lambda, Mu, Sigma};
 ghost use Rattle.timetable.specs.Compositions.{compositions_of};
@@ -19,7 +19,7 @@ ghost use Rattle.price_bound.specs.Slacks.{slack_at};
 use crate::parts::{part_at, second_at};
 use branch_tree::{Entry, Slacks};
 use inventory::Ledger;
-use rail_base::limits::{MOST_HANDOVERS, MOST_SLACKS};
+use rail_base::limits::{MAX_HANDOVERS, MAX_SLACKS};
 use rail_base::{StationNo, TypeNo};
 use std::marker::Model;
 use timetable::{Instance, Picks};
@@ -43,7 +43,7 @@ pub(crate) fn put_slacks(
     ensures slacks { AreSlacks (meanings_of instance.now) picks.now into.new }
 {
     prove!(instance.free_from() <= instance.indices());
-    prove!(instance.handovers() as usize <= MOST_HANDOVERS);
+    prove!(instance.handovers() as usize <= MAX_HANDOVERS);
     into.clear();
     ledger.load(picks);
     let counted = CountedPicks {
@@ -55,7 +55,7 @@ pub(crate) fn put_slacks(
     let ends = counted.put_minutes(into);
     let parts = counted.put_ends(ends, into);
     counted.put_parts(parts, into);
-    prove!(into.len() as usize <= MOST_SLACKS);
+    prove!(into.len() as usize <= MAX_SLACKS);
 }
 
 /// Picks that follow, with the counts that they make in the yards. A contract sees the day and the picks.
@@ -208,7 +208,7 @@ impl<'a> CountedPicks<'a> {
 
 /// Puts a slack at the end, if it is not 0.
 fn put_slack(into: &mut Slacks, index: u32, value: i64)
-    requires room { length into.old < MOST_SLACKS }
+    requires room { length into.old < MAX_SLACKS }
     requires rising { IsPastLast into.old index }
     ensures { into.new ≡ into.old ++ entry_of index value }
 {

@@ -68,7 +68,8 @@ impl Trains {
 
 /// For each composition the place without the unit at an end.
 fn rests(alloc: Global, instance: &Instance, end: End) -> Result<Vec<u32>, NoMemory>
-    ensures { IfOk result (λ rests. AreEach (IsRest instance.now end) (length (compositions_of instance.now)) rests.items) }
+    ensures { IfOk result (λ rests. AreEach (IsRest instance.now end)
+        (length (compositions_of instance.now)) rests.items) }
 {
     let mut rests = Vec::new(alloc);
     for comp in 0..instance.catalogue().len() {

@@ -13,8 +13,8 @@ ghost use Rattle.price_bound.specs.YardPrices.{giving, taking};
 
 use crate::edge_prices::EdgePrices;
 use crate::priced::Pricing;
-use crate::worths::{Amount, amount_for, minus, plus, sum_in, types_of, weighted};
-use rail_base::limits::MOST_COMPOSITION;
+use crate::priced_costs::{Amount, amount_for, minus, plus, sum_in, types_of, weighted};
+use rail_base::limits::MAX_COMPOSITION_UNITS;
 use rail_base::{CompNo, LinkNo, TripNo, TypeNo};
 use rail_csv::End;
 use timetable::Instance;

@@ -7,7 +7,7 @@ ghost use Rattle.transitions.specs.Edges.{AreGraphs};
 ghost use Rattle.branch_tree.specs.Bounds.{IsBound};
 ghost use Rattle.branch_tree.specs.Entries.{DoFit};
 ghost use Rattle.price_bound.specs.CellRows.{HaveRoomFor};
-ghost use Rattle.price_bound.specs.CellSizes.{IsSmall, most_found, most_number, most_value};
+ghost use Rattle.price_bound.specs.CellSizes.{IsSmall, most_found, most_number, most_chain_value};
 ghost use Rattle.price_bound.specs.ChangedDays.{AreChanges, changed_day, changed_meanings};
 ghost use Rattle.price_bound.specs.FirstPaths.{AreFound};
 ghost use Rattle.price_bound.specs.Pricing.{ArePriced, priced_by};
@@ -24,10 +24,10 @@ use crate::credits::fill_sums;
 use crate::fronts::{Front, fronts_of};
 use crate::price_tables::PriceTables;
 use crate::priced::Pricing;
+use crate::priced_costs::added;
 use crate::trains::Trains;
-use crate::worths::added;
 use branch_tree::{BoundAnswer, Entry, Multipliers, Region, Weight};
-use rail_base::limits::{MOST_ENTRIES, MOST_LINKS, MOST_MULTIPLIER, MOST_TRIPS};
+use rail_base::limits::{MAX_ENTRIES, MAX_LINKS, MAX_MULTIPLIER, MAX_TRIPS};
 use rail_base::{Money, NoMemory};
 use std::alloc::Global;
 use timetable::{Instance, Picks, Place};
@@ -112,9 +112,9 @@ impl Workspace {
         ensures bound { IsBound (changed_meanings (changed_day instance.now changes.now)) region.now
             multipliers.now weight result best.old best.new }
     {
-        prove!(multipliers.entries().len() <= MOST_ENTRIES);
-        prove!(instance.chains() as usize <= MOST_TRIPS);
-        prove!(instance.links() as usize <= MOST_LINKS);
+        prove!(multipliers.entries().len() <= MAX_ENTRIES);
+        prove!(instance.chains() as usize <= MAX_TRIPS);
+        prove!(instance.links() as usize <= MAX_LINKS);
         self.tables.fill(instance, multipliers);
         fill_sums(
             instance,
@@ -157,7 +157,7 @@ fn first_paths(pricing: &Pricing<'_>, rows: &mut ChainRows, choice: &mut Picks) 
     ensures found { AreFound (priced_by pricing.now) result choice.new }
     ensures small { IfSome result (λ value. IsSmall most_found value.0) }
 {
-    prove!(pricing.instance.trips() as usize <= MOST_TRIPS);
+    prove!(pricing.instance.trips() as usize <= MAX_TRIPS);
     let mut value = Money(0);
     for chain in 0..pricing.instance.chains() {
         let trips = pricing.instance.chain(chain);
@@ -173,8 +173,8 @@ fn first_paths(pricing: &Pricing<'_>, rows: &mut ChainRows, choice: &mut Picks) 
 
 /// A value and that of a path more, which begins with a cell.
 fn with_begin(value: Money, begin: Cell) -> Money
-    requires value { IsSmall most_value value.0 }
-    requires begin { IsSmall most_value begin.value }
+    requires value { IsSmall most_chain_value value.0 }
+    requires begin { IsSmall most_chain_value begin.value }
     ensures { result.0 ≡ value.0 +ℤ begin.value }
 {
     Money(value.0 + i128::from(begin.value))
@@ -184,7 +184,7 @@ fn with_begin(value: Money, begin: Cell) -> Money
 fn constant(instance: &Instance, multipliers: &Multipliers) -> Money
     requires { DoFit (length (places_of instance.now)) (length (lambdas_of instance.now)) multipliers.now }
     ensures value { result.0 ≡ constant_of instance.now multipliers.now }
-    ensures small { IsSmall (MOST_ENTRIES * (MOST_MULTIPLIER * most_number)) result.0 }
+    ensures small { IsSmall (MAX_ENTRIES * (MAX_MULTIPLIER * most_number)) result.0 }
 {
     let entries = multipliers.entries();
     let mut sum = Money(0);
@@ -198,9 +198,9 @@ fn constant(instance: &Instance, multipliers: &Multipliers) -> Money
 /// What one multiplier adds whatever the picks.
 fn constant_by(instance: &Instance, entry: &Entry) -> Money
     requires index { entry.now.index < length (places_of instance.now) }
-    requires size { unsigned_abs entry.now.value ≤ MOST_MULTIPLIER }
+    requires size { unsigned_abs entry.now.value ≤ MAX_MULTIPLIER }
     ensures value { result.0 ≡ by_place instance.now (constant_by instance.now) entry.now }
-    ensures small { IsSmall (MOST_MULTIPLIER * most_number) result.0 }
+    ensures small { IsSmall (MAX_MULTIPLIER * most_number) result.0 }
 {
     match instance.place(entry.index) {
         Place::Lambda {
@@ -234,10 +234,10 @@ fn difference(units: u32, other: u32) -> Money
 
 /// A multiplier times a number of units.
 fn times(entry: &Entry, units: Money) -> Money
-    requires size { unsigned_abs entry.now.value ≤ MOST_MULTIPLIER }
+    requires size { unsigned_abs entry.now.value ≤ MAX_MULTIPLIER }
     requires units { IsSmall most_number units.0 }
     ensures value { result.0 ≡ entry.now.value *ℤ units.0 }
-    ensures small { IsSmall (MOST_MULTIPLIER * most_number) result.0 }
+    ensures small { IsSmall (MAX_MULTIPLIER * most_number) result.0 }
 {
     Money(i128::from(entry.value) * units.0)
 }

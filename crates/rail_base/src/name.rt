@@ -5,7 +5,7 @@ ghost use Rattle.std.specs.List.{list_all};
 ghost use Rattle.rail_base.specs.Names.{is_name, is_name_byte};
 
 use crate::NoMemory;
-use crate::limits::MOST_NAME_BYTES;
+use crate::limits::MAX_NAME_BYTES;
 use std::alloc::Global;
 use std::marker::Model;
 
@@ -24,7 +24,7 @@ pub fn is_name(text: &[u8]) -> bool
     if text.is_empty() {
         return false;
     }
-    if text.len() > MOST_NAME_BYTES {
+    if text.len() > MAX_NAME_BYTES {
         return false;
     }
     if !are_name_bytes(text) {

@@ -3,7 +3,7 @@
 ghost use Rattle.std.specs.Prelude.{◌≡◌, ◌<◌, ◌++◌, [], ◌∷◌, List, ℕ, length, slice_get, Some, IfOk, OnOk, OnErr};
 
 use crate::NoMemory;
-use crate::limits::MOST_WORDS;
+use crate::limits::MAX_WORDS;
 use std::alloc::Global;
 use std::marker::Model;
 
@@ -17,13 +17,13 @@ pub struct Words {
 
 impl Model for Words {
     ghost use Rattle.std.specs.Prelude.{List, ℕ, map, string_bytes, length, ◌≤◌};
-    ghost use Rattle.rail_base.specs.declared.limits.TheConstants.{MOST_WORDS};
+    ghost use Rattle.rail_base.specs.declared.limits.TheConstants.{MAX_WORDS};
 
     ghost Value = { List (List ℕ) };
 
     ghost view = { λ a. map string_bytes a.words.items };
 
-    ghost invariant = { λ a. length a.words.items ≤ MOST_WORDS };
+    ghost invariant = { λ a. length a.words.items ≤ MAX_WORDS };
 }
 
 impl Words {
@@ -37,9 +37,9 @@ impl Words {
         })
     }
 
-    /// Adds a word at the end, where fewer than `MOST_WORDS` are there. On `NoMemory` the list is unchanged.
+    /// Adds a word at the end, where fewer than `MAX_WORDS` are there. On `NoMemory` the list is unchanged.
     pub fn push(&mut self, word: &str) -> Result<(), NoMemory>
-        requires { length self.old < MOST_WORDS }
+        requires { length self.old < MAX_WORDS }
         ensures ok { OnOk result (self.new ≡ self.old ++ word.now ∷ []) }
         ensures err { OnErr result (self.new ≡ self.old) }
     {

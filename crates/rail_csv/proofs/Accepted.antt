@@ -7,8 +7,8 @@ use Rattle.std.specs.Str.{is_utf8}
 use Rattle.std.proofs.lemmas.Bool.{ltb-false}
 use Rattle.std.proofs.lemmas.List.Elements.{All-from_recursion}
 use Rattle.rail_base.specs.Answers.{Gives, GivesRows}
-use Rattle.rail_base.specs.declared.limits.TheConstants.{MOST_TYPES, MOST_STATIONS, MOST_STOCK_ROWS, MOST_TRIPS}
-use Rattle.rail_base.specs.declared.limits.TheConstants.{MOST_LINKS, MOST_WEIGHT_ROWS, MOST_PLAN_ROWS}
+use Rattle.rail_base.specs.declared.limits.TheConstants.{MAX_TYPES, MAX_STATIONS, MAX_STOCK_ROWS, MAX_TRIPS}
+use Rattle.rail_base.specs.declared.limits.TheConstants.{MAX_LINKS, MAX_WEIGHT_ROWS, MAX_PLAN_ROWS}
 use Rattle.rail_csv.specs.declared.limits.TheConstants.{FEWEST_TYPE_COLUMNS, FEWEST_STATION_COLUMNS}
 use Rattle.rail_csv.specs.declared.limits.TheConstants.{FEWEST_STOCK_COLUMNS, FEWEST_TRIP_COLUMNS, FEWEST_LINK_COLUMNS}
 use Rattle.rail_csv.specs.declared.limits.TheConstants.{FEWEST_WEIGHT_COLUMNS, FEWEST_PLAN_COLUMNS}
@@ -21,10 +21,10 @@ use Rattle.rail_csv.specs.declared.rows.LinkRow.{LinkRow}
 use Rattle.rail_csv.specs.declared.rows.WeightsRow.{WeightsRow}
 use Rattle.rail_csv.specs.declared.rows.PlanRow.{PlanRow}
 use Rattle.rail_csv.specs.Tables.{Columns, is_header, is_memory, row_of, rows_from, rows_under, records_of, table_of}
-use Rattle.rail_csv.specs.Tables.{the_row, type_header, type_columns, types_of, station_header, station_columns}
-use Rattle.rail_csv.specs.Tables.{stations_of, stock_header, stock_columns, stock_of, trip_header, trip_columns}
-use Rattle.rail_csv.specs.Tables.{trips_of, link_header, link_columns, links_of, weight_header, weight_columns}
-use Rattle.rail_csv.specs.Tables.{weights_of, plan_header, plan_columns, plan_of}
+use Rattle.rail_csv.specs.Tables.{the_row, type_header, type_columns, type_rows_of, station_header, station_columns}
+use Rattle.rail_csv.specs.Tables.{station_rows_of, stock_header, stock_columns, stock_rows_of, trip_header, trip_columns}
+use Rattle.rail_csv.specs.Tables.{trip_rows_of, link_header, link_columns, link_rows_of, weight_header, weight_columns}
+use Rattle.rail_csv.specs.Tables.{weights_row_of, plan_header, plan_columns, plan_rows_of}
 use Rattle.rail_csv.specs.Rows.{AreRows, IsTypeRow, IsStationRow, IsStockRow, IsTripRow, IsLinkRow, IsWeightsRow}
 use Rattle.rail_csv.specs.Rows.{IsPlanRow}
 use Rattle.rail_csv.proofs.Steps.{step, same, went_on, passed, passed_both}
@@ -73,57 +73,57 @@ accepted IsRow limit (Err e) read meets given = tt
 
 -- each reader's rows are within the ranges of its columns
 
-pub types_within : (bytes : List ℕ) (rows : List TypeRow) → types_of bytes ≡ Ok rows → AreRows MOST_TYPES IsTypeRow rows
-unfolding types_of table_of
-types_within bytes rows e = table_read IsTypeRow type_header FEWEST_TYPE_COLUMNS MOST_TYPES type_columns (λ row fields r read. (type_meets row fields r read).1) (records_of bytes) rows e
+pub types_within : (bytes : List ℕ) (rows : List TypeRow) → type_rows_of bytes ≡ Ok rows → AreRows MAX_TYPES IsTypeRow rows
+unfolding type_rows_of table_of
+types_within bytes rows e = table_read IsTypeRow type_header FEWEST_TYPE_COLUMNS MAX_TYPES type_columns (λ row fields r read. (type_meets row fields r read).1) (records_of bytes) rows e
 
-pub types_are : (result : Result (Vec TypeRow) TableRefusal) (bytes : List ℕ) → GivesRows is_memory result (types_of bytes) → IfOk result (λ v. AreRows MOST_TYPES IsTypeRow v.items)
-types_are result bytes given = accepted IsTypeRow MOST_TYPES result (types_of bytes) (types_within bytes) given
+pub types_are : (result : Result (Vec TypeRow) TableRefusal) (bytes : List ℕ) → GivesRows is_memory result (type_rows_of bytes) → IfOk result (λ v. AreRows MAX_TYPES IsTypeRow v.items)
+types_are result bytes given = accepted IsTypeRow MAX_TYPES result (type_rows_of bytes) (types_within bytes) given
 
-pub stations_within : (bytes : List ℕ) (rows : List StationRow) → stations_of bytes ≡ Ok rows → AreRows MOST_STATIONS IsStationRow rows
-unfolding stations_of table_of
-stations_within bytes rows e = table_read IsStationRow station_header FEWEST_STATION_COLUMNS MOST_STATIONS station_columns (λ row fields r read. (station_meets row fields r read).1) (records_of bytes) rows e
+pub stations_within : (bytes : List ℕ) (rows : List StationRow) → station_rows_of bytes ≡ Ok rows → AreRows MAX_STATIONS IsStationRow rows
+unfolding station_rows_of table_of
+stations_within bytes rows e = table_read IsStationRow station_header FEWEST_STATION_COLUMNS MAX_STATIONS station_columns (λ row fields r read. (station_meets row fields r read).1) (records_of bytes) rows e
 
-pub stations_are : (result : Result (Vec StationRow) TableRefusal) (bytes : List ℕ) → GivesRows is_memory result (stations_of bytes) → IfOk result (λ v. AreRows MOST_STATIONS IsStationRow v.items)
-stations_are result bytes given = accepted IsStationRow MOST_STATIONS result (stations_of bytes) (stations_within bytes) given
+pub stations_are : (result : Result (Vec StationRow) TableRefusal) (bytes : List ℕ) → GivesRows is_memory result (station_rows_of bytes) → IfOk result (λ v. AreRows MAX_STATIONS IsStationRow v.items)
+stations_are result bytes given = accepted IsStationRow MAX_STATIONS result (station_rows_of bytes) (stations_within bytes) given
 
-pub stock_within : (bytes : List ℕ) (rows : List StockRow) → stock_of bytes ≡ Ok rows → AreRows MOST_STOCK_ROWS IsStockRow rows
-unfolding stock_of table_of
-stock_within bytes rows e = table_read IsStockRow stock_header FEWEST_STOCK_COLUMNS MOST_STOCK_ROWS stock_columns (λ row fields r read. (stock_meets row fields r read).1) (records_of bytes) rows e
+pub stock_within : (bytes : List ℕ) (rows : List StockRow) → stock_rows_of bytes ≡ Ok rows → AreRows MAX_STOCK_ROWS IsStockRow rows
+unfolding stock_rows_of table_of
+stock_within bytes rows e = table_read IsStockRow stock_header FEWEST_STOCK_COLUMNS MAX_STOCK_ROWS stock_columns (λ row fields r read. (stock_meets row fields r read).1) (records_of bytes) rows e
 
-pub stock_are : (result : Result (Vec StockRow) TableRefusal) (bytes : List ℕ) → GivesRows is_memory result (stock_of bytes) → IfOk result (λ v. AreRows MOST_STOCK_ROWS IsStockRow v.items)
-stock_are result bytes given = accepted IsStockRow MOST_STOCK_ROWS result (stock_of bytes) (stock_within bytes) given
+pub stock_are : (result : Result (Vec StockRow) TableRefusal) (bytes : List ℕ) → GivesRows is_memory result (stock_rows_of bytes) → IfOk result (λ v. AreRows MAX_STOCK_ROWS IsStockRow v.items)
+stock_are result bytes given = accepted IsStockRow MAX_STOCK_ROWS result (stock_rows_of bytes) (stock_within bytes) given
 
-pub trips_within : (bytes : List ℕ) (rows : List TripRow) → trips_of bytes ≡ Ok rows → AreRows MOST_TRIPS IsTripRow rows
-unfolding trips_of table_of
-trips_within bytes rows e = table_read IsTripRow trip_header FEWEST_TRIP_COLUMNS MOST_TRIPS trip_columns (λ row fields r read. (trip_meets row fields r read).1) (records_of bytes) rows e
+pub trips_within : (bytes : List ℕ) (rows : List TripRow) → trip_rows_of bytes ≡ Ok rows → AreRows MAX_TRIPS IsTripRow rows
+unfolding trip_rows_of table_of
+trips_within bytes rows e = table_read IsTripRow trip_header FEWEST_TRIP_COLUMNS MAX_TRIPS trip_columns (λ row fields r read. (trip_meets row fields r read).1) (records_of bytes) rows e
 
-pub trips_are : (result : Result (Vec TripRow) TableRefusal) (bytes : List ℕ) → GivesRows is_memory result (trips_of bytes) → IfOk result (λ v. AreRows MOST_TRIPS IsTripRow v.items)
-trips_are result bytes given = accepted IsTripRow MOST_TRIPS result (trips_of bytes) (trips_within bytes) given
+pub trips_are : (result : Result (Vec TripRow) TableRefusal) (bytes : List ℕ) → GivesRows is_memory result (trip_rows_of bytes) → IfOk result (λ v. AreRows MAX_TRIPS IsTripRow v.items)
+trips_are result bytes given = accepted IsTripRow MAX_TRIPS result (trip_rows_of bytes) (trips_within bytes) given
 
-pub links_within : (bytes : List ℕ) (rows : List LinkRow) → links_of bytes ≡ Ok rows → AreRows MOST_LINKS IsLinkRow rows
-unfolding links_of table_of
-links_within bytes rows e = table_read IsLinkRow link_header FEWEST_LINK_COLUMNS MOST_LINKS link_columns (λ row fields r read. (link_meets row fields r read).1) (records_of bytes) rows e
+pub links_within : (bytes : List ℕ) (rows : List LinkRow) → link_rows_of bytes ≡ Ok rows → AreRows MAX_LINKS IsLinkRow rows
+unfolding link_rows_of table_of
+links_within bytes rows e = table_read IsLinkRow link_header FEWEST_LINK_COLUMNS MAX_LINKS link_columns (λ row fields r read. (link_meets row fields r read).1) (records_of bytes) rows e
 
-pub links_are : (result : Result (Vec LinkRow) TableRefusal) (bytes : List ℕ) → GivesRows is_memory result (links_of bytes) → IfOk result (λ v. AreRows MOST_LINKS IsLinkRow v.items)
-links_are result bytes given = accepted IsLinkRow MOST_LINKS result (links_of bytes) (links_within bytes) given
+pub links_are : (result : Result (Vec LinkRow) TableRefusal) (bytes : List ℕ) → GivesRows is_memory result (link_rows_of bytes) → IfOk result (λ v. AreRows MAX_LINKS IsLinkRow v.items)
+links_are result bytes given = accepted IsLinkRow MAX_LINKS result (link_rows_of bytes) (links_within bytes) given
 
-pub plan_within : (bytes : List ℕ) (rows : List PlanRow) → plan_of bytes ≡ Ok rows → AreRows MOST_PLAN_ROWS IsPlanRow rows
-unfolding plan_of table_of
-plan_within bytes rows e = table_read IsPlanRow plan_header FEWEST_PLAN_COLUMNS MOST_PLAN_ROWS plan_columns (λ row fields r read. (plan_meets row fields r read).1) (records_of bytes) rows e
+pub plan_within : (bytes : List ℕ) (rows : List PlanRow) → plan_rows_of bytes ≡ Ok rows → AreRows MAX_PLAN_ROWS IsPlanRow rows
+unfolding plan_rows_of table_of
+plan_within bytes rows e = table_read IsPlanRow plan_header FEWEST_PLAN_COLUMNS MAX_PLAN_ROWS plan_columns (λ row fields r read. (plan_meets row fields r read).1) (records_of bytes) rows e
 
-pub plan_are : (result : Result (Vec PlanRow) TableRefusal) (bytes : List ℕ) → GivesRows is_memory result (plan_of bytes) → IfOk result (λ v. AreRows MOST_PLAN_ROWS IsPlanRow v.items)
-plan_are result bytes given = accepted IsPlanRow MOST_PLAN_ROWS result (plan_of bytes) (plan_within bytes) given
+pub plan_are : (result : Result (Vec PlanRow) TableRefusal) (bytes : List ℕ) → GivesRows is_memory result (plan_rows_of bytes) → IfOk result (λ v. AreRows MAX_PLAN_ROWS IsPlanRow v.items)
+plan_are result bytes given = accepted IsPlanRow MAX_PLAN_ROWS result (plan_rows_of bytes) (plan_within bytes) given
 
 the_row_meets : (rows : List WeightsRow) (row : WeightsRow) → AllByRecursion IsWeightsRow rows → the_row rows ≡ Ok row → IsWeightsRow row
 the_row_meets [] row each e = absurd cc
 the_row_meets (first ∷ others) row each e = subst IsWeightsRow (same first row e) each.0
 
-pub weights_within : (bytes : List ℕ) (row : WeightsRow) → weights_of bytes ≡ Ok row → IsWeightsRow row
-unfolding weights_of table_of
+pub weights_within : (bytes : List ℕ) (row : WeightsRow) → weights_row_of bytes ≡ Ok row → IsWeightsRow row
+unfolding weights_row_of table_of
 weights_within bytes row e =
-    step e (λ rows. AllByRecursion IsWeightsRow rows) (λ rows read. table_rows IsWeightsRow weight_header FEWEST_WEIGHT_COLUMNS MOST_WEIGHT_ROWS weight_columns (λ row fields r read. (weight_meets row fields r read).1) (records_of bytes) rows read) (λ rows each e1. the_row_meets rows row each e1)
+    step e (λ rows. AllByRecursion IsWeightsRow rows) (λ rows read. table_rows IsWeightsRow weight_header FEWEST_WEIGHT_COLUMNS MAX_WEIGHT_ROWS weight_columns (λ row fields r read. (weight_meets row fields r read).1) (records_of bytes) rows read) (λ rows each e1. the_row_meets rows row each e1)
 
-pub weights_are : (result : Result WeightsRow TableRefusal) (bytes : List ℕ) → Gives is_memory result (weights_of bytes) → IfOk result (λ row. IsWeightsRow row)
+pub weights_are : (result : Result WeightsRow TableRefusal) (bytes : List ℕ) → Gives is_memory result (weights_row_of bytes) → IfOk result (λ row. IsWeightsRow row)
 weights_are (Ok row) bytes given = weights_within bytes row given
 weights_are (Err e) bytes given = tt

@@ -7,7 +7,7 @@ use Rattle.std.proofs.lemmas.List.{length_push, take_more, length-take}
 use Rattle.std.proofs.lemmas.List.Folds.{list_all_more}
 use Rattle.std.proofs.lemmas.Bool.Decides.{nat_tests}
 use Rattle.std.specs.List.{list_all}
-use Rattle.rail_csv.specs.declared.limits.TheConstants.{MOST_NUMBER_DIGITS, MOST_VALUE_BYTES}
+use Rattle.rail_csv.specs.declared.limits.TheConstants.{MAX_NUMBER_DIGITS, MAX_VALUE_BYTES}
 use Rattle.rail_csv.specs.Fields.{are_digits, is_digit, number_of}
 
 -- one more digit
@@ -57,13 +57,13 @@ is_value false n value h = absurd cc
 
 -- the value of a number
 pub value_fits : (text : List ℕ) (value : ℕ) → (if are_digits text then Some (number_of text) else None) ≡ Some value
-    → length text ≤ MOST_NUMBER_DIGITS → value < 1000000000
+    → length text ≤ MAX_NUMBER_DIGITS → value < 1000000000
 value_fits text value h few =
     let number : number_of text < 1000000000 = number_fits text 9 few (is_true (are_digits text) (number_of text) value h) in
     omega (arith, number, is_value (are_digits text) (number_of text) value h)
 
 -- before the last digit there is room for one more
-pub room : (text : List ℕ) (i : ℕ) → i < length text → length text ≤ MOST_VALUE_BYTES → are_digits (take i text) ≡ true
+pub room : (text : List ℕ) (i : ℕ) → i < length text → length text ≤ MAX_VALUE_BYTES → are_digits (take i text) ≡ true
     → number_of (take i text) < 1000000000
 room text i within few h = number_fits (take i text) 9 (omega (arith, length-take i text)) h
 

@@ -6,11 +6,11 @@ use Rattle.std.specs.List.{list_all}
 use Rattle.std.specs.Str.{bytes_eq, is_utf8}
 use Rattle.rail_base.specs.Answers.{◌>>=◌}
 use Rattle.rail_base.specs.Names.{is_name}
-use Rattle.rail_base.specs.declared.limits.TheConstants.{MOST_TYPES, MOST_STATIONS, MOST_STOCK_ROWS, MOST_TRIPS}
-use Rattle.rail_base.specs.declared.limits.TheConstants.{MOST_LINKS, MOST_WEIGHT_ROWS, MOST_PLAN_ROWS, MOST_CARRIAGES}
-use Rattle.rail_base.specs.declared.limits.TheConstants.{MOST_SEATS, MOST_FIRST_SEATS, MOST_METRES, MOST_PLATFORM}
-use Rattle.rail_base.specs.declared.limits.TheConstants.{MOST_REALLOCATION, MOST_STOCK, MOST_KM, MOST_DEMAND}
-use Rattle.rail_base.specs.declared.limits.TheConstants.{MOST_FIRST_DEMAND, MOST_WEIGHT, MOST_COMPOSITION}
+use Rattle.rail_base.specs.declared.limits.TheConstants.{MAX_TYPES, MAX_STATIONS, MAX_STOCK_ROWS, MAX_TRIPS}
+use Rattle.rail_base.specs.declared.limits.TheConstants.{MAX_LINKS, MAX_WEIGHT_ROWS, MAX_PLAN_ROWS, MAX_CARRIAGES}
+use Rattle.rail_base.specs.declared.limits.TheConstants.{MAX_SEATS, MAX_FIRST_SEATS, MAX_METRES, MAX_PLATFORM}
+use Rattle.rail_base.specs.declared.limits.TheConstants.{MAX_REALLOCATION, MAX_STOCK, MAX_KM, MAX_DEMAND}
+use Rattle.rail_base.specs.declared.limits.TheConstants.{MAX_FIRST_DEMAND, MAX_WEIGHT, MAX_COMPOSITION_UNITS}
 use Rattle.rail_csv.specs.declared.limits.TheConstants.{FEWEST_TYPE_COLUMNS, FEWEST_STATION_COLUMNS}
 use Rattle.rail_csv.specs.declared.limits.TheConstants.{FEWEST_STOCK_COLUMNS, FEWEST_TRIP_COLUMNS, FEWEST_LINK_COLUMNS}
 use Rattle.rail_csv.specs.declared.limits.TheConstants.{FEWEST_WEIGHT_COLUMNS, FEWEST_PLAN_COLUMNS}
@@ -21,10 +21,10 @@ use Rattle.rail_csv.specs.Fields.{is_number, number_of, is_time, pieces_of, numb
 use Rattle.rail_csv.specs.Columns.{field, field_or, number_column, time_column, name_column, optional_name_column}
 use Rattle.rail_csv.specs.Columns.{kind_column, answer_column, end_column, units_column}
 use Rattle.rail_csv.specs.Tables.{Columns, is_header, row_of, rows_from, rows_under, records_of, table_of}
-use Rattle.rail_csv.specs.Tables.{the_row, type_header, type_columns, types_of, station_header, station_columns}
-use Rattle.rail_csv.specs.Tables.{stations_of, stock_header, stock_columns, stock_of, trip_header, trip_columns}
-use Rattle.rail_csv.specs.Tables.{trips_of, link_header, link_columns, links_of, weight_header, weight_columns}
-use Rattle.rail_csv.specs.Tables.{weights_of, plan_header, plan_columns, plan_of}
+use Rattle.rail_csv.specs.Tables.{the_row, type_header, type_columns, type_rows_of, station_header, station_columns}
+use Rattle.rail_csv.specs.Tables.{station_rows_of, stock_header, stock_columns, stock_rows_of, trip_header, trip_columns}
+use Rattle.rail_csv.specs.Tables.{trip_rows_of, link_header, link_columns, link_rows_of, weight_header, weight_columns}
+use Rattle.rail_csv.specs.Tables.{weights_row_of, plan_header, plan_columns, plan_rows_of}
 use Rattle.rail_csv.specs.Laws.{IsFirstWrong, IsWeightsTable, NoOtherTableWantsARow}
 use Rattle.rail_csv.proofs.Steps.{step}
 use Rattle.rail_csv.proofs.Whole.{is_table, table_is, is_first_wrong, first_wrong_is}
@@ -94,7 +94,7 @@ end_has row column text =
 
 units_has : (row column : ℕ) (text : List ℕ) → HasItsRow (units_column row column text)
 unfolding units_column
-units_has row column text = either (list_all is_number (pieces_of text)) _ _ (either (leb (length (numbers_of text)) MOST_COMPOSITION && list_all is_unit (numbers_of text)) _ _ (ok_has _) (λ e. absurd cc)) (λ e. absurd cc)
+units_has row column text = either (list_all is_number (pieces_of text)) _ _ (either (leb (length (numbers_of text)) MAX_COMPOSITION_UNITS && list_all is_unit (numbers_of text)) _ _ (ok_has _) (λ e. absurd cc)) (λ e. absurd cc)
 
 -- ---- the columns of each table
 
@@ -105,26 +105,26 @@ type_has : HaveTheirRow type_columns
 unfolding type_columns
 type_has row fields e =
     next e (name_has row 0 (field fields 0)) (λ name e1.
-    next e1 (number_has 1 MOST_CARRIAGES row 1 (field fields 1)) (λ carriages e2.
-    next e2 (number_has 1 MOST_SEATS row 2 (field fields 2)) (λ seats e3.
-    next e3 (number_has 1 MOST_METRES row 3 (field fields 3)) (λ metres e4.
+    next e1 (number_has 1 MAX_CARRIAGES row 1 (field fields 1)) (λ carriages e2.
+    next e2 (number_has 1 MAX_SEATS row 2 (field fields 2)) (λ seats e3.
+    next e3 (number_has 1 MAX_METRES row 3 (field fields 3)) (λ metres e4.
     next e4 (name_has row 4 (field fields 4)) (λ family e5.
-    next e5 (number_has 0 MOST_FIRST_SEATS row 5 (field_or (codes "0") fields 5)) (λ first e6. absurd cc))))))
+    next e5 (number_has 0 MAX_FIRST_SEATS row 5 (field_or (codes "0") fields 5)) (λ first e6. absurd cc))))))
 
 station_has : HaveTheirRow station_columns
 unfolding station_columns
 station_has row fields e =
     next e (name_has row 0 (field fields 0)) (λ name e1.
-    next e1 (number_has 1 MOST_PLATFORM row 1 (field fields 1)) (λ platform e2.
-    next e2 (number_has 0 MOST_REALLOCATION row 2 (field fields 2)) (λ reallocation e3. absurd cc)))
+    next e1 (number_has 1 MAX_PLATFORM row 1 (field fields 1)) (λ platform e2.
+    next e2 (number_has 0 MAX_REALLOCATION row 2 (field fields 2)) (λ reallocation e3. absurd cc)))
 
 stock_has : HaveTheirRow stock_columns
 unfolding stock_columns
 stock_has row fields e =
     next e (name_has row 0 (field fields 0)) (λ station e1.
     next e1 (name_has row 1 (field fields 1)) (λ unit_type e2.
-    next e2 (number_has 0 MOST_STOCK row 2 (field fields 2)) (λ start e3.
-    next e3 (number_has 0 MOST_STOCK row 3 (field fields 3)) (λ end e4. absurd cc))))
+    next e2 (number_has 0 MAX_STOCK row 2 (field fields 2)) (λ start e3.
+    next e3 (number_has 0 MAX_STOCK row 3 (field fields 3)) (λ end e4. absurd cc))))
 
 trip_has : HaveTheirRow trip_columns
 unfolding trip_columns
@@ -134,9 +134,9 @@ trip_has row fields e =
     next e2 (time_has row 2 (field fields 2)) (λ departure e3.
     next e3 (name_has row 3 (field fields 3)) (λ to e4.
     next e4 (time_has row 4 (field fields 4)) (λ arrival e5.
-    next e5 (number_has 1 MOST_KM row 5 (field fields 5)) (λ km e6.
-    next e6 (number_has 0 MOST_DEMAND row 6 (field fields 6)) (λ demand e7.
-    next e7 (number_has 0 MOST_FIRST_DEMAND row 7 (field_or (codes "0") fields 7)) (λ first e8. absurd cc))))))))
+    next e5 (number_has 1 MAX_KM row 5 (field fields 5)) (λ km e6.
+    next e6 (number_has 0 MAX_DEMAND row 6 (field fields 6)) (λ demand e7.
+    next e7 (number_has 0 MAX_FIRST_DEMAND row 7 (field_or (codes "0") fields 7)) (λ first e8. absurd cc))))))))
 
 link_has : HaveTheirRow link_columns
 unfolding link_columns
@@ -154,9 +154,9 @@ link_has row fields e =
 weight_has : HaveTheirRow weight_columns
 unfolding weight_columns
 weight_has row fields e =
-    next e (number_has 0 MOST_WEIGHT row 0 (field fields 0)) (λ carriage e1.
-    next e1 (number_has 0 MOST_WEIGHT row 1 (field fields 1)) (λ shortage e2.
-    next e2 (number_has 0 MOST_WEIGHT row 2 (field fields 2)) (λ shunting e3. absurd cc)))
+    next e (number_has 0 MAX_WEIGHT row 0 (field fields 0)) (λ carriage e1.
+    next e1 (number_has 0 MAX_WEIGHT row 1 (field fields 1)) (λ shortage e2.
+    next e2 (number_has 0 MAX_WEIGHT row 2 (field fields 2)) (λ shunting e3. absurd cc)))
 
 plan_has : HaveTheirRow plan_columns
 unfolding plan_columns
@@ -187,62 +187,62 @@ under_has words fewest limit columns has (first ∷ others) =
 
 -- no other table is refused for want of a row
 pub no_other : NoOtherTableWantsARow
-unfolding types_of stations_of stock_of trips_of links_of plan_of table_of
+unfolding type_rows_of station_rows_of stock_rows_of trip_rows_of link_rows_of plan_rows_of table_of
 no_other = record {
-  types = λ bytes. under_has type_header FEWEST_TYPE_COLUMNS MOST_TYPES type_columns type_has (records_of bytes);
-  stations = λ bytes. under_has station_header FEWEST_STATION_COLUMNS MOST_STATIONS station_columns station_has (records_of bytes);
-  stock = λ bytes. under_has stock_header FEWEST_STOCK_COLUMNS MOST_STOCK_ROWS stock_columns stock_has (records_of bytes);
-  trips = λ bytes. under_has trip_header FEWEST_TRIP_COLUMNS MOST_TRIPS trip_columns trip_has (records_of bytes);
-  links = λ bytes. under_has link_header FEWEST_LINK_COLUMNS MOST_LINKS link_columns link_has (records_of bytes);
-  plan = λ bytes. under_has plan_header FEWEST_PLAN_COLUMNS MOST_PLAN_ROWS plan_columns plan_has (records_of bytes);
+  types = λ bytes. under_has type_header FEWEST_TYPE_COLUMNS MAX_TYPES type_columns type_has (records_of bytes);
+  stations = λ bytes. under_has station_header FEWEST_STATION_COLUMNS MAX_STATIONS station_columns station_has (records_of bytes);
+  stock = λ bytes. under_has stock_header FEWEST_STOCK_COLUMNS MAX_STOCK_ROWS stock_columns stock_has (records_of bytes);
+  trips = λ bytes. under_has trip_header FEWEST_TRIP_COLUMNS MAX_TRIPS trip_columns trip_has (records_of bytes);
+  links = λ bytes. under_has link_header FEWEST_LINK_COLUMNS MAX_LINKS link_columns link_has (records_of bytes);
+  plan = λ bytes. under_has plan_header FEWEST_PLAN_COLUMNS MAX_PLAN_ROWS plan_columns plan_has (records_of bytes);
 }
 
 -- ---- the weights
 
 abbrev read_of : List ℕ → Result (List WeightsRow) TableRefusal
-read_of bytes = rows_under weight_header FEWEST_WEIGHT_COLUMNS MOST_WEIGHT_ROWS weight_columns (records_of bytes)
+read_of bytes = rows_under weight_header FEWEST_WEIGHT_COLUMNS MAX_WEIGHT_ROWS weight_columns (records_of bytes)
 
 table_read : (bytes : List ℕ) (rows : List WeightsRow) → read_of bytes ≡ Ok rows → IsWeightsTable (records_of bytes) rows
-table_read bytes rows e = is_table weight_header FEWEST_WEIGHT_COLUMNS MOST_WEIGHT_ROWS weight_columns (records_of bytes) rows e
+table_read bytes rows e = is_table weight_header FEWEST_WEIGHT_COLUMNS MAX_WEIGHT_ROWS weight_columns (records_of bytes) rows e
 
 read_table : (bytes : List ℕ) (rows : List WeightsRow) → IsWeightsTable (records_of bytes) rows → read_of bytes ≡ Ok rows
-read_table bytes rows is = table_is weight_header FEWEST_WEIGHT_COLUMNS MOST_WEIGHT_ROWS weight_columns (records_of bytes) rows is
+read_table bytes rows is = table_is weight_header FEWEST_WEIGHT_COLUMNS MAX_WEIGHT_ROWS weight_columns (records_of bytes) rows is
 
 one_row : (bytes : List ℕ) (row : WeightsRow) (rows : List WeightsRow) → IsWeightsTable (records_of bytes) rows → the_row rows ≡ Ok row → IsWeightsTable (records_of bytes) (row ∷ [])
 one_row bytes row [] is e = absurd cc
 one_row bytes row (first ∷ []) is e = let same : first ≡ row = cc in subst (λ (r : WeightsRow). IsWeightsTable (records_of bytes) (r ∷ [])) same is
 one_row bytes row (first ∷ second ∷ rows) is e = absurd (omega (arith, is.1.few))
 
-pub row_if : (bytes : List ℕ) (row : WeightsRow) → weights_of bytes ≡ Ok row → IsWeightsTable (records_of bytes) (row ∷ [])
-unfolding weights_of table_of
+pub row_if : (bytes : List ℕ) (row : WeightsRow) → weights_row_of bytes ≡ Ok row → IsWeightsTable (records_of bytes) (row ∷ [])
+unfolding weights_row_of table_of
 row_if bytes row e = step e (λ rows. IsWeightsTable (records_of bytes) rows) (table_read bytes) (λ rows is e1. one_row bytes row rows is e1)
 
-pub if_row : (bytes : List ℕ) (row : WeightsRow) → IsWeightsTable (records_of bytes) (row ∷ []) → weights_of bytes ≡ Ok row
-unfolding weights_of table_of
+pub if_row : (bytes : List ℕ) (row : WeightsRow) → IsWeightsTable (records_of bytes) (row ∷ []) → weights_row_of bytes ≡ Ok row
+unfolding weights_row_of table_of
 if_row bytes row is = rw (read_table bytes (row ∷ []) is) refl
 
 no_row : (bytes : List ℕ) (rows : List WeightsRow) → read_of bytes ≡ Ok rows → the_row rows ≡ Err NoRow → IsWeightsTable (records_of bytes) []
 no_row bytes [] read e = table_read bytes [] read
 no_row bytes (first ∷ rows) read e = absurd cc
 
-pub none_if : (bytes : List ℕ) → weights_of bytes ≡ Err NoRow → IsWeightsTable (records_of bytes) []
-unfolding weights_of table_of
+pub none_if : (bytes : List ℕ) → weights_row_of bytes ≡ Err NoRow → IsWeightsTable (records_of bytes) []
+unfolding weights_row_of table_of
 none_if bytes e =
-    ends e (λ no. absurd (under_has weight_header FEWEST_WEIGHT_COLUMNS MOST_WEIGHT_ROWS weight_columns weight_has (records_of bytes) no)) (λ rows read e1. no_row bytes rows read e1)
+    ends e (λ no. absurd (under_has weight_header FEWEST_WEIGHT_COLUMNS MAX_WEIGHT_ROWS weight_columns weight_has (records_of bytes) no)) (λ rows read e1. no_row bytes rows read e1)
 
-pub if_none : (bytes : List ℕ) → IsWeightsTable (records_of bytes) [] → weights_of bytes ≡ Err NoRow
-unfolding weights_of table_of
+pub if_none : (bytes : List ℕ) → IsWeightsTable (records_of bytes) [] → weights_row_of bytes ≡ Err NoRow
+unfolding weights_row_of table_of
 if_none bytes is = rw (read_table bytes [] is) refl
 
 wants_a_row : (rows : List WeightsRow) (why : TableRefusal) → the_row rows ≡ Err why → why ≡ NoRow
 wants_a_row [] why e = cc
 wants_a_row (first ∷ rows) why e = absurd cc
 
-pub wrong_if : (bytes : List ℕ) (why : TableRefusal) → weights_of bytes ≡ Err why → why ≢ NoRow → IsFirstWrong weight_header FEWEST_WEIGHT_COLUMNS MOST_WEIGHT_ROWS weight_columns (records_of bytes) why
-unfolding weights_of table_of
+pub wrong_if : (bytes : List ℕ) (why : TableRefusal) → weights_row_of bytes ≡ Err why → why ≢ NoRow → IsFirstWrong weight_header FEWEST_WEIGHT_COLUMNS MAX_WEIGHT_ROWS weight_columns (records_of bytes) why
+unfolding weights_row_of table_of
 wrong_if bytes why e other =
-    ends e (λ no. is_first_wrong weight_header FEWEST_WEIGHT_COLUMNS MOST_WEIGHT_ROWS weight_columns (records_of bytes) why no) (λ rows read e1. absurd (other (wants_a_row rows why e1)))
+    ends e (λ no. is_first_wrong weight_header FEWEST_WEIGHT_COLUMNS MAX_WEIGHT_ROWS weight_columns (records_of bytes) why no) (λ rows read e1. absurd (other (wants_a_row rows why e1)))
 
-pub if_wrong : (bytes : List ℕ) (why : TableRefusal) → IsFirstWrong weight_header FEWEST_WEIGHT_COLUMNS MOST_WEIGHT_ROWS weight_columns (records_of bytes) why → weights_of bytes ≡ Err why
-unfolding weights_of table_of
-if_wrong bytes why wrong = rw (first_wrong_is weight_header FEWEST_WEIGHT_COLUMNS MOST_WEIGHT_ROWS weight_columns (records_of bytes) why wrong) refl
+pub if_wrong : (bytes : List ℕ) (why : TableRefusal) → IsFirstWrong weight_header FEWEST_WEIGHT_COLUMNS MAX_WEIGHT_ROWS weight_columns (records_of bytes) why → weights_row_of bytes ≡ Err why
+unfolding weights_row_of table_of
+if_wrong bytes why wrong = rw (first_wrong_is weight_header FEWEST_WEIGHT_COLUMNS MAX_WEIGHT_ROWS weight_columns (records_of bytes) why wrong) refl

@@ -12,9 +12,9 @@ use Rattle.std.proofs.lemmas.List.Sums.{AllPass-from_list_all, list_all-from_All
 use Rattle.std.proofs.lemmas.Str.{IsUtf8-from_is_utf8, is_utf8-from_IsUtf8}
 use Rattle.rail_base.specs.Answers.{◌>>=◌}
 use Rattle.rail_base.specs.Names.{is_name}
-use Rattle.rail_base.specs.declared.limits.TheConstants.{MOST_CARRIAGES, MOST_SEATS, MOST_FIRST_SEATS, MOST_METRES}
-use Rattle.rail_base.specs.declared.limits.TheConstants.{MOST_PLATFORM, MOST_REALLOCATION, MOST_STOCK, MOST_KM}
-use Rattle.rail_base.specs.declared.limits.TheConstants.{MOST_DEMAND, MOST_FIRST_DEMAND, MOST_WEIGHT, MOST_COMPOSITION}
+use Rattle.rail_base.specs.declared.limits.TheConstants.{MAX_CARRIAGES, MAX_SEATS, MAX_FIRST_SEATS, MAX_METRES}
+use Rattle.rail_base.specs.declared.limits.TheConstants.{MAX_PLATFORM, MAX_REALLOCATION, MAX_STOCK, MAX_KM}
+use Rattle.rail_base.specs.declared.limits.TheConstants.{MAX_DEMAND, MAX_FIRST_DEMAND, MAX_WEIGHT, MAX_COMPOSITION_UNITS}
 use Rattle.rail_csv.specs.declared.refusal.TableRefusal.{TableRefusal}
 use Rattle.rail_csv.specs.Fields.{is_number, number_of, is_time, pieces_of, numbers_of, is_unit}
 use Rattle.rail_csv.specs.Columns.{field, field_or, number_column, time_column, name_column, optional_name_column}
@@ -239,7 +239,7 @@ units_names : (row column : ℕ) (text : List ℕ) → Names row column (units_c
 unfolding units_column
 units_names row column text =
     named_else row column (list_all is_number (pieces_of text)) _ _
-    (named_else row column (leb (length (numbers_of text)) MOST_COMPOSITION && list_all is_unit (numbers_of text)) _ _ (takes row column _) (refuses row column _ refl))
+    (named_else row column (leb (length (numbers_of text)) MAX_COMPOSITION_UNITS && list_all is_unit (numbers_of text)) _ _ (takes row column _) (refuses row column _ refl))
     (refuses row column _ refl)
 
 -- ---- the columns of the seven tables
@@ -249,19 +249,19 @@ unfolding type_columns
 types_refuse row fields e =
     from_first (type_columns row fields) row (type_faults row fields) e (
     in_front row 0 (name_column row 0 (field fields 0)) _ _ e (name_names row 0 (field fields 0)) (λ name.
-    in_front row 1 (number_column 1 MOST_CARRIAGES row 1 (field fields 1)) _ _ e (number_names 1 MOST_CARRIAGES row 1 (field fields 1)) (λ carriages.
-    in_front row 2 (number_column 1 MOST_SEATS row 2 (field fields 2)) _ _ e (number_names 1 MOST_SEATS row 2 (field fields 2)) (λ seats.
-    in_front row 3 (number_column 1 MOST_METRES row 3 (field fields 3)) _ _ e (number_names 1 MOST_METRES row 3 (field fields 3)) (λ metres.
+    in_front row 1 (number_column 1 MAX_CARRIAGES row 1 (field fields 1)) _ _ e (number_names 1 MAX_CARRIAGES row 1 (field fields 1)) (λ carriages.
+    in_front row 2 (number_column 1 MAX_SEATS row 2 (field fields 2)) _ _ e (number_names 1 MAX_SEATS row 2 (field fields 2)) (λ seats.
+    in_front row 3 (number_column 1 MAX_METRES row 3 (field fields 3)) _ _ e (number_names 1 MAX_METRES row 3 (field fields 3)) (λ metres.
     in_front row 4 (name_column row 4 (field fields 4)) _ _ e (name_names row 4 (field fields 4)) (λ family.
-    in_front row 5 (number_column 0 MOST_FIRST_SEATS row 5 (field_or (codes "0") fields 5)) _ _ e (number_names 0 MOST_FIRST_SEATS row 5 (field_or (codes "0") fields 5)) (λ first. none_left row 6 _ e)))))))
+    in_front row 5 (number_column 0 MAX_FIRST_SEATS row 5 (field_or (codes "0") fields 5)) _ _ e (number_names 0 MAX_FIRST_SEATS row 5 (field_or (codes "0") fields 5)) (λ first. none_left row 6 _ e)))))))
 
 stations_refuse : RefuseLeftmost station_columns station_faults
 unfolding station_columns
 stations_refuse row fields e =
     from_first (station_columns row fields) row (station_faults row fields) e (
     in_front row 0 (name_column row 0 (field fields 0)) _ _ e (name_names row 0 (field fields 0)) (λ name.
-    in_front row 1 (number_column 1 MOST_PLATFORM row 1 (field fields 1)) _ _ e (number_names 1 MOST_PLATFORM row 1 (field fields 1)) (λ platform.
-    in_front row 2 (number_column 0 MOST_REALLOCATION row 2 (field fields 2)) _ _ e (number_names 0 MOST_REALLOCATION row 2 (field fields 2)) (λ reallocation. none_left row 3 _ e))))
+    in_front row 1 (number_column 1 MAX_PLATFORM row 1 (field fields 1)) _ _ e (number_names 1 MAX_PLATFORM row 1 (field fields 1)) (λ platform.
+    in_front row 2 (number_column 0 MAX_REALLOCATION row 2 (field fields 2)) _ _ e (number_names 0 MAX_REALLOCATION row 2 (field fields 2)) (λ reallocation. none_left row 3 _ e))))
 
 stock_refuses : RefuseLeftmost stock_columns stock_faults
 unfolding stock_columns
@@ -269,8 +269,8 @@ stock_refuses row fields e =
     from_first (stock_columns row fields) row (stock_faults row fields) e (
     in_front row 0 (name_column row 0 (field fields 0)) _ _ e (name_names row 0 (field fields 0)) (λ station.
     in_front row 1 (name_column row 1 (field fields 1)) _ _ e (name_names row 1 (field fields 1)) (λ unit_type.
-    in_front row 2 (number_column 0 MOST_STOCK row 2 (field fields 2)) _ _ e (number_names 0 MOST_STOCK row 2 (field fields 2)) (λ start.
-    in_front row 3 (number_column 0 MOST_STOCK row 3 (field fields 3)) _ _ e (number_names 0 MOST_STOCK row 3 (field fields 3)) (λ end. none_left row 4 _ e)))))
+    in_front row 2 (number_column 0 MAX_STOCK row 2 (field fields 2)) _ _ e (number_names 0 MAX_STOCK row 2 (field fields 2)) (λ start.
+    in_front row 3 (number_column 0 MAX_STOCK row 3 (field fields 3)) _ _ e (number_names 0 MAX_STOCK row 3 (field fields 3)) (λ end. none_left row 4 _ e)))))
 
 trips_refuse : RefuseLeftmost trip_columns trip_faults
 unfolding trip_columns
@@ -281,9 +281,9 @@ trips_refuse row fields e =
     in_front row 2 (time_column row 2 (field fields 2)) _ _ e (time_names row 2 (field fields 2)) (λ departure.
     in_front row 3 (name_column row 3 (field fields 3)) _ _ e (name_names row 3 (field fields 3)) (λ to.
     in_front row 4 (time_column row 4 (field fields 4)) _ _ e (time_names row 4 (field fields 4)) (λ arrival.
-    in_front row 5 (number_column 1 MOST_KM row 5 (field fields 5)) _ _ e (number_names 1 MOST_KM row 5 (field fields 5)) (λ km.
-    in_front row 6 (number_column 0 MOST_DEMAND row 6 (field fields 6)) _ _ e (number_names 0 MOST_DEMAND row 6 (field fields 6)) (λ demand.
-    in_front row 7 (number_column 0 MOST_FIRST_DEMAND row 7 (field_or (codes "0") fields 7)) _ _ e (number_names 0 MOST_FIRST_DEMAND row 7 (field_or (codes "0") fields 7)) (λ first. none_left row 8 _ e)))))))))
+    in_front row 5 (number_column 1 MAX_KM row 5 (field fields 5)) _ _ e (number_names 1 MAX_KM row 5 (field fields 5)) (λ km.
+    in_front row 6 (number_column 0 MAX_DEMAND row 6 (field fields 6)) _ _ e (number_names 0 MAX_DEMAND row 6 (field fields 6)) (λ demand.
+    in_front row 7 (number_column 0 MAX_FIRST_DEMAND row 7 (field_or (codes "0") fields 7)) _ _ e (number_names 0 MAX_FIRST_DEMAND row 7 (field_or (codes "0") fields 7)) (λ first. none_left row 8 _ e)))))))))
 
 links_refuse : RefuseLeftmost link_columns link_faults
 unfolding link_columns
@@ -303,9 +303,9 @@ weights_refuse : RefuseLeftmost weight_columns weight_faults
 unfolding weight_columns
 weights_refuse row fields e =
     from_first (weight_columns row fields) row (weight_faults row fields) e (
-    in_front row 0 (number_column 0 MOST_WEIGHT row 0 (field fields 0)) _ _ e (number_names 0 MOST_WEIGHT row 0 (field fields 0)) (λ carriage.
-    in_front row 1 (number_column 0 MOST_WEIGHT row 1 (field fields 1)) _ _ e (number_names 0 MOST_WEIGHT row 1 (field fields 1)) (λ shortage.
-    in_front row 2 (number_column 0 MOST_WEIGHT row 2 (field fields 2)) _ _ e (number_names 0 MOST_WEIGHT row 2 (field fields 2)) (λ shunting. none_left row 3 _ e))))
+    in_front row 0 (number_column 0 MAX_WEIGHT row 0 (field fields 0)) _ _ e (number_names 0 MAX_WEIGHT row 0 (field fields 0)) (λ carriage.
+    in_front row 1 (number_column 0 MAX_WEIGHT row 1 (field fields 1)) _ _ e (number_names 0 MAX_WEIGHT row 1 (field fields 1)) (λ shortage.
+    in_front row 2 (number_column 0 MAX_WEIGHT row 2 (field fields 2)) _ _ e (number_names 0 MAX_WEIGHT row 2 (field fields 2)) (λ shunting. none_left row 3 _ e))))
 
 plan_refuses : RefuseLeftmost plan_columns plan_faults
 unfolding plan_columns

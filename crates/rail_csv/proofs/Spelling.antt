@@ -11,10 +11,10 @@ use Rattle.std.proofs.lemmas.List.Elements.{All-weaker}
 use Rattle.std.proofs.lemmas.List.Sums.{AllPass-from_list_all, list_all-from_AllPass}
 use Rattle.std.proofs.lemmas.Slice.Eq.{bytes_eq-Decides}
 use Rattle.rail_base.specs.Names.{is_name}
-use Rattle.rail_base.specs.declared.limits.TheConstants.{MOST_CARRIAGES, MOST_SEATS, MOST_FIRST_SEATS, MOST_METRES}
-use Rattle.rail_base.specs.declared.limits.TheConstants.{MOST_PLATFORM, MOST_REALLOCATION, MOST_STOCK, MOST_MINUTES}
-use Rattle.rail_base.specs.declared.limits.TheConstants.{MOST_KM, MOST_DEMAND, MOST_FIRST_DEMAND, MOST_WEIGHT}
-use Rattle.rail_base.specs.declared.limits.TheConstants.{MOST_COMPOSITION, MOST_UNITS}
+use Rattle.rail_base.specs.declared.limits.TheConstants.{MAX_CARRIAGES, MAX_SEATS, MAX_FIRST_SEATS, MAX_METRES}
+use Rattle.rail_base.specs.declared.limits.TheConstants.{MAX_PLATFORM, MAX_REALLOCATION, MAX_STOCK, MAX_MINUTES}
+use Rattle.rail_base.specs.declared.limits.TheConstants.{MAX_KM, MAX_DEMAND, MAX_FIRST_DEMAND, MAX_WEIGHT}
+use Rattle.rail_base.specs.declared.limits.TheConstants.{MAX_COMPOSITION_UNITS, MAX_UNITS}
 use Rattle.rail_csv.specs.declared.limits.TheConstants.{LAST_HOUR, LAST_MINUTE_OF_AN_HOUR, MINUTES_OF_AN_HOUR}
 use Rattle.rail_csv.specs.declared.refusal.TableRefusal.{TableRefusal}
 use Rattle.rail_csv.specs.declared.rows.KindWord.{KindWord}
@@ -34,7 +34,7 @@ use Rattle.rail_csv.specs.Columns.{field, field_or, number_column, time_column, 
 use Rattle.rail_csv.specs.Columns.{kind_column, answer_column, end_column, units_column}
 use Rattle.rail_csv.specs.Tables.{Columns, row_of, type_columns, station_columns, stock_columns, trip_columns}
 use Rattle.rail_csv.specs.Tables.{link_columns, weight_columns, plan_columns}
-use Rattle.rail_csv.specs.Rows.{IsName, IsWithin, IsMinute, IsTypeRow, IsStationRow, IsStockRow, IsTripRow}
+use Rattle.rail_csv.specs.Rows.{IsName, LiesBetween, IsMinute, IsTypeRow, IsStationRow, IsStockRow, IsTripRow}
 use Rattle.rail_csv.specs.Rows.{IsLinkRow, IsWeightsRow, IsPlanRow}
 use Rattle.rail_csv.specs.Spelling.{SpellsNumber, SpellsTime, SpellsName, SpellsOptionalName, kind_word, SpellsKind}
 use Rattle.rail_csv.specs.Spelling.{answer_word, SpellsAnswer, end_word, SpellsEnd, SpellsUnits, SpellsIfThere}
@@ -107,35 +107,35 @@ optional_name_goes row column (byte ∷ text) (Some name) spelled is =
 
 -- ---- numbers
 
-within : (low high n : ℕ) → (leb low n && leb n high) ≡ true → IsWithin low high n
+within : (low high n : ℕ) → (leb low n && leb n high) ≡ true → LiesBetween low high n
 within low high n h =
     let parts = and_parts (leb low n) (leb n high) h in
     (leb-true low n parts.0, leb-true n high parts.1)
 
-is_within : (low high n : ℕ) → IsWithin low high n → (leb low n && leb n high) ≡ true
+is_within : (low high n : ℕ) → LiesBetween low high n → (leb low n && leb n high) ≡ true
 is_within low high n (least, most) = and_from (leb low n) (leb n high) (le-leb low n least) (le-leb n high most)
 
 number_meets : (low high row column : ℕ) (text : List ℕ) (n : ℕ) → number_column low high row column text ≡ Ok n
-    → SpellsNumber text n × IsWithin low high n
+    → SpellsNumber text n × LiesBetween low high n
 unfolding number_column
 number_meets low high row column text n e =
     let value : ℕ = number_of text in
     let k = passed_both (is_number text) (leb low value && leb value high) (Ok value) n _ _ e in
     let spelled : value ≡ n = same value n k.2 in
-    ((k.0, spelled), subst (IsWithin low high) spelled (within low high value k.1))
+    ((k.0, spelled), subst (LiesBetween low high) spelled (within low high value k.1))
 
-number_goes : (low high row column : ℕ) (text : List ℕ) (n : ℕ) → SpellsNumber text n → IsWithin low high n
+number_goes : (low high row column : ℕ) (text : List ℕ) (n : ℕ) → SpellsNumber text n → LiesBetween low high n
     → number_column low high row column text ≡ Ok n
 unfolding number_column
 number_goes low high row column text n (number, spelled) ranged =
     let value : ℕ = number_of text in
     pass_both (is_number text) (leb low value && leb value high) (Ok value) n _ _ number
-    (is_within low high value (subst (IsWithin low high) (sym spelled) ranged)) (ap (λ (v : ℕ). Ok v) spelled)
+    (is_within low high value (subst (LiesBetween low high) (sym spelled) ranged)) (ap (λ (v : ℕ). Ok v) spelled)
 
 -- ---- times
 
 below_day : (form : Bool) (hour minute : ℕ) → (form && leb hour LAST_HOUR && leb minute LAST_MINUTE_OF_AN_HOUR) ≡ true
-    → MINUTES_OF_AN_HOUR * hour + minute < MOST_MINUTES
+    → MINUTES_OF_AN_HOUR * hour + minute < MAX_MINUTES
 below_day form hour minute h = grind (arith, nat_tests)
 
 time_meets : (row column : ℕ) (text : List ℕ) (minute : ℕ) → time_column row column text ≡ Ok minute
@@ -225,21 +225,21 @@ end_goes row column text end spelled = ap (end_column row column) spelled ∙ en
 
 -- at most six units, each with a number that a unit may have
 abbrev AreUnits : List ℕ → Type 0
-AreUnits units = (length units ≤ MOST_COMPOSITION) × All (λ unit. unit < MOST_UNITS) units
+AreUnits units = (length units ≤ MAX_COMPOSITION_UNITS) × All (λ unit. unit < MAX_UNITS) units
 
-units_are : (units : List ℕ) → (leb (length units) MOST_COMPOSITION && list_all is_unit units) ≡ true → AreUnits units
+units_are : (units : List ℕ) → (leb (length units) MAX_COMPOSITION_UNITS && list_all is_unit units) ≡ true → AreUnits units
 units_are units h =
-    let parts = and_parts (leb (length units) MOST_COMPOSITION) (list_all is_unit units) h in (
-      leb-true (length units) MOST_COMPOSITION parts.0,
-      All-weaker (λ unit. is_unit unit ≡ true) (λ unit. unit < MOST_UNITS) (λ unit is. ltb-true unit MOST_UNITS is)
+    let parts = and_parts (leb (length units) MAX_COMPOSITION_UNITS) (list_all is_unit units) h in (
+      leb-true (length units) MAX_COMPOSITION_UNITS parts.0,
+      All-weaker (λ unit. is_unit unit ≡ true) (λ unit. unit < MAX_UNITS) (λ unit is. ltb-true unit MAX_UNITS is)
           units (AllPass-from_list_all is_unit units parts.1),
     )
 
-are_units : (units : List ℕ) → AreUnits units → (leb (length units) MOST_COMPOSITION && list_all is_unit units) ≡ true
+are_units : (units : List ℕ) → AreUnits units → (leb (length units) MAX_COMPOSITION_UNITS && list_all is_unit units) ≡ true
 are_units units (few, each) =
-    and_from (leb (length units) MOST_COMPOSITION) (list_all is_unit units) (le-leb (length units) MOST_COMPOSITION few)
+    and_from (leb (length units) MAX_COMPOSITION_UNITS) (list_all is_unit units) (le-leb (length units) MAX_COMPOSITION_UNITS few)
     (list_all-from_AllPass is_unit units
-    (All-weaker (λ unit. unit < MOST_UNITS) (λ unit. is_unit unit ≡ true) (λ unit below. lt-ltb unit MOST_UNITS below)
+    (All-weaker (λ unit. unit < MAX_UNITS) (λ unit. is_unit unit ≡ true) (λ unit below. lt-ltb unit MAX_UNITS below)
     units each))
 
 each_spelled : (pieces : List (List ℕ)) → list_all is_number pieces ≡ true
@@ -265,7 +265,7 @@ unfolding units_column
 units_meet row column text units e =
     let numbers : List ℕ = numbers_of text in
     let k = passed_both (list_all is_number (pieces_of text))
-    (leb (length numbers) MOST_COMPOSITION && list_all is_unit numbers) (Ok numbers) units _ _ e in
+    (leb (length numbers) MAX_COMPOSITION_UNITS && list_all is_unit numbers) (Ok numbers) units _ _ e in
     let spelled : numbers ≡ units = same numbers units k.2 in (
       subst (SpellsUnits text) spelled (each_spelled (pieces_of text) k.0),
       subst AreUnits spelled (units_are numbers k.1),
@@ -277,7 +277,7 @@ unfolding units_column
 units_go row column text units spells are =
     let numbers : List ℕ = numbers_of text in
     let (each, spelled) = all_numbers (pieces_of text) units spells in
-    pass_both (list_all is_number (pieces_of text)) (leb (length numbers) MOST_COMPOSITION && list_all is_unit numbers)
+    pass_both (list_all is_number (pieces_of text)) (leb (length numbers) MAX_COMPOSITION_UNITS && list_all is_unit numbers)
     (Ok numbers) units _ _ each (are_units numbers (subst AreUnits (sym spelled) are))
     (ap (λ (us : List ℕ). Ok us) spelled)
 
@@ -340,11 +340,11 @@ pub type_meets : (row : ℕ) (fields : List (List ℕ)) (r : TypeRow) → type_c
 unfolding type_columns
 type_meets row fields r e =
     step e _ (name_meets row 0 (field fields 0)) (λ name name_is e1.
-    step e1 _ (number_meets 1 MOST_CARRIAGES row 1 (field fields 1)) (λ carriages carriages_is e2.
-    step e2 _ (number_meets 1 MOST_SEATS row 2 (field fields 2)) (λ seats seats_is e3.
-    step e3 _ (number_meets 1 MOST_METRES row 3 (field fields 3)) (λ metres metres_is e4.
+    step e1 _ (number_meets 1 MAX_CARRIAGES row 1 (field fields 1)) (λ carriages carriages_is e2.
+    step e2 _ (number_meets 1 MAX_SEATS row 2 (field fields 2)) (λ seats seats_is e3.
+    step e3 _ (number_meets 1 MAX_METRES row 3 (field fields 3)) (λ metres metres_is e4.
     step e4 _ (name_meets row 4 (field fields 4)) (λ family family_is e5.
-    step e5 _ (number_meets 0 MOST_FIRST_SEATS row 5 (field_or (codes "0") fields 5)) (λ first first_is e6.
+    step e5 _ (number_meets 0 MAX_FIRST_SEATS row 5 (field_or (codes "0") fields 5)) (λ first first_is e6.
     subst (λ (t : TypeRow). SpellsTypeRow fields t × IsTypeRow t)
     (same (record {
       name = name;
@@ -377,11 +377,11 @@ type_goes : (row : ℕ) (fields : List (List ℕ)) (r : TypeRow) → SpellsTypeR
 unfolding type_columns
 type_goes row fields r spells is =
     step_on _ (name_goes row 0 (field fields 0) r.name spells.name is.name)
-    (step_on _ (number_goes 1 MOST_CARRIAGES row 1 (field fields 1) r.carriages spells.carriages is.carriages)
-    (step_on _ (number_goes 1 MOST_SEATS row 2 (field fields 2) r.seats spells.seats is.seats)
-    (step_on _ (number_goes 1 MOST_METRES row 3 (field fields 3) r.metres spells.metres is.metres)
+    (step_on _ (number_goes 1 MAX_CARRIAGES row 1 (field fields 1) r.carriages spells.carriages is.carriages)
+    (step_on _ (number_goes 1 MAX_SEATS row 2 (field fields 2) r.seats spells.seats is.seats)
+    (step_on _ (number_goes 1 MAX_METRES row 3 (field fields 3) r.metres spells.metres is.metres)
     (step_on _ (name_goes row 4 (field fields 4) r.family spells.family is.family)
-    (step_on _ (number_goes 0 MOST_FIRST_SEATS row 5 (field_or (codes "0") fields 5) r.first
+    (step_on _ (number_goes 0 MAX_FIRST_SEATS row 5 (field_or (codes "0") fields 5) r.first
     (seats_or fields 5 r.first spells.first) is.first) refl)))))
 
 pub station_meets : (row : ℕ) (fields : List (List ℕ)) (r : StationRow) → station_columns row fields ≡ Ok r
@@ -389,8 +389,8 @@ pub station_meets : (row : ℕ) (fields : List (List ℕ)) (r : StationRow) → 
 unfolding station_columns
 station_meets row fields r e =
     step e _ (name_meets row 0 (field fields 0)) (λ name name_is e1.
-    step e1 _ (number_meets 1 MOST_PLATFORM row 1 (field fields 1)) (λ platform platform_is e2.
-    step e2 _ (number_meets 0 MOST_REALLOCATION row 2 (field fields 2)) (λ reallocation reallocation_is e3.
+    step e1 _ (number_meets 1 MAX_PLATFORM row 1 (field fields 1)) (λ platform platform_is e2.
+    step e2 _ (number_meets 0 MAX_REALLOCATION row 2 (field fields 2)) (λ reallocation reallocation_is e3.
     subst (λ (t : StationRow). SpellsStationRow fields t × IsStationRow t)
     (same (record { name = name; platform = platform; reallocation = reallocation }) r e3) (
       record { name = name_is.0; platform = platform_is.0; reallocation = reallocation_is.0 },
@@ -402,8 +402,8 @@ station_goes : (row : ℕ) (fields : List (List ℕ)) (r : StationRow) → Spell
 unfolding station_columns
 station_goes row fields r spells is =
     step_on _ (name_goes row 0 (field fields 0) r.name spells.name is.name)
-    (step_on _ (number_goes 1 MOST_PLATFORM row 1 (field fields 1) r.platform spells.platform is.platform)
-    (step_on _ (number_goes 0 MOST_REALLOCATION row 2 (field fields 2) r.reallocation spells.reallocation
+    (step_on _ (number_goes 1 MAX_PLATFORM row 1 (field fields 1) r.platform spells.platform is.platform)
+    (step_on _ (number_goes 0 MAX_REALLOCATION row 2 (field fields 2) r.reallocation spells.reallocation
     is.reallocation) refl))
 
 pub stock_meets : (row : ℕ) (fields : List (List ℕ)) (r : StockRow) → stock_columns row fields ≡ Ok r
@@ -412,8 +412,8 @@ unfolding stock_columns
 stock_meets row fields r e =
     step e _ (name_meets row 0 (field fields 0)) (λ station station_is e1.
     step e1 _ (name_meets row 1 (field fields 1)) (λ unit_type unit_type_is e2.
-    step e2 _ (number_meets 0 MOST_STOCK row 2 (field fields 2)) (λ start start_is e3.
-    step e3 _ (number_meets 0 MOST_STOCK row 3 (field fields 3)) (λ end end_is e4.
+    step e2 _ (number_meets 0 MAX_STOCK row 2 (field fields 2)) (λ start start_is e3.
+    step e3 _ (number_meets 0 MAX_STOCK row 3 (field fields 3)) (λ end end_is e4.
     subst (λ (t : StockRow). SpellsStockRow fields t × IsStockRow t)
     (same (record { station = station; unit_type = unit_type; start = start; end = end }) r e4) (
       record { station = station_is.0; unit_type = unit_type_is.0; start = start_is.0; end = end_is.0 },
@@ -426,8 +426,8 @@ unfolding stock_columns
 stock_goes row fields r spells is =
     step_on _ (name_goes row 0 (field fields 0) r.station spells.station is.station)
     (step_on _ (name_goes row 1 (field fields 1) r.unit_type spells.unit_type is.unit_type)
-    (step_on _ (number_goes 0 MOST_STOCK row 2 (field fields 2) r.start spells.start is.start)
-    (step_on _ (number_goes 0 MOST_STOCK row 3 (field fields 3) r.end spells.end is.end) refl)))
+    (step_on _ (number_goes 0 MAX_STOCK row 2 (field fields 2) r.start spells.start is.start)
+    (step_on _ (number_goes 0 MAX_STOCK row 3 (field fields 3) r.end spells.end is.end) refl)))
 
 pub trip_meets : (row : ℕ) (fields : List (List ℕ)) (r : TripRow) → trip_columns row fields ≡ Ok r
     → SpellsTripRow fields r × IsTripRow r
@@ -438,9 +438,9 @@ trip_meets row fields r e =
     step e2 _ (time_meets row 2 (field fields 2)) (λ departure departure_is e3.
     step e3 _ (name_meets row 3 (field fields 3)) (λ to to_is e4.
     step e4 _ (time_meets row 4 (field fields 4)) (λ arrival arrival_is e5.
-    step e5 _ (number_meets 1 MOST_KM row 5 (field fields 5)) (λ km km_is e6.
-    step e6 _ (number_meets 0 MOST_DEMAND row 6 (field fields 6)) (λ demand demand_is e7.
-    step e7 _ (number_meets 0 MOST_FIRST_DEMAND row 7 (field_or (codes "0") fields 7)) (λ first first_is e8.
+    step e5 _ (number_meets 1 MAX_KM row 5 (field fields 5)) (λ km km_is e6.
+    step e6 _ (number_meets 0 MAX_DEMAND row 6 (field fields 6)) (λ demand demand_is e7.
+    step e7 _ (number_meets 0 MAX_FIRST_DEMAND row 7 (field_or (codes "0") fields 7)) (λ first first_is e8.
     subst (λ (t : TripRow). SpellsTripRow fields t × IsTripRow t)
     (same (record {
       name = name;
@@ -483,9 +483,9 @@ trip_goes row fields r spells is =
     (step_on _ (time_goes row 2 (field fields 2) r.departure spells.departure)
     (step_on _ (name_goes row 3 (field fields 3) r.to spells.to is.to)
     (step_on _ (time_goes row 4 (field fields 4) r.arrival spells.arrival)
-    (step_on _ (number_goes 1 MOST_KM row 5 (field fields 5) r.km spells.km is.km)
-    (step_on _ (number_goes 0 MOST_DEMAND row 6 (field fields 6) r.demand spells.demand is.demand)
-    (step_on _ (number_goes 0 MOST_FIRST_DEMAND row 7 (field_or (codes "0") fields 7) r.first
+    (step_on _ (number_goes 1 MAX_KM row 5 (field fields 5) r.km spells.km is.km)
+    (step_on _ (number_goes 0 MAX_DEMAND row 6 (field fields 6) r.demand spells.demand is.demand)
+    (step_on _ (number_goes 0 MAX_FIRST_DEMAND row 7 (field_or (codes "0") fields 7) r.first
     (seats_or fields 7 r.first spells.first) is.first) refl)))))))
 
 pub link_meets : (row : ℕ) (fields : List (List ℕ)) (r : LinkRow) → link_columns row fields ≡ Ok r
@@ -551,9 +551,9 @@ pub weight_meets : (row : ℕ) (fields : List (List ℕ)) (r : WeightsRow) → w
     → SpellsWeightsRow fields r × IsWeightsRow r
 unfolding weight_columns
 weight_meets row fields r e =
-    step e _ (number_meets 0 MOST_WEIGHT row 0 (field fields 0)) (λ carriage carriage_is e1.
-    step e1 _ (number_meets 0 MOST_WEIGHT row 1 (field fields 1)) (λ shortage shortage_is e2.
-    step e2 _ (number_meets 0 MOST_WEIGHT row 2 (field fields 2)) (λ shunting shunting_is e3.
+    step e _ (number_meets 0 MAX_WEIGHT row 0 (field fields 0)) (λ carriage carriage_is e1.
+    step e1 _ (number_meets 0 MAX_WEIGHT row 1 (field fields 1)) (λ shortage shortage_is e2.
+    step e2 _ (number_meets 0 MAX_WEIGHT row 2 (field fields 2)) (λ shunting shunting_is e3.
     subst (λ (t : WeightsRow). SpellsWeightsRow fields t × IsWeightsRow t)
     (same (record { carriage = carriage; shortage = shortage; shunting = shunting }) r e3) (
       record { carriage = carriage_is.0; shortage = shortage_is.0; shunting = shunting_is.0 },
@@ -564,9 +564,9 @@ weight_goes : (row : ℕ) (fields : List (List ℕ)) (r : WeightsRow) → Spells
     → weight_columns row fields ≡ Ok r
 unfolding weight_columns
 weight_goes row fields r spells is =
-    step_on _ (number_goes 0 MOST_WEIGHT row 0 (field fields 0) r.carriage spells.carriage is.carriage)
-    (step_on _ (number_goes 0 MOST_WEIGHT row 1 (field fields 1) r.shortage spells.shortage is.shortage)
-    (step_on _ (number_goes 0 MOST_WEIGHT row 2 (field fields 2) r.shunting spells.shunting is.shunting) refl))
+    step_on _ (number_goes 0 MAX_WEIGHT row 0 (field fields 0) r.carriage spells.carriage is.carriage)
+    (step_on _ (number_goes 0 MAX_WEIGHT row 1 (field fields 1) r.shortage spells.shortage is.shortage)
+    (step_on _ (number_goes 0 MAX_WEIGHT row 2 (field fields 2) r.shunting spells.shunting is.shunting) refl))
 
 pub plan_meets : (row : ℕ) (fields : List (List ℕ)) (r : PlanRow) → plan_columns row fields ≡ Ok r
     → SpellsPlanRow fields r × IsPlanRow r

@@ -5,7 +5,7 @@ use Rattle.std.specs.List.{list_all}
 use Rattle.std.specs.Str.{bytes_eq}
 use Rattle.rail_base.specs.Answers.{◌>>=◌}
 use Rattle.rail_base.specs.Names.{is_name}
-use Rattle.rail_base.specs.declared.limits.TheConstants.{MOST_COMPOSITION}
+use Rattle.rail_base.specs.declared.limits.TheConstants.{MAX_COMPOSITION_UNITS}
 use Rattle.rail_csv.specs.declared.refusal.TableRefusal.{TableRefusal}
 use Rattle.rail_csv.specs.declared.refusal.TableRefusal.TheVariants.{BadNumber, OutOfRange, BadTime, BadName, BadWord}
 use Rattle.rail_csv.specs.declared.rows.KindWord.{KindWord}
@@ -72,7 +72,7 @@ end_column row column text =
 unfoldable pub units_column : ℕ → ℕ → List ℕ → Result (List ℕ) TableRefusal
 units_column row column text =
     if list_all is_number (pieces_of text)
-    then (if nat_le (length (numbers_of text)) MOST_COMPOSITION && list_all is_unit (numbers_of text)
+    then (if nat_le (length (numbers_of text)) MAX_COMPOSITION_UNITS && list_all is_unit (numbers_of text)
     then Ok (numbers_of text)
     else Err (OutOfRange row column))
     else Err (BadNumber row column)

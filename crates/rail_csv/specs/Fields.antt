@@ -4,9 +4,9 @@ use Rattle.std.specs.Prelude.{nat_lt, slice_index}
 use Rattle.std.specs.List.{list_all, slice_split}
 use Rattle.rail_base.specs.Names.{space}
 use Rattle.rail_base.specs.Times.{colon}
-use Rattle.rail_base.specs.declared.limits.TheConstants.{MOST_UNITS}
+use Rattle.rail_base.specs.declared.limits.TheConstants.{MAX_UNITS}
 use Rattle.rail_csv.specs.declared.limits.TheConstants.{LAST_HOUR, LAST_MINUTE_OF_AN_HOUR, MINUTES_OF_AN_HOUR}
-use Rattle.rail_csv.specs.declared.limits.TheConstants.{MOST_NUMBER_DIGITS}
+use Rattle.rail_csv.specs.declared.limits.TheConstants.{MAX_NUMBER_DIGITS}
 
 -- an ASCII digit
 abbrev pub is_digit : ℕ → Bool
@@ -21,9 +21,9 @@ unfoldable pub number_of : List ℕ → ℕ
 number_of [] = 0
 number_of (digit ∷ digits) = (digit - 48) * 10 ^ length digits + number_of digits
 
--- a number has 1 to MOST_NUMBER_DIGITS digits
+-- a number has 1 to MAX_NUMBER_DIGITS digits
 abbrev pub is_number : List ℕ → Bool
-is_number text = nat_le 1 (length text) && nat_le (length text) MOST_NUMBER_DIGITS && are_digits text
+is_number text = nat_le 1 (length text) && nat_le (length text) MAX_NUMBER_DIGITS && are_digits text
 
 -- the hour of a time is what stands before its last three bytes, the minute its last two bytes, with a colon between
 abbrev pub hour_text : List ℕ → List ℕ
@@ -56,4 +56,4 @@ numbers_of text = map number_of (pieces_of text)
 
 -- a number that a unit may have
 abbrev pub is_unit : ℕ → Bool
-is_unit number = nat_lt number MOST_UNITS
+is_unit number = nat_lt number MAX_UNITS

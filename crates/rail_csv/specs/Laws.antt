@@ -5,10 +5,11 @@ use Rattle.std.specs.List.{slice_get}
 use Rattle.rail_csv.specs.declared.refusal.TableRefusal.{TableRefusal}
 use Rattle.rail_csv.specs.declared.refusal.TableRefusal.TheVariants.{WrongHeader, TooManyRows, NoRow}
 use Rattle.rail_csv.specs.declared.rows.WeightsRow.{WeightsRow}
-use Rattle.rail_base.specs.declared.limits.TheConstants.{MOST_WEIGHT_ROWS}
+use Rattle.rail_base.specs.declared.limits.TheConstants.{MAX_WEIGHT_ROWS}
 use Rattle.rail_csv.specs.declared.limits.TheConstants.{FEWEST_WEIGHT_COLUMNS}
-use Rattle.rail_csv.specs.Tables.{Columns, row_of, records_of, types_of, stations_of, stock_of, trips_of, links_of}
-use Rattle.rail_csv.specs.Tables.{weight_header, weight_columns, weights_of, plan_of}
+use Rattle.rail_csv.specs.Tables.{Columns, row_of, records_of, type_rows_of, station_rows_of, stock_rows_of}
+use Rattle.rail_csv.specs.Tables.{trip_rows_of, link_rows_of}
+use Rattle.rail_csv.specs.Tables.{weight_header, weight_columns, weights_row_of, plan_rows_of}
 
 -- The first record is the header of a version with so many columns: the first words of all columns, those of the first
 -- version at least.
@@ -71,25 +72,25 @@ IsFirstWrong words fewest limit columns records e =
 
 -- the records are a weights table of these rows, of which there is one at most
 abbrev pub IsWeightsTable : List (List (List ℕ)) → List WeightsRow → Type 0
-IsWeightsTable records rows = IsTable weight_header FEWEST_WEIGHT_COLUMNS MOST_WEIGHT_ROWS weight_columns records rows
+IsWeightsTable records rows = IsTable weight_header FEWEST_WEIGHT_COLUMNS MAX_WEIGHT_ROWS weight_columns records rows
 
 -- whatever the bytes are, no table but the weights is refused because it has no row
 pub record NoOtherTableWantsARow : Type 0 where
-  pub types : (bytes : List ℕ) → types_of bytes ≢ Err NoRow
-  pub stations : (bytes : List ℕ) → stations_of bytes ≢ Err NoRow
-  pub stock : (bytes : List ℕ) → stock_of bytes ≢ Err NoRow
-  pub trips : (bytes : List ℕ) → trips_of bytes ≢ Err NoRow
-  pub links : (bytes : List ℕ) → links_of bytes ≢ Err NoRow
-  pub plan : (bytes : List ℕ) → plan_of bytes ≢ Err NoRow
+  pub types : (bytes : List ℕ) → type_rows_of bytes ≢ Err NoRow
+  pub stations : (bytes : List ℕ) → station_rows_of bytes ≢ Err NoRow
+  pub stock : (bytes : List ℕ) → stock_rows_of bytes ≢ Err NoRow
+  pub trips : (bytes : List ℕ) → trip_rows_of bytes ≢ Err NoRow
+  pub links : (bytes : List ℕ) → link_rows_of bytes ≢ Err NoRow
+  pub plan : (bytes : List ℕ) → plan_rows_of bytes ≢ Err NoRow
 
 -- By the definition of the reader of weights, which its call meets but for want of memory, bytes are read as a row of
 -- weights exactly where all of their records are a table of this one row. They are refused for want of a row exactly
 -- where all of their records are a table of none, which is the header alone. They are refused for anything else exactly
 -- where it is the first wrong thing in the records. No other table is refused for want of a row.
 pub record WeightsAreOneRow : Type 0 where
-  pub row : (bytes : List ℕ) (row : WeightsRow) → (weights_of bytes ≡ Ok row)
+  pub row : (bytes : List ℕ) (row : WeightsRow) → (weights_row_of bytes ≡ Ok row)
       ↔ IsWeightsTable (records_of bytes) (row ∷ [])
-  pub none : (bytes : List ℕ) → (weights_of bytes ≡ Err NoRow) ↔ IsWeightsTable (records_of bytes) []
-  pub wrong : (bytes : List ℕ) (e : TableRefusal) → e ≢ NoRow → (weights_of bytes ≡ Err e)
-      ↔ IsFirstWrong weight_header FEWEST_WEIGHT_COLUMNS MOST_WEIGHT_ROWS weight_columns (records_of bytes) e
+  pub none : (bytes : List ℕ) → (weights_row_of bytes ≡ Err NoRow) ↔ IsWeightsTable (records_of bytes) []
+  pub wrong : (bytes : List ℕ) (e : TableRefusal) → e ≢ NoRow → (weights_row_of bytes ≡ Err e)
+      ↔ IsFirstWrong weight_header FEWEST_WEIGHT_COLUMNS MAX_WEIGHT_ROWS weight_columns (records_of bytes) e
   pub others : NoOtherTableWantsARow

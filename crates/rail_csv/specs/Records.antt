@@ -6,7 +6,7 @@ use Rattle.csv.specs.Reading.{is_flexible}
 use Rattle.csv.specs.Reading.{owned_rows_reader, owned_rows_left}
 use Rattle.csv.specs.declared.parser.State.{State}
 use Rattle.csv.specs.declared.reader.Trim.TheVariants as trim
-use Rattle.rail_base.specs.declared.limits.TheConstants.{MOST_TABLE_BYTES}
+use Rattle.rail_base.specs.declared.limits.TheConstants.{MAX_TABLE_BYTES}
 use Rattle.csv.specs.declared.iter.ByteRecordsIntoIter.{ByteRecordsIntoIter}
 
 -- the records of a text, from a state
@@ -37,7 +37,7 @@ pub record ReadsOn (records : Records) : Type 0 where
   pub turns : 0 < owned_rows_left records
   pub config : reader_config (owned_rows_reader records) ≡ default_config
   pub source : source_of unread (owned_rows_reader records) ≡ Some (text_left records)
-  pub small : length (text_left records) ≤ MOST_TABLE_BYTES
+  pub small : length (text_left records) ≤ MAX_TABLE_BYTES
 
 -- a record was read: the first of those that were left
 pub record Took (before after : Records) (fields : List (List ℕ)) : Type 0 where

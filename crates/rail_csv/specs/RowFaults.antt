@@ -3,9 +3,9 @@
 use Rattle.std.specs.Prelude.{ℕ, ◌<◌, ◌≡◌, ◌≢◌, ◌↔◌, ◌⊎◌, List, [], ◌∷◌, length, slice_get, All, Any, IsUtf8, codes}
 use Rattle.std.specs.Prelude.{Option, Some, None, Err}
 use Rattle.std.specs.Result.{result_err}
-use Rattle.rail_base.specs.declared.limits.TheConstants.{MOST_CARRIAGES, MOST_SEATS, MOST_FIRST_SEATS, MOST_METRES}
-use Rattle.rail_base.specs.declared.limits.TheConstants.{MOST_PLATFORM, MOST_REALLOCATION, MOST_STOCK, MOST_KM}
-use Rattle.rail_base.specs.declared.limits.TheConstants.{MOST_DEMAND, MOST_FIRST_DEMAND, MOST_WEIGHT}
+use Rattle.rail_base.specs.declared.limits.TheConstants.{MAX_CARRIAGES, MAX_SEATS, MAX_FIRST_SEATS, MAX_METRES}
+use Rattle.rail_base.specs.declared.limits.TheConstants.{MAX_PLATFORM, MAX_REALLOCATION, MAX_STOCK, MAX_KM}
+use Rattle.rail_base.specs.declared.limits.TheConstants.{MAX_DEMAND, MAX_FIRST_DEMAND, MAX_WEIGHT}
 use Rattle.rail_csv.specs.declared.refusal.TableRefusal.{TableRefusal}
 use Rattle.rail_csv.specs.declared.refusal.TableRefusal.TheVariants.{NotUtf8, FieldCount}
 use Rattle.rail_csv.specs.declared.refusal.TableRefusal.TheVariants.{BadNumber, OutOfRange, BadTime, BadName, BadWord}
@@ -58,26 +58,26 @@ RefuseLeftmost columns faults = (row : ℕ) (fields : List (List ℕ)) (e : Tabl
 abbrev pub type_faults : ColumnFaults
 type_faults row fields =
     result_err (name_column row 0 (field fields 0))
-    ∷ result_err (number_column 1 MOST_CARRIAGES row 1 (field fields 1))
-    ∷ result_err (number_column 1 MOST_SEATS row 2 (field fields 2))
-    ∷ result_err (number_column 1 MOST_METRES row 3 (field fields 3))
+    ∷ result_err (number_column 1 MAX_CARRIAGES row 1 (field fields 1))
+    ∷ result_err (number_column 1 MAX_SEATS row 2 (field fields 2))
+    ∷ result_err (number_column 1 MAX_METRES row 3 (field fields 3))
     ∷ result_err (name_column row 4 (field fields 4))
-    ∷ result_err (number_column 0 MOST_FIRST_SEATS row 5 (field_or (codes "0") fields 5))
+    ∷ result_err (number_column 0 MAX_FIRST_SEATS row 5 (field_or (codes "0") fields 5))
     ∷ []
 
 abbrev pub station_faults : ColumnFaults
 station_faults row fields =
     result_err (name_column row 0 (field fields 0))
-    ∷ result_err (number_column 1 MOST_PLATFORM row 1 (field fields 1))
-    ∷ result_err (number_column 0 MOST_REALLOCATION row 2 (field fields 2))
+    ∷ result_err (number_column 1 MAX_PLATFORM row 1 (field fields 1))
+    ∷ result_err (number_column 0 MAX_REALLOCATION row 2 (field fields 2))
     ∷ []
 
 abbrev pub stock_faults : ColumnFaults
 stock_faults row fields =
     result_err (name_column row 0 (field fields 0))
     ∷ result_err (name_column row 1 (field fields 1))
-    ∷ result_err (number_column 0 MOST_STOCK row 2 (field fields 2))
-    ∷ result_err (number_column 0 MOST_STOCK row 3 (field fields 3))
+    ∷ result_err (number_column 0 MAX_STOCK row 2 (field fields 2))
+    ∷ result_err (number_column 0 MAX_STOCK row 3 (field fields 3))
     ∷ []
 
 abbrev pub trip_faults : ColumnFaults
@@ -87,9 +87,9 @@ trip_faults row fields =
     ∷ result_err (time_column row 2 (field fields 2))
     ∷ result_err (name_column row 3 (field fields 3))
     ∷ result_err (time_column row 4 (field fields 4))
-    ∷ result_err (number_column 1 MOST_KM row 5 (field fields 5))
-    ∷ result_err (number_column 0 MOST_DEMAND row 6 (field fields 6))
-    ∷ result_err (number_column 0 MOST_FIRST_DEMAND row 7 (field_or (codes "0") fields 7))
+    ∷ result_err (number_column 1 MAX_KM row 5 (field fields 5))
+    ∷ result_err (number_column 0 MAX_DEMAND row 6 (field fields 6))
+    ∷ result_err (number_column 0 MAX_FIRST_DEMAND row 7 (field_or (codes "0") fields 7))
     ∷ []
 
 abbrev pub link_faults : ColumnFaults
@@ -107,9 +107,9 @@ link_faults row fields =
 
 abbrev pub weight_faults : ColumnFaults
 weight_faults row fields =
-    result_err (number_column 0 MOST_WEIGHT row 0 (field fields 0))
-    ∷ result_err (number_column 0 MOST_WEIGHT row 1 (field fields 1))
-    ∷ result_err (number_column 0 MOST_WEIGHT row 2 (field fields 2))
+    result_err (number_column 0 MAX_WEIGHT row 0 (field fields 0))
+    ∷ result_err (number_column 0 MAX_WEIGHT row 1 (field fields 1))
+    ∷ result_err (number_column 0 MAX_WEIGHT row 2 (field fields 2))
     ∷ []
 
 abbrev pub plan_faults : ColumnFaults

@@ -19,11 +19,11 @@ use Rattle.rail_csv.specs.declared.rows.Table.{Table}
 use Rattle.rail_csv.specs.declared.table_bytes.TableBytes.{TableBytes}
 use Rattle.rail_csv.specs.declared.rows.Table.TheVariants.{Types, Stations, Stock, Trips, Links, Weights, Plan}
 use Rattle.rail_base.specs.Answers.{◌>>=◌}
-use Rattle.rail_base.specs.declared.limits.TheConstants.{MOST_TYPES, MOST_STATIONS, MOST_STOCK_ROWS, MOST_TRIPS}
-use Rattle.rail_base.specs.declared.limits.TheConstants.{MOST_LINKS, MOST_WEIGHT_ROWS, MOST_PLAN_ROWS, MOST_CARRIAGES}
-use Rattle.rail_base.specs.declared.limits.TheConstants.{MOST_SEATS, MOST_FIRST_SEATS, MOST_METRES, MOST_PLATFORM}
-use Rattle.rail_base.specs.declared.limits.TheConstants.{MOST_REALLOCATION, MOST_STOCK, MOST_KM, MOST_DEMAND}
-use Rattle.rail_base.specs.declared.limits.TheConstants.{MOST_FIRST_DEMAND, MOST_WEIGHT, MOST_TABLE_BYTES}
+use Rattle.rail_base.specs.declared.limits.TheConstants.{MAX_TYPES, MAX_STATIONS, MAX_STOCK_ROWS, MAX_TRIPS}
+use Rattle.rail_base.specs.declared.limits.TheConstants.{MAX_LINKS, MAX_WEIGHT_ROWS, MAX_PLAN_ROWS, MAX_CARRIAGES}
+use Rattle.rail_base.specs.declared.limits.TheConstants.{MAX_SEATS, MAX_FIRST_SEATS, MAX_METRES, MAX_PLATFORM}
+use Rattle.rail_base.specs.declared.limits.TheConstants.{MAX_REALLOCATION, MAX_STOCK, MAX_KM, MAX_DEMAND}
+use Rattle.rail_base.specs.declared.limits.TheConstants.{MAX_FIRST_DEMAND, MAX_WEIGHT, MAX_TABLE_BYTES}
 use Rattle.rail_csv.specs.declared.limits.TheConstants.{FEWEST_TYPE_COLUMNS, FEWEST_STATION_COLUMNS}
 use Rattle.rail_csv.specs.declared.limits.TheConstants.{FEWEST_STOCK_COLUMNS, FEWEST_TRIP_COLUMNS, FEWEST_LINK_COLUMNS}
 use Rattle.rail_csv.specs.declared.limits.TheConstants.{FEWEST_WEIGHT_COLUMNS, FEWEST_PLAN_COLUMNS}
@@ -86,15 +86,15 @@ type_header = codes "type" ∷ codes "carriages" ∷ codes "seats" ∷ codes "me
 unfoldable pub type_columns : Columns TypeRow
 type_columns row fields = do
   name ← name_column row 0 (field fields 0)
-  carriages ← number_column 1 MOST_CARRIAGES row 1 (field fields 1)
-  seats ← number_column 1 MOST_SEATS row 2 (field fields 2)
-  metres ← number_column 1 MOST_METRES row 3 (field fields 3)
+  carriages ← number_column 1 MAX_CARRIAGES row 1 (field fields 1)
+  seats ← number_column 1 MAX_SEATS row 2 (field fields 2)
+  metres ← number_column 1 MAX_METRES row 3 (field fields 3)
   family ← name_column row 4 (field fields 4)
-  first ← number_column 0 MOST_FIRST_SEATS row 5 (field_or (codes "0") fields 5)
+  first ← number_column 0 MAX_FIRST_SEATS row 5 (field_or (codes "0") fields 5)
   Ok (record { name = name; carriages = carriages; seats = seats; metres = metres; family = family; first = first })
 
-unfoldable pub types_of : List ℕ → Result (List TypeRow) TableRefusal
-types_of bytes = table_of type_header FEWEST_TYPE_COLUMNS MOST_TYPES type_columns bytes
+unfoldable pub type_rows_of : List ℕ → Result (List TypeRow) TableRefusal
+type_rows_of bytes = table_of type_header FEWEST_TYPE_COLUMNS MAX_TYPES type_columns bytes
 
 abbrev pub station_header : List (List ℕ)
 station_header = codes "station" ∷ codes "platform" ∷ codes "reallocation" ∷ []
@@ -102,12 +102,12 @@ station_header = codes "station" ∷ codes "platform" ∷ codes "reallocation" �
 unfoldable pub station_columns : Columns StationRow
 station_columns row fields = do
   name ← name_column row 0 (field fields 0)
-  platform ← number_column 1 MOST_PLATFORM row 1 (field fields 1)
-  reallocation ← number_column 0 MOST_REALLOCATION row 2 (field fields 2)
+  platform ← number_column 1 MAX_PLATFORM row 1 (field fields 1)
+  reallocation ← number_column 0 MAX_REALLOCATION row 2 (field fields 2)
   Ok (record { name = name; platform = platform; reallocation = reallocation })
 
-unfoldable pub stations_of : List ℕ → Result (List StationRow) TableRefusal
-stations_of bytes = table_of station_header FEWEST_STATION_COLUMNS MOST_STATIONS station_columns bytes
+unfoldable pub station_rows_of : List ℕ → Result (List StationRow) TableRefusal
+station_rows_of bytes = table_of station_header FEWEST_STATION_COLUMNS MAX_STATIONS station_columns bytes
 
 abbrev pub stock_header : List (List ℕ)
 stock_header = codes "station" ∷ codes "type" ∷ codes "start" ∷ codes "end" ∷ []
@@ -116,12 +116,12 @@ unfoldable pub stock_columns : Columns StockRow
 stock_columns row fields = do
   station ← name_column row 0 (field fields 0)
   unit_type ← name_column row 1 (field fields 1)
-  start ← number_column 0 MOST_STOCK row 2 (field fields 2)
-  end ← number_column 0 MOST_STOCK row 3 (field fields 3)
+  start ← number_column 0 MAX_STOCK row 2 (field fields 2)
+  end ← number_column 0 MAX_STOCK row 3 (field fields 3)
   Ok (record { station = station; unit_type = unit_type; start = start; end = end })
 
-unfoldable pub stock_of : List ℕ → Result (List StockRow) TableRefusal
-stock_of bytes = table_of stock_header FEWEST_STOCK_COLUMNS MOST_STOCK_ROWS stock_columns bytes
+unfoldable pub stock_rows_of : List ℕ → Result (List StockRow) TableRefusal
+stock_rows_of bytes = table_of stock_header FEWEST_STOCK_COLUMNS MAX_STOCK_ROWS stock_columns bytes
 
 abbrev pub trip_header : List (List ℕ)
 trip_header =
@@ -135,9 +135,9 @@ trip_columns row fields = do
   departure ← time_column row 2 (field fields 2)
   to ← name_column row 3 (field fields 3)
   arrival ← time_column row 4 (field fields 4)
-  km ← number_column 1 MOST_KM row 5 (field fields 5)
-  demand ← number_column 0 MOST_DEMAND row 6 (field fields 6)
-  first ← number_column 0 MOST_FIRST_DEMAND row 7 (field_or (codes "0") fields 7)
+  km ← number_column 1 MAX_KM row 5 (field fields 5)
+  demand ← number_column 0 MAX_DEMAND row 6 (field fields 6)
+  first ← number_column 0 MAX_FIRST_DEMAND row 7 (field_or (codes "0") fields 7)
   Ok (record {
     name = name;
     from = from;
@@ -149,8 +149,8 @@ trip_columns row fields = do
     first = first;
   })
 
-unfoldable pub trips_of : List ℕ → Result (List TripRow) TableRefusal
-trips_of bytes = table_of trip_header FEWEST_TRIP_COLUMNS MOST_TRIPS trip_columns bytes
+unfoldable pub trip_rows_of : List ℕ → Result (List TripRow) TableRefusal
+trip_rows_of bytes = table_of trip_header FEWEST_TRIP_COLUMNS MAX_TRIPS trip_columns bytes
 
 abbrev pub link_header : List (List ℕ)
 link_header =
@@ -180,17 +180,17 @@ link_columns row fields = do
     exchange = exchange;
   })
 
-unfoldable pub links_of : List ℕ → Result (List LinkRow) TableRefusal
-links_of bytes = table_of link_header FEWEST_LINK_COLUMNS MOST_LINKS link_columns bytes
+unfoldable pub link_rows_of : List ℕ → Result (List LinkRow) TableRefusal
+link_rows_of bytes = table_of link_header FEWEST_LINK_COLUMNS MAX_LINKS link_columns bytes
 
 abbrev pub weight_header : List (List ℕ)
 weight_header = codes "carriage" ∷ codes "shortage" ∷ codes "shunting" ∷ []
 
 unfoldable pub weight_columns : Columns WeightsRow
 weight_columns row fields = do
-  carriage ← number_column 0 MOST_WEIGHT row 0 (field fields 0)
-  shortage ← number_column 0 MOST_WEIGHT row 1 (field fields 1)
-  shunting ← number_column 0 MOST_WEIGHT row 2 (field fields 2)
+  carriage ← number_column 0 MAX_WEIGHT row 0 (field fields 0)
+  shortage ← number_column 0 MAX_WEIGHT row 1 (field fields 1)
+  shunting ← number_column 0 MAX_WEIGHT row 2 (field fields 2)
   Ok (record { carriage = carriage; shortage = shortage; shunting = shunting })
 
 -- the one row of a table
@@ -198,9 +198,9 @@ abbrev pub the_row : {Row : Type 0} → List Row → Result Row TableRefusal
 the_row [] = Err NoRow
 the_row (row ∷ others) = Ok row
 
-unfoldable pub weights_of : List ℕ → Result WeightsRow TableRefusal
-weights_of bytes = do
-  rows ← table_of weight_header FEWEST_WEIGHT_COLUMNS MOST_WEIGHT_ROWS weight_columns bytes
+unfoldable pub weights_row_of : List ℕ → Result WeightsRow TableRefusal
+weights_row_of bytes = do
+  rows ← table_of weight_header FEWEST_WEIGHT_COLUMNS MAX_WEIGHT_ROWS weight_columns bytes
   the_row rows
 
 abbrev pub plan_header : List (List ℕ)
@@ -212,17 +212,17 @@ plan_columns row fields = do
   units ← units_column row 1 (field fields 1)
   Ok (record { trip = trip; units = units })
 
-unfoldable pub plan_of : List ℕ → Result (List PlanRow) TableRefusal
-plan_of bytes = table_of plan_header FEWEST_PLAN_COLUMNS MOST_PLAN_ROWS plan_columns bytes
+unfoldable pub plan_rows_of : List ℕ → Result (List PlanRow) TableRefusal
+plan_rows_of bytes = table_of plan_header FEWEST_PLAN_COLUMNS MAX_PLAN_ROWS plan_columns bytes
 
 -- the bytes of the six tables of a day, none of them longer than a table may be
 pub record AreShort (tables : TableBytes) : Type 0 where
-  pub types : length tables.types ≤ MOST_TABLE_BYTES
-  pub stations : length tables.stations ≤ MOST_TABLE_BYTES
-  pub stock : length tables.stock ≤ MOST_TABLE_BYTES
-  pub trips : length tables.trips ≤ MOST_TABLE_BYTES
-  pub links : length tables.links ≤ MOST_TABLE_BYTES
-  pub weights : length tables.weights ≤ MOST_TABLE_BYTES
+  pub types : length tables.types ≤ MAX_TABLE_BYTES
+  pub stations : length tables.stations ≤ MAX_TABLE_BYTES
+  pub stock : length tables.stock ≤ MAX_TABLE_BYTES
+  pub trips : length tables.trips ≤ MAX_TABLE_BYTES
+  pub links : length tables.links ≤ MAX_TABLE_BYTES
+  pub weights : length tables.weights ≤ MAX_TABLE_BYTES
 
 -- ---- the columns of any table
 

@@ -13,20 +13,20 @@ ghost use Rattle.rail_base.specs.Answers.{Gives};
 ghost use Rattle.rail_base.specs.Names.{is_name};
 
 use crate::limits::{
-    LAST_HOUR, LAST_MINUTE_OF_AN_HOUR, MINUTES_OF_AN_HOUR, MOST_NUMBER_DIGITS, MOST_VALUE_BYTES,
+    LAST_HOUR, LAST_MINUTE_OF_AN_HOUR, MAX_NUMBER_DIGITS, MAX_VALUE_BYTES, MINUTES_OF_AN_HOUR,
 };
 use crate::reading::{field, field_or};
 use crate::refusal::TableRefusal;
 use crate::rows::{End, KindWord, UnitList};
 use csv::StringRecord;
-use rail_base::limits::{MOST_COMPOSITION, MOST_UNITS};
+use rail_base::limits::{MAX_COMPOSITION_UNITS, MAX_UNITS};
 use rail_base::name::is_name;
 use rail_base::{Minute, Name, NoMemory, UnitNo};
 use std::alloc::Global;
 
-/// The number that a text of at most `MOST_VALUE_BYTES` bytes spells, where it has digits alone; 0 of an empty text.
+/// The number that a text of at most `MAX_VALUE_BYTES` bytes spells, where it has digits alone; 0 of an empty text.
 pub fn digits_value(text: &[u8]) -> Option<u64>
-    requires { length text.now ≤ MOST_VALUE_BYTES }
+    requires { length text.now ≤ MAX_VALUE_BYTES }
     ensures { result ≡ if are_digits text.now then Some (number_of text.now) else None }
 {
     let mut value = 0u64;
@@ -39,14 +39,14 @@ pub fn digits_value(text: &[u8]) -> Option<u64>
     Some(value)
 }
 
-/// The number that a text spells, where it is a number: 1 to `MOST_NUMBER_DIGITS` digits.
+/// The number that a text spells, where it is a number: 1 to `MAX_NUMBER_DIGITS` digits.
 pub fn number_of(text: &[u8]) -> Option<u32>
     ensures { result ≡ if is_number text.now then Some (number_of text.now) else None }
 {
     if text.is_empty() {
         return None;
     }
-    if text.len() > MOST_NUMBER_DIGITS {
+    if text.len() > MAX_NUMBER_DIGITS {
         return None;
     }
     let Some(value) = digits_value(text) else {
@@ -252,7 +252,7 @@ fn unit_numbers(alloc: Global, text: &str) -> Result<Option<Vec<UnitNo>>, NoMemo
 fn are_units(units: &[UnitNo]) -> bool
     ensures { result ≡ list_all is_unit units.now }
 {
-    units.iter().all(|unit| unit.0 < MOST_UNITS)
+    units.iter().all(|unit| unit.0 < MAX_UNITS)
 }
 
 /// Units by number, front to rear: nothing, or 1 to 6 numbers 0 to 1,999 with one space between two. A piece that is no
@@ -273,7 +273,7 @@ pub fn units(
     let Some(units) = unit_numbers(alloc, text)? else {
         return Err(TableRefusal::BadNumber { row, column });
     };
-    if units.len() > MOST_COMPOSITION {
+    if units.len() > MAX_COMPOSITION_UNITS {
         return Err(TableRefusal::OutOfRange { row, column });
     }
     if !are_units(units.as_slice()) {

@@ -8,8 +8,9 @@ ghost use Rattle.std.specs.Prelude.{◌≤◌, length, IfOk};
 ghost use Rattle.rail_base.specs.Answers.{Gives, GivesRows};
 ghost use Rattle.rail_csv.specs.Rows.{AreLinkRows, ArePlanRows, AreStationRows, AreStockRows, AreTripRows, AreTypeRows};
 ghost use Rattle.rail_csv.specs.Rows.{IsWeightsRow};
-ghost use Rattle.rail_csv.specs.Tables.{is_memory, links_of, plan_of, stations_of, stock_of, trips_of, types_of};
-ghost use Rattle.rail_csv.specs.Tables.{weights_of};
+ghost use Rattle.rail_csv.specs.Tables.{is_memory, link_rows_of, plan_rows_of, station_rows_of, stock_rows_of};
+ghost use Rattle.rail_csv.specs.Tables.{trip_rows_of, type_rows_of};
+ghost use Rattle.rail_csv.specs.Tables.{weights_row_of};
 
 use crate::header_words::header;
 use crate::limits::{
@@ -20,120 +21,120 @@ use crate::reading::read_table;
 use crate::refusal::TableRefusal;
 use crate::rows::{LinkRow, PlanRow, StationRow, StockRow, Table, TripRow, TypeRow, WeightsRow};
 use rail_base::limits::{
-    MOST_LINKS, MOST_PLAN_ROWS, MOST_STATIONS, MOST_STOCK_ROWS, MOST_TABLE_BYTES, MOST_TRIPS,
-    MOST_TYPES, MOST_WEIGHT_ROWS,
+    MAX_LINKS, MAX_PLAN_ROWS, MAX_STATIONS, MAX_STOCK_ROWS, MAX_TABLE_BYTES, MAX_TRIPS, MAX_TYPES,
+    MAX_WEIGHT_ROWS,
 };
 use std::alloc::Global;
 
-/// Reads the types table, of at most `MOST_TYPES` rows: its rows, or the first thing that is wrong. Its columns are
+/// Reads the types table, of at most `MAX_TYPES` rows: its rows, or the first thing that is wrong. Its columns are
 /// `type,carriages,seats,metres,family`, and `first` in its second version; a row of the first version has 0 there. The
-/// bytes are at most `MOST_TABLE_BYTES`.
-#[tactic(auto, unfolding(crate::specs::Tables::types_of))]
+/// bytes are at most `MAX_TABLE_BYTES`.
+#[tactic(auto, unfolding(crate::specs::Tables::type_rows_of))]
 pub fn types(alloc: Global, bytes: &[u8]) -> Result<Vec<TypeRow>, TableRefusal>
-    requires { length bytes.now ≤ MOST_TABLE_BYTES }
-    ensures exact { GivesRows is_memory result (types_of bytes.now) }
+    requires { length bytes.now ≤ MAX_TABLE_BYTES }
+    ensures exact { GivesRows is_memory result (type_rows_of bytes.now) }
     ensures rows { IfOk result (λ v. AreTypeRows v.items) }
 {
     read_table(
         alloc,
         header(Table::Types),
         FEWEST_TYPE_COLUMNS,
-        MOST_TYPES as u32,
+        MAX_TYPES as u32,
         bytes,
     )
 }
 
-/// Reads the stations table, of at most `MOST_STATIONS` rows: its rows, or the first thing that is wrong. Its columns
-/// are `station,platform,reallocation`. The bytes are at most `MOST_TABLE_BYTES`.
-#[tactic(auto, unfolding(crate::specs::Tables::stations_of))]
+/// Reads the stations table, of at most `MAX_STATIONS` rows: its rows, or the first thing that is wrong. Its columns
+/// are `station,platform,reallocation`. The bytes are at most `MAX_TABLE_BYTES`.
+#[tactic(auto, unfolding(crate::specs::Tables::station_rows_of))]
 pub fn stations(alloc: Global, bytes: &[u8]) -> Result<Vec<StationRow>, TableRefusal>
-    requires { length bytes.now ≤ MOST_TABLE_BYTES }
-    ensures exact { GivesRows is_memory result (stations_of bytes.now) }
+    requires { length bytes.now ≤ MAX_TABLE_BYTES }
+    ensures exact { GivesRows is_memory result (station_rows_of bytes.now) }
     ensures rows { IfOk result (λ v. AreStationRows v.items) }
 {
     read_table(
         alloc,
         header(Table::Stations),
         FEWEST_STATION_COLUMNS,
-        MOST_STATIONS as u32,
+        MAX_STATIONS as u32,
         bytes,
     )
 }
 
-/// Reads the stock table, of at most `MOST_STOCK_ROWS` rows: its rows, or the first thing that is wrong. Its columns
-/// are `station,type,start,end`. The bytes are at most `MOST_TABLE_BYTES`.
-#[tactic(auto, unfolding(crate::specs::Tables::stock_of))]
+/// Reads the stock table, of at most `MAX_STOCK_ROWS` rows: its rows, or the first thing that is wrong. Its columns
+/// are `station,type,start,end`. The bytes are at most `MAX_TABLE_BYTES`.
+#[tactic(auto, unfolding(crate::specs::Tables::stock_rows_of))]
 pub fn stock(alloc: Global, bytes: &[u8]) -> Result<Vec<StockRow>, TableRefusal>
-    requires { length bytes.now ≤ MOST_TABLE_BYTES }
-    ensures exact { GivesRows is_memory result (stock_of bytes.now) }
+    requires { length bytes.now ≤ MAX_TABLE_BYTES }
+    ensures exact { GivesRows is_memory result (stock_rows_of bytes.now) }
     ensures rows { IfOk result (λ v. AreStockRows v.items) }
 {
     read_table(
         alloc,
         header(Table::Stock),
         FEWEST_STOCK_COLUMNS,
-        MOST_STOCK_ROWS as u32,
+        MAX_STOCK_ROWS as u32,
         bytes,
     )
 }
 
-/// Reads the trips table, of at most `MOST_TRIPS` rows: its rows, or the first thing that is wrong. Its columns are
+/// Reads the trips table, of at most `MAX_TRIPS` rows: its rows, or the first thing that is wrong. Its columns are
 /// `trip,from,departure,to,arrival,km,demand`, and `first` in its second version; a row of the first version has 0
-/// there. The bytes are at most `MOST_TABLE_BYTES`.
-#[tactic(auto, unfolding(crate::specs::Tables::trips_of))]
+/// there. The bytes are at most `MAX_TABLE_BYTES`.
+#[tactic(auto, unfolding(crate::specs::Tables::trip_rows_of))]
 pub fn trips(alloc: Global, bytes: &[u8]) -> Result<Vec<TripRow>, TableRefusal>
-    requires { length bytes.now ≤ MOST_TABLE_BYTES }
-    ensures exact { GivesRows is_memory result (trips_of bytes.now) }
+    requires { length bytes.now ≤ MAX_TABLE_BYTES }
+    ensures exact { GivesRows is_memory result (trip_rows_of bytes.now) }
     ensures rows { IfOk result (λ v. AreTripRows v.items) }
 {
     read_table(
         alloc,
         header(Table::Trips),
         FEWEST_TRIP_COLUMNS,
-        MOST_TRIPS as u32,
+        MAX_TRIPS as u32,
         bytes,
     )
 }
 
-/// Reads the links table, of at most `MOST_LINKS` rows: its rows, or the first thing that is wrong. Its columns are
+/// Reads the links table, of at most `MAX_LINKS` rows: its rows, or the first thing that is wrong. Its columns are
 /// `kind,arriving,arriving2,departing,departing2,reverse,uncouple,couple`, and `exchange` in its second version; a row
-/// of the first version has `no` there. The bytes are at most `MOST_TABLE_BYTES`.
-#[tactic(auto, unfolding(crate::specs::Tables::links_of))]
+/// of the first version has `no` there. The bytes are at most `MAX_TABLE_BYTES`.
+#[tactic(auto, unfolding(crate::specs::Tables::link_rows_of))]
 pub fn links(alloc: Global, bytes: &[u8]) -> Result<Vec<LinkRow>, TableRefusal>
-    requires { length bytes.now ≤ MOST_TABLE_BYTES }
-    ensures exact { GivesRows is_memory result (links_of bytes.now) }
+    requires { length bytes.now ≤ MAX_TABLE_BYTES }
+    ensures exact { GivesRows is_memory result (link_rows_of bytes.now) }
     ensures rows { IfOk result (λ v. AreLinkRows v.items) }
 {
     read_table(
         alloc,
         header(Table::Links),
         FEWEST_LINK_COLUMNS,
-        MOST_LINKS as u32,
+        MAX_LINKS as u32,
         bytes,
     )
 }
 
 /// Reads the weights table: its one row, or the first thing that is wrong. Its columns are
-/// `carriage,shortage,shunting`. The bytes are at most `MOST_TABLE_BYTES`.
+/// `carriage,shortage,shunting`. The bytes are at most `MAX_TABLE_BYTES`.
 pub fn weights(alloc: Global, bytes: &[u8]) -> Result<WeightsRow, TableRefusal>
-    requires { length bytes.now ≤ MOST_TABLE_BYTES }
-    ensures exact { Gives is_memory result (weights_of bytes.now) }
+    requires { length bytes.now ≤ MAX_TABLE_BYTES }
+    ensures exact { Gives is_memory result (weights_row_of bytes.now) }
     ensures row { IfOk result (λ row. IsWeightsRow row) }
 {
     the_weights(alloc, bytes)
 }
 
 /// The one row of the weights table.
-#[tactic(auto, unfolding(crate::specs::Tables::weights_of))]
+#[tactic(auto, unfolding(crate::specs::Tables::weights_row_of))]
 fn the_weights(alloc: Global, bytes: &[u8]) -> Result<WeightsRow, TableRefusal>
-    requires { length bytes.now ≤ MOST_TABLE_BYTES }
-    ensures { Gives is_memory result (weights_of bytes.now) }
+    requires { length bytes.now ≤ MAX_TABLE_BYTES }
+    ensures { Gives is_memory result (weights_row_of bytes.now) }
 {
     let rows: Vec<WeightsRow> = read_table(
         alloc,
         header(Table::Weights),
         FEWEST_WEIGHT_COLUMNS,
-        MOST_WEIGHT_ROWS as u32,
+        MAX_WEIGHT_ROWS as u32,
         bytes,
     )?;
     match rows.as_slice() {
@@ -142,19 +143,19 @@ fn the_weights(alloc: Global, bytes: &[u8]) -> Result<WeightsRow, TableRefusal>
     }
 }
 
-/// Reads the plan table, of at most `MOST_PLAN_ROWS` rows: its rows, or the first thing that is wrong. Its columns are
-/// `trip,units`. The bytes are at most `MOST_TABLE_BYTES`.
-#[tactic(auto, unfolding(crate::specs::Tables::plan_of))]
+/// Reads the plan table, of at most `MAX_PLAN_ROWS` rows: its rows, or the first thing that is wrong. Its columns are
+/// `trip,units`. The bytes are at most `MAX_TABLE_BYTES`.
+#[tactic(auto, unfolding(crate::specs::Tables::plan_rows_of))]
 pub fn plan(alloc: Global, bytes: &[u8]) -> Result<Vec<PlanRow>, TableRefusal>
-    requires { length bytes.now ≤ MOST_TABLE_BYTES }
-    ensures exact { GivesRows is_memory result (plan_of bytes.now) }
+    requires { length bytes.now ≤ MAX_TABLE_BYTES }
+    ensures exact { GivesRows is_memory result (plan_rows_of bytes.now) }
     ensures rows { IfOk result (λ v. ArePlanRows v.items) }
 {
     read_table(
         alloc,
         header(Table::Plan),
         FEWEST_PLAN_COLUMNS,
-        MOST_PLAN_ROWS as u32,
+        MAX_PLAN_ROWS as u32,
         bytes,
     )
 }

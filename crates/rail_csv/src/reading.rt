@@ -15,7 +15,7 @@ ghost use Rattle.rail_csv.specs.ReadRows.{GoesOn, HasOneMore, HasRead, all_rows,
 use crate::refusal::TableRefusal;
 use csv::{ByteRecord, ByteRecordsIntoIter, Error, ReaderBuilder, StringRecord};
 use rail_base::NoMemory;
-use rail_base::limits::MOST_TABLE_BYTES;
+use rail_base::limits::MAX_TABLE_BYTES;
 use std::alloc::Global;
 
 /// A row of a table, read column by column.
@@ -112,9 +112,9 @@ fn read_row<T: TableRow>(
 }
 
 /// The records of a table, to be read one by one by `next_record`. A byte order mark at the front is dropped once, and
-/// empty lines are no records. The bytes are at most `MOST_TABLE_BYTES`.
+/// empty lines are no records. The bytes are at most `MAX_TABLE_BYTES`.
 pub fn records_in(alloc: Global, bytes: &[u8]) -> ByteRecordsIntoIter<&[u8]>
-    requires { length bytes.now ≤ MOST_TABLE_BYTES }
+    requires { length bytes.now ≤ MAX_TABLE_BYTES }
     ensures reads { ReadsOn result }
     ensures all { records_left result ≡ records_of bytes.now }
 {
@@ -162,7 +162,7 @@ fn push_row<T: TableRow>(
 ) -> Result<(), TableRefusal>
     requires fields { length (fields_of found) < 2 ^ 32 }
     requires few { length rows.old.items ≤ limit }
-    requires limit { limit ≤ MOST_TABLE_BYTES }
+    requires limit { limit ≤ MAX_TABLE_BYTES }
     ensures ok { IfOk result
         (λ _. HasOneMore width limit T.columns (fields_of found) rows.old.items rows.new.items) }
     ensures err { IfErr result
@@ -187,7 +187,7 @@ fn read_next<T: TableRow>(
 ) -> Result<bool, TableRefusal>
     requires reads { ReadsOn records.old }
     requires few { length rows.old.items ≤ limit }
-    requires limit { limit ≤ MOST_TABLE_BYTES }
+    requires limit { limit ≤ MAX_TABLE_BYTES }
     ensures ok { IfOk result (λ more. MatchBool more
         (GoesOn width limit T.columns rows.old.items rows.new.items records.old records.new)
         (all_rows width limit T.columns rows.old.items (records_left records.old) ≡ Ok rows.new.items)) }
@@ -209,7 +209,7 @@ fn read_rows<T: TableRow>(
     records: &mut ByteRecordsIntoIter<&[u8]>,
 ) -> Result<Vec<T>, TableRefusal>
     requires reads { ReadsOn records.old }
-    requires limit { limit ≤ MOST_TABLE_BYTES }
+    requires limit { limit ≤ MAX_TABLE_BYTES }
     ensures { GivesRows is_memory result (rows_from width limit T.columns 1 (records_left records.old)) }
 {
     let mut rows: Vec<T> = Vec::new(alloc);
@@ -248,7 +248,7 @@ fn read_under<T: TableRow>(
     records: &mut ByteRecordsIntoIter<&[u8]>,
 ) -> Result<Vec<T>, TableRefusal>
     requires reads { ReadsOn records.old }
-    requires limit { limit ≤ MOST_TABLE_BYTES }
+    requires limit { limit ≤ MAX_TABLE_BYTES }
     ensures { GivesRows is_memory result
         (rows_under (map (λ word. word.now) words.now) fewest limit T.columns (records_left records.old)) }
 {
@@ -268,8 +268,8 @@ pub fn read_table<T: TableRow>(
     limit: u32,
     bytes: &[u8],
 ) -> Result<Vec<T>, TableRefusal>
-    requires small { length bytes.now ≤ MOST_TABLE_BYTES }
-    requires limit { limit ≤ MOST_TABLE_BYTES }
+    requires small { length bytes.now ≤ MAX_TABLE_BYTES }
+    requires limit { limit ≤ MAX_TABLE_BYTES }
     ensures { GivesRows is_memory result
         (table_of (map (λ word. word.now) words.now) fewest limit T.columns bytes.now) }
 {

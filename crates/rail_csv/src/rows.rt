@@ -2,10 +2,9 @@
 
 ghost use Rattle.std.specs.Prelude.{◌≡◌, ◌≤◌, length, List, ℕ};
 
-pub use rules::End;
-
-use rail_base::limits::MOST_COMPOSITION;
+use rail_base::limits::MAX_COMPOSITION_UNITS;
 use rail_base::{Minute, Name, UnitNo};
+pub use rules::End;
 use std::marker::Model;
 
 /// A row of the types table: one type of train unit.
@@ -123,19 +122,19 @@ pub struct UnitList {
 
 impl Model for UnitList {
     ghost use Rattle.std.specs.Prelude.{List, ℕ, length, ◌≤◌};
-    ghost use Rattle.rail_base.specs.declared.limits.TheConstants.{MOST_COMPOSITION};
+    ghost use Rattle.rail_base.specs.declared.limits.TheConstants.{MAX_COMPOSITION_UNITS};
 
     ghost Value = { List ℕ };
 
     ghost view = { λ a. a.units.items };
 
-    ghost invariant = { λ a. length a.units.items ≤ MOST_COMPOSITION };
+    ghost invariant = { λ a. length a.units.items ≤ MAX_COMPOSITION_UNITS };
 }
 
 impl UnitList {
     /// The list of these units, at most six. It takes no memory.
     pub fn of(items: Vec<UnitNo>) -> UnitList
-        requires { length items.items ≤ MOST_COMPOSITION }
+        requires { length items.items ≤ MAX_COMPOSITION_UNITS }
         ensures { result ≡ items.items }
     {
         UnitList { units: items }
@@ -144,7 +143,7 @@ impl UnitList {
     /// The units, front to rear. It takes no memory.
     pub fn items(&self) -> &[UnitNo]
         ensures list { result.now ≡ self.now }
-        ensures few { length self.now ≤ MOST_COMPOSITION }
+        ensures few { length self.now ≤ MAX_COMPOSITION_UNITS }
     {
         self.units.as_slice()
     }

@@ -8,8 +8,8 @@ use crate::refusal::TableRefusal;
 use crate::rows::{LinkRow, PlanRow, StationRow, StockRow, TripRow, TypeRow, WeightsRow};
 use csv::StringRecord;
 use rail_base::limits::{
-    MOST_CARRIAGES, MOST_DEMAND, MOST_FIRST_DEMAND, MOST_FIRST_SEATS, MOST_KM, MOST_METRES,
-    MOST_PLATFORM, MOST_REALLOCATION, MOST_SEATS, MOST_STOCK, MOST_WEIGHT,
+    MAX_CARRIAGES, MAX_DEMAND, MAX_FIRST_DEMAND, MAX_FIRST_SEATS, MAX_KM, MAX_METRES, MAX_PLATFORM,
+    MAX_REALLOCATION, MAX_SEATS, MAX_STOCK, MAX_WEIGHT,
 };
 use std::alloc::Global;
 
@@ -21,11 +21,11 @@ impl TableRow for TypeRow {
     #[tactic(auto, unfolding(crate::specs::Tables::type_columns))]
     fn read(alloc: Global, row: u32, fields: &StringRecord) -> Result<TypeRow, TableRefusal> {
         let name = columns::name(alloc, fields, row, 0)?;
-        let carriages = columns::number(fields, 1, MOST_CARRIAGES, row, 1)?;
-        let seats = columns::number(fields, 1, MOST_SEATS, row, 2)?;
-        let metres = columns::number(fields, 1, MOST_METRES, row, 3)?;
+        let carriages = columns::number(fields, 1, MAX_CARRIAGES, row, 1)?;
+        let seats = columns::number(fields, 1, MAX_SEATS, row, 2)?;
+        let metres = columns::number(fields, 1, MAX_METRES, row, 3)?;
         let family = columns::name(alloc, fields, row, 4)?;
-        let first = columns::number_or("0", fields, 0, MOST_FIRST_SEATS, row, 5)?;
+        let first = columns::number_or("0", fields, 0, MAX_FIRST_SEATS, row, 5)?;
         Ok(TypeRow {
             name,
             carriages,
@@ -45,8 +45,8 @@ impl TableRow for StationRow {
     #[tactic(auto, unfolding(crate::specs::Tables::station_columns))]
     fn read(alloc: Global, row: u32, fields: &StringRecord) -> Result<StationRow, TableRefusal> {
         let name = columns::name(alloc, fields, row, 0)?;
-        let platform = columns::number(fields, 1, MOST_PLATFORM, row, 1)?;
-        let reallocation = columns::number(fields, 0, MOST_REALLOCATION, row, 2)?;
+        let platform = columns::number(fields, 1, MAX_PLATFORM, row, 1)?;
+        let reallocation = columns::number(fields, 0, MAX_REALLOCATION, row, 2)?;
         Ok(StationRow {
             name,
             platform,
@@ -64,8 +64,8 @@ impl TableRow for StockRow {
     fn read(alloc: Global, row: u32, fields: &StringRecord) -> Result<StockRow, TableRefusal> {
         let station = columns::name(alloc, fields, row, 0)?;
         let unit_type = columns::name(alloc, fields, row, 1)?;
-        let start = columns::number(fields, 0, MOST_STOCK, row, 2)?;
-        let end = columns::number(fields, 0, MOST_STOCK, row, 3)?;
+        let start = columns::number(fields, 0, MAX_STOCK, row, 2)?;
+        let end = columns::number(fields, 0, MAX_STOCK, row, 3)?;
         Ok(StockRow {
             station,
             unit_type,
@@ -87,9 +87,9 @@ impl TableRow for TripRow {
         let departure = columns::time(fields, row, 2)?;
         let to = columns::name(alloc, fields, row, 3)?;
         let arrival = columns::time(fields, row, 4)?;
-        let km = columns::number(fields, 1, MOST_KM, row, 5)?;
-        let demand = columns::number(fields, 0, MOST_DEMAND, row, 6)?;
-        let first = columns::number_or("0", fields, 0, MOST_FIRST_DEMAND, row, 7)?;
+        let km = columns::number(fields, 1, MAX_KM, row, 5)?;
+        let demand = columns::number(fields, 0, MAX_DEMAND, row, 6)?;
+        let first = columns::number_or("0", fields, 0, MAX_FIRST_DEMAND, row, 7)?;
         Ok(TripRow {
             name,
             from,
@@ -140,9 +140,9 @@ impl TableRow for WeightsRow {
 
     #[tactic(auto, unfolding(crate::specs::Tables::weight_columns))]
     fn read(_alloc: Global, row: u32, fields: &StringRecord) -> Result<WeightsRow, TableRefusal> {
-        let carriage = columns::number(fields, 0, MOST_WEIGHT, row, 0)?;
-        let shortage = columns::number(fields, 0, MOST_WEIGHT, row, 1)?;
-        let shunting = columns::number(fields, 0, MOST_WEIGHT, row, 2)?;
+        let carriage = columns::number(fields, 0, MAX_WEIGHT, row, 0)?;
+        let shortage = columns::number(fields, 0, MAX_WEIGHT, row, 1)?;
+        let shunting = columns::number(fields, 0, MAX_WEIGHT, row, 2)?;
         Ok(WeightsRow {
             carriage,
             shortage,

@@ -15,12 +15,12 @@ abbrev pub file_at : Files → List ℕ → List ℕ
 file_at files path = unwrap_or (map.get files path) []
 
 -- a counter after one more; it stays at its last value
-abbrev pub counted : ℕ → ℕ
-counted count = min (count + 1) (2 ^ 64 - 1)
+abbrev pub incremented : ℕ → ℕ
+incremented count = min (count + 1) (2 ^ 64 - 1)
 
 -- a count of failed calls after more calls, of which one failed or none did; it stays at its last value
 abbrev pub faults_after : Bool → ℕ → ℕ
-faults_after failed before = if failed then counted before else before
+faults_after failed before = if failed then incremented before else before
 
 -- a count of faults rose: it is greater than before, or it stands at a counter's last value
 abbrev pub Rose : ℕ → ℕ → Type 0

@@ -12,12 +12,12 @@ use std::rt::Files;
 use std::{fs, io};
 
 /// The longest path whose file stays open between reads, in bytes.
-const MOST_PATH_BYTES: usize = 4096;
+const MAX_PATH_BYTES: usize = 4096;
 
 /// A file that was opened, and where its next read begins.
 #[derive(Drop)]
 struct OpenFile<F: Drop> {
-    path: ArrayVec<u8, MOST_PATH_BYTES>,
+    path: ArrayVec<u8, MAX_PATH_BYTES>,
     file: F,
     at: u64,
 }
@@ -25,7 +25,7 @@ struct OpenFile<F: Drop> {
 impl<F: Read + Seek + Drop> OpenFile<F> {
     /// Opens the file of a path, to be read from its front on.
     fn new<R: Files<File = F>>(rt: &R, path: &str) -> io::Result<OpenFile<F>>
-        ensures { IfOk result (λ opened. length path.now ≤ MOST_PATH_BYTES → opened.path.items ≡ path.now) }
+        ensures { IfOk result (λ opened. length path.now ≤ MAX_PATH_BYTES → opened.path.items ≡ path.now) }
     {
         let file = fs::open(rt, path)?;
         let mut kept = ArrayVec::new();
@@ -96,7 +96,7 @@ impl<'a, R: Files> DiskFolder<'a, R> {
     /// Takes out the file of a path, which is opened if it doesn't stand open.
     fn take_open(&mut self, path: &str) -> io::Result<OpenFile<R::File>>
         ensures counts { self.new ≡ self.old }
-        ensures path { IfOk result (λ opened. length path.now ≤ MOST_PATH_BYTES → opened.path.items ≡ path.now) }
+        ensures path { IfOk result (λ opened. length path.now ≤ MAX_PATH_BYTES → opened.path.items ≡ path.now) }
     {
         match self.open.take() {
             Some(open) if open.is_of(path) => Ok(open),

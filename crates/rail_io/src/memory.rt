@@ -6,7 +6,7 @@ ghost use Rattle.std.specs.Prelude.{◌+◌, ◌⊎◌, true, IfSome, OnErr, is_
 ghost use Rattle.std.specs.Result.{is_err};
 ghost use Rattle.std.specs.FinMap as map;
 ghost use Rattle.rail_base.specs.Names.{is_name};
-ghost use Rattle.rail_io.specs.Folders.{IsReadFrom, Rose, RoseBy, counted, faults_after, file_at};
+ghost use Rattle.rail_io.specs.Folders.{IsReadFrom, Rose, RoseBy, incremented, faults_after, file_at};
 ghost use Rattle.rail_io.specs.InMemory.{read_fails, read_may_fail, write_fails, write_takes};
 ghost use Rattle.rail_io.specs.MemoryFiles.{files_of};
 
@@ -160,7 +160,7 @@ impl Folder for MemoryFolder {
         // More, of this one.
         ensures untaken { OnErr result (self.new.taken ≡ self.old.taken) }
         ensures fails { is_err result ≡ read_fails self.old path.now }
-        ensures calls { self.new.calls ≡ counted self.old.calls }
+        ensures calls { self.new.calls ≡ incremented self.old.calls }
     {
         let copied = self.copied(path, from, into);
         self.calls = self.calls.saturating_add(1);
@@ -282,7 +282,7 @@ impl Sink for MemorySink {
         // More, of this one.
         ensures fails { is_err result ≡ write_fails self.old piece.now }
         ensures count { IfOk result (λ n. n ≡ write_takes self.old piece.now) }
-        ensures calls { self.new.calls ≡ counted self.old.calls }
+        ensures calls { self.new.calls ≡ incremented self.old.calls }
         ensures room_stays { self.new.room ≡ self.old.room }
         ensures most_stays { self.new.most ≡ self.old.most }
         ensures failing { self.new.failing ≡ self.old.failing }

@@ -8,7 +8,7 @@ ghost use Rattle.rail_io.specs.Wholes.{HasRead, tells_read_fault};
 ghost use Rattle.rail_io.specs.declared.whole.FileRefusal.TheVariants.{NoMemory, ReadFault};
 
 use crate::{Failed, Folder, Sink};
-use rail_base::limits::MOST_FILE_BYTES;
+use rail_base::limits::MAX_FILE_BYTES;
 use std::alloc::{AllocError, Global};
 use thiserror::Error;
 
@@ -61,7 +61,7 @@ pub fn read_file<F: Folder>(
     path: &str,
     limit: u64,
 ) -> Result<Vec<u8>, FileRefusal>
-    requires { limit ≤ MOST_FILE_BYTES }
+    requires { limit ≤ MAX_FILE_BYTES }
 
     // The bytes, where the folder tells what it holds, and how many there are.
     ensures told { (files : Files) → F.holds folder.old ≡ Some files →
@@ -93,7 +93,7 @@ fn read_into<F: Folder>(
     limit: u64,
     bytes: &mut Vec<u8>,
 ) -> Result<(), FileRefusal>
-    requires small { limit ≤ MOST_FILE_BYTES }
+    requires small { limit ≤ MAX_FILE_BYTES }
     requires empty { bytes.old.items ≡ [] }
     ensures { HasRead F.holds F.may_fail F.faults F.taken F.counts_failed folder.old folder.new path.now limit
         bytes.new.items result }

@@ -1,7 +1,7 @@
 -- The changes of a disturbed day are such as bounds take, and the planned compositions stand in the picks of the plan.
 use Rattle.std.proofs.Common.{◌≡◌, ℕ, ◌<◌, ◌≤◌, List, length, get_or, sym, subst, ◌∙◌, arith}
 use Rattle.std.proofs.lemmas.Option.{get_or_from_slice_get}
-use Rattle.rail_base.specs.declared.limits.TheConstants.{MOST_CHANGE}
+use Rattle.rail_base.specs.declared.limits.TheConstants.{MAX_CHANGE}
 use Rattle.timetable.specs.Compositions.{compositions_of}
 use Rattle.timetable.specs.DerivedDays.{old_number}
 use Rattle.timetable.specs.Lists.{listed}
@@ -41,7 +41,7 @@ module _ (disturbed : Disturbed) (way : IsUnderWay disturbed) where
             subst (λ (change : Change). change.base < length (compositions_of (later_day disturbed))) (sym (change_is k d lt)) (planned_listed disturbed way k lt);
         costs = λ k d below.
             let lt : k < trips_later disturbed = omega (arith, below, long) in
-            subst (λ (change : Change). change.cost ≤ MOST_CHANGE) (sym (change_is k d lt)) way.given.change_few;
+            subst (λ (change : Change). change.cost ≤ MAX_CHANGE) (sym (change_is k d lt)) way.given.change_few;
       }
 
   -- the pick of a trip by which the plan runs is the planned composition of the trip of the later day

@@ -8,8 +8,8 @@ use Rattle.branch_tree.specs.declared.cuts.Side.{Side}
 use Rattle.branch_tree.specs.declared.cuts.Side.TheVariants.{Left, Right}
 use Rattle.branch_tree.specs.Cuts.{IsProper, is_on, side_of}
 use Rattle.branch_tree.specs.Regions.{has, set_at}
-use Rattle.branch_tree.specs.Sets.{HasMember, is_member, kept}
-use Rattle.branch_tree.proofs.Members.{both_true, is_kept, is_member-kept}
+use Rattle.branch_tree.specs.Sets.{HasMember, is_member, restricted}
+use Rattle.branch_tree.proofs.Members.{both_true, is_kept, is_member-restricted}
 
 module _ (catalogue : List (List ℕ)) (region : List (List Bool)) (trip comp : ℕ) (below : trip < length region) where
   abbrev members : List Bool
@@ -19,8 +19,8 @@ module _ (catalogue : List (List ℕ)) (region : List (List Bool)) (trip comp : 
       → HasMember (set_at (side_of catalogue (Only trip comp) side region) trip)
   side_has side c member on = (
     c,
-    ap (λ (set : List Bool). is_member set c) (get_or-set_same region trip (kept (is_on catalogue (Only trip comp) side) members) [] below)
-        ∙ is_member-kept (is_on catalogue (Only trip comp) side) members c
+    ap (λ (set : List Bool). is_member set c) (get_or-set_same region trip (restricted (is_on catalogue (Only trip comp) side) members) [] below)
+        ∙ is_member-restricted (is_on catalogue (Only trip comp) side) members c
         ∙ both_true (is_member members c) (is_on catalogue (Only trip comp) side c) member on,
   )
 
@@ -39,9 +39,9 @@ module _ (catalogue : List (List ℕ)) (region : List (List Bool)) (trip comp : 
       | inr isnt ↦ isnt ∙ sym (ap (λ (b : Bool). b && (c == comp)) isnt)
     ]
 
-    kept_alone : members ≡ kept (is_on catalogue (Only trip comp) Left) members
+    kept_alone : members ≡ restricted (is_on catalogue (Only trip comp) Left) members
     kept_alone = is_kept (is_on catalogue (Only trip comp) Left) members members refl (λ c lt. alone c)
 
     -- where the cut is not proper, there is no other to be cut off
     pub nothing_cut : region ≡ side_of catalogue (Only trip comp) Left region
-    nothing_cut = sym (ap (λ (kept : List Bool). set region trip kept) (sym kept_alone) ∙ set-get_or region trip [])
+    nothing_cut = sym (ap (λ (restricted : List Bool). set region trip restricted) (sym kept_alone) ∙ set-get_or region trip [])

@@ -5,7 +5,7 @@ use Rattle.std.specs.Prelude.{◌||◌, not}
 use Rattle.std.proofs.lemmas.Bool.{and_from, and_parts, cases_lt}
 use Rattle.std.proofs.lemmas.List.{get_or_past}
 use Rattle.std.proofs.lemmas.List.FromFn.{get_or-map-range_with_len, length-map-range_with_len}
-use Rattle.rail_base.specs.declared.limits.TheConstants.{MOST_COMPOSITIONS}
+use Rattle.rail_base.specs.declared.limits.TheConstants.{MAX_COMPOSITIONS}
 use Rattle.timetable.specs.Admissible.{is_admissible}
 use Rattle.timetable.specs.Compositions.{compositions_of, composition_at}
 use Rattle.timetable.specs.Turns.{same}
@@ -53,17 +53,17 @@ module _ (disturbed : Disturbed) where
   ]
 
   -- a trip has exactly the compositions that it may have
-  pub past_has : (t comp : ℕ) → t < trips_later disturbed → comp < MOST_COMPOSITIONS → has (past_root disturbed) t comp ≡ may_have disturbed t comp
+  pub past_has : (t comp : ℕ) → t < trips_later disturbed → comp < MAX_COMPOSITIONS → has (past_root disturbed) t comp ≡ may_have disturbed t comp
   past_has t comp lt few =
-      ap (λ (members : List Bool). is_member members comp) (past_set t [] lt) ∙ is_member-tested (may_have disturbed t) MOST_COMPOSITIONS comp few
+      ap (λ (members : List Bool). is_member members comp) (past_set t [] lt) ∙ is_member-tested (may_have disturbed t) MAX_COMPOSITIONS comp few
 
   has_may : (t comp : ℕ) → t < trips_later disturbed → has (past_root disturbed) t comp ≡ true → may_have disturbed t comp ≡ true
-  has_may t comp lt there = elim (cases_lt comp MOST_COMPOSITIONS) [
+  has_may t comp lt there = elim (cases_lt comp MAX_COMPOSITIONS) [
     | inl few ↦ sym (past_has t comp lt few) ∙ there
     | inr past ↦
         let set : has (past_root disturbed) t comp ≡ is_member (set_of (may_have disturbed t)) comp = ap (λ (members : List Bool). is_member members comp) (past_set t [] lt) in
         let none : is_member (set_of (may_have disturbed t)) comp ≡ false =
-        is_member-past (set_of (may_have disturbed t)) comp (omega (arith, past, length-tested (may_have disturbed t) MOST_COMPOSITIONS)) in
+        is_member-past (set_of (may_have disturbed t)) comp (omega (arith, past, length-tested (may_have disturbed t) MAX_COMPOSITIONS)) in
         absurd cc
   ]
 
@@ -108,7 +108,7 @@ module _ (disturbed : Disturbed) where
         (ap (is_admissible (later_day disturbed) t) (planned_is disturbed way t lt) ∙ planned_admissible disturbed way t lt)
         (λ frozen. planned_is disturbed way t lt)
 
-    few_listed : (comp : ℕ) → comp < length (compositions_of (later_day disturbed)) → comp < MOST_COMPOSITIONS
+    few_listed : (comp : ℕ) → comp < length (compositions_of (later_day disturbed)) → comp < MAX_COMPOSITIONS
     few_listed comp listed = omega (arith, listed, way.later.compositions)
 
     -- so each trip has one
@@ -117,6 +117,6 @@ module _ (disturbed : Disturbed) where
         let lt : t < trips_later disturbed = omega (arith, below, past_length) in (
           planned_comp disturbed t,
           ap (λ (members : List Bool). is_member members (planned_comp disturbed t)) (past_set t d lt)
-              ∙ is_member-tested (may_have disturbed t) MOST_COMPOSITIONS (planned_comp disturbed t) (few_listed (planned_comp disturbed t) (planned_listed disturbed way t lt))
+              ∙ is_member-tested (may_have disturbed t) MAX_COMPOSITIONS (planned_comp disturbed t) (few_listed (planned_comp disturbed t) (planned_listed disturbed way t lt))
               ∙ planned_may t lt,
         )

@@ -4,7 +4,7 @@ use Rattle.std.specs.Prelude.{◌&&◌, ◌||◌, ◌==◌, not}
 use Rattle.std.proofs.lemmas.Bool.{cases_Bool, cases_eq, cases_lt, eq-eqb, ne_eqb}
 use Rattle.std.proofs.lemmas.List.{get_or-set_other, get_or-set_same, length-set}
 use Rattle.std.proofs.lemmas.List.FromFn.{fill_by_all, get_or-map-range_with_len, length-map-range_with_len}
-use Rattle.rail_base.specs.declared.limits.TheConstants.{MOST_COMPOSITIONS}
+use Rattle.rail_base.specs.declared.limits.TheConstants.{MAX_COMPOSITIONS}
 use Rattle.timetable.specs.Admissible.{is_admissible}
 use Rattle.timetable.specs.Compositions.{compositions_of, composition_at}
 use Rattle.timetable.specs.Turns.{same}
@@ -13,7 +13,7 @@ use Rattle.branch_tree.specs.declared.cuts.Cut.TheVariants.{Only}
 use Rattle.branch_tree.specs.declared.cuts.Side.TheVariants.{Left}
 use Rattle.branch_tree.specs.Cuts.{side_of}
 use Rattle.branch_tree.specs.Regions.{has, root_of, set_at}
-use Rattle.branch_tree.specs.Sets.{is_member, kept, set_of}
+use Rattle.branch_tree.specs.Sets.{is_member, restricted, set_of}
 use Rattle.branch_tree.proofs.Admitted.{none_past}
 use Rattle.branch_tree.proofs.Members.{is_kept, is_member-tested, is_tested, length-tested}
 use Rattle.replan.specs.Disturbances.{Disturbed, later_day, planned_types, trips_later}
@@ -53,8 +53,8 @@ module _ (disturbed : Disturbed) where
 
   free_set : (t : ℕ) → is_frozen (later_day disturbed) disturbed.minute t ≡ false → set_of (is_open disturbed t) ≡ set_of (may_have disturbed t)
   free_set t free =
-      is_tested (may_have disturbed t) MOST_COMPOSITIONS (set_of (is_open disturbed t)) (length-tested (is_open disturbed t) MOST_COMPOSITIONS)
-      (λ comp lt. is_member-tested (is_open disturbed t) MOST_COMPOSITIONS comp lt
+      is_tested (may_have disturbed t) MAX_COMPOSITIONS (set_of (is_open disturbed t)) (length-tested (is_open disturbed t) MAX_COMPOSITIONS)
+      (λ comp lt. is_member-tested (is_open disturbed t) MAX_COMPOSITIONS comp lt
       ∙ both_free (is_open disturbed t comp) (is_frozen (later_day disturbed) disturbed.minute t) (same (composition_at (later_day disturbed) comp) (planned_types disturbed t)) free)
 
   pub past_free : (n : ℕ) (root : List (List Bool)) → IsPastRootTo disturbed n root → is_frozen (later_day disturbed) disturbed.minute n ≡ false
@@ -101,16 +101,16 @@ module _ (disturbed : Disturbed) where
     both_frozen false frozen types planned is alike = refl
 
     frozen_set : (t : ℕ) → t < trips_later disturbed → is_frozen (later_day disturbed) disturbed.minute t ≡ true
-        → kept (λ comp. comp == planned_comp disturbed t) (set_of (is_open disturbed t)) ≡ set_of (may_have disturbed t)
+        → restricted (λ comp. comp == planned_comp disturbed t) (set_of (is_open disturbed t)) ≡ set_of (may_have disturbed t)
     frozen_set t lt frozen =
         sym (is_kept (λ comp. comp == planned_comp disturbed t) (set_of (is_open disturbed t)) (set_of (may_have disturbed t))
-        (length-tested (may_have disturbed t) MOST_COMPOSITIONS ∙ sym (length-tested (is_open disturbed t) MOST_COMPOSITIONS))
+        (length-tested (may_have disturbed t) MAX_COMPOSITIONS ∙ sym (length-tested (is_open disturbed t) MAX_COMPOSITIONS))
         (λ comp within.
-        let few : comp < MOST_COMPOSITIONS = omega (arith, within, length-tested (may_have disturbed t) MOST_COMPOSITIONS) in
-        is_member-tested (may_have disturbed t) MOST_COMPOSITIONS comp few
+        let few : comp < MAX_COMPOSITIONS = omega (arith, within, length-tested (may_have disturbed t) MAX_COMPOSITIONS) in
+        is_member-tested (may_have disturbed t) MAX_COMPOSITIONS comp few
         ∙ both_frozen (is_open disturbed t comp) (is_frozen (later_day disturbed) disturbed.minute t)
         (same (composition_at (later_day disturbed) comp) (planned_types disturbed t)) (comp == planned_comp disturbed t) frozen (alike t comp lt)
-        ∙ sym (ap (λ (may : Bool). may && (comp == planned_comp disturbed t)) (is_member-tested (is_open disturbed t) MOST_COMPOSITIONS comp few))))
+        ∙ sym (ap (λ (may : Bool). may && (comp == planned_comp disturbed t)) (is_member-tested (is_open disturbed t) MAX_COMPOSITIONS comp few))))
 
     pub past_kept : (n : ℕ) (root kept_root : List (List Bool)) → n < trips_later disturbed → IsPastRootTo disturbed n root
         → is_frozen (later_day disturbed) disturbed.minute n ≡ true
@@ -119,23 +119,23 @@ module _ (disturbed : Disturbed) where
     past_kept n root kept_root lt to frozen is =
         let below : n < length root = omega (arith, lt, to.each) in
         record {
-          each = ap (λ (sets : List (List Bool)). length sets) is ∙ length-set root n (kept (λ comp. comp == planned_comp disturbed n) (set_at root n)) ∙ to.each;
+          each = ap (λ (sets : List (List Bool)). length sets) is ∙ length-set root n (restricted (λ comp. comp == planned_comp disturbed n) (set_at root n)) ∙ to.each;
           done = λ t less within. elim (cases_eq t n) [
             | inl here ↦
                 subst (λ (k : ℕ). set_at kept_root k ≡ set_of (may_have disturbed k)) (sym here)
                 (ap (λ (sets : List (List Bool)). set_at sets n) is
-                ∙ get_or-set_same root n (kept (λ comp. comp == planned_comp disturbed n) (set_at root n)) [] below
-                ∙ ap (λ (members : List Bool). kept (λ comp. comp == planned_comp disturbed n) members) (to.left n (omega arith) lt)
+                ∙ get_or-set_same root n (restricted (λ comp. comp == planned_comp disturbed n) (set_at root n)) [] below
+                ∙ ap (λ (members : List Bool). restricted (λ comp. comp == planned_comp disturbed n) members) (to.left n (omega arith) lt)
                 ∙ frozen_set n lt frozen)
             | inr differs ↦
                 ap (λ (sets : List (List Bool)). set_at sets t) is
-                ∙ get_or-set_other root n t (kept (λ comp. comp == planned_comp disturbed n) (set_at root n)) [] differs
+                ∙ get_or-set_other root n t (restricted (λ comp. comp == planned_comp disturbed n) (set_at root n)) [] differs
                 ∙ to.done t (omega (arith, less, differs)) within
           ];
           left = λ t le within.
               let differs : t ≢ n = omega (arith, le) in
               ap (λ (sets : List (List Bool)). set_at sets t) is
-              ∙ get_or-set_other root n t (kept (λ comp. comp == planned_comp disturbed n) (set_at root n)) [] differs
+              ∙ get_or-set_other root n t (restricted (λ comp. comp == planned_comp disturbed n) (set_at root n)) [] differs
               ∙ to.left t (omega (arith, le)) within;
         }
 
@@ -144,5 +144,5 @@ module _ (disturbed : Disturbed) where
     planned_there n root lt to =
         let listed : planned_comp disturbed n < length (compositions_of (later_day disturbed)) = planned_listed disturbed way n lt in
         ap (λ (members : List Bool). is_member members (planned_comp disturbed n)) (to.left n (omega arith) lt)
-        ∙ is_member-tested (is_open disturbed n) MOST_COMPOSITIONS (planned_comp disturbed n) (omega (arith, listed, way.later.compositions))
+        ∙ is_member-tested (is_open disturbed n) MAX_COMPOSITIONS (planned_comp disturbed n) (omega (arith, listed, way.later.compositions))
         ∙ ap (is_admissible (later_day disturbed) n) (planned_is disturbed way n lt) ∙ planned_admissible disturbed way n lt

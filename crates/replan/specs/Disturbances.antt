@@ -1,7 +1,7 @@
 -- A day that is disturbed at a minute: some of its trips are cancelled, and the rest of it is planned anew. What has
 -- happened stays, and what is changed beyond that has a price.
 use Rattle.std.specs.Prelude.{ℕ, ◌≡◌, ◌+◌, ◌*◌, ◌<◌, ◌≤◌, List, length, Bool, not, ℤ, pos, ◌≤ℤ◌}
-use Rattle.rail_base.specs.declared.limits.TheConstants.{MOST_CHANGE}
+use Rattle.rail_base.specs.declared.limits.TheConstants.{MAX_CHANGE}
 use Rattle.timetable.specs.Cost.{plan_cost}
 use Rattle.timetable.specs.Day.{Day, leaves, types_of}
 use Rattle.timetable.specs.DerivedDays.{old_number, without_trips}
@@ -85,4 +85,4 @@ NoneGoesOn disturbed = (plan : List (List ℕ)) → GoesOn disturbed plan → �
 pub record IsDisturbance (disturbed : Disturbed) : Type 0 where
   pub is_plan : IsPlan disturbed.day disturbed.plan
   pub cancellable : AreCancellable disturbed.day disturbed.minute disturbed.cancelled
-  pub change_few : disturbed.change ≤ MOST_CHANGE
+  pub change_few : disturbed.change ≤ MAX_CHANGE

@@ -1,7 +1,7 @@
 //! A disturbed day: the day and its plan, and what happens to them.
 
 ghost use Rattle.std.specs.Prelude.{◌≡◌, ◌<◌, ◌≤◌, length};
-ghost use Rattle.rail_base.specs.declared.limits.TheConstants.{MOST_CHANGE};
+ghost use Rattle.rail_base.specs.declared.limits.TheConstants.{MAX_CHANGE};
 ghost use Rattle.timetable.specs.DerivedDays.{old_number};
 ghost use Rattle.timetable.specs.Running.{IsPlan};
 ghost use Rattle.cancellations.specs.Cancellations.{AreCancellable};
@@ -10,7 +10,7 @@ ghost use Rattle.replan.specs.Disturbances.{disturbed_by, later_day, planned_typ
 
 use arrayvec::ArrayVec;
 use cancellations::{Cancelled, Later};
-use rail_base::limits::MOST_COMPOSITION;
+use rail_base::limits::MAX_COMPOSITION_UNITS;
 use rail_base::{Minute, TripNo, TypeNo};
 use std::marker::Model;
 use timetable::{Instance, NamedPlan};
@@ -55,7 +55,7 @@ impl<'a> Disturbance<'a> {
         requires plan { IsPlan instance.now plan.now }
         requires cancelled { AreCancellable instance.now minute cancelled.now }
         requires later { IsLaterOf instance.now cancelled.now later.now }
-        requires change { change ≤ MOST_CHANGE }
+        requires change { change ≤ MAX_CHANGE }
         ensures { result ≡ disturbed_by instance.now plan.now minute cancelled.now change }
     {
         Disturbance {
@@ -92,7 +92,7 @@ impl<'a> Disturbance<'a> {
     }
 
     /// The types of the units that were planned for a trip of the later day, front to rear. It takes no memory.
-    pub(crate) fn planned_types(&self, trip: TripNo) -> ArrayVec<TypeNo, MOST_COMPOSITION>
+    pub(crate) fn planned_types(&self, trip: TripNo) -> ArrayVec<TypeNo, MAX_COMPOSITION_UNITS>
         requires { trip < trips_later self.now }
         ensures { result.items ≡ planned_types self.now trip }
     {

@@ -3,7 +3,7 @@
 
 ghost use Rattle.std.specs.Prelude.{◌≡◌, ◌≤◌, ◌+◌, ◌*◌, ◌^◌, [], All, IfOk, IfErr, MatchBool, is_some, length};
 ghost use Rattle.std.specs.Prelude.{unwrap_or};
-ghost use Rattle.rail_base.specs.declared.limits.TheConstants.{MOST_BRANCHINGS, MOST_ROUNDS, MOST_TRIPS};
+ghost use Rattle.rail_base.specs.declared.limits.TheConstants.{MAX_BRANCHINGS, MAX_ROUNDS, MAX_TRIPS};
 ghost use Rattle.timetable.specs.Running as running;
 ghost use Rattle.transitions.specs.Edges.{AreGraphs};
 ghost use Rattle.branch_tree.specs.Trees.{branchings_of};
@@ -63,8 +63,8 @@ pub fn replan(
     allowed: Allowed,
     advisors: &mut Vec<Box<dyn Advisor>>,
 ) -> Result<Replanned, ReplanRefusal>
-    requires branchings { allowed.branchings ≤ MOST_BRANCHINGS }
-    requires rounds { allowed.rounds ≤ MOST_ROUNDS }
+    requires branchings { allowed.branchings ≤ MAX_BRANCHINGS }
+    requires rounds { allowed.rounds ≤ MAX_ROUNDS }
     requires asked { All (λ advisor. asked advisor ≤ 2 ^ 63) advisors.old.items }
 
     // The answer, or why there is none.
@@ -100,8 +100,8 @@ pub fn improved_replan<I: Improver>(
     advisors: &mut Vec<Box<dyn Advisor>>,
 ) -> Result<Replanned, NoMemory>
     requires graphs { AreGraphs (later_day rest.now) graphs.now }
-    requires branchings { allowed.branchings ≤ MOST_BRANCHINGS }
-    requires rounds { allowed.rounds ≤ MOST_ROUNDS }
+    requires branchings { allowed.branchings ≤ MAX_BRANCHINGS }
+    requires rounds { allowed.rounds ≤ MAX_ROUNDS }
     requires asked { All (λ advisor. asked advisor ≤ 2 ^ 63) advisors.old.items }
 
     // The answer.
@@ -135,8 +135,8 @@ fn later_answer<I: Improver>(
     advisors: &mut Vec<Box<dyn Advisor>>,
 ) -> Result<Answer, NoMemory>
     requires graphs { AreGraphs (later_day rest.now) graphs.now }
-    requires branchings { allowed.branchings ≤ MOST_BRANCHINGS }
-    requires rounds { allowed.rounds ≤ MOST_ROUNDS }
+    requires branchings { allowed.branchings ≤ MAX_BRANCHINGS }
+    requires rounds { allowed.rounds ≤ MAX_ROUNDS }
     requires asked { All (λ advisor. asked advisor ≤ 2 ^ 63) advisors.old.items }
     ensures under_way { IfOk result (λ _. IsUnderWay rest.now) }
     ensures tree { IfOk result (HasProvedTree rest.now allowed.branchings) }
@@ -159,7 +159,7 @@ fn later_answer<I: Improver>(
 /// The answer to a disturbed day with this head, these runs, which are a plan of the later day where the head has one,
 /// and this tree. It takes no memory.
 fn said_of(rest: &RestOfDay<'_>, head: Head, runs: Runs, tree: Tree) -> Replanned
-    requires few { length runs ≤ MOST_TRIPS }
+    requires few { length runs ≤ MAX_TRIPS }
     requires runs { MatchBool (has_plan head) (running.IsPlan (later_day rest.now) runs) (runs ≡ []) }
     ensures head { result.head ≡ head }
     ensures runs { unwrap_or result.plan [] ≡ runs }

@@ -3,7 +3,7 @@ use Rattle.std.specs.Prelude.{ℕ, ◌+◌, List, [], ◌∷◌, Bool, true, ◌
 use Rattle.std.specs.Prelude.{nat_le}
 use Rattle.std.specs.List.{list_all}
 use Rattle.std.specs.Str.{bytes_eq}
-use Rattle.rail_base.specs.declared.limits.TheConstants.{MOST_COMPOSITION}
+use Rattle.rail_base.specs.declared.limits.TheConstants.{MAX_COMPOSITION_UNITS}
 use Rattle.rules.specs.declared.records.UnitType.{UnitType}
 
 -- a number of the unit type m, and 0 where there is no such type
@@ -40,8 +40,8 @@ is_one_family types (m ∷ ms) = list_all (λ n. bytes_eq (family_of types n) (f
 abbrev pub are_types : List UnitType → List ℕ → Bool
 are_types types ms = list_all (λ m. nat_lt m (length types)) ms
 
--- a composition that may run where so many metres fit: 1 to MOST_COMPOSITION units, all of one family
+-- a composition that may run where so many metres fit: 1 to MAX_COMPOSITION_UNITS units, all of one family
 abbrev pub fits_in : List UnitType → ℕ → List ℕ → Bool
 fits_in types longest ms =
-    nat_le 1 (length ms) && nat_le (length ms) MOST_COMPOSITION && are_types types ms && is_one_family types ms
+    nat_le 1 (length ms) && nat_le (length ms) MAX_COMPOSITION_UNITS && are_types types ms && is_one_family types ms
     && nat_le (metres_of types ms) longest

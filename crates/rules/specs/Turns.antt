@@ -5,7 +5,7 @@ use Rattle.std.specs.Prelude.{ℕ, zero, suc, ◌-◌, ◌≡◌, ◌≤◌, Lis
 use Rattle.std.specs.Prelude.{◌==◌, if◌then◌else◌, nat_le, Option, Some, None, option_and_then, unwrap_or, MatchOption}
 use Rattle.std.specs.Prelude.{IsTrue}
 use Rattle.std.specs.Str.{bytes_eq}
-use Rattle.rail_base.specs.declared.limits.TheConstants.{MOST_EXCHANGED}
+use Rattle.rail_base.specs.declared.limits.TheConstants.{MAX_EXCHANGED}
 use Rattle.rules.specs.declared.records.End.{End}
 use Rattle.rules.specs.declared.records.End.TheVariants as at
 use Rattle.rules.specs.declared.records.LinkKind.{LinkKind}
@@ -115,7 +115,7 @@ pub record Parts : Type 0 where
 
 -- a turn may take so many off and put so many on: nothing on one of the two sides, or, with exchange, few on both
 abbrev pub may_shunt : Bool → ℕ → ℕ → Bool
-may_shunt exchange off on = off == 0 || on == 0 || (exchange && nat_le off MOST_EXCHANGED && nat_le on MOST_EXCHANGED)
+may_shunt exchange off on = off == 0 || on == 0 || (exchange && nat_le off MAX_EXCHANGED && nat_le on MAX_EXCHANGED)
 
 -- the list is what stays and, at this end, what goes; nothing goes where neither end is named
 abbrev pub Consists : End → List ℕ → List ℕ → List ℕ → Type 0

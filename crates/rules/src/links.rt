@@ -10,7 +10,7 @@ ghost use Rattle.rules.specs.Turns.{kept_of, IsKept, uncoupling_end, coupling_en
 use crate::records::{End, Link, LinkKind, LinkTrips};
 use crate::turns::kept_length;
 use arrayvec::ArrayVec;
-use rail_base::limits::MOST_COMPOSITION;
+use rail_base::limits::MAX_COMPOSITION_UNITS;
 use rail_base::{TripNo, TypeNo};
 
 impl LinkTrips {
@@ -147,8 +147,8 @@ impl LinkKind {
 }
 
 /// The same entries, which are at most six, in the same order.
-pub fn copy_of<T: Copy + Default + Drop>(list: &[T]) -> ArrayVec<T, MOST_COMPOSITION>
-    requires { length list.now ≤ MOST_COMPOSITION }
+pub fn copy_of<T: Copy + Default + Drop>(list: &[T]) -> ArrayVec<T, MAX_COMPOSITION_UNITS>
+    requires { length list.now ≤ MAX_COMPOSITION_UNITS }
     ensures { result.items ≡ list.now }
 {
     let mut copy = ArrayVec::new();
@@ -159,8 +159,11 @@ pub fn copy_of<T: Copy + Default + Drop>(list: &[T]) -> ArrayVec<T, MOST_COMPOSI
 }
 
 /// An arriving list of at most six as it stands after the train has turned round, or not.
-pub fn turned<T: Copy + Default + Drop>(reversed: bool, list: &[T]) -> ArrayVec<T, MOST_COMPOSITION>
-    requires { length list.now ≤ MOST_COMPOSITION }
+pub fn turned<T: Copy + Default + Drop>(
+    reversed: bool,
+    list: &[T],
+) -> ArrayVec<T, MAX_COMPOSITION_UNITS>
+    requires { length list.now ≤ MAX_COMPOSITION_UNITS }
     ensures { result.items ≡ turned reversed list.now }
 {
     let mut list = copy_of(list);
@@ -174,7 +177,7 @@ impl Link {
     /// Whether the link is shunted between a train of units of these types, which arrives, and one of those: whether a
     /// turn does not keep all units of both. No join or split is shunted.
     pub fn is_shunted(&self, arriving: &[TypeNo], departing: &[TypeNo]) -> bool
-        requires { length arriving.now ≤ MOST_COMPOSITION }
+        requires { length arriving.now ≤ MAX_COMPOSITION_UNITS }
         ensures { result ≡ shunts self.now.kind (turned self.now.reverse arriving.now) departing.now }
     {
         if self.kind.second().is_some() {

@@ -1,15 +1,15 @@
 -- Where bytes are read as no answer, they are refused for what is told, unless memory ran out.
 use Rattle.std.proofs.Common.{◌≡◌, ◌≢◌, ◌≤◌, ℕ, List, length, Result, Ok, Err, refl}
-use Rattle.rail_base.specs.declared.limits.TheConstants.{MOST_FILE_BYTES}
+use Rattle.rail_base.specs.declared.limits.TheConstants.{MAX_FILE_BYTES}
 use Rattle.rail_base.specs.Answers.{Gives, Unless}
 use Rattle.answer_text.specs.declared.answer.Answer.{Answer}
 use Rattle.answer_text.specs.declared.refusal.AnswerRefusal.{AnswerRefusal}
 use Rattle.answer_text.specs.declared.refusal.AnswerRefusal.TheVariants.{BadLine, MissingEnd, Trailing, TooManyNodes}
 use Rattle.answer_text.specs.declared.refusal.AnswerRefusal.TheVariants.{NoMemory}
-use Rattle.answer_text.specs.Grammar.{IsRefused, IsText, is_memory}
-use Rattle.run_documents.specs.AnswerFiles.{AreRefusedFor}
+use Rattle.answer_text.specs.Grammar.{IsAnswerRefusal, IsText, is_memory}
+use Rattle.run_documents.specs.AnswerFiles.{AreNoAnswer}
 
-module _ (bytes : List ℕ) (few : length bytes ≤ MOST_FILE_BYTES) where
+module _ (bytes : List ℕ) (few : length bytes ≤ MAX_FILE_BYTES) where
   -- no answer has these bytes as its text, unless memory ran out
   abbrev NoText : AnswerRefusal → Type 0
   NoText refusal = (answer : Answer) → IsText bytes answer → Gives {X = Answer} is_memory (Err refusal) (Ok answer)
@@ -17,8 +17,8 @@ module _ (bytes : List ℕ) (few : length bytes ≤ MOST_FILE_BYTES) where
   apart : (answer : Answer) (refusal : AnswerRefusal) → ◌≡◌ {A = Result Answer AnswerRefusal} (Ok answer) (Err refusal) → ⊥
   apart answer refusal e = absurd cc
 
-  pub are_refused : (refusal : AnswerRefusal) → refusal ≢ NoMemory → Unless (is_memory refusal) (IsRefused bytes refusal)
-      → NoText refusal → AreRefusedFor bytes refusal
+  pub are_refused : (refusal : AnswerRefusal) → refusal ≢ NoMemory → Unless (is_memory refusal) (IsAnswerRefusal bytes refusal)
+      → NoText refusal → AreNoAnswer bytes refusal
   are_refused (BadLine line) not refused other =
       record { few = few; refused = refused; none = λ answer is. apart answer (BadLine line) (other answer is) }
   are_refused MissingEnd not refused other =

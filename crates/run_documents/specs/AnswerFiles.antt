@@ -1,12 +1,12 @@
 -- The answer of a folder, or what is wrong with its file.
 use Rattle.std.specs.Prelude.{ℕ, ◌≡◌, ◌<◌, ◌≤◌, List, length, codes, Bool, true, false, IsTrue, Result, ⊤}
 use Rattle.std.specs.Prelude.{Ok, Err}
-use Rattle.rail_base.specs.declared.limits.TheConstants.{MOST_FILE_BYTES}
+use Rattle.rail_base.specs.declared.limits.TheConstants.{MAX_FILE_BYTES}
 use Rattle.rail_io.specs.Folders.{Files, Rose, RosePast, file_at}
 use Rattle.day_files.specs.OneFile.{path_in}
 use Rattle.answer_text.specs.declared.answer.Answer.{Answer}
 use Rattle.answer_text.specs.declared.refusal.AnswerRefusal.{AnswerRefusal}
-use Rattle.answer_text.specs.Grammar.{IsRefused, IsText}
+use Rattle.answer_text.specs.Grammar.{IsAnswerRefusal, IsText}
 use Rattle.run_documents.specs.declared.answer_file.AnswerError.{AnswerError}
 use Rattle.run_documents.specs.declared.answer_file.AnswerError.TheVariants.{CannotRead, TooLong, Refused}
 
@@ -24,22 +24,22 @@ answer_bytes files dir = file_at files (answer_path dir)
 
 -- the bytes are not too many, and are the text of this answer and of no other
 pub record IsAnswerOf (bytes : List ℕ) (answer : Answer) : Type 0 where
-  pub few : length bytes ≤ MOST_FILE_BYTES
+  pub few : length bytes ≤ MAX_FILE_BYTES
   pub text : IsText bytes answer
   pub only : (other : Answer) → IsText bytes other → answer ≡ other
-  pub right : (refusal : AnswerRefusal) → ¬ IsRefused bytes refusal
+  pub right : (refusal : AnswerRefusal) → ¬ IsAnswerRefusal bytes refusal
 
 -- the bytes are not too many, are refused for this, and are the text of no answer
-pub record AreRefusedFor (bytes : List ℕ) (refusal : AnswerRefusal) : Type 0 where
-  pub few : length bytes ≤ MOST_FILE_BYTES
-  pub refused : IsRefused bytes refusal
+pub record AreNoAnswer (bytes : List ℕ) (refusal : AnswerRefusal) : Type 0 where
+  pub few : length bytes ≤ MAX_FILE_BYTES
+  pub refused : IsAnswerRefusal bytes refusal
   pub none : (answer : Answer) → ¬ IsText bytes answer
 
 -- what is wrong with the file; that it could not be read says nothing of it
 abbrev pub IsWrongAnswer : Files → List ℕ → AnswerError → Type 0
 IsWrongAnswer files dir CannotRead = ⊤
-IsWrongAnswer files dir TooLong = MOST_FILE_BYTES < length (answer_bytes files dir)
-IsWrongAnswer files dir (Refused refusal) = AreRefusedFor (answer_bytes files dir) refusal
+IsWrongAnswer files dir TooLong = MAX_FILE_BYTES < length (answer_bytes files dir)
+IsWrongAnswer files dir (Refused refusal) = AreNoAnswer (answer_bytes files dir) refusal
 
 -- the file is that of this answer, or it is wrong
 abbrev pub ReadsAnswer : Files → List ℕ → Result Answer AnswerError → Type 0
@@ -59,6 +59,6 @@ abbrev pub IsAnswerCaused : {F : Type 0} → (F → List ℕ → Bool) → (F �
     → Type 0
 IsAnswerCaused may_fail faults taken dir before after CannotRead =
     Rose (faults before) (faults after) × IsTrue (may_fail before (answer_path dir))
-IsAnswerCaused may_fail faults taken dir before after TooLong = RosePast MOST_FILE_BYTES (taken before) (taken after)
+IsAnswerCaused may_fail faults taken dir before after TooLong = RosePast MAX_FILE_BYTES (taken before) (taken after)
 IsAnswerCaused may_fail faults taken dir before after (Refused refusal) =
-    (bytes : List ℕ) × AreRefusedFor bytes refusal
+    (bytes : List ℕ) × AreNoAnswer bytes refusal

@@ -3,14 +3,14 @@
 ghost use Rattle.std.specs.Prelude.{◌≡◌, true, ◌≤◌, Some, IfOk, IfErr, length};
 ghost use Rattle.rail_io.specs.Folders.{Files, OnlyReads, faults_after};
 ghost use Rattle.day_files.specs.OneFile.{tells_unread};
-ghost use Rattle.answer_text.specs.Limits.{IsWithin};
-ghost use Rattle.rail_base.specs.declared.limits.TheConstants.{MOST_FILE_BYTES, MOST_NODES};
-ghost use Rattle.run_documents.specs.AnswerFiles.{AreRefusedFor, IsAnswerCaused, IsAnswerOf, ReadsAnswer, is_unread};
+ghost use Rattle.answer_text.specs.Limits.{IsAnswerWithin};
+ghost use Rattle.rail_base.specs.declared.limits.TheConstants.{MAX_FILE_BYTES, MAX_NODES};
+ghost use Rattle.run_documents.specs.AnswerFiles.{AreNoAnswer, IsAnswerCaused, IsAnswerOf, ReadsAnswer, is_unread};
 
 use answer_text::{Answer, AnswerRefusal, read};
 use day_files::file_in;
 use rail_base::NoMemory;
-use rail_base::limits::MOST_FILE_BYTES;
+use rail_base::limits::MAX_FILE_BYTES;
 use rail_io::{FileRefusal, Folder};
 use std::alloc::Global;
 use thiserror::Error;
@@ -48,7 +48,7 @@ pub fn answer_in<F: Folder>(
     dir: &str,
 ) -> Result<Result<Answer, AnswerError>, NoMemory>
     ensures told { (files : Files) → F.holds folder.old ≡ Some files → IfOk result (ReadsAnswer files dir.now) }
-    ensures within { IfOk result (λ read. IfOk read (IsWithin MOST_NODES)) }
+    ensures within { IfOk result (λ read. IfOk read (IsAnswerWithin MAX_NODES)) }
     ensures caused { IfOk result (λ read.
         IfErr read (IsAnswerCaused F.may_fail F.faults F.taken dir.now folder.old folder.new)) }
     ensures fault_counted { F.counts_failed ≡ true → IfOk result (λ read.
@@ -56,7 +56,7 @@ pub fn answer_in<F: Folder>(
     ensures unfaulted { F.counts_failed ≡ true → IfErr result (λ _. F.faults folder.new ≡ F.faults folder.old) }
     ensures only_reads { OnlyReads F.holds F.may_fail F.faults F.taken folder.old folder.new }
 {
-    let bytes = match file_in(alloc, folder, dir, ANSWER_FILE, MOST_FILE_BYTES) {
+    let bytes = match file_in(alloc, folder, dir, ANSWER_FILE, MAX_FILE_BYTES) {
         Ok(bytes) => bytes,
         Err(FileRefusal::ReadFault) => return Ok(Err(AnswerError::CannotRead)),
         Err(FileRefusal::TooLong) => return Ok(Err(AnswerError::TooLong)),
@@ -70,9 +70,9 @@ pub fn answer_in<F: Folder>(
 
 /// The answer whose text these bytes are, or why they are refused. The error is want of memory.
 fn answer_of(alloc: Global, bytes: &[u8]) -> Result<Result<Answer, AnswerRefusal>, NoMemory>
-    requires { length bytes.now ≤ MOST_FILE_BYTES }
+    requires { length bytes.now ≤ MAX_FILE_BYTES }
     ensures read { IfOk result (λ read. IfOk read (IsAnswerOf bytes.now)) }
-    ensures refused { IfOk result (λ read. IfErr read (AreRefusedFor bytes.now)) }
+    ensures refused { IfOk result (λ read. IfErr read (AreNoAnswer bytes.now)) }
 {
     match read(alloc, bytes) {
         Ok(answer) => Ok(Ok(answer)),

@@ -9,24 +9,24 @@ use Rattle.timetable.specs.Compositions.{composition_at}
 use Rattle.timetable.specs.Day.{Day}
 use Rattle.timetable.specs.Links.{list_of}
 use Rattle.timetable.specs.Picks.{ArePicks, picked}
-use Rattle.transitions.specs.Edges.{MayRun}
+use Rattle.transitions.specs.Edges.{IsAdmittedComp}
 use Rattle.unit_duties.specs.Broken.{AreAdmissible}
 
 -- the picks of the trips below a number may run
 abbrev pub MayRunBelow : Day → List ℕ → ℕ → Type 0
-MayRunBelow day picks bound = (t comp : ℕ) → t < bound → slice_get picks t ≡ Some comp → MayRun day t comp
+MayRunBelow day picks bound = (t comp : ℕ) → t < bound → slice_get picks t ≡ Some comp → IsAdmittedComp day t comp
 
 one : (x y : ℕ) → Some x ≡ Some y → x ≡ y
 one x y e = cc
 
 pub one_more : (day : Day) (picks : List ℕ) (n found : ℕ) → MayRunBelow day picks n → slice_get picks n ≡ Some found
-    → MayRun day n found → MayRunBelow day picks (n + 1)
+    → IsAdmittedComp day n found → MayRunBelow day picks (n + 1)
 one_more day picks n found before at runs t comp below here =
     ⊎_elim (λ less. before t comp less here)
     (λ past.
     let last : n ≡ t = omega (arith, past, below) in
     let same : found ≡ comp = one found comp (sym at ∙ ap (slice_get picks) last ∙ here) in
-    subst (λ (k : ℕ). MayRun day k comp) last (subst (MayRun day n) same runs))
+    subst (λ (k : ℕ). IsAdmittedComp day k comp) last (subst (IsAdmittedComp day n) same runs))
     (cases_lt t n)
 
 module _ (day : Day) (picks : List ℕ) (many : length picks ≡ length day.trips) (each : MayRunBelow day picks (length day.trips)) where

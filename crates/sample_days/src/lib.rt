@@ -8,7 +8,7 @@ ghost use Rattle.std.specs.Prelude.{◌≡◌, ◌≤◌, length, IfOk};
 ghost use Rattle.timetable.specs.Running.{IsPlan};
 
 pub use picks::may_run;
-use rail_base::limits::MOST_TABLE_BYTES;
+use rail_base::limits::MAX_TABLE_BYTES;
 use std::alloc::Global;
 use std::test::Fail;
 use timetable::{Instance, NamedPlan, Rows, Tables};
@@ -73,9 +73,9 @@ pub const RING: Texts<'static> = Texts {
 /// The bytes of a table, which are no more than a table may have: more of them fail the test.
 pub fn table(bytes: &[u8]) -> Result<&[u8], Fail>
     ensures same { IfOk result (λ table. table.now ≡ bytes.now) }
-    ensures length { IfOk result (λ table. length table.now ≤ MOST_TABLE_BYTES) }
+    ensures length { IfOk result (λ table. length table.now ≤ MAX_TABLE_BYTES) }
 {
-    if bytes.len() as u64 > MOST_TABLE_BYTES {
+    if bytes.len() as u64 > MAX_TABLE_BYTES {
         return Err(Fail::new("a table is too long"));
     }
     Ok(bytes)

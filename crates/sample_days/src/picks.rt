@@ -2,7 +2,7 @@
 
 ghost use Rattle.std.specs.Prelude.{◌<◌, length, IsTrue};
 ghost use Rattle.timetable.specs.Picks.{ArePicks};
-ghost use Rattle.transitions.specs.Edges.{MayRun};
+ghost use Rattle.transitions.specs.Edges.{IsAdmittedComp};
 ghost use Rattle.unit_duties.specs.Broken.{AreAdmissible};
 
 use rail_base::{CompNo, TripNo};
@@ -27,7 +27,7 @@ pub fn may_run(day: &Instance, picks: &Picks) -> bool
 /// Whether there is a composition of this number, and it may run on a trip.
 fn is_admitted(day: &Instance, trip: TripNo, comp: CompNo) -> bool
     requires { trip < length day.now.trips }
-    ensures { IsTrue result → MayRun day.now trip comp }
+    ensures { IsTrue result → IsAdmittedComp day.now trip comp }
 {
     comp.0 < day.catalogue().len() && day.admits(trip, comp)
 }

@@ -3,7 +3,7 @@ use Rattle.std.proofs.Common.{◌≡◌, ℕ, zero, suc, ◌≤◌, length, List
 use Rattle.std.proofs.Common.{arith, add-one, ◌+◌, ◌⊎◌, inl, inr}
 use Rattle.std.proofs.lemmas.Bool.{both_ways, false≢true}
 use denote.Enum.Bare.{sameb}
-use Rattle.branch_tree.specs.Claims.{Priced}
+use Rattle.branch_tree.specs.Claims.{CostedPicks}
 use Rattle.branch_tree.specs.Meanings.{Meanings}
 use Rattle.advisors.specs.contracts.advisor.Word.{the_type}
 use Rattle.advisors.specs.declared.advisor.Word.{Word}
@@ -11,7 +11,7 @@ use Rattle.advisors.specs.declared.advisor.Word.TheVariants.{More, Enough, Quit}
 use Rattle.advisors.specs.Quits.{quit_after}
 use Rattle.search.specs.declared.work.Work.{Work}
 use Rattle.search.specs.NodeAdvice.{CallTest}
-use Rattle.search.specs.NodesInWork.{is_left_open}
+use Rattle.search.specs.NodesInWork.{is_open_work}
 use Rattle.search.specs.Rounds.{AdviceState, AreRounds, IsToBeAsked, WasAsked, WasAskedIfDue, WereAskedInOrder}
 
 -- an advisor that answers another word than `Quit` has not quit
@@ -50,11 +50,11 @@ module _ {A : Type 0} (has_quit : A → Bool) (has_answered : CallTest A) (probl
   rounds_next round before middle after so_far next = subst (λ (n : ℕ). AreRounds has_quit has_answered problem n before after) (sym (add-one round)) (middle, so_far, next)
 
   -- no advisor is to be asked about a node that is not open
-  pub closed : (place : ℕ) (state : AdviceState A) → is_left_open state.best state.work ≡ false → IsToBeAsked has_quit place state → ⊥
-  closed place state shut is = both_ways (is_left_open state.best state.work) shut is.left_open
+  pub closed : (place : ℕ) (state : AdviceState A) → is_open_work state.best state.work ≡ false → IsToBeAsked has_quit place state → ⊥
+  closed place state shut is = both_ways (is_open_work state.best state.work) shut is.left_open
 
   -- a node that is not open stays as it is to the end of a round
-  pub asked_to : (round few many : ℕ) (before after : AdviceState A) → few ≤ many → is_left_open after.best after.work ≡ false → WereAskedInOrder has_quit has_answered problem round few before after →
+  pub asked_to : (round few many : ℕ) (before after : AdviceState A) → few ≤ many → is_open_work after.best after.work ≡ false → WereAskedInOrder has_quit has_answered problem round few before after →
       WereAskedInOrder has_quit has_answered problem round many before after
   asked_to round few zero before after less shut so_far =
       let none : few ≡ 0 = omega (arith, less) in subst (λ (n : ℕ). WereAskedInOrder has_quit has_answered problem round n before after) none so_far
@@ -64,7 +64,7 @@ module _ {A : Type 0} (has_quit : A → Bool) (has_answered : CallTest A) (probl
   ]
 
   -- and to the end of the rounds
-  pub rounds_to : (few many : ℕ) (before after : AdviceState A) → few ≤ many → is_left_open after.best after.work ≡ false → AreRounds has_quit has_answered problem few before after →
+  pub rounds_to : (few many : ℕ) (before after : AdviceState A) → few ≤ many → is_open_work after.best after.work ≡ false → AreRounds has_quit has_answered problem few before after →
       AreRounds has_quit has_answered problem many before after
   rounds_to few zero before after less shut so_far =
       let none : few ≡ 0 = omega (arith, less) in subst (λ (n : ℕ). AreRounds has_quit has_answered problem n before after) none so_far
@@ -74,7 +74,7 @@ module _ {A : Type 0} (has_quit : A → Bool) (has_answered : CallTest A) (probl
   ]
 
   -- rounds about a node that is not open from the first change nothing
-  pub rounds_unasked : (rounds : ℕ) (advisors : List A) (enough : List Bool) (best : Option Priced) (work : Work) → is_left_open best work ≡ false →
+  pub rounds_unasked : (rounds : ℕ) (advisors : List A) (enough : List Bool) (best : Option CostedPicks) (work : Work) → is_open_work best work ≡ false →
       AreRounds has_quit has_answered problem rounds (record { advisors = advisors; enough = enough; best = best; work = work }) (record { advisors = advisors; enough = enough; best = best; work = work })
   rounds_unasked rounds advisors enough best work shut =
       rounds_to 0 rounds (record { advisors = advisors; enough = enough; best = best; work = work }) (record { advisors = advisors; enough = enough; best = best; work = work }) (omega arith) shut refl

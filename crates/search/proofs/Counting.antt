@@ -3,7 +3,7 @@ use Rattle.std.proofs.Common.{◌≡◌, ℕ, ◌+◌, ◌*◌, ◌≤◌, ◌^�
 use Rattle.std.proofs.Common.{None, refl, sym, subst, arith}
 use Rattle.std.proofs.Math.Nat.{mul-le-mul_left}
 use Rattle.branch_tree.specs.declared.tree.Node.{Node}
-use Rattle.branch_tree.specs.Claims.{Priced, is_open}
+use Rattle.branch_tree.specs.Claims.{CostedPicks, is_open}
 use Rattle.branch_tree.specs.Trees.{cut_of}
 use Rattle.search.specs.Questions.{AreAsked, MayBeAsked, in_rounds}
 use Rattle.search.specs.Ends.{made_or_open}
@@ -17,7 +17,7 @@ module _ {A : Type 0} (asked : A → ℕ) (has_quit : A → Bool) where
   asked_if_open rounds true first last some once = once refl
   asked_if_open rounds false first last some once = subst (λ (times : ℕ). AreAsked first last asked has_quit times rounds) (sym (in_rounds_zero rounds)) some
 
-  pub asked_for_leaf : (rounds : ℕ) (best : Option Priced) (node : Node) (first last : List A) → cut_of node ≡ None → AreAsked first last asked has_quit 0 rounds →
+  pub asked_for_leaf : (rounds : ℕ) (best : Option CostedPicks) (node : Node) (first last : List A) → cut_of node ≡ None → AreAsked first last asked has_quit 0 rounds →
       (is_open best node ≡ true → AreAsked first last asked has_quit (in_rounds rounds 1) rounds) → AreAsked first last asked has_quit (in_rounds rounds (made_or_open best (node ∷ []))) rounds
   asked_for_leaf rounds best node first last leaf some once =
       subst (λ (times : ℕ). AreAsked first last asked has_quit (in_rounds rounds times) rounds) (sym (leaf_made node leaf best)) (asked_if_open rounds (is_open best node) first last some once)

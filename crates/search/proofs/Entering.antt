@@ -12,13 +12,13 @@ use Rattle.std.specs.BTreeMap.{ContainsKey, Updates, get}
 use Rattle.rail_base.specs.declared.numbers.Money.{Money}
 use Rattle.branch_tree.specs.declared.cuts.Cut.{Cut}
 use Rattle.branch_tree.specs.declared.tree.Node.TheVariants.{Branch}
-use Rattle.branch_tree.specs.Claims.{Priced, is_below}
+use Rattle.branch_tree.specs.Claims.{CostedPicks, is_below}
 use Rattle.branch_tree.specs.Meanings.{Meanings}
 use Rattle.search.specs.declared.frontier.Frontier.{Frontier}
 use Rattle.search.specs.declared.nodes.Division.{Division}
 use Rattle.search.specs.declared.nodes.SearchNode.{SearchNode}
 use Rattle.search.specs.declared.nodes.SearchNode.TheVariants.{Fixed, Pending}
-use Rattle.search.specs.Frontiers.{IsEntered, can_improve, has_rank, rank_order}
+use Rattle.search.specs.Frontiers.{IsEntered, is_open_node, has_rank, rank_order}
 use Rattle.search.specs.Nodes.{IsDivisionAt, branched}
 use Rattle.search.specs.Offers.{IsOffered}
 use Rattle.search.proofs.Evaluating.{offered_again}
@@ -48,7 +48,7 @@ other_rank a b m n other = at (is_eq (ordering_then (int_cmp a b) (nat_cmp m n))
 -- ---- ranks put in and taken out
 
 -- a rank that is put in takes no other out
-pub still_entered : (old new : Frontier) (bound : Money) (number : ℕ) → Updates rank_order old.ranks new.ranks (bound, number) (Some tt) → (best : Option Priced) (node : SearchNode) → IsEntered best old node → IsEntered best new node
+pub still_entered : (old new : Frontier) (bound : Money) (number : ℕ) → Updates rank_order old.ranks new.ranks (bound, number) (Some tt) → (best : Option CostedPicks) (node : SearchNode) → IsEntered best old node → IsEntered best new node
 still_entered old new bound number put best (Fixed node) entered = tt
 still_entered old new bound number put best (Pending node) entered = λ below. at (is_eq (rank_order (bound, number) (node.bound, node.number))) refl (entered below)
   where
@@ -57,14 +57,14 @@ still_entered old new bound number put best (Pending node) entered = λ below. a
     at false e has = subst (λ found. IsSome found) (sym (put.2 (node.bound, node.number) e)) has
 
 -- a rank that no node has is taken out
-pub entered_but : (old new : Frontier) (bound : Money) (number : ℕ) → Updates rank_order old.ranks new.ranks (bound, number) None → (best : Option Priced) (node : SearchNode) →
-    (can_improve best node ≡ true → has_rank bound number node ≡ false) → IsEntered best old node → IsEntered best new node
+pub entered_but : (old new : Frontier) (bound : Money) (number : ℕ) → Updates rank_order old.ranks new.ranks (bound, number) None → (best : Option CostedPicks) (node : SearchNode) →
+    (is_open_node best node ≡ true → has_rank bound number node ≡ false) → IsEntered best old node → IsEntered best new node
 entered_but old new bound number out best (Fixed node) other entered = tt
 entered_but old new bound number out best (Pending node) other entered = λ below.
     subst (λ found. IsSome found) (sym (out.2 (node.bound, node.number) (other_rank bound.0 node.bound.0 number node.number (other below)))) (entered below)
 
 -- a node that leaves room for a better solution has no rank whose bound leaves none
-pub shut_rank : (best : Option Priced) (bound : Money) (number : ℕ) (node : SearchNode) → is_below bound.0 best ≡ false → can_improve best node ≡ true → has_rank bound number node ≡ false
+pub shut_rank : (best : Option CostedPicks) (bound : Money) (number : ℕ) (node : SearchNode) → is_below bound.0 best ≡ false → is_open_node best node ≡ true → has_rank bound number node ≡ false
 shut_rank best bound number (Fixed node) shut opens = refl
 shut_rank best bound number (Pending node) shut opens = at (int_eq node.bound.0 bound.0) refl
   where
@@ -77,7 +77,7 @@ shut_rank best bound number (Pending node) shut opens = at (int_eq node.bound.0 
 -- ---- a branching
 
 -- the better the best solution, the less is asked of a frontier
-entered_with : (old new : Option Priced) → ((bound : ℤ) → is_below bound new ≡ true → is_below bound old ≡ true) → (frontier : Frontier) (node : SearchNode) → IsEntered old frontier node → IsEntered new frontier node
+entered_with : (old new : Option CostedPicks) → ((bound : ℤ) → is_below bound new ≡ true → is_below bound old ≡ true) → (frontier : Frontier) (node : SearchNode) → IsEntered old frontier node → IsEntered new frontier node
 entered_with old new dearer frontier (Fixed node) entered = tt
 entered_with old new dearer frontier (Pending node) entered = λ below. entered (dearer node.bound.0 below)
 
@@ -95,7 +95,7 @@ entered_after P Q follows (node ∷ nodes) (suc place) cut left right within bra
     (entered_after P Q follows nodes place cut left right (omega (arith, within)) branch one other (All-tail P node nodes all))
 
 -- the nodes after a branching are entered, as those before are
-pub entered_on : (problem : Meanings) (root : List (List Bool)) (old middle new : Option Priced) (before after : Frontier) (nodes : List SearchNode) (place : ℕ) (division : Division) (left right : SearchNode) →
+pub entered_on : (problem : Meanings) (root : List (List Bool)) (old middle new : Option CostedPicks) (before after : Frontier) (nodes : List SearchNode) (place : ℕ) (division : Division) (left right : SearchNode) →
     IsDivisionAt problem old nodes place division → IsOffered problem root old middle → IsOffered problem root middle new →
     IsEntered new after left → IsEntered new after right → ((node : SearchNode) → IsEntered new before node → IsEntered new after node) →
     All (IsEntered old before) nodes → All (IsEntered new after) (branched nodes place division.cut left right)

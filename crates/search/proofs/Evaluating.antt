@@ -13,13 +13,13 @@ use Rattle.branch_tree.specs.declared.relaxation.Weight.{Weight}
 use Rattle.branch_tree.specs.declared.relaxation.Weight.TheVariants.{Cost, NoCost}
 use Rattle.branch_tree.specs.Entries.{refusal_of, put_in}
 use Rattle.branch_tree.specs.Bounds.{IsBound, IsEmpty, IsSettled}
-use Rattle.branch_tree.specs.Claims.{Priced, is_below}
+use Rattle.branch_tree.specs.Claims.{CostedPicks, is_below}
 use Rattle.branch_tree.specs.Meanings.{Meanings, IsRelaxation, DoFitFor}
 use Rattle.branch_tree.proofs.Duality.{bounds_are_chain_values}
 use Rattle.branch_tree.proofs.Settling.{broken_picks_have_rays}
 use Rattle.search.specs.declared.evaluation.Ending.{Ending}
 use Rattle.search.specs.declared.evaluation.Ending.TheVariants as endings
-use Rattle.search.specs.declared.evaluation.Outcome.TheVariants.{Ended}
+use Rattle.search.specs.declared.evaluation.EvaluationEnd.TheVariants.{Ended}
 use Rattle.search.specs.Evaluations.{HasNoRay, IsEnding, IsEvaluated, IsOutcome, IsRayTest, IsSettledAs}
 use Rattle.search.specs.Offers.{HasCheaperIn, IsOffered}
 use Rattle.search.proofs.Below.{lower, not_lower}
@@ -39,16 +39,16 @@ ray_test problem region multipliers value old new false is tested = record {
     at false e = not_lower (pos 0) value.0 e
 
 -- an offer that was not made leaves the best solution
-pub not_offered : (problem : Meanings) (region : List (List Bool)) (best : Option Priced) → IsOffered problem region best best
+pub not_offered : (problem : Meanings) (region : List (List Bool)) (best : Option CostedPicks) → IsOffered problem region best best
 not_offered problem region best = record { no_dearer = λ bound below. below; either = inl refl }
 
-cheaper_again : (problem : Meanings) (region : List (List Bool)) (old middle new : Option Priced) →
+cheaper_again : (problem : Meanings) (region : List (List Bool)) (old middle new : Option CostedPicks) →
     ((bound : ℤ) → is_below bound middle ≡ true → is_below bound old ≡ true) → HasCheaperIn problem region middle new → HasCheaperIn problem region old new
 cheaper_again problem region old middle None no_dearer has = has
 cheaper_again problem region old middle (Some plan) no_dearer has = (has.0, no_dearer plan.cost has.1)
 
 -- one offer after another
-pub offered_again : (problem : Meanings) (region : List (List Bool)) (old middle new : Option Priced) →
+pub offered_again : (problem : Meanings) (region : List (List Bool)) (old middle new : Option CostedPicks) →
     IsOffered problem region old middle → IsOffered problem region middle new → IsOffered problem region old new
 offered_again problem region old middle new first next = record {
   no_dearer = λ bound below. first.no_dearer bound (next.no_dearer bound below);
@@ -100,21 +100,21 @@ passed_fits problem relaxation picks index sign named follow settled e =
     subst (λ entries. DoFitFor problem entries) (sym (named_by problem picks index sign named settled e))
     (named_fits problem relaxation picks index sign follow settled)
 
-left_open_by : (problem : Meanings) (region : List (List Bool)) (best : Option Priced) (picks : List ℕ) (index : ℕ) (sign : ℤ) →
+left_open_by : (problem : Meanings) (region : List (List Bool)) (best : Option CostedPicks) (picks : List ℕ) (index : ℕ) (sign : ℤ) →
     IsSettled problem picks (Broken index sign) → HasNoRay problem region (record { index = index; value = sign } ∷ []) → IsSettledAs problem region best picks None
 left_open_by problem region best picks index sign settled none = inr (record {
   no_solution = settled.0;
   no_ray = subst (λ entry. HasNoRay problem region (entry ∷ [])) (sym (named_is problem picks index sign settled)) none;
 })
 
-pub left_open_by_passed : (problem : Meanings) (region : List (List Bool)) (best : Option Priced) (picks : List ℕ) (index : ℕ) (sign : ℤ) (named : List Entry) →
+pub left_open_by_passed : (problem : Meanings) (region : List (List Bool)) (best : Option CostedPicks) (picks : List ℕ) (index : ℕ) (sign : ℤ) (named : List Entry) →
     IsSettled problem picks (Broken index sign) → named ≡ record { index = index; value = to_z w8 (of_z w8 sign) } ∷ [] →
     HasNoRay problem region named → IsSettledAs problem region best picks None
 left_open_by_passed problem region best picks index sign named settled e none = left_open_by problem region best picks index sign settled
     (subst (λ entries. HasNoRay problem region entries) (named_by problem picks index sign named settled e) none)
 
 -- where nothing is named
-pub settled_unnamed : (problem : Meanings) (region : List (List Bool)) (best : Option Priced) (picks : List ℕ) (found : Option (List Entry)) →
+pub settled_unnamed : (problem : Meanings) (region : List (List Bool)) (best : Option CostedPicks) (picks : List ℕ) (found : Option (List Entry)) →
     ((named : List Entry) → found ≡ Some named → ⊥) → IsSettledAs problem region best picks found → IsSettledAs problem region best picks None
 settled_unnamed problem region best picks None not is = is
 settled_unnamed problem region best picks (Some named) not is = absurd (not named refl)
@@ -126,7 +126,7 @@ named_broken problem picks index sign named settled e =
     named_by problem picks index sign named settled e ∙ ap (λ (entry : Entry). entry ∷ []) (sym (named_is problem picks index sign settled))
 
 -- an evaluation ends by an end of its region
-pub is_ending : (problem : Meanings) (region : List (List Bool)) (multipliers : List Entry) (best : Option Priced) (ending : Ending) →
+pub is_ending : (problem : Meanings) (region : List (List Bool)) (multipliers : List Entry) (best : Option CostedPicks) (ending : Ending) →
     IsOutcome problem region multipliers best (Ended ending) → IsEnding problem region ending
 is_ending problem region multipliers best endings.Empty is = is
 is_ending problem region multipliers best (endings.Ray ray) is = is.0

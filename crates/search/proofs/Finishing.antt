@@ -8,7 +8,7 @@ use Rattle.std.proofs.lemmas.List.Elements.{All-cons, All-nil, All-head, All-tai
 use Rattle.rail_base.specs.declared.numbers.Money.{Money}
 use Rattle.branch_tree.specs.declared.tree.Node.{Node}
 use Rattle.branch_tree.specs.declared.tree.Node.TheVariants.{Branch, CostLeaf, RayLeaf, EmptyLeaf}
-use Rattle.branch_tree.specs.Claims.{Priced, Conclusion, optimal, infeasible, plan_of, IsPlanIn, IsProved, IsProvedAt}
+use Rattle.branch_tree.specs.Claims.{CostedPicks, Conclusion, optimal, infeasible, concluded_plan, IsPlanIn, IsProved, IsProvedAt}
 use Rattle.branch_tree.specs.Claims.{IsRaisedAt, IsSettledAt, IsNotEvident, IsNotEvidentAt, DoBound, EndsInTime}
 use Rattle.branch_tree.specs.Claims.{HasOpenLeaf, is_open, is_below, open_leaves_of}
 use Rattle.branch_tree.specs.Meanings.{Meanings}
@@ -20,7 +20,7 @@ use Rattle.search.specs.declared.found.Found.{Found}
 use Rattle.search.specs.declared.found.Found.TheVariants.{Bounded}
 use Rattle.search.specs.declared.nodes.SearchNode.{SearchNode}
 use Rattle.search.specs.declared.nodes.SearchNode.TheVariants.{Fixed, Pending}
-use Rattle.search.specs.Frontiers.{can_improve}
+use Rattle.search.specs.Frontiers.{is_open_node}
 use Rattle.search.specs.Ends.{HasEnded, IsFoundBy, found_by, closed_by, bounded_by}
 use Rattle.search.specs.Nodes.{CanBranch, IsNodeOf, IsPlaced, IsSearched, cut_at, tree_node, tree_nodes}
 use Rattle.search.specs.Offers.{HasPlanIn}
@@ -43,12 +43,12 @@ evident_by problem region (Fixed node) can = absurd can
 evident_by problem region (Pending node) can = can.not_evident
 
 -- a tree of a search with its plan
-record IsTreeOf (problem : Meanings) (root : List (List Bool)) (plan : Option Priced) (nodes : List Node) : Type 0 where
+record IsTreeOf (problem : Meanings) (root : List (List Bool)) (plan : Option CostedPicks) (nodes : List Node) : Type 0 where
   proved : Covers problem.catalogue (IsProvedAt problem) root nodes
   in_time : EndsInTime problem root plan nodes
   has : HasPlanIn problem root plan
 
-tree_of : (problem : Meanings) (root : List (List Bool)) (best : Option Priced) (nodes : List SearchNode) → IsSearched problem root best nodes → IsTreeOf problem root best (tree_nodes nodes)
+tree_of : (problem : Meanings) (root : List (List Bool)) (best : Option CostedPicks) (nodes : List SearchNode) → IsSearched problem root best nodes → IsTreeOf problem root best (tree_nodes nodes)
 tree_of problem root best nodes is = record {
   proved = tree_walk problem.catalogue (IsPlaced problem root best) (IsProvedAt problem) (λ region node placed. placed.known.proved) (root ∷ []) nodes is.walks;
   in_time = record {
@@ -59,11 +59,11 @@ tree_of problem root best nodes is = record {
   has = is.plan;
 }
 
-has_plan : (problem : Meanings) (root : List (List Bool)) (plan : Option Priced) → HasPlanIn problem root plan → MatchOption plan (Unit {0}) (IsPlanIn problem root)
+has_plan : (problem : Meanings) (root : List (List Bool)) (plan : Option CostedPicks) → HasPlanIn problem root plan → MatchOption plan (Unit {0}) (IsPlanIn problem root)
 has_plan problem root None has = tt
 has_plan problem root (Some plan) has = has
 
-proved_by : (problem : Meanings) (root : List (List Bool)) (plan : Option Priced) (nodes : List Node) (conclusion : Conclusion) → IsTreeOf problem root plan nodes → plan_of conclusion ≡ plan → DoBound (bounds_of nodes) conclusion →
+proved_by : (problem : Meanings) (root : List (List Bool)) (plan : Option CostedPicks) (nodes : List Node) (conclusion : Conclusion) → IsTreeOf problem root plan nodes → concluded_plan conclusion ≡ plan → DoBound (bounds_of nodes) conclusion →
     IsProved problem root conclusion (branchings_of nodes) nodes
 proved_by problem root plan nodes conclusion is same bound =
     let parts = (proved_at_each_node problem root nodes).0 is.proved in
@@ -78,7 +78,7 @@ proved_by problem root plan nodes conclusion is same bound =
       head = bound;
     }
 
-pub whole_tree : (problem : Meanings) (root : List (List Bool)) (best : Option Priced) (nodes : List SearchNode) → IsSearched problem root best nodes → IsWhole (tree_nodes nodes)
+pub whole_tree : (problem : Meanings) (root : List (List Bool)) (best : Option CostedPicks) (nodes : List SearchNode) → IsSearched problem root best nodes → IsWhole (tree_nodes nodes)
 whole_tree problem root best nodes is = ((covers_each (IsProvedAt problem) problem.catalogue root (tree_nodes nodes)).0 (tree_of problem root best nodes is).proved).0
 
 -- ---- opens leaves and bounds
@@ -87,7 +87,7 @@ if_none : (b : Bool) → ◌≡◌ {A = ℕ} (if b then 1 else 0) 0 → b ≡ fa
 if_none true e = absurd (omega (arith, e))
 if_none false e = refl
 
-none_open : (best : Option Priced) (nodes : List Node) → open_leaves_of best nodes ≡ 0 → All (λ bound. is_below bound best ≡ false) (bounds_of nodes)
+none_open : (best : Option CostedPicks) (nodes : List Node) → open_leaves_of best nodes ≡ 0 → All (λ bound. is_below bound best ≡ false) (bounds_of nodes)
 none_open best [] none = All-nil (λ bound. is_below bound best ≡ false)
 none_open best (CostLeaf bound multipliers ∷ nodes) none =
     All-cons (λ number. is_below number best ≡ false) bound.0 (bounds_of nodes) (if_none (is_below bound.0 best) (omega (arith, none))) (none_open best nodes (omega (arith, none)))
@@ -95,7 +95,7 @@ none_open best (Branch cut ∷ nodes) none = none_open best nodes (omega (arith,
 none_open best (RayLeaf multipliers ∷ nodes) none = none_open best nodes (omega (arith, none))
 none_open best (EmptyLeaf ∷ nodes) none = none_open best nodes (omega (arith, none))
 
-all_closed : (best : Option Priced) (nodes : List Node) → All (λ bound. is_below bound best ≡ false) (bounds_of nodes) → open_leaves_of best nodes ≡ 0
+all_closed : (best : Option CostedPicks) (nodes : List Node) → All (λ bound. is_below bound best ≡ false) (bounds_of nodes) → open_leaves_of best nodes ≡ 0
 all_closed best [] closed = refl
 all_closed best (CostLeaf bound multipliers ∷ nodes) closed =
     let here : is_below bound.0 best ≡ false = All-head (λ number. is_below number best ≡ false) bound.0 (bounds_of nodes) closed in
@@ -108,7 +108,7 @@ zero_or_more : (n : ℕ) → (n ≡ 0) ⊎ (0 < n)
 zero_or_more zero = inl refl
 zero_or_more (suc n) = inr (omega arith)
 
-some_open : (best : Option Priced) (nodes : List Node) (bound : ℤ) → Contains (bounds_of nodes) bound → is_below bound best ≡ true → 0 < open_leaves_of best nodes
+some_open : (best : Option CostedPicks) (nodes : List Node) (bound : ℤ) → Contains (bounds_of nodes) bound → is_below bound best ≡ true → 0 < open_leaves_of best nodes
 some_open best nodes bound has below = elim (zero_or_more (open_leaves_of best nodes)) as (λ _. 0 < open_leaves_of best nodes) [
   | inl none ↦ absurd (let not : is_below bound best ≡ false = All-contains (λ number. is_below number best ≡ false) (bounds_of nodes) bound (none_open best nodes none) has in let no : true ≡ false = sym below ∙ not in cc)
   | inr some ↦ some
@@ -116,7 +116,7 @@ some_open best nodes bound has below = elim (zero_or_more (open_leaves_of best n
 
 -- ---- what is found
 
-plan_bounded : (bound : ℤ) (plan : Option Priced) → plan_of (bounded_with bound plan) ≡ plan
+plan_bounded : (bound : ℤ) (plan : Option CostedPicks) → concluded_plan (bounded_with bound plan) ≡ plan
 plan_bounded bound None = refl
 plan_bounded bound (Some plan) = refl
 
@@ -133,20 +133,20 @@ pub found_nodes : (least : Option Money) (best : Option Best) (nodes : List Node
 found_nodes None best nodes = closed_nodes best nodes
 found_nodes (Some bound) best nodes = bounded_nodes (is_below bound.0 (plan_in best)) bound best nodes
 
-do_bound : (bounds : List ℤ) (bound : ℤ) (plan : Option Priced) → IsLeast bounds bound → DoBound bounds (bounded_with bound plan)
+do_bound : (bounds : List ℤ) (bound : ℤ) (plan : Option CostedPicks) → IsLeast bounds bound → DoBound bounds (bounded_with bound plan)
 do_bound bounds bound None least = least
 do_bound bounds bound (Some plan) least = least
 
-not_some : (plan : Priced) → Some plan ≡ None → ⊥
+not_some : (plan : CostedPicks) → Some plan ≡ None → ⊥
 not_some plan same = cc
 
 module _ (problem : Meanings) (root : List (List Bool)) (grant : ℕ) (best : Option Best) (nodes : List Node) (is : IsTreeOf problem root (plan_in best) nodes)
     (granted : branchings_of nodes ≤ grant) (ended : HasEnded grant (plan_in best) nodes) where
   solved_bounded : (bound : Money) → IsLeast (bounds_of nodes) bound.0 → is_below bound.0 (plan_in best) ≡ true → IsSolved problem root grant (Bounded best bound nodes)
   solved_bounded bound least below =
-      let same : plan_of (bounded_with bound.0 (plan_in best)) ≡ plan_in best = plan_bounded bound.0 (plan_in best) in
+      let same : concluded_plan (bounded_with bound.0 (plan_in best)) ≡ plan_in best = plan_bounded bound.0 (plan_in best) in
       let some : 0 < open_leaves_of (plan_in best) nodes = some_open (plan_in best) nodes bound.0 least.one below in
-      let opens : HasOpenLeaf (plan_of (bounded_with bound.0 (plan_in best))) nodes = subst (λ plan. HasOpenLeaf plan nodes) (sym same) some in
+      let opens : HasOpenLeaf (concluded_plan (bounded_with bound.0 (plan_in best))) nodes = subst (λ plan. HasOpenLeaf plan nodes) (sym same) some in
       let all : branchings_of nodes ≡ grant = elim ended as (λ _. branchings_of nodes ≡ grant) [ inl all ↦ all | inr none ↦ absurd (omega (arith, some, none)) ] in
       record {
         proved = proved_by problem root (plan_in best) nodes (bounded_with bound.0 (plan_in best)) is same (do_bound (bounds_of nodes) bound.0 (plan_in best) least);
@@ -174,7 +174,7 @@ module _ (problem : Meanings) (root : List (List Bool)) (grant : ℕ) (best : Op
         optimal = ((λ no. absurd no), (λ both. absurd (let none : false ≡ true = both.0 in cc)));
       }
   solved_closed closed none_left (Some one) e =
-      let plan : Priced = record { cost = one.cost.0; picks = one.picks } in
+      let plan : CostedPicks = record { cost = one.cost.0; picks = one.picks } in
       let the_plan : Some plan ≡ plan_in best = ap plan_in e in
       let no_open : open_leaves_of (Some plan) nodes ≡ 0 = subst (λ found. open_leaves_of found nodes ≡ 0) (sym the_plan) (all_closed (plan_in best) nodes closed) in
       let shut : All (λ bound. is_below bound (Some plan) ≡ false) (bounds_of nodes) = subst (λ found. All (λ bound. is_below bound found ≡ false) (bounds_of nodes)) (sym the_plan) closed in
@@ -194,12 +194,12 @@ module _ (problem : Meanings) (root : List (List Bool)) (grant : ℕ) (best : Op
       (All-weaker (λ number. bound.0 ≤ℤ number) (λ number. is_below number (plan_in best) ≡ false) (λ number above. closed_above bound.0 number (plan_in best) above e) (bounds_of nodes) least.all)
       (λ none. absurd (always_below (plan_in best) none e)) best refl
     where
-      closed_above : (bound number : ℤ) (plan : Option Priced) → bound ≤ℤ number → is_below bound plan ≡ false → is_below number plan ≡ false
+      closed_above : (bound number : ℤ) (plan : Option CostedPicks) → bound ≤ℤ number → is_below bound plan ≡ false → is_below number plan ≡ false
       closed_above bound number None above closed = closed
       closed_above bound number (Some plan) above closed =
           let over : plan.cost ≤ℤ bound = not_lower bound plan.cost closed in not_lower_test number plan.cost (omega (arith, ints, above, over))
 
-      always_below : (plan : Option Priced) → plan ≡ None → is_below bound.0 plan ≡ false → ⊥
+      always_below : (plan : Option CostedPicks) → plan ≡ None → is_below bound.0 plan ≡ false → ⊥
       always_below None none closed = let no : true ≡ false = closed in cc
       always_below (Some plan) none closed = not_some plan none
 
@@ -225,14 +225,14 @@ pub all_moved : (tree : List Node) (rest whole : List SearchNode) → length res
 all_moved tree [] whole none all = sym (append-nil tree) ∙ all
 all_moved tree (node ∷ rest) whole none all = absurd (omega (arith, none))
 
-pub length-tree : (problem : Meanings) (root : List (List Bool)) (best : Option Priced) (nodes : List SearchNode) → IsSearched problem root best nodes → length nodes ≡ 2 * branchings_of (tree_nodes nodes) + 1
+pub length-tree : (problem : Meanings) (root : List (List Bool)) (best : Option CostedPicks) (nodes : List SearchNode) → IsSearched problem root best nodes → length nodes ≡ 2 * branchings_of (tree_nodes nodes) + 1
 length-tree problem root best nodes is =
     omega (arith, leaves_exceed_branches (tree_nodes nodes) (whole_tree problem root best nodes is), length-map nodes tree_node)
 
 -- ---- a frontier that is empty
 
 -- a node that may not be branched is no open leaf
-closed_node : (problem : Meanings) (best : Option Priced) (region : List (List Bool)) (node : SearchNode) → IsNodeOf problem best region node → can_improve best node ≡ false → is_open best (tree_node node) ≡ false
+closed_node : (problem : Meanings) (best : Option CostedPicks) (region : List (List Bool)) (node : SearchNode) → IsNodeOf problem best region node → is_open_node best node ≡ false → is_open best (tree_node node) ≡ false
 closed_node problem best region (Pending node) known closed = closed
 closed_node problem best region (Fixed node) known closed = at (is_open best node) refl
   where
@@ -241,15 +241,15 @@ closed_node problem best region (Fixed node) known closed = at (is_open best nod
     at false e = e
 
 -- no leaf is open where no node may be branched
-pub none_left : (problem : Meanings) (root : List (List Bool)) (best : Option Priced) (regions : List (List (List Bool))) (nodes : List SearchNode) →
-    Walks cut_at problem.catalogue (IsPlaced problem root best) regions nodes → All (λ node. can_improve best node ≡ false) nodes → open_leaves_of best (tree_nodes nodes) ≡ 0
+pub none_left : (problem : Meanings) (root : List (List Bool)) (best : Option CostedPicks) (regions : List (List (List Bool))) (nodes : List SearchNode) →
+    Walks cut_at problem.catalogue (IsPlaced problem root best) regions nodes → All (λ node. is_open_node best node ≡ false) nodes → open_leaves_of best (tree_nodes nodes) ≡ 0
 none_left problem root best [] [] walks closed = refl
 none_left problem root best [] (node ∷ nodes) walks closed = absurd walks
 none_left problem root best (region ∷ regions) [] walks closed = absurd walks
 none_left problem root best (region ∷ regions) (node ∷ nodes) walks closed =
-    let here : is_open best (tree_node node) ≡ false = closed_node problem best region node walks.0.known (All-head (λ one. can_improve best one ≡ false) node nodes closed) in
+    let here : is_open best (tree_node node) ≡ false = closed_node problem best region node walks.0.known (All-head (λ one. is_open_node best one ≡ false) node nodes closed) in
     omega (
       arith,
       ap {B = ℕ} (λ (b : Bool). if b then 1 else 0) here,
-      none_left problem root best (regions_below problem.catalogue region (cut_at node) ++ regions) nodes walks.1 (All-tail (λ one. can_improve best one ≡ false) node nodes closed),
+      none_left problem root best (regions_below problem.catalogue region (cut_at node) ++ regions) nodes walks.1 (All-tail (λ one. is_open_node best one ≡ false) node nodes closed),
     )

@@ -10,12 +10,12 @@ use Rattle.branch_tree.specs.declared.cuts.Side.{Side}
 use Rattle.branch_tree.specs.declared.cuts.Side.TheVariants.{Left, Right}
 use Rattle.branch_tree.specs.declared.tree.Node.{Node}
 use Rattle.branch_tree.specs.declared.tree.Node.TheVariants.{Branch, CostLeaf, RayLeaf, EmptyLeaf}
-use Rattle.branch_tree.specs.Claims.{Priced, IsSettledAt, is_open, is_below, open_leaves_of}
+use Rattle.branch_tree.specs.Claims.{CostedPicks, IsSettledAt, is_open, is_below, open_leaves_of}
 use Rattle.branch_tree.specs.Cuts.{IsProper, is_on, side_of, trip_of}
 use Rattle.branch_tree.specs.Laws.{IsDivided}
 use Rattle.branch_tree.specs.Meanings.{Meanings, IsRelaxation, DoFitFor}
 use Rattle.branch_tree.specs.Regions.{IsOver, IsSingle, are_in, has, set_at}
-use Rattle.branch_tree.specs.Sets.{kept}
+use Rattle.branch_tree.specs.Sets.{restricted}
 use Rattle.branch_tree.specs.Trees.{Walks, branchings_of, cut_of, regions_below, regions_left}
 use Rattle.branch_tree.proofs.Covering.{trip_inside}
 use Rattle.branch_tree.proofs.Dividing.{cuts_divide}
@@ -27,7 +27,7 @@ use Rattle.search.specs.declared.nodes.PendingNode.{PendingNode}
 use Rattle.search.specs.declared.nodes.SearchNode.{SearchNode}
 use Rattle.search.specs.declared.nodes.SearchNode.TheVariants.{Fixed, Pending}
 use Rattle.search.specs.Ends.{made_or_open}
-use Rattle.search.specs.Nodes.{IsLeafOf, IsNodeOf, IsDivision, IsDivisionAt, IsPending, IsPlaced, IsSearched, IsWithin}
+use Rattle.search.specs.Nodes.{IsLeafOf, IsNodeOf, IsDivision, IsDivisionAt, IsPending, IsPlaced, IsSearched, IsSubregion}
 use Rattle.search.specs.Nodes.{CanBranch, branched, cut_at, tree_node, tree_nodes}
 use Rattle.search.specs.Offers.{HasCheaperIn, HasPlanIn, IsOffered}
 use Rattle.search.proofs.Below.{no_better_on}
@@ -56,20 +56,20 @@ placed_at cut_of catalogue P (region ∷ regions) (first ∷ nodes) (suc place) 
 
 -- ---- the better the best solution, the less is asked of the nodes
 
-open_before : (old new : Option Priced) → ((bound : ℤ) → is_below bound new ≡ true → is_below bound old ≡ true) → (node : Node) → is_open new node ≡ true → is_open old node ≡ true
+open_before : (old new : Option CostedPicks) → ((bound : ℤ) → is_below bound new ≡ true → is_below bound old ≡ true) → (node : Node) → is_open new node ≡ true → is_open old node ≡ true
 open_before old new dearer (Branch cut) opens = opens
 open_before old new dearer (CostLeaf bound multipliers) opens = dearer bound.0 opens
 open_before old new dearer (RayLeaf multipliers) opens = opens
 open_before old new dearer EmptyLeaf opens = opens
 
-settled_with : (problem : Meanings) (old new : Option Priced) (region : List (List Bool)) (node : Node) → ((bound : ℤ) → is_below bound new ≡ true → is_below bound old ≡ true) → IsSettledAt problem old region node →
+settled_with : (problem : Meanings) (old new : Option CostedPicks) (region : List (List Bool)) (node : Node) → ((bound : ℤ) → is_below bound new ≡ true → is_below bound old ≡ true) → IsSettledAt problem old region node →
     IsSettledAt problem new region node
 settled_with problem old new region (Branch cut) dearer is = is
 settled_with problem old new region (CostLeaf bound multipliers) dearer is = (is.0, is.1, no_better_on problem old new is.0 dearer is.2)
 settled_with problem old new region (RayLeaf multipliers) dearer is = is
 settled_with problem old new region EmptyLeaf dearer is = is
 
-pub node_with : (problem : Meanings) (old new : Option Priced) (region : List (List Bool)) (node : SearchNode) → ((bound : ℤ) → is_below bound new ≡ true → is_below bound old ≡ true) →
+pub node_with : (problem : Meanings) (old new : Option CostedPicks) (region : List (List Bool)) (node : SearchNode) → ((bound : ℤ) → is_below bound new ≡ true → is_below bound old ≡ true) →
     IsNodeOf problem old region node → IsNodeOf problem new region node
 node_with problem old new region node dearer is = record {
   proved = is.proved;
@@ -78,32 +78,32 @@ node_with problem old new region node dearer is = record {
   branches = λ opens. is.branches (open_before old new dearer (tree_node node) opens);
 }
 
-placed_with : (problem : Meanings) (root : List (List Bool)) (old new : Option Priced) → ((bound : ℤ) → is_below bound new ≡ true → is_below bound old ≡ true) → (region : List (List Bool)) (node : SearchNode) →
+placed_with : (problem : Meanings) (root : List (List Bool)) (old new : Option CostedPicks) → ((bound : ℤ) → is_below bound new ≡ true → is_below bound old ≡ true) → (region : List (List Bool)) (node : SearchNode) →
     IsPlaced problem root old region node → IsPlaced problem root new region node
 placed_with problem root old new dearer region node is = record { known = node_with problem old new region node dearer is.known; over = is.over; within = is.within }
 
 -- ---- a branching
 
 -- what replaces a node: a proper cut of its region, and a leaf on each side
-pub record IsBranching (problem : Meanings) (best : Option Priced) (region : List (List Bool)) (cut : Cut) (left right : SearchNode) : Type 0 where
+pub record IsBranching (problem : Meanings) (best : Option CostedPicks) (region : List (List Bool)) (cut : Cut) (left right : SearchNode) : Type 0 where
   pub proper : IsProper problem.catalogue region cut
   pub one : IsLeafOf problem best (side_of problem.catalogue cut Left region) left
   pub other : IsLeafOf problem best (side_of problem.catalogue cut Right region) right
 
-within_side : (problem : Meanings) (root region : List (List Bool)) (cut : Cut) (side : Side) → IsProper problem.catalogue region cut → IsWithin root region → IsWithin root (side_of problem.catalogue cut side region)
+within_side : (problem : Meanings) (root region : List (List Bool)) (cut : Cut) (side : Side) → IsProper problem.catalogue region cut → IsSubregion root region → IsSubregion root (side_of problem.catalogue cut side region)
 within_side problem root region cut side proper within picks inside =
     let divided : IsDivided problem.catalogue cut region picks = cuts_divide problem.catalogue cut region picks (trip_inside problem.catalogue region cut proper.in_range) in
     within picks (divided.inside side inside)
 
-side_placed : (problem : Meanings) (root region : List (List Bool)) (best : Option Priced) (cut : Cut) (side : Side) (node : SearchNode) → IsProper problem.catalogue region cut →
-    IsOver problem.trips problem.catalogue region → IsWithin root region → IsLeafOf problem best (side_of problem.catalogue cut side region) node → IsPlaced problem root best (side_of problem.catalogue cut side region) node
+side_placed : (problem : Meanings) (root region : List (List Bool)) (best : Option CostedPicks) (cut : Cut) (side : Side) (node : SearchNode) → IsProper problem.catalogue region cut →
+    IsOver problem.trips problem.catalogue region → IsSubregion root region → IsLeafOf problem best (side_of problem.catalogue cut side region) node → IsPlaced problem root best (side_of problem.catalogue cut side region) node
 side_placed problem root region best cut side node proper over within is = record {
   known = is.known;
   over = sides_are_over problem.trips problem.catalogue problem.catalogue cut side region over;
   within = within_side problem root region cut side proper within;
 }
 
-branch_placed : (problem : Meanings) (root region : List (List Bool)) (best : Option Priced) (cut : Cut) → IsProper problem.catalogue region cut → IsOver problem.trips problem.catalogue region → IsWithin root region →
+branch_placed : (problem : Meanings) (root region : List (List Bool)) (best : Option CostedPicks) (cut : Cut) → IsProper problem.catalogue region cut → IsOver problem.trips problem.catalogue region → IsSubregion root region →
     IsPlaced problem root best region (Fixed (Branch cut))
 branch_placed problem root region best cut proper over within = record {
   known = record { proved = record { proper = proper; fitting = tt; bound = tt; ray = tt; empty = tt }; raised = tt; settled = tt; branches = λ opens. absurd (let no : false ≡ true = opens in cc) };
@@ -112,8 +112,8 @@ branch_placed problem root region best cut proper over within = record {
 }
 
 -- the nodes that replace a leaf are a tree over its region
-new_walk : (problem : Meanings) (root region : List (List Bool)) (best : Option Priced) (cut : Cut) (left right : SearchNode) → IsBranching problem best region cut left right →
-    IsOver problem.trips problem.catalogue region → IsWithin root region →
+new_walk : (problem : Meanings) (root region : List (List Bool)) (best : Option CostedPicks) (cut : Cut) (left right : SearchNode) → IsBranching problem best region cut left right →
+    IsOver problem.trips problem.catalogue region → IsSubregion root region →
     Walks cut_at problem.catalogue (IsPlaced problem root best) (region ∷ []) (Fixed (Branch cut) ∷ left ∷ right ∷ [])
 new_walk problem root region best cut left right is over within = (
   branch_placed problem root region best cut is.proper over within,
@@ -128,13 +128,13 @@ new_walk problem root region best cut left right is over within = (
   ),
 )
 
-plan_kept : (problem : Meanings) (root : List (List Bool)) (old new : Option Priced) → IsOffered problem root old new → HasPlanIn problem root old → HasPlanIn problem root new
+plan_kept : (problem : Meanings) (root : List (List Bool)) (old new : Option CostedPicks) → IsOffered problem root old new → HasPlanIn problem root old → HasPlanIn problem root new
 plan_kept problem root old new offered plan = elim offered.either as (λ _. HasPlanIn problem root new) [
   | inl same ↦ subst (λ best. HasPlanIn problem root best) (sym same) plan
   | inr has ↦ widened new has
 ]
   where
-    widened : (best : Option Priced) → HasCheaperIn problem root old best → HasPlanIn problem root best
+    widened : (best : Option CostedPicks) → HasCheaperIn problem root old best → HasPlanIn problem root best
     widened None has = tt
     widened (Some plan) has = has.0
 
@@ -143,7 +143,7 @@ cut_before problem region (Fixed node) can = absurd can
 cut_before problem region (Pending node) can = refl
 
 -- the nodes after a branching are searched, as those before are
-pub searched_on : (problem : Meanings) (root region : List (List Bool)) (old new : Option Priced) (nodes : List SearchNode) (place : ℕ) (node : SearchNode) (cut : Cut) (left right : SearchNode) →
+pub searched_on : (problem : Meanings) (root region : List (List Bool)) (old new : Option CostedPicks) (nodes : List SearchNode) (place : ℕ) (node : SearchNode) (cut : Cut) (left right : SearchNode) →
     place < length nodes → node ≡ get_or nodes place node → ((other : List (List Bool)) → CanBranch problem other node → other ≡ region) → is_open old (tree_node node) ≡ true →
     IsBranching problem new region cut left right → IsOffered problem root old new → IsSearched problem root old nodes → IsSearched problem root new (branched nodes place cut left right)
 searched_on problem root region old new nodes place node cut left right within is own opens branching offered searched =
@@ -152,7 +152,7 @@ searched_on problem root region old new nodes place node cut left right within i
     let can : CanBranch problem at.region node = at.fact.known.branches opens in
     let same : at.region ≡ region = own at.region can in
     let over : IsOver problem.trips problem.catalogue region = subst (λ other. IsOver problem.trips problem.catalogue other) same at.fact.over in
-    let inside : IsWithin root region = subst (λ other. IsWithin root other) same at.fact.within in
+    let inside : IsSubregion root region = subst (λ other. IsSubregion root other) same at.fact.within in
     let whole : Walks cut_at problem.catalogue P (root ∷ []) nodes =
     walks_map cut_at problem.catalogue (IsPlaced problem root old) P (placed_with problem root old new offered.no_dearer) (root ∷ []) nodes searched.walks in
     let parted : Walks cut_at problem.catalogue P (root ∷ []) (take place nodes ++ node ∷ drop (suc place) nodes) =
@@ -168,7 +168,7 @@ searched_on problem root region old new nodes place node cut left right within i
 
 -- ---- counts
 
-pub leaf_made : (node : Node) → cut_of node ≡ None → (best : Option Priced) → made_or_open best (node ∷ []) ≡ (if is_open best node then 1 else 0)
+pub leaf_made : (node : Node) → cut_of node ≡ None → (best : Option CostedPicks) → made_or_open best (node ∷ []) ≡ (if is_open best node then 1 else 0)
 leaf_made (Branch cut) leaf best = absurd cc
 leaf_made (CostLeaf bound multipliers) leaf best = omega arith
 leaf_made (RayLeaf multipliers) leaf best = omega arith
@@ -192,18 +192,18 @@ one_branching (first ∷ nodes) zero node cut left right within is a b c =
 one_branching (first ∷ nodes) (suc place) node cut left right within is a b c =
     omega (arith, one_branching nodes place node cut left right (omega (arith, within)) is a b c)
 
-open_least : (old new : Option Priced) → ((bound : ℤ) → is_below bound new ≡ true → is_below bound old ≡ true) → (node : Node) → (if is_open new node then 1 else 0) ≤ (if is_open old node then 1 else 0)
+open_least : (old new : Option CostedPicks) → ((bound : ℤ) → is_below bound new ≡ true → is_below bound old ≡ true) → (node : Node) → (if is_open new node then 1 else 0) ≤ (if is_open old node then 1 else 0)
 open_least old new dearer node = at (is_open new node) refl
   where
     at : (opens : Bool) → is_open new node ≡ opens → (if opens then 1 else 0) ≤ (if is_open old node then 1 else 0)
     at true e = omega (arith, ap {B = ℕ} (λ (b : Bool). if b then 1 else 0) (open_before old new dearer node e))
     at false e = omega arith
 
-open_fewer : (old new : Option Priced) → ((bound : ℤ) → is_below bound new ≡ true → is_below bound old ≡ true) → (nodes : List Node) → open_leaves_of new nodes ≤ open_leaves_of old nodes
+open_fewer : (old new : Option CostedPicks) → ((bound : ℤ) → is_below bound new ≡ true → is_below bound old ≡ true) → (nodes : List Node) → open_leaves_of new nodes ≤ open_leaves_of old nodes
 open_fewer old new dearer [] = omega arith
 open_fewer old new dearer (node ∷ nodes) = omega (arith, open_least old new dearer node, open_fewer old new dearer nodes)
 
-pub open_after : (old new : Option Priced) → ((bound : ℤ) → is_below bound new ≡ true → is_below bound old ≡ true) → (nodes : List SearchNode) (place : ℕ) (node : SearchNode) (cut : Cut) (left right : SearchNode) →
+pub open_after : (old new : Option CostedPicks) → ((bound : ℤ) → is_below bound new ≡ true → is_below bound old ≡ true) → (nodes : List SearchNode) (place : ℕ) (node : SearchNode) (cut : Cut) (left right : SearchNode) →
     place < length nodes → node ≡ get_or nodes place node → is_open old (tree_node node) ≡ true →
     open_leaves_of new (tree_nodes (branched nodes place cut left right)) + 1 ≤
     open_leaves_of old (tree_nodes nodes) + ((if is_open new (tree_node left) then 1 else 0) + (if is_open new (tree_node right) then 1 else 0))
@@ -231,7 +231,7 @@ pub record IsReady (problem : Meanings) (node : PendingNode) : Type 0 where
   pub sets : length node.region ≡ problem.trips
   pub fits : DoFitFor problem node.multipliers
 
-ready_by : (problem : Meanings) → IsRelaxation problem → (root region : List (List Bool)) (best : Option Priced) (node : PendingNode) → IsPlaced problem root best region (Pending node) → IsPending problem region node → IsReady problem node
+ready_by : (problem : Meanings) → IsRelaxation problem → (root region : List (List Bool)) (best : Option CostedPicks) (node : PendingNode) → IsPlaced problem root best region (Pending node) → IsPending problem region node → IsReady problem node
 ready_by problem relaxation root region best node placed can = record {
   inside = subst (λ sets. IsTrue (are_in node.picks sets)) (sym can.own) (relaxation.near_in node.picks region can.choice.near);
   divisible = λ single. single_picks_are_evident problem relaxation region (subst (λ sets. IsSingle sets) can.own single) can.not_evident;
@@ -240,25 +240,25 @@ ready_by problem relaxation root region best node placed can = record {
   fits = placed.known.proved.fitting;
 }
 
-pub ready_at : (problem : Meanings) → IsRelaxation problem → (root : List (List Bool)) (best : Option Priced) (nodes : List SearchNode) (place : ℕ) (node : PendingNode) → place < length nodes →
+pub ready_at : (problem : Meanings) → IsRelaxation problem → (root : List (List Bool)) (best : Option CostedPicks) (nodes : List SearchNode) (place : ℕ) (node : PendingNode) → place < length nodes →
     Pending node ≡ get_or nodes place (Pending node) → is_below node.bound.0 best ≡ true → IsSearched problem root best nodes → IsReady problem node
 ready_at problem relaxation root best nodes place node within here below searched =
     let at : IsPlacedAt cut_at problem.catalogue (IsPlaced problem root best) (root ∷ []) nodes place (Pending node) = placed_at cut_at problem.catalogue (IsPlaced problem root best) (root ∷ []) nodes place (Pending node) within here searched.walks in
     ready_by problem relaxation root at.region best node at.fact (at.fact.known.branches below)
 
 -- the regions of a division lie in the root
-pub sides_within : (problem : Meanings) (root : List (List Bool)) (best : Option Priced) (nodes : List SearchNode) (place : ℕ) (division : Division) → IsDivisionAt problem best nodes place division →
-    IsSearched problem root best nodes → IsWithin root division.left × IsWithin root division.right
+pub sides_within : (problem : Meanings) (root : List (List Bool)) (best : Option CostedPicks) (nodes : List SearchNode) (place : ℕ) (division : Division) → IsDivisionAt problem best nodes place division →
+    IsSearched problem root best nodes → IsSubregion root division.left × IsSubregion root division.right
 sides_within problem root best nodes place division at searched =
     let placed : IsPlacedAt cut_at problem.catalogue (IsPlaced problem root best) (root ∷ []) nodes place (Pending at.node) =
     placed_at cut_at problem.catalogue (IsPlaced problem root best) (root ∷ []) nodes place (Pending at.node) at.within at.here searched.walks in
     let own : at.node.region ≡ placed.region = (placed.fact.known.branches at.below).own in
-    let within : IsWithin root at.node.region = subst (λ sets. IsWithin root sets) (sym own) placed.fact.within in (
-      subst (λ sets. IsWithin root sets) (sym at.divided.left) (within_side problem root at.node.region division.cut Left at.divided.proper within),
-      subst (λ sets. IsWithin root sets) (sym at.divided.right) (within_side problem root at.node.region division.cut Right at.divided.proper within),
+    let within : IsSubregion root at.node.region = subst (λ sets. IsSubregion root sets) (sym own) placed.fact.within in (
+      subst (λ sets. IsSubregion root sets) (sym at.divided.left) (within_side problem root at.node.region division.cut Left at.divided.proper within),
+      subst (λ sets. IsSubregion root sets) (sym at.divided.right) (within_side problem root at.node.region division.cut Right at.divided.proper within),
     )
 
-branching_of : (problem : Meanings) (root region : List (List Bool)) (middle new : Option Priced) (division : Division) (left right : SearchNode) (node : PendingNode) → node.region ≡ region → IsDivision problem.catalogue node division →
+branching_of : (problem : Meanings) (root region : List (List Bool)) (middle new : Option CostedPicks) (division : Division) (left right : SearchNode) (node : PendingNode) → node.region ≡ region → IsDivision problem.catalogue node division →
     IsLeafOf problem middle division.left left → IsOffered problem root middle new → IsLeafOf problem new division.right right → IsBranching problem new region division.cut left right
 branching_of problem root region middle new division left right node own divided one offered other = record {
   proper = subst (λ sets. IsProper problem.catalogue sets division.cut) own divided.proper;
@@ -272,7 +272,7 @@ branching_of problem root region middle new division left right node own divided
   };
 }
 
-pub after_branch : (problem : Meanings) (root : List (List Bool)) (old middle new : Option Priced) (nodes : List SearchNode) (place : ℕ) (division : Division) (left right : SearchNode) →
+pub after_branch : (problem : Meanings) (root : List (List Bool)) (old middle new : Option CostedPicks) (nodes : List SearchNode) (place : ℕ) (division : Division) (left right : SearchNode) →
     IsDivisionAt problem old nodes place division → IsLeafOf problem middle division.left left → IsOffered problem root old middle → IsLeafOf problem new division.right right → IsOffered problem root middle new →
     IsSearched problem root old nodes → IsSearched problem root new (branched nodes place division.cut left right)
 after_branch problem root old middle new nodes place division left right at one first other second searched =
@@ -280,12 +280,12 @@ after_branch problem root old middle new nodes place division left right at one 
     (branching_of problem root at.node.region middle new division left right at.node refl at.divided one second other)
     (offered_again problem root old middle new first second) searched
 
-pub branchings_after : (problem : Meanings) (old middle new : Option Priced) (nodes : List SearchNode) (place : ℕ) (division : Division) (left right : SearchNode) → IsDivisionAt problem old nodes place division →
+pub branchings_after : (problem : Meanings) (old middle new : Option CostedPicks) (nodes : List SearchNode) (place : ℕ) (division : Division) (left right : SearchNode) → IsDivisionAt problem old nodes place division →
     IsLeafOf problem middle division.left left → IsLeafOf problem new division.right right → branchings_of (tree_nodes (branched nodes place division.cut left right)) ≡ branchings_of (tree_nodes nodes) + 1
 branchings_after problem old middle new nodes place division left right at one other =
     one_branching nodes place (Pending at.node) division.cut left right at.within at.here refl one.leaf other.leaf
 
-pub kept_up : (problem : Meanings) (root : List (List Bool)) (old middle new : Option Priced) (nodes : List SearchNode) (place : ℕ) (division : Division) (left right : SearchNode) → IsDivisionAt problem old nodes place division →
+pub kept_up : (problem : Meanings) (root : List (List Bool)) (old middle new : Option CostedPicks) (nodes : List SearchNode) (place : ℕ) (division : Division) (left right : SearchNode) → IsDivisionAt problem old nodes place division →
     IsLeafOf problem middle division.left left → IsOffered problem root old middle → IsLeafOf problem new division.right right → IsOffered problem root middle new →
     made_or_open new (tree_nodes (branched nodes place division.cut left right)) ≤
     made_or_open old (tree_nodes nodes) + ((if is_open middle (tree_node left) then 1 else 0) + (if is_open new (tree_node right) then 1 else 0))
@@ -306,7 +306,7 @@ put_after nodes place cut left right first second within one two =
     ap (λ (at : ℕ). insert (insert (set nodes place (Fixed (Branch cut))) (suc place) left) at right) last ∙ put_behind nodes place cut left right within
 
 -- a search begins with its root
-pub one_node : (problem : Meanings) (root : List (List Bool)) (best : Option Priced) (node : SearchNode) → IsOver problem.trips problem.catalogue root → IsLeafOf problem best root node → IsOffered problem root None best →
+pub one_node : (problem : Meanings) (root : List (List Bool)) (best : Option CostedPicks) (node : SearchNode) → IsOver problem.trips problem.catalogue root → IsLeafOf problem best root node → IsOffered problem root None best →
     IsSearched problem root best (node ∷ [])
 one_node problem root best node over is offered = record {
   walks = (
@@ -316,7 +316,7 @@ one_node problem root best node over is offered = record {
   plan = plan_kept problem root None best offered tt;
 }
 
-pub division_at : (problem : Meanings) (best : Option Priced) (nodes : List SearchNode) (place : ℕ) (node : PendingNode) (division : Division) → place < length nodes → Pending node ≡ get_or nodes place (Pending node) →
+pub division_at : (problem : Meanings) (best : Option CostedPicks) (nodes : List SearchNode) (place : ℕ) (node : PendingNode) (division : Division) → place < length nodes → Pending node ≡ get_or nodes place (Pending node) →
     is_below node.bound.0 best ≡ true → IsReady problem node → IsDivision problem.catalogue node division → IsDivisionAt problem best nodes place division
 division_at problem best nodes place node division within here below ready divided = record {
   node = node;
@@ -325,6 +325,6 @@ division_at problem best nodes place node division within here below ready divid
   below = below;
   divided = divided;
   fits = subst (λ entries. DoFitFor problem entries) (sym divided.multipliers) ready.fits;
-  left_sets = ap length divided.left ∙ (length-set node.region (trip_of division.cut) (kept (is_on problem.catalogue division.cut Left) (set_at node.region (trip_of division.cut))) ∙ ready.sets);
-  right_sets = ap length divided.right ∙ (length-set node.region (trip_of division.cut) (kept (is_on problem.catalogue division.cut Right) (set_at node.region (trip_of division.cut))) ∙ ready.sets);
+  left_sets = ap length divided.left ∙ (length-set node.region (trip_of division.cut) (restricted (is_on problem.catalogue division.cut Left) (set_at node.region (trip_of division.cut))) ∙ ready.sets);
+  right_sets = ap length divided.right ∙ (length-set node.region (trip_of division.cut) (restricted (is_on problem.catalogue division.cut Right) (set_at node.region (trip_of division.cut))) ∙ ready.sets);
 }

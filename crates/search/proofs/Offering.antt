@@ -2,20 +2,20 @@
 use Rattle.std.proofs.Common.{◌≡◌, ℕ, zero, suc, ◌+◌, List, [], ◌∷◌, ◌++◌, Bool, true, false, IsTrue, if◌then◌else◌, length, take, get_or, ◌<◌}
 use Rattle.std.proofs.Common.{Option, Some, None, ◌⊎◌, inl, inr, refl, sym, ◌∙◌, ap, subst, ℤ, arith}
 use Rattle.std.proofs.lemmas.Int.{ints}
-use Rattle.branch_tree.specs.Claims.{Priced, is_below}
+use Rattle.branch_tree.specs.Claims.{CostedPicks, is_below}
 use Rattle.branch_tree.specs.declared.multipliers.Entry.{Entry}
 use Rattle.branch_tree.specs.Meanings.{DoFitFor, Meanings, IsRelaxation}
 use Rattle.branch_tree.specs.Regions.{are_in}
 use Rattle.search.specs.declared.work.Work.{Work}
 use Rattle.improvers.specs.declared.improver.Improvement.{Improvement}
 use Rattle.search.specs.Improvements.{AreImproved, AreProposed, AreTried, IsProposed, IsUsedUp, or_cheaper}
-use Rattle.search.specs.Nodes.{IsWithin}
-use Rattle.search.specs.NodesInWork.{IsConsidered, IsWorkedOn, is_left_open}
+use Rattle.search.specs.Nodes.{IsSubregion}
+use Rattle.search.specs.NodesInWork.{IsConsidered, IsWorkedOn, is_open_work}
 use Rattle.search.specs.Offers.{HasCheaperIn, IsOffered}
 use Rattle.search.proofs.Below.{below_less, lower, no_better_on}
 
 -- what is offered in a region of the root is offered in the root
-pub offered_within : (problem : Meanings) (root region : List (List Bool)) (old new : Option Priced) → IsWithin root region → IsOffered problem region old new → IsOffered problem root old new
+pub offered_within : (problem : Meanings) (root region : List (List Bool)) (old new : Option CostedPicks) → IsSubregion root region → IsOffered problem region old new → IsOffered problem root old new
 offered_within problem root region old new within offered = record {
   no_dearer = offered.no_dearer;
   either = elim offered.either as (λ _. (new ≡ old) ⊎ HasCheaperIn problem root old new) [
@@ -24,12 +24,12 @@ offered_within problem root region old new within offered = record {
   ];
 }
   where
-    widened : (best : Option Priced) → HasCheaperIn problem region old best → HasCheaperIn problem root old best
+    widened : (best : Option CostedPicks) → HasCheaperIn problem region old best → HasCheaperIn problem root old best
     widened None has = has
     widened (Some plan) has = (record { inside = within plan.picks has.0.inside; solution = has.0.solution; cost = has.0.cost }, has.1)
 
 -- a node in work stays one with a better best solution
-pub worked_with : (problem : Meanings) (old new : Option Priced) (work : Work) → ((bound : ℤ) → is_below bound new ≡ true → is_below bound old ≡ true) → IsWorkedOn problem old work → IsWorkedOn problem new work
+pub worked_with : (problem : Meanings) (old new : Option CostedPicks) (work : Work) → ((bound : ℤ) → is_below bound new ≡ true → is_below bound old ≡ true) → IsWorkedOn problem old work → IsWorkedOn problem new work
 worked_with problem old new work dearer is = record {
   kept = is.kept;
   last = is.last;
@@ -41,7 +41,7 @@ worked_with problem old new work dearer is = record {
 }
 
 -- a solution in the root, offered where it costs less
-cheaper_offered : (problem : Meanings) (root : List (List Bool)) (picks : List ℕ) (best : Option Priced) → IsTrue (are_in picks root) → problem.IsSolution picks → (below : Bool) →
+cheaper_offered : (problem : Meanings) (root : List (List Bool)) (picks : List ℕ) (best : Option CostedPicks) → IsTrue (are_in picks root) → problem.IsSolution picks → (below : Bool) →
     is_below (problem.cost picks) best ≡ below → IsOffered problem root best (if below then Some (record { cost = problem.cost picks; picks = picks }) else best)
 cheaper_offered problem root picks best inside solution true below = record {
   no_dearer = λ bound less. below_less bound (problem.cost picks) best (let under = lower bound (problem.cost picks) less in omega (arith, ints)) below;
@@ -50,17 +50,17 @@ cheaper_offered problem root picks best inside solution true below = record {
 cheaper_offered problem root picks best inside solution false below = record { no_dearer = λ bound less. less; either = inl refl }
 
 -- picks that were proposed, where they lie in the root and are a solution
-pub solution_proposed : (problem : Meanings) (root : List (List Bool)) (picks : List ℕ) (before after : Option Priced) → IsTrue (are_in picks root) → problem.IsSolution picks →
+pub solution_proposed : (problem : Meanings) (root : List (List Bool)) (picks : List ℕ) (before after : Option CostedPicks) → IsTrue (are_in picks root) → problem.IsSolution picks →
     after ≡ or_cheaper (record { cost = problem.cost picks; picks = picks }) before → IsProposed problem root picks before after
 solution_proposed problem root picks before after inside solution same = record { taken = λ within is. same; passed = λ never. absurd (never inside solution) }
 
-pub solution_offered : (problem : Meanings) (root : List (List Bool)) (picks : List ℕ) (before after : Option Priced) → IsTrue (are_in picks root) → problem.IsSolution picks →
+pub solution_offered : (problem : Meanings) (root : List (List Bool)) (picks : List ℕ) (before after : Option CostedPicks) → IsTrue (are_in picks root) → problem.IsSolution picks →
     after ≡ or_cheaper (record { cost = problem.cost picks; picks = picks }) before → IsOffered problem root before after
 solution_offered problem root picks before after inside solution same =
     subst (λ best. IsOffered problem root before best) (sym same) (cheaper_offered problem root picks before inside solution (is_below (problem.cost picks) before) refl)
 
 -- picks that were proposed, where they don't lie in the root or are no solution
-pub none_proposed : (problem : Meanings) (root : List (List Bool)) (picks : List ℕ) (best : Option Priced) → (IsTrue (are_in picks root) → problem.IsSolution picks → ⊥) → IsProposed problem root picks best best
+pub none_proposed : (problem : Meanings) (root : List (List Bool)) (picks : List ℕ) (best : Option CostedPicks) → (IsTrue (are_in picks root) → problem.IsSolution picks → ⊥) → IsProposed problem root picks best best
 none_proposed problem root picks best never = record { taken = λ within is. absurd (never within is); passed = λ not. refl }
 
 -- a solution in the root follows, and is one for each trip
@@ -71,12 +71,12 @@ pub solution_length : (problem : Meanings) (root : List (List Bool)) (picks : Li
 solution_length problem root picks relaxation inside solution = relaxation.follow_length picks (solution_follows problem root picks relaxation inside solution)
 
 -- one more of the picks that are proposed
-pub proposed_next : (problem : Meanings) (root : List (List Bool)) (first : List (List ℕ)) (picks : List ℕ) (before middle after : Option Priced) →
+pub proposed_next : (problem : Meanings) (root : List (List Bool)) (first : List (List ℕ)) (picks : List ℕ) (before middle after : Option CostedPicks) →
     AreProposed problem root first before middle → IsProposed problem root picks middle after → AreProposed problem root (first ++ picks ∷ []) before after
 proposed_next problem root [] picks before middle after same next = (after, subst (λ best. IsProposed problem root picks best after) same next, refl)
 proposed_next problem root (one ∷ first) picks before middle after were next = (were.0, were.1, proposed_next problem root first picks were.0 middle after were.2 next)
 
-pub proposed_to : (problem : Meanings) (root : List (List Bool)) (proposed : List (List ℕ)) (place : ℕ) (picks : List ℕ) (before middle after : Option Priced) → place < length proposed →
+pub proposed_to : (problem : Meanings) (root : List (List Bool)) (proposed : List (List ℕ)) (place : ℕ) (picks : List ℕ) (before middle after : Option CostedPicks) → place < length proposed →
     picks ≡ get_or proposed place picks → AreProposed problem root (take place proposed) before middle → IsProposed problem root picks middle after →
     AreProposed problem root (take (place + 1) proposed) before after
 proposed_to problem root proposed place picks before middle after inside here were next =
@@ -91,8 +91,8 @@ proposed_to problem root proposed place picks before middle after inside here we
         ap (λ n. take n (one ∷ list)) next ∙ ap (λ rest. one ∷ rest) (taken_next list place picks (omega (arith, inside)) here)
 
 -- one more improvement that was used while the node was open
-pub improved_next : (problem : Meanings) (root : List (List Bool)) (attempts : ℕ) (improvement : Improvement) (first middle last : Option Priced) (before work after : Work) →
-    AreImproved problem root attempts first middle before work → is_left_open middle work ≡ true → IsUsedUp problem root improvement middle last work after →
+pub improved_next : (problem : Meanings) (root : List (List Bool)) (attempts : ℕ) (improvement : Improvement) (first middle last : Option CostedPicks) (before work after : Work) →
+    AreImproved problem root attempts first middle before work → is_open_work middle work ≡ true → IsUsedUp problem root improvement middle last work after →
     AreImproved problem root (attempts + 1) first last before after
 improved_next problem root attempts improvement first middle last before work after were opens used =
     let next : suc attempts ≡ attempts + 1 = omega arith in
@@ -100,8 +100,8 @@ improved_next problem root attempts improvement first middle last before work af
     subst (λ (n : ℕ). AreImproved problem root n first last before after) next all
 
 -- multipliers that were to be tried were
-pub tried_by : (problem : Meanings) (multipliers : Option (List Entry)) (entries : List Entry) (earlier best : Option Priced) (before after : Work) → multipliers ≡ Some entries → DoFitFor problem entries →
-    is_left_open earlier before ≡ true → IsConsidered problem best entries before after → AreTried problem multipliers earlier best before after
+pub tried_by : (problem : Meanings) (multipliers : Option (List Entry)) (entries : List Entry) (earlier best : Option CostedPicks) (before after : Work) → multipliers ≡ Some entries → DoFitFor problem entries →
+    is_open_work earlier before ≡ true → IsConsidered problem best entries before after → AreTried problem multipliers earlier best before after
 tried_by problem multipliers entries earlier best before after there fit opens considered = record {
   considered = λ others due. let same : entries ≡ others = let both : Some entries ≡ Some others = sym there ∙ due.there in cc in
       subst (λ xs. IsConsidered problem best xs before after) same considered;

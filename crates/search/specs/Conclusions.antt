@@ -1,7 +1,8 @@
 -- What a search finds of all solutions in its root, and when each answer comes.
 use Rattle.std.specs.Prelude.{ℕ, ◌≡◌, ◌≤◌, ◌↔◌, List, [], Bool, IsSome, ℤ, Option, Some, None}
 use Rattle.branch_tree.specs.declared.tree.Node.{Node}
-use Rattle.branch_tree.specs.Claims.{Conclusion, optimal, infeasible, bounded, bounded_plan, Priced, plan_of}
+use Rattle.branch_tree.specs.Claims.{Conclusion, optimal, infeasible, bounded, bounded_plan, CostedPicks}
+use Rattle.branch_tree.specs.Claims.{concluded_plan}
 use Rattle.branch_tree.specs.Claims.{IsProved, EndsInTime, HasOpenLeaf}
 use Rattle.branch_tree.specs.Meanings.{Meanings}
 use Rattle.branch_tree.specs.Trees.{branchings_of, bounds_of}
@@ -10,24 +11,24 @@ use Rattle.search.specs.declared.found.Found.{Found}
 use Rattle.search.specs.declared.found.Found.TheVariants.{Optimal, Infeasible, Bounded}
 
 -- a solution with its cost, where there is one
-abbrev pub plan_in : Option Best → Option Priced
+abbrev pub plan_in : Option Best → Option CostedPicks
 plan_in None = None
 plan_in (Some best) = Some (record { cost = best.cost.0; picks = best.picks })
 
 -- the conclusion that no solution costs less than a bound, with a solution where there is one
-abbrev pub bounded_with : ℤ → Option Priced → Conclusion
+abbrev pub bounded_with : ℤ → Option CostedPicks → Conclusion
 bounded_with bound None = bounded bound
 bounded_with bound (Some plan) = bounded_plan bound plan
 
 -- what is concluded
-abbrev pub conclusion_of : Found → Conclusion
-conclusion_of (Optimal picks cost tree) = optimal (record { cost = cost.0; picks = picks })
-conclusion_of (Infeasible tree) = infeasible
-conclusion_of (Bounded best bound tree) = bounded_with bound.0 (plan_in best)
+abbrev pub conclusion_found : Found → Conclusion
+conclusion_found (Optimal picks cost tree) = optimal (record { cost = cost.0; picks = picks })
+conclusion_found (Infeasible tree) = infeasible
+conclusion_found (Bounded best bound tree) = bounded_with bound.0 (plan_in best)
 
 -- the solution that was found, where one was
-abbrev pub plan_found : Found → Option Priced
-plan_found found = plan_of (conclusion_of found)
+abbrev pub plan_found : Found → Option CostedPicks
+plan_found found = concluded_plan (conclusion_found found)
 
 -- the nodes of the tree
 abbrev pub nodes_found : Found → List Node
@@ -50,7 +51,7 @@ IsBounded found = ⊥
 -- What a search with so many branchings granted has found of the solutions in a root region.
 pub record IsSolved (problem : Meanings) (root : List (List Bool)) (grant : ℕ) (found : Found) : Type 0 where
   -- its tree proves what it concludes
-  pub proved : IsProved problem root (conclusion_of found) (branchings_of (nodes_found found)) (nodes_found found)
+  pub proved : IsProved problem root (conclusion_found found) (branchings_of (nodes_found found)) (nodes_found found)
   -- its tree does not end early
   pub in_time : EndsInTime problem root (plan_found found) (nodes_found found)
   -- no more branchings are made than are granted

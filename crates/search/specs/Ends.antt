@@ -2,7 +2,7 @@
 use Rattle.std.specs.Prelude.{ℕ, ◌≡◌, ◌+◌, ◌≤◌, ◌⊎◌, List, Bool, true, false, Option, Some, None}
 use Rattle.rail_base.specs.declared.numbers.Money.{Money}
 use Rattle.branch_tree.specs.declared.tree.Node.{Node}
-use Rattle.branch_tree.specs.Claims.{Priced, is_below, open_leaves_of}
+use Rattle.branch_tree.specs.Claims.{CostedPicks, is_below, open_leaves_of}
 use Rattle.branch_tree.specs.Trees.{IsLeastOf, bounds_of, branchings_of}
 use Rattle.search.specs.declared.found.Best.{Best}
 use Rattle.search.specs.declared.found.Found.{Found}
@@ -31,14 +31,14 @@ pub record IsFoundBy (best : Option Best) (tree : List Node) (found : Found) : T
   pub is : found ≡ found_by least best tree
 
 -- how many branchings are made and leaves are open
-abbrev pub made_or_open : Option Priced → List Node → ℕ
+abbrev pub made_or_open : Option CostedPicks → List Node → ℕ
 made_or_open best nodes = branchings_of nodes + open_leaves_of best nodes
 
 -- all branchings that were granted are made, or no leaf is open
-abbrev pub HasEnded : ℕ → Option Priced → List Node → Type 0
+abbrev pub HasEnded : ℕ → Option CostedPicks → List Node → Type 0
 HasEnded grant best nodes = (branchings_of nodes ≡ grant) ⊎ (open_leaves_of best nodes ≡ 0)
 
 -- so many more times as there are more branchings and open leaves, at least
-abbrev pub HaveKeptUp : Option Priced → List Node → Option Priced → List Node → (ℕ → Type 0) → Type 0
+abbrev pub HaveKeptUp : Option CostedPicks → List Node → Option CostedPicks → List Node → (ℕ → Type 0) → Type 0
 HaveKeptUp best nodes later more Times =
     (times : ℕ) × (made_or_open later more ≤ made_or_open best nodes + times) × Times times

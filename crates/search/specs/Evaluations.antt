@@ -6,13 +6,13 @@ use Rattle.branch_tree.specs.declared.relaxation.Weight.TheVariants.{Cost, NoCos
 use Rattle.branch_tree.specs.declared.tree.Node.{Node}
 use Rattle.branch_tree.specs.declared.tree.Node.TheVariants.{RayLeaf, EmptyLeaf}
 use Rattle.branch_tree.specs.Bounds.{IsChainValue, IsChoice, IsEmpty}
-use Rattle.branch_tree.specs.Claims.{Priced, IsRay, is_below}
+use Rattle.branch_tree.specs.Claims.{CostedPicks, IsRay, is_below}
 use Rattle.branch_tree.specs.Meanings.{Meanings, DoFitFor, priced}
 use Rattle.search.specs.declared.evaluation.Ending.{Ending}
 use Rattle.search.specs.declared.evaluation.Ending.TheVariants.{Empty, Ray}
 use Rattle.search.specs.declared.evaluation.Evaluation.{Evaluation}
-use Rattle.search.specs.declared.evaluation.Outcome.{Outcome}
-use Rattle.search.specs.declared.evaluation.Outcome.TheVariants.{Ended, Open}
+use Rattle.search.specs.declared.evaluation.EvaluationEnd.{EvaluationEnd}
+use Rattle.search.specs.declared.evaluation.EvaluationEnd.TheVariants.{Ended, Open}
 
 -- why a region has no solution: nothing is near it, or its chain value without cost is positive under multipliers that
 -- fit
@@ -39,20 +39,20 @@ pub record LeaveOpen (problem : Meanings) (region : List (List Bool)) (picks : L
   pub no_ray : HasNoRay problem region (problem.broken picks ∷ [])
 
 -- picks are a solution and the best one costs no more, or they leave the region open
-abbrev pub AreSettled : Meanings → List (List Bool) → Option Priced → List ℕ → Type 0
+abbrev pub AreSettled : Meanings → List (List Bool) → Option CostedPicks → List ℕ → Type 0
 AreSettled problem region best picks =
     (problem.IsSolution picks × (is_below (problem.cost picks) best ≡ false)) ⊎ LeaveOpen problem region picks
 
 -- the ray that ends an evaluation: the multiplier that is named for the choice, where the choice is no solution; or,
 -- where the choice is settled and shows no ray, the multipliers themselves
-abbrev pub IsFirstRay : Meanings → List (List Bool) → List Entry → Option Priced → List ℕ → List Entry → Type 0
+abbrev pub IsFirstRay : Meanings → List (List Bool) → List Entry → Option CostedPicks → List ℕ → List Entry → Type 0
 IsFirstRay problem region multipliers best picks ray =
     ((problem.IsSolution picks → ⊥) × (ray ≡ problem.broken picks ∷ [])) ⊎
     (AreSettled problem region best picks × (0 < length multipliers) × (ray ≡ multipliers))
 
 -- how the evaluation of a region under multipliers ends: nothing is near the region; the multiplier that is named for
 -- the choice, or the multipliers themselves, are a ray; or neither is shown
-abbrev pub IsOutcome : Meanings → List (List Bool) → List Entry → Option Priced → Outcome → Type 0
+abbrev pub IsOutcome : Meanings → List (List Bool) → List Entry → Option CostedPicks → EvaluationEnd → Type 0
 IsOutcome problem region multipliers best (Ended Empty) = IsEmpty problem region
 IsOutcome problem region multipliers best (Ended (Ray ray)) = IsEnding problem region (Ray ray) ×
     ((picks : List ℕ) × IsChoice problem region multipliers Cost picks ×
@@ -62,7 +62,7 @@ IsOutcome problem region multipliers best (Open evaluation) = IsEvaluated proble
     (0 < length multipliers → HasNoRay problem region multipliers)
 
 -- what settling picks near a region shows: that the multiplier named for them is a ray, or how they are settled
-abbrev pub IsSettledAs : Meanings → List (List Bool) → Option Priced → List ℕ → Option (List Entry) → Type 0
+abbrev pub IsSettledAs : Meanings → List (List Bool) → Option CostedPicks → List ℕ → Option (List Entry) → Type 0
 IsSettledAs problem region best picks None = AreSettled problem region best picks
 IsSettledAs problem region best picks (Some named) =
     IsEnding problem region (Ray named) × (problem.IsSolution picks → ⊥) × (named ≡ problem.broken picks ∷ [])

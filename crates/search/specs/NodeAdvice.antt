@@ -56,7 +56,7 @@ CallTest A = A → Look → Proposed → Result Word NoMemory → Proposed → B
 
 -- an advisor was shown a node in a round and given a proposal that is empty, and then it answered this and left this
 -- proposal
-pub record IsAnswered {A : Type 0} (has_answered : CallTest A) (problem : Meanings) (round : ℕ) (work : Work)
+pub record HasAdvised {A : Type 0} (has_answered : CallTest A) (problem : Meanings) (round : ℕ) (work : Work)
     (advisor : A) (answer : Result Word NoMemory) (proposal : Proposed) : Type 0 where
   pub look : Look
   pub given : Proposed

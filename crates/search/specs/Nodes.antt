@@ -8,7 +8,7 @@ use Rattle.branch_tree.specs.declared.tree.Node.{Node}
 use Rattle.branch_tree.specs.declared.tree.Node.TheVariants.{Branch, CostLeaf}
 use Rattle.branch_tree.specs.declared.relaxation.Weight.TheVariants.{Cost}
 use Rattle.branch_tree.specs.Bounds.{IsChoice}
-use Rattle.branch_tree.specs.Claims.{Priced, IsProvedAt, IsRaisedAt, IsSettledAt, IsNotEvident, is_below}
+use Rattle.branch_tree.specs.Claims.{CostedPicks, IsProvedAt, IsRaisedAt, IsSettledAt, IsNotEvident, is_below}
 use Rattle.branch_tree.specs.Claims.{is_open}
 use Rattle.branch_tree.specs.Cuts.{side_of, IsProper}
 use Rattle.branch_tree.specs.Meanings.{Meanings, DoFitFor}
@@ -40,7 +40,7 @@ CanBranch problem region (Fixed node) = ⊥
 CanBranch problem region (Pending node) = IsPending problem region node
 
 -- what a node proves of its region; and where it is open, it can be branched
-pub record IsNodeOf (problem : Meanings) (best : Option Priced) (region : List (List Bool)) (node : SearchNode) :
+pub record IsNodeOf (problem : Meanings) (best : Option CostedPicks) (region : List (List Bool)) (node : SearchNode) :
     Type 0 where
   pub proved : IsProvedAt problem region (tree_node node)
   pub raised : IsRaisedAt problem region (tree_node node)
@@ -48,25 +48,25 @@ pub record IsNodeOf (problem : Meanings) (best : Option Priced) (region : List (
   pub branches : is_open best (tree_node node) ≡ true → CanBranch problem region node
 
 -- a leaf over a region
-pub record IsLeafOf (problem : Meanings) (best : Option Priced) (region : List (List Bool)) (node : SearchNode) :
+pub record IsLeafOf (problem : Meanings) (best : Option CostedPicks) (region : List (List Bool)) (node : SearchNode) :
     Type 0 where
   pub leaf : cut_at node ≡ None
   pub known : IsNodeOf problem best region node
 
 -- all picks of a region are in the root
-abbrev pub IsWithin : List (List Bool) → List (List Bool) → Type 0
-IsWithin root region = (picks : List ℕ) → IsTrue (are_in picks region) → IsTrue (are_in picks root)
+abbrev pub IsSubregion : List (List Bool) → List (List Bool) → Type 0
+IsSubregion root region = (picks : List ℕ) → IsTrue (are_in picks region) → IsTrue (are_in picks root)
 
 -- what is known of a node and of its region below the root
-pub record IsPlaced (problem : Meanings) (root : List (List Bool)) (best : Option Priced) (region : List (List Bool))
-    (node : SearchNode) : Type 0 where
+pub record IsPlaced (problem : Meanings) (root : List (List Bool)) (best : Option CostedPicks)
+    (region : List (List Bool)) (node : SearchNode) : Type 0 where
   pub known : IsNodeOf problem best region node
   pub over : IsOver problem.trips problem.catalogue region
-  pub within : IsWithin root region
+  pub within : IsSubregion root region
 
 -- the nodes are one tree over the root, in preorder, and the best plan is a solution in the root
-pub record IsSearched (problem : Meanings) (root : List (List Bool)) (best : Option Priced) (nodes : List SearchNode) :
-    Type 0 where
+pub record IsSearched (problem : Meanings) (root : List (List Bool)) (best : Option CostedPicks)
+    (nodes : List SearchNode) : Type 0 where
   pub walks : Walks cut_at problem.catalogue (IsPlaced problem root best) (root ∷ []) nodes
   pub plan : HasPlanIn problem root best
 
@@ -102,7 +102,7 @@ branched nodes place cut left right =
     take place nodes ++ (Fixed (Branch cut) ∷ left ∷ right ∷ drop (suc place) nodes)
 
 -- a division of the open node at a place of searched nodes
-pub record IsDivisionAt (problem : Meanings) (best : Option Priced) (nodes : List SearchNode) (place : ℕ)
+pub record IsDivisionAt (problem : Meanings) (best : Option CostedPicks) (nodes : List SearchNode) (place : ℕ)
     (division : Division) : Type 0 where
   pub node : PendingNode
   pub within : place < length nodes

@@ -5,14 +5,14 @@ use Rattle.branch_tree.specs.declared.cuts.Cut.{Cut}
 use Rattle.branch_tree.specs.declared.multipliers.Entry.{Entry}
 use Rattle.branch_tree.specs.declared.relaxation.Weight.TheVariants.{Cost}
 use Rattle.branch_tree.specs.Bounds.{IsChainValue}
-use Rattle.branch_tree.specs.Claims.{Priced, IsNoBetter, IsNotEvident, is_below}
+use Rattle.branch_tree.specs.Claims.{CostedPicks, IsNoBetter, IsNotEvident, is_below}
 use Rattle.branch_tree.specs.Meanings.{Meanings}
 use Rattle.branch_tree.specs.declared.tree.Node.TheVariants.{CostLeaf}
 use Rattle.advisors.specs.Proposed.{Proposed}
 use Rattle.search.specs.declared.evaluation.Ending.{Ending}
 use Rattle.search.specs.declared.evaluation.Evaluation.{Evaluation}
-use Rattle.search.specs.declared.evaluation.Outcome.{Outcome}
-use Rattle.search.specs.declared.evaluation.Outcome.TheVariants.{Ended, Open}
+use Rattle.search.specs.declared.evaluation.EvaluationEnd.{EvaluationEnd}
+use Rattle.search.specs.declared.evaluation.EvaluationEnd.TheVariants.{Ended, Open}
 use Rattle.search.specs.declared.nodes.SearchNode.{SearchNode}
 use Rattle.search.specs.declared.nodes.SearchNode.TheVariants.{Fixed, Pending}
 use Rattle.search.specs.declared.work.Work.{Work}
@@ -22,7 +22,7 @@ use Rattle.search.specs.Evaluations.{IsEnding, IsEvaluated, IsOutcome, leaf_of}
 -- value with no multipliers, and its end, where it has one, is one of its region. The kept picks are no better than the
 -- best solution. The kept value is at least the first one; and where that leaves room for a better solution, the end of
 -- the region is not evident.
-pub record IsWorkedOn (problem : Meanings) (best : Option Priced) (work : Work) : Type 0 where
+pub record IsWorkedOn (problem : Meanings) (best : Option CostedPicks) (work : Work) : Type 0 where
   pub kept : IsEvaluated problem work.region work.kept
   pub last : IsEvaluated problem work.region work.last
   pub first : IsChainValue problem work.region [] Cost work.first.0
@@ -48,8 +48,8 @@ left_by below None = below
 left_by below (Some ending) = false
 
 -- whether a node may have a better solution than the best one
-abbrev pub is_left_open : Option Priced → Work → Bool
-is_left_open best work = left_by (is_below work.kept.value.0 best) work.end
+abbrev pub is_open_work : Option CostedPicks → Work → Bool
+is_open_work best work = left_by (is_below work.kept.value.0 best) work.end
 
 -- a leaf with a bound: it can be branched where the bound leaves room for a better solution
 abbrev pub node_by : ℕ → Bool → Work → SearchNode
@@ -69,7 +69,7 @@ ended_by node None = node
 ended_by node (Some ending) = Fixed (leaf_of ending)
 
 -- the node of the search that a node in work becomes
-abbrev pub node_from : ℕ → Option Priced → Work → SearchNode
+abbrev pub node_from : ℕ → Option CostedPicks → Work → SearchNode
 node_from number best work = ended_by (node_by number (is_below work.kept.value.0 best) work) work.end
 
 -- a node in work after an evaluation that shows no end
@@ -85,24 +85,24 @@ or_else None earlier = earlier
 or_else (Some cut) earlier = Some cut
 
 -- a node in work after an evaluation, which shows its end or none
-abbrev pub after_outcome : Work → Outcome → Work
+abbrev pub after_outcome : Work → EvaluationEnd → Work
 after_outcome work (Ended ending) = record work { end = Some ending }
 after_outcome work (Open evaluation) = learned work evaluation
 
 -- a node in work was evaluated under multipliers
-pub record IsConsidered (problem : Meanings) (best : Option Priced) (multipliers : List Entry) (before after : Work) :
-    Type 0 where
-  pub outcome : Outcome
+pub record IsConsidered (problem : Meanings) (best : Option CostedPicks) (multipliers : List Entry)
+    (before after : Work) : Type 0 where
+  pub outcome : EvaluationEnd
   pub is : IsOutcome problem before.region multipliers best outcome
   pub node : after ≡ after_outcome before outcome
 
 -- a node in work was evaluated under the multipliers that it inherits, where there are such and it was open; else it
 -- and the best solution are as they were
-pub record HasInherited (problem : Meanings) (earlier best : Option Priced) (inherited : List Entry)
+pub record HasInherited (problem : Meanings) (earlier best : Option CostedPicks) (inherited : List Entry)
     (before after : Work) : Type 0 where
-  pub considered : is_left_open earlier before ≡ true → 0 < length inherited →
+  pub considered : is_open_work earlier before ≡ true → 0 < length inherited →
       IsConsidered problem best inherited before after
-  pub closed : is_left_open earlier before ≡ false → (after ≡ before) × (best ≡ earlier)
+  pub closed : is_open_work earlier before ≡ false → (after ≡ before) × (best ≡ earlier)
   pub none : inherited ≡ [] → (after ≡ before) × (best ≡ earlier)
 
 -- a node in work with a cut that is proposed, where one is, in place of an earlier one
@@ -110,8 +110,8 @@ abbrev pub remembering : Option Cut → Work → Work
 remembering cut work = record work { cut = or_else cut work.cut }
 
 -- a proposal was taken up: its cut is remembered, and under its multipliers, where it has any, the node was evaluated
-pub record IsTakenUp (problem : Meanings) (earlier best : Option Priced) (proposal : Proposed) (before after : Work) :
-    Type 0 where
+pub record IsTakenUp (problem : Meanings) (earlier best : Option CostedPicks) (proposal : Proposed)
+    (before after : Work) : Type 0 where
   pub considered : 0 < length proposal.multipliers →
       IsConsidered problem best proposal.multipliers (remembering proposal.cut before) after
   pub none : proposal.multipliers ≡ [] → (after ≡ remembering proposal.cut before) × (best ≡ earlier)

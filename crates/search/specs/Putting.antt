@@ -2,7 +2,7 @@
 use Rattle.std.specs.Prelude.{ℕ, ◌≡◌, ◌+◌, List, [], Bool, Option, true, false, length, replicate}
 use Rattle.std.specs.List.{insert}
 use Rattle.branch_tree.specs.declared.multipliers.Entry.{Entry}
-use Rattle.branch_tree.specs.Claims.{Priced, is_open}
+use Rattle.branch_tree.specs.Claims.{CostedPicks, is_open}
 use Rattle.branch_tree.specs.Meanings.{Meanings}
 use Rattle.search.specs.declared.nodes.SearchNode.{SearchNode}
 use Rattle.search.specs.declared.nodes.SearchNode.TheVariants.{Fixed, Pending}
@@ -10,8 +10,8 @@ use Rattle.search.specs.declared.solving.Search.{Search}
 use Rattle.search.specs.Conclusions.{plan_in}
 use Rattle.search.specs.Frontiers.{IsEntered}
 use Rattle.search.specs.declared.nodes.Division.{Division}
-use Rattle.search.specs.declared.evaluation.Outcome.{Outcome}
-use Rattle.search.specs.declared.evaluation.Outcome.TheVariants.{Ended, Open}
+use Rattle.search.specs.declared.evaluation.EvaluationEnd.{EvaluationEnd}
+use Rattle.search.specs.declared.evaluation.EvaluationEnd.TheVariants.{Ended, Open}
 use Rattle.search.specs.declared.work.Work.{Work}
 use Rattle.search.specs.Evaluations.{IsOutcome, leaf_of}
 use Rattle.search.specs.Nodes.{IsDivisionAt, IsLeafOf, branched, tree_node}
@@ -27,8 +27,8 @@ IsNumbered number (Fixed node) = Unit {0}
 IsNumbered number (Pending node) = node.number ≡ number
 
 -- so many rounds of advice were made about a node, before which no advisor had enough
-abbrev pub AreAdvised : {A : Type 0} → (A → Bool) → CallTest A → Meanings → ℕ → List A → List A → Option Priced →
-    Option Priced → Work → Work → Type 0
+abbrev pub AreAdvised : {A : Type 0} → (A → Bool) → CallTest A → Meanings → ℕ → List A → List A → Option CostedPicks →
+    Option CostedPicks → Work → Work → Type 0
 AreAdvised has_quit has_answered problem rounds advisors later earlier best before after = (enough : List Bool) ×
     AreRounds has_quit has_answered problem rounds
     (record {
@@ -44,13 +44,13 @@ AreAdvised has_quit has_answered problem rounds advisors later earlier best befo
 -- of advice were made.
 pub record IsInheritedAndAdvised {A : Type 0} (has_quit : A → Bool) (has_answered : CallTest A) (problem : Meanings)
     (root : List (List Bool)) (rounds : ℕ) (inherited : List Entry) (advisors later : List A)
-    (earlier best : Option Priced) (before after : Work) : Type 0 where
-  pub middle : Option Priced
+    (earlier best : Option CostedPicks) (before after : Work) : Type 0 where
+  pub middle : Option CostedPicks
   pub with_inherited : Work
   pub first : HasInherited problem earlier middle inherited before with_inherited
   pub offered : IsOffered problem before.region earlier middle
   pub attempts : ℕ
-  pub improved : Option Priced
+  pub improved : Option CostedPicks
   pub with_improved : Work
   pub improvements : AreImproved problem root attempts middle improved with_inherited with_improved
   pub asked : AreAdvised has_quit has_answered problem rounds advisors later improved best with_improved after
@@ -58,7 +58,7 @@ pub record IsInheritedAndAdvised {A : Type 0} (has_quit : A → Bool) (has_answe
 -- what a node is made of after the first evaluation of its region: the end that this shows, about which nothing is
 -- asked; or what it inherits, the improvements and the rounds of advice
 abbrev pub IsMadeAfter : {A : Type 0} → (A → Bool) → CallTest A → Meanings → List (List Bool) → ℕ → List A → List A →
-    Option Priced → Option Priced → List (List Bool) → List Entry → ℕ → Outcome → SearchNode → Type 0
+    Option CostedPicks → Option CostedPicks → List (List Bool) → List Entry → ℕ → EvaluationEnd → SearchNode → Type 0
 IsMadeAfter has_quit has_answered problem root rounds advisors later middle best region inherited number (Ended ending)
     node = (node ≡ Fixed (leaf_of ending)) × (best ≡ middle) × (later ≡ advisors)
 IsMadeAfter has_quit has_answered problem root rounds advisors later middle best region inherited number
@@ -69,10 +69,10 @@ IsMadeAfter has_quit has_answered problem root rounds advisors later middle best
 -- a cheaper one of the region; and then, where that leaves it open, under those that it inherits and as the improver
 -- and the advisors propose.
 pub record IsMade {A : Type 0} (has_quit : A → Bool) (has_answered : CallTest A) (problem : Meanings)
-    (root : List (List Bool)) (rounds : ℕ) (advisors later : List A) (earlier best : Option Priced)
+    (root : List (List Bool)) (rounds : ℕ) (advisors later : List A) (earlier best : Option CostedPicks)
     (region : List (List Bool)) (inherited : List Entry) (number : ℕ) (node : SearchNode) : Type 0 where
-  pub middle : Option Priced
-  pub outcome : Outcome
+  pub middle : Option CostedPicks
+  pub outcome : EvaluationEnd
   pub first : IsOutcome problem region [] middle outcome
   pub offered : IsOffered problem region earlier middle
   pub after : IsMadeAfter has_quit has_answered problem root rounds advisors later middle best region inherited number
@@ -87,8 +87,8 @@ pub record IsPut (problem : Meanings) (region : List (List Bool)) (place : ℕ) 
   pub number : IsNumbered (length before.nodes.items) node
   pub made : Made node
   pub nodes : after.nodes.items ≡ insert before.nodes.items place node
-  pub entered : (best : Option Priced) → IsEntered best after.frontier node
-  pub others : (best : Option Priced) (other : SearchNode) →
+  pub entered : (best : Option CostedPicks) → IsEntered best after.frontier node
+  pub others : (best : Option CostedPicks) (other : SearchNode) →
       IsEntered best before.frontier other → IsEntered best after.frontier other
   pub done : is_open (plan_in after.best) (tree_node node) ≡ true → Done
 
@@ -97,7 +97,7 @@ pub record IsPut (problem : Meanings) (region : List (List Bool)) (place : ℕ) 
 -- then of the second. The nodes are made of the sides of the division, which inherit its multipliers: that of the first
 -- side before that of the second.
 pub record IsBranchedAt {A : Type 0} (has_quit : A → Bool) (has_answered : CallTest A) (problem : Meanings)
-    (root : List (List Bool)) (rounds : ℕ) (advisors later : List A) (best best' : Option Priced)
+    (root : List (List Bool)) (rounds : ℕ) (advisors later : List A) (best best' : Option CostedPicks)
     (before after : List SearchNode) (place : ℕ) : Type 0 where
   pub division : Division
   pub left : SearchNode
@@ -106,7 +106,7 @@ pub record IsBranchedAt {A : Type 0} (has_quit : A → Bool) (has_answered : Cal
   pub nodes : after ≡ branched before place division.cut left right
   pub left_number : IsNumbered (length before) left
   pub right_number : IsNumbered (length before + 1) right
-  pub middle : Option Priced
+  pub middle : Option CostedPicks
   pub first : IsOffered problem root best middle
   pub second : IsOffered problem root middle best'
   pub between : List A

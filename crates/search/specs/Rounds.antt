@@ -1,23 +1,23 @@
 -- Rounds of advice: what the advisors of a node make of it, one after another.
 use Rattle.std.specs.Prelude.{ℕ, zero, suc, ◌≡◌, List, length, get_or, set, Bool, true, false, Option, Ok}
-use Rattle.branch_tree.specs.Claims.{Priced}
+use Rattle.branch_tree.specs.Claims.{CostedPicks}
 use Rattle.branch_tree.specs.Meanings.{Meanings}
 use Rattle.advisors.specs.declared.advisor.Word.{Word}
 use Rattle.advisors.specs.Proposed.{Proposed}
 use Rattle.search.specs.declared.rounds.NodeAdvice.{NodeAdvice}
 use Rattle.search.specs.declared.work.Work.{Work}
-use Rattle.search.specs.NodeAdvice.{CallTest, IsAnswered, is_enough}
-use Rattle.search.specs.NodesInWork.{IsTakenUp, is_left_open}
+use Rattle.search.specs.NodeAdvice.{CallTest, HasAdvised, is_enough}
+use Rattle.search.specs.NodesInWork.{IsTakenUp, is_open_work}
 use Rattle.search.specs.Offers.{IsOffered}
 
 -- how far the advice on a node has come: the advisors, which of them have enough, the best solution, and the node
 pub record AdviceState (A : Type 0) : Type 0 where
   pub advisors : List A
   pub enough : List Bool
-  pub best : Option Priced
+  pub best : Option CostedPicks
   pub work : Work
 
-abbrev pub advice_state : {A : Type 0} → List A → NodeAdvice → Option Priced → Work → AdviceState A
+abbrev pub advice_state : {A : Type 0} → List A → NodeAdvice → Option CostedPicks → Work → AdviceState A
 advice_state advisors advice best work = record {
   advisors = advisors;
   enough = advice.has_enough.items;
@@ -27,13 +27,13 @@ advice_state advisors advice best work = record {
 
 -- the advisor at a place is to be asked: the node is open, and it has not said `Enough` for this node and has not quit
 pub record IsToBeAsked {A : Type 0} (has_quit : A → Bool) (place : ℕ) (state : AdviceState A) : Type 0 where
-  pub left_open : is_left_open state.best state.work ≡ true
+  pub left_open : is_open_work state.best state.work ≡ true
   pub more : get_or state.enough place false ≡ false
   pub stays : (none : A) → has_quit (get_or state.advisors place none) ≡ false
 
 -- a proposal was taken up, where the advisor has not quit; and where it has, the node and the best solution are as they
 -- were
-pub record IsUsed (has_quit : Bool) (problem : Meanings) (earlier best : Option Priced) (proposal : Proposed)
+pub record IsUsed (has_quit : Bool) (problem : Meanings) (earlier best : Option CostedPicks) (proposal : Proposed)
     (before after : Work) : Type 0 where
   pub taken_up : has_quit ≡ false → IsTakenUp problem earlier best proposal before after
   pub left : has_quit ≡ true → (after ≡ before) × (best ≡ earlier)
@@ -45,7 +45,7 @@ pub record WasAsked {A : Type 0} (has_quit : A → Bool) (has_answered : CallTes
   pub advisor : A
   pub word : Word
   pub proposal : Proposed
-  pub answered : IsAnswered has_answered problem round before.work advisor (Ok word) proposal
+  pub answered : HasAdvised has_answered problem round before.work advisor (Ok word) proposal
   pub advisors : after.advisors ≡ set before.advisors place advisor
   pub enough : after.enough ≡ set before.enough place (is_enough word)
   pub used : IsUsed (has_quit advisor) problem before.best after.best proposal before.work after.work

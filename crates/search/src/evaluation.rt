@@ -38,7 +38,7 @@ pub(crate) enum Ending {
 
 /// How an evaluation ends.
 #[derive(Drop)]
-pub(crate) enum Outcome {
+pub(crate) enum EvaluationEnd {
     /// The region has no solution.
     Ended(Ending),
     /// The region may have a solution.
@@ -78,28 +78,28 @@ pub(crate) fn evaluate<R: Relaxation>(
     region: &Region,
     multipliers: Multipliers,
     best: &mut Option<Best>,
-) -> Result<Outcome, NoMemory>
+) -> Result<EvaluationEnd, NoMemory>
     requires fits { DoFitFor (R.meanings (R.problem problem.old)) multipliers }
     requires region { length region.now ≡ (R.meanings (R.problem problem.old)).trips }
     ensures same { R.problem problem.new ≡ R.problem problem.old }
     ensures offered { OnOk result (IsOffered (R.meanings (R.problem problem.old)) region.now (plan_in best.old)
         (plan_in best.new)) }
-    ensures accepted { OnOk result (R.IsAccepted (R.problem problem.old)) }
+    ensures accepted { OnOk result (R.IsWellPosed (R.problem problem.old)) }
     ensures outcome { IfOk result (IsOutcome (R.meanings (R.problem problem.old)) region.now multipliers
         (plan_in best.new)) }
 {
     let mut picks = Picks::new(alloc, problem.trips())?;
     let BoundAnswer::Value(value) = problem.bound(region, &multipliers, Weight::Cost, &mut picks)
     else {
-        return Ok(Outcome::Ended(Ending::Empty));
+        return Ok(EvaluationEnd::Ended(Ending::Empty));
     };
     if let Some(named) = settle(alloc, problem, region, &picks, best)? {
-        return Ok(Outcome::Ended(Ending::Ray(named)));
+        return Ok(EvaluationEnd::Ended(Ending::Ray(named)));
     }
     if multipliers.len() > 0 && is_ray(alloc, problem, region, &multipliers)? {
-        return Ok(Outcome::Ended(Ending::Ray(multipliers)));
+        return Ok(EvaluationEnd::Ended(Ending::Ray(multipliers)));
     }
-    Ok(Outcome::Open(Evaluation {
+    Ok(EvaluationEnd::Open(Evaluation {
         value,
         multipliers,
         picks,
@@ -116,7 +116,7 @@ fn settle<R: Relaxation>(
     best: &mut Option<Best>,
 ) -> Result<Option<Multipliers>, NoMemory>
     requires region { length region.now ≡ (R.meanings (R.problem problem.old)).trips }
-    requires accepted { R.IsAccepted (R.problem problem.old) }
+    requires accepted { R.IsWellPosed (R.problem problem.old) }
     requires near { (R.meanings (R.problem problem.old)).AreNear picks.now region.now }
     ensures same { R.problem problem.new ≡ R.problem problem.old }
     ensures offered { OnOk result (IsOffered (R.meanings (R.problem problem.old)) region.now (plan_in best.old)

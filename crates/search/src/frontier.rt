@@ -2,8 +2,8 @@
 
 ghost use Rattle.std.specs.Prelude.{◌≡◌, ◌<◌, true, false, length, get_or, All, IfSome, MatchOption, OnOk, Option};
 ghost use Rattle.std.specs.BTreeMap.{ContainsKey, IsEmpty, IsLowerBound};
-ghost use Rattle.branch_tree.specs.Claims.{Priced};
-ghost use Rattle.search.specs.Frontiers.{HasLeastRank, IsEntered, IsOpenAt, can_improve, has_rank, rank_order};
+ghost use Rattle.branch_tree.specs.Claims.{CostedPicks};
+ghost use Rattle.search.specs.Frontiers.{HasLeastRank, IsEntered, IsOpenAt, is_open_node, has_rank, rank_order};
 ghost use Rattle.search.specs.Conclusions.{plan_in};
 ghost use Rattle.search.specs.declared.nodes.SearchNode.{SearchNode};
 
@@ -33,8 +33,8 @@ impl Frontier {
 
     /// Enters a node, where it may be branched. The error is want of memory.
     pub(crate) fn enter(&mut self, node: &SearchNode) -> Result<(), NoMemory>
-        ensures node { OnOk result ((best : Option Priced) → IsEntered best self.new node.now) }
-        ensures others { OnOk result ((best : Option Priced) (other : SearchNode) →
+        ensures node { OnOk result ((best : Option CostedPicks) → IsEntered best self.new node.now) }
+        ensures others { OnOk result ((best : Option CostedPicks) (other : SearchNode) →
             IsEntered best self.old other → IsEntered best self.new other) }
     {
         if let SearchNode::Pending(node) = node {
@@ -47,7 +47,7 @@ impl Frontier {
     pub(crate) fn next_open(&mut self, nodes: &[SearchNode], best: &Option<Best>) -> Option<usize>
         requires entered { All (IsEntered (plan_in best.now) self.old) nodes.now }
         ensures entered { All (IsEntered (plan_in best.now) self.new) nodes.now }
-        ensures next { MatchOption result (All (λ node. can_improve (plan_in best.now) node ≡ false) nodes.now)
+        ensures next { MatchOption result (All (λ node. is_open_node (plan_in best.now) node ≡ false) nodes.now)
             (IsOpenAt (plan_in best.now) nodes.now) }
         ensures least { IfSome result (HasLeastRank (plan_in best.now) nodes.now) }
     {

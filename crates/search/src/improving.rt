@@ -3,7 +3,7 @@
 ghost use Rattle.std.specs.Prelude.{◌≡◌, ℕ, length, OnOk};
 ghost use Rattle.search.specs.Conclusions.{plan_in};
 ghost use Rattle.search.specs.Improvements.{AreImproved, AreProposed, IsProposed};
-ghost use Rattle.search.specs.Nodes.{IsWithin};
+ghost use Rattle.search.specs.Nodes.{IsSubregion};
 ghost use Rattle.search.specs.NodesInWork.{IsWorkedOn};
 ghost use Rattle.search.specs.Offers.{IsOffered};
 
@@ -17,7 +17,7 @@ use std::alloc::Global;
 use timetable::Picks;
 
 /// How often an improver is asked about one node at most.
-const MOST_ATTEMPTS: u32 = 10_000;
+const MAX_ATTEMPTS: u32 = 10_000;
 
 /// What is shown to an improver of one node beside its evaluations.
 #[derive(Drop)]
@@ -51,7 +51,7 @@ pub(crate) fn improve<R: Relaxation, I: Improver>(
     improver: &mut I,
 ) -> Result<(), NoMemory>
     requires region { length work.old.region ≡ (R.meanings (R.problem problem.old)).trips }
-    requires within { IsWithin root.now work.old.region }
+    requires within { IsSubregion root.now work.old.region }
     requires worked { IsWorkedOn (R.meanings (R.problem problem.old)) (plan_in best.old) work.old }
     ensures same { R.problem problem.new ≡ R.problem problem.old }
     ensures region { OnOk result (work.new.region ≡ work.old.region) }
@@ -66,7 +66,7 @@ pub(crate) fn improve<R: Relaxation, I: Improver>(
         number: 0,
         slacks: Slacks::new(alloc)?,
     };
-    for made in 0..MOST_ATTEMPTS {
+    for made in 0..MAX_ATTEMPTS {
         if !work.is_open(best) {
             return Ok(());
         }

@@ -9,10 +9,10 @@ ghost use Rattle.advisors.specs.Quits.{quit_after};
 ghost use Rattle.advisors.specs.Proposals.{IsOverSame};
 ghost use Rattle.search.specs.Questions.{AreAsked, AreTheSame, CanAsk, IsAskedAt, MayBeAsked, in_rounds, once};
 ghost use Rattle.search.specs.Questions.{AreAskedOnce, AreLeftAlone};
-ghost use Rattle.search.specs.NodeAdvice.{AreStillNoted, IsAdviceFor, IsAnswered, is_enough};
+ghost use Rattle.search.specs.NodeAdvice.{AreStillNoted, IsAdviceFor, HasAdvised, is_enough};
 ghost use Rattle.search.specs.Offers.{IsOffered};
 ghost use Rattle.search.specs.Conclusions.{plan_in};
-ghost use Rattle.search.specs.NodesInWork.{IsWorkedOn, is_left_open};
+ghost use Rattle.search.specs.NodesInWork.{IsWorkedOn, is_open_work};
 ghost use Rattle.search.specs.Rounds.{AreRounds, WasAsked, WereAskedInOrder, advice_state};
 
 use crate::found::Best;
@@ -50,7 +50,7 @@ pub(crate) fn make_rounds<R: Relaxation>(
     requires advice { IsAdviceFor (R.meanings (R.problem problem.old)) work.old.region
         (length advisors.old.items) advice.old }
     requires unasked { once advice.old.has_enough.items ≡ 1 }
-    requires rounds { advice.old.shown.rounds ≡ 0 }
+    requires rounds { advice.old.shown.rounds_made ≡ 0 }
 
     // The problem, and the node.
     ensures same { R.problem problem.new ≡ R.problem problem.old }
@@ -62,11 +62,12 @@ pub(crate) fn make_rounds<R: Relaxation>(
     // The advisors: that one of the same identity stands at each place, and how often it was asked.
     ensures advisors { AreTheSame advisors.old.items advisors.new.items identity }
     ensures asked { AreAsked advisors.old.items advisors.new.items asked has_quit 0 rounds }
-    ensures least { OnOk result (is_left_open (plan_in best.new) work.new ≡ true →
+    ensures least { OnOk result (is_open_work (plan_in best.new) work.new ≡ true →
         AreAsked advisors.old.items advisors.new.items asked has_quit (in_rounds rounds 1) rounds) }
 
     // The rounds: where their count stands, where the node is left open; and what they make of it.
-    ensures rounds { OnOk result (is_left_open (plan_in best.new) work.new ≡ true → advice.new.shown.rounds ≡ rounds) }
+    ensures rounds { OnOk result (is_open_work (plan_in best.new) work.new ≡ true
+        → advice.new.shown.rounds_made ≡ rounds) }
     ensures made { OnOk result (AreRounds has_quit has_answered (R.meanings (R.problem problem.old)) rounds
         (advice_state advisors.old.items advice.old (plan_in best.old) work.old)
         (advice_state advisors.new.items advice.new (plan_in best.new) work.new)) }
@@ -94,7 +95,7 @@ fn make_round<R: Relaxation>(
     requires room { MayBeAsked advisors.old.items asked 1 }
     requires advice { IsAdviceFor (R.meanings (R.problem problem.old)) work.old.region
         (length advisors.old.items) advice.old }
-    requires rounds { advice.old.shown.rounds + 1 < 2 ^ 8 }
+    requires rounds { advice.old.shown.rounds_made + 1 < 2 ^ 8 }
 
     // The problem, and the node.
     ensures same { R.problem problem.new ≡ R.problem problem.old }
@@ -107,23 +108,23 @@ fn make_round<R: Relaxation>(
     // asked.
     ensures advice { OnOk result
         (IsAdviceFor (R.meanings (R.problem problem.old)) work.old.region (length advisors.old.items) advice.new) }
-    ensures rounds { OnOk result (is_left_open (plan_in best.new) work.new ≡ true →
-        advice.new.shown.rounds ≡ advice.old.shown.rounds + 1) }
+    ensures rounds { OnOk result (is_open_work (plan_in best.new) work.new ≡ true →
+        advice.new.shown.rounds_made ≡ advice.old.shown.rounds_made + 1) }
     ensures advisors { AreTheSame advisors.old.items advisors.new.items identity }
     ensures asked { AreAsked advisors.old.items advisors.new.items asked has_quit 0 1 }
-    ensures least { OnOk result (is_left_open (plan_in best.new) work.new ≡ true →
+    ensures least { OnOk result (is_open_work (plan_in best.new) work.new ≡ true →
         AreAsked advisors.old.items advisors.new.items asked has_quit (once advice.old.has_enough.items) 1) }
 
     // What the round makes of the node.
     ensures in_order { OnOk result (WereAskedInOrder has_quit has_answered (R.meanings (R.problem problem.old))
-        advice.old.shown.rounds (length advisors.old.items)
+        advice.old.shown.rounds_made (length advisors.old.items)
         (advice_state advisors.old.items advice.old (plan_in best.old) work.old)
         (advice_state advisors.new.items advice.new (plan_in best.new) work.new)) }
 
     // Those that have enough, and the others.
     ensures noted { OnOk result (AreStillNoted advice.old.has_enough.items advice.new.has_enough.items) }
     ensures alone { AreLeftAlone advisors.old.items advisors.new.items advice.old.has_enough.items }
-    ensures each { OnOk result (is_left_open (plan_in best.new) work.new ≡ true →
+    ensures each { OnOk result (is_open_work (plan_in best.new) work.new ≡ true →
         AreAskedOnce advisors.old.items advisors.new.items asked has_quit advice.old.has_enough.items
         (length advisors.old.items)) }
 {
@@ -139,7 +140,7 @@ fn make_round<R: Relaxation>(
         }
         take_advice(alloc, problem, work, best, advice, advisors, place)?;
     }
-    advice.shown.rounds += 1;
+    advice.shown.rounds_made += 1;
     Ok(())
 }
 
@@ -156,7 +157,7 @@ fn take_advice<R: Relaxation>(
 ) -> Result<Word, NoMemory>
     requires region { length work.old.region ≡ (R.meanings (R.problem problem.old)).trips }
     requires worked { IsWorkedOn (R.meanings (R.problem problem.old)) (plan_in best.old) work.old }
-    requires open { is_left_open (plan_in best.old) work.old ≡ true }
+    requires open { is_open_work (plan_in best.old) work.old ≡ true }
     requires ask { CanAsk advisors.old.items asked has_quit place }
     requires again { get_or advice.old.has_enough.items place false ≡ false }
     requires advice { IsAdviceFor (R.meanings (R.problem problem.old)) work.old.region
@@ -175,9 +176,9 @@ fn take_advice<R: Relaxation>(
         (IsAdviceFor (R.meanings (R.problem problem.old)) work.old.region (length advisors.old.items) advice.new) }
     ensures enough { IfOk result (λ word. advice.new.has_enough.items ≡
         set advice.old.has_enough.items place (is_enough word)) }
-    ensures rounds { OnOk result (advice.new.shown.rounds ≡ advice.old.shown.rounds) }
+    ensures rounds { OnOk result (advice.new.shown.rounds_made ≡ advice.old.shown.rounds_made) }
     ensures was_asked { OnOk result (WasAsked has_quit has_answered (R.meanings (R.problem problem.old))
-        advice.old.shown.rounds place (advice_state advisors.old.items advice.old (plan_in best.old) work.old)
+        advice.old.shown.rounds_made place (advice_state advisors.old.items advice.old (plan_in best.old) work.old)
         (advice_state advisors.new.items advice.new (plan_in best.new) work.new)) }
     ensures advisors { AreTheSame advisors.old.items advisors.new.items identity }
     ensures asked { IsAskedAt advisors.old.items advisors.new.items asked has_quit place }
@@ -217,11 +218,12 @@ fn ask<R: Relaxation>(
     ensures quit { has_quit advisor.new ≡ quit_after result }
     ensures advisor { identity advisor.new ≡ identity advisor.old }
     ensures over { IsOverSame advice.old.proposal advice.new.proposal }
-    ensures rounds { advice.new.shown.rounds ≡ advice.old.shown.rounds }
+    ensures rounds { advice.new.shown.rounds_made ≡ advice.old.shown.rounds_made }
     ensures sizes { advice.new.shown.sizes ≡ advice.old.shown.sizes }
     ensures has_enough { IfOk result (λ word. advice.new.has_enough.items ≡
         set advice.old.has_enough.items place (is_enough word)) }
-    ensures answered { IsAnswered has_answered (R.meanings (R.problem problem.old)) advice.old.shown.rounds work.now
+    ensures answered { HasAdvised has_answered
+        (R.meanings (R.problem problem.old)) advice.old.shown.rounds_made work.now
         advisor.new result advice.new.proposal }
 {
     problem.slacks(work.last_picks(), &mut advice.shown.slacks);
@@ -263,11 +265,11 @@ impl NodeAdvice {
         ensures advice { IfOk result (IsAdviceFor (R.meanings (R.problem problem.now)) region.now advisors) }
         ensures once { IfOk result (λ advice. once advice.has_enough.items ≡ 1) }
         ensures none { IfOk result (λ advice. advice.has_enough.items ≡ replicate advisors false) }
-        ensures rounds { IfOk result (λ advice. advice.shown.rounds ≡ 0) }
+        ensures rounds { IfOk result (λ advice. advice.shown.rounds_made ≡ 0) }
     {
         Ok(NodeAdvice {
             shown: Shown {
-                rounds: 0,
+                rounds_made: 0,
                 sizes: sizes_of(alloc, region)?,
                 slacks: Slacks::new(alloc)?,
             },

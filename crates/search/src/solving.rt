@@ -3,8 +3,8 @@
 
 ghost use Rattle.std.specs.Prelude.{ℕ, List, [], ◌∷◌, Bool, Option, ◌≡◌, ◌+◌, ◌*◌, ◌<◌, ◌≤◌, ◌^◌, true, length, All};
 ghost use Rattle.std.specs.Prelude.{IfOk, None, OnOk};
-ghost use Rattle.rail_base.specs.declared.limits.TheConstants.{MOST_BRANCHINGS, MOST_NODES, MOST_ROUNDS};
-ghost use Rattle.branch_tree.specs.Claims.{IsConcluded, Priced, is_open, open_leaves_of};
+ghost use Rattle.rail_base.specs.declared.limits.TheConstants.{MAX_BRANCHINGS, MAX_NODES, MAX_ROUNDS};
+ghost use Rattle.branch_tree.specs.Claims.{IsConcluded, CostedPicks, is_open, open_leaves_of};
 ghost use Rattle.branch_tree.specs.Meanings.{DoFitFor};
 ghost use Rattle.branch_tree.specs.Regions.{IsOver};
 ghost use Rattle.branch_tree.specs.Trees.{branchings_of};
@@ -13,12 +13,12 @@ ghost use Rattle.search.specs.Questions.{AreAsked, AreTheSame, MayBeAsked, in_ro
 ghost use Rattle.search.specs.Ends.{HasEnded, HaveKeptUp, IsFoundBy, found_by, made_or_open};
 ghost use Rattle.search.specs.Frontiers.{HasLeastRank, IsEntered, IsOpenAt};
 ghost use Rattle.search.specs.Putting.{AreAdvised, IsBranchedAt, IsInheritedAndAdvised, IsMade, IsNumbered, IsPut};
-ghost use Rattle.search.specs.Nodes.{IsDivisionAt, IsLeafOf, IsSearched, IsWithin, tree_node, tree_nodes};
+ghost use Rattle.search.specs.Nodes.{IsDivisionAt, IsLeafOf, IsSearched, IsSubregion, tree_node, tree_nodes};
 ghost use Rattle.search.specs.Offers.{IsOffered};
-ghost use Rattle.search.specs.Conclusions.{IsSolved, conclusion_of, nodes_found, plan_found, plan_in};
-ghost use Rattle.search.specs.NodesInWork.{IsWorkedOn, is_left_open};
+ghost use Rattle.search.specs.Conclusions.{IsSolved, conclusion_found, nodes_found, plan_found, plan_in};
+ghost use Rattle.search.specs.NodesInWork.{IsWorkedOn, is_open_work};
 
-use crate::evaluation::{Outcome, evaluate, is_below};
+use crate::evaluation::{EvaluationEnd, evaluate, is_below};
 use crate::found::{Best, Found};
 use crate::frontier::Frontier;
 use crate::improving::improve;
@@ -80,15 +80,15 @@ pub fn solve<R: Relaxation>(
 ) -> Result<Found, NoMemory>
     requires over { IsOver (R.meanings (R.problem problem.old)).trips
         (R.meanings (R.problem problem.old)).catalogue root.now }
-    requires grant { grant ≤ MOST_BRANCHINGS }
-    requires rounds { rounds ≤ MOST_ROUNDS }
+    requires grant { grant ≤ MAX_BRANCHINGS }
+    requires rounds { rounds ≤ MAX_ROUNDS }
     requires asked { All (λ advisor. asked advisor ≤ 2 ^ 63) advisors.old.items }
 
     // The problem, and what was found.
     ensures same { R.problem problem.new ≡ R.problem problem.old }
     ensures solved { IfOk result (IsSolved (R.meanings (R.problem problem.old)) root.now grant) }
     ensures holds { IfOk result (λ found. IsConcluded (R.meanings (R.problem problem.old)) root.now
-        (conclusion_of found)) }
+        (conclusion_found found)) }
 
     // The advisors: that one of the same identity stands at each place, and how often it was asked.
     ensures advisors { AreTheSame advisors.old.items advisors.new.items identity }
@@ -121,15 +121,15 @@ pub fn solve_with<R: Relaxation, I: Improver>(
 ) -> Result<Found, NoMemory>
     requires over { IsOver (R.meanings (R.problem problem.old)).trips
         (R.meanings (R.problem problem.old)).catalogue root.now }
-    requires grant { allowed.branchings ≤ MOST_BRANCHINGS }
-    requires rounds { allowed.rounds ≤ MOST_ROUNDS }
+    requires grant { allowed.branchings ≤ MAX_BRANCHINGS }
+    requires rounds { allowed.rounds ≤ MAX_ROUNDS }
     requires asked { All (λ advisor. asked advisor ≤ 2 ^ 63) advisors.old.items }
 
     // The problem, and what was found.
     ensures same { R.problem problem.new ≡ R.problem problem.old }
     ensures solved { IfOk result (IsSolved (R.meanings (R.problem problem.old)) root.now allowed.branchings) }
     ensures holds { IfOk result (λ found. IsConcluded (R.meanings (R.problem problem.old)) root.now
-        (conclusion_of found)) }
+        (conclusion_found found)) }
 
     // The advisors: that one of the same identity stands at each place, and how often it was asked.
     ensures advisors { AreTheSame advisors.old.items advisors.new.items identity }
@@ -165,13 +165,13 @@ fn run<R: Relaxation, I: Improver>(
 ) -> Result<Search, NoMemory>
     requires over { IsOver (R.meanings (R.problem problem.old)).trips
         (R.meanings (R.problem problem.old)).catalogue root.now }
-    requires grant { grant ≤ MOST_BRANCHINGS }
-    requires rounds { rounds ≤ MOST_ROUNDS }
+    requires grant { grant ≤ MAX_BRANCHINGS }
+    requires rounds { rounds ≤ MAX_ROUNDS }
     requires asked { All (λ advisor. asked advisor ≤ 2 ^ 63) advisors.old.items }
 
     // The problem, and the nodes.
     ensures same { R.problem problem.new ≡ R.problem problem.old }
-    ensures accepted { OnOk result (R.IsAccepted (R.problem problem.old)) }
+    ensures accepted { OnOk result (R.IsWellPosed (R.problem problem.old)) }
     ensures searched { IfOk result (λ search. IsSearched (R.meanings (R.problem problem.old)) root.now
         (plan_in search.best) search.nodes.items) }
     ensures granted { IfOk result (λ search. branchings_of (tree_nodes search.nodes.items) ≤ grant) }
@@ -210,7 +210,7 @@ impl Search {
 
         // The problem, and the nodes.
         ensures same { R.problem problem.new ≡ R.problem problem.old }
-        ensures accepted { OnOk result (R.IsAccepted (R.problem problem.old)) }
+        ensures accepted { OnOk result (R.IsWellPosed (R.problem problem.old)) }
         ensures searched { IfOk result (λ search. IsSearched (R.meanings (R.problem problem.old)) root.now
             (plan_in search.best) search.nodes.items) }
         ensures entered { IfOk result (λ search.
@@ -251,11 +251,11 @@ impl Search {
         improver: &mut I,
         advisors: &mut Vec<Box<dyn Advisor>>,
     ) -> Result<(), NoMemory>
-        requires accepted { R.IsAccepted (R.problem problem.old) }
+        requires accepted { R.IsWellPosed (R.problem problem.old) }
         requires searched { IsSearched (R.meanings (R.problem problem.old)) root.now (plan_in self.old.best)
             self.old.nodes.items }
         requires entered { All (IsEntered (plan_in self.old.best) self.old.frontier) self.old.nodes.items }
-        requires few { length self.old.nodes.items < MOST_NODES }
+        requires few { length self.old.nodes.items < MAX_NODES }
         requires open { IsOpenAt (plan_in self.old.best) self.old.nodes.items place }
         requires least { HasLeastRank (plan_in self.old.best) self.old.nodes.items place }
         requires room { MayBeAsked advisors.old.items asked (2 * rounds) }
@@ -324,16 +324,16 @@ impl Search {
         improver: &mut I,
         advisors: &mut Vec<Box<dyn Advisor>>,
     ) -> Result<(), NoMemory>
-        requires few { length self.old.nodes.items ≤ MOST_NODES }
+        requires few { length self.old.nodes.items ≤ MAX_NODES }
         requires place { place ≤ length self.old.nodes.items }
         requires region { length region ≡ (R.meanings (R.problem problem.old)).trips }
-        requires within { IsWithin root.now region }
+        requires within { IsSubregion root.now region }
         requires fits { DoFitFor (R.meanings (R.problem problem.old)) inherited.now }
         requires room { MayBeAsked advisors.old.items asked rounds }
         ensures same { R.problem problem.new ≡ R.problem problem.old }
         ensures offered { OnOk result (IsOffered (R.meanings (R.problem problem.old)) root.now (plan_in self.old.best)
             (plan_in self.new.best)) }
-        ensures accepted { OnOk result (R.IsAccepted (R.problem problem.old)) }
+        ensures accepted { OnOk result (R.IsWellPosed (R.problem problem.old)) }
         ensures put { OnOk result (IsPut (R.meanings (R.problem problem.old)) region place self.old self.new
             (IsMade has_quit has_answered (R.meanings (R.problem problem.old)) root.now rounds advisors.old.items
             advisors.new.items (plan_in self.old.best) (plan_in self.new.best) region inherited.now
@@ -366,7 +366,7 @@ impl Search {
         problem: &R,
         place: usize,
     ) -> Result<Division, NoMemory>
-        requires accepted { R.IsAccepted (R.problem problem.now) }
+        requires accepted { R.IsWellPosed (R.problem problem.now) }
         requires searched { (root : List (List Bool)) ×
             IsSearched (R.meanings (R.problem problem.now)) root (plan_in self.now.best) self.now.nodes.items }
         requires open { IsOpenAt (plan_in self.now.best) self.now.nodes.items place }
@@ -382,7 +382,7 @@ impl Search {
 
     /// What was found. The error is want of memory.
     fn finish(self, alloc: Global) -> Result<Found, NoMemory>
-        requires { length self.nodes.items ≤ MOST_NODES }
+        requires { length self.nodes.items ≤ MAX_NODES }
         ensures { IfOk result (IsFoundBy self.best (tree_nodes self.nodes.items)) }
     {
         let tree = into_tree(alloc, self.nodes)?;
@@ -393,7 +393,7 @@ impl Search {
 
 /// The tree of the nodes. The error is want of memory.
 fn into_tree(alloc: Global, mut nodes: Vec<SearchNode>) -> Result<Tree, NoMemory>
-    requires { length nodes.items ≤ MOST_NODES }
+    requires { length nodes.items ≤ MAX_NODES }
     ensures { IfOk result (λ tree. tree ≡ tree_nodes nodes.items) }
 {
     // The nodes leave from the end, so the first one is put there.
@@ -435,7 +435,7 @@ fn make_node<R: Relaxation, I: Improver>(
     advisors: &mut Vec<Box<dyn Advisor>>,
 ) -> Result<SearchNode, NoMemory>
     requires region { length region ≡ (R.meanings (R.problem problem.old)).trips }
-    requires within { IsWithin root.now region }
+    requires within { IsSubregion root.now region }
     requires fits { DoFitFor (R.meanings (R.problem problem.old)) inherited.now }
     requires room { MayBeAsked advisors.old.items asked rounds }
 
@@ -443,7 +443,7 @@ fn make_node<R: Relaxation, I: Improver>(
     ensures same { R.problem problem.new ≡ R.problem problem.old }
     ensures offered { OnOk result (IsOffered (R.meanings (R.problem problem.old)) root.now (plan_in best.old)
         (plan_in best.new)) }
-    ensures accepted { OnOk result (R.IsAccepted (R.problem problem.old)) }
+    ensures accepted { OnOk result (R.IsWellPosed (R.problem problem.old)) }
     ensures node { IfOk result (IsLeafOf (R.meanings (R.problem problem.old)) (plan_in best.new) region) }
     ensures number { IfOk result (IsNumbered number) }
     ensures made { IfOk result (IsMade has_quit has_answered (R.meanings (R.problem problem.old)) root.now rounds
@@ -458,8 +458,8 @@ fn make_node<R: Relaxation, I: Improver>(
     let none = Multipliers::new(alloc)?;
     let outcome = evaluate(alloc, problem, &region, none, best)?;
     match outcome {
-        Outcome::Ended(ending) => Ok(SearchNode::Fixed(ending.into_leaf())),
-        Outcome::Open(evaluation) => {
+        EvaluationEnd::Ended(ending) => Ok(SearchNode::Fixed(ending.into_leaf())),
+        EvaluationEnd::Open(evaluation) => {
             let mut work = Work::new(alloc, region, evaluation)?;
             let worked = work_on(
                 alloc, problem, root, &mut work, number, inherited, best, rounds, improver,
@@ -485,7 +485,7 @@ fn work_on<R: Relaxation, I: Improver>(
     advisors: &mut Vec<Box<dyn Advisor>>,
 ) -> Result<(), NoMemory>
     requires region { length work.old.region ≡ (R.meanings (R.problem problem.old)).trips }
-    requires within { IsWithin root.now work.old.region }
+    requires within { IsSubregion root.now work.old.region }
     requires worked { IsWorkedOn (R.meanings (R.problem problem.old)) (plan_in best.old) work.old }
     requires fits { DoFitFor (R.meanings (R.problem problem.old)) inherited.now }
     requires room { MayBeAsked advisors.old.items asked rounds }
@@ -500,7 +500,7 @@ fn work_on<R: Relaxation, I: Improver>(
     // The advisors: that one of the same identity stands at each place, and how often it was asked.
     ensures advisors { AreTheSame advisors.old.items advisors.new.items identity }
     ensures asked { AreAsked advisors.old.items advisors.new.items asked has_quit 0 rounds }
-    ensures least { OnOk result (is_left_open (plan_in best.new) work.new ≡ true →
+    ensures least { OnOk result (is_open_work (plan_in best.new) work.new ≡ true →
         AreAsked advisors.old.items advisors.new.items asked has_quit (in_rounds rounds 1) rounds) }
 
     // What is inherited, the improvements and the rounds make of the node.
@@ -537,7 +537,7 @@ fn advise<R: Relaxation>(
     // make of the node.
     ensures advisors { AreTheSame advisors.old.items advisors.new.items identity }
     ensures asked { AreAsked advisors.old.items advisors.new.items asked has_quit 0 rounds }
-    ensures least { OnOk result (is_left_open (plan_in best.new) work.new ≡ true →
+    ensures least { OnOk result (is_open_work (plan_in best.new) work.new ≡ true →
         AreAsked advisors.old.items advisors.new.items asked has_quit (in_rounds rounds 1) rounds) }
     ensures advised { OnOk result (AreAdvised has_quit has_answered (R.meanings (R.problem problem.old)) rounds
         advisors.old.items advisors.new.items (plan_in best.old) (plan_in best.new) work.old work.new) }

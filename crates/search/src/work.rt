@@ -6,13 +6,13 @@ ghost use Rattle.branch_tree.specs.Meanings.{DoFitFor};
 ghost use Rattle.branch_tree.specs.Sets.{size_of};
 ghost use Rattle.search.specs.Improvements.{AreTried, IsSeenOf, IsUsedUp};
 ghost use Rattle.search.specs.NodeAdvice.{IsLookAt};
-ghost use Rattle.search.specs.Nodes.{IsWithin};
+ghost use Rattle.search.specs.Nodes.{IsSubregion};
 ghost use Rattle.search.specs.Offers.{IsOffered};
 ghost use Rattle.search.specs.Conclusions.{plan_in};
 ghost use Rattle.search.specs.NodesInWork.{HasInherited, IsConsidered, IsTakenUp, IsWorkedOn};
-ghost use Rattle.search.specs.NodesInWork.{begun, is_left_open, learned, node_from, remembering};
+ghost use Rattle.search.specs.NodesInWork.{begun, is_open_work, learned, node_from, remembering};
 
-use crate::evaluation::{Ending, Evaluation, Outcome, evaluate, is_below};
+use crate::evaluation::{Ending, Evaluation, EvaluationEnd, evaluate, is_below};
 use crate::found::Best;
 use crate::improving::{Attempt, offer_solutions};
 use crate::nodes::{PendingNode, SearchNode};
@@ -44,7 +44,7 @@ pub(crate) struct Work {
 #[derive(Drop)]
 pub(crate) struct Shown {
     /// How many rounds of advice were made before.
-    pub rounds: u8,
+    pub rounds_made: u8,
     /// How many compositions each trip of its region has.
     pub sizes: Vec<u32>,
     /// The slacks of its last picks.
@@ -95,10 +95,10 @@ impl Work {
     pub(crate) fn look<'a, R: Relaxation>(&'a self, problem: &R, shown: &'a Shown) -> Look<'a>
         requires sizes { shown.now.sizes.items ≡ map size_of self.now.region }
         requires slacks { AreSlacks (R.meanings (R.problem problem.now)) self.now.last.picks shown.now.slacks }
-        ensures { IsLookAt (R.meanings (R.problem problem.now)) shown.now.rounds self.now result }
+        ensures { IsLookAt (R.meanings (R.problem problem.now)) shown.now.rounds_made self.now result }
     {
         Look {
-            round: shown.rounds,
+            round: shown.rounds_made,
             sizes: &shown.sizes,
             first: self.first,
             kept: self.kept.value,
@@ -135,7 +135,7 @@ impl Work {
 
     /// Whether the node may still have a better solution than the best one.
     pub(crate) fn is_open(&self, best: &Option<Best>) -> bool
-        ensures { result ≡ is_left_open (plan_in best.now) self.now }
+        ensures { result ≡ is_open_work (plan_in best.now) self.now }
     {
         self.end.is_none() && is_below(self.kept.value, best)
     }
@@ -151,7 +151,7 @@ impl Work {
     ) -> Result<(), NoMemory>
         requires fits { DoFitFor (R.meanings (R.problem problem.old)) multipliers }
         requires region { length self.old.region ≡ (R.meanings (R.problem problem.old)).trips }
-        requires open { is_left_open (plan_in best.old) self.old ≡ true }
+        requires open { is_open_work (plan_in best.old) self.old ≡ true }
         requires worked { IsWorkedOn (R.meanings (R.problem problem.old)) (plan_in best.old) self.old }
         ensures same { R.problem problem.new ≡ R.problem problem.old }
         ensures region { OnOk result (self.new.region ≡ self.old.region) }
@@ -162,8 +162,8 @@ impl Work {
             multipliers self.old self.new) }
     {
         match evaluate(alloc, problem, &self.region, multipliers, best)? {
-            Outcome::Ended(ending) => self.end = Some(ending),
-            Outcome::Open(evaluation) => self.learn(alloc, evaluation)?,
+            EvaluationEnd::Ended(ending) => self.end = Some(ending),
+            EvaluationEnd::Open(evaluation) => self.learn(alloc, evaluation)?,
         }
         Ok(())
     }
@@ -206,7 +206,7 @@ impl Work {
         requires indices { proposal.now.indices ≡ (R.meanings (R.problem problem.old)).indices }
         requires free_from { proposal.now.free_from ≡ (R.meanings (R.problem problem.old)).free_from }
         requires region { length self.old.region ≡ (R.meanings (R.problem problem.old)).trips }
-        requires open { is_left_open (plan_in best.old) self.old ≡ true }
+        requires open { is_open_work (plan_in best.old) self.old ≡ true }
         requires worked { IsWorkedOn (R.meanings (R.problem problem.old)) (plan_in best.old) self.old }
         ensures same { R.problem problem.new ≡ R.problem problem.old }
         ensures region { OnOk result (self.new.region ≡ self.old.region) }
@@ -234,7 +234,7 @@ impl Work {
         best: &mut Option<Best>,
     ) -> Result<(), NoMemory>
         requires region { length self.old.region ≡ (R.meanings (R.problem problem.old)).trips }
-        requires within { IsWithin root.now self.old.region }
+        requires within { IsSubregion root.now self.old.region }
         requires worked { IsWorkedOn (R.meanings (R.problem problem.old)) (plan_in best.old) self.old }
         ensures same { R.problem problem.new ≡ R.problem problem.old }
         ensures region { OnOk result (self.new.region ≡ self.old.region) }

@@ -2,7 +2,7 @@
 use Rattle.std.specs.Prelude.{ℕ, ◌≡◌, ◌≢◌, ◌⊎◌, ◌≤◌, List, Option, Result, Ok, Err}
 use Rattle.std.specs.Global.{Vec}
 use Rattle.rail_base.specs.declared.memory.NoMemory.{NoMemory}
-use Rattle.rail_io.specs.Folders.{Rose, counted}
+use Rattle.rail_io.specs.Folders.{Rose, incremented}
 use Rattle.rail_io.specs.Sinks.{Appends, AppendsPart}
 
 -- the statuses that there are
@@ -33,11 +33,11 @@ pub data Wrote (IsDocument : List ℕ → Type 0) (said status : ℕ) (before af
 -- a folder's count of failed reads before a run and after it: one more where the status says that a file could not be
 -- read, the same where it is none of 5, 6 and 7, and either of the two where it is 6 or 7
 pub record CountsFailedReads (status before after : ℕ) : Type 0 where
-  pub failed : status ≡ 5 → after ≡ counted before
+  pub failed : status ≡ 5 → after ≡ incremented before
   pub undisturbed : IsUndisturbed status → after ≡ before
-  pub at_most_one : (after ≡ before) ⊎ (after ≡ counted before)
+  pub at_most_one : (after ≡ before) ⊎ (after ≡ incremented before)
 
 -- a sink's count of failed writes before a run and after it: one more where the status is 6, and else the same
 pub record CountsFailedWrites (status before after : ℕ) : Type 0 where
-  pub failed : status ≡ 6 → after ≡ counted before
+  pub failed : status ≡ 6 → after ≡ incremented before
   pub none : status ≢ 6 → after ≡ before

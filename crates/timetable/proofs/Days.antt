@@ -20,7 +20,7 @@ use Rattle.timetable.specs.declared.building.refusal.InstanceRefusal.TheVariants
 use Rattle.timetable.specs.declared.building.tables.Tables.{Tables}
 use Rattle.timetable.specs.Accepted.{IsDay}
 use Rattle.rail_base.specs.Answers.{◌>>=◌}
-use Rattle.rail_base.specs.declared.limits.TheConstants.{MOST_UNITS, MOST_COMPOSITIONS}
+use Rattle.rail_base.specs.declared.limits.TheConstants.{MAX_UNITS, MAX_COMPOSITIONS}
 use Rattle.timetable.specs.Build.{starts_of, catalogue_in, types_in, stations_in, stock_in, trips_in, weights_in}
 use Rattle.timetable.specs.Build.{day_of}
 use Rattle.timetable.specs.Compositions.{greatest_in}
@@ -116,7 +116,7 @@ few_compositions : (types : List UnitType) (stations : List Station) (catalogue 
 unfolding catalogue_in
 few_compositions types stations catalogue e =
     let compositions : List (List ℕ) = catalogue_of types (greatest_in stations) in
-    let (few, same) = guard_ok (nat_lt MOST_COMPOSITIONS (length compositions)) TooManyCompositions (Ok compositions) catalogue e in
+    let (few, same) = guard_ok (nat_lt MAX_COMPOSITIONS (length compositions)) TooManyCompositions (Ok compositions) catalogue e in
     ltb-false 1000 (length compositions) few
 
 pub day_is_made : (tables : Tables) (day : Day) → day_of tables ≡ Ok day → IsMade tables day
@@ -126,11 +126,11 @@ day_is_made tables day e =
     let with_links : List UnitType → List Station → List Stock → List Trip → Result Day InstanceRefusal = λ types stations stock trips. links_in trips tables.links >>= (λ links. Ok (made types stations stock trips links)) in
     let with_trips : List UnitType → List Station → List Stock → Result Day InstanceRefusal = λ types stations stock. trips_in stations types tables.trips >>= (λ trips. with_links types stations stock trips) in
     let with_catalogue : List UnitType → List Station → List Stock → Result Day InstanceRefusal = λ types stations stock. catalogue_in types stations >>= (λ catalogue. with_trips types stations stock) in
-    let with_stock : List UnitType → List Station → List Stock → Result Day InstanceRefusal = λ types stations stock. if nat_lt MOST_UNITS (starts_of stock) then Err TooManyUnits else with_catalogue types stations stock in
+    let with_stock : List UnitType → List Station → List Stock → Result Day InstanceRefusal = λ types stations stock. if nat_lt MAX_UNITS (starts_of stock) then Err TooManyUnits else with_catalogue types stations stock in
     let (types, is_types, e1) = bind_ok (types_in tables.types) (λ types. stations_in tables.stations >>= (λ stations. stock_in stations types tables.stock >>= (λ stock. with_stock types stations stock))) day e in
     let (stations, is_stations, e2) = bind_ok (stations_in tables.stations) (λ stations. stock_in stations types tables.stock >>= (λ stock. with_stock types stations stock)) day e1 in
     let (stock, is_stock, e3) = bind_ok (stock_in stations types tables.stock) (λ stock. with_stock types stations stock) day e2 in
-    let (few, e4) = guard_ok (nat_lt MOST_UNITS (starts_of stock)) TooManyUnits (with_catalogue types stations stock) day e3 in
+    let (few, e4) = guard_ok (nat_lt MAX_UNITS (starts_of stock)) TooManyUnits (with_catalogue types stations stock) day e3 in
     let (catalogue, is_catalogue, e5) = bind_ok (catalogue_in types stations) (λ catalogue. with_trips types stations stock) day e4 in
     let (trips, is_trips, e6) = bind_ok (trips_in stations types tables.trips) (λ trips. with_links types stations stock trips) day e5 in
     let (links, is_links, e7) = bind_ok (links_in trips tables.links) (λ links. Ok (made types stations stock trips links)) day e6 in

@@ -5,7 +5,7 @@ use Rattle.std.specs.Prelude.{min, nat_le, ◌==◌, if◌then◌else◌}
 use Rattle.std.specs.List.{All, position_or_len, list_all}
 use Rattle.std.specs.Prelude.{◌&&◌}
 use Rattle.compositions.specs.UnitTypes.{is_up_to, is_within_limits}
-use Rattle.rail_csv.specs.Rows.{IsWithin}
+use Rattle.rail_csv.specs.Rows.{LiesBetween}
 use Rattle.std.specs.Str.{bytes_eq}
 use Rattle.std.proofs.lemmas.Bool.{ltb-true, leb-false, le-leb, and_from}
 use Rattle.std.proofs.lemmas.List.Sums.{list_all-from_AllPass}
@@ -58,7 +58,7 @@ are_types rows types within e = record {
 -- the types are within the limits of unit types
 type_limits : (row : TypeRow) (t : UnitType) → IsTypeRow row → type_in row ≡ t → is_within_limits t ≡ true
 type_limits row t is_row e =
-    let at : (low high n : ℕ) → IsWithin low high n → (nat_le low n && nat_le n high) ≡ true = λ low high n within. and_from (nat_le low n) (nat_le n high) (le-leb low n within.0) (le-leb n high within.1) in
+    let at : (low high n : ℕ) → LiesBetween low high n → (nat_le low n && nat_le n high) ≡ true = λ low high n within. and_from (nat_le low n) (nat_le n high) (le-leb low n within.0) (le-leb n high within.1) in
     subst (λ (t : UnitType). is_within_limits t ≡ true) e
     (and_from (is_up_to 20 row.carriages && is_up_to 2000 row.seats && is_up_to 500 row.metres) (nat_le row.first 2000)
     (and_from (is_up_to 20 row.carriages && is_up_to 2000 row.seats) (is_up_to 500 row.metres)

@@ -3,7 +3,7 @@ use Rattle.std.proofs.Common.{◌≡◌, ℕ, Bool, true, false, List, [], refl,
 use Rattle.std.specs.Prelude.{nat_lt}
 use Rattle.rail_base.proofs.Answers.{Fails-then}
 use Rattle.rail_base.specs.Answers.{◌>>=◌, Fails}
-use Rattle.rail_base.specs.declared.limits.TheConstants.{MOST_UNITS}
+use Rattle.rail_base.specs.declared.limits.TheConstants.{MAX_UNITS}
 use Rattle.rules.specs.declared.records.UnitType.{UnitType}
 use Rattle.rail_csv.specs.declared.rows.TypeRow.{TypeRow}
 use Rattle.rail_csv.specs.declared.rows.StationRow.{StationRow}
@@ -55,7 +55,7 @@ module _ (type_rows : List TypeRow) (station_rows : List StationRow) (stock_rows
   stock_refuses d ts ss e1 e2 fails = rw (is_types ∙ e1, is_stations ∙ e2) (Fails-then is_memory d (stock_in ss ts stock_rows) _ (rw (is_stock ts ss) fails))
 
   pub units_decide : (ts : List UnitType) (ss : List Station) (ks : List Stock) (many : Bool) → accept_each accept_type types type_rows ≡ Ok ts → accept_each accept_station stations station_rows ≡ Ok ss
-      → accept_each (accept_stock ss ts) stock stock_rows ≡ Ok ks → nat_lt MOST_UNITS (starts_of ks) ≡ many → yards_in type_rows station_rows stock_rows ≡ cond many (Err TooManyUnits) (Ok (ts, ss, ks))
+      → accept_each (accept_stock ss ts) stock stock_rows ≡ Ok ks → nat_lt MAX_UNITS (starts_of ks) ≡ many → yards_in type_rows station_rows stock_rows ≡ cond many (Err TooManyUnits) (Ok (ts, ss, ks))
   unfolding yards_in
   units_decide ts ss ks many e1 e2 e3 e4 = rw (is_types ∙ e1, is_stations ∙ e2, is_stock ts ss ∙ e3, e4) refl
 
@@ -67,7 +67,7 @@ yard_entries type_rows station_rows stock_rows types stations stock made =
     let (ts, is_ts, with_types) = bind_ok (types_in type_rows) _ _ made in
     let (ss, is_ss, with_stations) = bind_ok (stations_in station_rows) _ _ with_types in
     let (ks, is_ks, counted) = bind_ok (stock_in ss ts stock_rows) _ _ with_stations in
-    let (_, few) = guard_ok (nat_lt MOST_UNITS (starts_of ks)) TooManyUnits _ _ counted in
+    let (_, few) = guard_ok (nat_lt MAX_UNITS (starts_of ks)) TooManyUnits _ _ counted in
     let same : ◌≡◌ {A = List UnitType × List Station × List Stock} (ts, ss, ks) (types, stations, stock) = same_ok _ _ few in (
       is_ts ∙ ap (λ (all : List UnitType × List Station × List Stock). Ok all.0) same,
       is_ss ∙ ap (λ (all : List UnitType × List Station × List Stock). Ok all.1) same,
@@ -102,7 +102,7 @@ yards_first tables =
     two_steps (types_in tables.types) _ _ (over_yards tables) (λ types.
     two_steps (stations_in tables.stations) _ _ (over_yards tables) (λ stations.
     two_steps (stock_in stations types tables.stock) _ _ (over_yards tables) (λ stock.
-    guard_steps (nat_lt MOST_UNITS (starts_of stock)) TooManyUnits (types, stations, stock) (over_yards tables))))
+    guard_steps (nat_lt MAX_UNITS (starts_of stock)) TooManyUnits (types, stations, stock) (over_yards tables))))
 
 pub yards_fail : (tables : Tables) (d : InstanceRefusal) → Fails is_memory d (yards_in tables.types tables.stations tables.stock) → Fails is_memory d (day_of tables)
 yards_fail tables d fails = rw (yards_first tables) (Fails-then is_memory d (yards_in tables.types tables.stations tables.stock) (over_yards tables) fails)

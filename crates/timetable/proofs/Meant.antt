@@ -8,7 +8,7 @@ use Rattle.std.proofs.lemmas.Bool.{leb-true, le-leb, lt-leb, le-ltb, false_from_
 use Rattle.std.proofs.lemmas.List.Folds.{Any-from_list_any}
 use Rattle.std.proofs.lemmas.Option.{slice_get_within}
 use Rattle.rail_base.specs.Answers.{◌>>=◌}
-use Rattle.rail_base.specs.declared.limits.TheConstants.{MOST_UNITS, MOST_COMPOSITIONS}
+use Rattle.rail_base.specs.declared.limits.TheConstants.{MAX_UNITS, MAX_COMPOSITIONS}
 use Rattle.compositions.specs.Catalogue.{catalogue_of}
 use Rattle.compositions.specs.Composition.{fits_in}
 use Rattle.rules.specs.declared.records.UnitType.{UnitType}
@@ -118,15 +118,15 @@ stock_made tables day is = all_accepted (accept_stock day.stations day.types) (I
     (λ front row stock rest split of_row. stock_accepted day front row stock is.station_names is.type_names of_row (pair_is_new day.stock front stock rest is.stock_rows split))
     [] tables.stock day.stock refl is.stock
 
-few_units : (tables : Tables) (day : Day) → IsDayOf tables day → nat_lt MOST_UNITS (starts_of day.stock) ≡ false
+few_units : (tables : Tables) (day : Day) → IsDayOf tables day → nat_lt MAX_UNITS (starts_of day.stock) ≡ false
 unfolding units_of
-few_units tables day is = le-ltb MOST_UNITS (starts_of day.stock) (omega (arith, is.units, length-units_in day.stock))
+few_units tables day is = le-ltb MAX_UNITS (starts_of day.stock) (omega (arith, is.units, length-units_in day.stock))
 
 few_compositions : (tables : Tables) (day : Day) → IsDayOf tables day → catalogue_in day.types day.stations ≡ Ok (catalogue_of day.types (greatest_in day.stations))
 unfolding catalogue_in greatest_platform
 few_compositions tables day is =
     let all : List (List ℕ) = catalogue_of day.types (greatest_in day.stations) in
-    unless_ok (nat_lt MOST_COMPOSITIONS (length all)) TooManyCompositions (Ok all) all (le-ltb MOST_COMPOSITIONS (length all) is.compositions) refl
+    unless_ok (nat_lt MAX_COMPOSITIONS (length all)) TooManyCompositions (Ok all) all (le-ltb MAX_COMPOSITIONS (length all) is.compositions) refl
 
 -- ---- trips
 

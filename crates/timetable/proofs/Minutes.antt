@@ -10,7 +10,7 @@ use Rattle.std.proofs.lemmas.Bool.{cases_Bool, cases_lt, cond_both, cond-true, c
 use Rattle.std.proofs.lemmas.Bool.{ltb-false, lt-ltb, le-ltb, eqb-true, eq-eqb, ne_eqb}
 use Rattle.std.proofs.lemmas.List.Elements.{Contains-get_or}
 use Rattle.rules.specs.declared.records.Trip.{Trip}
-use Rattle.rail_base.specs.declared.limits.TheConstants.{MOST_MINUTES}
+use Rattle.rail_base.specs.declared.limits.TheConstants.{MAX_MINUTES}
 use Rattle.timetable.specs.Accepted.{IsDay}
 use Rattle.timetable.specs.Day.{Day, leaves, arrives, from_of}
 use Rattle.timetable.specs.Lists.{of_entry, sum_below}
@@ -263,12 +263,12 @@ are_minutes day s = record {
 }
 
 -- each is within the two days
-pub minutes_within : (day : Day) (s : ℕ) → IsDay day → All (λ m. m < MOST_MINUTES) (minutes_of day s)
+pub minutes_within : (day : Day) (s : ℕ) → IsDay day → All (λ m. m < MAX_MINUTES) (minutes_of day s)
 minutes_within day s sound = λ k d below.
     let minutes : List ℕ = minutes_of day s in
     let at : LeavesAt day s (get_or minutes k d) = (are_minutes day s).left (get_or minutes k d) (Contains-get_or minutes k d below) in
     let time : leaves day at.trip < arrives day at.trip = sound.timetable.time at.trip at.known in
-    let late : arrives day at.trip < MOST_MINUTES = sound.timetable.late at.trip at.known in
+    let late : arrives day at.trip < MAX_MINUTES = sound.timetable.late at.trip at.known in
     let is : leaves day at.trip ≡ get_or minutes k d = at.minute in
     omega arith
 

@@ -8,7 +8,7 @@ use Rattle.std.proofs.lemmas.Bool.{ltb-false, both_ways}
 use Rattle.std.proofs.lemmas.Option.{same_Some, get_or_from_slice_get}
 use Rattle.rail_base.specs.Answers.{Unless, Gives}
 use Rattle.rail_base.proofs.Answers.{Unless-then}
-use Rattle.rail_base.specs.declared.limits.TheConstants.{MOST_UNITS, MOST_COMPOSITIONS}
+use Rattle.rail_base.specs.declared.limits.TheConstants.{MAX_UNITS, MAX_COMPOSITIONS}
 use Rattle.compositions.specs.Catalogue.{catalogue_of}
 use Rattle.compositions.specs.Composition.{fits_in}
 use Rattle.rules.specs.declared.records.UnitType.{UnitType}
@@ -178,14 +178,14 @@ trips_outcome tables stations types made zip named are_types =
 -- ---- all tests
 
 compositions_outcome : (tables : Tables) (types : List UnitType) (stations : List Station) → types ≡ map type_in tables.types → stations ≡ map station_in tables.stations
-    → Outcome (TooManyCompositions when (MOST_COMPOSITIONS < length (compositions_in tables)) ∷ []) (catalogue_in types stations)
+    → Outcome (TooManyCompositions when (MAX_COMPOSITIONS < length (compositions_in tables)) ∷ []) (catalogue_in types stations)
 unfolding catalogue_in
 compositions_outcome tables types stations are_types are_stations =
     let count : List UnitType → List Station → ℕ = λ types stations. length (catalogue_of types (greatest_in stations)) in
     let same : count types stations ≡ length (compositions_in tables) = ap (λ (ts : List UnitType). count ts stations) are_types ∙ ap (count (map type_in tables.types)) are_stations in
-    outcome_guard _ [] (nat_lt MOST_COMPOSITIONS (count types stations)) (Ok (catalogue_of types (greatest_in stations)))
-    (λ many. subst (λ (n : ℕ). MOST_COMPOSITIONS < n) same (ltb-true MOST_COMPOSITIONS (count types stations) many))
-    (λ few many. let within : count types stations ≤ MOST_COMPOSITIONS = ltb-false MOST_COMPOSITIONS (count types stations) few in absurd (omega arith))
+    outcome_guard _ [] (nat_lt MAX_COMPOSITIONS (count types stations)) (Ok (catalogue_of types (greatest_in stations)))
+    (λ many. subst (λ (n : ℕ). MAX_COMPOSITIONS < n) same (ltb-true MAX_COMPOSITIONS (count types stations) many))
+    (λ few many. let within : count types stations ≤ MAX_COMPOSITIONS = ltb-false MAX_COMPOSITIONS (count types stations) few in absurd (omega arith))
     (λ _. outcome_ok _ _)
 
 types_of_rows : (rows : List TypeRow) (types : List UnitType) → types_in rows ≡ Ok types → (types ≡ map type_in rows) × AreNamed (λ row. row.name) (λ t. t.name) rows types
@@ -213,10 +213,10 @@ day_outcome tables =
     let (are_stations, zip, named_stations) = stations_of_rows tables.stations stations is_stations in
     outcome_then (row_tests (stock_tests tables) [] tables.stock) _ (stock_in stations types tables.stock) _ (stock_outcome tables stations types named_stations named_types) (λ stock is_stock.
     let units : starts_of stock ≡ starts_in tables.stock = units_said stations types tables.stock stock is_stock in
-    outcome_guard _ _ (nat_lt MOST_UNITS (starts_of stock)) _
-    (λ many. subst (λ (n : ℕ). MOST_UNITS < n) units (ltb-true MOST_UNITS (starts_of stock) many))
-    (λ few many. let within : starts_of stock ≤ MOST_UNITS = ltb-false MOST_UNITS (starts_of stock) few in absurd (omega arith))
-    (λ few. outcome_then (TooManyCompositions when (MOST_COMPOSITIONS < length (compositions_in tables)) ∷ []) _ (catalogue_in types stations) _ (compositions_outcome tables types stations are_types are_stations) (λ catalogue is_catalogue.
+    outcome_guard _ _ (nat_lt MAX_UNITS (starts_of stock)) _
+    (λ many. subst (λ (n : ℕ). MAX_UNITS < n) units (ltb-true MAX_UNITS (starts_of stock) many))
+    (λ few many. let within : starts_of stock ≤ MAX_UNITS = ltb-false MAX_UNITS (starts_of stock) few in absurd (omega arith))
+    (λ few. outcome_then (TooManyCompositions when (MAX_COMPOSITIONS < length (compositions_in tables)) ∷ []) _ (catalogue_in types stations) _ (compositions_outcome tables types stations are_types are_stations) (λ catalogue is_catalogue.
     outcome_then (row_tests (trip_tests tables) [] tables.trips) _ (trips_in stations types tables.trips) _ (trips_outcome tables stations types is_stations zip named_stations are_types) (λ trips is_trips.
     outcome_made (row_tests (link_tests tables) [] tables.links) (links_in trips tables.links) _ (links_outcome tables stations types trips is_trips)))))))
 

@@ -5,7 +5,7 @@ use Rattle.std.specs.Prelude.{◌==◌, ◌&&◌, if◌then◌else◌}
 use Rattle.std.specs.List.{All, AllPairs, AllZip}
 use Rattle.std.proofs.lemmas.List.Elements.{All-head, All-tail}
 use Rattle.std.proofs.lemmas.Bool.{cases_Bool, and_parts, eqb-true, cond-true, cond-false}
-use Rattle.rail_base.specs.declared.limits.TheConstants.{MOST_STOCK}
+use Rattle.rail_base.specs.declared.limits.TheConstants.{MAX_STOCK}
 use Rattle.rail_csv.specs.declared.rows.StockRow.{StockRow}
 use Rattle.rail_csv.specs.Rows.{IsStockRow}
 use Rattle.rules.specs.declared.records.Stock.{Stock}
@@ -38,18 +38,18 @@ rows_once s m (row ∷ rows) apart =
     let none : cond {A = ℕ} ((row.station == s) && (row.unit_type == m)) 1 0 ≡ 0 = cond-false _ 1 0 isnt in omega arith)
     (cases_Bool ((row.station == s) && (row.unit_type == m)))
 
-one_of : (b : Bool) (n rest : ℕ) → n ≤ MOST_STOCK → rest ≤ MOST_STOCK → (if b then n else rest) ≤ MOST_STOCK
+one_of : (b : Bool) (n rest : ℕ) → n ≤ MAX_STOCK → rest ≤ MAX_STOCK → (if b then n else rest) ≤ MAX_STOCK
 one_of true n rest few others = few
 one_of false n rest few others = others
 
-few_wanted : (day : Day) (rows : List StockRow) (stock : List Stock) (s m : ℕ) → AllZip (IsStockOf day) rows stock → All IsStockRow rows → wanted_in stock s m ≤ MOST_STOCK
+few_wanted : (day : Day) (rows : List StockRow) (stock : List Stock) (s m : ℕ) → AllZip (IsStockOf day) rows stock → All IsStockRow rows → wanted_in stock s m ≤ MAX_STOCK
 few_wanted day [] [] s m are within = omega arith
 few_wanted day [] (entry ∷ stock) s m are within = absurd are
 few_wanted day (row ∷ rows) [] s m are within = absurd are
 few_wanted day (row ∷ rows) (entry ∷ stock) s m are within =
     let first : IsStockRow row = All-head IsStockRow row rows within in
     one_of ((entry.station == s) && (entry.unit_type == m)) entry.end (wanted_in stock s m)
-    (subst (λ (n : ℕ). n ≤ MOST_STOCK) (sym are.0.end) first.end.1) (few_wanted day rows stock s m are.1 (All-tail IsStockRow row rows within))
+    (subst (λ (n : ℕ). n ≤ MAX_STOCK) (sym are.0.end) first.end.1) (few_wanted day rows stock s m are.1 (All-tail IsStockRow row rows within))
 
 pub stocked : (day : Day) (rows : List StockRow) → AllPairs IsOtherStock day.stock → AllZip (IsStockOf day) rows day.stock → All IsStockRow rows → IsStocked day
 unfolding wanted_of

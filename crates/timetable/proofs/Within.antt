@@ -21,7 +21,7 @@ use Rattle.timetable.specs.Handovers.{second_of, IsHandover}
 use Rattle.timetable.specs.LinkRows.{NamesBelow}
 use Rattle.timetable.specs.Links.{arriving_in, departing_in}
 use Rattle.timetable.specs.Lists.{has, count_of}
-use Rattle.timetable.specs.Within.{AreWeights, EachPair, IsLinkAt, IsWithin}
+use Rattle.timetable.specs.Within.{AreWeights, EachPair, IsLinkAt, IsDayWithin}
 use Rattle.timetable.proofs.Days.{IsMade, day_is_made, units_within}
 use Rattle.timetable.proofs.Entries.{are_types, are_stations, are_stock, are_trips}
 use Rattle.timetable.proofs.Linking.{are_links, do_all_meet}
@@ -44,7 +44,7 @@ links_within day links meet l d below =
     }
 
 -- the entries of the day of tables whose rows keep within the rules
-pub entries_within : (tables : Tables) (day : Day) → AreTypeRows tables.types → AreStationRows tables.stations → AreTripRows tables.trips → IsWeightsRow tables.weights → day_of tables ≡ Ok day → IsWithin day
+pub entries_within : (tables : Tables) (day : Day) → AreTypeRows tables.types → AreStationRows tables.stations → AreTripRows tables.trips → IsWeightsRow tables.weights → day_of tables ≡ Ok day → IsDayWithin day
 unfolding units_of
 entries_within tables day types stations trips weights e =
     let made : IsMade tables day = day_is_made tables day e in

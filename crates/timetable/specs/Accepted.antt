@@ -1,11 +1,11 @@
 -- What laws ask of a day; each day that was accepted has it.
 use Rattle.std.specs.Prelude.{ℕ, ◌+◌, ◌*◌, ◌<◌, ◌≤◌, ◌≡◌, length, List, [], ◌∷◌, ◌==◌, ◌&&◌, true, if◌then◌else◌, All}
 use Rattle.std.specs.Prelude.{IsTrue, Some, slice_get}
-use Rattle.rail_base.specs.declared.limits.TheConstants.{MOST_CARRIAGES, MOST_SEATS, MOST_FIRST_SEATS, MOST_METRES}
-use Rattle.rail_base.specs.declared.limits.TheConstants.{MOST_MINUTES, MOST_KM, MOST_DEMAND, MOST_FIRST_DEMAND}
-use Rattle.rail_base.specs.declared.limits.TheConstants.{MOST_PLATFORM, MOST_REALLOCATION, MOST_STOCK, MOST_TYPES}
-use Rattle.rail_base.specs.declared.limits.TheConstants.{MOST_COMPOSITIONS, MOST_HANDOVERS}
-use Rattle.rail_base.specs.declared.limits.TheConstants.{MOST_STATIONS, MOST_TRIPS, MOST_LINKS, MOST_UNITS, MOST_WEIGHT}
+use Rattle.rail_base.specs.declared.limits.TheConstants.{MAX_CARRIAGES, MAX_SEATS, MAX_FIRST_SEATS, MAX_METRES}
+use Rattle.rail_base.specs.declared.limits.TheConstants.{MAX_MINUTES, MAX_KM, MAX_DEMAND, MAX_FIRST_DEMAND}
+use Rattle.rail_base.specs.declared.limits.TheConstants.{MAX_PLATFORM, MAX_REALLOCATION, MAX_STOCK, MAX_TYPES}
+use Rattle.rail_base.specs.declared.limits.TheConstants.{MAX_COMPOSITIONS, MAX_HANDOVERS}
+use Rattle.rail_base.specs.declared.limits.TheConstants.{MAX_STATIONS, MAX_TRIPS, MAX_LINKS, MAX_UNITS, MAX_WEIGHT}
 use Rattle.rules.specs.declared.records.UnitType.{UnitType}
 use Rattle.timetable.specs.Admissible.{is_admissible}
 use Rattle.timetable.specs.Compositions.{compositions_of}
@@ -21,37 +21,37 @@ use Rattle.rules.specs.declared.records.Stock.{Stock}
 
 -- no number of a unit type is over its limit
 pub record IsUnitType (t : UnitType) : Type 0 where
-  pub carriages : t.carriages ≤ MOST_CARRIAGES
-  pub seats : t.seats ≤ MOST_SEATS
-  pub metres : t.metres ≤ MOST_METRES
-  pub first : t.first ≤ MOST_FIRST_SEATS
+  pub carriages : t.carriages ≤ MAX_CARRIAGES
+  pub seats : t.seats ≤ MAX_SEATS
+  pub metres : t.metres ≤ MAX_METRES
+  pub first : t.first ≤ MAX_FIRST_SEATS
 
 -- the timetable: every trip arrives after it leaves and on the second day at the latest, what it names is there, and no
 -- number of a trip, a station, a type or a weight is over its limit
 pub record IsTimetable (day : Day) : Type 0 where
   pub time : (t : ℕ) → t < length day.trips → leaves day t < arrives day t
-  pub late : (t : ℕ) → t < length day.trips → arrives day t < MOST_MINUTES
+  pub late : (t : ℕ) → t < length day.trips → arrives day t < MAX_MINUTES
   pub origin : (t : ℕ) → t < length day.trips → from_of day t < length day.stations
   pub goal : (t : ℕ) → t < length day.trips → to_of day t < length day.stations
-  pub km : (t : ℕ) → t < length day.trips → km_of day t ≤ MOST_KM
-  pub demand : (t : ℕ) → t < length day.trips → demand_of day t ≤ MOST_DEMAND
-  pub first_demand : (t : ℕ) → t < length day.trips → first_demand_of day t ≤ MOST_FIRST_DEMAND
-  pub platform : (s : ℕ) → platform_of day s ≤ MOST_PLATFORM
-  pub reallocation : (s : ℕ) → reallocation_of day s ≤ MOST_REALLOCATION
+  pub km : (t : ℕ) → t < length day.trips → km_of day t ≤ MAX_KM
+  pub demand : (t : ℕ) → t < length day.trips → demand_of day t ≤ MAX_DEMAND
+  pub first_demand : (t : ℕ) → t < length day.trips → first_demand_of day t ≤ MAX_FIRST_DEMAND
+  pub platform : (s : ℕ) → platform_of day s ≤ MAX_PLATFORM
+  pub reallocation : (s : ℕ) → reallocation_of day s ≤ MAX_REALLOCATION
   pub unit_types : All IsUnitType day.types
-  pub type_count : length day.types ≤ MOST_TYPES
-  pub station_count : length day.stations ≤ MOST_STATIONS
-  pub trip_count : length day.trips ≤ MOST_TRIPS
-  pub link_count : length day.links ≤ MOST_LINKS
-  pub carriage : day.weights.carriage ≤ MOST_WEIGHT
-  pub shortage : day.weights.shortage ≤ MOST_WEIGHT
-  pub shunting : day.weights.shunting ≤ MOST_WEIGHT
+  pub type_count : length day.types ≤ MAX_TYPES
+  pub station_count : length day.stations ≤ MAX_STATIONS
+  pub trip_count : length day.trips ≤ MAX_TRIPS
+  pub link_count : length day.links ≤ MAX_LINKS
+  pub carriage : day.weights.carriage ≤ MAX_WEIGHT
+  pub shortage : day.weights.shortage ≤ MAX_WEIGHT
+  pub shunting : day.weights.shunting ≤ MAX_WEIGHT
 
 -- the units: each stands at a station of the day and is of a type of it, and they are not too many
 pub record AreUnitsOf (units : Units) (day : Day) : Type 0 where
   pub home : (u : ℕ) → u < units.count → units.home u < length day.stations
   pub unit_type : (u : ℕ) → u < units.count → units.unit_type u < length day.types
-  pub few : units.count ≤ MOST_UNITS
+  pub few : units.count ≤ MAX_UNITS
 
 -- both, with the units of the stock
 pub record IsDay (day : Day) : Type 0 where
@@ -93,7 +93,7 @@ rows_of (row ∷ rows) s m = (if (row.station == s) && (row.unit_type == m) then
 -- may say
 pub record IsStocked (day : Day) : Type 0 where
   pub once : (s m : ℕ) → rows_of day.stock s m ≤ 1
-  pub few : (s m : ℕ) → wanted_of day s m ≤ MOST_STOCK
+  pub few : (s m : ℕ) → wanted_of day s m ≤ MAX_STOCK
 
 -- no two types, stations or trips have one name
 pub record HaveNames (day : Day) : Type 0 where
@@ -112,6 +112,6 @@ pub record IsSoundDay (day : Day) : Type 0 where
   pub meet : DoMeet day
   pub stock : IsStocked day
   pub served : HaveCompositions day
-  pub compositions : length (compositions_of day) ≤ MOST_COMPOSITIONS
+  pub compositions : length (compositions_of day) ≤ MAX_COMPOSITIONS
   pub indices : length (places_of day)
-      ≤ MOST_TYPES * MOST_TRIPS + MOST_STATIONS * MOST_TYPES + MOST_HANDOVERS * MOST_COMPOSITIONS
+      ≤ MAX_TYPES * MAX_TRIPS + MAX_STATIONS * MAX_TYPES + MAX_HANDOVERS * MAX_COMPOSITIONS

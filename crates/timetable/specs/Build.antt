@@ -4,7 +4,7 @@ use Rattle.std.specs.Prelude.{ℕ, ◌+◌, List, [], ◌∷◌, length, Bool, t
 use Rattle.std.specs.Prelude.{if◌then◌else◌, Result, Ok, Err}
 use Rattle.std.specs.List.{list_any}
 use Rattle.rail_base.specs.Answers.{◌>>=◌}
-use Rattle.rail_base.specs.declared.limits.TheConstants.{MOST_UNITS, MOST_COMPOSITIONS}
+use Rattle.rail_base.specs.declared.limits.TheConstants.{MAX_UNITS, MAX_COMPOSITIONS}
 use Rattle.compositions.specs.Catalogue.{catalogue_of}
 use Rattle.rules.specs.declared.records.UnitType.{UnitType}
 use Rattle.rail_csv.specs.declared.rows.TypeRow.{TypeRow}
@@ -90,7 +90,7 @@ starts_of (row ∷ rows) = row.start + starts_of rows
 -- the compositions that fit the greatest platform
 unfoldable pub catalogue_in : List UnitType → List Station → Result (List (List ℕ)) InstanceRefusal
 catalogue_in types stations =
-    if nat_lt MOST_COMPOSITIONS (length (catalogue_of types (greatest_in stations))) then Err TooManyCompositions
+    if nat_lt MAX_COMPOSITIONS (length (catalogue_of types (greatest_in stations))) then Err TooManyCompositions
     else Ok (catalogue_of types (greatest_in stations))
 
 -- ---- trips
@@ -166,7 +166,7 @@ yards_in type_rows station_rows stock_rows = do
   types ← types_in type_rows
   stations ← stations_in station_rows
   stock ← stock_in stations types stock_rows
-  if nat_lt MOST_UNITS (starts_of stock) then Err TooManyUnits else Ok (types, stations, stock)
+  if nat_lt MAX_UNITS (starts_of stock) then Err TooManyUnits else Ok (types, stations, stock)
 
 -- What `day_over` adds to the first part: the number of compositions, trips, and then links.
 unfoldable pub trips_and_links_in : List UnitType → List Station → List TripRow → List LinkRow
@@ -201,7 +201,7 @@ day_of tables = do
   types ← types_in tables.types
   stations ← stations_in tables.stations
   stock ← stock_in stations types tables.stock
-  if nat_lt MOST_UNITS (starts_of stock) then Err TooManyUnits
+  if nat_lt MAX_UNITS (starts_of stock) then Err TooManyUnits
       else day_over types stations stock tables.trips tables.links tables.weights
 
 -- ---- what a call may answer besides

@@ -14,7 +14,8 @@ use Rattle.rail_csv.specs.declared.rows.PlanRow.{PlanRow}
 use Rattle.rail_csv.specs.declared.refusal.TableRefusal.{TableRefusal}
 use Rattle.rail_csv.specs.declared.table_bytes.TableBytes.{TableBytes}
 use Rattle.rail_csv.specs.Tables.{AreShort, is_memory}
-use Rattle.rail_csv.specs.Tables.{types_of, stations_of, stock_of, trips_of, links_of, weights_of, plan_of}
+use Rattle.rail_csv.specs.Tables.{type_rows_of, station_rows_of, stock_rows_of, trip_rows_of, link_rows_of}
+use Rattle.rail_csv.specs.Tables.{weights_row_of, plan_rows_of}
 use Rattle.rail_csv.specs.Rows.{AreTypeRows, AreStationRows, AreStockRows, AreTripRows, AreLinkRows, IsWeightsRow}
 use Rattle.timetable.specs.declared.building.tables.Tables.{Tables}
 use Rattle.timetable.specs.declared.building.day_tables.WrongTable.{WrongTable}
@@ -35,13 +36,13 @@ RowsOf table.Plan = List PlanRow
 
 -- what bytes are read as: an accepted table, or the first thing that is wrong
 abbrev pub reading : (table : Table) → List ℕ → Result (RowsOf table) TableRefusal
-reading table.Types = types_of
-reading table.Stations = stations_of
-reading table.Stock = stock_of
-reading table.Trips = trips_of
-reading table.Links = links_of
-reading table.Weights = weights_of
-reading table.Plan = plan_of
+reading table.Types = type_rows_of
+reading table.Stations = station_rows_of
+reading table.Stock = stock_rows_of
+reading table.Trips = trip_rows_of
+reading table.Links = link_rows_of
+reading table.Weights = weights_row_of
+reading table.Plan = plan_rows_of
 
 -- the reader of a table gives this refusal of these bytes, unless it is want of memory
 abbrev pub IsWrong : Table → List ℕ → TableRefusal → Type 0
@@ -66,12 +67,12 @@ of_table table (Err why) = Err (record { table = table; why = why })
 -- The tables that bytes are read as, each by its own reader, or the first that is refused and why.
 unfoldable pub tables_of : TableBytes → Result Tables WrongTable
 tables_of bytes = do
-  types ← of_table table.Types (types_of bytes.types)
-  stations ← of_table table.Stations (stations_of bytes.stations)
-  stock ← of_table table.Stock (stock_of bytes.stock)
-  trips ← of_table table.Trips (trips_of bytes.trips)
-  links ← of_table table.Links (links_of bytes.links)
-  weights ← of_table table.Weights (weights_of bytes.weights)
+  types ← of_table table.Types (type_rows_of bytes.types)
+  stations ← of_table table.Stations (station_rows_of bytes.stations)
+  stock ← of_table table.Stock (stock_rows_of bytes.stock)
+  trips ← of_table table.Trips (trip_rows_of bytes.trips)
+  links ← of_table table.Links (link_rows_of bytes.links)
+  weights ← of_table table.Weights (weights_row_of bytes.weights)
   Ok (record { types = types; stations = stations; stock = stock; trips = trips; links = links; weights = weights })
 
 -- want of memory is the one refusal that no bytes give

@@ -1,7 +1,7 @@
 -- What an instance holds: the parts of a day, its units as one list, its catalogue, the links by trip, its chains
 -- and hand-overs, and the departure minutes by station.
 use Rattle.std.specs.Prelude.{◌≡◌, ◌≤◌, length}
-use Rattle.rail_base.specs.declared.limits.TheConstants.{MOST_COMPOSITIONS}
+use Rattle.rail_base.specs.declared.limits.TheConstants.{MAX_COMPOSITIONS}
 use Rattle.compositions.specs.Catalogue.{catalogue_of}
 use Rattle.timetable.specs.declared.building.accepted.AcceptedRows.{AcceptedRows}
 use Rattle.timetable.specs.declared.day.instance.Instance.TheInside.{Inside}
@@ -16,7 +16,7 @@ use Rattle.timetable.specs.Links.{arriving_in, departing_in}
 use Rattle.timetable.specs.LinkTables.{link_table}
 use Rattle.timetable.specs.Lists.{listed}
 use Rattle.timetable.specs.Minutes.{minutes_of}
-use Rattle.timetable.specs.Within.{IsWithin}
+use Rattle.timetable.specs.Within.{IsDayWithin}
 
 abbrev pub day_in : Inside → Day
 day_in a =
@@ -33,7 +33,7 @@ day_in a =
 pub record Holds (a : Inside) : Type 0 where
   pub units : a.units.items ≡ units_of (day_in a)
   pub day : IsDay (day_in a)
-  pub within : IsWithin (day_in a)
+  pub within : IsDayWithin (day_in a)
   pub names : HaveNames (day_in a)
   pub links : AreLinks (day_in a)
   pub meet : DoMeet (day_in a)
@@ -42,7 +42,7 @@ pub record Holds (a : Inside) : Type 0 where
   pub incoming : a.incoming.items ≡ link_table departing_in a.links.items (length a.trips.items)
   pub outgoing : a.outgoing.items ≡ link_table arriving_in a.links.items (length a.trips.items)
   pub catalogue : a.catalogue ≡ catalogue_of a.types (greatest_in a.stations.items)
-  pub few_compositions : length a.catalogue ≤ MOST_COMPOSITIONS
+  pub few_compositions : length a.catalogue ≤ MAX_COMPOSITIONS
   pub chains : a.chains.items ≡ chains_of (day_in a)
   pub handovers : a.handovers.items ≡ handovers_of (day_in a)
   pub minutes : a.minutes.items ≡ listed (minutes_of (day_in a)) (length a.stations.items)

@@ -2,7 +2,7 @@
 -- no rule broken.
 use Rattle.std.specs.Prelude.{ℕ, ◌≡◌, ◌≢◌, ◌<◌, ◌≤◌, List, length, Bool, true, false, Some, None}
 use Rattle.std.specs.List.{AllZip, AllPairs}
-use Rattle.rail_base.specs.declared.limits.TheConstants.{MOST_UNITS, MOST_COMPOSITIONS}
+use Rattle.rail_base.specs.declared.limits.TheConstants.{MAX_UNITS, MAX_COMPOSITIONS}
 use Rattle.rules.specs.declared.records.UnitType.{UnitType}
 use Rattle.rules.specs.declared.records.End.{End}
 use Rattle.rules.specs.declared.records.End.TheVariants as at
@@ -131,8 +131,8 @@ pub record IsDayOf (tables : Tables) (day : Day) : Type 0 where
   pub station_names : AreNamedApart (λ s. s.name) day.stations
   pub trip_names : AreNamedApart (λ t. t.name) day.trips
   pub stock_rows : AllPairs IsOtherStock day.stock
-  pub units : unit_count day ≤ MOST_UNITS
-  pub compositions : length (compositions_of day) ≤ MOST_COMPOSITIONS
+  pub units : unit_count day ≤ MAX_UNITS
+  pub compositions : length (compositions_of day) ≤ MAX_COMPOSITIONS
   -- every trip goes to another station, arrives after it leaves, and some composition may run on it
   pub elsewhere : (t : ℕ) → t < length day.trips → from_of day t ≢ to_of day t
   pub later : (t : ℕ) → t < length day.trips → leaves day t < arrives day t

@@ -2,7 +2,7 @@
 use Rattle.std.specs.Prelude.{ℕ, ◌≡◌, ◌≢◌, ◌+◌, ◌≤◌, ◌<◌, ◌⊎◌, List, [], ◌∷◌, ◌++◌, length, map, min, Bool, true, false}
 use Rattle.std.specs.Prelude.{Option, Some, None, slice_get}
 use Rattle.std.specs.List.{All, Any}
-use Rattle.rail_base.specs.declared.limits.TheConstants.{MOST_UNITS, MOST_COMPOSITIONS}
+use Rattle.rail_base.specs.declared.limits.TheConstants.{MAX_UNITS, MAX_COMPOSITIONS}
 use Rattle.compositions.specs.Catalogue.{catalogue_of}
 use Rattle.compositions.specs.Composition.{fits_in}
 use Rattle.rules.specs.declared.records.End.{End}
@@ -71,8 +71,8 @@ compositions_in tables = catalogue_of (map type_in tables.types) (greatest_in (m
 
 abbrev pub count_tests : Tables → List (Test InstanceRefusal)
 count_tests tables =
-    TooManyUnits when (MOST_UNITS < starts_in tables.stock)
-    ∷ TooManyCompositions when (MOST_COMPOSITIONS < length (compositions_in tables))
+    TooManyUnits when (MAX_UNITS < starts_in tables.stock)
+    ∷ TooManyCompositions when (MAX_COMPOSITIONS < length (compositions_in tables))
     ∷ []
 
 -- ---- trips

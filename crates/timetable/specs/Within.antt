@@ -1,9 +1,9 @@
 -- What is known of the entries of a day that was accepted: none is over its limits, and what it names is there.
 use Rattle.std.specs.Prelude.{ℕ, List, length, ◌≤◌, ◌<◌, ◌≡◌}
 use Rattle.std.specs.List.{All}
-use Rattle.rail_base.specs.declared.limits.TheConstants.{MOST_TYPES, MOST_PLATFORM, MOST_REALLOCATION, MOST_STATIONS}
-use Rattle.rail_base.specs.declared.limits.TheConstants.{MOST_MINUTES, MOST_KM, MOST_DEMAND, MOST_FIRST_DEMAND}
-use Rattle.rail_base.specs.declared.limits.TheConstants.{MOST_TRIPS, MOST_WEIGHT}
+use Rattle.rail_base.specs.declared.limits.TheConstants.{MAX_TYPES, MAX_PLATFORM, MAX_REALLOCATION, MAX_STATIONS}
+use Rattle.rail_base.specs.declared.limits.TheConstants.{MAX_MINUTES, MAX_KM, MAX_DEMAND, MAX_FIRST_DEMAND}
+use Rattle.rail_base.specs.declared.limits.TheConstants.{MAX_TRIPS, MAX_WEIGHT}
 use Rattle.rules.specs.declared.records.UnitType.{UnitType}
 use Rattle.rules.specs.declared.records.Link.{Link}
 use Rattle.rules.specs.declared.records.LinkKind.{LinkKind}
@@ -18,15 +18,15 @@ use Rattle.timetable.specs.Day.{Day, leaves, arrives, from_of, to_of, units_of}
 use Rattle.timetable.specs.LinkRows.{NamesBelow}
 
 pub record AreTypes (types : List UnitType) : Type 0 where
-  pub few : length types ≤ MOST_TYPES
+  pub few : length types ≤ MAX_TYPES
   pub each : All IsUnitType types
 
 pub record IsStation (station : Station) : Type 0 where
-  pub platform : station.platform ≤ MOST_PLATFORM
-  pub reallocation : station.reallocation ≤ MOST_REALLOCATION
+  pub platform : station.platform ≤ MAX_PLATFORM
+  pub reallocation : station.reallocation ≤ MAX_REALLOCATION
 
 pub record AreStations (stations : List Station) : Type 0 where
-  pub few : length stations ≤ MOST_STATIONS
+  pub few : length stations ≤ MAX_STATIONS
   pub each : All IsStation stations
 
 -- the station and the type of a stock row are there
@@ -42,15 +42,15 @@ pub record IsUnitAt (stations types : ℕ) (u : unit.Unit) : Type 0 where
 -- the trip arrives after it leaves and on the second day at the latest, and its stations are there
 pub record IsTripAt (stations : ℕ) (trip : Trip) : Type 0 where
   pub time : trip.departure < trip.arrival
-  pub late : trip.arrival < MOST_MINUTES
+  pub late : trip.arrival < MAX_MINUTES
   pub origin : trip.from < stations
   pub goal : trip.to < stations
-  pub km : trip.km ≤ MOST_KM
-  pub demand : trip.demand ≤ MOST_DEMAND
-  pub first : trip.first ≤ MOST_FIRST_DEMAND
+  pub km : trip.km ≤ MAX_KM
+  pub demand : trip.demand ≤ MAX_DEMAND
+  pub first : trip.first ≤ MAX_FIRST_DEMAND
 
 pub record AreTrips (stations : ℕ) (trips : List Trip) : Type 0 where
-  pub few : length trips ≤ MOST_TRIPS
+  pub few : length trips ≤ MAX_TRIPS
   pub each : All (IsTripAt stations) trips
 
 -- each arriving trip of a link, with each departing one
@@ -66,12 +66,12 @@ pub record IsLinkAt (day : Day) (link : Link) : Type 0 where
   pub in_time : EachPair (λ a b. arrives day a ≤ leaves day b) link.kind
 
 pub record AreWeights (weights : Weights) : Type 0 where
-  pub carriage : weights.carriage ≤ MOST_WEIGHT
-  pub shortage : weights.shortage ≤ MOST_WEIGHT
-  pub shunting : weights.shunting ≤ MOST_WEIGHT
+  pub carriage : weights.carriage ≤ MAX_WEIGHT
+  pub shortage : weights.shortage ≤ MAX_WEIGHT
+  pub shunting : weights.shunting ≤ MAX_WEIGHT
 
 -- all entries of a day
-pub record IsWithin (day : Day) : Type 0 where
+pub record IsDayWithin (day : Day) : Type 0 where
   pub types : AreTypes day.types
   pub stations : AreStations day.stations
   pub units : All (IsUnitAt (length day.stations) (length day.types)) (units_of day)

@@ -57,8 +57,9 @@ pub fn rows_say_stock()
     ensures law { RowsSayStock }
 {}
 
-/// A day with other stock rows has the same timetable: that its trips, stations, types, links and weights are within the
-/// limits stays known, what is known of its links, and which compositions it has and that some may run on each trip.
+/// A day with other stock rows has the same timetable: that its trips, stations, types, links and weights are within
+/// the limits stays known, what is known of its links, and which compositions it has and that some may run on each
+/// trip.
 pub fn other_stock_keeps_timetables()
     ensures law { OtherStockKeepsTimetables }
 {}

@@ -13,7 +13,7 @@ use Rattle.timetable.specs.Turns.{Parts, turn_parts}
 use Rattle.transitions.specs.declared.edge.Edge.{Edge}
 use Rattle.transitions.specs.declared.edge.Shunt.{Shunt}
 use Rattle.transitions.specs.declared.edge.Shunt.TheVariants.{Keep}
-use Rattle.transitions.specs.Edges.{MayRun, IsKindEdge}
+use Rattle.transitions.specs.Edges.{IsAdmittedComp, IsKindEdge}
 use Rattle.transitions.specs.Laws.{AreOn, MayRunAll, EdgesByRule}
 use Rattle.transitions.specs.Turns.{shunt_of, turn_shunt}
 
@@ -87,12 +87,12 @@ module _ (day : Day) (r : Bool) (edge : Edge) (lists : List (List ℕ)) where
       )
 
   -- the part of the edge is the only one
-  second_runs : (t t' part part' : ℕ) → Some t ≡ Some t' → edge.part ≡ Some part → edge.part ≡ Some part' → MayRun day t part → MayRun day t' part'
+  second_runs : (t t' part part' : ℕ) → Some t ≡ Some t' → edge.part ≡ Some part → edge.part ≡ Some part' → IsAdmittedComp day t part → IsAdmittedComp day t' part'
   second_runs t t' part part' same is is' runs =
       let trip : t ≡ t' = cc in
       let some : Some part ≡ Some part' = sym is ∙ is' in
       let one : part ≡ part' = cc in
-      subst (λ (n : ℕ). MayRun day n part') trip (subst (λ (n : ℕ). MayRun day t n) one runs)
+      subst (λ (n : ℕ). IsAdmittedComp day n part') trip (subst (λ (n : ℕ). IsAdmittedComp day t n) one runs)
 
   second_lists : (t part : ℕ) → Some (list_of lists t) ≡ option_map (composition_at day) edge.part → edge.part ≡ Some part → list_of lists t ≡ composition_at day part
   second_lists t part on is = let some : Some (list_of lists t) ≡ Some (composition_at day part) = on ∙ ap (option_map (composition_at day)) is in cc

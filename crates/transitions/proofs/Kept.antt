@@ -11,7 +11,7 @@ use Rattle.timetable.specs.Links.{turned, join_holds, split_holds}
 use Rattle.transitions.specs.declared.edge.Edge.{Edge}
 use Rattle.transitions.specs.declared.edge.Shunt.{Shunt}
 use Rattle.transitions.specs.declared.edge.Shunt.TheVariants.{Keep}
-use Rattle.transitions.specs.Edges.{MayRun, IsJoinEdge, IsSplitEdge}
+use Rattle.transitions.specs.Edges.{IsAdmittedComp, IsJoinEdge, IsSplitEdge}
 use Rattle.transitions.specs.Between.{IsBetween}
 use Rattle.transitions.proofs.Numbers.{some_unit}
 
@@ -32,13 +32,13 @@ abbrev pub IsRest : List ℕ → List ℕ → Option (List ℕ) → Type 0
 IsRest front whole o = (rest : List ℕ) → (o ≡ Some rest) ↔ ((front ++ rest ≡ whole) × (1 ≤ length rest))
 
 abbrev pub IsNumber : Day → ℕ → List ℕ → Option ℕ → Type 0
-IsNumber day t ms o = (comp : ℕ) → (o ≡ Some comp) ↔ (MayRun day t comp × (composition_at day comp ≡ ms))
+IsNumber day t ms o = (comp : ℕ) → (o ≡ Some comp) ↔ (IsAdmittedComp day t comp × (composition_at day comp ≡ ms))
 
 -- the second train's composition, as it stands behind the front one
 pub record Second (day : Day) (second from to : ℕ) (front whole : List ℕ) (stands : List ℕ → List ℕ) (edge : Edge) : Type 0 where
   pub part : ℕ
   pub is : kept_edge from to part ≡ edge
-  pub runs : MayRun day second part
+  pub runs : IsAdmittedComp day second part
   pub joined : front ++ stands (composition_at day part) ≡ whole
   pub some : 1 ≤ length (stands (composition_at day part))
 
@@ -53,7 +53,7 @@ number_at day t ms ms' o o' em eo h = subst (λ (p : Option ℕ). IsNumber day t
 
 module _ (day : Day) (second from to : ℕ) (front whole : List ℕ) (stands : List ℕ → List ℕ) (undo : (ms : List ℕ) → stands (stands ms) ≡ ms) (IsKept : Edge → Type 0)
     (parts : (edge : Edge) → IsKept edge → Second day second from to front whole stands edge)
-    (makes : (part : ℕ) → MayRun day second part → front ++ stands (composition_at day part) ≡ whole → IsKept (kept_edge from to part)) where
+    (makes : (part : ℕ) → IsAdmittedComp day second part → front ++ stands (composition_at day part) ≡ whole → IsKept (kept_edge from to part)) where
   pub no_rest : IsRest front whole None → (edge : Edge) → (None ≡ Some edge) ↔ IsKept edge
   no_rest rest edge = (
     λ e. absurd cc,
@@ -113,7 +113,7 @@ module _ (day : Day) (r : Bool) (second from to : ℕ) (a b : ℕ) where
         some = omega (arith, some_unit day second h.0.part h.0.second, length-turned r (composition_at day h.0.part));
       }
 
-  join_makes : MayRun day a from → MayRun day b to → (part : ℕ) → MayRun day second part → turned r (composition_at day from) ++ turned r (composition_at day part) ≡ composition_at day to
+  join_makes : IsAdmittedComp day a from → IsAdmittedComp day b to → (part : ℕ) → IsAdmittedComp day second part → turned r (composition_at day from) ++ turned r (composition_at day part) ≡ composition_at day to
       → Joins (kept_edge from to part)
   unfolding join_holds
   join_makes runs runs' part second_runs joined = (
@@ -129,16 +129,16 @@ module _ (day : Day) (r : Bool) (second from to : ℕ) (a b : ℕ) where
     record { origin = refl; goal = refl },
   )
 
-  pub join_no_rest : MayRun day a from → MayRun day b to → IsRest (turned r (composition_at day from)) (composition_at day to) None → (edge : Edge) → (None ≡ Some edge) ↔ Joins edge
+  pub join_no_rest : IsAdmittedComp day a from → IsAdmittedComp day b to → IsRest (turned r (composition_at day from)) (composition_at day to) None → (edge : Edge) → (None ≡ Some edge) ↔ Joins edge
   join_no_rest runs runs' =
       no_rest day second from to (turned r (composition_at day from)) (composition_at day to) (turned r) (turned_twice r) Joins join_parts (join_makes runs runs')
 
-  pub join_no_number : MayRun day a from → MayRun day b to → (behind : List ℕ) → IsRest (turned r (composition_at day from)) (composition_at day to) (Some behind)
+  pub join_no_number : IsAdmittedComp day a from → IsAdmittedComp day b to → (behind : List ℕ) → IsRest (turned r (composition_at day from)) (composition_at day to) (Some behind)
       → IsNumber day second (turned r behind) None → (edge : Edge) → (None ≡ Some edge) ↔ Joins edge
   join_no_number runs runs' =
       no_number day second from to (turned r (composition_at day from)) (composition_at day to) (turned r) (turned_twice r) Joins join_parts (join_makes runs runs')
 
-  pub join_found : MayRun day a from → MayRun day b to → (behind : List ℕ) (part : ℕ) → IsRest (turned r (composition_at day from)) (composition_at day to) (Some behind)
+  pub join_found : IsAdmittedComp day a from → IsAdmittedComp day b to → (behind : List ℕ) (part : ℕ) → IsRest (turned r (composition_at day from)) (composition_at day to) (Some behind)
       → IsNumber day second (turned r behind) (Some part) → (edge : Edge) → (Some (kept_edge from to part) ≡ Some edge) ↔ Joins edge
   join_found runs runs' =
       found day second from to (turned r (composition_at day from)) (composition_at day to) (turned r) (turned_twice r) Joins join_parts (join_makes runs runs')
@@ -158,7 +158,7 @@ module _ (day : Day) (r : Bool) (second from to : ℕ) (a b : ℕ) where
         some = some_unit day second h.0.part h.0.second;
       }
 
-  split_makes : MayRun day a from → MayRun day b to → (part : ℕ) → MayRun day second part → composition_at day to ++ composition_at day part ≡ turned r (composition_at day from)
+  split_makes : IsAdmittedComp day a from → IsAdmittedComp day b to → (part : ℕ) → IsAdmittedComp day second part → composition_at day to ++ composition_at day part ≡ turned r (composition_at day from)
       → Splits (kept_edge from to part)
   unfolding split_holds
   split_makes runs runs' part second_runs joined = (
@@ -175,16 +175,16 @@ module _ (day : Day) (r : Bool) (second from to : ℕ) (a b : ℕ) where
     record { origin = refl; goal = refl },
   )
 
-  pub split_no_rest : MayRun day a from → MayRun day b to → IsRest (composition_at day to) (turned r (composition_at day from)) None → (edge : Edge) → (None ≡ Some edge) ↔ Splits edge
+  pub split_no_rest : IsAdmittedComp day a from → IsAdmittedComp day b to → IsRest (composition_at day to) (turned r (composition_at day from)) None → (edge : Edge) → (None ≡ Some edge) ↔ Splits edge
   split_no_rest runs runs' =
       no_rest day second from to (composition_at day to) (turned r (composition_at day from)) (λ ms. ms) (λ ms. refl) Splits split_parts (split_makes runs runs')
 
-  pub split_no_number : MayRun day a from → MayRun day b to → (behind : List ℕ) → IsRest (composition_at day to) (turned r (composition_at day from)) (Some behind)
+  pub split_no_number : IsAdmittedComp day a from → IsAdmittedComp day b to → (behind : List ℕ) → IsRest (composition_at day to) (turned r (composition_at day from)) (Some behind)
       → IsNumber day second behind None → (edge : Edge) → (None ≡ Some edge) ↔ Splits edge
   split_no_number runs runs' =
       no_number day second from to (composition_at day to) (turned r (composition_at day from)) (λ ms. ms) (λ ms. refl) Splits split_parts (split_makes runs runs')
 
-  pub split_found : MayRun day a from → MayRun day b to → (behind : List ℕ) (part : ℕ) → IsRest (composition_at day to) (turned r (composition_at day from)) (Some behind)
+  pub split_found : IsAdmittedComp day a from → IsAdmittedComp day b to → (behind : List ℕ) (part : ℕ) → IsRest (composition_at day to) (turned r (composition_at day from)) (Some behind)
       → IsNumber day second behind (Some part) → (edge : Edge) → (Some (kept_edge from to part) ≡ Some edge) ↔ Splits edge
   split_found runs runs' =
       found day second from to (composition_at day to) (turned r (composition_at day from)) (λ ms. ms) (λ ms. refl) Splits split_parts (split_makes runs runs')

@@ -13,15 +13,15 @@ use Rattle.timetable.specs.Compositions.{greatest_platform, compositions_of, com
 use Rattle.timetable.specs.Day.{Day}
 use Rattle.timetable.specs.Links.{turned}
 use Rattle.timetable.proofs.AdmittedTypes.{CompositionOf, composition_of}
-use Rattle.rail_base.specs.declared.limits.TheConstants.{MOST_EXCHANGED}
-use Rattle.transitions.specs.Edges.{MayRun}
+use Rattle.rail_base.specs.declared.limits.TheConstants.{MAX_EXCHANGED}
+use Rattle.transitions.specs.Edges.{IsAdmittedComp}
 use Rattle.transitions.specs.Pairs.{AreAmongFirst}
 use Rattle.transitions.proofs.Kept.{length-turned}
 
 -- the number of the composition of types that may run on a trip
 pub record NumberOf (day : Day) (t : ℕ) (ms : List ℕ) : Type 0 where
   pub comp : ℕ
-  pub runs : MayRun day t comp
+  pub runs : IsAdmittedComp day t comp
   pub is : composition_at day comp ≡ ms
 
 pub number_of : (day : Day) (t : ℕ) (ms : List ℕ) → is_admissible day t ms ≡ true → NumberOf day t ms
@@ -54,7 +54,7 @@ no_longer ms ns before = elim (or_cases (nat_lt (length ms) (length ns)) (length
 ]
 
 -- before the first composition of more units than an exchange may uncouple stand all of no more
-pub among_first : (day : Day) (list : List (List ℕ)) (part : ℕ) (ms : List ℕ) → list ≡ compositions_of day → slice_get list part ≡ Some ms → MOST_EXCHANGED < length ms → AreAmongFirst day part
+pub among_first : (day : Day) (list : List (List ℕ)) (part : ℕ) (ms : List ℕ) → list ≡ compositions_of day → slice_get list part ≡ Some ms → MAX_EXCHANGED < length ms → AreAmongFirst day part
 among_first day list part ms is at long =
     let here : slice_get (compositions_of day) part ≡ Some ms = ap (λ (l : List (List ℕ)). slice_get l part) (sym is) ∙ at in
     let below : part < length (compositions_of day) = slice_get_within (compositions_of day) part ms here in

@@ -13,7 +13,7 @@ use Rattle.compositions.proofs.Order.{before_irreflexive}
 use Rattle.timetable.specs.Admissible.{is_admissible}
 use Rattle.timetable.specs.Compositions.{greatest_platform, compositions_of, composition_at}
 use Rattle.timetable.specs.Day.{Day}
-use Rattle.transitions.specs.Edges.{MayRun}
+use Rattle.transitions.specs.Edges.{IsAdmittedComp}
 use Rattle.transitions.specs.Pairs.{runs_on}
 
 -- lists in the order of the catalogue are there once each
@@ -70,27 +70,27 @@ more_runs day t comp runs b below so_far is =
 
 -- the number of a composition that may run on the trip
 pub number_runs : (day : Day) (t comp : ℕ) (ms : List ℕ) (o : Option ℕ) (may : Bool) → ((n : ℕ) → (o ≡ Some n) ↔ ((n < length (compositions_of day)) × (composition_at day n ≡ ms))) → o ≡ Some comp
-    → (IsTrue may ↔ MayRun day t comp) → IsTrue may → (n : ℕ) → (Some comp ≡ Some n) ↔ (MayRun day t n × (composition_at day n ≡ ms))
+    → (IsTrue may ↔ IsAdmittedComp day t comp) → IsTrue may → (n : ℕ) → (Some comp ≡ Some n) ↔ (IsAdmittedComp day t n × (composition_at day n ≡ ms))
 number_runs day t comp ms o may is found runs told n = (
-  λ e. let k : comp ≡ n = cc in subst (λ (m : ℕ). MayRun day t m × (composition_at day m ≡ ms)) k (runs.0 told, ((is comp).0 found).1),
+  λ e. let k : comp ≡ n = cc in subst (λ (m : ℕ). IsAdmittedComp day t m × (composition_at day m ≡ ms)) k (runs.0 told, ((is comp).0 found).1),
   λ there. sym found ∙ (is n).1 (there.0.listed, there.1),
 )
 
 pub number_missing : (day : Day) (t : ℕ) (ms : List ℕ) (o : Option ℕ) → ((n : ℕ) → (o ≡ Some n) ↔ ((n < length (compositions_of day)) × (composition_at day n ≡ ms))) → o ≡ None
-    → (n : ℕ) → (None ≡ Some n) ↔ (MayRun day t n × (composition_at day n ≡ ms))
+    → (n : ℕ) → (None ≡ Some n) ↔ (IsAdmittedComp day t n × (composition_at day n ≡ ms))
 number_missing day t ms o is missing n = (λ e. absurd cc, λ there. let e : None ≡ Some n = sym missing ∙ (is n).1 (there.0.listed, there.1) in absurd cc)
 
 pub number_stays : (day : Day) (t comp : ℕ) (ms : List ℕ) (o : Option ℕ) → ((n : ℕ) → (o ≡ Some n) ↔ ((n < length (compositions_of day)) × (composition_at day n ≡ ms))) → o ≡ Some comp
-    → (MayRun day t comp → ⊥) → (n : ℕ) → (None ≡ Some n) ↔ (MayRun day t n × (composition_at day n ≡ ms))
+    → (IsAdmittedComp day t comp → ⊥) → (n : ℕ) → (None ≡ Some n) ↔ (IsAdmittedComp day t n × (composition_at day n ≡ ms))
 number_stays day t comp ms o is found stays n = (
   λ e. absurd cc,
   λ there.
       let e : Some comp ≡ Some n = sym found ∙ (is n).1 (there.0.listed, there.1) in
       let same : n ≡ comp = cc in
-      absurd (stays (subst (λ (m : ℕ). MayRun day t m) same there.0)),
+      absurd (stays (subst (λ (m : ℕ). IsAdmittedComp day t m) same there.0)),
 )
 
 -- a composition that may run has a unit
-pub some_unit : (day : Day) (t comp : ℕ) → MayRun day t comp → 1 ≤ length (composition_at day comp)
+pub some_unit : (day : Day) (t comp : ℕ) → IsAdmittedComp day t comp → 1 ≤ length (composition_at day comp)
 unfolding is_admissible
 some_unit day t comp runs = leb-true 1 (length (composition_at day comp)) (and_parts _ _ (and_parts _ _ (and_parts _ _ (and_parts _ _ runs.admissible).0).0).0).0

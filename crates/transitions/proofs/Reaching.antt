@@ -8,7 +8,7 @@ use Rattle.std.proofs.lemmas.Slice.Eq.{bytes_eq-Decides}
 use Rattle.std.proofs.Math.Seq.{take-length, take-append_seam}
 use Rattle.rules.specs.declared.records.UnitType.{UnitType}
 use Rattle.compositions.specs.Composition.{fits_in}
-use Rattle.rail_base.specs.declared.limits.TheConstants.{MOST_EXCHANGED}
+use Rattle.rail_base.specs.declared.limits.TheConstants.{MAX_EXCHANGED}
 use Rattle.rules.specs.declared.records.End.{End}
 use Rattle.rules.specs.declared.records.End.TheVariants as at
 use Rattle.rules.specs.declared.records.LinkKind.{LinkKind}
@@ -21,7 +21,7 @@ use Rattle.timetable.specs.Links.{turned, join_holds, split_holds}
 use Rattle.timetable.specs.Turns.{staying, beyond, may_shunt}
 use Rattle.transitions.specs.declared.edge.Edge.{Edge}
 use Rattle.transitions.specs.declared.pairs.Pair.{Pair}
-use Rattle.transitions.specs.Edges.{MayRun, IsKindEdge}
+use Rattle.transitions.specs.Edges.{IsAdmittedComp, IsKindEdge}
 use Rattle.transitions.specs.Pairs.{uncoupled_at, joined_at, AreAmongFirst, IsFront, IsLeft, IsExchanged, IsMade}
 use Rattle.transitions.proofs.Kept.{turned_twice, length-turned}
 use Rattle.transitions.proofs.Listed.{NumberOf, number_of}
@@ -31,10 +31,10 @@ use Rattle.transitions.proofs.Shunting.{StayOfBoth, turns, beyond_long}
 
 -- the pairs that are looked for: of a composition that may depart, and of one that may arrive
 abbrev pub IsMadeOn : Day → LinkKind → Bool → ℕ → Pair → Type 0
-IsMadeOn day kind r few pair = MayRun day (leads_to kind) pair.to × IsMade day kind r few pair
+IsMadeOn day kind r few pair = IsAdmittedComp day (leads_to kind) pair.to × IsMade day kind r few pair
 
 abbrev pub IsLeftOn : Day → LinkKind → Bool → Pair → Type 0
-IsLeftOn day kind r pair = MayRun day (leads_from kind) pair.from × IsLeft day r (uncoupled_at kind) (length (composition_at day pair.from)) pair
+IsLeftOn day kind r pair = IsAdmittedComp day (leads_from kind) pair.from × IsLeft day r (uncoupled_at kind) (length (composition_at day pair.from)) pair
 
 -- all units of a list
 stay_all : (end : End) (ms : List ℕ) → staying end ms (length ms) ≡ ms
@@ -49,16 +49,16 @@ record IsPart (end : End) (whole part : List ℕ) : Type 0 where
   is : staying end whole (length part) ≡ part
 
 -- a turn with something on both sides is an exchange of few units
-few_of : (exchange : Bool) (off on : ℕ) → 1 ≤ off → 1 ≤ on → may_shunt exchange off on ≡ true → (exchange ≡ true) × (off ≤ MOST_EXCHANGED) × (on ≤ MOST_EXCHANGED)
-few_of exchange off on some some' may = elim (or_cases (off == 0 || on == 0) (exchange && nat_le off MOST_EXCHANGED && nat_le on MOST_EXCHANGED) may) [
+few_of : (exchange : Bool) (off on : ℕ) → 1 ≤ off → 1 ≤ on → may_shunt exchange off on ≡ true → (exchange ≡ true) × (off ≤ MAX_EXCHANGED) × (on ≤ MAX_EXCHANGED)
+few_of exchange off on some some' may = elim (or_cases (off == 0 || on == 0) (exchange && nat_le off MAX_EXCHANGED && nat_le on MAX_EXCHANGED) may) [
   | inl none ↦ elim (or_cases (off == 0) (on == 0) none) [
     | inl e ↦ let zero : off ≡ 0 = eqb-true off 0 e in absurd (omega (arith, zero))
     | inr e ↦ let zero : on ≡ 0 = eqb-true on 0 e in absurd (omega (arith, zero))
   ]
   | inr few ↦
-      let outer = and_parts (exchange && nat_le off MOST_EXCHANGED) (nat_le on MOST_EXCHANGED) few in
-      let inner = and_parts exchange (nat_le off MOST_EXCHANGED) outer.0 in
-      (inner.0, leb-true off MOST_EXCHANGED inner.1, leb-true on MOST_EXCHANGED outer.1)
+      let outer = and_parts (exchange && nat_le off MAX_EXCHANGED) (nat_le on MAX_EXCHANGED) few in
+      let inner = and_parts exchange (nat_le off MAX_EXCHANGED) outer.0 in
+      (inner.0, leb-true off MAX_EXCHANGED inner.1, leb-true on MAX_EXCHANGED outer.1)
 ]
 
 -- what stays and what goes are the whole
@@ -78,7 +78,7 @@ beyond_fits types longest r at.Front whole n fits some =
     (sym (take-append-drop (length (turned r whole) - n) (turned r whole))) some
 
 -- and so it is a composition that may run there
-beyond_runs : (day : Day) (t : ℕ) (r : Bool) (end : End) (comp n : ℕ) → MayRun day t comp → 1 ≤ length (beyond end (turned r (composition_at day comp)) n)
+beyond_runs : (day : Day) (t : ℕ) (r : Bool) (end : End) (comp n : ℕ) → IsAdmittedComp day t comp → 1 ≤ length (beyond end (turned r (composition_at day comp)) n)
     → NumberOf day t (beyond end (turned r (composition_at day comp)) n)
 unfolding is_admissible
 beyond_runs day t r end comp n runs some =
@@ -106,7 +106,7 @@ module _ (day : Day) (r : Bool) (from to : ℕ) where
   }
 
   -- so many units stay of both compositions
-  module _ (few : ℕ) (first : AreAmongFirst day few) (uncouple couple : End) (exchange : Bool) (a b : ℕ) (arriving : MayRun day a from) (departing : MayRun day b to)
+  module _ (few : ℕ) (first : AreAmongFirst day few) (uncouple couple : End) (exchange : Bool) (a b : ℕ) (arriving : IsAdmittedComp day a from) (departing : IsAdmittedComp day b to)
       (n : ℕ) (stay : StayOfBoth uncouple couple (turned r (composition_at day from)) (composition_at day to) n) where
     -- all of the arriving composition
     turn_front : length (turned r (composition_at day from)) ≡ n → IsFront day r couple (length (composition_at day to)) The
@@ -129,8 +129,8 @@ module _ (day : Day) (r : Bool) (from to : ℕ) where
 
     -- not all of either
     turn_exchanged : n < length (turned r (composition_at day from)) → n < length (composition_at day to)
-        → length (turned r (composition_at day from)) - n ≤ MOST_EXCHANGED → length (composition_at day to) - n ≤ MOST_EXCHANGED
-        → IsExchanged day r uncouple couple few MOST_EXCHANGED The
+        → length (turned r (composition_at day from)) - n ≤ MAX_EXCHANGED → length (composition_at day to) - n ≤ MAX_EXCHANGED
+        → IsExchanged day r uncouple couple few MAX_EXCHANGED The
     turn_exchanged off on few_off few_on =
         let long = beyond_long uncouple (turned r (composition_at day from)) n stay.of_arriving stay.arriving_long in
         let part = beyond_runs day a r uncouple from n arriving (omega (arith, long, off)) in
@@ -172,7 +172,7 @@ front_part front behind whole some is =
     subst (λ (ms : List ℕ). IsPart at.Rear ms front) is
     (record { some = some; within = omega (arith, length-append front behind); is = take-append_seam front behind })
 
-joined : (day : Day) (r : Bool) (from to part t : ℕ) → MayRun day t from → join_holds (turned r (composition_at day from)) (turned r (composition_at day part)) (composition_at day to) ≡ true
+joined : (day : Day) (r : Bool) (from to part t : ℕ) → IsAdmittedComp day t from → join_holds (turned r (composition_at day from)) (turned r (composition_at day part)) (composition_at day to) ≡ true
     → IsPart at.Rear (composition_at day to) (turned r (composition_at day from))
 unfolding join_holds
 joined day r from to part t runs rule =
@@ -180,7 +180,7 @@ joined day r from to part t runs rule =
     (omega (arith, some_unit day t from runs, length-turned r (composition_at day from)))
     ((bytes_eq-Decides (turned r (composition_at day from) ++ turned r (composition_at day part)) (composition_at day to)).0 rule)
 
-parted : (day : Day) (r : Bool) (from to part t : ℕ) → MayRun day t to → split_holds (turned r (composition_at day from)) (composition_at day to) (composition_at day part) ≡ true
+parted : (day : Day) (r : Bool) (from to part t : ℕ) → IsAdmittedComp day t to → split_holds (turned r (composition_at day from)) (composition_at day to) (composition_at day part) ≡ true
     → IsPart at.Rear (turned r (composition_at day from)) (composition_at day to)
 unfolding split_holds
 parted day r from to part t runs rule =

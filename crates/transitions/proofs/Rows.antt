@@ -7,7 +7,7 @@ use Rattle.timetable.specs.Chains.{leads_from, leads_to}
 use Rattle.timetable.specs.Compositions.{composition_at}
 use Rattle.timetable.specs.Day.{Day}
 use Rattle.transitions.specs.declared.pairs.Pair.{Pair}
-use Rattle.transitions.specs.Edges.{MayRun}
+use Rattle.transitions.specs.Edges.{IsAdmittedComp}
 use Rattle.transitions.specs.Pairs.{uncoupled_at, IsLeft, IsMade, Grown}
 use Rattle.transitions.proofs.Pairing.{stays, joins}
 use Rattle.transitions.proofs.Reaching.{IsMadeOn, IsLeftOn}
@@ -40,10 +40,10 @@ module _ (day : Day) (kind : LinkKind) (r : Bool) (few : ℕ) (pairs : List Pair
         | inr m ↦ inr (m.0, m.1.1)
       ])
 
-  pub no_made_row : (to : ℕ) → Grown day [] pairs (MadeBelow to) → (MayRun day (leads_to kind) to → ⊥) → Grown day [] pairs (MadeBelow (to + 1))
+  pub no_made_row : (to : ℕ) → Grown day [] pairs (MadeBelow to) → (IsAdmittedComp day (leads_to kind) to → ⊥) → Grown day [] pairs (MadeBelow (to + 1))
   no_made_row to so_far none =
       stays day [] pairs (MadeBelow to) (MadeBelow (to + 1)) so_far
-      (λ x known made. elim (made_cases to x made) [ inl m ↦ m | inr m ↦ absurd (none (subst (λ (n : ℕ). MayRun day (leads_to kind) n) m.0 m.1.0)) ])
+      (λ x known made. elim (made_cases to x made) [ inl m ↦ m | inr m ↦ absurd (none (subst (λ (n : ℕ). IsAdmittedComp day (leads_to kind) n) m.0 m.1.0)) ])
 
   pub left_row : (from : ℕ) (after : List Pair) → Grown day [] pairs (LeftsBelow from) → Grown day pairs after (LeftsAt from) → Grown day [] after (LeftsBelow (from + 1))
   left_row from after so_far row =
@@ -53,7 +53,7 @@ module _ (day : Day) (kind : LinkKind) (r : Bool) (few : ℕ) (pairs : List Pair
         | inr m ↦ inr (m.0, subst (λ (n : ℕ). IsLeft day r (uncoupled_at kind) (length (composition_at day n)) x) m.0 m.1.1)
       ])
 
-  pub no_left_row : (from : ℕ) → Grown day [] pairs (LeftsBelow from) → (MayRun day (leads_from kind) from → ⊥) → Grown day [] pairs (LeftsBelow (from + 1))
+  pub no_left_row : (from : ℕ) → Grown day [] pairs (LeftsBelow from) → (IsAdmittedComp day (leads_from kind) from → ⊥) → Grown day [] pairs (LeftsBelow (from + 1))
   no_left_row from so_far none =
       stays day [] pairs (LeftsBelow from) (LeftsBelow (from + 1)) so_far
-      (λ x known left. elim (left_cases from x left) [ inl m ↦ m | inr m ↦ absurd (none (subst (λ (n : ℕ). MayRun day (leads_from kind) n) m.0 m.1.0)) ])
+      (λ x known left. elim (left_cases from x left) [ inl m ↦ m | inr m ↦ absurd (none (subst (λ (n : ℕ). IsAdmittedComp day (leads_from kind) n) m.0 m.1.0)) ])

@@ -15,7 +15,7 @@ use Rattle.transitions.specs.declared.edge.Shunt.TheVariants.{Keep}
 use Rattle.transitions.specs.Turns.{turn_shunt}
 
 -- the number is that of a composition that may run on the trip
-pub record MayRun (day : Day) (t comp : ℕ) : Type 0 where
+pub record IsAdmittedComp (day : Day) (t comp : ℕ) : Type 0 where
   pub listed : comp < length (compositions_of day)
   pub admissible : IsTrue (is_admissible day t (composition_at day comp))
 
@@ -25,8 +25,8 @@ pub record MayRun (day : Day) (t comp : ℕ) : Type 0 where
 -- units.
 pub record IsTurnEdge (day : Day) (reversed : Bool) (a b : ℕ) (uncouple couple : End) (exchange : Bool)
     (edge : Edge) : Type 0 where
-  pub arriving : MayRun day a edge.from
-  pub departing : MayRun day b edge.to
+  pub arriving : IsAdmittedComp day a edge.from
+  pub departing : IsAdmittedComp day b edge.to
   pub rule : turn_shunt uncouple couple exchange (turned reversed (composition_at day edge.from))
       (composition_at day edge.to) ≡ Some edge.shunt
   pub no_part : edge.part ≡ None
@@ -36,9 +36,9 @@ pub record IsTurnEdge (day : Day) (reversed : Bool) (a b : ℕ) (uncouple couple
 pub record IsJoinEdge (day : Day) (reversed : Bool) (a1 a2 b : ℕ) (edge : Edge) : Type 0 where
   pub part : ℕ
   pub is_part : edge.part ≡ Some part
-  pub first : MayRun day a1 edge.from
-  pub second : MayRun day a2 part
-  pub departing : MayRun day b edge.to
+  pub first : IsAdmittedComp day a1 edge.from
+  pub second : IsAdmittedComp day a2 part
+  pub departing : IsAdmittedComp day b edge.to
   pub rule : IsTrue (join_holds (turned reversed (composition_at day edge.from))
       (turned reversed (composition_at day part)) (composition_at day edge.to))
   pub kept : edge.shunt ≡ Keep
@@ -48,9 +48,9 @@ pub record IsJoinEdge (day : Day) (reversed : Bool) (a1 a2 b : ℕ) (edge : Edge
 pub record IsSplitEdge (day : Day) (reversed : Bool) (a b1 b2 : ℕ) (edge : Edge) : Type 0 where
   pub part : ℕ
   pub is_part : edge.part ≡ Some part
-  pub arriving : MayRun day a edge.from
-  pub first : MayRun day b1 edge.to
-  pub second : MayRun day b2 part
+  pub arriving : IsAdmittedComp day a edge.from
+  pub first : IsAdmittedComp day b1 edge.to
+  pub second : IsAdmittedComp day b2 part
   pub rule : IsTrue (split_holds (turned reversed (composition_at day edge.from)) (composition_at day edge.to)
       (composition_at day part))
   pub kept : edge.shunt ≡ Keep

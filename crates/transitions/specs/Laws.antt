@@ -16,7 +16,7 @@ use Rattle.timetable.specs.Turns.{Parts, AreParts}
 use Rattle.transitions.specs.declared.edge.Edge.{Edge}
 use Rattle.transitions.specs.declared.edge.Shunt.{Shunt}
 use Rattle.transitions.specs.declared.edge.Shunt.TheVariants.{Keep, Uncouple, Couple, Exchange}
-use Rattle.transitions.specs.Edges.{MayRun, IsEdge, AreGraphs, IsFound}
+use Rattle.transitions.specs.Edges.{IsAdmittedComp, IsEdge, AreGraphs, IsFound}
 use Rattle.transitions.specs.Turns.{shunt_of, turn_shunt}
 
 -- what is done to the train: a turn uncouples the units that the plan gives there, and couples those that it takes
@@ -57,9 +57,9 @@ pub record AreOn (day : Day) (lists : List (List ℕ)) (link : Link) (edge : Edg
 
 -- the edge's compositions may run on the trips of the link
 pub record MayRunAll (day : Day) (link : Link) (edge : Edge) : Type 0 where
-  pub arriving : MayRun day (leads_from link.kind) edge.from
-  pub departing : MayRun day (leads_to link.kind) edge.to
-  pub second : (t part : ℕ) → second_of link.kind ≡ Some t → edge.part ≡ Some part → MayRun day t part
+  pub arriving : IsAdmittedComp day (leads_from link.kind) edge.from
+  pub departing : IsAdmittedComp day (leads_to link.kind) edge.to
+  pub second : (t part : ℕ) → second_of link.kind ≡ Some t → edge.part ≡ Some part → IsAdmittedComp day t part
 
 -- An edge is allowed by a link, with some shunt, exactly where its compositions may run on the link's trips and the
 -- link's rule holds of their types.

@@ -2,7 +2,7 @@
 -- arriving one those that may be left of it. At an exchange the arriving one is what stays with one or two units more.
 use Rattle.std.specs.Prelude.{ℕ, ◌≡◌, ◌<◌, ◌≤◌, ◌-◌, ◌⊎◌, ◌++◌, Bool, true, false, List, length, map, Some}
 use Rattle.std.specs.List.{All, Contains}
-use Rattle.rail_base.specs.declared.limits.TheConstants.{MOST_EXCHANGED}
+use Rattle.rail_base.specs.declared.limits.TheConstants.{MAX_EXCHANGED}
 use Rattle.rules.specs.declared.records.End.{End}
 use Rattle.rules.specs.declared.records.End.TheVariants as at
 use Rattle.rules.specs.declared.records.LinkKind.{LinkKind}
@@ -56,7 +56,7 @@ joined_at at.Front units others = others ++ units
 -- all compositions that an exchange may uncouple are among the first so many
 pub record AreAmongFirst (day : Day) (few : ℕ) : Type 0 where
   pub within : few ≤ length (compositions_of day)
-  pub all : (comp : ℕ) → comp < length (compositions_of day) → length (composition_at day comp) ≤ MOST_EXCHANGED
+  pub all : (comp : ℕ) → comp < length (compositions_of day) → length (composition_at day comp) ≤ MAX_EXCHANGED
       → comp < few
 
 -- both compositions of a pair are in the catalogue
@@ -98,7 +98,7 @@ pub record IsExchanged (day : Day) (reversed : Bool) (uncouple couple : End) (fe
 abbrev pub IsMade : Day → LinkKind → Bool → ℕ → Pair → Type 0
 IsMade day kind reversed few pair = IsFront day reversed (coupled_at kind) (length (composition_at day pair.to)) pair
     ⊎ ((may_exchange kind ≡ true)
-    × IsExchanged day reversed (uncoupled_at kind) (coupled_at kind) few MOST_EXCHANGED pair)
+    × IsExchanged day reversed (uncoupled_at kind) (coupled_at kind) few MAX_EXCHANGED pair)
 
 -- the pairs of a list and more, among them all of a kind
 pub record Grown (day : Day) (before after : List Pair) (P : Pair → Type 0) : Type 0 where

@@ -8,7 +8,7 @@ ghost use Rattle.timetable.specs.Compositions.{compositions_of, composition_at};
 ghost use Rattle.timetable.specs.LinkRows.{NamesBelow};
 ghost use Rattle.transitions.specs.declared.edge.Edge.{Edge};
 ghost use Rattle.transitions.specs.declared.edge.Shunt.TheVariants.{Keep};
-ghost use Rattle.transitions.specs.Edges.{MayRun, IsTurnEdge, IsJoinEdge, IsSplitEdge, IsKindEdge};
+ghost use Rattle.transitions.specs.Edges.{IsAdmittedComp, IsTurnEdge, IsJoinEdge, IsSplitEdge, IsKindEdge};
 ghost use Rattle.transitions.specs.Between.{IsBetween};
 ghost use Rattle.transitions.specs.Pairs.{runs_on, AreAdmitted, IsKnown};
 
@@ -66,7 +66,7 @@ fn runs_on(alloc: Global, instance: &Instance, trip: TripNo) -> Result<Vec<bool>
 /// Whether the composition of a number may run on the trip of which this is said.
 pub(crate) fn may_run(runs: &[bool], comp: CompNo) -> bool
     requires { comp < length runs.now }
-    ensures { (day : Day) (t : ℕ) → runs.now ≡ runs_on day t → IsTrue result ↔ MayRun day t comp }
+    ensures { (day : Day) (t : ℕ) → runs.now ≡ runs_on day t → IsTrue result ↔ IsAdmittedComp day t comp }
 {
     runs[comp.place()]
 }
@@ -101,7 +101,7 @@ fn turn_edge(instance: &Instance, link: &Link, from: CompNo, to: CompNo) -> Opti
     requires from { from < length (compositions_of instance.now) }
     requires to { to < length (compositions_of instance.now) }
     ensures { (a b : ℕ) (uncouple couple : End) (exchange : Bool) → link.now.kind ≡ Turn a b uncouple couple exchange
-        → MayRun instance.now a from → MayRun instance.now b to → (edge : Edge) → (result ≡ Some edge)
+        → IsAdmittedComp instance.now a from → IsAdmittedComp instance.now b to → (edge : Edge) → (result ≡ Some edge)
         ↔ (IsTurnEdge instance.now link.now.reverse a b uncouple couple exchange edge × IsBetween from to edge) }
 {
     let catalogue = instance.catalogue();
@@ -128,15 +128,15 @@ fn join_edge(
     requires second { length second.now ≡ length (compositions_of instance.now) }
     requires from { from < length (compositions_of instance.now) }
     requires to { to < length (compositions_of instance.now) }
-    ensures { (a a2 b : ℕ) → second.now ≡ runs_on instance.now a2 → MayRun instance.now a from
-        → MayRun instance.now b to → (edge : Edge)
+    ensures { (a a2 b : ℕ) → second.now ≡ runs_on instance.now a2 → IsAdmittedComp instance.now a from
+        → IsAdmittedComp instance.now b to → (edge : Edge)
         → (result ≡ Some edge) ↔ (IsJoinEdge instance.now reversed a a2 b edge × IsBetween from to edge) }
 {
     let catalogue = instance.catalogue();
     let arriving = turned(reversed, catalogue.get(from));
     let behind = rest_after(arriving.units(), catalogue.get(to).units())?;
     let part = number_on(instance, second, &turned(reversed, &behind))?;
-    Some(kept(from, to, part))
+    Some(keeping_edge(from, to, part))
 }
 
 /// The edge of a split from the arriving composition to the first train's, which may run on their trips. The part is
@@ -151,19 +151,19 @@ fn split_edge(
     requires second { length second.now ≡ length (compositions_of instance.now) }
     requires from { from < length (compositions_of instance.now) }
     requires to { to < length (compositions_of instance.now) }
-    ensures { (a b b2 : ℕ) → second.now ≡ runs_on instance.now b2 → MayRun instance.now a from
-        → MayRun instance.now b to → (edge : Edge)
+    ensures { (a b b2 : ℕ) → second.now ≡ runs_on instance.now b2 → IsAdmittedComp instance.now a from
+        → IsAdmittedComp instance.now b to → (edge : Edge)
         → (result ≡ Some edge) ↔ (IsSplitEdge instance.now reversed a b b2 edge × IsBetween from to edge) }
 {
     let catalogue = instance.catalogue();
     let arriving = turned(reversed, catalogue.get(from));
     let behind = rest_after(catalogue.get(to).units(), arriving.units())?;
     let part = number_on(instance, second, &behind)?;
-    Some(kept(from, to, part))
+    Some(keeping_edge(from, to, part))
 }
 
 /// An edge of a join or a split.
-fn kept(from: CompNo, to: CompNo, part: CompNo) -> Edge
+fn keeping_edge(from: CompNo, to: CompNo, part: CompNo) -> Edge
     ensures { result ≡ record { from = from; to = to; shunt = Keep; part = Some part } }
 {
     Edge {
@@ -178,7 +178,8 @@ fn kept(from: CompNo, to: CompNo, part: CompNo) -> Edge
 fn number_on(instance: &Instance, runs: &[bool], composition: &Composition) -> Option<CompNo>
     requires { length runs.now ≡ length (compositions_of instance.now) }
     ensures { (t : ℕ) → runs.now ≡ runs_on instance.now t → (comp : ℕ)
-        → (result ≡ Some comp) ↔ (MayRun instance.now t comp × (composition_at instance.now comp ≡ composition.now)) }
+        → (result ≡ Some comp) ↔ (IsAdmittedComp instance.now t comp
+        × (composition_at instance.now comp ≡ composition.now)) }
 {
     let comp = number_of(instance, composition)?;
     if !may_run(runs, comp) {

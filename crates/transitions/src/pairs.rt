@@ -13,7 +13,7 @@ ghost use Rattle.transitions.specs.declared.pairs.Pair.{Pair};
 use crate::allowed::{Admitted, may_run, number_of};
 use crate::turns::turned;
 use compositions::Composition;
-use rail_base::limits::{MOST_COMPOSITION, MOST_EXCHANGED};
+use rail_base::limits::{MAX_COMPOSITION_UNITS, MAX_EXCHANGED};
 use rail_base::{CompNo, NoMemory};
 use rail_csv::End;
 use std::alloc::Global;
@@ -127,7 +127,7 @@ fn uncoupled_part_count(instance: &Instance) -> u32
 {
     let catalogue = instance.catalogue();
     for part in 0..catalogue.len() {
-        if catalogue.get(CompNo(part)).units().len() > MOST_EXCHANGED {
+        if catalogue.get(CompNo(part)).units().len() > MAX_EXCHANGED {
             return part;
         }
     }
@@ -137,7 +137,7 @@ fn uncoupled_part_count(instance: &Instance) -> u32
 /// Units with others at this end, or nothing where they are more than six together.
 fn joined_at(end: End, units: &Composition, others: &Composition) -> Option<Composition>
     ensures some { IfSome result (λ joined. joined ≡ joined_at end units.now others.now) }
-    ensures none { IsNone result → MOST_COMPOSITION < length (joined_at end units.now others.now) }
+    ensures none { IsNone result → MAX_COMPOSITION_UNITS < length (joined_at end units.now others.now) }
 {
     match end {
         End::None => Some(units.copied()),
@@ -206,11 +206,11 @@ fn add_exchanged(
         (Grown instance.now pairs.old.items pairs.new.items
         (λ pair. (pair.to ≡ to)
         × IsExchanged instance.now link.now.reverse (uncoupled_at link.now.kind)
-        (coupled_at link.now.kind) few MOST_EXCHANGED pair)) }
+        (coupled_at link.now.kind) few MAX_EXCHANGED pair)) }
 {
     let departing = instance.catalogue().get(to);
     let (uncouple, couple) = (uncoupled_at(link.kind), coupled_at(link.kind));
-    for coupled in 0..MOST_EXCHANGED as u32 {
+    for coupled in 0..MAX_EXCHANGED as u32 {
         if coupled + 1 < departing.len() {
             let kept = left_at(couple, departing, departing.len() - (coupled + 1));
             add_joined(pairs, instance, link.reverse, uncouple, &kept, few, to)?;

@@ -8,14 +8,14 @@ ghost use Rattle.transitions.specs.Turns.{shunt_by_units, turn_shunt_of};
 use crate::edge::Shunt;
 use compositions::Composition;
 use rail_base::TypeNo;
-use rail_base::limits::MOST_COMPOSITION;
+use rail_base::limits::MAX_COMPOSITION_UNITS;
 use timetable::{LinkKind, beyond, staying_units};
 
 /// The shunt of a turn between two lists of at most six types each, or nothing where the rule of the turn is broken,
 /// and at a join or a split. The arriving list is the one after a reversal.
 pub(crate) fn turn_shunt(kind: LinkKind, arriving: &[TypeNo], departing: &[TypeNo]) -> Option<Shunt>
-    requires arriving { length arriving.now ≤ MOST_COMPOSITION }
-    requires departing { length departing.now ≤ MOST_COMPOSITION }
+    requires arriving { length arriving.now ≤ MAX_COMPOSITION_UNITS }
+    requires departing { length departing.now ≤ MAX_COMPOSITION_UNITS }
     ensures { result ≡ turn_shunt_of kind arriving.now departing.now }
 {
     let LinkKind::Turn {
@@ -59,7 +59,7 @@ pub(crate) fn turned(reversed: bool, composition: &Composition) -> Composition
 /// What stands behind a front, or nothing where a whole of at most six types does not begin with the front or ends with
 /// it.
 pub(crate) fn rest_after(front: &[TypeNo], whole: &[TypeNo]) -> Option<Composition>
-    requires { length whole.now ≤ MOST_COMPOSITION }
+    requires { length whole.now ≤ MAX_COMPOSITION_UNITS }
     ensures { (rest : List ℕ) → (result ≡ Some rest) ↔ ((front.now ++ rest ≡ whole.now) × (1 ≤ length rest)) }
 {
     Composition::of(whole.strip_prefix(front)?)

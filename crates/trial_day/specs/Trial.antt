@@ -1,7 +1,7 @@
 -- The tables of the trial day of a seed and a number of trips: trains go out from X to Y, turn there and come back.
 use Rattle.std.specs.Prelude.{ℕ, ◌≡◌, ◌≤◌, ◌+◌, ◌*◌, ◌/◌, ◌%◌, List, [], ◌∷◌, ◌++◌, true, false, None, codes}
 use Rattle.std.specs.Fmt.{decimal}
-use Rattle.rail_base.specs.declared.limits.TheConstants.{MOST_TRIPS}
+use Rattle.rail_base.specs.declared.limits.TheConstants.{MAX_TRIPS}
 use Rattle.rules.specs.declared.records.End.TheVariants as at
 use Rattle.rail_csv.specs.declared.rows.KindWord.TheVariants as words
 use Rattle.rail_csv.specs.declared.rows.LinkRow.{LinkRow}
@@ -18,7 +18,7 @@ use Rattle.trial_day.specs.Draws.{drawn}
 pub record IsTrialSize (trips : ℕ) : Type 0 where
   pub even : trips % 2 ≡ 0
   pub some : 2 ≤ trips
-  pub few : trips ≤ MOST_TRIPS
+  pub few : trips ≤ MAX_TRIPS
 
 -- ---- types, stations, stock and weights
 

@@ -3,7 +3,7 @@
 ghost use Rattle.std.specs.Prelude.{◌≡◌, ◌<◌, ◌≤◌, ◌+◌, ◌*◌, ◌++◌, codes, IfOk, IsTrue};
 ghost use Rattle.std.specs.Fmt.{decimal};
 ghost use Rattle.rail_base.specs.Names.{is_name};
-ghost use Rattle.rail_base.specs.declared.limits.TheConstants.{MOST_TRIPS};
+ghost use Rattle.rail_base.specs.declared.limits.TheConstants.{MAX_TRIPS};
 ghost use Rattle.trial_day.specs.Draws.{next_state, number_from};
 ghost use Rattle.trial_day.specs.Trial.{back_name, back_row, begin_minute, out_name, out_row, trial_links};
 ghost use Rattle.trial_day.specs.Trial.{trial_stations, trial_stock, trial_trips, trial_types, turn_row};
@@ -80,7 +80,7 @@ pub(crate) fn stock(alloc: Global, trips: u32) -> Result<Vec<StockRow>, NoMemory
 
 /// The trips of so many pairs: each trip out before its trip back.
 pub(crate) fn trips(alloc: Global, seed: u32, pairs: u32) -> Result<Vec<TripRow>, NoMemory>
-    requires { 2 * pairs ≤ MOST_TRIPS }
+    requires { 2 * pairs ≤ MAX_TRIPS }
     ensures { IfOk result (λ rows. rows.items ≡ trial_trips seed pairs) }
 {
     let mut draws = Draws::from_seed(seed);
@@ -96,7 +96,7 @@ pub(crate) fn trips(alloc: Global, seed: u32, pairs: u32) -> Result<Vec<TripRow>
 
 /// The turns of so many pairs.
 pub(crate) fn links(alloc: Global, pairs: u32) -> Result<Vec<LinkRow>, NoMemory>
-    requires { 2 * pairs ≤ MOST_TRIPS }
+    requires { 2 * pairs ≤ MAX_TRIPS }
     ensures { IfOk result (λ rows. rows.items ≡ trial_links pairs) }
 {
     let mut rows = Vec::new(alloc);
@@ -134,7 +134,7 @@ fn back_name(alloc: Global, pair: u32) -> Result<Name, NoMemory>
 
 /// The minute at which a pair begins.
 fn begin_minute(pair: u32) -> u16
-    requires { 2 * pair < MOST_TRIPS }
+    requires { 2 * pair < MAX_TRIPS }
     ensures { result ≡ begin_minute pair }
 {
     (300 + 6 * pair) as u16
@@ -143,7 +143,7 @@ fn begin_minute(pair: u32) -> u16
 /// The trip out of a pair, from X to Y.
 #[tactic(auto, unfolding(rail_base::specs::Names::is_name))]
 fn out_row(alloc: Global, pair: u32, demand: u32) -> Result<TripRow, NoMemory>
-    requires { 2 * pair < MOST_TRIPS }
+    requires { 2 * pair < MAX_TRIPS }
     ensures { IfOk result (λ row. row ≡ out_row pair demand) }
 {
     let begin = begin_minute(pair);
@@ -162,7 +162,7 @@ fn out_row(alloc: Global, pair: u32, demand: u32) -> Result<TripRow, NoMemory>
 /// The trip back of a pair, from Y to X, 10 minutes after the trip out has arrived.
 #[tactic(auto, unfolding(rail_base::specs::Names::is_name))]
 fn back_row(alloc: Global, pair: u32, demand: u32) -> Result<TripRow, NoMemory>
-    requires { 2 * pair < MOST_TRIPS }
+    requires { 2 * pair < MAX_TRIPS }
     ensures { IfOk result (λ row. row ≡ back_row pair demand) }
 {
     let begin = begin_minute(pair) + 60;

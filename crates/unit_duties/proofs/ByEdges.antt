@@ -20,7 +20,7 @@ use Rattle.timetable.proofs.Within.{second_below}
 use Rattle.transitions.specs.declared.edge.Edge.{Edge}
 use Rattle.transitions.specs.declared.edge.Shunt.{Shunt}
 use Rattle.transitions.specs.declared.edge.Shunt.TheVariants.{Keep}
-use Rattle.transitions.specs.Edges.{MayRun, IsEdge, AreGraphs, IsFound}
+use Rattle.transitions.specs.Edges.{IsAdmittedComp, IsEdge, AreGraphs, IsFound}
 use Rattle.transitions.specs.Laws.{AreOn, MayRunAll}
 use Rattle.transitions.proofs.ByRule.{edges_by_rule}
 use Rattle.transitions.proofs.Following.{edges_found}
@@ -63,7 +63,7 @@ link_at (link ∷ links) (suc l) lt = link_at links l (omega arith)
 
 module _ (day : Day) (graphs : List (List Edge)) (picks : List ℕ) (are : AreGraphs day graphs) (are_picks : ArePicks day picks) (admissible : AreAdmissible day picks)
     (l : ℕ) (link : Link) (at : slice_get day.links l ≡ Some link) (below : NamesBelow (length day.trips) link.kind) where
-  runs : (t : ℕ) → t < length day.trips → MayRun day t (pick_of picks t)
+  runs : (t : ℕ) → t < length day.trips → IsAdmittedComp day t (pick_of picks t)
   runs t lt = let is = picked_at day picks are_picks t lt in record {
     listed = is.listed;
     admissible = subst (λ us. IsTrue (is_admissible day t us)) is.types_are (admissible.each t lt);
@@ -80,12 +80,12 @@ module _ (day : Day) (graphs : List (List Edge)) (picks : List ℕ) (are : AreGr
   seconds None h = refl
   seconds (Some t) h = ap (λ (us : List ℕ). Some us) (types_at t (h t refl))
 
-  second_runs : (o : Option ℕ) → ((t : ℕ) → o ≡ Some t → t < length day.trips) → (t part : ℕ) → o ≡ Some t → option_map (pick_of picks) o ≡ Some part → MayRun day t part
+  second_runs : (o : Option ℕ) → ((t : ℕ) → o ≡ Some t → t < length day.trips) → (t part : ℕ) → o ≡ Some t → option_map (pick_of picks) o ≡ Some part → IsAdmittedComp day t part
   second_runs None h t part e is = absurd (cc)
   second_runs (Some s) h t part e is =
       let same : s ≡ t = cc in
       let comp : pick_of picks s ≡ part = cc in
-      subst (λ x. MayRun day x part) same (subst (MayRun day s) comp (runs s (h s refl)))
+      subst (λ x. IsAdmittedComp day x part) same (subst (IsAdmittedComp day s) comp (runs s (h s refl)))
 
   are_on : (edge : Edge) → edge.from ≡ pick_of picks (leads_from link.kind) → edge.to ≡ pick_of picks (leads_to link.kind) → edge.part ≡ option_map (pick_of picks) (second_of link.kind)
       → AreOn day (picked day picks) link edge

@@ -9,7 +9,7 @@ use Rattle.std.proofs.lemmas.Bool.{cases_eq, cases_lt, cases_Bool, false≢true,
 use Rattle.std.proofs.lemmas.Bool.{cond-true, cond-false, eq-eqb, ltb-true, ltb-false}
 use Rattle.std.proofs.lemmas.List.{map-id, length-map, length-set, length-replicate, get_or-set_same, get_or-set_other}
 use Rattle.std.proofs.lemmas.Option.{unwrap_or-slice_get}
-use Rattle.rail_base.specs.declared.limits.TheConstants.{MOST_COMPOSITION}
+use Rattle.rail_base.specs.declared.limits.TheConstants.{MAX_COMPOSITION_UNITS}
 use Rattle.timetable.specs.Accepted.{IsDay, AreLinks, IsStocked, IsSoundDay}
 use Rattle.timetable.specs.Admissible.{is_admissible}
 use Rattle.timetable.specs.Day.{Day, leaves, from_of, to_of, type_of, types_of, unit_count, ready_at}
@@ -127,14 +127,14 @@ module _ (day : Day) (types : List (List ℕ)) (links : AreLinks day) (is_day : 
         ap (λ (come : List ℕ). put_together day b come us) (coming_same day types (list_of now) earlier b (λ a c. same a))
         ∙ ap (put_together day b (coming day types earlier b)) is ∙ sym list_is
 
-  pub few_next : length (lists b) ≤ MOST_COMPOSITION
+  pub few_next : length (lists b) ≤ MAX_COMPOSITION_UNITS
   unfolding is_admissible
   few_next =
       let fits = served.admissible b turns.0.here in
-      let few : leb (length (list_of types b)) MOST_COMPOSITION ≡ true = (and_parts _ _ (and_parts _ _ (and_parts _ _ (and_parts _ _ fits).0).0).0).1 in
-      let le : length (list_of types b) ≤ MOST_COMPOSITION = leb-true (length (list_of types b)) MOST_COMPOSITION few in
+      let few : leb (length (list_of types b)) MAX_COMPOSITION_UNITS ≡ true = (and_parts _ _ (and_parts _ _ (and_parts _ _ (and_parts _ _ fits).0).0).0).1 in
+      let le : length (list_of types b) ≤ MAX_COMPOSITION_UNITS = leb-true (length (list_of types b)) MAX_COMPOSITION_UNITS few in
       let long : length (list_of types b) ≡ length (lists b) = ap length (sym right.types_are) ∙ length-map (lists b) (type_of day) in
-      subst (λ (n : ℕ). n ≤ MOST_COMPOSITION) long le
+      subst (λ (n : ℕ). n ≤ MAX_COMPOSITION_UNITS) long le
 
   -- ---- what it gives
 
@@ -306,7 +306,7 @@ one_turn_more day order i b is lt at =
 -- once one trip more was made: its units are few enough and known, and when it has given its units to the yards, one trip
 -- more is named
 pub record IsMade (day : Day) (types : List (List ℕ)) (minute : ℕ) (plan : List (List ℕ)) (i b : ℕ) (now : List (List ℕ)) (us : List ℕ) (yards : BTreeSet Waiting) : Type 0 where
-  pub few : length us ≤ MOST_COMPOSITION
+  pub few : length us ≤ MAX_COMPOSITION_UNITS
   pub known : AreUnits day (given_places day types b us)
   pub next : (after : BTreeSet Waiting) → ArePutIn day (to_of day b) (ready_at day b) (given_places day types b us) yards after
       → NamedSoFar day types minute plan (reverse (take (i + 1) (trips_in_order day))) (set now b us) after
@@ -333,7 +333,7 @@ module _ (day : Day) (picks : List ℕ) (minute : ℕ) (plan : List (List ℕ)) 
   made_of : us ≡ so_far day types minute plan (b ∷ before) b → AreOthers day types sound.links sound.limits sound.stock can.served minute plan can.named b before turns led after
       → IsMade day types minute plan i b now us after
   made_of list others = record {
-    few = subst (λ (l : List ℕ). length l ≤ MOST_COMPOSITION) (sym list) (few_next day types sound.links sound.limits sound.stock can.served minute plan can.named b before turns led);
+    few = subst (λ (l : List ℕ). length l ≤ MAX_COMPOSITION_UNITS) (sym list) (few_next day types sound.links sound.limits sound.stock can.served minute plan can.named b before turns led);
     known = subst (λ (l : List ℕ). AreUnits day (given_places day types b l)) (sym list) (given_known day types sound.links sound.limits sound.stock can.served minute plan can.named b before turns led);
     next = λ later put.
         let put_in = subst (λ (l : List ℕ). ArePutIn day (to_of day b) (ready_at day b) (given_places day types b l) after later) list put in

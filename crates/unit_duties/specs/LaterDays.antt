@@ -20,7 +20,8 @@ pub record HasSameUnits (day later : Day) : Type 0 where
   pub home : (u : ℕ) → home_of later u ≡ home_of day u
 
 -- each of its trips runs as a trip of the day does: it leaves and arrives when and where that one does, and its units
--- are ready when they are there; and they are in the same order. Nothing is asked of kilometres, demands, names or types.
+-- are ready when they are there; and they are in the same order. Nothing is asked of kilometres, demands, names or
+-- types.
 pub record HasTripsOf (day later : Day) (old : ℕ → ℕ) : Type 0 where
   pub known : (t : ℕ) → t < length later.trips → old t < length day.trips
   pub rise : (s t : ℕ) → s < t → t < length later.trips → old s < old t

@@ -9,7 +9,7 @@ ghost use Rattle.unit_duties.specs.Stops.{duties_of};
 
 use crate::order::trips_in_order;
 use crate::stops::{Duties, Stop, StopList};
-use rail_base::limits::MOST_COMPOSITION;
+use rail_base::limits::MAX_COMPOSITION_UNITS;
 use rail_base::{NoMemory, TripNo, UnitNo};
 use std::alloc::Global;
 use timetable::{Instance, NamedPlan};
@@ -51,7 +51,7 @@ fn add_stop(lists: &mut [StopList], unit: UnitNo, stop: Stop) -> Result<(), NoMe
 /// Adds a trip to the duties of the units that run on it.
 fn add_trip(lists: &mut [StopList], trip: TripNo, units: &[UnitNo]) -> Result<(), NoMemory>
     requires known { (u : ℕ) → IsTrue (has u units.now) → u < length lists.old }
-    requires few { length units.now ≤ MOST_COMPOSITION }
+    requires few { length units.now ≤ MAX_COMPOSITION_UNITS }
     ensures { OnOk result ((u : ℕ) → u < length lists.old →
         stops_at lists.new u ≡ stops_at lists.old u ++ stop_of trip u units.now) }
 {

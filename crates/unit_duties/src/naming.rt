@@ -15,7 +15,7 @@ use crate::order::{departure, origin, trips_in_order};
 use crate::trains::{given_units, put_together};
 use crate::yards::{Waiting, take, units_at_home};
 use arrayvec::ArrayVec;
-use rail_base::limits::MOST_COMPOSITION;
+use rail_base::limits::MAX_COMPOSITION_UNITS;
 use rail_base::{NoMemory, StationNo, TripNo, UnitNo};
 use rail_csv::UnitList;
 use std::alloc::Global;
@@ -136,7 +136,7 @@ fn fetch(
     picks: &Picks,
     yards: &mut BTreeSet<Waiting>,
     trip: TripNo,
-) -> ArrayVec<UnitNo, MOST_COMPOSITION>
+) -> ArrayVec<UnitNo, MAX_COMPOSITION_UNITS>
     requires picks { ArePicks instance.now picks.now }
     requires trip { trip < length instance.now.trips }
     ensures { (stands : ℕ → Option InYard) →
@@ -165,7 +165,7 @@ fn give(
 ) -> Result<(), NoMemory>
     requires picks { ArePicks instance.now picks.now }
     requires trip { trip < length instance.now.trips }
-    requires few { length units.now ≤ MOST_COMPOSITION }
+    requires few { length units.now ≤ MAX_COMPOSITION_UNITS }
     requires known { AreUnits instance.now (given_units instance.now picks.now trip units.now) }
     ensures { OnOk result (ArePutIn instance.now
         (to_of instance.now trip) (ready_at instance.now trip)

@@ -10,7 +10,7 @@ ghost use Rattle.timetable.specs.Turns.{staying, beyond};
 ghost use Rattle.unit_duties.specs.Trains.{kept_at};
 
 use arrayvec::ArrayVec;
-use rail_base::limits::MOST_COMPOSITION;
+use rail_base::limits::MAX_COMPOSITION_UNITS;
 use rail_base::{NoMemory, TripNo, TypeNo, UnitNo};
 use rail_csv::{End, UnitList};
 use std::alloc::Global;
@@ -21,7 +21,7 @@ fn types_on<'a>(instance: &'a Instance, picks: &Picks, trip: TripNo) -> &'a [Typ
     requires picks { ArePicks instance.now picks.now }
     requires trip { trip < length instance.now.trips }
     ensures value { result.now ≡ list_of (picked instance.now picks.now) trip }
-    ensures few { length result.now ≤ MOST_COMPOSITION }
+    ensures few { length result.now ≤ MAX_COMPOSITION_UNITS }
 {
     instance.composition(picks, trip).units()
 }
@@ -39,16 +39,16 @@ fn kept_count(instance: &Instance, picks: &Picks, link: &Link) -> usize
 }
 
 /// What stays of the units of a train at a turn that keeps so many.
-fn staying_of(end: End, whole: &[UnitNo], kept: usize) -> ArrayVec<UnitNo, MOST_COMPOSITION>
-    requires { length whole.now ≤ MOST_COMPOSITION }
+fn staying_of(end: End, whole: &[UnitNo], kept: usize) -> ArrayVec<UnitNo, MAX_COMPOSITION_UNITS>
+    requires { length whole.now ≤ MAX_COMPOSITION_UNITS }
     ensures { result.items ≡ staying end whole.now kept }
 {
     copy_of(staying(end, whole, kept.min(whole.len())))
 }
 
 /// What goes of the units of a train at a turn that keeps so many.
-fn beyond_of(end: End, whole: &[UnitNo], kept: usize) -> ArrayVec<UnitNo, MOST_COMPOSITION>
-    requires { length whole.now ≤ MOST_COMPOSITION }
+fn beyond_of(end: End, whole: &[UnitNo], kept: usize) -> ArrayVec<UnitNo, MAX_COMPOSITION_UNITS>
+    requires { length whole.now ≤ MAX_COMPOSITION_UNITS }
     ensures { result.items ≡ beyond end whole.now kept }
 {
     copy_of(beyond(end, whole, kept.min(whole.len())))
@@ -62,10 +62,10 @@ fn going_on(
     from: TripNo,
     to: TripNo,
     units: &[UnitNo],
-) -> ArrayVec<UnitNo, MOST_COMPOSITION>
+) -> ArrayVec<UnitNo, MAX_COMPOSITION_UNITS>
     requires picks { ArePicks instance.now picks.now }
     requires trip { from < length instance.now.trips }
-    requires few { length units.now ≤ MOST_COMPOSITION }
+    requires few { length units.now ≤ MAX_COMPOSITION_UNITS }
     ensures { result.items ≡ going_on instance.now (picked instance.now picks.now) from to units.now }
 {
     match instance.link_out(from) {
@@ -81,10 +81,10 @@ fn going_by(
     link: &Link,
     to: TripNo,
     units: &[UnitNo],
-) -> ArrayVec<UnitNo, MOST_COMPOSITION>
+) -> ArrayVec<UnitNo, MAX_COMPOSITION_UNITS>
     requires picks { ArePicks instance.now picks.now }
     requires trips { NamesBelow (length instance.now.trips) link.now.kind }
-    requires few { length units.now ≤ MOST_COMPOSITION }
+    requires few { length units.now ≤ MAX_COMPOSITION_UNITS }
     ensures { result.items ≡ going_by link.now.kind link.now.reverse (picked instance.now picks.now) to units.now }
 {
     let units = turned(link.reverse, units);
@@ -110,16 +110,16 @@ fn going_by(
 }
 
 /// So many units at the front, or all where there are fewer.
-fn front_of(units: &[UnitNo], number: usize) -> ArrayVec<UnitNo, MOST_COMPOSITION>
-    requires { length units.now ≤ MOST_COMPOSITION }
+fn front_of(units: &[UnitNo], number: usize) -> ArrayVec<UnitNo, MAX_COMPOSITION_UNITS>
+    requires { length units.now ≤ MAX_COMPOSITION_UNITS }
     ensures { result.items ≡ take number units.now }
 {
     copy_of(&units[..number.min(units.len())])
 }
 
 /// The units behind so many at the front.
-fn behind(units: &[UnitNo], number: usize) -> ArrayVec<UnitNo, MOST_COMPOSITION>
-    requires { length units.now ≤ MOST_COMPOSITION }
+fn behind(units: &[UnitNo], number: usize) -> ArrayVec<UnitNo, MAX_COMPOSITION_UNITS>
+    requires { length units.now ≤ MAX_COMPOSITION_UNITS }
     ensures { result.items ≡ drop number units.now }
 {
     copy_of(&units[number.min(units.len())..])
@@ -159,7 +159,7 @@ fn coming(
 fn units_of(lists: &[UnitList], trip: TripNo) -> &[UnitNo]
     requires { trip < length lists.now }
     ensures value { result.now ≡ list_of lists.now trip }
-    ensures few { length result.now ≤ MOST_COMPOSITION }
+    ensures few { length result.now ≤ MAX_COMPOSITION_UNITS }
 {
     lists[trip.place()].items()
 }
@@ -171,10 +171,10 @@ pub(crate) fn given_units(
     picks: &Picks,
     trip: TripNo,
     units: &[UnitNo],
-) -> ArrayVec<UnitNo, MOST_COMPOSITION>
+) -> ArrayVec<UnitNo, MAX_COMPOSITION_UNITS>
     requires picks { ArePicks instance.now picks.now }
     requires trip { trip < length instance.now.trips }
-    requires few { length units.now ≤ MOST_COMPOSITION }
+    requires few { length units.now ≤ MAX_COMPOSITION_UNITS }
     ensures { result.items ≡ given_places instance.now (picked instance.now picks.now) trip units.now }
 {
     let Some(link) = instance.link_out(trip) else {

@@ -5,7 +5,7 @@ use Rattle.std.specs.Prelude.{if◌then◌else◌, ◌==◌}
 use Rattle.std.proofs.lemmas.Bool.{cases_Bool, cases_eq, cond-true, cond-false, eq-eqb, eqb-true}
 use Rattle.timetable.specs.Lists.{count_of}
 use Rattle.timetable.proofs.Ones.{one_same, one_other}
-use Rattle.urgent_units.specs.Runs.{runs_of, with_trip, first_of, last_of, last_from}
+use Rattle.urgent_units.specs.Runs.{runs_of, with_trip, first_of, last_trip_of, last_from}
 use Rattle.urgent_units.proofs.ListSums.{over, over_same}
 
 -- ---- sums over runs, trip by trip
@@ -17,7 +17,7 @@ runs_sum goes g f p (b ∷ ts) = if goes p b then runs_sum goes g f b ts else g 
 
 -- the same of whole runs
 abbrev pub of_runs : (ℕ → ℕ → ℕ) → List (List ℕ) → ℕ
-of_runs g runs = over (λ run. g (first_of run) (last_of run)) runs
+of_runs g runs = over (λ run. g (first_of run) (last_trip_of run)) runs
 
 pub record Summed (goes : ℕ → ℕ → Bool) (g : ℕ → ℕ → ℕ) (t : ℕ) (ts : List ℕ) : Type 0 where
   pub more : List ℕ

@@ -5,7 +5,7 @@ use Rattle.std.specs.List.{All}
 use Rattle.std.proofs.lemmas.Bool.{cases_eq, cases_Bool, cond-true, cond-false, eqb-true, eq-eqb, false≢true, lt-ltb, le-ltb, ltb-true, ltb-false, leb-true, le-leb}
 use Rattle.std.proofs.lemmas.List.{append-nil, map-append, map-id}
 use Rattle.std.proofs.lemmas.List.Elements.{All-nil, All-cons, All-head, All-tail}
-use Rattle.rail_base.specs.declared.limits.TheConstants.{MOST_MINUTES}
+use Rattle.rail_base.specs.declared.limits.TheConstants.{MAX_MINUTES}
 use Rattle.timetable.specs.Accepted.{IsDay, AreLinks, IsStocked}
 use Rattle.timetable.specs.Day.{Day, leaves, arrives, from_of, to_of, home_of, type_of, types_of, unit_count, ready_at}
 use Rattle.timetable.specs.Duties.{duty, ends_at}
@@ -18,7 +18,7 @@ use Rattle.inventory.specs.NamedBefore.{GoesByPlaces, MayFollowByPlaces}
 use Rattle.inventory.specs.Places.{going_on, given_places, taken_places}
 use Rattle.inventory.proofs.Earlier.{running_plans_are_named}
 use Rattle.inventory.proofs.Linked.{AllHold, LeadsInto, given_is, given_places-map, going_leads_into, kept_is, leads_into, taken_is, taken_places-map}
-use Rattle.inventory.proofs.OnDuty.{duty_within, first_takes, last_gives, last_of as last_trip, on_duty, stays as kept_apart}
+use Rattle.inventory.proofs.OnDuty.{duty_within, first_takes, last_gives, last_of_duty as last_trip, on_duty, stays as kept_apart}
 use Rattle.urgent_units.specs.declared.legs.Leg.{Leg}
 use Rattle.urgent_units.specs.Exchanges.{ExchangedPlansRun, RunsExchanged, StandsReady, exchanged, exchanged_plan, in_place, legs_before, legs_from}
 use Rattle.urgent_units.specs.Namings.{IsNaming}
@@ -190,13 +190,13 @@ module _ (day : Day) (plan : List (List ℕ)) (u v s minute : ℕ) (is_day : IsD
       ∙ ap (λ (xs : List ℕ). before w ++ xs) (filter_same (λ t. has w (list_of other t)) (λ t. has (ex w) (list_of plan t)) (late_trips day minute)
       (λ t there. let k = late_known day minute t there in part_late (λ us. us) t w (λ us. refl) k.0 k.1))
 
-  early_all : (t : ℕ) → t < length day.trips → leaves day t < MOST_MINUTES
+  early_all : (t : ℕ) → t < length day.trips → leaves day t < MAX_MINUTES
   early_all t known = omega (arith, is_day.timetable.time t known, is_day.timetable.late t known)
 
   followed : (w : ℕ) → w < unit_count day → EachFollows (MayFollowByPlaces day types plan w) (before w ++ after w)
   followed w known =
       subst (EachFollows (MayFollowByPlaces day types plan w)) (whole_duty_of day plan w early_all ∙ duty_parts day minute plan w)
-      ((running_plans_are_named day plan MOST_MINUTES links runs).follows w known)
+      ((running_plans_are_named day plan MAX_MINUTES links runs).follows w known)
 
   begun : (w : ℕ) → w < unit_count day → BeginsAt day (home_of day w) (before w ++ after w)
   begun w known = subst (BeginsAt day (home_of day w)) (duty_parts day minute plan w) (runs.homes w known)

@@ -23,7 +23,7 @@ use Rattle.timetable.proofs.Ones.{one_same}
 use Rattle.rules.proofs.Turning.{staying-map}
 use Rattle.inventory.specs.Places.{going_by, come_by, fetched_by, going_on, kept_places, taken_places, coming}
 use Rattle.inventory.proofs.Linked.{AllHold, Goes, LeadsInto, goes, leads_into, flat_same, taken_places-map, come_is, taken_is, kept_is, places_share}
-use Rattle.inventory.proofs.OnDuty.{once, stays as kept_apart, last_gives, last_of as last_trip, duty_once, on_duty, given_less, of_duty}
+use Rattle.inventory.proofs.OnDuty.{once, stays as kept_apart, last_gives, last_of_duty as last_trip, duty_once, on_duty, given_less, of_duty}
 use Rattle.inventory.proofs.PlacesByKind.{going-map}
 use Rattle.inventory.proofs.Yards.{list_sum}
 use Rattle.urgent_units.specs.Legs.{stays}

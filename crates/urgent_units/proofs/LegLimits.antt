@@ -5,7 +5,7 @@ use Rattle.std.specs.List.{All}
 use Rattle.std.proofs.lemmas.Bool.{cases_Bool, cond-true, cond-false}
 use Rattle.std.proofs.lemmas.List.{length-map, map-append}
 use Rattle.std.proofs.lemmas.List.Elements.{All-nil, All-cons, All-append, filter-append}
-use Rattle.rail_base.specs.declared.limits.TheConstants.{MOST_MINUTES, MOST_REALLOCATION, MOST_TRIPS}
+use Rattle.rail_base.specs.declared.limits.TheConstants.{MAX_MINUTES, MAX_REALLOCATION, MAX_TRIPS}
 use Rattle.timetable.specs.Accepted.{IsDay, AreLinks}
 use Rattle.timetable.specs.Day.{Day, leaves, from_of, to_of, type_of, unit_count, ready_at}
 use Rattle.timetable.specs.Duties.{duty}
@@ -70,12 +70,12 @@ module _ (day : Day) (plan : List (List ℕ)) (is_day : IsDay day) (links : AreL
   trips_known (t ∷ ts) known = (known t (let here = one_same t t refl in omega (arith, here)), trips_known ts (λ x c. known x (omega (arith, c))))
 
   -- a duty has no more trips than the day may have
-  pub duty_few : (u : ℕ) → length (duty day plan u) ≤ MOST_TRIPS
+  pub duty_few : (u : ℕ) → length (duty day plan u) ≤ MAX_TRIPS
   duty_few u =
       let few = few_units (duty day plan u) (length day.trips) (duty_within day plan is_day links runs u) (duty_once day plan is_day links runs u) in
       omega (arith, few, is_day.timetable.trip_count)
 
-  unit_few : (u : ℕ) → length (legs_of_unit day plan u) ≤ MOST_TRIPS
+  unit_few : (u : ℕ) → length (legs_of_unit day plan u) ≤ MAX_TRIPS
   unit_few u =
       omega (arith, length-map (runs_of (stays day plan u) (duty day plan u)) (leg_of day), runs_few (stays day plan u) (duty day plan u), duty_few u)
 
@@ -83,12 +83,12 @@ module _ (day : Day) (plan : List (List ℕ)) (is_day : IsDay day) (links : AreL
   unit_each u = on (duty day plan u) (trips_known (duty day plan u) (duty_within day plan is_day links runs u))
     where
       First : ℕ → ℕ → Type 0
-      First s departs = (s < length day.stations) × (departs < MOST_MINUTES + MOST_REALLOCATION)
+      First s departs = (s < length day.stations) × (departs < MAX_MINUTES + MAX_REALLOCATION)
 
       on : (ts : List ℕ) → AreTrips day ts → All (IsLegAt all) (map (leg_of day) (runs_of (stays day plan u) ts))
       on [] known = All-nil (IsLegAt all)
       on (t ∷ ts) known =
-          let holds = ends_hold day (stays day plan u) (λ s departs. (s < length day.stations) × (departs < MOST_MINUTES + MOST_REALLOCATION)) (λ s ready. (s < length day.stations) × (ready < MOST_MINUTES + MOST_REALLOCATION))
+          let holds = ends_hold day (stays day plan u) (λ s departs. (s < length day.stations) × (departs < MAX_MINUTES + MAX_REALLOCATION)) (λ s ready. (s < length day.stations) × (ready < MAX_MINUTES + MAX_REALLOCATION))
           (λ x below. (is_day.timetable.origin x below, omega (arith, is_day.timetable.time x below, is_day.timetable.late x below)))
           (λ x below. (is_day.timetable.goal x below, omega (arith, is_day.timetable.late x below, is_day.timetable.reallocation (to_of day x))))
           ts t known in
@@ -125,6 +125,6 @@ module _ (day : Day) (plan : List (List ℕ)) (is_day : IsDay day) (links : AreL
     stations = is_day.timetable.station_count;
     units = omega (arith, length-map (filter (λ u. type_of day u == m) (below (unit_count day))) (unit_legs day plan), units_few (unit_count day), is_day.units.few);
     homes = each_unit (λ unit. unit.home < all.stations) (λ u known. is_day.units.home u known);
-    few = each_unit (λ unit. length unit.legs ≤ MOST_TRIPS) (λ u known. unit_few u);
+    few = each_unit (λ unit. length unit.legs ≤ MAX_TRIPS) (λ u known. unit_few u);
     each = each_unit (λ unit. All (IsLegAt all) unit.legs) (λ u known. unit_each u);
   }

@@ -2,7 +2,7 @@
 use Rattle.std.proofs.Common.{◌≡◌, ℕ, zero, suc, ◌+◌, ◌≤◌, ◌<◌, List, [], ◌∷◌, length, get_or, refl, sym, ap, ◌∙◌, subst, arith, Some, Option, unwrap_or}
 use Rattle.std.specs.Prelude.{slice_get}
 use Rattle.std.specs.List.{All, AllPairs}
-use Rattle.rail_base.specs.declared.limits.TheConstants.{MOST_MINUTES, MOST_REALLOCATION, MOST_TRIPS}
+use Rattle.rail_base.specs.declared.limits.TheConstants.{MAX_MINUTES, MAX_REALLOCATION, MAX_TRIPS}
 use Rattle.timetable.specs.Accepted.{IsDay, AreLinks}
 use Rattle.timetable.specs.Day.{Day}
 use Rattle.timetable.specs.Running.{Runs}
@@ -16,9 +16,9 @@ use Rattle.urgent_units.proofs.LegLimits.{are_legs}
 use Rattle.urgent_units.proofs.LegMinutes.{pairs_of_rise}
 
 -- the minutes of a station of legs within the limits of a day are not too many
-pub minutes_few : (legs : TypeLegs) → AreLegs legs → (s : ℕ) → length (minutes_at legs s) ≤ MOST_MINUTES + MOST_REALLOCATION
+pub minutes_few : (legs : TypeLegs) → AreLegs legs → (s : ℕ) → length (minutes_at legs s) ≤ MAX_MINUTES + MAX_REALLOCATION
 minutes_few legs are s =
-    few_minutes legs s (MOST_MINUTES + MOST_REALLOCATION) (λ k d below i e under. (
+    few_minutes legs s (MAX_MINUTES + MAX_REALLOCATION) (λ k d below i e under. (
     let leg = are.each k d below i e under in
     (leg.departs, leg.ready)))
 
@@ -39,7 +39,7 @@ minutes_found legs units minutes s place found parts legs_are below at is =
 
 -- the legs of one of the units
 pub record AreWithin (legs : TypeLegs) (unit : UnitLegs) : Type 0 where
-  pub few : length unit.legs ≤ MOST_TRIPS
+  pub few : length unit.legs ≤ MAX_TRIPS
   pub each : All (IsLegAt legs) unit.legs
 
 pub unit_within : (legs : TypeLegs) (units : List UnitLegs) (k : ℕ) (unit : UnitLegs) → AreLegs legs → units ≡ legs.units → k < length units → unit ≡ get_or units k unit → AreWithin legs unit
@@ -48,7 +48,7 @@ unit_within legs units k unit are same below at =
     let is : get_or legs.units k unit ≡ unit = ap (λ (us : List UnitLegs). get_or us k unit) (sym same) ∙ sym at in
     let here : All (IsLegAt legs) unit.legs = subst (λ (u : UnitLegs). All (IsLegAt legs) u.legs) is (are.each k unit under) in
     record {
-      few = subst (λ (u : UnitLegs). length u.legs ≤ MOST_TRIPS) is (are.few k unit under);
+      few = subst (λ (u : UnitLegs). length u.legs ≤ MAX_TRIPS) is (are.few k unit under);
       each = here;
     }
 

@@ -2,7 +2,7 @@
 use Rattle.std.proofs.Common.{◌≡◌, ℕ, ◌≤◌, ◌<◌, Bool, List, [], ◌∷◌, length, map, refl, sym, ap, ◌∙◌, subst, arith, inl, inr, Option, unwrap_or}
 use Rattle.std.specs.Prelude.{filter, nat_lt, IsTrue}
 use Rattle.std.proofs.lemmas.Bool.{cases_eq, cases_lt, cases_Bool, cond-true, cond-false, lt-ltb, le-leb, leb-true}
-use Rattle.rail_base.specs.declared.limits.TheConstants.{MOST_MINUTES}
+use Rattle.rail_base.specs.declared.limits.TheConstants.{MAX_MINUTES}
 use Rattle.timetable.specs.Accepted.{IsDay, AreLinks, IsStocked}
 use Rattle.timetable.specs.Day.{Day, leaves, home_of, type_of, types_of, unit_count}
 use Rattle.timetable.specs.Duties.{duty}
@@ -93,8 +93,8 @@ trip_known day other u t there =
     ]
 
 -- all trips leave within the two days
-pub whole_duty_of : (day : Day) (other : List (List ℕ)) (u : ℕ) → ((t : ℕ) → t < length day.trips → leaves day t < MOST_MINUTES) → duty_before day other MOST_MINUTES u ≡ duty day other u
-whole_duty_of day other u early = all_early day MOST_MINUTES (duty day other u) (λ t there. early t (trip_known day other u t there))
+pub whole_duty_of : (day : Day) (other : List (List ℕ)) (u : ℕ) → ((t : ℕ) → t < length day.trips → leaves day t < MAX_MINUTES) → duty_before day other MAX_MINUTES u ≡ duty day other u
+whole_duty_of day other u early = all_early day MAX_MINUTES (duty day other u) (λ t there. early t (trip_known day other u t there))
 
 module _ (day : Day) (plan : List (List ℕ)) (who : ℕ → ℕ → ℕ) (is_day : IsDay day) (links : AreLinks day) (stocked : IsStocked day) (runs : Runs day plan) (renaming : IsRenaming day plan who) where
   abbrev types : List (List ℕ)
@@ -103,7 +103,7 @@ module _ (day : Day) (plan : List (List ℕ)) (who : ℕ → ℕ → ℕ) (is_da
   abbrev other : List (List ℕ)
   other = renamed day who plan
 
-  early : (t : ℕ) → t < length day.trips → leaves day t < MOST_MINUTES
+  early : (t : ℕ) → t < length day.trips → leaves day t < MAX_MINUTES
   early t known = omega (arith, is_day.timetable.time t known, is_day.timetable.late t known)
 
   in_list : (t u : ℕ) → 1 ≤ count_of u (list_of plan t) → IsTrue (has u (list_of plan t))
@@ -142,10 +142,10 @@ module _ (day : Day) (plan : List (List ℕ)) (who : ℕ → ℕ → ℕ) (is_da
           let into : LeadsInto day a t = leads_into day types links a t leads in
           sym (renamed_list day who plan a into.from))
 
-  whole_duty : (u : ℕ) → duty_before day other MOST_MINUTES u ≡ duty day other u
+  whole_duty : (u : ℕ) → duty_before day other MAX_MINUTES u ≡ duty day other u
   whole_duty u = whole_duty_of day other u early
 
-  named : IsNamedBefore day types MOST_MINUTES other
+  named : IsNamedBefore day types MAX_MINUTES other
   named = record {
     lists = λ t below before. listed_right t below;
     links = λ t below before. links_right t below;
@@ -155,10 +155,10 @@ module _ (day : Day) (plan : List (List ℕ)) (who : ℕ → ℕ → ℕ) (is_da
 
   pub renamed_runs : IsNaming day plan other
   renamed_runs =
-      let on : RunsOn day types MOST_MINUTES other (named_from day types MOST_MINUTES other) = named_plans_run day types MOST_MINUTES other is_day links stocked (served day plan is_day links stocked runs) named in
-      let long : length (named_from day types MOST_MINUTES other) ≡ length other = on.runs.is_plan.trips ∙ sym (renamed_long day who plan) in
-      let same : named_from day types MOST_MINUTES other ≡ other = same_plans (named_from day types MOST_MINUTES other) other long (λ t. elim (cases_lt t (length day.trips)) [
+      let on : RunsOn day types MAX_MINUTES other (named_from day types MAX_MINUTES other) = named_plans_run day types MAX_MINUTES other is_day links stocked (served day plan is_day links stocked runs) named in
+      let long : length (named_from day types MAX_MINUTES other) ≡ length other = on.runs.is_plan.trips ∙ sym (renamed_long day who plan) in
+      let same : named_from day types MAX_MINUTES other ≡ other = same_plans (named_from day types MAX_MINUTES other) other long (λ t. elim (cases_lt t (length day.trips)) [
         | inl below ↦ on.agrees t below (early t below)
-        | inr past ↦ none_past (named_from day types MOST_MINUTES other) t (omega (arith, past, on.runs.is_plan.trips)) ∙ sym (none_past other t (omega (arith, past, renamed_long day who plan)))
+        | inr past ↦ none_past (named_from day types MAX_MINUTES other) t (omega (arith, past, on.runs.is_plan.trips)) ∙ sym (none_past other t (omega (arith, past, renamed_long day who plan)))
       ]) in
       record { runs = subst (Runs day) same on.runs; types = subst (λ (p : List (List ℕ)). map (types_of day) p ≡ types) same on.types_are }

@@ -6,7 +6,7 @@ use Rattle.std.specs.List.{flat_map}
 use Rattle.std.proofs.lemmas.Bool.{cases_Bool, cond-true, cond-false}
 use Rattle.std.proofs.lemmas.List.Elements.{All-nil, All-cons, All-head, All-tail}
 use Rattle.urgent_units.specs.Laws.{RunsAreLongest}
-use Rattle.urgent_units.specs.Runs.{AreLongestRuns, runs_of, with_trip, first_of, last_of}
+use Rattle.urgent_units.specs.Runs.{AreLongestRuns, runs_of, with_trip, first_of, last_trip_of}
 use Rattle.urgent_units.proofs.InTurn.{starts}
 
 abbrev GoOn : (ℕ → ℕ → Bool) → List ℕ → Type 0
@@ -40,7 +40,7 @@ one_longest goes t = record {
   longest = apart;
 }
   where
-    apart : (r : ℕ) (run next : List ℕ) → slice_get ((t ∷ []) ∷ []) r ≡ Some run → slice_get ((t ∷ []) ∷ []) (suc r) ≡ Some next → goes (last_of run) (first_of next) ≡ false
+    apart : (r : ℕ) (run next : List ℕ) → slice_get ((t ∷ []) ∷ []) r ≡ Some run → slice_get ((t ∷ []) ∷ []) (suc r) ≡ Some next → goes (last_trip_of run) (first_of next) ≡ false
     apart zero run next at after = no_run zero next after
     apart (suc r) run next at after = no_run r run at
 
@@ -60,10 +60,10 @@ joined_longest goes t b ts more others goes_on rest = record {
         subst (λ (z : ℕ). goes z y ≡ true) left (subst (λ (z : ℕ). goes t z ≡ true) right goes_on)
     first (suc k) x y at next = All-head (GoOn goes) (b ∷ more) others rest.go_on k x y at next
 
-    apart : (r : ℕ) (run next : List ℕ) → slice_get ((t ∷ b ∷ more) ∷ others) r ≡ Some run → slice_get ((t ∷ b ∷ more) ∷ others) (suc r) ≡ Some next → goes (last_of run) (first_of next) ≡ false
+    apart : (r : ℕ) (run next : List ℕ) → slice_get ((t ∷ b ∷ more) ∷ others) r ≡ Some run → slice_get ((t ∷ b ∷ more) ∷ others) (suc r) ≡ Some next → goes (last_trip_of run) (first_of next) ≡ false
     apart zero run next at after =
         let same : (t ∷ b ∷ more) ≡ run = cc in
-        subst (λ (xs : List ℕ). goes (last_of xs) (first_of next) ≡ false) same (rest.longest zero (b ∷ more) next refl after)
+        subst (λ (xs : List ℕ). goes (last_trip_of xs) (first_of next) ≡ false) same (rest.longest zero (b ∷ more) next refl after)
     apart (suc r) run next at after = rest.longest (suc r) run next at after
 
 -- and one that doesn't is a run by itself
@@ -75,11 +75,11 @@ apart_longest goes t b ts more others ends rest = record {
   longest = apart;
 }
   where
-    apart : (r : ℕ) (run next : List ℕ) → slice_get ((t ∷ []) ∷ (b ∷ more) ∷ others) r ≡ Some run → slice_get ((t ∷ []) ∷ (b ∷ more) ∷ others) (suc r) ≡ Some next → goes (last_of run) (first_of next) ≡ false
+    apart : (r : ℕ) (run next : List ℕ) → slice_get ((t ∷ []) ∷ (b ∷ more) ∷ others) r ≡ Some run → slice_get ((t ∷ []) ∷ (b ∷ more) ∷ others) (suc r) ≡ Some next → goes (last_trip_of run) (first_of next) ≡ false
     apart zero run next at after =
         let left : (t ∷ []) ≡ run = cc in
         let right : (b ∷ more) ≡ next = cc in
-        subst (λ (xs : List ℕ). goes (last_of xs) (first_of next) ≡ false) left (subst (λ (xs : List ℕ). goes t (first_of xs) ≡ false) right ends)
+        subst (λ (xs : List ℕ). goes (last_trip_of xs) (first_of next) ≡ false) left (subst (λ (xs : List ℕ). goes t (first_of xs) ≡ false) right ends)
     apart (suc r) run next at after = rest.longest r run next at after
 
 are_longest : (goes : ℕ → ℕ → Bool) (trips : List ℕ) → AreLongestRuns goes trips (runs_of goes trips)
@@ -115,10 +115,10 @@ first_off goes t b ts more others are = record {
   longest = apart;
 }
   where
-    apart : (r : ℕ) (run next : List ℕ) → slice_get ((b ∷ more) ∷ others) r ≡ Some run → slice_get ((b ∷ more) ∷ others) (suc r) ≡ Some next → goes (last_of run) (first_of next) ≡ false
+    apart : (r : ℕ) (run next : List ℕ) → slice_get ((b ∷ more) ∷ others) r ≡ Some run → slice_get ((b ∷ more) ∷ others) (suc r) ≡ Some next → goes (last_trip_of run) (first_of next) ≡ false
     apart zero run next at after =
         let same : (b ∷ more) ≡ run = cc in
-        subst (λ (xs : List ℕ). goes (last_of xs) (first_of next) ≡ false) same (are.longest zero (t ∷ b ∷ more) next refl after)
+        subst (λ (xs : List ℕ). goes (last_trip_of xs) (first_of next) ≡ false) same (are.longest zero (t ∷ b ∷ more) next refl after)
     apart (suc r) run next at after = are.longest (suc r) run next at after
 
 run_off : (goes : ℕ → ℕ → Bool) (t : ℕ) (ts : List ℕ) (others : List (List ℕ)) → AreLongestRuns goes (t ∷ ts) ((t ∷ []) ∷ others) → AreLongestRuns goes ts others

@@ -3,7 +3,7 @@
 use Rattle.std.proofs.Common.{◌≡◌, ℕ, zero, suc, ◌≤◌, ◌<◌, List, [], ◌∷◌, length, get_or, refl, sym, subst, arith}
 use Rattle.std.specs.Prelude.{IsTrue}
 use Rattle.std.proofs.lemmas.Bool.{le-leb}
-use Rattle.rail_base.specs.declared.limits.TheConstants.{MOST_UNITS}
+use Rattle.rail_base.specs.declared.limits.TheConstants.{MAX_UNITS}
 use Rattle.timetable.specs.Accepted.{IsDay}
 use Rattle.timetable.specs.Day.{Day, home_of, unit_count}
 use Rattle.timetable.specs.Lists.{count_of, has}
@@ -25,7 +25,7 @@ module _ (day : Day) (wish : Wish) (is_wish : IsWish day wish) where
       let there : 1 ≤ count_of u us = subst (λ (v : ℕ). 1 ≤ count_of v us) (sym is) (there_is us k u under) in
       is_wish.known u (subst (λ (vs : List ℕ). IsTrue (has u vs)) same (le-leb 1 (count_of u us) there))
 
-  pub few : IsDay day → length wish.units ≤ MOST_UNITS
+  pub few : IsDay day → length wish.units ≤ MAX_UNITS
   few is_day =
       let within = few_units wish.units (unit_count day) (λ u c. is_wish.known u (le-leb 1 (count_of u wish.units) c)) is_wish.distinct in
       let most = is_day.units.few in

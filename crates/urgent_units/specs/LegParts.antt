@@ -1,8 +1,8 @@
 -- The inside of the legs of a type.
 use Rattle.std.specs.Prelude.{ℕ, ◌≡◌, ◌<◌, ◌≤◌, ◌+◌, List, [], ◌∷◌, length, Some, slice_get, Bool, if◌then◌else◌}
 use Rattle.std.specs.List.{All}
-use Rattle.rail_base.specs.declared.limits.TheConstants.{MOST_MINUTES, MOST_REALLOCATION, MOST_STATIONS, MOST_TRIPS}
-use Rattle.rail_base.specs.declared.limits.TheConstants.{MOST_UNITS}
+use Rattle.rail_base.specs.declared.limits.TheConstants.{MAX_MINUTES, MAX_REALLOCATION, MAX_STATIONS, MAX_TRIPS}
+use Rattle.rail_base.specs.declared.limits.TheConstants.{MAX_UNITS}
 use Rattle.urgent_units.specs.declared.legs.Leg.{Leg}
 use Rattle.urgent_units.specs.declared.legs.Legs.TheInside.{Inside}
 use Rattle.urgent_units.specs.declared.legs.UnitLegs.{UnitLegs}
@@ -19,15 +19,15 @@ legs_in a = record { stations = length a.minutes.items; units = a.units.items }
 pub record IsLegAt (legs : TypeLegs) (leg : Leg) : Type 0 where
   pub from : leg.from < legs.stations
   pub to : leg.to < legs.stations
-  pub departs : leg.departs < MOST_MINUTES + MOST_REALLOCATION
-  pub ready : leg.ready < MOST_MINUTES + MOST_REALLOCATION
+  pub departs : leg.departs < MAX_MINUTES + MAX_REALLOCATION
+  pub ready : leg.ready < MAX_MINUTES + MAX_REALLOCATION
 
 -- legs within the limits of a day
 pub record AreLegs (legs : TypeLegs) : Type 0 where
-  pub stations : legs.stations ≤ MOST_STATIONS
-  pub units : length legs.units ≤ MOST_UNITS
+  pub stations : legs.stations ≤ MAX_STATIONS
+  pub units : length legs.units ≤ MAX_UNITS
   pub homes : All (λ unit. unit.home < legs.stations) legs.units
-  pub few : All (λ unit. length unit.legs ≤ MOST_TRIPS) legs.units
+  pub few : All (λ unit. length unit.legs ≤ MAX_TRIPS) legs.units
   pub each : All (λ unit. All (IsLegAt legs) unit.legs) legs.units
 
 -- the units with their legs, and the minutes of the stations, which are those of the legs

@@ -9,7 +9,7 @@ use Rattle.timetable.specs.Links.{kept}
 use Rattle.timetable.specs.Lists.{has, below}
 use Rattle.urgent_units.specs.declared.legs.Leg.{Leg}
 use Rattle.urgent_units.specs.declared.legs.UnitLegs.{UnitLegs}
-use Rattle.urgent_units.specs.Runs.{runs_of, first_of, last_of}
+use Rattle.urgent_units.specs.Runs.{runs_of, first_of, last_trip_of}
 
 -- the unit stays in the train from trip a to trip b
 abbrev pub stays : Day → List (List ℕ) → ℕ → ℕ → ℕ → Bool
@@ -20,8 +20,8 @@ abbrev pub leg_of : Day → List ℕ → Leg
 leg_of day run = record {
   from = from_of day (first_of run);
   departs = leaves day (first_of run);
-  to = to_of day (last_of run);
-  ready = ready_at day (last_of run);
+  to = to_of day (last_trip_of run);
+  ready = ready_at day (last_trip_of run);
   trips = length run;
 }
 

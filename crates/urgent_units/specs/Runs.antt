@@ -14,9 +14,9 @@ last_from t [] = t
 last_from t (s ∷ ts) = last_from s ts
 
 -- the last trip of a run; 0 of an empty one
-abbrev pub last_of : List ℕ → ℕ
-last_of [] = 0
-last_of (t ∷ ts) = last_from t ts
+abbrev pub last_trip_of : List ℕ → ℕ
+last_trip_of [] = 0
+last_trip_of (t ∷ ts) = last_from t ts
 
 -- These are the longest runs of trips: one after another they are the trips, none is empty, each trip of a run goes on
 -- to the next, and the last of a run doesn't go on to the first of the next run.
@@ -26,7 +26,7 @@ pub record AreLongestRuns (goes : ℕ → ℕ → Bool) (trips : List ℕ) (runs
   pub go_on : All (λ run. (k a b : ℕ) → slice_get run k ≡ Some a → slice_get run (suc k) ≡ Some b
       → goes a b ≡ true) runs
   pub longest : (r : ℕ) (run next : List ℕ) → slice_get runs r ≡ Some run → slice_get runs (suc r) ≡ Some next
-      → goes (last_of run) (first_of next) ≡ false
+      → goes (last_trip_of run) (first_of next) ≡ false
 
 -- the runs with one trip more in front: it joins the first run, where it goes on to that, or is a run by itself
 abbrev pub with_trip : (ℕ → ℕ → Bool) → ℕ → List (List ℕ) → List (List ℕ)

@@ -29,8 +29,8 @@ pub struct Swapped {
 }
 
 /// The greatest number of urgent units that can end the day at the depot, where each trip keeps the types of its list
-/// and the plan runs: a plan that brings so many, and a yard cut that shows that none brings more. The plan and the wish
-/// are of this day.
+/// and the plan runs: a plan that brings so many, and a yard cut that shows that none brings more. The plan and the
+/// wish are of this day.
 ///
 /// Refusals: `Stops`, exactly where the plan that was given does not run, with the first fault of its simulation;
 /// `NoMemory`.

@@ -2,8 +2,8 @@
 
 ghost use Rattle.std.specs.Prelude.{ℕ, ◌≡◌, ◌≤◌, ◌<◌, ◌+◌, ◌*◌, length, if◌then◌else◌};
 ghost use Rattle.std.specs.List.{All, AllPairs, count_by};
-ghost use Rattle.rail_base.specs.declared.limits.TheConstants.{MOST_MINUTES, MOST_REALLOCATION, MOST_STATIONS};
-ghost use Rattle.rail_base.specs.declared.limits.TheConstants.{MOST_TRIPS, MOST_UNITS};
+ghost use Rattle.rail_base.specs.declared.limits.TheConstants.{MAX_MINUTES, MAX_REALLOCATION, MAX_STATIONS};
+ghost use Rattle.rail_base.specs.declared.limits.TheConstants.{MAX_TRIPS, MAX_UNITS};
 ghost use Rattle.timetable.specs.Day.{home_of, unit_count};
 ghost use Rattle.urgent_units.specs.Cuts.{HasMoments, goes_out, held_out, held_out_at, homes_outside, is_left};
 ghost use Rattle.urgent_units.specs.Cuts.{legs_out};
@@ -109,7 +109,7 @@ impl Legs {
     /// For how many stations there are moments.
     pub fn stations(&self) -> u32
         ensures value { result ≡ self.now.stations }
-        ensures few { result ≤ MOST_STATIONS }
+        ensures few { result ≤ MAX_STATIONS }
     {
         self.minutes.len() as u32
     }
@@ -117,7 +117,7 @@ impl Legs {
     /// The units of the type with their legs, by number.
     pub fn units(&self) -> &[UnitLegs]
         ensures value { result.now ≡ self.now.units }
-        ensures few { length self.now.units ≤ MOST_UNITS }
+        ensures few { length self.now.units ≤ MAX_UNITS }
     {
         self.units.as_slice()
     }
@@ -126,7 +126,7 @@ impl Legs {
     pub fn moments(&self, station: StationNo) -> u32
         requires { station < self.now.stations }
         ensures value { result ≡ moment_count self.now station }
-        ensures few { result ≤ MOST_MINUTES + MOST_REALLOCATION + 2 }
+        ensures few { result ≤ MAX_MINUTES + MAX_REALLOCATION + 2 }
     {
         self.minutes_of(station).len() as u32 + 2
     }
@@ -138,7 +138,7 @@ impl Legs {
         requires station { station < self.now.stations }
         requires moment { moment < moment_count self.now station }
         ensures value { result ≡ held self.now station moment }
-        ensures few { result ≤ MOST_UNITS }
+        ensures few { result ≤ MAX_UNITS }
     {
         let over = over_after(self.minutes_of(station), moment as usize);
         let units = self.units();
@@ -182,7 +182,7 @@ impl Legs {
         requires { station < self.now.stations }
         ensures value { result.now ≡ minutes_at self.now station }
         ensures rise { AllPairs (λ a b. a < b) result.now }
-        ensures few { length result.now ≤ MOST_MINUTES + MOST_REALLOCATION }
+        ensures few { length result.now ≤ MAX_MINUTES + MAX_REALLOCATION }
     {
         self.minutes[station.place()].minutes.as_slice()
     }
@@ -202,7 +202,7 @@ impl Legs {
         requires stations { length instance.now.stations ≡ self.now.stations }
         requires cut { HasMoments self.now cut.now }
         ensures value { result ≡ homes_outside instance.now wish.now cut.now }
-        ensures few { result ≤ MOST_UNITS }
+        ensures few { result ≤ MAX_UNITS }
     {
         instance.is_sound();
         let units = wish.units.items();
@@ -219,7 +219,7 @@ impl Legs {
     fn legs_out(&self, cut: &YardCut) -> u32
         requires cut { HasMoments self.now cut.now }
         ensures value { result ≡ legs_out self.now cut.now }
-        ensures few { result ≤ MOST_UNITS * MOST_TRIPS }
+        ensures few { result ≤ MAX_UNITS * MAX_TRIPS }
     {
         self.limits();
         let units = self.units();
@@ -234,9 +234,9 @@ impl Legs {
     fn legs_out_of(&self, cut: &YardCut, legs: &[Leg]) -> u32
         requires cut { HasMoments self.now cut.now }
         requires legs { All (IsLegAt self.now) legs.now }
-        requires few { length legs.now ≤ MOST_TRIPS }
+        requires few { length legs.now ≤ MAX_TRIPS }
         ensures value { result ≡ count_by (goes_out self.now cut.now) legs.now }
-        ensures few { result ≤ MOST_TRIPS }
+        ensures few { result ≤ MAX_TRIPS }
     {
         let mut out = 0;
         for leg in legs {
@@ -261,7 +261,7 @@ impl Legs {
     fn held_out(&self, cut: &YardCut) -> u32
         requires cut { HasMoments self.now cut.now }
         ensures value { result ≡ held_out self.now cut.now }
-        ensures few { result ≤ MOST_STATIONS * (MOST_MINUTES + MOST_REALLOCATION + 1) * MOST_UNITS }
+        ensures few { result ≤ MAX_STATIONS * (MAX_MINUTES + MAX_REALLOCATION + 1) * MAX_UNITS }
     {
         let mut out = 0;
         for number in 0..self.stations() {
@@ -275,7 +275,7 @@ impl Legs {
         requires station { station < self.now.stations }
         requires cut { HasMoments self.now cut.now }
         ensures value { result ≡ held_out_at self.now cut.now station }
-        ensures few { result ≤ (MOST_MINUTES + MOST_REALLOCATION + 1) * MOST_UNITS }
+        ensures few { result ≤ (MAX_MINUTES + MAX_REALLOCATION + 1) * MAX_UNITS }
     {
         let mut out = 0;
         for moment in 0..self.moments(station) - 1 {
@@ -290,7 +290,7 @@ impl Legs {
         requires moment { moment + 1 < moment_count self.now station }
         requires cut { HasMoments self.now cut.now }
         ensures value { result ≡ if is_left cut.now station moment then held self.now station moment else 0 }
-        ensures few { result ≤ MOST_UNITS }
+        ensures few { result ≤ MAX_UNITS }
     {
         self.limits();
         if cut.has(station, moment) && !cut.has(station, moment + 1) {

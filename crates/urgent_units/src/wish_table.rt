@@ -15,7 +15,7 @@ ghost use Rattle.urgent_units.specs.WishReading.{IsRowRefusal};
 use crate::refusal::WishRefusal;
 use crate::wish::{Wish, WishRow, WishUnits};
 use csv::{ByteRecord, ByteRecordsIntoIter};
-use rail_base::limits::{MOST_TABLE_BYTES, MOST_UNITS};
+use rail_base::limits::{MAX_TABLE_BYTES, MAX_UNITS};
 use rail_base::{NoMemory, StationNo, UnitNo};
 use rail_csv::{field_bytes, is_header, next_record, number_of, records_in};
 use std::alloc::Global;
@@ -23,14 +23,14 @@ use timetable::Instance;
 
 impl Wish {
     /// Reads the table of urgent units of a day. Its columns are `unit,depot`, and each row has a unit of the day, by
-    /// its number, and the name of a station. The bytes are at most `MOST_TABLE_BYTES`.
+    /// its number, and the name of a station. The bytes are at most `MAX_TABLE_BYTES`.
     ///
     /// Refusals, the first that holds: `WrongHeader`, where the first record is missing or another; `BadRow`, with the
     /// first row that does not have two fields, names no unit or no station, names a unit of another type than row 1 or
     /// one that was named before, or another depot than row 1; `NoRow`, where no row follows the header. `NoMemory` may
     /// come at any of them.
     pub fn read(alloc: Global, instance: &Instance, bytes: &[u8]) -> Result<Wish, WishRefusal>
-        requires { length bytes.now ≤ MOST_TABLE_BYTES }
+        requires { length bytes.now ≤ MAX_TABLE_BYTES }
         ensures wish { IfOk result (λ wish. IsWishOf instance.now bytes.now wish) }
         ensures known { IfOk result (λ wish. IsWish instance.now wish) }
         ensures refusal { IfErr result (λ refusal. IsWishRefusal instance.now bytes.now refusal) }
@@ -112,7 +112,7 @@ fn next_number(instance: &Instance, rows: &[WishRow]) -> u32
     ensures { result ≡ length rows.now + 1 }
 {
     // No unit is named twice, so there are no more rows than units.
-    prove!(instance.units() <= MOST_UNITS);
+    prove!(instance.units() <= MAX_UNITS);
     rows.len() as u32 + 1
 }
 

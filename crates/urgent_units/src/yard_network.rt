@@ -3,7 +3,7 @@
 ghost use Rattle.std.specs.Prelude.{ℕ, ◌≡◌, ◌≤◌, ◌<◌, ◌+◌, ◌-◌, ◌*◌, ◌++◌, ◌∷◌, [], length, map, IfOk, OnOk};
 ghost use Rattle.std.specs.List.{All, flat_map};
 ghost use Rattle.flow_network.specs.declared.network.Arc.{Arc};
-ghost use Rattle.rail_base.specs.declared.limits.TheConstants.{MOST_MINUTES, MOST_REALLOCATION, MOST_STATIONS};
+ghost use Rattle.rail_base.specs.declared.limits.TheConstants.{MAX_MINUTES, MAX_REALLOCATION, MAX_STATIONS};
 ghost use Rattle.timetable.specs.Day.{home_of, unit_count};
 ghost use Rattle.timetable.specs.Lists.{joined, listed, sum_below};
 ghost use Rattle.urgent_units.specs.LegParts.{IsLegAt};
@@ -46,7 +46,7 @@ pub(crate) fn network_of(
 fn moments_before(legs: &Legs, stations: u32) -> u32
     requires { stations ≤ legs.now.stations }
     ensures value { result ≡ sum_below (moment_count legs.now) stations }
-    ensures few { result ≤ stations * (MOST_MINUTES + MOST_REALLOCATION + 2) }
+    ensures few { result ≤ stations * (MAX_MINUTES + MAX_REALLOCATION + 2) }
 {
     let _ = legs.stations();
     let mut moments = 0;

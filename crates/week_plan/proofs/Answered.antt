@@ -2,12 +2,12 @@
 use Rattle.std.proofs.Common.{◌≡◌, ℕ, ◌+◌, ◌<◌, ◌≤◌, List, [], ◌∷◌, ◌++◌, All, Bool, true, false, length, drop, get_or, refl, sym, ap, ◌∙◌, subst, arith, take}
 use Rattle.std.proofs.lemmas.List.{append-nil, append_assoc, drop_all, drop_more, map-append, take_more}
 use Rattle.std.proofs.lemmas.List.Elements.{All-cons, All-nil}
-use Rattle.rail_base.specs.declared.limits.TheConstants.{MOST_TRIPS}
+use Rattle.rail_base.specs.declared.limits.TheConstants.{MAX_TRIPS}
 use Rattle.timetable.specs.Day.{Day}
 use Rattle.answer_text.specs.declared.answer.Answer.{Answer}
 use Rattle.rules.specs.declared.heads.Head.{Head}
 use Rattle.rules.specs.declared.heads.Head.TheVariants.{Optimal, Infeasible, Bounded, BoundedPlan}
-use Rattle.answer_text.specs.declared.limits.TheConstants.{MOST_AMOUNT}
+use Rattle.answer_text.specs.declared.limits.TheConstants.{MAX_AMOUNT}
 use Rattle.answer_text.specs.Limits.{IsHead}
 use Rattle.answer_check.specs.Headline.{IsHeadline}
 use Rattle.week_plan.specs.Amounts.{IsHeadUpTo}
@@ -63,17 +63,17 @@ no_more_answers grant (day ∷ days) (answer ∷ answers) are = rest (is_infeasi
     rest false more later = let fewer = later more in omega arith
 
 -- amounts of an answer's head are within the limit
-head_within : (h : Head) → IsHead h → IsHeadUpTo MOST_AMOUNT h
+head_within : (h : Head) → IsHead h → IsHeadUpTo MAX_AMOUNT h
 head_within (Optimal cost) is = is
 head_within Infeasible is = is
 head_within (Bounded bound) is = is
 head_within (BoundedPlan bound cost) is = is
 
-pub heads_within : (grant : ℕ) (days : List Day) (answers : List Answer) → AreDayAnswers grant days answers → All (λ answer. IsHeadUpTo MOST_AMOUNT answer.head) answers
-heads_within grant days answers are = each_has grant (λ answer. IsHeadUpTo MOST_AMOUNT answer.head) (λ day answer headline. head_within answer.head headline.tree.within.head) days answers are
+pub heads_within : (grant : ℕ) (days : List Day) (answers : List Answer) → AreDayAnswers grant days answers → All (λ answer. IsHeadUpTo MAX_AMOUNT answer.head) answers
+heads_within grant days answers are = each_has grant (λ answer. IsHeadUpTo MAX_AMOUNT answer.head) (λ day answer headline. head_within answer.head headline.tree.within.head) days answers are
 
-pub few_runs : (grant : ℕ) (days : List Day) (answers : List Answer) → AreDayAnswers grant days answers → All (λ answer. length answer.runs ≤ MOST_TRIPS) answers
-few_runs grant days answers are = each_has grant (λ answer. length answer.runs ≤ MOST_TRIPS) (λ day answer headline. headline.tree.within.few_runs) days answers are
+pub few_runs : (grant : ℕ) (days : List Day) (answers : List Answer) → AreDayAnswers grant days answers → All (λ answer. length answer.runs ≤ MAX_TRIPS) answers
+few_runs grant days answers are = each_has grant (λ answer. length answer.runs ≤ MAX_TRIPS) (λ day answer headline. headline.tree.within.few_runs) days answers are
 
 -- the plan of one answer more
 pub plans_more : (answers : List Answer) (k : ℕ) (answer : Answer) → k < length answers → answer ≡ get_or answers k answer → plans_in (take (k + 1) answers) ≡ plans_in (take k answers) ++ answer.runs ∷ []

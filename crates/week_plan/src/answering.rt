@@ -1,11 +1,11 @@
 //! The answers to the days of a week, one after another.
 
 ghost use Rattle.std.specs.Prelude.{All, ◌≡◌, ◌≤◌, ◌+◌, ◌*◌, ◌^◌, IfOk, length};
-ghost use Rattle.rail_base.specs.declared.limits.TheConstants.{MOST_BRANCHINGS, MOST_ROUNDS};
+ghost use Rattle.rail_base.specs.declared.limits.TheConstants.{MAX_BRANCHINGS, MAX_ROUNDS};
 ghost use Rattle.search.specs.Questions.{AreAsked, AreTheSame, in_rounds};
 ghost use Rattle.answer_check.specs.Headline.{IsHeadline};
 ghost use Rattle.answer_check.specs.ProvedTrees.{open_leaves};
-ghost use Rattle.week_units.specs.declared.nights.TheConstants.{MOST_DAYS};
+ghost use Rattle.week_units.specs.declared.nights.TheConstants.{MAX_DAYS};
 ghost use Rattle.week_plan.specs.DayAnswers.{AreDayAnswers, is_infeasible, least_asked, most_asked};
 
 use advisors::Advisor;
@@ -25,14 +25,14 @@ pub(crate) fn day_answers(
     evaluations: u32,
     advisors: &mut Vec<Box<dyn Advisor>>,
 ) -> Result<Vec<Answer>, NoMemory>
-    requires few { length days.now ≤ MOST_DAYS }
-    requires branchings { allowed.branchings ≤ MOST_BRANCHINGS }
-    requires rounds { allowed.rounds ≤ MOST_ROUNDS }
+    requires few { length days.now ≤ MAX_DAYS }
+    requires branchings { allowed.branchings ≤ MAX_BRANCHINGS }
+    requires rounds { allowed.rounds ≤ MAX_ROUNDS }
     requires asked { All (λ advisor. asked advisor ≤ 2 ^ 62) advisors.old.items }
     ensures answers { IfOk result (λ answers. AreDayAnswers allowed.branchings days.now answers.items) }
     ensures advisors { AreTheSame advisors.old.items advisors.new.items identity }
     ensures asked { AreAsked advisors.old.items advisors.new.items asked has_quit 0
-        (MOST_DAYS * (allowed.rounds * (2 * allowed.branchings + 1))) }
+        (MAX_DAYS * (allowed.rounds * (2 * allowed.branchings + 1))) }
     ensures counted { IfOk result (λ answers. AreAsked advisors.old.items advisors.new.items asked has_quit
         (least_asked allowed.rounds answers.items) (most_asked allowed.rounds answers.items)) }
 {
@@ -68,8 +68,8 @@ fn day_answer(
     evaluations: u32,
     advisors: &mut Vec<Box<dyn Advisor>>,
 ) -> Result<Answer, NoMemory>
-    requires branchings { allowed.branchings ≤ MOST_BRANCHINGS }
-    requires rounds { allowed.rounds ≤ MOST_ROUNDS }
+    requires branchings { allowed.branchings ≤ MAX_BRANCHINGS }
+    requires rounds { allowed.rounds ≤ MAX_ROUNDS }
     requires asked { All (λ advisor. asked advisor ≤ 2 ^ 63) advisors.old.items }
     ensures headline { IfOk result (IsHeadline instance.now allowed.branchings) }
     ensures advisors { AreTheSame advisors.old.items advisors.new.items identity }

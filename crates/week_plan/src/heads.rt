@@ -1,9 +1,9 @@
 //! What the answers to the days of a week say together.
 
 ghost use Rattle.std.specs.Prelude.{ℕ, All, ◌≡◌, ◌≤◌, ◌+◌, ◌*◌, ◌^◌, length};
-ghost use Rattle.answer_text.specs.declared.limits.TheConstants.{MOST_AMOUNT};
+ghost use Rattle.answer_text.specs.declared.limits.TheConstants.{MAX_AMOUNT};
 ghost use Rattle.rules.specs.declared.heads.Head.TheVariants as heads;
-ghost use Rattle.week_units.specs.declared.nights.TheConstants.{MOST_DAYS};
+ghost use Rattle.week_units.specs.declared.nights.TheConstants.{MAX_DAYS};
 ghost use Rattle.week_plan.specs.Amounts.{IsHeadUpTo, IsUpTo};
 ghost use Rattle.week_plan.specs.Heads.{head_of, plus, together};
 
@@ -14,10 +14,10 @@ use rail_base::Money;
 /// where one of them is, the sum of their bounds being the bound, where an optimal day counts with its cost; with a
 /// plan where each of them has one, at the sum of their costs.
 pub fn head_of(answers: &[Answer]) -> Head
-    requires few { length answers.now ≤ MOST_DAYS }
-    requires amounts { All (λ answer. IsHeadUpTo MOST_AMOUNT answer.head) answers.now }
+    requires few { length answers.now ≤ MAX_DAYS }
+    requires amounts { All (λ answer. IsHeadUpTo MAX_AMOUNT answer.head) answers.now }
     ensures value { result ≡ head_of answers.now }
-    ensures amounts { IsHeadUpTo (length answers.now * MOST_AMOUNT) result }
+    ensures amounts { IsHeadUpTo (length answers.now * MAX_AMOUNT) result }
 {
     let Some((answer, rest)) = answers.split_first() else {
         return Head::Optimal { cost: Money(0) };
@@ -27,10 +27,10 @@ pub fn head_of(answers: &[Answer]) -> Head
 
 /// What the head of a day and that of the days after it say together.
 fn together(day: Head, rest: Head) -> Head
-    requires day { IsHeadUpTo MOST_AMOUNT day }
+    requires day { IsHeadUpTo MAX_AMOUNT day }
     requires rest { IsHeadUpTo (2 ^ 100) rest }
     ensures value { result ≡ together day rest }
-    ensures amounts { (most : ℕ) → IsHeadUpTo most rest → IsHeadUpTo (MOST_AMOUNT + most) result }
+    ensures amounts { (most : ℕ) → IsHeadUpTo most rest → IsHeadUpTo (MAX_AMOUNT + most) result }
 {
     match day {
         Head::Optimal { cost } => after_cost(cost, rest),
@@ -42,10 +42,10 @@ fn together(day: Head, rest: Head) -> Head
 
 /// The same where the day's best plan has this cost.
 fn after_cost(cost: Money, rest: Head) -> Head
-    requires cost { IsUpTo MOST_AMOUNT cost }
+    requires cost { IsUpTo MAX_AMOUNT cost }
     requires rest { IsHeadUpTo (2 ^ 100) rest }
     ensures value { result ≡ together (heads.Optimal cost) rest }
-    ensures amounts { (most : ℕ) → IsHeadUpTo most rest → IsHeadUpTo (MOST_AMOUNT + most) result }
+    ensures amounts { (most : ℕ) → IsHeadUpTo most rest → IsHeadUpTo (MAX_AMOUNT + most) result }
 {
     match rest {
         Head::Optimal { cost: more } => Head::Optimal {
@@ -64,10 +64,10 @@ fn after_cost(cost: Money, rest: Head) -> Head
 
 /// The same where the day has this bound and no plan.
 fn after_bound(bound: Money, rest: Head) -> Head
-    requires bound { IsUpTo MOST_AMOUNT bound }
+    requires bound { IsUpTo MAX_AMOUNT bound }
     requires rest { IsHeadUpTo (2 ^ 100) rest }
     ensures value { result ≡ together (heads.Bounded bound) rest }
-    ensures amounts { (most : ℕ) → IsHeadUpTo most rest → IsHeadUpTo (MOST_AMOUNT + most) result }
+    ensures amounts { (most : ℕ) → IsHeadUpTo most rest → IsHeadUpTo (MAX_AMOUNT + most) result }
 {
     match rest {
         Head::Optimal { cost } => Head::Bounded {
@@ -85,11 +85,11 @@ fn after_bound(bound: Money, rest: Head) -> Head
 
 /// The same where the day has this bound and a plan of this cost.
 fn after_plan(bound: Money, cost: Money, rest: Head) -> Head
-    requires bound { IsUpTo MOST_AMOUNT bound }
-    requires cost { IsUpTo MOST_AMOUNT cost }
+    requires bound { IsUpTo MAX_AMOUNT bound }
+    requires cost { IsUpTo MAX_AMOUNT cost }
     requires rest { IsHeadUpTo (2 ^ 100) rest }
     ensures value { result ≡ together (heads.BoundedPlan bound cost) rest }
-    ensures amounts { (most : ℕ) → IsHeadUpTo most rest → IsHeadUpTo (MOST_AMOUNT + most) result }
+    ensures amounts { (most : ℕ) → IsHeadUpTo most rest → IsHeadUpTo (MAX_AMOUNT + most) result }
 {
     match rest {
         Head::Optimal { cost: more } => Head::BoundedPlan {
@@ -112,10 +112,10 @@ fn after_plan(bound: Money, cost: Money, rest: Head) -> Head
 
 /// The sum of two amounts.
 fn plus(one: Money, other: Money) -> Money
-    requires one { IsUpTo MOST_AMOUNT one }
+    requires one { IsUpTo MAX_AMOUNT one }
     requires other { IsUpTo (2 ^ 100) other }
     ensures value { result ≡ plus one other }
-    ensures amount { (most : ℕ) → IsUpTo most other → IsUpTo (MOST_AMOUNT + most) result }
+    ensures amount { (most : ℕ) → IsUpTo most other → IsUpTo (MAX_AMOUNT + most) result }
 {
     Money(one.0 + other.0)
 }

@@ -3,11 +3,11 @@
 ghost use Rattle.std.specs.Prelude.{All, ◌≡◌, ◌≤◌, ◌+◌, ◌*◌, ◌^◌, IfErr, IfOk, IsTrue, MatchOption};
 ghost use Rattle.std.specs.Prelude.{false, length, ⊤};
 ghost use Rattle.std.specs.List.{AllZip};
-ghost use Rattle.rail_base.specs.declared.limits.TheConstants.{MOST_BRANCHINGS, MOST_ROUNDS, MOST_TRIPS};
+ghost use Rattle.rail_base.specs.declared.limits.TheConstants.{MAX_BRANCHINGS, MAX_ROUNDS, MAX_TRIPS};
 ghost use Rattle.timetable.specs.Running.{Runs};
 ghost use Rattle.search.specs.Questions.{AreAsked, AreTheSame};
 ghost use Rattle.answer_text.specs.Limits.{has_plan};
-ghost use Rattle.week_units.specs.declared.nights.TheConstants.{MOST_DAYS};
+ghost use Rattle.week_units.specs.declared.nights.TheConstants.{MAX_DAYS};
 ghost use Rattle.week_units.specs.Names.{AreNamesDayByDay};
 ghost use Rattle.week_units.specs.WeekPlans.{week_units};
 ghost use Rattle.week_units.specs.Weeks.{AreWeek, IsFirstFault};
@@ -41,9 +41,9 @@ pub fn week(
     evaluations: u32,
     advisors: &mut Vec<Box<dyn Advisor>>,
 ) -> Result<Week, WeekRefusal>
-    requires few { length days.now ≤ MOST_DAYS }
-    requires grant { grant ≤ MOST_BRANCHINGS }
-    requires rounds { rounds ≤ MOST_ROUNDS }
+    requires few { length days.now ≤ MAX_DAYS }
+    requires grant { grant ≤ MAX_BRANCHINGS }
+    requires rounds { rounds ≤ MAX_ROUNDS }
     requires asked { All (λ advisor. asked advisor ≤ 2 ^ 62) advisors.old.items }
 
     // The answer, or why there is none.
@@ -55,7 +55,7 @@ pub fn week(
     // days are refused.
     ensures advisors { AreTheSame advisors.old.items advisors.new.items identity }
     ensures asked { AreAsked advisors.old.items advisors.new.items asked has_quit 0
-        (MOST_DAYS * (rounds * (2 * grant + 1))) }
+        (MAX_DAYS * (rounds * (2 * grant + 1))) }
     ensures counted { IfOk result (λ week. AreAsked advisors.old.items advisors.new.items asked has_quit
         (least_asked rounds week.days) (most_asked rounds week.days)) }
     ensures unasked { IfErr result (λ why. MatchOption (fault_said why) ⊤
@@ -87,7 +87,7 @@ fn names_for(
     answers: &[Answer],
 ) -> Result<Option<WeekNames>, NoMemory>
     requires week { AreWeek days.now }
-    requires few { All (λ answer. length answer.runs ≤ MOST_TRIPS) answers.now }
+    requires few { All (λ answer. length answer.runs ≤ MAX_TRIPS) answers.now }
     requires run { IsTrue (has_plan head) → AllZip Runs days.now (plans_in answers.now) }
     ensures { IfOk result (λ named. MatchOption named (has_plan head ≡ false)
         (λ names. IsTrue (has_plan head)
@@ -103,7 +103,7 @@ fn names_for(
 
 /// The plans of these answers. The error is want of memory.
 fn plans_of(alloc: Global, answers: &[Answer]) -> Result<Vec<NamedPlan>, NoMemory>
-    requires { All (λ answer. length answer.runs ≤ MOST_TRIPS) answers.now }
+    requires { All (λ answer. length answer.runs ≤ MAX_TRIPS) answers.now }
     ensures { IfOk result (λ plans. plans.items ≡ plans_in answers.now) }
 {
     let mut plans = Vec::new(alloc);

@@ -1,7 +1,7 @@
 -- Units that are alike in number, types and stations are as good as one another.
 use Rattle.std.proofs.Common.{◌≡◌, ℕ, ◌<◌, ◌≤◌, List, [], ◌∷◌, length, Bool, sym, ap, ◌∙◌, subst, arith, cond}
 use Rattle.std.specs.Prelude.{◌==◌, ◌&&◌, if◌then◌else◌}
-use Rattle.rail_base.specs.declared.limits.TheConstants.{MOST_UNITS}
+use Rattle.rail_base.specs.declared.limits.TheConstants.{MAX_UNITS}
 use Rattle.timetable.specs.Day.{Day, Units, stock_units}
 use Rattle.timetable.specs.Duties.{duty, ends_at, last_place_of}
 use Rattle.timetable.specs.Lists.{count_below}
@@ -63,7 +63,7 @@ module _ (units others : Units) (alike : AreAlike units others) where
     are_units = record {
       home = λ u lt. let known : u < units.count = subst (λ (n : ℕ). u < n) alike.count lt in subst (λ (s : ℕ). s < length day.stations) (sym (alike.home u known)) (begins.are_units.home u known);
       unit_type = λ u lt. let known : u < units.count = subst (λ (n : ℕ). u < n) alike.count lt in subst (λ (m : ℕ). m < length day.types) (sym (alike.unit_type u known)) (begins.are_units.unit_type u known);
-      few = subst (λ (n : ℕ). n ≤ MOST_UNITS) (sym alike.count) begins.are_units.few;
+      few = subst (λ (n : ℕ). n ≤ MAX_UNITS) (sym alike.count) begins.are_units.few;
     };
     as_many = λ s m. begins.as_many s m ∙ sym (standing_same s m);
   }

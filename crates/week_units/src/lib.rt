@@ -10,5 +10,5 @@ mod rows;
 pub mod standing;
 
 pub use naming::{UnitNames, WeekNames, names};
-pub use nights::{MOST_DAYS, week_fault};
+pub use nights::{MAX_DAYS, week_fault};
 pub use refusal::WeekRefusal;

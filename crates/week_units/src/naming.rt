@@ -2,7 +2,7 @@
 
 ghost use Rattle.std.specs.Prelude.{ℕ, ◌≡◌, ◌≤◌, ◌<◌, ◌&&◌, ◌==◌, if◌then◌else◌, length, IfOk};
 ghost use Rattle.std.specs.List.{AllZip};
-ghost use Rattle.rail_base.specs.declared.limits.TheConstants.{MOST_UNITS};
+ghost use Rattle.rail_base.specs.declared.limits.TheConstants.{MAX_UNITS};
 ghost use Rattle.timetable.specs.Day.{stock_units};
 ghost use Rattle.timetable.specs.Lists.{count_below, listed};
 ghost use Rattle.timetable.specs.Renumbering.{is_at, kth_number, standing_at, unit_after};
@@ -93,7 +93,7 @@ pub fn names(alloc: Global, days: &[Instance], plans: &[NamedPlan]) -> Result<We
 
 /// Which unit of the week each unit of a day is, where the units of the week stand so.
 fn names_on(alloc: Global, units: &[Unit], instance: &Instance) -> Result<Vec<UnitNo>, NoMemory>
-    requires few { length units.now ≤ MOST_UNITS }
+    requires few { length units.now ≤ MAX_UNITS }
     requires as_many { (s m : ℕ)
         → standing_at (stock_units instance.now) s m ≡ standing_at (units_listed units.now) s m }
     ensures { IfOk result (λ numbers. AreNames (units_listed units.now) instance.now numbers.items) }
@@ -109,7 +109,7 @@ fn names_on(alloc: Global, units: &[Unit], instance: &Instance) -> Result<Vec<Un
 /// The number of the unit of others that has as many of its type at its station before it as a unit has.
 fn kth_number(own: &[Unit], others: &[Unit], unit: usize) -> UnitNo
     requires unit { unit < length own.now }
-    requires few { length others.now ≤ MOST_UNITS }
+    requires few { length others.now ≤ MAX_UNITS }
     ensures { result ≡ kth_number (units_listed own.now) (units_listed others.now) unit }
 {
     let one = own[unit];
@@ -144,7 +144,7 @@ fn one_at(units: &[Unit], station: StationNo, unit_type: TypeNo, place: usize) -
 
 /// The last unit of a type at a station that has so many of them before it, and 0 where there is none.
 fn unit_after(units: &[Unit], station: StationNo, unit_type: TypeNo, before: usize) -> UnitNo
-    requires { length units.now ≤ MOST_UNITS }
+    requires { length units.now ≤ MAX_UNITS }
     ensures { result ≡ unit_after (units_listed units.now) station unit_type before (length units.now) }
 {
     let mut count = 0;

@@ -13,14 +13,14 @@ use rail_base::{StationNo, TripNo, TypeNo};
 use timetable::Instance;
 
 /// Days of a week at most.
-pub const MOST_DAYS: usize = 7;
+pub const MAX_DAYS: usize = 7;
 /// Minutes from the start of a day to that of the next.
 pub const MINUTES_OF_A_DAY: u32 = 1_440;
 
 /// The first reason why these days, at most seven, make no week; nothing where they make one. It takes no memory, and
 /// is never want of memory.
 pub fn week_fault(days: &[Instance]) -> Option<WeekRefusal>
-    requires { length days.now ≤ MOST_DAYS }
+    requires { length days.now ≤ MAX_DAYS }
     ensures { MatchOption result (AreWeek days.now) (IsFirstFault days.now) }
 {
     let Some((first, rest)) = days.split_first() else {
@@ -38,7 +38,7 @@ fn fault_from(
     before: &Instance,
     days: &[Instance],
 ) -> Option<WeekRefusal>
-    requires { number + length days.now ≤ MOST_DAYS + 1 }
+    requires { number + length days.now ≤ MAX_DAYS + 1 }
     ensures { MatchOption result (All IsSoundDay days.now × EachGoesOn first.now before.now days.now)
         (IsFirstFaultFrom number first.now before.now days.now) }
 {

@@ -1,7 +1,7 @@
 -- What is asked of a region in which a trip keeps its composition and of a change, and what is true of an answer there.
 use Rattle.std.proofs.Common.{◌≡◌, ◌<◌, ◌≤◌, ℕ, List, [], ◌∷◌, Bool, length, sym, subst, arith}
 use Rattle.std.proofs.lemmas.List.Elements.{All-cons, All-nil}
-use Rattle.rail_base.specs.declared.limits.TheConstants.{MOST_CHANGE}
+use Rattle.rail_base.specs.declared.limits.TheConstants.{MAX_CHANGE}
 use Rattle.timetable.specs.Accepted.{IsSoundDay}
 use Rattle.timetable.specs.Compositions.{compositions_of}
 use Rattle.timetable.specs.Day.{Day}
@@ -34,15 +34,15 @@ kept_side day catalogue cut root after over sides filled filled_sides sound root
 
 -- one change is changes
 pub one_change : (day : Day) (change : Change) → change.trip < length day.trips
-    → change.base < length (compositions_of day) → change.cost ≤ MOST_CHANGE → AreChanges day (change ∷ [])
+    → change.base < length (compositions_of day) → change.cost ≤ MAX_CHANGE → AreChanges day (change ∷ [])
 one_change day change trip base cost = record {
   rising = λ i j d lt below. absurd (omega (arith, lt, below));
   trips = All-cons (λ (c : Change). c.trip < length day.trips) change [] trip
       (All-nil (λ (c : Change). c.trip < length day.trips));
   bases = All-cons (λ (c : Change). c.base < length (compositions_of day)) change [] base
       (All-nil (λ (c : Change). c.base < length (compositions_of day)));
-  costs = All-cons (λ (c : Change). c.cost ≤ MOST_CHANGE) change [] cost
-      (All-nil (λ (c : Change). c.cost ≤ MOST_CHANGE));
+  costs = All-cons (λ (c : Change). c.cost ≤ MAX_CHANGE) change [] cost
+      (All-nil (λ (c : Change). c.cost ≤ MAX_CHANGE));
 }
 
 -- what an answer with a proved tree says is true of the plans that run by picks in the region

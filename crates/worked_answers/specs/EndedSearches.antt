@@ -1,6 +1,6 @@
 -- Answers to a day under changes, in a region, where enough branchings are granted.
 use Rattle.std.specs.Prelude.{ℕ, ◌+◌, ◌≡◌, ◌≤◌, List, Bool, length, None}
-use Rattle.rail_base.specs.declared.limits.TheConstants.{MOST_BRANCHINGS}
+use Rattle.rail_base.specs.declared.limits.TheConstants.{MAX_BRANCHINGS}
 use Rattle.timetable.specs.Accepted.{IsSoundDay}
 use Rattle.timetable.specs.Day.{Day}
 use Rattle.branch_tree.specs.Claims.{IsConcluded}
@@ -27,6 +27,6 @@ abbrev pub EnoughBranchingsEnd : Type 0
 EnoughBranchingsEnd = (day : Day) (changes : List Change) (region : List (List Bool))
     (naming : List ℕ → List (List ℕ)) (grant : ℕ) (found : Found) (answer : Answer)
     → IsSoundDay day → AreChanges day changes → length region ≡ length day.trips → IsFilled region
-    → choices_of region ≤ grant + 1 → grant ≤ MOST_BRANCHINGS
+    → choices_of region ≤ grant + 1 → grant ≤ MAX_BRANCHINGS
     → IsSolved (changed_meanings (changed_day day changes)) region grant found → SaysFound day naming found answer
     → IsEnded (changed_meanings (changed_day day changes)) region answer

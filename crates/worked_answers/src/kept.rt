@@ -1,7 +1,7 @@
 //! Answers to a day of which one trip keeps its composition, and another costs more with any but one.
 
 ghost use Rattle.std.specs.Prelude.{ℕ, ◌<◌, ◌≤◌, List, length, IfOk, IfSome, IsTrue};
-ghost use Rattle.rail_base.specs.declared.limits.TheConstants.{MOST_BRANCHINGS, MOST_CHANGE};
+ghost use Rattle.rail_base.specs.declared.limits.TheConstants.{MAX_BRANCHINGS, MAX_CHANGE};
 ghost use Rattle.timetable.specs.Compositions.{compositions_of};
 ghost use Rattle.transitions.specs.Edges.{AreGraphs};
 ghost use Rattle.branch_tree.specs.Regions.{IsFilled, IsOver};
@@ -18,7 +18,7 @@ use day_planner::laws::days_are_answerable;
 use day_planner::{Allowed, DayNaming, Scope, answer_to};
 use improvers::NoImprover;
 use price_bound::{Change, DayBounds};
-use rail_base::limits::MOST_CHANGE;
+use rail_base::limits::MAX_CHANGE;
 use rail_base::{CompNo, NoMemory, TripNo};
 use std::alloc::Global;
 use timetable::Instance;
@@ -53,11 +53,11 @@ pub(crate) fn kept_region(
 pub(crate) fn is_change(day: &Instance, change: &Change) -> bool
     ensures trip { IsTrue result → change.now.trip < length day.now.trips }
     ensures base { IsTrue result → change.now.base < length (compositions_of day.now) }
-    ensures cost { IsTrue result → change.now.cost ≤ MOST_CHANGE }
+    ensures cost { IsTrue result → change.now.cost ≤ MAX_CHANGE }
 {
     let trips = day.trips();
     let comps = day.catalogue().len();
-    change.trip.0 < trips && change.base.0 < comps && change.cost <= MOST_CHANGE
+    change.trip.0 < trips && change.base.0 < comps && change.cost <= MAX_CHANGE
 }
 
 /// The answer to a day under changes, of the plans that run by picks in a region in which each trip has a composition:
@@ -74,7 +74,7 @@ pub(crate) fn answer_within(
     requires changes { AreChanges day.now changes.now }
     requires over { IsOver (length day.now.trips) (compositions_of day.now) region.now }
     requires filled { IsFilled region.now }
-    requires branchings { branchings ≤ MOST_BRANCHINGS }
+    requires branchings { branchings ≤ MAX_BRANCHINGS }
     ensures { IfOk result (λ answer.
         (picks : List ℕ) × IsTrueIn day.now changes.now region.now answer.head answer.runs picks) }
 {

@@ -4,8 +4,8 @@ use answer_text::{Answer, Head};
 use std::alloc::{AllocError, Global};
 use std::test::Fail;
 
-/// An answer as a text: its head, and after a colon the units of each trip, each after a space, with a comma between two
-/// trips.
+/// An answer as a text: its head, and after a colon the units of each trip, each after a space, with a comma between
+/// two trips.
 pub(crate) fn told(alloc: Global, answer: Answer) -> Result<String, Fail> {
     let mut text = String::new(alloc);
     write_head(&mut text, answer.head)?;

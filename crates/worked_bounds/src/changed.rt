@@ -1,7 +1,7 @@
 //! Changes of a day by chance, and what they add to the cost of picks.
 
 ghost use Rattle.std.specs.Prelude.{◌<◌, ◌≤◌, All, IsTrue, length};
-ghost use Rattle.rail_base.specs.declared.limits.TheConstants.{MOST_CHANGE};
+ghost use Rattle.rail_base.specs.declared.limits.TheConstants.{MAX_CHANGE};
 ghost use Rattle.timetable.specs.Compositions.{compositions_of};
 ghost use Rattle.timetable.specs.Picks.{ArePicks};
 ghost use Rattle.transitions.specs.Edges.{AreGraphs};
@@ -10,7 +10,7 @@ ghost use Rattle.price_bound.specs.ChangedDays.{AreChanges};
 use crate::drawn_days::Draws;
 use cost_model::cost;
 use price_bound::{Change, DayBounds};
-use rail_base::limits::MOST_CHANGE;
+use rail_base::limits::MAX_CHANGE;
 use rail_base::{CompNo, TripNo};
 use std::alloc::Global;
 use std::test::Fail;
@@ -57,7 +57,7 @@ pub(crate) fn drawn_changes(
 /// What a change costs: now and then the most that it may, and mostly as little as a composition costs more on a trip.
 fn drawn_cost(draws: &mut Draws) -> u32 {
     if draws.below(8) == 0 {
-        MOST_CHANGE
+        MAX_CHANGE
     } else {
         10 * draws.below(12)
     }
@@ -101,11 +101,11 @@ fn are_changes(day: &Instance, changes: &[Change]) -> bool
 fn is_change(day: &Instance, change: &Change) -> bool
     ensures trip { IsTrue result → change.now.trip < length day.now.trips }
     ensures base { IsTrue result → change.now.base < length (compositions_of day.now) }
-    ensures cost { IsTrue result → change.now.cost ≤ MOST_CHANGE }
+    ensures cost { IsTrue result → change.now.cost ≤ MAX_CHANGE }
 {
     let trips = day.trips();
     let comps = day.catalogue().len();
-    change.trip.0 < trips && change.base.0 < comps && change.cost <= MOST_CHANGE
+    change.trip.0 < trips && change.base.0 < comps && change.cost <= MAX_CHANGE
 }
 
 /// Whether the trip of a change comes after those of other changes.

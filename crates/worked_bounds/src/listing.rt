@@ -14,7 +14,7 @@ use std::test::Fail;
 use timetable::{Instance, Picks};
 
 /// The most choices that are listed.
-pub(crate) const MOST_CHOICES: u32 = 120;
+pub(crate) const MAX_CHOICES: u32 = 120;
 
 /// What is asked of a day.
 #[derive(Drop)]
@@ -41,7 +41,7 @@ pub(crate) fn choices_of(day: &Instance, region: &Region) -> Option<u32> {
     for trip in 0..region.trips() {
         choices = choices.checked_mul(size_of(day, region, TripNo(trip)))?;
     }
-    if choices > MOST_CHOICES {
+    if choices > MAX_CHOICES {
         return None;
     }
     Some(choices)

@@ -91,7 +91,7 @@ impl<'a> Relaxation for LonePicks<'a> {
 
     ghost meanings = { lone_picks };
 
-    ghost IsAccepted = { λ catalogue. 0 < length catalogue };
+    ghost IsWellPosed = { λ catalogue. 0 < length catalogue };
 
     fn trips(&self) -> u32 {
         2

@@ -1,7 +1,7 @@
 //! Searches of days, with the advisors that a test gives them.
 
 ghost use Rattle.std.specs.Prelude.{◌≤◌, ◌^◌, All};
-ghost use Rattle.rail_base.specs.declared.limits.TheConstants.{MOST_BRANCHINGS, MOST_ROUNDS};
+ghost use Rattle.rail_base.specs.declared.limits.TheConstants.{MAX_BRANCHINGS, MAX_ROUNDS};
 ghost use Rattle.branch_tree.specs.Regions.{IsOver};
 ghost use Rattle.transitions.specs.Edges.{AreGraphs};
 
@@ -11,7 +11,7 @@ use advisors::Advisor;
 use branch_tree::{Region, Relaxation};
 use price_bound::DayBounds;
 use rail_base::NoMemory;
-use rail_base::limits::{MOST_BRANCHINGS, MOST_ROUNDS};
+use rail_base::limits::{MAX_BRANCHINGS, MAX_ROUNDS};
 use sample_days::{Texts, day_of};
 use search::{Found, solve};
 use std::alloc::{AllocError, Global};
@@ -151,7 +151,7 @@ fn found_on(
     requires graphs { AreGraphs day.now graphs.now }
     requires asked { All (λ advisor. asked advisor ≤ 2 ^ 63) advisors.old.items }
 {
-    if grant > MOST_BRANCHINGS || u32::from(rounds) > MOST_ROUNDS {
+    if grant > MAX_BRANCHINGS || u32::from(rounds) > MAX_ROUNDS {
         return Err(NoMemory);
     }
     let root = Region::root(alloc, day)?;
@@ -169,8 +169,8 @@ fn found_by<R: Relaxation + Drop>(
     advisors: &mut Vec<Box<dyn Advisor>>,
 ) -> Result<Found, NoMemory>
     requires over { IsOver (R.meanings (R.problem bounds)).trips (R.meanings (R.problem bounds)).catalogue root.now }
-    requires grant { grant ≤ MOST_BRANCHINGS }
-    requires rounds { rounds ≤ MOST_ROUNDS }
+    requires grant { grant ≤ MAX_BRANCHINGS }
+    requires rounds { rounds ≤ MAX_ROUNDS }
     requires asked { All (λ advisor. asked advisor ≤ 2 ^ 63) advisors.old.items }
 {
     solve(alloc, &mut bounds, root, grant, rounds, advisors)

@@ -4,7 +4,7 @@ ghost use Rattle.std.specs.Prelude.{◌≡◌, ◌<◌, length};
 ghost use Rattle.timetable.specs.Running.{IsPlan};
 ghost use Rattle.day_simulator.specs.State.{trip_of};
 
-use day_simulator::{Day, DayEvent, Place, Ran, SimulateRefusal, StepFault, simulate};
+use day_simulator::{Day, DayEvent, Ran, SimulateRefusal, StepFault, UnitLocation, simulate};
 use rail_base::{TripNo, UnitNo};
 use sample_days::{RING, TURN, TWO_TYPES, Texts, day_of, plan_of};
 use std::alloc::{AllocError, Global};
@@ -295,17 +295,17 @@ fn write_places(text: &mut String, day: &Day<'_>, instance: &Instance) -> Result
     requires { day.now.day ≡ instance.now }
 {
     for unit in 0..instance.units() {
-        write_place(text, day.place(UnitNo(unit)))?;
+        write_place(text, day.location(UnitNo(unit)))?;
     }
     Ok(())
 }
 
 /// Writes where a unit is: at a station, and from when it is ready, or with a trip.
-fn write_place(text: &mut String, place: Place) -> Result<(), AllocError> {
+fn write_place(text: &mut String, place: UnitLocation) -> Result<(), AllocError> {
     match place {
-        Place::Yard { station, ready } => write!(text, "{} from {ready}\n", station.0),
-        Place::Aboard(trip) => write!(text, "aboard {}\n", trip.0),
-        Place::Standing(trip) => write!(text, "standing as {}\n", trip.0),
+        UnitLocation::Yard { station, ready } => write!(text, "{} from {ready}\n", station.0),
+        UnitLocation::Aboard(trip) => write!(text, "aboard {}\n", trip.0),
+        UnitLocation::Standing(trip) => write!(text, "standing as {}\n", trip.0),
     }
 }
 

@@ -4,7 +4,7 @@
 ghost use Rattle.timetable.specs.Running.{IsPlan};
 
 use crate::telling::told;
-use rail_base::limits::MOST_COMPOSITION;
+use rail_base::limits::MAX_COMPOSITION_UNITS;
 use rail_base::{LinkNo, Name, NoMemory, StationNo, TripNo, TypeNo, UnitNo};
 use rail_csv::{PlanRow, UnitList, plan};
 use sample_days::{ONE_LEFT, RING, TURN, TWO_TYPES, Texts, day_of, plan_of, table};
@@ -357,7 +357,9 @@ fn are_kept(rt: &impl Abort, alloc: Global, texts: &Texts<'_>, rows: &[Kept]) ->
     assert!(rt; day.links() == 1);
     for row in rows {
         let (arriving, departing) = (types(alloc, row.arriving)?, types(alloc, row.departing)?);
-        assert!(rt; arriving.len() <= MOST_COMPOSITION && departing.len() <= MOST_COMPOSITION);
+        assert!(rt;
+            arriving.len() <= MAX_COMPOSITION_UNITS && departing.len() <= MAX_COMPOSITION_UNITS
+        );
         let kept = day.kept(LinkNo(0), arriving.as_slice(), departing.as_slice());
         assert!(rt; kept == row.kept, "{kept:?}");
     }

@@ -1,7 +1,7 @@
 //! What a search finds with the improver of days, and what a watcher is told meanwhile.
 
 ghost use Rattle.std.specs.Prelude.{◌≤◌};
-ghost use Rattle.rail_base.specs.declared.limits.TheConstants.{MOST_BRANCHINGS};
+ghost use Rattle.rail_base.specs.declared.limits.TheConstants.{MAX_BRANCHINGS};
 ghost use Rattle.branch_tree.specs.Regions.{IsOver};
 ghost use Rattle.transitions.specs.Edges.{AreGraphs};
 
@@ -11,7 +11,7 @@ use day_improver::{DayImprover, Progress, Watcher};
 use improvers::{Improver, NoImprover};
 use price_bound::{Change, DayBounds};
 use rail_base::NoMemory;
-use rail_base::limits::MOST_BRANCHINGS;
+use rail_base::limits::MAX_BRANCHINGS;
 use sample_days::{TURN, Texts, day_of};
 use search::{Allowed, Found, solve_with};
 use std::alloc::{AllocError, Global};
@@ -52,7 +52,7 @@ fn found<I: Improver>(
         alloc,
         bounds,
         &root,
-        branchings.min(MOST_BRANCHINGS),
+        branchings.min(MAX_BRANCHINGS),
         improver,
     )?;
     Ok(text_of(alloc, &found)?)
@@ -67,7 +67,7 @@ fn found_by<R: Relaxation + Drop, I: Improver>(
     improver: &mut I,
 ) -> Result<Found, NoMemory>
     requires over { IsOver (R.meanings (R.problem bounds)).trips (R.meanings (R.problem bounds)).catalogue root.now }
-    requires branchings { branchings ≤ MOST_BRANCHINGS }
+    requires branchings { branchings ≤ MAX_BRANCHINGS }
 {
     let mut advisors: Vec<Box<dyn Advisor>> = Vec::new(alloc);
     let allowed = Allowed {

@@ -171,7 +171,7 @@ fn day_of_wrong_rows() -> Day<'static> {
 }
 
 /// A table, a line of it that may stand once, how many rows the table may have, and what is refused of so many.
-const MOST_ROWS: &[(File, &str, usize, &str)] = &[
+const MAX_ROWS: &[(File, &str, usize, &str)] = &[
     (TYPES, "A,3,200,80,r", 6, "row 2: repeated name"),
     (STATIONS, "X,200,30", 60, "row 2: repeated name"),
     (STOCK, "X,A,0,0", 360, "row 2: repeated station and type"),
@@ -192,7 +192,7 @@ const MOST_ROWS: &[(File, &str, usize, &str)] = &[
 
 #[test]
 fn a_table_has_so_many_rows(rt: HostRuntime) -> Result<(), Fail> {
-    for &(file, line, most, text) in MOST_ROWS {
+    for &(file, line, most, text) in MAX_ROWS {
         let row = format!(in rt.alloc(); "{line}\n")?;
         let rows = row.as_str().repeat(rt.alloc(), most)?;
         let full = format!(in rt.alloc(); " => {text}")?;

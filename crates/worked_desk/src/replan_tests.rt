@@ -179,8 +179,8 @@ const FIRST_AND_LAST: Texts<'static> = Texts {
     ..TURN
 };
 
-/// A day, its plan, the trips that are cancelled, words, the later day, written by hand, and what comes of the plan that
-/// is printed in it.
+/// A day, its plan, the trips that are cancelled, words, the later day, written by hand, and what comes of the plan
+/// that is printed in it.
 type Ran = (
     Texts<'static>,
     &'static [u8],

@@ -9,8 +9,8 @@ use std::alloc::Global;
 use std::process::Abort;
 use std::test::Fail;
 
-/// The day of two trips with other types, with another station, with three units wanted in the evening, and with trips in
-/// the night after it, of which the second arrives half an hour before the first trip of the next day leaves.
+/// The day of two trips with other types, with another station, with three units wanted in the evening, and with trips
+/// in the night after it, of which the second arrives half an hour before the first trip of the next day leaves.
 const OTHER_TYPES: Texts<'static> = Texts {
     types: b"type,carriages,seats,metres,family\nA,4,200,80,regional\n",
     ..TURN
@@ -80,8 +80,8 @@ fn add_day(
     Ok(())
 }
 
-/// Days, how many of them are asked for, the branchings that are granted, the reads that fail, and what comes of it: the
-/// status, and how the document begins.
+/// Days, how many of them are asked for, the branchings that are granted, the reads that fail, and what comes of it:
+/// the status, and how the document begins.
 type Case<'a> = (&'a [Texts<'a>], &'a str, &'a str, &'a [u64], u8, &'a str);
 
 /// What comes of weeks without advice.

@@ -5,7 +5,7 @@ ghost use Rattle.rail_base.specs.Names.{is_name};
 ghost use Rattle.compositions.specs.UnitTypes.{is_within_limits};
 
 use compositions::{Catalogue, CatalogueRefusal, Composition, UnitType, UnitTypes};
-use rail_base::limits::MOST_METRES;
+use rail_base::limits::MAX_METRES;
 use rail_base::{CompNo, Name, NoMemory, TypeNo};
 use std::alloc::{AllocError, Global};
 use std::test::Fail;
@@ -15,7 +15,7 @@ use std::test::Fail;
 fn regional(alloc: Global, name: &str, metres: u32) -> Result<UnitType, NoMemory>
     requires name { IsTrue (is_name name.now) }
     requires some { 1 ≤ metres }
-    requires few { metres ≤ MOST_METRES }
+    requires few { metres ≤ MAX_METRES }
     ensures { IfOk result (λ t. is_within_limits t ≡ true) }
 {
     Ok(UnitType {

@@ -4,7 +4,7 @@ ghost use Rattle.std.specs.Prelude.{◌≡◌, ◌<◌, ◌≤◌, Some, length,
 ghost use Rattle.rail_csv.specs.Tables.{AreShort};
 ghost use Rattle.timetable.specs.DayTables.{IsDayOfBytes};
 
-use rail_base::limits::MOST_TABLE_BYTES;
+use rail_base::limits::MAX_TABLE_BYTES;
 use rail_base::{Bytes, LinkNo, StationNo, TripNo};
 use rail_csv::{Table, TableBytes};
 use std::alloc::Global;
@@ -18,9 +18,9 @@ const LINKS: &[u8] = b"kind,arriving,arriving2,departing,departing2,reverse,unco
 
 /// These bytes as those of a table, which has no more than a table may have: more of them fail the test.
 fn table(alloc: Global, bytes: &[u8]) -> Result<Bytes, Fail>
-    ensures { IfOk result (λ table. length table ≤ MOST_TABLE_BYTES) }
+    ensures { IfOk result (λ table. length table ≤ MAX_TABLE_BYTES) }
 {
-    if bytes.len() as u64 > MOST_TABLE_BYTES {
+    if bytes.len() as u64 > MAX_TABLE_BYTES {
         return Err(Fail::new("a table is too long"));
     }
     Ok(Bytes::of(bytes.to_vec(alloc)?))

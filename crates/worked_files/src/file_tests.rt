@@ -1,7 +1,7 @@
 //! Whole files in and documents out: over memory with calls that fail on the way, and over the disk.
 
 use rail_base::NoMemory;
-use rail_base::limits::MOST_FILE_BYTES;
+use rail_base::limits::MAX_FILE_BYTES;
 use rail_base::name::is_name;
 use rail_io::{
     DiskFolder, Failed, FileRefusal, Folder, MemoryFile, MemoryFolder, MemorySink, Sink,
@@ -70,7 +70,7 @@ fn write_whole<F: Folder>(
     path: &str,
     most: u64,
 ) -> Result<(), AllocError> {
-    if most > MOST_FILE_BYTES {
+    if most > MAX_FILE_BYTES {
         return text.push_str("no limit of a file\n");
     }
     match read_file(alloc, folder, path, most) {

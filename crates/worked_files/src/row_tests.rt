@@ -3,7 +3,7 @@
 ghost use Rattle.std.specs.Prelude.{◌≤◌, length};
 
 use rail_base::Name;
-use rail_base::limits::MOST_TABLE_BYTES;
+use rail_base::limits::MAX_TABLE_BYTES;
 use rail_csv::{
     LinkRow, PlanRow, StationRow, StockRow, Table, TableRefusal, TripRow, TypeRow, WeightsRow,
     links, plan, stations, stock, trips, types, weights,
@@ -284,7 +284,7 @@ const FIRST_WRONG: &[File] = &[
 
 /// What the bytes of a table's file are read as.
 fn told(alloc: Global, table: Table, bytes: &[u8]) -> Result<String, AllocError>
-    requires { length bytes.now ≤ MOST_TABLE_BYTES }
+    requires { length bytes.now ≤ MAX_TABLE_BYTES }
 {
     let mut text = String::new(alloc);
     write_table(&mut text, alloc, table, bytes)?;
@@ -298,7 +298,7 @@ fn write_table(
     table: Table,
     bytes: &[u8],
 ) -> Result<(), AllocError>
-    requires { length bytes.now ≤ MOST_TABLE_BYTES }
+    requires { length bytes.now ≤ MAX_TABLE_BYTES }
 {
     match table {
         Table::Types => write_rows(text, types(alloc, bytes)),
@@ -417,7 +417,7 @@ fn write_weights(
 /// Asserts that files are read or refused as is told of them.
 fn are_told(rt: &impl Abort, alloc: Global, files: &[File]) -> Result<(), Fail> {
     for file in files {
-        assert!(rt; file.bytes.len() as u64 <= MOST_TABLE_BYTES);
+        assert!(rt; file.bytes.len() as u64 <= MAX_TABLE_BYTES);
         let text = told(alloc, file.table, file.bytes)?;
         assert!(rt; text.as_str() == file.told, "{text}");
     }

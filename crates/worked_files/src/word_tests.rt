@@ -1,7 +1,7 @@
 //! Words after a command word, read as of one form, whose options are not those of any program here.
 
 use plain_words::{Form, GivenWords, read_form};
-use rail_base::limits::MOST_WORDS;
+use rail_base::limits::MAX_WORDS;
 use rail_base::{NoMemory, Words};
 use std::alloc::{AllocError, Global};
 use std::process::Abort;
@@ -80,7 +80,7 @@ fn reading(alloc: Global, words: &Words) -> Result<String, Fail> {
 fn words_in(alloc: Global, line: &str) -> Result<Words, NoMemory> {
     let mut words = Words::new(alloc)?;
     for word in line.split_whitespace() {
-        if words.len() as usize >= MOST_WORDS {
+        if words.len() as usize >= MAX_WORDS {
             break;
         }
         words.push(word)?;

@@ -1,15 +1,15 @@
-//! What is said of all fleets of a small day, by hand, with each verdict on it. One unit costs 1060 on the day, two cost
-//! 120, and none can run; a unit costs 500 more.
+//! What is said of all fleets of a small day, by hand, with each verdict on it. One unit costs 1060 on the day, two
+//! cost 120, and none can run; a unit costs 500 more.
 
 ghost use Rattle.std.specs.Prelude.{◌≤◌, length, IfOk};
-ghost use Rattle.rail_base.specs.declared.limits.TheConstants.{MOST_TABLE_BYTES};
+ghost use Rattle.rail_base.specs.declared.limits.TheConstants.{MAX_TABLE_BYTES};
 ghost use Rattle.rail_csv.specs.Tables.{AreShort};
 ghost use Rattle.timetable.specs.DayTables.{IsDayOfBytes};
 
 use answer_text::{Answer, Head};
 use day_planner::answer_for;
 use fleet_boxes::{BoxNode, Boxes};
-use fleet_check::{Chosen, DayOfTables, Fleet, MOST_BOX_NODES, check_fleet, read_prices};
+use fleet_check::{Chosen, DayOfTables, Fleet, MAX_BOX_NODES, check_fleet, read_prices};
 use fleets::Counts;
 use rail_base::{Bytes, Money, StationNo, TypeNo};
 use rail_csv::TableBytes;
@@ -257,7 +257,7 @@ fn texts(units: u32) -> Texts<'static> {
 
 /// The bytes of a table.
 fn bytes_of(alloc: Global, text: &[u8]) -> Result<Bytes, Fail>
-    ensures { IfOk result (λ bytes. length bytes ≤ MOST_TABLE_BYTES) }
+    ensures { IfOk result (λ bytes. length bytes ≤ MAX_TABLE_BYTES) }
 {
     Ok(Bytes::of(table(text)?.to_vec(alloc)?))
 }
@@ -352,7 +352,7 @@ fn told(alloc: Global, case: &Case) -> Result<String, Fail> {
     let instance = made_of(alloc, &bytes)?;
     let prices = read_prices(alloc, &instance, table(b"type,cost\nA,500\n")?)?;
     let fleet = fleet_of(alloc, case)?;
-    if fleet.boxes.items().len() > MOST_BOX_NODES as usize {
+    if fleet.boxes.items().len() > MAX_BOX_NODES as usize {
         return Err(Fail::new("too many nodes"));
     }
     let day = DayOfTables {

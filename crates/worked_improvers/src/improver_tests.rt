@@ -1,7 +1,7 @@
 //! How improvers are asked, and what is made of what they propose, by hand.
 
 ghost use Rattle.std.specs.Prelude.{◌≤◌};
-ghost use Rattle.rail_base.specs.declared.limits.TheConstants.{MOST_BRANCHINGS};
+ghost use Rattle.rail_base.specs.declared.limits.TheConstants.{MAX_BRANCHINGS};
 ghost use Rattle.branch_tree.specs.Regions.{IsOver};
 ghost use Rattle.transitions.specs.Edges.{AreGraphs};
 
@@ -11,7 +11,7 @@ use advisors::Advisor;
 use branch_tree::{Cut, Region, Relaxation};
 use improvers::{Improvement, Improver, NoImprover, Seen};
 use price_bound::DayBounds;
-use rail_base::limits::MOST_BRANCHINGS;
+use rail_base::limits::MAX_BRANCHINGS;
 use rail_base::{CompNo, NoMemory, TripNo};
 use sample_days::{ONE_LEFT, RING, Texts, day_of};
 use search::{Allowed, Found, solve_with};
@@ -128,7 +128,7 @@ fn found_along<I: Improver>(
 ) -> Result<Found, NoMemory>
     requires graphs { AreGraphs day.now graphs.now }
 {
-    if branchings > MOST_BRANCHINGS {
+    if branchings > MAX_BRANCHINGS {
         return Err(NoMemory);
     }
     let root = Region::root(alloc, day)?;
@@ -145,7 +145,7 @@ fn found_by<R: Relaxation + Drop, I: Improver>(
     improver: &mut I,
 ) -> Result<Found, NoMemory>
     requires over { IsOver (R.meanings (R.problem bounds)).trips (R.meanings (R.problem bounds)).catalogue root.now }
-    requires branchings { branchings ≤ MOST_BRANCHINGS }
+    requires branchings { branchings ≤ MAX_BRANCHINGS }
 {
     let mut advisors: Vec<Box<dyn Advisor>> = Vec::new(alloc);
     let allowed = Allowed {

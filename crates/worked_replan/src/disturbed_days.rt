@@ -1,7 +1,7 @@
 //! Disturbed days that are made of the texts of their tables, and what is told of them.
 
 ghost use Rattle.std.specs.Prelude.{◌≤◌, IfOk, length};
-ghost use Rattle.rail_base.specs.declared.limits.TheConstants.{MOST_BRANCHINGS, MOST_ROUNDS, MOST_TABLE_BYTES};
+ghost use Rattle.rail_base.specs.declared.limits.TheConstants.{MAX_BRANCHINGS, MAX_ROUNDS, MAX_TABLE_BYTES};
 ghost use Rattle.rail_csv.specs.Tables.{AreShort};
 ghost use Rattle.timetable.specs.DayTables.{IsDayOfBytes};
 ghost use Rattle.timetable.specs.Running.{IsPlan};
@@ -10,7 +10,7 @@ ghost use Rattle.cancellations.specs.DaysWithout.{IsLaterOf};
 
 use crate::telling::{plan_table, refused, replanned, stops};
 use day_simulator::simulate;
-use rail_base::limits::{MOST_BRANCHINGS, MOST_CHANGE};
+use rail_base::limits::{MAX_BRANCHINGS, MAX_CHANGE};
 use rail_base::{Bytes, Minute};
 use rail_csv::TableBytes;
 use replan::{
@@ -45,7 +45,7 @@ pub(crate) struct Case {
 
 /// The bytes of a table.
 fn bytes_of(alloc: Global, text: &[u8]) -> Result<Bytes, Fail>
-    ensures { IfOk result (λ bytes. length bytes ≤ MOST_TABLE_BYTES) }
+    ensures { IfOk result (λ bytes. length bytes ≤ MAX_TABLE_BYTES) }
 {
     Ok(Bytes::of(table(text)?.to_vec(alloc)?))
 }
@@ -105,7 +105,7 @@ fn told_without(
     requires cancelled { AreCancellable instance.now case.now.minute cancelled.now }
     requires later { IsLaterOf instance.now cancelled.now later.now }
 {
-    if case.change > MOST_CHANGE {
+    if case.change > MAX_CHANGE {
         return Err(Fail::new("a change costs too much"));
     }
     let minute = Minute(case.minute);
@@ -130,10 +130,10 @@ fn told_of(alloc: Global, case: &Case, answer: &Replanned, later: &Later) -> Res
 
 /// What the search of a case is allowed: as many branchings as it grants, and no rounds.
 fn allowed(case: &Case) -> Result<Allowed, Fail>
-    ensures branchings { IfOk result (λ allowed. allowed.branchings ≤ MOST_BRANCHINGS) }
-    ensures rounds { IfOk result (λ allowed. allowed.rounds ≤ MOST_ROUNDS) }
+    ensures branchings { IfOk result (λ allowed. allowed.branchings ≤ MAX_BRANCHINGS) }
+    ensures rounds { IfOk result (λ allowed. allowed.rounds ≤ MAX_ROUNDS) }
 {
-    if case.branchings > MOST_BRANCHINGS {
+    if case.branchings > MAX_BRANCHINGS {
         return Err(Fail::new("too many branchings are granted"));
     }
     Ok(Allowed {

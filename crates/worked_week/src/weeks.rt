@@ -1,17 +1,17 @@
 //! Weeks that are made of the texts of the tables of their days, and what is told of them.
 
 ghost use Rattle.std.specs.Prelude.{◌≤◌, IfOk, length};
-ghost use Rattle.rail_base.specs.declared.limits.TheConstants.{MOST_BRANCHINGS};
-ghost use Rattle.week_units.specs.declared.nights.TheConstants.{MOST_DAYS};
+ghost use Rattle.rail_base.specs.declared.limits.TheConstants.{MAX_BRANCHINGS};
+ghost use Rattle.week_units.specs.declared.nights.TheConstants.{MAX_DAYS};
 
-use rail_base::limits::MOST_BRANCHINGS;
+use rail_base::limits::MAX_BRANCHINGS;
 use sample_days::{Texts, day_of};
 use std::alloc::Global;
 use std::test::Fail;
 use timetable::Instance;
 use week_plan::{Week, week};
 use week_text::print_week;
-use week_units::{MOST_DAYS, WeekRefusal};
+use week_units::{MAX_DAYS, WeekRefusal};
 
 /// A week, and what is told of it.
 #[derive(Clone, Copy)]
@@ -41,7 +41,7 @@ pub(crate) fn planned(
     days: &[Instance],
     branchings: u32,
 ) -> Result<Result<Week, WeekRefusal>, Fail> {
-    if days.len() > MOST_DAYS || branchings > MOST_BRANCHINGS {
+    if days.len() > MAX_DAYS || branchings > MAX_BRANCHINGS {
         return Err(Fail::new("too many days or branchings"));
     }
     let mut advisors = Vec::new(alloc);

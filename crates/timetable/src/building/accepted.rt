@@ -18,7 +18,7 @@ use crate::building::refusal::InstanceRefusal;
 use crate::building::tables::{Rows, Tables};
 use crate::day::records::{Link, Station, Stock, Trip, Weights};
 use compositions::{Catalogue, UnitType, UnitTypes};
-use rail_base::limits::MOST_STATIONS;
+use rail_base::limits::MAX_STATIONS;
 use rail_csv::{LinkRow, StationRow, StockRow, TripRow, TypeRow, WeightsRow};
 use std::alloc::Global;
 
@@ -156,7 +156,7 @@ fn trips_and_links_of(
     trips: Rows<TripRow>,
     links: &[LinkRow],
 ) -> Result<TripsAndLinks, InstanceRefusal>
-    requires stations { length stations.now ≤ MOST_STATIONS }
+    requires stations { length stations.now ≤ MAX_STATIONS }
     requires trips { AreTripRows trips }
     requires links { AreLinkRows links.now }
     ensures exact { GivesTripsAndLinks result (trips_and_links_in types.now stations.now trips links.now) }

@@ -10,7 +10,7 @@ ghost use Rattle.timetable.specs.DayTables.{AreTables, IsWrong, is_want_of_memor
 
 use crate::building::tables::{Rows, Tables};
 use rail_base::Bytes;
-use rail_base::limits::MOST_TABLE_BYTES;
+use rail_base::limits::MAX_TABLE_BYTES;
 use rail_csv::{
     LinkRow, PlanRow, StationRow, StockRow, Table, TableBytes, TableRefusal, TripRow, TypeRow,
     WeightsRow,
@@ -46,7 +46,7 @@ pub trait DayTable: Drop {
     /// Reads the table, or answers the first thing that is wrong in it, as the reader of that table in `rail_csv` does.
     /// There are no more bytes than a table may have.
     fn read(alloc: Global, bytes: &[u8]) -> Result<Self, TableRefusal>
-        requires { length bytes.now ≤ MOST_TABLE_BYTES }
+        requires { length bytes.now ≤ MAX_TABLE_BYTES }
         ensures exact { Gives is_memory result (reading bytes.now) }
         ensures wrong { IfErr result (IsWrong table bytes.now) }
         ensures within { IfOk result is_within };
@@ -54,7 +54,7 @@ pub trait DayTable: Drop {
 
 /// The table that bytes are read as, or why they are no such table. They are no longer than a table may be.
 fn table_of<T: DayTable>(alloc: Global, bytes: &Bytes) -> Result<T, WrongTable>
-    requires { length bytes.now ≤ MOST_TABLE_BYTES }
+    requires { length bytes.now ≤ MAX_TABLE_BYTES }
     ensures exact { Gives is_want_of_memory result (of_table T.table (T.reading bytes.now)) }
     ensures within { IfOk result T.is_within }
 {
@@ -86,12 +86,12 @@ pub fn tables_of(alloc: Global, bytes: &TableBytes) -> Result<Tables, WrongTable
 
 impl DayTable for Rows<TypeRow> {
     ghost use Rattle.rail_csv.specs.Rows.{AreTypeRows};
-    ghost use Rattle.rail_csv.specs.Tables.{types_of};
+    ghost use Rattle.rail_csv.specs.Tables.{type_rows_of};
     ghost use Rattle.rail_csv.specs.declared.rows.Table.TheVariants.{Types};
 
     ghost table = { Types };
 
-    ghost reading = { types_of };
+    ghost reading = { type_rows_of };
 
     ghost is_within = { λ rows. AreTypeRows rows };
 
@@ -106,12 +106,12 @@ impl DayTable for Rows<TypeRow> {
 
 impl DayTable for Rows<StationRow> {
     ghost use Rattle.rail_csv.specs.Rows.{AreStationRows};
-    ghost use Rattle.rail_csv.specs.Tables.{stations_of};
+    ghost use Rattle.rail_csv.specs.Tables.{station_rows_of};
     ghost use Rattle.rail_csv.specs.declared.rows.Table.TheVariants.{Stations};
 
     ghost table = { Stations };
 
-    ghost reading = { stations_of };
+    ghost reading = { station_rows_of };
 
     ghost is_within = { λ rows. AreStationRows rows };
 
@@ -126,12 +126,12 @@ impl DayTable for Rows<StationRow> {
 
 impl DayTable for Rows<StockRow> {
     ghost use Rattle.rail_csv.specs.Rows.{AreStockRows};
-    ghost use Rattle.rail_csv.specs.Tables.{stock_of};
+    ghost use Rattle.rail_csv.specs.Tables.{stock_rows_of};
     ghost use Rattle.rail_csv.specs.declared.rows.Table.TheVariants.{Stock};
 
     ghost table = { Stock };
 
-    ghost reading = { stock_of };
+    ghost reading = { stock_rows_of };
 
     ghost is_within = { λ rows. AreStockRows rows };
 
@@ -146,12 +146,12 @@ impl DayTable for Rows<StockRow> {
 
 impl DayTable for Rows<TripRow> {
     ghost use Rattle.rail_csv.specs.Rows.{AreTripRows};
-    ghost use Rattle.rail_csv.specs.Tables.{trips_of};
+    ghost use Rattle.rail_csv.specs.Tables.{trip_rows_of};
     ghost use Rattle.rail_csv.specs.declared.rows.Table.TheVariants.{Trips};
 
     ghost table = { Trips };
 
-    ghost reading = { trips_of };
+    ghost reading = { trip_rows_of };
 
     ghost is_within = { λ rows. AreTripRows rows };
 
@@ -166,12 +166,12 @@ impl DayTable for Rows<TripRow> {
 
 impl DayTable for Rows<LinkRow> {
     ghost use Rattle.rail_csv.specs.Rows.{AreLinkRows};
-    ghost use Rattle.rail_csv.specs.Tables.{links_of};
+    ghost use Rattle.rail_csv.specs.Tables.{link_rows_of};
     ghost use Rattle.rail_csv.specs.declared.rows.Table.TheVariants.{Links};
 
     ghost table = { Links };
 
-    ghost reading = { links_of };
+    ghost reading = { link_rows_of };
 
     ghost is_within = { λ rows. AreLinkRows rows };
 
@@ -186,12 +186,12 @@ impl DayTable for Rows<LinkRow> {
 
 impl DayTable for Rows<PlanRow> {
     ghost use Rattle.rail_csv.specs.Rows.{ArePlanRows};
-    ghost use Rattle.rail_csv.specs.Tables.{plan_of};
+    ghost use Rattle.rail_csv.specs.Tables.{plan_rows_of};
     ghost use Rattle.rail_csv.specs.declared.rows.Table.TheVariants.{Plan};
 
     ghost table = { Plan };
 
-    ghost reading = { plan_of };
+    ghost reading = { plan_rows_of };
 
     ghost is_within = { λ rows. ArePlanRows rows };
 
@@ -206,12 +206,12 @@ impl DayTable for Rows<PlanRow> {
 
 impl DayTable for WeightsRow {
     ghost use Rattle.rail_csv.specs.Rows.{IsWeightsRow};
-    ghost use Rattle.rail_csv.specs.Tables.{weights_of};
+    ghost use Rattle.rail_csv.specs.Tables.{weights_row_of};
     ghost use Rattle.rail_csv.specs.declared.rows.Table.TheVariants.{Weights};
 
     ghost table = { Weights };
 
-    ghost reading = { weights_of };
+    ghost reading = { weights_row_of };
 
     ghost is_within = { λ row. IsWeightsRow row };
 

@@ -16,14 +16,14 @@ use crate::building::refusal::InstanceRefusal;
 use crate::building::tables::Rows;
 use crate::day::records::{Station, Stock, Trip};
 use compositions::{Catalogue, CatalogueRefusal, UnitType, UnitTypes};
-use rail_base::limits::{MOST_STATIONS, MOST_STOCK_ROWS, MOST_TRIPS, MOST_TYPES, MOST_UNITS};
+use rail_base::limits::{MAX_STATIONS, MAX_STOCK_ROWS, MAX_TRIPS, MAX_TYPES, MAX_UNITS};
 use rail_base::{Name, StationNo, TypeNo};
 use rail_csv::{StationRow, StockRow, Table, TripRow, TypeRow};
 use std::alloc::Global;
 
 /// The number of the row after so many, counted from 1. No table has more rows than trips may have.
 pub fn row_after(before: usize) -> u32
-    requires { before ≤ MOST_TRIPS }
+    requires { before ≤ MAX_TRIPS }
     ensures { result ≡ before + 1 }
 {
     before as u32 + 1
@@ -32,7 +32,7 @@ pub fn row_after(before: usize) -> u32
 /// The unit type of a row, after those of the rows before it.
 #[tactic(auto, unfolding(crate::specs::Build::accept_type))]
 fn accept_type(types: &Named<UnitType>, row: TypeRow) -> Result<UnitType, InstanceRefusal>
-    requires { length types.now ≤ MOST_TYPES }
+    requires { length types.now ≤ MAX_TYPES }
     ensures value { result ≡ accept_type types.now row }
     ensures new { IfOk result (λ t. has_name (λ t. t.name) types.now t.name ≡ false) }
 {
@@ -58,7 +58,7 @@ pub fn add_types(
     types: &mut Named<UnitType>,
     rows: Vec<TypeRow>,
 ) -> Result<(), InstanceRefusal>
-    requires { length types.old + length rows.items ≤ MOST_TYPES }
+    requires { length types.old + length rows.items ≤ MAX_TYPES }
     ensures { Gives is_memory (result_and result (Ok types.new)) (accept_each accept_type types.old rows.items) }
 {
     for row in rows {
@@ -71,7 +71,7 @@ pub fn add_types(
 /// The station of a row, after those of the rows before it.
 #[tactic(auto, unfolding(crate::specs::Build::accept_station))]
 fn accept_station(stations: &Named<Station>, row: StationRow) -> Result<Station, InstanceRefusal>
-    requires { length stations.now ≤ MOST_STATIONS }
+    requires { length stations.now ≤ MAX_STATIONS }
     ensures value { result ≡ accept_station stations.now row }
     ensures new { IfOk result (λ s. has_name (λ s. s.name) stations.now s.name ≡ false) }
 {
@@ -94,7 +94,7 @@ pub fn add_stations(
     stations: &mut Named<Station>,
     rows: Vec<StationRow>,
 ) -> Result<(), InstanceRefusal>
-    requires { length stations.old + length rows.items ≤ MOST_STATIONS }
+    requires { length stations.old + length rows.items ≤ MAX_STATIONS }
     ensures { Gives is_memory (result_and result (Ok stations.new))
         (accept_each accept_station stations.old rows.items) }
 {
@@ -107,7 +107,7 @@ pub fn add_stations(
 
 /// The number of the station with the name.
 fn find_station(stations: &Named<Station>, name: &Name) -> Option<StationNo>
-    requires { length stations.now ≤ MOST_STATIONS }
+    requires { length stations.now ≤ MAX_STATIONS }
     ensures value { result ≡ find_name (λ s. s.name) stations.now name.now }
     ensures within { IfSome result (λ s. s < length stations.now) }
 {
@@ -119,7 +119,7 @@ fn find_station(stations: &Named<Station>, name: &Name) -> Option<StationNo>
 
 /// The number of the type with the name.
 fn find_type(types: &Named<UnitType>, name: &Name) -> Option<TypeNo>
-    requires { length types.now ≤ MOST_TYPES }
+    requires { length types.now ≤ MAX_TYPES }
     ensures { result ≡ find_name (λ t. t.name) types.now name.now }
 {
     let Some(place) = types.find(name) else {
@@ -145,9 +145,9 @@ fn accept_stock(
     before: &[Stock],
     row: &StockRow,
 ) -> Result<Stock, InstanceRefusal>
-    requires stations { length stations.now ≤ MOST_STATIONS }
-    requires types { length types.now ≤ MOST_TYPES }
-    requires before { length before.now ≤ MOST_STOCK_ROWS }
+    requires stations { length stations.now ≤ MAX_STATIONS }
+    requires types { length types.now ≤ MAX_TYPES }
+    requires before { length before.now ≤ MAX_STOCK_ROWS }
     ensures { result ≡ accept_stock stations.now types.now before.now row.now }
 {
     let number = row_after(before.len());
@@ -183,9 +183,9 @@ pub fn add_stock(
     stock: &mut Vec<Stock>,
     rows: &[StockRow],
 ) -> Result<(), InstanceRefusal>
-    requires stations { length stations.now ≤ MOST_STATIONS }
-    requires types { length types.now ≤ MOST_TYPES }
-    requires rows { length stock.old.items + length rows.now ≤ MOST_STOCK_ROWS }
+    requires stations { length stations.now ≤ MAX_STATIONS }
+    requires types { length types.now ≤ MAX_TYPES }
+    requires rows { length stock.old.items + length rows.now ≤ MAX_STOCK_ROWS }
     ensures { Gives is_memory (result_and result (Ok stock.new.items))
         (accept_each (accept_stock stations.now types.now) stock.old.items rows.now) }
 {
@@ -198,11 +198,11 @@ pub fn add_stock(
 
 /// Whether more units stand at the stations at the start than a day may have.
 pub fn are_too_many(stock: &[Stock]) -> bool
-    ensures { result ≡ nat_lt MOST_UNITS (starts_of stock.now) }
+    ensures { result ≡ nat_lt MAX_UNITS (starts_of stock.now) }
 {
     let mut units = 0;
     for row in stock {
-        if row.start > MOST_UNITS - units {
+        if row.start > MAX_UNITS - units {
             return true;
         }
         units += row.start;
@@ -287,8 +287,8 @@ fn ends_of(
     before: &Named<Trip>,
     row: &TripRow,
 ) -> Result<(StationNo, StationNo), InstanceRefusal>
-    requires stations { length stations.now ≤ MOST_STATIONS }
-    requires before { length before.now ≤ MOST_TRIPS }
+    requires stations { length stations.now ≤ MAX_STATIONS }
+    requires before { length before.now ≤ MAX_TRIPS }
     ensures value { result ≡ ends_in stations.now before.now row.now }
     ensures new { IfOk result (λ _. has_name (λ t. t.name) before.now row.now.name ≡ false) }
     ensures from { IfOk result (λ ends. ends.0 < length stations.now) }
@@ -326,8 +326,8 @@ fn accept_trip(
     before: &Named<Trip>,
     row: TripRow,
 ) -> Result<Trip, InstanceRefusal>
-    requires stations { length stations.now ≤ MOST_STATIONS }
-    requires before { length before.now ≤ MOST_TRIPS }
+    requires stations { length stations.now ≤ MAX_STATIONS }
+    requires before { length before.now ≤ MAX_TRIPS }
     ensures value { result ≡ accept_trip stations.now types.now before.now row }
     ensures new { IfOk result (λ t. has_name (λ t. t.name) before.now t.name ≡ false) }
 {
@@ -354,8 +354,8 @@ fn add_trips(
     trips: &mut Named<Trip>,
     rows: Vec<TripRow>,
 ) -> Result<(), InstanceRefusal>
-    requires stations { length stations.now ≤ MOST_STATIONS }
-    requires rows { length trips.old + length rows.items ≤ MOST_TRIPS }
+    requires stations { length stations.now ≤ MAX_STATIONS }
+    requires rows { length trips.old + length rows.items ≤ MAX_TRIPS }
     ensures { Gives is_memory (result_and result (Ok trips.new))
         (accept_each (accept_trip stations.now types.now) trips.old rows.items) }
 {
@@ -374,8 +374,8 @@ pub fn trips_of(
     types: &[UnitType],
     rows: Rows<TripRow>,
 ) -> Result<Named<Trip>, InstanceRefusal>
-    requires stations { length stations.now ≤ MOST_STATIONS }
-    requires rows { length rows ≤ MOST_TRIPS }
+    requires stations { length stations.now ≤ MAX_STATIONS }
+    requires rows { length rows ≤ MAX_TRIPS }
     ensures { Gives is_memory result (trips_in stations.now types.now rows) }
 {
     let mut trips = Named::new(alloc);

@@ -8,7 +8,7 @@ ghost use Rattle.timetable.specs.Lists.{has};
 
 use crate::building::named::{HasName, find_name};
 use crate::building::tables::{Rows, Tables};
-use rail_base::limits::MOST_TRIPS;
+use rail_base::limits::MAX_TRIPS;
 use rail_base::{Name, TripNo};
 use rail_csv::{LinkRow, TripRow};
 
@@ -30,7 +30,7 @@ fn is_among(trip: TripNo, gone: &[TripNo]) -> bool
 /// Takes what is of the trip of this number out if the trip is gone.
 fn take_out_at<T: Drop>(rows: &mut Vec<T>, place: usize, gone: &[TripNo])
     requires place { place < length rows.old.items }
-    requires few { place < MOST_TRIPS }
+    requires few { place < MAX_TRIPS }
     ensures { rows.new.items ≡ take place rows.old.items
         ++ drop (if has place gone.now then place + 1 else place) rows.old.items }
 {
@@ -41,7 +41,7 @@ fn take_out_at<T: Drop>(rows: &mut Vec<T>, place: usize, gone: &[TripNo])
 
 /// Of a list that has one entry for each trip, in the order of the trips, takes those out whose trips are gone.
 pub(crate) fn take_out<T: Drop>(rows: &mut Vec<T>, gone: &[TripNo])
-    requires { length rows.old.items ≤ MOST_TRIPS }
+    requires { length rows.old.items ≤ MAX_TRIPS }
     ensures { rows.new.items ≡ left gone.now rows.old.items }
 {
     let mut place = rows.len();
@@ -53,7 +53,7 @@ pub(crate) fn take_out<T: Drop>(rows: &mut Vec<T>, gone: &[TripNo])
 
 /// Whether the row of the trip with this name is gone.
 fn is_gone(rows: &[TripRow], gone: &[TripNo], name: &Name) -> bool
-    requires { length rows.now ≤ MOST_TRIPS }
+    requires { length rows.now ≤ MAX_TRIPS }
     ensures { result ≡ is_gone rows.now gone.now name.now }
 {
     match find_name(rows, name.as_str()) {
@@ -64,7 +64,7 @@ fn is_gone(rows: &[TripRow], gone: &[TripNo], name: &Name) -> bool
 
 /// Whether the row of the trip with this name is gone, where there is a name.
 fn is_second_gone(rows: &[TripRow], gone: &[TripNo], name: &Option<Name>) -> bool
-    requires { length rows.now ≤ MOST_TRIPS }
+    requires { length rows.now ≤ MAX_TRIPS }
     ensures { result ≡ list_any (is_gone rows.now gone.now) (option_to_list name.now) }
 {
     match name {
@@ -76,7 +76,7 @@ fn is_second_gone(rows: &[TripRow], gone: &[TripNo], name: &Option<Name>) -> boo
 /// Whether a link row names a trip whose row is gone.
 #[tactic(auto, unfolding(crate::specs::DerivedDays::row_names_gone))]
 fn row_names_gone(rows: &[TripRow], gone: &[TripNo], row: &LinkRow) -> bool
-    requires { length rows.now ≤ MOST_TRIPS }
+    requires { length rows.now ≤ MAX_TRIPS }
     ensures { result ≡ row_names_gone rows.now gone.now row.now }
 {
     is_gone(rows, gone, &row.arriving)
@@ -87,7 +87,7 @@ fn row_names_gone(rows: &[TripRow], gone: &[TripNo], row: &LinkRow) -> bool
 
 /// Takes the link rows out that name a trip whose row is gone.
 fn take_links_out(links: &mut Vec<LinkRow>, rows: &[TripRow], gone: &[TripNo])
-    requires { length rows.now ≤ MOST_TRIPS }
+    requires { length rows.now ≤ MAX_TRIPS }
     ensures { links.new.items ≡ filter (λ row. not (row_names_gone rows.now gone.now row)) links.old.items }
 {
     links.retain(|row| !row_names_gone(rows, gone, row));
@@ -99,7 +99,7 @@ impl Tables {
     /// trips then, by the law `tables_make_days_without`. It takes no memory.
     #[tactic(auto, unfolding(crate::specs::DerivedDays::tables_without))]
     pub fn without_trips(self, gone: &[TripNo]) -> Tables
-        requires { length self.trips ≤ MOST_TRIPS }
+        requires { length self.trips ≤ MAX_TRIPS }
         ensures { result ≡ tables_without gone.now self }
     {
         let Tables {

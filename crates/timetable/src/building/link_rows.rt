@@ -15,7 +15,7 @@ use crate::building::named::Named;
 use crate::building::refusal::InstanceRefusal;
 use crate::building::tables::Rows;
 use crate::day::records::{Link, LinkKind, Trip};
-use rail_base::limits::{MOST_LINKS, MOST_TRIPS};
+use rail_base::limits::{MAX_LINKS, MAX_TRIPS};
 use rail_base::{Name, TripNo};
 use rail_csv::{End, KindWord, LinkRow, Table};
 use std::alloc::Global;
@@ -27,7 +27,7 @@ fn find_trip(
     column: u32,
     name: &Name,
 ) -> Result<TripNo, InstanceRefusal>
-    requires { length trips.now ≤ MOST_TRIPS }
+    requires { length trips.now ≤ MAX_TRIPS }
     ensures value { result ≡ trip_named trips.now row column name.now }
     ensures within { IfOk result (λ t. t < length trips.now) }
 {
@@ -68,7 +68,7 @@ fn does_shunt(row: &LinkRow) -> bool
 /// The kind of a row that is a turn.
 #[tactic(auto, unfolding(crate::specs::LinkRows::turn_in))]
 fn turn_of(trips: &Named<Trip>, number: u32, row: &LinkRow) -> Result<LinkKind, InstanceRefusal>
-    requires { length trips.now ≤ MOST_TRIPS }
+    requires { length trips.now ≤ MAX_TRIPS }
     ensures value { result ≡ turn_in trips.now number row.now row.now.arriving2 row.now.departing2 }
     ensures within { IfOk result (λ kind. NamesBelow (length trips.now) kind) }
 {
@@ -92,7 +92,7 @@ fn turn_of(trips: &Named<Trip>, number: u32, row: &LinkRow) -> Result<LinkKind, 
 /// The kind of a row that is a join.
 #[tactic(auto, unfolding(crate::specs::LinkRows::join_in))]
 fn join_of(trips: &Named<Trip>, number: u32, row: &LinkRow) -> Result<LinkKind, InstanceRefusal>
-    requires { length trips.now ≤ MOST_TRIPS }
+    requires { length trips.now ≤ MAX_TRIPS }
     ensures value { result ≡ join_in trips.now number row.now row.now.arriving2 row.now.departing2 }
     ensures within { IfOk result (λ kind. NamesBelow (length trips.now) kind) }
 {
@@ -115,7 +115,7 @@ fn join_of(trips: &Named<Trip>, number: u32, row: &LinkRow) -> Result<LinkKind, 
 /// The kind of a row that is a split.
 #[tactic(auto, unfolding(crate::specs::LinkRows::split_in))]
 fn split_of(trips: &Named<Trip>, number: u32, row: &LinkRow) -> Result<LinkKind, InstanceRefusal>
-    requires { length trips.now ≤ MOST_TRIPS }
+    requires { length trips.now ≤ MAX_TRIPS }
     ensures value { result ≡ split_in trips.now number row.now row.now.arriving2 row.now.departing2 }
     ensures within { IfOk result (λ kind. NamesBelow (length trips.now) kind) }
 {
@@ -137,7 +137,7 @@ fn split_of(trips: &Named<Trip>, number: u32, row: &LinkRow) -> Result<LinkKind,
 
 /// The kind of a row, with the trips that its names stand for.
 fn kind_of(trips: &Named<Trip>, number: u32, row: &LinkRow) -> Result<LinkKind, InstanceRefusal>
-    requires { length trips.now ≤ MOST_TRIPS }
+    requires { length trips.now ≤ MAX_TRIPS }
     ensures value { result ≡ kind_of row.now.kind trips.now number row.now }
     ensures within { IfOk result (λ kind. NamesBelow (length trips.now) kind) }
 {
@@ -276,8 +276,8 @@ fn accept_trips(
 /// The link of a row, after those of the rows before it.
 #[tactic(auto, unfolding(crate::specs::LinkRows::accept_link))]
 fn accept_link(trips: &Named<Trip>, before: &Linked, row: &LinkRow) -> Result<Link, InstanceRefusal>
-    requires trips { length trips.now ≤ MOST_TRIPS }
-    requires before { length before.now.links ≤ MOST_LINKS }
+    requires trips { length trips.now ≤ MAX_TRIPS }
+    requires before { length before.now.links ≤ MAX_LINKS }
     requires same_trips { before.now.trips ≡ length trips.now }
     ensures value { result ≡ accept_link trips.now before.now.links row.now }
     ensures named { IfOk result (λ link. NamesBelow (length trips.now) link.kind) }
@@ -298,9 +298,9 @@ fn add_links(
     links: &mut Linked,
     rows: &[LinkRow],
 ) -> Result<(), InstanceRefusal>
-    requires trips { length trips.now ≤ MOST_TRIPS }
+    requires trips { length trips.now ≤ MAX_TRIPS }
     requires same_trips { links.old.trips ≡ length trips.now }
-    requires rows { length links.old.links + length rows.now ≤ MOST_LINKS }
+    requires rows { length links.old.links + length rows.now ≤ MAX_LINKS }
     ensures { Gives is_memory (result_and result (Ok links.new.links))
         (accept_each (accept_link trips.now) links.old.links rows.now) }
 {
@@ -320,8 +320,8 @@ pub fn links_of(
     trips: &Named<Trip>,
     rows: &[LinkRow],
 ) -> Result<Vec<Link>, InstanceRefusal>
-    requires trips { length trips.now ≤ MOST_TRIPS }
-    requires rows { length rows.now ≤ MOST_LINKS }
+    requires trips { length trips.now ≤ MAX_TRIPS }
+    requires rows { length rows.now ≤ MAX_LINKS }
     ensures { GivesRows is_memory result (links_in trips.now rows.now) }
 {
     let mut links = Linked::new(alloc, trips.len() as u32)?;

@@ -8,7 +8,7 @@ ghost use Rattle.timetable.specs.LinkTables.{link_table};
 
 use crate::day::link_tables::{Side, links_by_trip};
 use crate::day::records::{Handover, Link, LinkKind};
-use rail_base::limits::{MOST_LINKS, MOST_TRIPS};
+use rail_base::limits::{MAX_LINKS, MAX_TRIPS};
 use rail_base::{LinkNo, NoMemory, TripNo};
 use std::alloc::Global;
 use std::marker::Model;
@@ -115,7 +115,7 @@ fn chains_of(
     requires incoming { incoming.now ≡ link_table departing_in links.now (length incoming.now) }
     requires as_many { length incoming.now ≡ length outgoing.now }
     requires outgoing { outgoing.now ≡ link_table arriving_in links.now (length outgoing.now) }
-    requires few { length outgoing.now ≤ MOST_TRIPS }
+    requires few { length outgoing.now ≤ MAX_TRIPS }
     requires known { (t b : ℕ) → next_in links.now t ≡ Some b → b < length outgoing.now }
     ensures { IfOk result
         (λ chains. chains.items ≡ chains_below links.now (length outgoing.now) (length outgoing.now)) }
@@ -132,7 +132,7 @@ fn chains_of(
 
 /// The hand-overs of joins and splits, in the order of the links.
 fn handovers_of(alloc: Global, links: &[Link]) -> Result<Vec<Handover>, NoMemory>
-    requires { length links.now ≤ MOST_LINKS }
+    requires { length links.now ≤ MAX_LINKS }
     ensures { IfOk result (λ handovers. handovers.items ≡ handovers_from 0 links.now) }
 {
     let mut handovers = Vec::new(alloc);
@@ -162,8 +162,8 @@ pub struct Linking {
 
 /// What the links of a day of so many trips give.
 pub fn linking_of(alloc: Global, links: &[Link], trips: u32) -> Result<Linking, NoMemory>
-    requires links { length links.now ≤ MOST_LINKS }
-    requires trips { trips ≤ MOST_TRIPS }
+    requires links { length links.now ≤ MAX_LINKS }
+    requires trips { trips ≤ MAX_TRIPS }
     requires known { (t b : ℕ) → next_in links.now t ≡ Some b → b < trips }
     ensures incoming { IfOk result (λ linking. linking.incoming.items ≡ link_table departing_in links.now trips) }
     ensures outgoing { IfOk result (λ linking. linking.outgoing.items ≡ link_table arriving_in links.now trips) }

@@ -6,7 +6,7 @@ ghost use Rattle.timetable.specs.Lists.{sum_below};
 ghost use Rattle.timetable.specs.Minutes.{minutes_of};
 
 use crate::day::instance::Instance;
-use rail_base::limits::{MOST_COMPOSITIONS, MOST_HANDOVERS, MOST_STATIONS, MOST_TRIPS, MOST_TYPES};
+use rail_base::limits::{MAX_COMPOSITIONS, MAX_HANDOVERS, MAX_STATIONS, MAX_TRIPS, MAX_TYPES};
 use rail_base::{CompNo, StationNo, TypeNo};
 
 /// What a multiplier belongs to.
@@ -54,7 +54,7 @@ impl Instance {
     fn minutes_before(&self, station: u32) -> u32
         requires station { station ≤ length self.now.stations }
         ensures value { result ≡ sum_below (λ s. length (minutes_of self.now s)) station }
-        ensures few { result ≤ MOST_TRIPS }
+        ensures few { result ≤ MAX_TRIPS }
     {
         let mut minutes = 0;
         for earlier in 0..station {
@@ -67,7 +67,7 @@ impl Instance {
     /// one.
     pub fn free_from(&self) -> u32
         ensures value { result ≡ length (lambdas_of self.now) }
-        ensures few { result ≤ MOST_TYPES * MOST_TRIPS }
+        ensures few { result ≤ MAX_TYPES * MAX_TRIPS }
     {
         self.types().len() * self.minutes_before(self.stations())
     }
@@ -75,7 +75,7 @@ impl Instance {
     /// How many multipliers belong to a station and a type.
     fn mus(&self) -> u32
         ensures value { result ≡ length (mus_of self.now) }
-        ensures few { result ≤ MOST_STATIONS * MOST_TYPES }
+        ensures few { result ≤ MAX_STATIONS * MAX_TYPES }
     {
         self.stations() * self.types().len()
     }
@@ -83,8 +83,8 @@ impl Instance {
     /// How many multipliers there are.
     pub fn indices(&self) -> u32
         ensures value { result ≡ length (places_of self.now) }
-        ensures few { result ≤ MOST_TYPES * MOST_TRIPS + MOST_STATIONS * MOST_TYPES
-            + MOST_HANDOVERS * MOST_COMPOSITIONS }
+        ensures few { result ≤ MAX_TYPES * MAX_TRIPS + MAX_STATIONS * MAX_TYPES
+            + MAX_HANDOVERS * MAX_COMPOSITIONS }
     {
         self.free_from() + self.mus() + self.handovers() * self.catalogue().len()
     }

@@ -35,8 +35,8 @@ use crate::day::minutes::{Minutes, minutes_of};
 use crate::day::records::{Handover, Link, Station, Stock, Trip, Unit, Weights};
 use compositions::{Catalogue, UnitTypes};
 use rail_base::limits::{
-    MOST_COMPOSITION, MOST_HANDOVERS, MOST_LINKS, MOST_MINUTES, MOST_REALLOCATION, MOST_STATIONS,
-    MOST_TRIPS, MOST_UNITS,
+    MAX_COMPOSITION_UNITS, MAX_HANDOVERS, MAX_LINKS, MAX_MINUTES, MAX_REALLOCATION, MAX_STATIONS,
+    MAX_TRIPS, MAX_UNITS,
 };
 use rail_base::{CompNo, LinkNo, Minute, NoMemory, StationNo, TripNo, TypeNo, UnitNo};
 use std::alloc::Global;
@@ -131,7 +131,7 @@ impl Instance {
     /// How many stations there are.
     pub fn stations(&self) -> u32
         ensures value { result ≡ length self.now.stations }
-        ensures few { result ≤ MOST_STATIONS }
+        ensures few { result ≤ MAX_STATIONS }
     {
         self.stations.len() as u32
     }
@@ -139,7 +139,7 @@ impl Instance {
     /// How many trips there are. Some composition may run on each.
     pub fn trips(&self) -> u32
         ensures value { result ≡ length self.now.trips }
-        ensures few { result ≤ MOST_TRIPS }
+        ensures few { result ≤ MAX_TRIPS }
         ensures sound { IsDay self.now }
         ensures served { HaveCompositions self.now }
     {
@@ -150,7 +150,7 @@ impl Instance {
     /// time.
     pub fn links(&self) -> u32
         ensures value { result ≡ length self.now.links }
-        ensures few { result ≤ MOST_LINKS }
+        ensures few { result ≤ MAX_LINKS }
         ensures sound { AreLinks self.now }
         ensures meet { DoMeet self.now }
     {
@@ -162,7 +162,7 @@ impl Instance {
     /// than a stock row may say.
     pub fn units(&self) -> u32
         ensures value { result ≡ unit_count self.now }
-        ensures few { result ≤ MOST_UNITS }
+        ensures few { result ≤ MAX_UNITS }
         ensures once { IsStocked self.now }
     {
         self.units.len() as u32
@@ -253,7 +253,7 @@ impl Instance {
     pub fn ready_at(&self, trip: TripNo) -> Minute
         requires { trip < length self.now.trips }
         ensures value { result ≡ ready_at self.now trip }
-        ensures range { result < MOST_MINUTES + MOST_REALLOCATION }
+        ensures range { result < MAX_MINUTES + MAX_REALLOCATION }
     {
         let trip = self.trip(trip);
         let station = self.station(trip.to);
@@ -295,8 +295,8 @@ impl Instance {
     /// nothing where none fits, or where the link is no turn. The link is below `links`.
     pub fn kept(&self, link: LinkNo, arriving: &[TypeNo], departing: &[TypeNo]) -> Option<u32>
         requires link { link < length self.now.links }
-        requires arriving { length arriving.now ≤ MOST_COMPOSITION }
-        requires departing { length departing.now ≤ MOST_COMPOSITION }
+        requires arriving { length arriving.now ≤ MAX_COMPOSITION_UNITS }
+        requires departing { length departing.now ≤ MAX_COMPOSITION_UNITS }
         ensures number { IfSome (slice_get self.now.links link)
             (λ link. result ≡ kept_of link.kind arriving.now departing.now) }
         ensures meaning { IfSome (slice_get self.now.links link)
@@ -310,7 +310,7 @@ impl Instance {
     /// trip is in exactly one chain, perhaps alone.
     pub fn chains(&self) -> u32
         ensures value { result ≡ length (chains_of self.now) }
-        ensures few { result ≤ MOST_TRIPS }
+        ensures few { result ≤ MAX_TRIPS }
         ensures whole { AreChains self.now (chains_of self.now) }
     {
         self.chains.len() as u32
@@ -333,7 +333,7 @@ impl Instance {
     /// trips, of which a trip has two, and no end is taken up twice.
     pub fn handovers(&self) -> u32
         ensures value { result ≡ length (handovers_of self.now) }
-        ensures few { result ≤ MOST_HANDOVERS }
+        ensures few { result ≤ MAX_HANDOVERS }
         ensures ends { 3 * result ≤ 2 * length self.now.trips }
         ensures whole { AreHandovers self.now (handovers_of self.now) }
     {
@@ -358,9 +358,9 @@ impl Instance {
         requires { station < length self.now.stations }
         ensures value { result.now ≡ minutes_of self.now station }
         ensures whole { AreMinutes self.now station result.now }
-        ensures few { length result.now ≤ MOST_TRIPS }
-        ensures together { (stations : ℕ) → sum_below (λ s. length (minutes_of self.now s)) stations ≤ MOST_TRIPS }
-        ensures within { All (λ minute. minute < MOST_MINUTES) result.now }
+        ensures few { length result.now ≤ MAX_TRIPS }
+        ensures together { (stations : ℕ) → sum_below (λ s. length (minutes_of self.now s)) stations ≤ MAX_TRIPS }
+        ensures within { All (λ minute. minute < MAX_MINUTES) result.now }
     {
         self.minutes[station.place()].items()
     }
@@ -395,7 +395,7 @@ impl Instance {
 
 /// The same number, if there is one.
 fn as_number(kept: Option<usize>) -> Option<u32>
-    requires { IfSome kept (λ n. n ≤ MOST_COMPOSITION) }
+    requires { IfSome kept (λ n. n ≤ MAX_COMPOSITION_UNITS) }
     ensures { result ≡ kept }
 {
     match kept {
@@ -440,9 +440,9 @@ struct InstanceParts {
 
 /// The parts of the instance of these rows.
 fn parts_of(alloc: Global, rows: &AcceptedRows) -> Result<InstanceParts, NoMemory>
-    requires stations { length rows.now.stations.items ≤ MOST_STATIONS }
-    requires trips { length rows.now.trips.items ≤ MOST_TRIPS }
-    requires links { length rows.now.links.items ≤ MOST_LINKS }
+    requires stations { length rows.now.stations.items ≤ MAX_STATIONS }
+    requires trips { length rows.now.trips.items ≤ MAX_TRIPS }
+    requires links { length rows.now.links.items ≤ MAX_LINKS }
     requires known { (t b : ℕ) → next_in rows.now.links.items t ≡ Some b → b < length rows.now.trips.items }
     ensures { IfOk result (λ parts. AreInstanceParts parts rows.now) }
 {

@@ -6,7 +6,7 @@ ghost use Rattle.timetable.specs.Links.{listed};
 ghost use Rattle.timetable.specs.LinkTables.{trips_on, noted, link_table};
 
 use crate::day::records::{Link, LinkKind, LinkTrips};
-use rail_base::limits::MOST_LINKS;
+use rail_base::limits::MAX_LINKS;
 use rail_base::{LinkNo, NoMemory, TripNo};
 use std::alloc::Global;
 
@@ -60,7 +60,7 @@ pub fn links_by_trip(
     side: Side,
     trips: u32,
 ) -> Result<Vec<Option<LinkNo>>, NoMemory>
-    requires { length links.now ≤ MOST_LINKS }
+    requires { length links.now ≤ MAX_LINKS }
     ensures { IfOk result (λ table. table.items ≡ link_table (trips_on side) links.now trips) }
 {
     let mut table = vec![in alloc; None; trips as usize]?;

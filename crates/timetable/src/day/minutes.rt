@@ -6,7 +6,7 @@ ghost use Rattle.timetable.specs.Lists.{listed};
 ghost use Rattle.timetable.specs.Minutes.{inserted, with_departure, minutes_in};
 
 use crate::day::records::Trip;
-use rail_base::limits::{MOST_STATIONS, MOST_TRIPS};
+use rail_base::limits::{MAX_STATIONS, MAX_TRIPS};
 use rail_base::{Minute, NoMemory, StationNo};
 use std::alloc::Global;
 use std::marker::Model;
@@ -66,7 +66,7 @@ fn insert_departure(
 
 /// The minutes at which trips leave a station, each once.
 fn minutes_at(alloc: Global, trips: &[Trip], station: StationNo) -> Result<Minutes, NoMemory>
-    requires { length trips.now ≤ MOST_TRIPS }
+    requires { length trips.now ≤ MAX_TRIPS }
     ensures { IfOk result (λ minutes. minutes ≡ minutes_in trips.now station) }
 {
     let mut minutes = Vec::new(alloc);
@@ -80,8 +80,8 @@ fn minutes_at(alloc: Global, trips: &[Trip], station: StationNo) -> Result<Minut
 
 /// The departure minutes of each of so many stations.
 pub fn minutes_of(alloc: Global, trips: &[Trip], stations: u32) -> Result<Vec<Minutes>, NoMemory>
-    requires trips { length trips.now ≤ MOST_TRIPS }
-    requires stations { stations ≤ MOST_STATIONS }
+    requires trips { length trips.now ≤ MAX_TRIPS }
+    requires stations { stations ≤ MAX_STATIONS }
     ensures { IfOk result (λ minutes. minutes.items ≡ listed (minutes_in trips.now) stations) }
 {
     let mut minutes = Vec::new(alloc);

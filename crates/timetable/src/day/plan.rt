@@ -11,7 +11,7 @@ ghost use Rattle.timetable.specs.Running.{IsPlan};
 use crate::building::entries::row_after;
 use crate::building::refusal::PlanRefusal;
 use crate::day::instance::Instance;
-use rail_base::limits::{MOST_COMPOSITION, MOST_TRIPS};
+use rail_base::limits::{MAX_COMPOSITION_UNITS, MAX_TRIPS};
 use rail_base::{Name, NoMemory, TripNo, UnitNo};
 use rail_csv::{PlanRow, UnitList};
 use std::alloc::Global;
@@ -30,9 +30,9 @@ impl Model for NamedPlan {
 
     ghost view = { λ a. a.lists.items };
 
-    ghost use Rattle.rail_base.specs.declared.limits.TheConstants.{MOST_TRIPS};
+    ghost use Rattle.rail_base.specs.declared.limits.TheConstants.{MAX_TRIPS};
 
-    ghost invariant = { λ a. length a.lists.items ≤ MOST_TRIPS };
+    ghost invariant = { λ a. length a.lists.items ≤ MAX_TRIPS };
 }
 
 impl NamedPlan {
@@ -67,7 +67,7 @@ impl NamedPlan {
     /// The plan of these lists, one a trip in the order of the trips: at most 400. There is no condition on the units.
     /// It takes no memory.
     pub fn of(lists: Vec<UnitList>) -> NamedPlan
-        requires { length lists.items ≤ MOST_TRIPS }
+        requires { length lists.items ≤ MAX_TRIPS }
         ensures { result ≡ lists.items }
     {
         NamedPlan { lists }
@@ -76,7 +76,7 @@ impl NamedPlan {
     /// The plan of the same lists again, one a trip in the order of the trips: at most 400. There is no condition on
     /// the units. The error is want of memory.
     pub fn copied(alloc: Global, lists: &[UnitList]) -> Result<NamedPlan, NoMemory>
-        requires { length lists.now ≤ MOST_TRIPS }
+        requires { length lists.now ≤ MAX_TRIPS }
         ensures { IfOk result (λ plan. plan ≡ lists.now) }
     {
         let mut copy = Vec::new(alloc);
@@ -98,7 +98,7 @@ impl NamedPlan {
     pub fn units(&self, trip: TripNo) -> &[UnitNo]
         requires { trip < length self.now }
         ensures value { result.now ≡ list_of self.now trip }
-        ensures few { length result.now ≤ MOST_COMPOSITION }
+        ensures few { length result.now ≤ MAX_COMPOSITION_UNITS }
     {
         self.lists[trip.place()].items()
     }
@@ -106,7 +106,7 @@ impl NamedPlan {
     /// For how many trips there is a list.
     pub fn trips(&self) -> u32
         ensures value { result ≡ length self.now }
-        ensures few { result ≤ MOST_TRIPS }
+        ensures few { result ≤ MAX_TRIPS }
     {
         self.lists.len() as u32
     }
@@ -115,7 +115,7 @@ impl NamedPlan {
 /// Whether there is a trip of this number, and it has the name.
 fn is_trip(instance: &Instance, trip: usize, name: &Name) -> bool
     ensures value { result ≡ is_named (slice_get instance.now.trips trip) name.now }
-    ensures few { length instance.now.trips ≤ MOST_TRIPS }
+    ensures few { length instance.now.trips ≤ MAX_TRIPS }
 {
     if trip >= instance.trips() as usize {
         return false;
@@ -147,9 +147,9 @@ fn accept_list(
     before: &[UnitList],
     row: &PlanRow,
 ) -> Result<UnitList, PlanRefusal>
-    requires { length before.now ≤ MOST_TRIPS }
+    requires { length before.now ≤ MAX_TRIPS }
     ensures value { Gives is_memory result (accept_list instance.now before.now row.now) }
-    ensures few { IfOk result (λ _. length before.now < MOST_TRIPS) }
+    ensures few { IfOk result (λ _. length before.now < MAX_TRIPS) }
 {
     if !is_trip(instance, before.len(), &row.trip) {
         return Err(PlanRefusal::WrongTrip(row_after(before.len())));
@@ -168,7 +168,7 @@ fn lists_of(
     rows: &[PlanRow],
 ) -> Result<Vec<UnitList>, PlanRefusal>
     ensures value { GivesRows is_memory result (lists_in instance.now rows.now) }
-    ensures few { IfOk result (λ lists. length lists.items ≤ MOST_TRIPS) }
+    ensures few { IfOk result (λ lists. length lists.items ≤ MAX_TRIPS) }
 {
     let mut lists = Vec::new(alloc);
     for row in rows {

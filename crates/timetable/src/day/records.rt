@@ -1,8 +1,7 @@
 //! The parts of a day, as `rules` has them, and the hand-overs of its links.
 
-pub use rules::{Link, LinkKind, LinkTrips, Station, Stock, Trip, Unit, Weights};
-
 use rail_base::{LinkNo, TripNo};
+pub use rules::{Link, LinkKind, LinkTrips, Station, Stock, Trip, Unit, Weights};
 
 /// The second trip of a join or a split, whose units pass from one chain to another.
 #[derive(Clone, Copy)]

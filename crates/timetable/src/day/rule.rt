@@ -20,7 +20,7 @@ use crate::day::records::{Link, LinkKind};
 use crate::day::trip_entry::TripEntry;
 use crate::day::turns::staying_at;
 use arrayvec::ArrayVec;
-use rail_base::limits::MOST_COMPOSITION;
+use rail_base::limits::MAX_COMPOSITION_UNITS;
 use rail_base::{TripNo, TypeNo, UnitNo};
 use rules::{End, beyond, copy_of, staying, turned};
 
@@ -29,8 +29,8 @@ fn going<T: Copy + Default + Drop>(
     end: End,
     whole: &[T],
     staying: Option<usize>,
-) -> ArrayVec<T, MOST_COMPOSITION>
-    requires few { length whole.now ≤ MOST_COMPOSITION }
+) -> ArrayVec<T, MAX_COMPOSITION_UNITS>
+    requires few { length whole.now ≤ MAX_COMPOSITION_UNITS }
     requires staying { IfSome staying (λ n. n ≤ length whole.now) }
     ensures { result.items ≡ unwrap_or (option_map (beyond end whole.now) staying) whole.now }
 {
@@ -45,8 +45,8 @@ fn left<T: Copy + Default + Drop>(
     end: End,
     whole: &[T],
     kept: Option<usize>,
-) -> ArrayVec<T, MOST_COMPOSITION>
-    requires few { length whole.now ≤ MOST_COMPOSITION }
+) -> ArrayVec<T, MAX_COMPOSITION_UNITS>
+    requires few { length whole.now ≤ MAX_COMPOSITION_UNITS }
     requires kept { IfSome kept (λ n. n ≤ length whole.now) }
     ensures { result.items ≡ unwrap_or (option_map (staying end whole.now) kept) [] }
 {
@@ -136,12 +136,12 @@ fn arriving_list<E: TripEntry>(
     instance: &Instance,
     lists: &E::Lists,
     trip: TripNo,
-) -> ArrayVec<E, MOST_COMPOSITION>
+) -> ArrayVec<E, MAX_COMPOSITION_UNITS>
     requires lists { E.AreOf instance.now lists.now }
     requires trip { trip < length instance.now.trips }
     ensures numbers { map E.number result.items
         ≡ turned link.now.reverse (list_of (E.lists_of instance.now lists.now) trip) }
-    ensures few { length result.items ≤ MOST_COMPOSITION }
+    ensures few { length result.items ≤ MAX_COMPOSITION_UNITS }
 {
     turned(link.reverse, E::list(lists, instance, trip))
 }
@@ -188,7 +188,7 @@ pub fn kept_by<E: TripEntry>(
     lists: &E::Lists,
     from: TripNo,
     to: TripNo,
-) -> ArrayVec<E, MOST_COMPOSITION>
+) -> ArrayVec<E, MAX_COMPOSITION_UNITS>
     requires trips { NamesBelow (length instance.now.trips) link.now.kind }
     requires lists { E.AreOf instance.now lists.now }
     ensures { map E.number result.items ≡ kept_by (E.type_of instance.now) link.now.kind link.now.reverse
@@ -218,7 +218,7 @@ fn given_by<E: TripEntry>(
     link: &Link,
     instance: &Instance,
     lists: &E::Lists,
-) -> ArrayVec<E, MOST_COMPOSITION>
+) -> ArrayVec<E, MAX_COMPOSITION_UNITS>
     requires trips { NamesBelow (length instance.now.trips) link.now.kind }
     requires lists { E.AreOf instance.now lists.now }
     ensures { map E.number result.items
@@ -243,7 +243,7 @@ fn taken_by<E: TripEntry>(
     link: &Link,
     instance: &Instance,
     lists: &E::Lists,
-) -> ArrayVec<E, MOST_COMPOSITION>
+) -> ArrayVec<E, MAX_COMPOSITION_UNITS>
     requires trips { NamesBelow (length instance.now.trips) link.now.kind }
     requires lists { E.AreOf instance.now lists.now }
     ensures { map E.number result.items
@@ -265,9 +265,9 @@ fn taken_by<E: TripEntry>(
 
 impl Instance {
     /// The types of units of the day, front to rear: at most six. It takes no memory.
-    pub fn types_of(&self, units: &[UnitNo]) -> ArrayVec<TypeNo, MOST_COMPOSITION>
+    pub fn types_of(&self, units: &[UnitNo]) -> ArrayVec<TypeNo, MAX_COMPOSITION_UNITS>
         requires known { AreUnits self.now units.now }
-        requires few { length units.now ≤ MOST_COMPOSITION }
+        requires few { length units.now ≤ MAX_COMPOSITION_UNITS }
         ensures types { result.items ≡ types_of self.now units.now }
         ensures known { IsTrue (are_types self.now.types result.items) }
     {
@@ -306,7 +306,7 @@ impl Instance {
         &self,
         lists: &E::Lists,
         trip: TripNo,
-    ) -> ArrayVec<E, MOST_COMPOSITION>
+    ) -> ArrayVec<E, MAX_COMPOSITION_UNITS>
         requires trip { trip < length self.now.trips }
         requires lists { E.AreOf self.now lists.now }
         ensures { map E.number result.items
@@ -326,7 +326,7 @@ impl Instance {
         &self,
         lists: &E::Lists,
         trip: TripNo,
-    ) -> ArrayVec<E, MOST_COMPOSITION>
+    ) -> ArrayVec<E, MAX_COMPOSITION_UNITS>
         requires trip { trip < length self.now.trips }
         requires lists { E.AreOf self.now lists.now }
         ensures { map E.number result.items
@@ -341,7 +341,11 @@ impl Instance {
 
 impl NamedPlan {
     /// The types of the units of a trip of the plan's day, front to rear: at most six. It takes no memory.
-    pub fn types(&self, instance: &Instance, trip: TripNo) -> ArrayVec<TypeNo, MOST_COMPOSITION>
+    pub fn types(
+        &self,
+        instance: &Instance,
+        trip: TripNo,
+    ) -> ArrayVec<TypeNo, MAX_COMPOSITION_UNITS>
         requires trip { trip < length instance.now.trips }
         requires plan { IsPlan instance.now self.now }
         ensures types { result.items ≡ types_of instance.now (list_of self.now trip) }
@@ -353,7 +357,11 @@ impl NamedPlan {
     /// The units that a trip of the plan's day gives to the yard where it arrives, front to rear after a reversal:
     /// those that a turn uncouples, all of them where no link leads on or the rule of the turn is broken, and none at
     /// a join or a split.
-    pub fn given(&self, instance: &Instance, trip: TripNo) -> ArrayVec<UnitNo, MOST_COMPOSITION>
+    pub fn given(
+        &self,
+        instance: &Instance,
+        trip: TripNo,
+    ) -> ArrayVec<UnitNo, MAX_COMPOSITION_UNITS>
         requires trip { trip < length instance.now.trips }
         requires plan { IsPlan instance.now self.now }
         ensures { result.items ≡ given instance.now self.now trip }
@@ -364,7 +372,11 @@ impl NamedPlan {
     /// The units that a trip of the plan's day takes from the yard where it leaves, front to rear: those that a turn
     /// couples, all of them where no link leads into it or the rule of the turn is broken, and none at a join or a
     /// split.
-    pub fn taken(&self, instance: &Instance, trip: TripNo) -> ArrayVec<UnitNo, MOST_COMPOSITION>
+    pub fn taken(
+        &self,
+        instance: &Instance,
+        trip: TripNo,
+    ) -> ArrayVec<UnitNo, MAX_COMPOSITION_UNITS>
         requires trip { trip < length instance.now.trips }
         requires plan { IsPlan instance.now self.now }
         ensures { result.items ≡ taken instance.now self.now trip }

@@ -11,7 +11,7 @@ use crate::day::instance::Instance;
 use crate::day::picks::Picks;
 use crate::day::plan::NamedPlan;
 use arrayvec::ArrayVec;
-use rail_base::limits::MOST_COMPOSITION;
+use rail_base::limits::MAX_COMPOSITION_UNITS;
 use rail_base::{TripNo, TypeNo, UnitNo};
 use rules::copy_of;
 
@@ -37,14 +37,14 @@ pub trait TripEntry: Copy + Default + Drop {
         requires lists { AreOf instance.now lists.now }
         requires trip { trip < length instance.now.trips }
         ensures value { map number result.now ≡ list_of (lists_of instance.now lists.now) trip }
-        ensures few { length result.now ≤ MOST_COMPOSITION };
+        ensures few { length result.now ≤ MAX_COMPOSITION_UNITS };
 
     /// The types of the entries of a trip of the day.
     fn list_types(
         lists: &Self::Lists,
         instance: &Instance,
         trip: TripNo,
-    ) -> ArrayVec<TypeNo, MOST_COMPOSITION>
+    ) -> ArrayVec<TypeNo, MAX_COMPOSITION_UNITS>
         requires lists { AreOf instance.now lists.now }
         requires trip { trip < length instance.now.trips }
         ensures { result.items ≡ map (type_of instance.now) (list_of (lists_of instance.now lists.now) trip) };
@@ -73,7 +73,7 @@ impl TripEntry for UnitNo {
         plan: &NamedPlan,
         instance: &Instance,
         trip: TripNo,
-    ) -> ArrayVec<TypeNo, MOST_COMPOSITION> {
+    ) -> ArrayVec<TypeNo, MAX_COMPOSITION_UNITS> {
         plan.types(instance, trip)
     }
 
@@ -101,7 +101,7 @@ impl TripEntry for TypeNo {
         picks: &Picks,
         instance: &Instance,
         trip: TripNo,
-    ) -> ArrayVec<TypeNo, MOST_COMPOSITION> {
+    ) -> ArrayVec<TypeNo, MAX_COMPOSITION_UNITS> {
         copy_of(instance.composition(picks, trip).units())
     }
 

@@ -6,7 +6,7 @@ ghost use Rattle.timetable.specs.Turns.{may_shunt, parts_at, parts_beside, turn_
 
 use crate::day::trip_entry::TripEntry;
 use rail_base::TypeNo;
-use rail_base::limits::MOST_EXCHANGED;
+use rail_base::limits::MAX_EXCHANGED;
 use rules::{End, kept_length, staying};
 
 /// Whether a turn may take so many units off and put so many on: it does one of the two, or, with exchange, few of
@@ -14,7 +14,7 @@ use rules::{End, kept_length, staying};
 fn may_shunt(exchange: bool, off: usize, on: usize) -> bool
     ensures { result ≡ may_shunt exchange off on }
 {
-    off == 0 || on == 0 || (exchange && off <= MOST_EXCHANGED && on <= MOST_EXCHANGED)
+    off == 0 || on == 0 || (exchange && off <= MAX_EXCHANGED && on <= MAX_EXCHANGED)
 }
 
 /// How many entries stay at a turn that keeps so many by their types, or nothing where other units stand at the kept

@@ -9,7 +9,7 @@ use crate::day::instance::Instance;
 use crate::day::picks::Picks;
 use arrayvec::ArrayVec;
 use compositions::Composition;
-use rail_base::limits::MOST_COMPOSITION;
+use rail_base::limits::MAX_COMPOSITION_UNITS;
 use rail_base::{TripNo, TypeNo};
 
 impl Instance {
@@ -27,7 +27,11 @@ impl Instance {
     /// The types of the units that a trip gives to the yard where it arrives, front to rear after a reversal, where
     /// each trip has the picked composition: those that a turn uncouples, all of them where no link leads on or the
     /// rule of the turn is broken, and none at a join or a split. The trip is below `trips`. It takes no memory.
-    pub fn given_types(&self, picks: &Picks, trip: TripNo) -> ArrayVec<TypeNo, MOST_COMPOSITION>
+    pub fn given_types(
+        &self,
+        picks: &Picks,
+        trip: TripNo,
+    ) -> ArrayVec<TypeNo, MAX_COMPOSITION_UNITS>
         requires picks { ArePicks self.now picks.now }
         requires trip { trip < length self.now.trips }
         ensures { result.items ≡ given_with itself self.now (picked self.now picks.now) trip }
@@ -38,7 +42,11 @@ impl Instance {
     /// The types of the units that a trip takes from the yard where it leaves, front to rear, where each trip has the
     /// picked composition: those that a turn couples, all of them where no link leads into it or the rule of the turn
     /// is broken, and none at a join or a split. The trip is below `trips`. It takes no memory.
-    pub fn taken_types(&self, picks: &Picks, trip: TripNo) -> ArrayVec<TypeNo, MOST_COMPOSITION>
+    pub fn taken_types(
+        &self,
+        picks: &Picks,
+        trip: TripNo,
+    ) -> ArrayVec<TypeNo, MAX_COMPOSITION_UNITS>
         requires picks { ArePicks self.now picks.now }
         requires trip { trip < length self.now.trips }
         ensures { result.items ≡ taken_with itself self.now (picked self.now picks.now) trip }

@@ -3,7 +3,7 @@ use Rattle.std.proofs.Common.{◌∙◌, ap, arith, w64}
 use Rattle.std.specs.Int.{w128}
 use Rattle.std.proofs.lemmas.Int.{ints}
 use mir.Val.{to_z, of_z}
-use Rattle.rail_base.specs.declared.limits.TheConstants.{MOST_MULTIPLIER}
+use Rattle.rail_base.specs.declared.limits.TheConstants.{MAX_MULTIPLIER}
 use Rattle.advisors.specs.MultiplierSteps.{least_value}
 use Rattle.advisors.proofs.Saturating.{IsNarrow, brought, nearest, brought-exact}
 use Rattle.advisors.proofs.subgradient.moved.Goals as goal
@@ -35,23 +35,23 @@ least c = elim c.if-may_be_negative.branch [
   | else-may_be_negative w ↦ w.least-is ∙ sym (ap least_value w.if-may_be_negative.false)
 ]
 
-narrow : (b : Bool) → IsNarrow (least_value b) MOST_MULTIPLIER
+narrow : (b : Bool) → IsNarrow (least_value b) MAX_MULTIPLIER
 narrow true = record { small = omega arith; low = omega (arith, ints); order = omega (arith, ints) }
 narrow false = record { small = omega arith; low = omega (arith, ints); order = omega (arith, ints) }
 
-within : (value : ℤ) → unsigned_abs value ≤ MOST_MULTIPLIER → (neg_ℤ (pos MOST_MULTIPLIER) ≤ℤ value) × (value ≤ℤ pos MOST_MULTIPLIER)
+within : (value : ℤ) → unsigned_abs value ≤ MAX_MULTIPLIER → (neg_ℤ (pos MAX_MULTIPLIER) ≤ℤ value) × (value ≤ℤ pos MAX_MULTIPLIER)
 within (pos n) small = (omega (arith, ints, small), omega (arith, ints, small))
 within (negsuc n) small = (omega (arith, ints, small), omega (arith, ints, small))
 
 -- what the last cast takes keeps within the limit, so that it is not changed
 returned : (c : goal.After-clamp) → to_z w64 (of_z w64 (to_z w128 (of_z w128 c.clamp.result))) ≡ c.clamp.result
 returned c =
-    let low : neg_ℤ (pos MOST_MULTIPLIER) ≤ℤ to_z w128 c.if-may_be_negative.least-bits = omega (arith, ints, least c, (narrow c.args.may_be_negative).low) in
+    let low : neg_ℤ (pos MAX_MULTIPLIER) ≤ℤ to_z w128 c.if-may_be_negative.least-bits = omega (arith, ints, least c, (narrow c.args.may_be_negative).low) in
     omega (arith, ints, low, c.clamp.ensures.lower_bound, c.clamp.ensures.upper_bound)
 
 pub returns : goal.returns
 returns c =
-    let near : (neg_ℤ (pos MOST_MULTIPLIER) ≤ℤ c.args.value) × (c.args.value ≤ℤ pos MOST_MULTIPLIER) = within c.args.value c.requires in
-    returned c ∙ c.clamp.ensures.value ∙ ap (λ z. brought (to_z w128 c.if-may_be_negative.least-bits) (pos MOST_MULTIPLIER) z) (total c)
-    ∙ ap (λ l. brought l (pos MOST_MULTIPLIER) (nearest (nearest (c.args.step *ℤ c.args.slack) +ℤ c.args.value))) (least c)
-    ∙ brought-exact (least_value c.args.may_be_negative) (c.args.step *ℤ c.args.slack) c.args.value MOST_MULTIPLIER (narrow c.args.may_be_negative) near.0 near.1
+    let near : (neg_ℤ (pos MAX_MULTIPLIER) ≤ℤ c.args.value) × (c.args.value ≤ℤ pos MAX_MULTIPLIER) = within c.args.value c.requires in
+    returned c ∙ c.clamp.ensures.value ∙ ap (λ z. brought (to_z w128 c.if-may_be_negative.least-bits) (pos MAX_MULTIPLIER) z) (total c)
+    ∙ ap (λ l. brought l (pos MAX_MULTIPLIER) (nearest (nearest (c.args.step *ℤ c.args.slack) +ℤ c.args.value))) (least c)
+    ∙ brought-exact (least_value c.args.may_be_negative) (c.args.step *ℤ c.args.slack) c.args.value MAX_MULTIPLIER (narrow c.args.may_be_negative) near.0 near.1

@@ -1,7 +1,7 @@
 use Rattle.std.proofs.Common.{◌≡◌, ◌+◌, nat_le, sym, ap, ◌∙◌, subst, arith}
 use Rattle.branch_tree.specs.Entries.{AreRising}
 use Rattle.advisors.specs.Puts.{merged, with_entries}
-use Rattle.advisors.proofs.EntryLists.{rising-kept}
+use Rattle.advisors.proofs.EntryLists.{rising-filtered}
 use Rattle.advisors.proofs.Merging.{drop-end, merged-is_stepped, with-slack}
 use Rattle.advisors.proofs.Turns.{entries-over}
 use Rattle.advisors.proofs.subgradient.propose.Goals as goal
@@ -12,7 +12,7 @@ loop-place-preserved c = record {
       with-slack c.args.look.now c.loop-place.to c.put_through-entries.new.to c.loop-place.entries.now c.put_through-entries.result.now c.args.look.now.slacks.now
       c.loop-place.place c.at.result c.at.ensures c.put_through-entries.ensures.put c.put_through-entries.ensures.rest
       ∙ c.loop-place.invariant.put;
-  rising = subst AreRising (sym c.put_through-entries.ensures.rest) (rising-kept (λ n. nat_le (c.at.result.index + 1) n) c.loop-place.entries.now c.loop-place.invariant.rising);
+  rising = subst AreRising (sym c.put_through-entries.ensures.rest) (rising-filtered (λ n. nat_le (c.at.result.index + 1) n) c.loop-place.entries.now c.loop-place.invariant.rising);
   fit = c.put_through-entries.ensures.fit;
 }
 

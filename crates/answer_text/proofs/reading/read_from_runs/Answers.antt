@@ -3,7 +3,7 @@ use Rattle.std.proofs.lemmas.List.{length_push}
 use Rattle.std.proofs.lemmas.Result.{err_from_is_err_and}
 use Rattle.answer_text.specs.Pieces.{pieces, words_of}
 use Rattle.answer_text.specs.ReadLines.{run_in}
-use Rattle.answer_text.specs.ReadPlaces.{at_runs, reading}
+use Rattle.answer_text.specs.ReadStates.{at_runs, reading}
 use Rattle.answer_text.proofs.Turns.{fails, moved, run_cut, run_end, run_on, run_over, run_wrong}
 use Rattle.answer_text.proofs.reading.read_from_runs.Goals as goal
 

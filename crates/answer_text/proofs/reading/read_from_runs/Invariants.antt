@@ -1,6 +1,6 @@
 use Rattle.std.proofs.Common.{◌≡◌, ◌-◌, ◌≤◌, [], length}
 use Rattle.answer_text.specs.Pieces.{pieces}
-use Rattle.answer_text.specs.ReadPlaces.{at_runs, reading}
+use Rattle.answer_text.specs.ReadStates.{at_runs, reading}
 use Rattle.answer_text.proofs.reading.read_from_runs.Given as goal
 
 -- what is left gives after these runs what all gives

@@ -1,7 +1,7 @@
 use Rattle.std.proofs.Common.{rules, ◌≡◌, Result, Err, IfErr, sym, subst}
 use Rattle.std.specs.Prelude.{MatchOption}
 use Rattle.std.proofs.lemmas.Result.{IfOk-weaker, IfErr-weaker}
-use Rattle.branch_tree.specs.Claims.{DoBound, IsPlanIn, IsProvedClaim, plan_of, said_by}
+use Rattle.branch_tree.specs.Claims.{DoBound, IsPlanIn, IsProvedClaim, concluded_plan, said_by}
 use Rattle.branch_tree.specs.Trees.{bounds_of}
 use Rattle.cert_check.specs.declared.verdict.Reason.{Reason}
 use Rattle.cert_check.specs.Reasons.{claim_tests, head_tests, plan_tests}
@@ -32,17 +32,17 @@ returns-in_err-test_picks-clause-reason g c =
     subst (λ (tested : Result (Unit {0}) Reason). IfErr tested (λ reason. FirstFails (claim_tests problem c.args.root.now c.args.claim.now) reason)) (sym is)
     (fails_picks problem c.args.root.now c.args.claim.now c.in_err-test_picks.field-0.0
     (record { whole = c.in_ok-test_shape.ensures.whole; same = c.in_ok-test_branchings.ensures.same }) c.in_ok-test_nodes.ensures.passed
-    (subst (λ p. FirstFails (plan_tests (g.R.Relaxation.meanings p) c.args.root.now (plan_of (said_by c.args.claim.now.head))) c.in_err-test_picks.field-0.0) c.in_ok-test_nodes.ensures.problem
-    (subst (λ root. FirstFails (plan_tests (g.R.Relaxation.meanings (g.R.Relaxation.problem c.test_nodes.new.problem)) root (plan_of (said_by c.args.claim.now.head))) c.in_err-test_picks.field-0.0) c.in_ok-test_nodes.ensures.root
+    (subst (λ p. FirstFails (plan_tests (g.R.Relaxation.meanings p) c.args.root.now (concluded_plan (said_by c.args.claim.now.head))) c.in_err-test_picks.field-0.0) c.in_ok-test_nodes.ensures.problem
+    (subst (λ root. FirstFails (plan_tests (g.R.Relaxation.meanings (g.R.Relaxation.problem c.test_nodes.new.problem)) root (concluded_plan (said_by c.args.claim.now.head))) c.in_err-test_picks.field-0.0) c.in_ok-test_nodes.ensures.root
     c.in_err-test_picks.ensures.reason)))
 
 pub returns-clause-passed : goal.returns-clause-passed
 returns-clause-passed g c =
     let problem = g.R.Relaxation.meanings (g.R.Relaxation.problem c.args.problem.now) in
     let claim = c.args.claim.now in
-    let plan : MatchOption (plan_of (said_by claim.head)) (Unit {0}) (IsPlanIn problem c.args.root.now) =
-    subst (λ p. MatchOption (plan_of (said_by claim.head)) (Unit {0}) (IsPlanIn (g.R.Relaxation.meanings p) c.args.root.now)) c.in_ok-test_nodes.ensures.problem
-    (subst (λ root. MatchOption (plan_of (said_by claim.head)) (Unit {0}) (IsPlanIn (g.R.Relaxation.meanings (g.R.Relaxation.problem c.test_nodes.new.problem)) root)) c.in_ok-test_nodes.ensures.root c.in_ok-test_picks.ensures.passed) in
+    let plan : MatchOption (concluded_plan (said_by claim.head)) (Unit {0}) (IsPlanIn problem c.args.root.now) =
+    subst (λ p. MatchOption (concluded_plan (said_by claim.head)) (Unit {0}) (IsPlanIn (g.R.Relaxation.meanings p) c.args.root.now)) c.in_ok-test_nodes.ensures.problem
+    (subst (λ root. MatchOption (concluded_plan (said_by claim.head)) (Unit {0}) (IsPlanIn (g.R.Relaxation.meanings (g.R.Relaxation.problem c.test_nodes.new.problem)) root)) c.in_ok-test_nodes.ensures.root c.in_ok-test_picks.ensures.passed) in
     IfOk-weaker c.test_head.result (λ _. DoBound (bounds_of claim.tree.now) (said_by claim.head)) (λ _. IsProvedClaim problem c.args.root.now claim)
     (λ _ said. is_proved problem c.args.root.now claim (record {
       whole = c.in_ok-test_shape.ensures.whole;
@@ -57,9 +57,9 @@ pub returns-clause-reason : goal.returns-clause-reason
 returns-clause-reason g c =
     let problem = g.R.Relaxation.meanings (g.R.Relaxation.problem c.args.problem.now) in
     let claim = c.args.claim.now in
-    let plan : MatchOption (plan_of (said_by claim.head)) (Unit {0}) (IsPlanIn problem c.args.root.now) =
-    subst (λ p. MatchOption (plan_of (said_by claim.head)) (Unit {0}) (IsPlanIn (g.R.Relaxation.meanings p) c.args.root.now)) c.in_ok-test_nodes.ensures.problem
-    (subst (λ root. MatchOption (plan_of (said_by claim.head)) (Unit {0}) (IsPlanIn (g.R.Relaxation.meanings (g.R.Relaxation.problem c.test_nodes.new.problem)) root)) c.in_ok-test_nodes.ensures.root c.in_ok-test_picks.ensures.passed) in
+    let plan : MatchOption (concluded_plan (said_by claim.head)) (Unit {0}) (IsPlanIn problem c.args.root.now) =
+    subst (λ p. MatchOption (concluded_plan (said_by claim.head)) (Unit {0}) (IsPlanIn (g.R.Relaxation.meanings p) c.args.root.now)) c.in_ok-test_nodes.ensures.problem
+    (subst (λ root. MatchOption (concluded_plan (said_by claim.head)) (Unit {0}) (IsPlanIn (g.R.Relaxation.meanings (g.R.Relaxation.problem c.test_nodes.new.problem)) root)) c.in_ok-test_nodes.ensures.root c.in_ok-test_picks.ensures.passed) in
     IfErr-weaker c.test_head.result (λ reason. FirstFails (head_tests (said_by claim.head) claim.tree.now) reason) (λ reason. FirstFails (claim_tests problem c.args.root.now claim) reason)
     (λ reason fails. fails_head problem (g.met.R.Relaxation.relaxes (g.R.Relaxation.problem c.args.problem.now) c.requires.accepted) c.args.root.now claim reason
     (record { whole = c.in_ok-test_shape.ensures.whole; same = c.in_ok-test_branchings.ensures.same }) c.in_ok-test_nodes.ensures.passed plan fails)

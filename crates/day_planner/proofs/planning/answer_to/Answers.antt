@@ -1,5 +1,5 @@
 use Rattle.std.proofs.Common.{ℕ, Option, ◌+◌, ◌*◌, ◌≡◌, sym, ap, subst, ◌∙◌}
-use Rattle.branch_tree.specs.Claims.{Priced, open_leaves_of, plan_of}
+use Rattle.branch_tree.specs.Claims.{CostedPicks, open_leaves_of, concluded_plan}
 use Rattle.branch_tree.specs.Trees.{branchings_of}
 use Rattle.search.specs.Questions.{AreAsked, in_rounds}
 use Rattle.search.specs.Conclusions.{nodes_found, plan_found}
@@ -36,7 +36,7 @@ returns-clause-counted g c =
     let made : branchings_of (nodes_found found) ≡ answer.branchings =
     ap branchings_of (sym says.tree) ∙ sym says.branchings in
     let leaves : open_leaves_of (plan_found found) (nodes_found found) ≡ open_leaves answer =
-    ap (λ (p : Option Priced). open_leaves_of p (nodes_found found)) (ap plan_of (sym says.concludes))
+    ap (λ (p : Option CostedPicks). open_leaves_of p (nodes_found found)) (ap concluded_plan (sym says.concludes))
     ∙ ap (open_leaves_of (plan_said answer says.picks)) (sym says.tree) ∙ open_by_cost answer says.picks in
     subst (λ (n : ℕ). AreAsked c.args.advisors.now.items c.solve_with.new.advisors.items
     (λ b. (goal.Advisor-dyn g (b.vtable, b.value)).asked b.value)

@@ -5,4 +5,4 @@ use Rattle.day_simulator.specs.Finish.{first_differing}
 use Rattle.day_simulator.proofs.balance.first_differing.Given as goal
 
 abbrev pub invariant-loop-number : goal.invariant-loop-number
-invariant-loop-number l = (state : State) → state.places ≡ l.places → first_differing l.instance state (below l.number) ≡ None
+invariant-loop-number l = (state : State) → state.locations ≡ l.locations → first_differing l.instance state (below l.number) ≡ None

@@ -5,4 +5,4 @@ use Rattle.day_simulator.specs.Finish.{first_differing_type}
 use Rattle.day_simulator.proofs.balance.first_differing_type.Given as goal
 
 abbrev pub invariant-loop-number : goal.invariant-loop-number
-invariant-loop-number l = (state : State) → state.places ≡ l.places → first_differing_type l.instance state l.station (below l.number) ≡ None
+invariant-loop-number l = (state : State) → state.locations ≡ l.locations → first_differing_type l.instance state l.station (below l.number) ≡ None

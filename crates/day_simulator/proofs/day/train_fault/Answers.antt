@@ -22,12 +22,12 @@ first_missing-requires-clause-known c =
 
 pub returns-in-Some-first_missing : goal.returns-in-Some-first_missing
 returns-in-Some-first_missing c =
-    let missing = ap (first_missing c.args.instance.now c.args.trip c.args.places.now) (c.as_slice.ensures.value ∙ c.taken-taken.ensures) in
+    let missing = ap (first_missing c.args.instance.now c.args.trip c.args.locations.now) (c.as_slice.ensures.value ∙ c.taken-taken.ensures) in
     rw (← c.units-units.ensures.value, ← c.is_empty.ensures, c.if-is_empty.false, ← c.is_admissible.ensures, c.if-not-is_admissible.false, ← c.broken_into.ensures, c.in_default.is)
     (ap (option_map (λ u. NotInYard u c.args.trip)) (sym c.in-Some-first_missing.is ∙ c.first_missing.ensures ∙ missing))
 
 pub returns-in-None : goal.returns-in-None
 returns-in-None c =
-    let missing = ap (first_missing c.args.instance.now c.args.trip c.args.places.now) (c.as_slice.ensures.value ∙ c.taken-taken.ensures) in
+    let missing = ap (first_missing c.args.instance.now c.args.trip c.args.locations.now) (c.as_slice.ensures.value ∙ c.taken-taken.ensures) in
     rw (← c.units-units.ensures.value, ← c.is_empty.ensures, c.if-is_empty.false, ← c.is_admissible.ensures, c.if-not-is_admissible.false, ← c.broken_into.ensures, c.in_default.is)
     (ap (option_map (λ u. NotInYard u c.args.trip)) (sym c.in-None.is ∙ c.first_missing.ensures ∙ missing))

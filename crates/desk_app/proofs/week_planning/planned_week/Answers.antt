@@ -1,14 +1,14 @@
 use Rattle.std.proofs.Common.{◌+◌, ◌*◌, ◌≤◌, List, length, arith, rules, subst, sym}
 use Rattle.timetable.specs.Day.{Day}
 use Rattle.search.proofs.Asking.{are_unasked}
-use Rattle.week_units.specs.declared.nights.TheConstants.{MOST_DAYS}
+use Rattle.week_units.specs.declared.nights.TheConstants.{MAX_DAYS}
 use Rattle.desk_app.proofs.PlannedWeeks.{days_read, error_asks_none, no_days}
 use Rattle.desk_app.proofs.week_planning.planned_week.Goals as goal
 
 pub planned_days-requires-clause-days : goal.planned_days-requires-clause-days
 planned_days-requires-clause-days g c =
-    let few : length c.in-Ok.days.items ≤ MOST_DAYS = (let count = c.in-Ok.ensures.count in omega (arith, count, c.requires.days)) in
-    subst (λ (ds : List Day). length ds ≤ MOST_DAYS) (sym c.deref.ensures.value) few
+    let few : length c.in-Ok.days.items ≤ MAX_DAYS = (let count = c.in-Ok.ensures.count in omega (arith, count, c.requires.days)) in
+    subst (λ (ds : List Day). length ds ≤ MAX_DAYS) (sym c.deref.ensures.value) few
 
 pub returns-in-Ok-clause-outcome : goal.returns-in-Ok-clause-outcome
 returns-in-Ok-clause-outcome g c =

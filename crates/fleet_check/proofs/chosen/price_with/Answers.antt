@@ -2,7 +2,7 @@ use Rattle.std.proofs.Common.{◌≡◌, ◌<◌, ◌∙◌, ℤ, pos, ◌+ℤ�
 use Rattle.rail_base.specs.declared.numbers.Money.{Money}
 use Rattle.timetable.specs.Cost.{plan_cost}
 use Rattle.timetable.specs.Day.{Day}
-use Rattle.price_bound.specs.declared.sizes.TheConstants.{MOST_VALUE}
+use Rattle.price_bound.specs.declared.sizes.TheConstants.{MAX_PRICED_VALUE}
 use Rattle.fleets.specs.Fleets.{IsFleet, own_fleet, with_fleet}
 use Rattle.fleets.proofs.OwnFleets.{own_fleet_fits}
 use Rattle.fleets.proofs.Sizes.{smaller_fleets_fit}
@@ -23,14 +23,14 @@ with_units-requires-clause-amount c =
     let fit : IsFleet c.args.instance.now c.args.chosen.now.stock =
     smaller_fleets_fit c.args.instance.now c.args.chosen.now.stock (own_fleet c.args.instance.now)
     (own_fleet_fits c.args.instance.now c.is_sound.ensures.limits.units.few) c.requires.runs.fleet in
-    let below : plan_cost day c.args.chosen.now.plan < MOST_VALUE =
+    let below : plan_cost day c.args.chosen.now.plan < MAX_PRICED_VALUE =
     plan_cost_is_small day (days_of_fleets_are_sound c.args.instance.now c.args.chosen.now.stock c.is_sound.ensures fit)
     c.args.chosen.now.plan c.requires.runs.does_run in
-    small_number c.args.cost.0 (plan_cost day c.args.chosen.now.plan) MOST_VALUE c.requires.cost (omega (arith, below))
+    small_number c.args.cost.0 (plan_cost day c.args.chosen.now.plan) MAX_PRICED_VALUE c.requires.cost (omega (arith, below))
 
-pub with_units-requires-clause-units : goal.with_units-requires-clause-units
-with_units-requires-clause-units c =
-    small_number c.of_fleet.result.0 (fleet_cost c.args.prices.now c.args.chosen.now.stock) MOST_VALUE c.of_fleet.ensures.value
+pub with_units-requires-clause-unit_costs : goal.with_units-requires-clause-unit_costs
+with_units-requires-clause-unit_costs c =
+    small_number c.of_fleet.result.0 (fleet_cost c.args.prices.now c.args.chosen.now.stock) MAX_PRICED_VALUE c.of_fleet.ensures.value
     (omega (arith, c.of_fleet.ensures.small))
 
 pub returns : goal.returns

@@ -2,7 +2,7 @@
 use Rattle.std.proofs.Common.{◌≡◌, ◌∙◌, ◌≤◌, ◌++◌, ◌∷◌, [], List, length, take, ap, sym, subst, arith, ℕ}
 use Rattle.std.specs.List.{All}
 use Rattle.std.proofs.lemmas.List.Elements.{All-push}
-use Rattle.rail_base.specs.declared.limits.TheConstants.{MOST_STOCK_ROWS}
+use Rattle.rail_base.specs.declared.limits.TheConstants.{MAX_STOCK_ROWS}
 use Rattle.rail_csv.specs.declared.rows.StockRow.{StockRow}
 use Rattle.rail_csv.specs.Rows.{IsStockRow}
 use Rattle.fleets.specs.Fleets.{rows_from}
@@ -28,6 +28,6 @@ returns-clause-within c = record {
   few =
       let all : c.loop-place.rows.items ≡ rows_from c.args.instance.now 0 c.args.fleet.now =
       c.loop-place.invariant.rows ∙ all_rows c.args.instance.now c.loop-place.place c.args.fleet.now (omega arith) in
-      subst (λ (n : ℕ). n ≤ MOST_STOCK_ROWS) (sym (ap (length {A = StockRow}) all)) (few_rows c.args.instance.now c.args.fleet.now c.is_sound.ensures c.requires);
+      subst (λ (n : ℕ). n ≤ MAX_STOCK_ROWS) (sym (ap (length {A = StockRow}) all)) (few_rows c.args.instance.now c.args.fleet.now c.is_sound.ensures c.requires);
   each = c.loop-place.invariant.within;
 }

@@ -11,4 +11,4 @@ returns-clause-reaching c =
     (ap (λ (steps : List (Option Step)). has c.args.source steps c.head-head.result) (sym c.deref.ensures.value) ∙ sym c.has.ensures ∙ c.if-has.false)
     no_arc c.requires.number c.head-head.ensures
     (ap (has c.args.source c.args.reach.now.steps.items) (sym c.tail-tail.ensures) ∙ ap (λ (steps : List (Option Step)). has c.args.source steps c.tail-tail.result) (sym c.deref-else-has.ensures.value) ∙ sym c.has-else-has.ensures ∙ c.if-not-has.false)
-    (sym c.is_open.ensures ∙ c.if-not-is_open.false)
+    (sym c.has_residual.ensures ∙ c.if-not-has_residual.false)

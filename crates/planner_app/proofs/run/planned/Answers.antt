@@ -21,4 +21,4 @@ returns-in-Err-clause-asked_for g c = none_asked_for _ _ c.args.rounds c.in-Err.
 
 pub returns-in-Err-clause-asked : goal.returns-in-Err-clause-asked
 returns-in-Err-clause-asked g c =
-    are_unasked _ _ (c.args.rounds * (2 * c.args.nodes + 1)) c.args.advisors.now.items
+    are_unasked _ _ (c.args.rounds * (2 * c.args.grant + 1)) c.args.advisors.now.items

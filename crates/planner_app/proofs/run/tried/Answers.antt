@@ -5,7 +5,7 @@ use Rattle.planner_app.proofs.run.tried.Goals as goal
 
 pub returns-in_default-clause-asked : goal.returns-in_default-clause-asked
 returns-in_default-clause-asked g c =
-    are_unasked _ _ (c.args.rounds * (2 * c.args.nodes + 1)) c.args.advisors.now.items
+    are_unasked _ _ (c.args.rounds * (2 * c.args.grant + 1)) c.args.advisors.now.items
 
 pub returns-in-Ok-answer_for-clause-outcome : goal.returns-in-Ok-answer_for-clause-outcome
 returns-in-Ok-answer_for-clause-outcome g c =

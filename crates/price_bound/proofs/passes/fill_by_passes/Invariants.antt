@@ -6,4 +6,4 @@ use Rattle.price_bound.proofs.passes.fill_by_passes.Given as goal
 
 abbrev pub invariant-loop-comp : goal.invariant-loop-comp
 invariant-loop-comp l =
-    IsFilled (comps_for l.passes) (λ comp. bare (cell_on (priced_for l.passes) l.worths.trip l.ahead comp)) (IsStepFrom l.ahead) l.comp l.row
+    IsFilled (comps_for l.passes) (λ comp. bare (cell_on (priced_for l.passes) l.priced_costs.trip l.ahead comp)) (IsStepFrom l.ahead) l.comp l.row

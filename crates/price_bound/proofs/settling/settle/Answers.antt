@@ -12,7 +12,7 @@ use Rattle.inventory.specs.declared.faults.StockFault.{StockFault}
 use Rattle.inventory.specs.Loaded.{Loaded}
 use Rattle.inventory.specs.StockFaults.{IsFirstFault}
 use Rattle.price_bound.specs.Parts.{IsFirstMissed, NoneMissed}
-use Rattle.price_bound.specs.BrokenPlaces.{fault_sign, place_of}
+use Rattle.price_bound.specs.BrokenPlaces.{fault_sign, place_of_fault}
 use Rattle.price_bound.proofs.SettledBy.{fault_first, fault_signed, named, sigma_first, sigma_signed, solution}
 use Rattle.price_bound.proofs.Whole.{are_picks}
 use Rattle.price_bound.proofs.settling.settle.Goals as goal
@@ -48,9 +48,9 @@ pub returns-in-Some-first_fault-clause-settled : goal.returns-in-Some-first_faul
 returns-in-Some-first_fault-clause-settled c =
     let none : NoneMissed c.args.instance.now c.args.picks.now = missed_is c.args.instance.now c.args.picks.now c.first_missed.result None c.first_missed.ensures c.in_default.is in
     let fault = fault_is c.args.instance.now c.args.ledger.now.day c.args.picks.now c.load.new.self c.first_fault.result c.requires.ledger c.load.ensures c.first_fault.ensures (Some c.in-Some-first_fault.fault) c.in-Some-first_fault.is in
-    changed_named (changed_day c.args.instance.now c.args.changes.now) c.args.picks.now (place_of c.in-Some-first_fault.fault)
+    changed_named (changed_day c.args.instance.now c.args.changes.now) c.args.picks.now (place_of_fault c.in-Some-first_fault.fault)
     (fault_sign c.args.instance.now c.in-Some-first_fault.fault) c.broken_by.result c.broken_by.ensures
-    (named c.args.instance.now c.args.picks.now c.requires.accepted (place_of c.in-Some-first_fault.fault) (fault_sign c.args.instance.now c.in-Some-first_fault.fault) c.broken_by.result c.broken_by.ensures
+    (named c.args.instance.now c.args.picks.now c.requires.accepted (place_of_fault c.in-Some-first_fault.fault) (fault_sign c.args.instance.now c.in-Some-first_fault.fault) c.broken_by.result c.broken_by.ensures
     (fault_signed c.args.instance.now c.args.picks.now c.requires.accepted c.in-Some-first_fault.fault fault)
     (fault_first c.args.instance.now c.args.picks.now c.requires.accepted c.in-Some-first_fault.fault none fault))
 

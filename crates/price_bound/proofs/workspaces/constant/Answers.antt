@@ -2,7 +2,7 @@
 use Rattle.std.proofs.Common.{◌≡◌, ℕ, ◌+◌, ◌*◌, ◌^◌, ◌<◌, ◌≤◌, List, length, get_or, take, ℤ, pos, ◌+ℤ◌, ap, sym, subst}
 use Rattle.std.proofs.Common.{arith, ◌∙◌}
 use Rattle.std.proofs.lemmas.List.{get_or_default, take_all}
-use Rattle.rail_base.specs.declared.limits.TheConstants.{MOST_MULTIPLIER}
+use Rattle.rail_base.specs.declared.limits.TheConstants.{MAX_MULTIPLIER}
 use Rattle.branch_tree.specs.declared.multipliers.Entry.{Entry}
 use Rattle.branch_tree.specs.IntSums.{int_sum}
 use Rattle.price_bound.specs.CellSizes.{IsSmall}
@@ -21,14 +21,14 @@ loop-place-preserved c =
     let below : i < length entries = c.loop-place-test.true in
     let amount : c.constant_by-amount.result.0 ≡ of (get_or entries i none) =
     c.constant_by-amount.ensures.value ∙ ap of (get_or_default entries i _ none below) in
-    let more : i * (MOST_MULTIPLIER * 2 ^ 32) + (MOST_MULTIPLIER * 2 ^ 32) ≤ (i + 1) * (MOST_MULTIPLIER * 2 ^ 32) = omega arith in
+    let more : i * (MAX_MULTIPLIER * 2 ^ 32) + (MAX_MULTIPLIER * 2 ^ 32) ≤ (i + 1) * (MAX_MULTIPLIER * 2 ^ 32) = omega arith in
     record {
       sum = c.added-sum.ensures ∙ (ap (λ (z : ℤ). z +ℤ c.constant_by-amount.result.0) c.loop-place.invariant.sum
           ∙ (ap (λ (z : ℤ). int_sum of (take i entries) +ℤ z) amount ∙ sym (int_sum_more of entries i none below)));
-      small = subst (IsSmall ((i + 1) * (MOST_MULTIPLIER * 2 ^ 32))) (sym c.added-sum.ensures)
-          (small_more (i * (MOST_MULTIPLIER * 2 ^ 32) + (MOST_MULTIPLIER * 2 ^ 32)) ((i + 1) * (MOST_MULTIPLIER * 2 ^ 32))
+      small = subst (IsSmall ((i + 1) * (MAX_MULTIPLIER * 2 ^ 32))) (sym c.added-sum.ensures)
+          (small_more (i * (MAX_MULTIPLIER * 2 ^ 32) + (MAX_MULTIPLIER * 2 ^ 32)) ((i + 1) * (MAX_MULTIPLIER * 2 ^ 32))
           (c.loop-place.sum.0 +ℤ c.constant_by-amount.result.0) more
-          (small_sum (i * (MOST_MULTIPLIER * 2 ^ 32)) (MOST_MULTIPLIER * 2 ^ 32) c.loop-place.sum.0 c.constant_by-amount.result.0
+          (small_sum (i * (MAX_MULTIPLIER * 2 ^ 32)) (MAX_MULTIPLIER * 2 ^ 32) c.loop-place.sum.0 c.constant_by-amount.result.0
           c.loop-place.invariant.small c.constant_by-amount.ensures.small));
     }
 

@@ -1,6 +1,6 @@
 -- The sum so far, and its size.
 use Rattle.std.proofs.Common.{◌≡◌, ◌*◌, ◌^◌, take}
-use Rattle.rail_base.specs.declared.limits.TheConstants.{MOST_MULTIPLIER}
+use Rattle.rail_base.specs.declared.limits.TheConstants.{MAX_MULTIPLIER}
 use Rattle.branch_tree.specs.IntSums.{int_sum}
 use Rattle.price_bound.specs.CellSizes.{IsSmall}
 use Rattle.price_bound.specs.Regrouped.{constant_by}
@@ -10,5 +10,5 @@ use Rattle.price_bound.proofs.workspaces.constant.Given as goal
 abbrev pub invariant-loop-place : goal.invariant-loop-place
 invariant-loop-place l = record {
   sum : l.sum.0 ≡ int_sum (by_place l.instance (constant_by l.instance)) (take l.place l.entries);
-  small : IsSmall (l.place * (MOST_MULTIPLIER * 2 ^ 32)) l.sum.0;
+  small : IsSmall (l.place * (MAX_MULTIPLIER * 2 ^ 32)) l.sum.0;
 }

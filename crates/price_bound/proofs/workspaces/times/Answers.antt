@@ -2,7 +2,7 @@
 use Rattle.std.proofs.Common.{◌≤◌, ◌^◌, ◌*◌, ℤ, ◌*ℤ◌, FitsSigned, sym, subst, arith}
 use Rattle.std.specs.Int.{w128}
 use Rattle.std.specs.Prelude.{unsigned_abs}
-use Rattle.rail_base.specs.declared.limits.TheConstants.{MOST_MULTIPLIER}
+use Rattle.rail_base.specs.declared.limits.TheConstants.{MAX_MULTIPLIER}
 use Rattle.price_bound.specs.CellSizes.{IsSmall}
 use Rattle.price_bound.proofs.Adding.{small_by_size}
 use Rattle.price_bound.proofs.Pricing.{factors_are, product_fits, product_is, size_of_product, size_within}
@@ -27,8 +27,8 @@ pub returns-clause-small : goal.returns-clause-small
 returns-clause-small c =
     let units : unsigned_abs c.args.units.0 ≤ 2 ^ 32 =
     size_within c.args.units.0 (2 ^ 32) c.requires.units.above c.requires.units.below in
-    let size : unsigned_abs (c.args.entry.now.value *ℤ c.args.units.0) ≤ MOST_MULTIPLIER * 2 ^ 32 =
-    size_of_product c.args.entry.now.value c.args.units.0 MOST_MULTIPLIER (2 ^ 32) c.requires.size units in
-    subst (IsSmall (MOST_MULTIPLIER * 2 ^ 32))
+    let size : unsigned_abs (c.args.entry.now.value *ℤ c.args.units.0) ≤ MAX_MULTIPLIER * 2 ^ 32 =
+    size_of_product c.args.entry.now.value c.args.units.0 MAX_MULTIPLIER (2 ^ 32) c.requires.size units in
+    subst (IsSmall (MAX_MULTIPLIER * 2 ^ 32))
     (sym (product_is c.args.entry.now.value c.args.units.0 c.requires.size (omega (arith, units)) c.from.result c.from.ensures))
-    (small_by_size (MOST_MULTIPLIER * 2 ^ 32) (c.args.entry.now.value *ℤ c.args.units.0) size)
+    (small_by_size (MAX_MULTIPLIER * 2 ^ 32) (c.args.entry.now.value *ℤ c.args.units.0) size)

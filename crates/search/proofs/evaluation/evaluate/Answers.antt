@@ -28,7 +28,7 @@ pub returns-in_default-clause-offered : goal.returns-in_default-clause-offered
 returns-in_default-clause-offered g c = not_offered _ _ _
 
 pub settle-requires-clause-accepted : goal.settle-requires-clause-accepted
-settle-requires-clause-accepted g c = subst (λ problem. g.R.Relaxation.IsAccepted problem) (sym c.bound.ensures.same) c.trips.ensures.accepted
+settle-requires-clause-accepted g c = subst (λ problem. g.R.Relaxation.IsWellPosed problem) (sym c.bound.ensures.same) c.trips.ensures.accepted
 
 pub settle-requires-clause-near : goal.settle-requires-clause-near
 settle-requires-clause-near g c =

@@ -92,7 +92,7 @@ loop-place-preserved-then-index g c =
           (sym (c.loop-place.invariant.enough c.loop-place.place (omega arith)) ∙ (sym (get_or_default c.loop-place.advice.has_enough.items c.loop-place.place c.index.result.now false within_flags) ∙ (sym c.index.ensures ∙ c.if-index.true))))
           c.loop-place.invariant.each;
       advisors = c.loop-place.invariant.advisors;
-      in_order = asked_next (λ b. (goal.Advisor-dyn g (b.vtable, b.value)).has_quit b.value) (λ b. (goal.Advisor-dyn g (b.vtable, b.value)).has_answered b.value) (g.R.Relaxation.meanings (g.R.Relaxation.problem c.args.problem.now)) c.args.advice.now.shown.rounds c.loop-place.place
+      in_order = asked_next (λ b. (goal.Advisor-dyn g (b.vtable, b.value)).has_quit b.value) (λ b. (goal.Advisor-dyn g (b.vtable, b.value)).has_answered b.value) (g.R.Relaxation.meanings (g.R.Relaxation.problem c.args.problem.now)) c.args.advice.now.shown.rounds_made c.loop-place.place
           (advice_state c.args.advisors.now.items c.args.advice.now (plan_in c.args.best.now) c.args.work.now) (advice_state c.loop-place.advisors.items c.loop-place.advice (plan_in c.loop-place.best) c.loop-place.work) (advice_state c.loop-place.advisors.items c.loop-place.advice (plan_in c.loop-place.best) c.loop-place.work) c.loop-place.invariant.in_order
           (passed _ _ _ _ _ _ (λ is. both_ways (get_or c.loop-place.advice.has_enough.items c.loop-place.place false) is.more
           (sym (get_or_default c.loop-place.advice.has_enough.items c.loop-place.place c.index.result.now false within_flags) ∙ (sym c.index.ensures ∙ c.if-index.true))));
@@ -118,7 +118,7 @@ loop-place-preserved-then-did_quit g c =
           (ap (λ b. (goal.Advisor-dyn g (b.vtable, b.value)).has_quit b.value) (sym (read_at (λ b. (goal.Advisor-dyn g (b.vtable, b.value)).asked b.value) (λ b. (goal.Advisor-dyn g (b.vtable, b.value)).has_quit b.value) c.loop-place.advisors.items c.loop-place.place c.index-in-loop-place.result.now other
           (omega (arith, c.loop-place-test.true, c.len-place-end.ensures)) c.index-in-loop-place.ensures)) ∙ stays)))) c.loop-place.invariant.each;
       advisors = c.loop-place.invariant.advisors;
-      in_order = asked_next (λ b. (goal.Advisor-dyn g (b.vtable, b.value)).has_quit b.value) (λ b. (goal.Advisor-dyn g (b.vtable, b.value)).has_answered b.value) (g.R.Relaxation.meanings (g.R.Relaxation.problem c.args.problem.now)) c.args.advice.now.shown.rounds c.loop-place.place
+      in_order = asked_next (λ b. (goal.Advisor-dyn g (b.vtable, b.value)).has_quit b.value) (λ b. (goal.Advisor-dyn g (b.vtable, b.value)).has_answered b.value) (g.R.Relaxation.meanings (g.R.Relaxation.problem c.args.problem.now)) c.args.advice.now.shown.rounds_made c.loop-place.place
           (advice_state c.args.advisors.now.items c.args.advice.now (plan_in c.args.best.now) c.args.work.now) (advice_state c.loop-place.advisors.items c.loop-place.advice (plan_in c.loop-place.best) c.loop-place.work) (advice_state c.loop-place.advisors.items c.loop-place.advice (plan_in c.loop-place.best) c.loop-place.work) c.loop-place.invariant.in_order
           (passed _ _ _ _ _ _ (λ is. true≢false (sym c.if-did_quit.true ∙ (c.did_quit.ensures ∙
           (ap (λ b. (goal.Advisor-dyn g (b.vtable, b.value)).has_quit b.value) c.index-in-loop-place.ensures ∙ is.stays c.index-in-loop-place.result.now)))));
@@ -160,7 +160,7 @@ loop-place-preserved g c =
           (λ none. not_yet _ _ (once c.args.advice.now.has_enough.items) c.loop-place.place c.args.advisors.now.items c.loop-place.advisors.items none c.loop-place.invariant.asked)
           c.take_advice.ensures.asked c.loop-place.invariant.each;
       advisors = c.take_advice.ensures.advisors ∙ c.loop-place.invariant.advisors;
-      in_order = asked_next (λ b. (goal.Advisor-dyn g (b.vtable, b.value)).has_quit b.value) (λ b. (goal.Advisor-dyn g (b.vtable, b.value)).has_answered b.value) (g.R.Relaxation.meanings (g.R.Relaxation.problem c.args.problem.now)) c.args.advice.now.shown.rounds c.loop-place.place
+      in_order = asked_next (λ b. (goal.Advisor-dyn g (b.vtable, b.value)).has_quit b.value) (λ b. (goal.Advisor-dyn g (b.vtable, b.value)).has_answered b.value) (g.R.Relaxation.meanings (g.R.Relaxation.problem c.args.problem.now)) c.args.advice.now.shown.rounds_made c.loop-place.place
           (advice_state c.args.advisors.now.items c.args.advice.now (plan_in c.args.best.now) c.args.work.now) (advice_state c.loop-place.advisors.items c.loop-place.advice (plan_in c.loop-place.best) c.loop-place.work) (advice_state c.take_advice.new.advisors.items c.take_advice.new.advice (plan_in c.take_advice.new.best) c.take_advice.new.work) c.loop-place.invariant.in_order
           (asked_if_due _ _ _ _ _ _ _ (record {
             left_open = sym c.is_open.ensures ∙ c.if-not-is_open.false;
@@ -168,7 +168,7 @@ loop-place-preserved g c =
             stays = λ none. (can_ask _ _ (once c.args.advice.now.has_enough.items) c.loop-place.place c.args.advisors.now.items c.loop-place.advisors.items c.index-in-loop-place.result.now c.requires.room c.loop-place.invariant.asked
                 (omega (arith, c.loop-place-test.true, c.len-place-end.ensures, same)) c.index-in-loop-place.ensures (sym c.did_quit.ensures ∙ c.if-did_quit.false)).stays none;
           }) (subst (λ (round : ℕ). WasAsked (λ b. (goal.Advisor-dyn g (b.vtable, b.value)).has_quit b.value) (λ b. (goal.Advisor-dyn g (b.vtable, b.value)).has_answered b.value) (g.R.Relaxation.meanings (g.R.Relaxation.problem c.args.problem.now)) round c.loop-place.place (advice_state c.loop-place.advisors.items c.loop-place.advice (plan_in c.loop-place.best) c.loop-place.work) (advice_state c.take_advice.new.advisors.items c.take_advice.new.advice (plan_in c.take_advice.new.best) c.take_advice.new.work)) c.loop-place.invariant.rounds
-          (subst (λ p. WasAsked (λ b. (goal.Advisor-dyn g (b.vtable, b.value)).has_quit b.value) (λ b. (goal.Advisor-dyn g (b.vtable, b.value)).has_answered b.value) (g.R.Relaxation.meanings p) c.loop-place.advice.shown.rounds c.loop-place.place (advice_state c.loop-place.advisors.items c.loop-place.advice (plan_in c.loop-place.best) c.loop-place.work) (advice_state c.take_advice.new.advisors.items c.take_advice.new.advice (plan_in c.take_advice.new.best) c.take_advice.new.work)) c.loop-place.invariant.same c.in_ok-take_advice.ensures.was_asked)));
+          (subst (λ p. WasAsked (λ b. (goal.Advisor-dyn g (b.vtable, b.value)).has_quit b.value) (λ b. (goal.Advisor-dyn g (b.vtable, b.value)).has_answered b.value) (g.R.Relaxation.meanings p) c.loop-place.advice.shown.rounds_made c.loop-place.place (advice_state c.loop-place.advisors.items c.loop-place.advice (plan_in c.loop-place.best) c.loop-place.work) (advice_state c.take_advice.new.advisors.items c.take_advice.new.advice (plan_in c.take_advice.new.best) c.take_advice.new.work)) c.loop-place.invariant.same c.in_ok-take_advice.ensures.was_asked)));
       asked = up_to_next _ _ (once c.args.advice.now.has_enough.items) c.loop-place.place c.args.advisors.now.items c.take_advice.new.advisors.items
           (then_asked _ _ (once c.args.advice.now.has_enough.items) c.loop-place.place c.args.advisors.now.items c.loop-place.advisors.items c.take_advice.new.advisors.items (once_most c.args.advice.now.has_enough.items) c.loop-place.invariant.asked c.take_advice.ensures.asked);
     }
@@ -200,13 +200,13 @@ returns-in_err-take_advice-clause-alone g c =
 
 pub returns-then-not-is_open-clause-in_order : goal.returns-then-not-is_open-clause-in_order
 returns-then-not-is_open-clause-in_order g c =
-    asked_to (λ b. (goal.Advisor-dyn g (b.vtable, b.value)).has_quit b.value) (λ b. (goal.Advisor-dyn g (b.vtable, b.value)).has_answered b.value) (g.R.Relaxation.meanings (g.R.Relaxation.problem c.args.problem.now)) c.args.advice.now.shown.rounds c.loop-place.place (length c.args.advisors.now.items) (advice_state c.args.advisors.now.items c.args.advice.now (plan_in c.args.best.now) c.args.work.now) (advice_state c.loop-place.advisors.items c.loop-place.advice (plan_in c.loop-place.best) c.loop-place.work)
+    asked_to (λ b. (goal.Advisor-dyn g (b.vtable, b.value)).has_quit b.value) (λ b. (goal.Advisor-dyn g (b.vtable, b.value)).has_answered b.value) (g.R.Relaxation.meanings (g.R.Relaxation.problem c.args.problem.now)) c.args.advice.now.shown.rounds_made c.loop-place.place (length c.args.advisors.now.items) (advice_state c.args.advisors.now.items c.args.advice.now (plan_in c.args.best.now) c.args.work.now) (advice_state c.loop-place.advisors.items c.loop-place.advice (plan_in c.loop-place.best) c.loop-place.work)
     (omega (arith, c.loop-place-test.true, c.len-place-end.ensures)) (sym c.is_open.ensures ∙ c.if-not-is_open.true) c.loop-place.invariant.in_order
 
 pub returns-clause-in_order : goal.returns-clause-in_order
 returns-clause-in_order g c =
     let all : c.loop-place.place ≡ length c.args.advisors.now.items = omega (arith, c.len-place-end.ensures, c.loop-place-test.false, c.loop-place.auto.place-end) in
-    subst (λ (places : ℕ). WereAskedInOrder (λ b. (goal.Advisor-dyn g (b.vtable, b.value)).has_quit b.value) (λ b. (goal.Advisor-dyn g (b.vtable, b.value)).has_answered b.value) (g.R.Relaxation.meanings (g.R.Relaxation.problem c.args.problem.now)) c.args.advice.now.shown.rounds places (advice_state c.args.advisors.now.items c.args.advice.now (plan_in c.args.best.now) c.args.work.now) (advice_state c.loop-place.advisors.items c.loop-place.advice (plan_in c.loop-place.best) c.loop-place.work)) all c.loop-place.invariant.in_order
+    subst (λ (places : ℕ). WereAskedInOrder (λ b. (goal.Advisor-dyn g (b.vtable, b.value)).has_quit b.value) (λ b. (goal.Advisor-dyn g (b.vtable, b.value)).has_answered b.value) (g.R.Relaxation.meanings (g.R.Relaxation.problem c.args.problem.now)) c.args.advice.now.shown.rounds_made places (advice_state c.args.advisors.now.items c.args.advice.now (plan_in c.args.best.now) c.args.work.now) (advice_state c.loop-place.advisors.items c.loop-place.advice (plan_in c.loop-place.best) c.loop-place.work)) all c.loop-place.invariant.in_order
 
 pub returns-in_err-take_advice-clause-region : goal.returns-in_err-take_advice-clause-region
 returns-in_err-take_advice-clause-region g c = IfOk-from_err c.from_residual.result _ c.from_residual.ensures.0

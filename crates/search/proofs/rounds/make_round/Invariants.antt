@@ -14,7 +14,7 @@ invariant-loop-place g l = record {
   offered : IsOffered (g.R.Relaxation.meanings (g.R.Relaxation.problem l.fn.problem)) l.fn.work.region (plan_in l.fn.best) (plan_in l.best);
   worked : IsWorkedOn (g.R.Relaxation.meanings (g.R.Relaxation.problem l.fn.problem)) (plan_in l.best) l.work;
   advice : IsAdviceFor (g.R.Relaxation.meanings (g.R.Relaxation.problem l.fn.problem)) l.fn.work.region (length l.fn.advisors.items) l.advice;
-  rounds : l.advice.shown.rounds ≡ l.fn.advice.shown.rounds;
+  rounds : l.advice.shown.rounds_made ≡ l.fn.advice.shown.rounds_made;
   enough : (place : ℕ) → l.place ≤ place → get_or l.advice.has_enough.items place false ≡ get_or l.fn.advice.has_enough.items place false;
   noted : AreStillNoted l.fn.advice.has_enough.items l.advice.has_enough.items;
   alone : AreLeftAlone l.fn.advisors.items l.advisors.items l.fn.advice.has_enough.items;
@@ -22,7 +22,7 @@ invariant-loop-place g l = record {
       (λ b. (goal.Advisor-dyn g (b.vtable, b.value)).has_quit b.value) l.fn.advice.has_enough.items l.place;
   advisors : AreTheSame l.fn.advisors.items l.advisors.items (λ b. (goal.Advisor-dyn g (b.vtable, b.value)).identity b.value);
   in_order : WereAskedInOrder (λ b. (goal.Advisor-dyn g (b.vtable, b.value)).has_quit b.value) (λ b. (goal.Advisor-dyn g (b.vtable, b.value)).has_answered b.value)
-      (g.R.Relaxation.meanings (g.R.Relaxation.problem l.fn.problem)) l.fn.advice.shown.rounds l.place
+      (g.R.Relaxation.meanings (g.R.Relaxation.problem l.fn.problem)) l.fn.advice.shown.rounds_made l.place
       (advice_state l.fn.advisors.items l.fn.advice (plan_in l.fn.best) l.fn.work) (advice_state l.advisors.items l.advice (plan_in l.best) l.work);
   asked : AreAskedUpTo l.fn.advisors.items l.advisors.items (λ b. (goal.Advisor-dyn g (b.vtable, b.value)).asked b.value)
       (λ b. (goal.Advisor-dyn g (b.vtable, b.value)).has_quit b.value) (once l.fn.advice.has_enough.items) l.place;

@@ -64,12 +64,12 @@ loop-round-preserved g c =
           (subst (λ p. IsAdviceFor (g.R.Relaxation.meanings p) c.loop-round.work.region (length c.loop-round.advisors.items) c.make_round.new.advice) c.loop-round.invariant.same c.in_ok-make_round.ensures.advice));
       advisors = c.make_round.ensures.advisors ∙ c.loop-round.invariant.advisors;
       asked = are_asked_again _ _ 0 c.loop-round._round 0 1 c.args.advisors.now.items c.loop-round.advisors.items c.make_round.new.advisors.items c.loop-round.invariant.asked c.make_round.ensures.asked;
-      counted = λ left. let so_far : c.loop-round.advice.shown.rounds ≡ c.loop-round._round = c.loop-round.invariant.counted (sym c.is_open.ensures ∙ c.if-not-is_open.false) in
+      counted = λ left. let so_far : c.loop-round.advice.shown.rounds_made ≡ c.loop-round._round = c.loop-round.invariant.counted (sym c.is_open.ensures ∙ c.if-not-is_open.false) in
           omega (arith, so_far, c.in_ok-make_round.ensures.rounds left);
-      made = let so_far : c.loop-round.advice.shown.rounds ≡ c.loop-round._round = c.loop-round.invariant.counted (sym c.is_open.ensures ∙ c.if-not-is_open.false) in
+      made = let so_far : c.loop-round.advice.shown.rounds_made ≡ c.loop-round._round = c.loop-round.invariant.counted (sym c.is_open.ensures ∙ c.if-not-is_open.false) in
           rounds_next (λ b. (goal.Advisor-dyn g (b.vtable, b.value)).has_quit b.value) (λ b. (goal.Advisor-dyn g (b.vtable, b.value)).has_answered b.value) (g.R.Relaxation.meanings (g.R.Relaxation.problem c.args.problem.now)) c.loop-round._round (advice_state c.args.advisors.now.items c.args.advice.now (plan_in c.args.best.now) c.args.work.now) (advice_state c.loop-round.advisors.items c.loop-round.advice (plan_in c.loop-round.best) c.loop-round.work) (advice_state c.make_round.new.advisors.items c.make_round.new.advice (plan_in c.make_round.new.best) c.make_round.new.work) c.loop-round.invariant.made
           (subst (λ (round : ℕ). WereAskedInOrder (λ b. (goal.Advisor-dyn g (b.vtable, b.value)).has_quit b.value) (λ b. (goal.Advisor-dyn g (b.vtable, b.value)).has_answered b.value) (g.R.Relaxation.meanings (g.R.Relaxation.problem c.args.problem.now)) round (length c.loop-round.advisors.items) (advice_state c.loop-round.advisors.items c.loop-round.advice (plan_in c.loop-round.best) c.loop-round.work) (advice_state c.make_round.new.advisors.items c.make_round.new.advice (plan_in c.make_round.new.best) c.make_round.new.work)) so_far
-          (subst (λ p. WereAskedInOrder (λ b. (goal.Advisor-dyn g (b.vtable, b.value)).has_quit b.value) (λ b. (goal.Advisor-dyn g (b.vtable, b.value)).has_answered b.value) (g.R.Relaxation.meanings p) c.loop-round.advice.shown.rounds (length c.loop-round.advisors.items) (advice_state c.loop-round.advisors.items c.loop-round.advice (plan_in c.loop-round.best) c.loop-round.work) (advice_state c.make_round.new.advisors.items c.make_round.new.advice (plan_in c.make_round.new.best) c.make_round.new.work)) c.loop-round.invariant.same c.in_ok-make_round.ensures.in_order));
+          (subst (λ p. WereAskedInOrder (λ b. (goal.Advisor-dyn g (b.vtable, b.value)).has_quit b.value) (λ b. (goal.Advisor-dyn g (b.vtable, b.value)).has_answered b.value) (g.R.Relaxation.meanings p) c.loop-round.advice.shown.rounds_made (length c.loop-round.advisors.items) (advice_state c.loop-round.advisors.items c.loop-round.advice (plan_in c.loop-round.best) c.loop-round.work) (advice_state c.make_round.new.advisors.items c.make_round.new.advice (plan_in c.make_round.new.best) c.make_round.new.work)) c.loop-round.invariant.same c.in_ok-make_round.ensures.in_order));
       first = λ none. absurd (omega (arith, none));
       least = λ some left. asked_once _ _ c.loop-round._round (once c.loop-round.advice.has_enough.items) c.args.advisors.now.items c.loop-round.advisors.items c.make_round.new.advisors.items c.loop-round.invariant.first c.loop-round.invariant.asked
           (λ more. c.loop-round.invariant.least more (sym c.is_open.ensures ∙ c.if-not-is_open.false)) (c.in_ok-make_round.ensures.least left) c.make_round.ensures.asked;

@@ -3,7 +3,7 @@ use Rattle.search.specs.Questions.{AreAsked, AreTheSame, once}
 use Rattle.search.specs.NodeAdvice.{IsAdviceFor}
 use Rattle.search.specs.Offers.{IsOffered}
 use Rattle.search.specs.Conclusions.{plan_in}
-use Rattle.search.specs.NodesInWork.{IsWorkedOn, is_left_open}
+use Rattle.search.specs.NodesInWork.{IsWorkedOn, is_open_work}
 use Rattle.search.specs.Rounds.{AreRounds, advice_state}
 use Rattle.search.proofs.rounds.make_rounds.Given as goal
 
@@ -20,9 +20,9 @@ invariant-loop-round g l = record {
   advisors : AreTheSame l.fn.advisors.items l.advisors.items (λ b. (goal.Advisor-dyn g (b.vtable, b.value)).identity b.value);
   asked : AreAsked l.fn.advisors.items l.advisors.items (λ b. (goal.Advisor-dyn g (b.vtable, b.value)).asked b.value)
       (λ b. (goal.Advisor-dyn g (b.vtable, b.value)).has_quit b.value) 0 l._round;
-  counted : is_left_open (plan_in l.best) l.work ≡ true → l.advice.shown.rounds ≡ l._round;
+  counted : is_open_work (plan_in l.best) l.work ≡ true → l.advice.shown.rounds_made ≡ l._round;
   first : l._round ≡ 0 → once l.advice.has_enough.items ≡ 1;
-  least : 1 ≤ l._round → is_left_open (plan_in l.best) l.work ≡ true →
+  least : 1 ≤ l._round → is_open_work (plan_in l.best) l.work ≡ true →
       AreAsked l.fn.advisors.items l.advisors.items (λ b. (goal.Advisor-dyn g (b.vtable, b.value)).asked b.value)
       (λ b. (goal.Advisor-dyn g (b.vtable, b.value)).has_quit b.value) 1 l._round;
 }

@@ -2,10 +2,10 @@ use Rattle.std.proofs.Common.{◌≡◌, true, OnOk, IfOk, refl, subst, sym, ap,
 use Rattle.std.proofs.lemmas.Result.{on_ok_weaker}
 use Rattle.branch_tree.specs.Claims.{is_open}
 use Rattle.search.specs.declared.nodes.SearchNode.TheVariants.{Fixed}
-use Rattle.search.specs.declared.evaluation.Outcome.TheVariants.{Ended, Open}
+use Rattle.search.specs.declared.evaluation.EvaluationEnd.TheVariants.{Ended, Open}
 use Rattle.search.specs.declared.work.Work.{Work}
 use Rattle.search.specs.Evaluations.{IsOutcome}
-use Rattle.search.specs.Nodes.{IsLeafOf, IsWithin, tree_node}
+use Rattle.search.specs.Nodes.{IsLeafOf, IsSubregion, tree_node}
 use Rattle.search.specs.Questions.{AreAsked, in_rounds}
 use Rattle.search.specs.Offers.{IsOffered}
 use Rattle.search.specs.Conclusions.{plan_in}
@@ -137,4 +137,4 @@ pub returns-in-Ended-clause-offered : goal.returns-in-Ended-clause-offered
 returns-in-Ended-clause-offered g c = offered_within _ c.args.root.now c.args.region _ _ c.requires.within c.in_ok-outcome.ensures.offered
 
 pub work_on-worked-requires-clause-within : goal.work_on-worked-requires-clause-within
-work_on-worked-requires-clause-within g c = subst (λ (work : Work). IsWithin c.args.root.now work.region) (sym c.in_ok-work-in-Open.ensures) c.requires.within
+work_on-worked-requires-clause-within g c = subst (λ (work : Work). IsSubregion c.args.root.now work.region) (sym c.in_ok-work-in-Open.ensures) c.requires.within

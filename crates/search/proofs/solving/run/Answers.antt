@@ -3,7 +3,7 @@ use Rattle.std.proofs.Math.Nat.{mul-le-mul_left}
 use Rattle.branch_tree.specs.Trees.{branchings_of}
 use Rattle.search.specs.Questions.{AreAsked, in_rounds}
 use Rattle.search.specs.Ends.{made_or_open}
-use Rattle.search.specs.Frontiers.{IsEntered, can_improve}
+use Rattle.search.specs.Frontiers.{IsEntered, is_open_node}
 use Rattle.search.specs.Nodes.{IsSearched, tree_nodes}
 use Rattle.search.specs.Conclusions.{plan_in}
 use Rattle.search.proofs.Asking.{are_asked_within, may_be_asked_yet}
@@ -45,7 +45,7 @@ pub returns-in_default-clause-ended : goal.returns-in_default-clause-ended
 returns-in_default-clause-ended g c =
     let best = plan_in c.loop-branching.search.best in
     let same : c.deref.result.now ≡ c.loop-branching.search.nodes.items = cc in
-    let closed : All (λ node. can_improve best node ≡ false) c.loop-branching.search.nodes.items = subst (λ items. All (λ node. can_improve best node ≡ false) items) same c.in_default.ensures.next in
+    let closed : All (λ node. is_open_node best node ≡ false) c.loop-branching.search.nodes.items = subst (λ items. All (λ node. is_open_node best node ≡ false) items) same c.in_default.ensures.next in
     inr (none_left (g.R.Relaxation.meanings (g.R.Relaxation.problem c.args.problem.now)) c.args.root.now best (c.args.root.now ∷ []) c.loop-branching.search.nodes.items c.loop-branching.invariant.searched.walks closed)
 
 pub returns-in_default-clause-asked : goal.returns-in_default-clause-asked
@@ -59,7 +59,7 @@ returns-in_default-clause-counted g c =
     (in_rounds c.args.rounds (made_or_open (plan_in c.loop-branching.search.best) (tree_nodes c.loop-branching.search.nodes.items))) (c.args.rounds * (2 * made + 1))) (sym c.loop-branching.invariant.made) c.loop-branching.invariant.asked
 
 pub branch-search-requires-in-loop-branching-clause-accepted : goal.branch-search-requires-in-loop-branching-clause-accepted
-branch-search-requires-in-loop-branching-clause-accepted g c = subst (λ p. g.R.Relaxation.IsAccepted p) (sym c.loop-branching.invariant.same) c.loop-branching.invariant.accepted
+branch-search-requires-in-loop-branching-clause-accepted g c = subst (λ p. g.R.Relaxation.IsWellPosed p) (sym c.loop-branching.invariant.same) c.loop-branching.invariant.accepted
 
 pub branch-search-requires-in-loop-branching-clause-searched : goal.branch-search-requires-in-loop-branching-clause-searched
 branch-search-requires-in-loop-branching-clause-searched g c =

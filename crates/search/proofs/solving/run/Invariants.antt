@@ -10,7 +10,7 @@ use Rattle.search.proofs.solving.run.Given as goal
 abbrev pub invariant-loop-branching : goal.invariant-loop-branching
 invariant-loop-branching g l = record {
   same : g.R.Relaxation.problem l.problem ≡ g.R.Relaxation.problem l.fn.problem;
-  accepted : g.R.Relaxation.IsAccepted (g.R.Relaxation.problem l.fn.problem);
+  accepted : g.R.Relaxation.IsWellPosed (g.R.Relaxation.problem l.fn.problem);
   searched : IsSearched (g.R.Relaxation.meanings (g.R.Relaxation.problem l.fn.problem)) l.root (plan_in l.search.best) l.search.nodes.items;
   entered : All (IsEntered (plan_in l.search.best) l.search.frontier) l.search.nodes.items;
   made : branchings_of (tree_nodes l.search.nodes.items) ≡ l._branching;

@@ -4,7 +4,7 @@ use Rattle.branch_tree.specs.Trees.{branchings_of}
 use Rattle.branch_tree.proofs.Concluding.{proved_is_concluded}
 use Rattle.search.specs.Questions.{AreAsked, in_rounds}
 use Rattle.search.specs.Nodes.{tree_nodes}
-use Rattle.search.specs.Conclusions.{conclusion_of, nodes_found, plan_found, plan_in}
+use Rattle.search.specs.Conclusions.{conclusion_found, nodes_found, plan_found, plan_in}
 use Rattle.search.proofs.Finishing.{found_nodes, length-tree, solved}
 use Rattle.search.proofs.solving.solve_with.Goals as goal
 
@@ -24,7 +24,7 @@ returns-clause-holds g c =
     let problem = g.R.Relaxation.meanings (g.R.Relaxation.problem c.args.problem.now) in
     let found = c.in_ok-found.found in
     proved_is_concluded problem (g.met.R.Relaxation.relaxes (g.R.Relaxation.problem c.args.problem.now) c.in_ok-search.ensures.accepted)
-    c.args.root.now (conclusion_of found) (branchings_of (nodes_found found)) (nodes_found found) (returns-clause-solved g c).proved
+    c.args.root.now (conclusion_found found) (branchings_of (nodes_found found)) (nodes_found found) (returns-clause-solved g c).proved
 
 pub returns-clause-counted : goal.returns-clause-counted
 returns-clause-counted g c =

@@ -1,7 +1,7 @@
 use Rattle.std.proofs.Common.{◌≡◌, List, Bool, OnOk, subst, sym, ◌∙◌}
 use Rattle.std.proofs.lemmas.Result.{on_ok_weaker}
 use Rattle.search.specs.Conclusions.{plan_in}
-use Rattle.search.specs.Nodes.{IsWithin}
+use Rattle.search.specs.Nodes.{IsSubregion}
 use Rattle.search.specs.NodesInWork.{IsWorkedOn}
 use Rattle.search.specs.Offers.{IsOffered}
 use Rattle.search.specs.Putting.{AreAdvised}
@@ -18,7 +18,7 @@ pub returns-in_err-improve-clause-asked : goal.returns-in_err-improve-clause-ask
 returns-in_err-improve-clause-asked g c = are_unasked _ _ c.args.rounds c.args.advisors.now.items
 
 pub improve-requires-clause-within : goal.improve-requires-clause-within
-improve-requires-clause-within g c = subst (λ sets. IsWithin c.args.root.now sets) (sym c.in_ok-inherit.ensures.region) c.requires.within
+improve-requires-clause-within g c = subst (λ sets. IsSubregion c.args.root.now sets) (sym c.in_ok-inherit.ensures.region) c.requires.within
 
 pub returns-clause-region : goal.returns-clause-region
 returns-clause-region g c = on_ok_weaker c.advise.result (λ region. region ∙ c.in_ok-improve.ensures.region ∙ c.in_ok-inherit.ensures.region) c.advise.ensures.region

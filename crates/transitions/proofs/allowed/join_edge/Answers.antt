@@ -28,6 +28,6 @@ pub returns : goal.returns
 returns c = λ a a2 b flags runs runs' edge.
     let front = c.units.ensures.value ∙ c.turned-arriving.ensures ∙ ap (turned c.args.reversed) (read_number c.args.instance.now c.catalogue-catalogue.result.now c.args.from c.get.result.now c.catalogue-catalogue.ensures c.get.ensures) in
     let whole = c.units-2.ensures.value ∙ read_number c.args.instance.now c.catalogue-catalogue.result.now c.args.to c.get-2.result.now c.catalogue-catalogue.ensures c.get-2.ensures in
-    subst (λ (x : Edge). (Some x ≡ Some edge) ↔ (IsJoinEdge c.args.instance.now c.args.reversed a a2 b edge × IsBetween c.args.from c.args.to edge)) (sym c.kept.ensures)
+    subst (λ (x : Edge). (Some x ≡ Some edge) ↔ (IsJoinEdge c.args.instance.now c.args.reversed a a2 b edge × IsBetween c.args.from c.args.to edge)) (sym c.keeping_edge.ensures)
     (join_found c.args.instance.now c.args.reversed a2 c.args.from c.args.to a b runs runs' c.in_ok-behind.behind c.in_ok-part.part (rest_at _ _ _ _ _ _ front whole (c.in_ok-behind.was) c.rest_after.ensures)
     (number_at c.args.instance.now a2 _ _ _ _ c.turned.ensures (c.in_ok-part.was) (c.number_on.ensures a2 flags)) edge)

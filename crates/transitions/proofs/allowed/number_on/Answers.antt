@@ -3,7 +3,7 @@ use Rattle.std.proofs.Common.{◌≡◌, ℕ, arith, sym, subst, Option, Some}
 use Rattle.std.specs.Prelude.{◌↔◌}
 use Rattle.std.proofs.lemmas.Bool.{iff_false}
 use Rattle.timetable.specs.Compositions.{composition_at}
-use Rattle.transitions.specs.Edges.{MayRun}
+use Rattle.transitions.specs.Edges.{IsAdmittedComp}
 use Rattle.transitions.proofs.Numbers.{number_runs, number_missing, number_stays}
 use Rattle.transitions.proofs.allowed.number_on.Goals as goal
 
@@ -12,7 +12,7 @@ may_run-requires c = let there = (c.number_of.ensures c.in_ok-comp.comp).0 (c.in
 
 pub returns-in_err-comp : goal.returns-in_err-comp
 returns-in_err-comp c = λ t is n.
-    subst (λ (o : Option ℕ). (o ≡ Some n) ↔ (MayRun c.args.instance.now t n × (composition_at c.args.instance.now n ≡ c.args.composition.now))) (sym c.from_residual.ensures)
+    subst (λ (o : Option ℕ). (o ≡ Some n) ↔ (IsAdmittedComp c.args.instance.now t n × (composition_at c.args.instance.now n ≡ c.args.composition.now))) (sym c.from_residual.ensures)
     (number_missing c.args.instance.now t c.args.composition.now c.number_of.result c.number_of.ensures (c.in_err-comp.was) n)
 
 pub returns-then-not-may_run : goal.returns-then-not-may_run

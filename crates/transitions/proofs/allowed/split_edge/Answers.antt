@@ -28,6 +28,6 @@ pub returns : goal.returns
 returns c = λ a b b2 flags runs runs' edge.
     let whole = c.units-2.ensures.value ∙ c.turned-arriving.ensures ∙ ap (turned c.args.reversed) (read_number c.args.instance.now c.catalogue-catalogue.result.now c.args.from c.get.result.now c.catalogue-catalogue.ensures c.get.ensures) in
     let front = c.units.ensures.value ∙ read_number c.args.instance.now c.catalogue-catalogue.result.now c.args.to c.get-2.result.now c.catalogue-catalogue.ensures c.get-2.ensures in
-    subst (λ (x : Edge). (Some x ≡ Some edge) ↔ (IsSplitEdge c.args.instance.now c.args.reversed a b b2 edge × IsBetween c.args.from c.args.to edge)) (sym c.kept.ensures)
+    subst (λ (x : Edge). (Some x ≡ Some edge) ↔ (IsSplitEdge c.args.instance.now c.args.reversed a b b2 edge × IsBetween c.args.from c.args.to edge)) (sym c.keeping_edge.ensures)
     (split_found c.args.instance.now c.args.reversed b2 c.args.from c.args.to a b runs runs' c.in_ok-behind.behind c.in_ok-part.part (rest_at _ _ _ _ _ _ front whole (c.in_ok-behind.was) c.rest_after.ensures)
     (number_at c.args.instance.now b2 _ _ _ _ refl (c.in_ok-part.was) (c.number_on.ensures b2 flags)) edge)

@@ -3,7 +3,7 @@ use Rattle.std.proofs.Common.{sym, subst, ap}
 use Rattle.std.proofs.lemmas.List.{take_all}
 use Rattle.std.proofs.lemmas.List.Elements.{All-get_or}
 use Rattle.std.specs.List.{All}
-use Rattle.rail_base.specs.declared.limits.TheConstants.{MOST_COMPOSITION}
+use Rattle.rail_base.specs.declared.limits.TheConstants.{MAX_COMPOSITION_UNITS}
 use Rattle.timetable.specs.Day.{to_of, ready_at}
 use Rattle.timetable.specs.Picks.{picked}
 use Rattle.timetable.specs.Running.{AreUnits}
@@ -46,7 +46,7 @@ give-requires-clause-few c =
     is_made c.args.naming.instance.now c.args.naming.picks.now c.args.naming.minute c.args.naming.earlier.now c.is_sound.ensures c.requires.can
     c.deref-trip-items.result.now c.loop-trip.trip-index c.trip-item.result (c.deref-trip-items.ensures.value ∙ c.in_ok-order.ensures.order) c.loop-trip-test.true c.trip-item.is
     c.loop-trip.lists.items c.in_ok-units.units.items c.loop-trip.yards c.next_units.new.yards c.loop-trip.invariant c.deref.result.now c.deref.ensures.value c.in_ok-units.ensures in
-    subst (λ (l : List ℕ). length l ≤ MOST_COMPOSITION) (sym c.deref-in-loop-trip.ensures.value) made.few
+    subst (λ (l : List ℕ). length l ≤ MAX_COMPOSITION_UNITS) (sym c.deref-in-loop-trip.ensures.value) made.few
 
 pub give-requires-clause-known : goal.give-requires-clause-known
 give-requires-clause-known c =

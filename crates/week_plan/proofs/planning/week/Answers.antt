@@ -1,14 +1,14 @@
 use Rattle.std.proofs.Common.{◌≡◌, ◌∙◌, ◌+◌, ◌*◌, ◌≤◌, List, All, ap, arith, false, length, refl, rules, subst, sym, IsTrue}
 use Rattle.std.specs.Prelude.{MatchOption}
 use Rattle.std.specs.List.{AllZip}
-use Rattle.rail_base.specs.declared.limits.TheConstants.{MOST_TRIPS}
+use Rattle.rail_base.specs.declared.limits.TheConstants.{MAX_TRIPS}
 use Rattle.timetable.specs.Running.{Runs}
 use Rattle.search.specs.Questions.{AreAsked}
 use Rattle.search.proofs.Asking.{are_unasked}
 use Rattle.answer_text.specs.declared.answer.Answer.{Answer}
-use Rattle.answer_text.specs.declared.limits.TheConstants.{MOST_AMOUNT}
+use Rattle.answer_text.specs.declared.limits.TheConstants.{MAX_AMOUNT}
 use Rattle.answer_text.specs.Limits.{has_plan}
-use Rattle.week_units.specs.declared.nights.TheConstants.{MOST_DAYS}
+use Rattle.week_units.specs.declared.nights.TheConstants.{MAX_DAYS}
 use Rattle.week_units.specs.Names.{AreNamesDayByDay}
 use Rattle.week_units.specs.WeekPlans.{week_units}
 use Rattle.week_plan.specs.Amounts.{IsHeadUpTo}
@@ -33,17 +33,17 @@ pub head_of-head-requires-clause-few : goal.head_of-head-requires-clause-few
 head_of-head-requires-clause-few g c =
     let fewer : length c.in_ok-answers.answers.items ≤ length c.args.days.now =
     no_more_answers c.args.grant c.args.days.now c.in_ok-answers.answers.items c.in_ok-answers.ensures.answers in
-    let few : length c.in_ok-answers.answers.items ≤ MOST_DAYS = omega (arith, fewer, c.requires.few) in
-    subst (λ (some : List Answer). length some ≤ MOST_DAYS) (sym c.deref.ensures.value) few
+    let few : length c.in_ok-answers.answers.items ≤ MAX_DAYS = omega (arith, fewer, c.requires.few) in
+    subst (λ (some : List Answer). length some ≤ MAX_DAYS) (sym c.deref.ensures.value) few
 
 pub head_of-head-requires-clause-amounts : goal.head_of-head-requires-clause-amounts
 head_of-head-requires-clause-amounts g c =
-    subst (λ (some : List Answer). All (λ answer. IsHeadUpTo MOST_AMOUNT answer.head) some) (sym c.deref.ensures.value)
+    subst (λ (some : List Answer). All (λ answer. IsHeadUpTo MAX_AMOUNT answer.head) some) (sym c.deref.ensures.value)
     (heads_within c.args.grant c.args.days.now c.in_ok-answers.answers.items c.in_ok-answers.ensures.answers)
 
 pub names_for-requires-clause-few : goal.names_for-requires-clause-few
 names_for-requires-clause-few g c =
-    subst (λ (some : List Answer). All (λ answer. length answer.runs ≤ MOST_TRIPS) some) (sym c.deref-2.ensures.value)
+    subst (λ (some : List Answer). All (λ answer. length answer.runs ≤ MAX_TRIPS) some) (sym c.deref-2.ensures.value)
     (few_runs c.args.grant c.args.days.now c.in_ok-answers.answers.items c.in_ok-answers.ensures.answers)
 
 pub names_for-requires-clause-run : goal.names_for-requires-clause-run

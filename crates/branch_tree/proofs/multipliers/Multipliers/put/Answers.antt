@@ -59,21 +59,21 @@ returns-then-value-eq0-clause-list c =
     let none : c.args.value ≡ pos 0 = omega (arith, ints) in
     (put_none c.args.self.now c.self.inside.entries.items c.args.index c.place_of-place.result c.args.value c.self.view_is (zero-looked c) (zero-away c) (ap unsigned_abs none)).list
 
-full-passed : (c : goal.Then-len-eq-MOST_ENTRIES) → to_z w64 (of_z w64 c.args.value) ≡ c.args.value
+full-passed : (c : goal.Then-len-eq-MAX_ENTRIES) → to_z w64 (of_z w64 c.args.value) ≡ c.args.value
 full-passed c = omega (arith, ints)
 
-full-looked : (c : goal.Then-len-eq-MOST_ENTRIES) → Looked c.self.inside.entries.items c.args.index c.place_of-place.result c.args.value
+full-looked : (c : goal.Then-len-eq-MAX_ENTRIES) → Looked c.self.inside.entries.items c.args.index c.place_of-place.result c.args.value
 full-looked c = record {
   multipliers = c.self.invariant.0;
   place_of = subst (λ xs. IsPlaceOf xs c.args.index c.place_of-place.result) c.deref.ensures.value c.place_of-place.ensures;
   small = omega (arith, c.unsigned_abs.ensures.value, ap unsigned_abs (full-passed c));
 }
 
-full-away : (c : goal.Then-len-eq-MOST_ENTRIES) → IsAt c.self.inside.entries.items c.place_of-place.result c.args.index → ⊥
+full-away : (c : goal.Then-len-eq-MAX_ENTRIES) → IsAt c.self.inside.entries.items c.place_of-place.result c.args.index → ⊥
 full-away c at = false≢true (sym c.if-is_at.false ∙ c.is_at.ensures.1 (subst (λ xs. IsAt xs c.place_of-place.result c.args.index) (sym c.deref-2.ensures.value) at))
 
-pub returns-then-len-eq-MOST_ENTRIES-clause-refusal : goal.returns-then-len-eq-MOST_ENTRIES-clause-refusal
-returns-then-len-eq-MOST_ENTRIES-clause-refusal c =
+pub returns-then-len-eq-MAX_ENTRIES-clause-refusal : goal.returns-then-len-eq-MAX_ENTRIES-clause-refusal
+returns-then-len-eq-MAX_ENTRIES-clause-refusal c =
     put_refused c.args.self.now c.self.inside.entries.items c.args.index c.place_of-place.result c.args.value c.self.view_is (full-looked c) (full-away c)
     (λ none. c.if-value-eq0.false (ap (of_z w64) (no_size c.args.value none))) (omega (arith, c.len.ensures))
 

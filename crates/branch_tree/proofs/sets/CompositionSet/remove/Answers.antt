@@ -1,7 +1,7 @@
 use Rattle.std.proofs.Common.{ℕ, ◌<◌, ◌*◌, ◌-◌, ◌/◌, ◌%◌, ◌^◌, length, set, get_or, eqb, bit_and, false, sym, ◌∙◌, ap}
 use Rattle.std.proofs.Common.{arith, w64}
 use Rattle.std.proofs.lemmas.Nat.Bits.{bit_at_clear_same, bit_at_clear_other}
-use Rattle.rail_base.specs.declared.limits.TheConstants.{MOST_COMPOSITIONS}
+use Rattle.rail_base.specs.declared.limits.TheConstants.{MAX_COMPOSITIONS}
 use Rattle.branch_tree.proofs.Words.{one_bit, one_bit-other}
 use Rattle.branch_tree.proofs.sets.CompositionSet.remove.Goals as goal
 
@@ -11,7 +11,7 @@ returns c =
     let k : ℕ = c.place-place.result % 64 in
     let w : ℕ = get_or words (c.place-place.result / 64) 0 in
     let inside : k < 64 = omega arith in
-    let below : c.place-place.result < MOST_COMPOSITIONS = omega arith in
+    let below : c.place-place.result < MAX_COMPOSITIONS = omega arith in
     let within : c.place-place.result / 64 < length words = omega arith in
     sym (one_bit words c.place-place.result (bit_and w (2 ^ 64 - 1 - 1 * 2 ^ k % 2 ^ 64)) false below within
     (ap (λ b. eqb b 1) (bit_at_clear_same w64 w k inside)) (λ i low differ. bit_at_clear_other w64 w k inside i low differ))
@@ -23,6 +23,6 @@ invariant_of-self c =
     let k : ℕ = c.place-place.result % 64 in
     let w : ℕ = get_or words (c.place-place.result / 64) 0 in
     let inside : k < 64 = omega arith in
-    let below : c.place-place.result < MOST_COMPOSITIONS = omega arith in
+    let below : c.place-place.result < MAX_COMPOSITIONS = omega arith in
     let within : c.place-place.result / 64 < length words = omega arith in
     one_bit-other words c.place-place.result (bit_and w (2 ^ 64 - 1 - 1 * 2 ^ k % 2 ^ 64)) c.self.invariant below within (λ i low differ. bit_at_clear_other w64 w k inside i low differ)

@@ -6,8 +6,8 @@ use Rattle.day_simulator.specs.Steps.{fault_of}
 use Rattle.day_simulator.proofs.Stepping.{step_goes, departed, put_in}
 use Rattle.std.specs.Prelude.{slice_set}
 use Rattle.std.proofs.Common.{None}
-use Rattle.day_simulator.specs.declared.events.Place.{Place}
-use Rattle.day_simulator.specs.declared.events.Place.TheVariants.{Aboard}
+use Rattle.day_simulator.specs.declared.events.UnitLocation.{UnitLocation}
+use Rattle.day_simulator.specs.declared.events.UnitLocation.TheVariants.{Aboard}
 use Rattle.day_simulator.specs.declared.events.Stage.TheVariants as stage
 use Rattle.day_simulator.specs.State.{State, put_all}
 use Rattle.day_simulator.proofs.day.Day.depart.Goals as goal
@@ -21,8 +21,8 @@ returns c =
     let none : None ≡ fault_of p.day p.plan p.state e =
     subst (λ (q : Machine). None ≡ fault_of q.day q.plan q.state e) (sym c.self.view_is) (sym c.in_default.is ∙ c.departure_fault.ensures) in
     let us = c.units-units.result.now in
-    let put = c.put_all.ensures ∙ ap (λ (ps : List Place). put_all ps us (Aboard t)) c.deref_mut.ensures.value in
-    let places = put_in inside.places us (Aboard t) c.put_all.new.places put ∙ ap (λ (vs : List ℕ). put_all p.state.places vs (Aboard t)) c.units-units.ensures.value in
+    let put = c.put_all.ensures ∙ ap (λ (ps : List UnitLocation). put_all ps us (Aboard t)) c.deref_mut.ensures.value in
+    let locations = put_in inside.locations us (Aboard t) c.put_all.new.locations put ∙ ap (λ (vs : List ℕ). put_all p.state.locations vs (Aboard t)) c.units-units.ensures.value in
     let stages = ap (λ (k : ℕ). slice_set p.state.stages k stage.UnderWay) c.place.ensures.number in
-    let now = departed p.day p.plan p.state t _ _ _ places stages c.moment_of-moment.ensures in
+    let now = departed p.day p.plan p.state t _ _ _ locations stages c.moment_of-moment.ensures in
     rw (← c.self.view_is) (step_goes p _ e none (ap (λ (s : State). record p { state = s }) now))

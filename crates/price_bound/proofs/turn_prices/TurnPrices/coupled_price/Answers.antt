@@ -1,7 +1,7 @@
 -- The rows of the trips have the prices.
 use Rattle.std.proofs.Common.{◌≡◌, ◌<◌, ◌≤◌, ◌*◌, ℕ, ℤ, List, length, ap, arith, sym, subst, ◌-ℤ◌, ◌∙◌}
 use Rattle.std.specs.List.{All}
-use Rattle.rail_base.specs.declared.limits.TheConstants.{MOST_COMPOSITION}
+use Rattle.rail_base.specs.declared.limits.TheConstants.{MAX_COMPOSITION_UNITS}
 use Rattle.rules.specs.declared.records.End.{End}
 use Rattle.timetable.specs.Compositions.{composition_at}
 use Rattle.timetable.specs.Day.{Day}
@@ -31,13 +31,13 @@ returns-then-units-eq0-clause-value c =
 
 pub sum_in-requires-clause-few : goal.sum_in-requires-clause-few
 sum_in-requires-clause-few c =
-    subst (λ (ms : List ℕ). length ms ≤ MOST_COMPOSITION) (sym c.came-came.ensures)
-    (came_few c.args.self.now.turn.couple c.coupled-units.result c.types_of.result.now MOST_COMPOSITION c.types_of.ensures.few)
+    subst (λ (ms : List ℕ). length ms ≤ MAX_COMPOSITION_UNITS) (sym c.came-came.ensures)
+    (came_few c.args.self.now.turn.couple c.coupled-units.result c.types_of.result.now MAX_COMPOSITION_UNITS c.types_of.ensures.few)
 
 pub sum_in-requires-2-clause-few : goal.sum_in-requires-2-clause-few
 sum_in-requires-2-clause-few c =
-    subst (λ (ms : List ℕ). length ms ≤ MOST_COMPOSITION) (sym c.came-came.ensures)
-    (came_few c.args.self.now.turn.couple c.coupled-units.result c.types_of.result.now MOST_COMPOSITION c.types_of.ensures.few)
+    subst (λ (ms : List ℕ). length ms ≤ MAX_COMPOSITION_UNITS) (sym c.came-came.ensures)
+    (came_few c.args.self.now.turn.couple c.coupled-units.result c.types_of.result.now MAX_COMPOSITION_UNITS c.types_of.ensures.few)
 
 pub sum_in-requires-clause-known : goal.sum_in-requires-clause-known
 sum_in-requires-clause-known c =

@@ -4,7 +4,7 @@ use Rattle.branch_tree.specs.Trees.{branchings_of}
 use Rattle.search.specs.Questions.{AreAsked, in_rounds}
 use Rattle.search.specs.Ends.{made_or_open}
 use Rattle.search.specs.Frontiers.{IsEntered}
-use Rattle.search.specs.Nodes.{IsLeafOf, IsSearched, IsWithin, tree_node, tree_nodes}
+use Rattle.search.specs.Nodes.{IsLeafOf, IsSearched, IsSubregion, tree_node, tree_nodes}
 use Rattle.search.specs.Putting.{IsMade}
 use Rattle.search.specs.Conclusions.{plan_in}
 use Rattle.search.proofs.Asking.{are_unasked}
@@ -22,7 +22,7 @@ pub put_node-requires-clause-region : goal.put_node-requires-clause-region
 put_node-requires-clause-region g c = ap length c.in_ok-region.ensures ∙ c.requires.over.each
 
 pub put_node-requires-clause-within : goal.put_node-requires-clause-within
-put_node-requires-clause-within g c = subst (λ sets. IsWithin c.args.root.now sets) (sym c.in_ok-region.ensures) (λ picks inside. inside)
+put_node-requires-clause-within g c = subst (λ sets. IsSubregion c.args.root.now sets) (sym c.in_ok-region.ensures) (λ picks inside. inside)
 
 pub returns-clause-searched : goal.returns-clause-searched
 returns-clause-searched g c =

@@ -2,7 +2,7 @@
 use Rattle.std.proofs.Common.{◌∙◌, List, ap, sym, true, false}
 use Rattle.std.specs.Prelude.{nat_lt}
 use Rattle.std.proofs.lemmas.Result.{err_from_is_err_and}
-use Rattle.rail_base.specs.declared.limits.TheConstants.{MOST_UNITS}
+use Rattle.rail_base.specs.declared.limits.TheConstants.{MAX_UNITS}
 use Rattle.timetable.specs.Build.{starts_of}
 use Rattle.rules.specs.declared.records.Stock.{Stock}
 use Rattle.timetable.proofs.Entries.{are_types, are_stations}
@@ -27,12 +27,12 @@ returns-in_err-add_stock c =
 pub returns-then-are_too_many : goal.returns-then-are_too_many
 returns-then-are_too_many c =
     units_decide c.args.types.items c.args.stations.items c.args.stock.now _ _ _ c.requires.empty _ _ _ true c.in_ok-add_types.ensures c.in_ok-add_stations.ensures c.in_ok-add_stock.ensures
-    (ap (λ (stock : List Stock). nat_lt MOST_UNITS (starts_of stock)) (sym c.deref.ensures.value) ∙ sym c.are_too_many.ensures ∙ c.if-are_too_many.true)
+    (ap (λ (stock : List Stock). nat_lt MAX_UNITS (starts_of stock)) (sym c.deref.ensures.value) ∙ sym c.are_too_many.ensures ∙ c.if-are_too_many.true)
 
 pub returns : goal.returns
 returns c =
     units_decide c.args.types.items c.args.stations.items c.args.stock.now _ _ _ c.requires.empty _ _ _ false c.in_ok-add_types.ensures c.in_ok-add_stations.ensures c.in_ok-add_stock.ensures
-    (ap (λ (stock : List Stock). nat_lt MOST_UNITS (starts_of stock)) (sym c.deref.ensures.value) ∙ sym c.are_too_many.ensures ∙ c.if-are_too_many.false)
+    (ap (λ (stock : List Stock). nat_lt MAX_UNITS (starts_of stock)) (sym c.deref.ensures.value) ∙ sym c.are_too_many.ensures ∙ c.if-are_too_many.false)
 
 pub add_stock-requires-clause-stations : goal.add_stock-requires-clause-stations
 add_stock-requires-clause-stations c =

@@ -1,7 +1,7 @@
 -- The minutes are those of the station.
 use Rattle.std.proofs.Common.{◌≡◌, ◌∙◌, ℕ, ◌<◌, List, length, get_or, sym, ap, subst, arith}
 use Rattle.std.specs.List.{All}
-use Rattle.rail_base.specs.declared.limits.TheConstants.{MOST_MINUTES}
+use Rattle.rail_base.specs.declared.limits.TheConstants.{MAX_MINUTES}
 use Rattle.timetable.specs.Day.{Day}
 use Rattle.timetable.specs.InstanceParts.{day_in}
 use Rattle.timetable.specs.Lists.{listed}
@@ -41,7 +41,7 @@ returns-clause-few c =
 pub returns-clause-within : goal.returns-clause-within
 returns-clause-within c =
     let day : Day = day_in c.self.inside in
-    subst (λ (minutes : List ℕ). All (λ minute. minute < MOST_MINUTES) minutes) (sym (is_entry day c.args.self.now c.self.inside.minutes.items c.args.station c.place.result c.items.result.now c.index.result.now
+    subst (λ (minutes : List ℕ). All (λ minute. minute < MAX_MINUTES) minutes) (sym (is_entry day c.args.self.now c.self.inside.minutes.items c.args.station c.place.result c.items.result.now c.index.result.now
     c.self.invariant.minutes c.self.view_is c.requires c.place.ensures.number c.items.ensures c.index.ensures)) (minutes_within day c.args.station c.self.invariant.day)
 
 pub returns-clause-together : goal.returns-clause-together

@@ -1,7 +1,7 @@
 -- What is found for the trip is what the tables have for it.
 use Rattle.std.proofs.Common.{◌≡◌, ℕ, Bool, true, false, not, Option, Some, None, [], get_or, refl, ap, ◌∙◌}
 use Rattle.std.specs.Prelude.{is_none, is_some}
-use Rattle.price_bound.proofs.worths.TripWorths.new.Goals as goal
+use Rattle.price_bound.proofs.priced_costs.PricedCosts.new.Goals as goal
 
 none_is : {X : Type 0} (o : Option X) (none : Bool) → is_some o ≡ not none → none ≡ is_none o
 none_is None true e = refl

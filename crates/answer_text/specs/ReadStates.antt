@@ -2,7 +2,7 @@
 use Rattle.std.specs.Prelude.{ℕ, ◌+◌, ◌≡◌, ◌==◌, nat_lt, List, [], ◌∷◌, ◌++◌, length, if◌then◌else◌, Option, Some, None}
 use Rattle.std.specs.Prelude.{is_some, Result, Ok, Err}
 use Rattle.std.specs.Str.{bytes_eq}
-use Rattle.rail_base.specs.declared.limits.TheConstants.{MOST_NODES, MOST_TRIPS}
+use Rattle.rail_base.specs.declared.limits.TheConstants.{MAX_NODES, MAX_TRIPS}
 use Rattle.branch_tree.specs.declared.tree.Node.{Node}
 use Rattle.answer_text.specs.declared.answer.Answer.{Answer}
 use Rattle.rules.specs.declared.heads.Head.{Head}
@@ -17,16 +17,16 @@ use Rattle.answer_text.specs.Texts.{title_line, tree_line, end_line, head_line, 
 use Rattle.answer_text.specs.Texts.{lines_of}
 
 -- what was read of a document
-pub data Place : Type 0 where
-  at_title : Place
-  at_head : Place
-  at_branchings : Head → Place
-  at_runs : Head → ℕ → List (List ℕ) → Place
-  at_nodes : Head → ℕ → List (List ℕ) → List Node → Place
-  at_last : Answer → Place
+pub data ReadState : Type 0 where
+  at_title : ReadState
+  at_head : ReadState
+  at_branchings : Head → ReadState
+  at_runs : Head → ℕ → List (List ℕ) → ReadState
+  at_nodes : Head → ℕ → List (List ℕ) → List Node → ReadState
+  at_last : Answer → ReadState
 
 -- the lines that were read
-abbrev pub lines_before : Place → List (List ℕ)
+abbrev pub lines_before : ReadState → List (List ℕ)
 lines_before at_title = []
 lines_before at_head = title_line ∷ []
 lines_before (at_branchings head) = title_line ∷ head_line head ∷ []
@@ -35,14 +35,14 @@ lines_before (at_nodes head branchings runs nodes) = body_lines head branchings 
 lines_before (at_last answer) = lines_of answer
 
 -- the number of the next line
-abbrev pub line_number : Place → ℕ
+abbrev pub line_number : ReadState → ℕ
 line_number place = length (lines_before place) + 1
 
 -- how many runs there may be
 abbrev pub most_runs : Head → ℕ
-most_runs head = if has_plan head then MOST_TRIPS else 0
+most_runs head = if has_plan head then MAX_TRIPS else 0
 
-unfoldable pub after_run_line : Head → ℕ → List (List ℕ) → List ℕ → Option Place
+unfoldable pub after_run_line : Head → ℕ → List (List ℕ) → List ℕ → Option ReadState
 after_run_line head branchings runs line =
     if bytes_eq line tree_line then Some (at_nodes head branchings runs [])
     else if nat_lt (length runs) (most_runs head)
@@ -50,7 +50,7 @@ after_run_line head branchings runs line =
     else None
 
 -- at most so many nodes
-unfoldable pub after_node_line : ℕ → Head → ℕ → List (List ℕ) → List Node → List ℕ → Option Place
+unfoldable pub after_node_line : ℕ → Head → ℕ → List (List ℕ) → List Node → List ℕ → Option ReadState
 after_node_line most head branchings runs nodes line =
     if bytes_eq line end_line
     then (if length nodes == 0 then None
@@ -60,7 +60,7 @@ after_node_line most head branchings runs nodes line =
     else None
 
 -- the place after one more line, where the line fits
-unfoldable pub after_line : ℕ → Place → List ℕ → Option Place
+unfoldable pub after_line : ℕ → ReadState → List ℕ → Option ReadState
 after_line most at_title line = if bytes_eq line title_line then Some at_head else None
 after_line most at_head line = head_in (words_of line) >>= λ head. Some (at_branchings head)
 after_line most (at_branchings head) line =
@@ -70,10 +70,10 @@ after_line most (at_nodes head branchings runs nodes) line = after_node_line mos
 after_line most (at_last answer) line = None
 
 -- why a line does not fit its place: it stands after the end, or is one node more than there may be, or is wrong
-abbrev pub fault_at : Place → List ℕ → AnswerRefusal
+abbrev pub fault_at : ReadState → List ℕ → AnswerRefusal
 fault_at (at_last answer) line = Trailing (line_number (at_last answer))
 fault_at place line =
-    if is_some (after_line (MOST_NODES + 1) place line) then TooManyNodes else BadLine (line_number place)
+    if is_some (after_line (MAX_NODES + 1) place line) then TooManyNodes else BadLine (line_number place)
 
 -- what is wrong with bytes that no line feed follows, where the line of a number is wanted
 abbrev pub fault_of_rest : ℕ → List ℕ → AnswerRefusal
@@ -81,7 +81,7 @@ fault_of_rest number [] = MissingEnd
 fault_of_rest number (byte ∷ bytes) = BadLine number
 
 -- what becomes of a document that ends at a place, with some bytes after its last line feed
-abbrev pub ending_at : Place → List ℕ → Result Answer AnswerRefusal
+abbrev pub ending_at : ReadState → List ℕ → Result Answer AnswerRefusal
 ending_at (at_last answer) [] = Ok answer
 ending_at (at_last answer) (byte ∷ bytes) = Err (Trailing (line_number (at_last answer)))
 ending_at place left = Err (fault_of_rest (line_number place) left)
@@ -107,13 +107,14 @@ abbrev pub IsNext : ℕ → List ℕ → List ℕ → List ℕ → Type 0
 IsNext number bytes line rest = line_in number (pieces line_feed bytes) ≡ Ok (line, pieces line_feed rest)
 
 -- one line, and then what is next
-abbrev pub going_on : Option Place → AnswerRefusal → (Place → Result Answer AnswerRefusal) → Result Answer AnswerRefusal
+abbrev pub going_on : Option ReadState → AnswerRefusal → (ReadState → Result Answer AnswerRefusal)
+    → Result Answer AnswerRefusal
 going_on (Some place) fault next = next place
 going_on None fault next = Err fault
 
 -- what becomes of a document after a place, by its pieces between line feeds
-unfoldable pub reading : Place → List (List ℕ) → Result Answer AnswerRefusal
+unfoldable pub reading : ReadState → List (List ℕ) → Result Answer AnswerRefusal
 reading place [] = Err MissingEnd
 reading place (left ∷ []) = ending_at place left
 reading place (line ∷ next ∷ rest) =
-    going_on (after_line MOST_NODES place line) (fault_at place line) (λ later. reading later (next ∷ rest))
+    going_on (after_line MAX_NODES place line) (fault_at place line) (λ later. reading later (next ∷ rest))

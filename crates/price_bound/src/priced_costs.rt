@@ -1,4 +1,4 @@
-//! What compositions are worth on trips, and the sums of amounts of which worths and prices are made.
+//! What compositions cost on trips under prices, and the sums of amounts of which they and prices are made.
 
 ghost use Rattle.std.specs.Prelude.{ℕ, ◌≡◌, ◌<◌, ◌≤◌, ◌+◌, ◌*◌, ◌+ℤ◌, ◌-ℤ◌, [], length, get_or, take, pos, All};
 ghost use Rattle.std.specs.Prelude.{IfSome, IsTrue, is_none, if◌then◌else◌, option_map, slice_get};
@@ -9,8 +9,8 @@ ghost use Rattle.branch_tree.specs.IntSums.{int_sum};
 ghost use Rattle.branch_tree.specs.Meanings.{weighted};
 ghost use Rattle.price_bound.specs.TripAndLinkPrices.{IsForTrip};
 ghost use Rattle.price_bound.specs.CellSizes.{IsSmall, most_price, most_units_price, most_amount, most_cost};
-ghost use Rattle.price_bound.specs.CellSizes.{most_value, most_worth};
-ghost use Rattle.price_bound.specs.ChainStages.{cost_on, worth_of};
+ghost use Rattle.price_bound.specs.CellSizes.{most_chain_value, most_priced_cost};
+ghost use Rattle.price_bound.specs.ChainStages.{cost_on, priced_cost_of};
 ghost use Rattle.price_bound.specs.Costs.{admitted_cost};
 ghost use Rattle.price_bound.specs.Credits.{AreSmallAmounts, sum_in};
 ghost use Rattle.price_bound.specs.Pricing.{ArePriced, priced_by};
@@ -21,17 +21,17 @@ use crate::amounts::AmountRow;
 use crate::costs::cost_in;
 use crate::priced::Pricing;
 use branch_tree::{CompositionSet, Weight};
-use rail_base::limits::{MOST_COMPOSITION, MOST_COMPOSITIONS};
+use rail_base::limits::{MAX_COMPOSITION_UNITS, MAX_COMPOSITIONS};
 use rail_base::{CompNo, Money, TripNo, TypeNo};
 use timetable::Instance;
 
-/// An amount that 64 bits hold: a price, a cost or a worth.
+/// An amount that 64 bits hold: a price, a cost or a priced cost.
 #[derive(Clone, Copy)]
 pub(crate) struct Amount(pub i64);
 
-/// What compositions are worth on a trip: what is the same for each of them is found once.
+/// What compositions cost on a trip under prices: what is the same for each of them is found once.
 #[derive(Drop)]
-pub(crate) struct TripWorths<'a> {
+pub(crate) struct PricedCosts<'a> {
     /// What is priced.
     pub pricing: &'a Pricing<'a>,
     /// The trip.
@@ -54,9 +54,9 @@ pub(crate) struct TripWorths<'a> {
     pub seconds: &'a [i64],
 }
 
-impl<'a> TripWorths<'a> {
-    /// The worths of compositions on a trip.
-    pub(crate) fn new(pricing: &'a Pricing<'a>, trip: TripNo) -> TripWorths<'a>
+impl<'a> PricedCosts<'a> {
+    /// The priced costs of compositions on a trip.
+    pub(crate) fn new(pricing: &'a Pricing<'a>, trip: TripNo) -> PricedCosts<'a>
         requires priced { ArePriced pricing.now }
         requires trip { trip < length pricing.now.instance.now.trips }
         ensures pricing { result.pricing.now ≡ pricing.now }
@@ -64,7 +64,7 @@ impl<'a> TripWorths<'a> {
         ensures is { IsForTrip result }
     {
         let row = trip.place();
-        TripWorths {
+        PricedCosts {
             pricing,
             trip,
             set: pricing.region.set(trip),
@@ -78,16 +78,16 @@ impl<'a> TripWorths<'a> {
         }
     }
 
-    /// What a composition is worth on the trip, or nothing where the trip may not have it in the region.
-    pub(crate) fn worth(&self, comp: CompNo) -> Option<Amount>
+    /// What a composition costs on the trip under prices, or nothing where the trip may not have it in the region.
+    pub(crate) fn priced_cost(&self, comp: CompNo) -> Option<Amount>
         requires is { IsForTrip self.now }
         requires comp { comp < length (compositions_of self.now.pricing.now.instance.now) }
-        ensures value { option_map (λ worth. worth.0) result
-            ≡ worth_of (priced_by self.now.pricing.now) self.now.trip comp }
-        ensures small { IfSome result (λ worth. IsSmall
-            (most_worth (is_none (outgoing self.now.pricing.now.instance.now self.now.trip))) worth.0) }
+        ensures value { option_map (λ priced_cost. priced_cost.0) result
+            ≡ priced_cost_of (priced_by self.now.pricing.now) self.now.trip comp }
+        ensures small { IfSome result (λ priced_cost. IsSmall
+            (most_priced_cost (is_none (outgoing self.now.pricing.now.instance.now self.now.trip))) priced_cost.0) }
     {
-        prove!(self.pricing.instance.catalogue().len() as usize <= MOST_COMPOSITIONS);
+        prove!(self.pricing.instance.catalogue().len() as usize <= MAX_COMPOSITIONS);
         if !self.set.has(comp) {
             return None;
         }
@@ -117,7 +117,7 @@ impl<'a> TripWorths<'a> {
             (cost_on (priced_by self.now.pricing.now)) self.now.pricing.now.multipliers.now
             self.now.pricing.now.weight self.now.trip comp }
         ensures small { IsSmall
-            (most_worth (is_none (outgoing self.now.pricing.now.instance.now self.now.trip))) result.0 }
+            (most_priced_cost (is_none (outgoing self.now.pricing.now.instance.now self.now.trip))) result.0 }
     {
         let taken_price = self.taken_at_begin(comp);
         let given_price = self.given_at_end(comp);
@@ -175,7 +175,7 @@ impl<'a> TripWorths<'a> {
 pub(crate) fn types_of(instance: &Instance, comp: CompNo) -> &[TypeNo]
     requires { comp < length (compositions_of instance.now) }
     ensures value { result.now ≡ composition_at instance.now comp }
-    ensures few { length result.now ≤ MOST_COMPOSITION }
+    ensures few { length result.now ≤ MAX_COMPOSITION_UNITS }
     ensures known { All (λ m. m < length instance.now.types) result.now }
     ensures listed { IsTrue (are_types instance.now.types result.now) }
 {
@@ -204,7 +204,7 @@ pub(crate) fn amount_for(amounts: &[i64], comp: CompNo) -> Amount
 
 /// The sum of what a row has for each of these types.
 pub(crate) fn sum_of(row: &AmountRow, types: &[TypeNo]) -> i64
-    requires few { length types.now ≤ MOST_COMPOSITION }
+    requires few { length types.now ≤ MAX_COMPOSITION_UNITS }
     requires known { All (λ m. m < length row.now) types.now }
     requires small { AreSmallAmounts row.now }
     ensures value { result ≡ sum_in row.now types.now }
@@ -215,7 +215,7 @@ pub(crate) fn sum_of(row: &AmountRow, types: &[TypeNo]) -> i64
 
 /// The sum of what there is for each of these types.
 pub(crate) fn sum_in(amounts: &[i64], types: &[TypeNo]) -> Amount
-    requires few { length types.now ≤ MOST_COMPOSITION }
+    requires few { length types.now ≤ MAX_COMPOSITION_UNITS }
     requires known { All (λ m. m < length amounts.now) types.now }
     requires small { AreSmallAmounts amounts.now }
     ensures value { result.0 ≡ sum_in amounts.now types.now }
@@ -257,8 +257,8 @@ pub(crate) fn minus(amount: Amount, other: Amount) -> Amount
 
 /// Two values together.
 pub(crate) fn added(value: Money, more: Money) -> Money
-    requires value { IsSmall most_value value.0 }
-    requires more { IsSmall most_value more.0 }
+    requires value { IsSmall most_chain_value value.0 }
+    requires more { IsSmall most_chain_value more.0 }
     ensures { result.0 ≡ value.0 +ℤ more.0 }
 {
     Money(value.0 + more.0)

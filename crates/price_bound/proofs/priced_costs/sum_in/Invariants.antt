@@ -2,7 +2,7 @@
 use Rattle.std.proofs.Common.{◌≡◌, ◌*◌, get_or, take, pos}
 use Rattle.branch_tree.specs.IntSums.{int_sum}
 use Rattle.price_bound.specs.CellSizes.{IsSmall, most_price}
-use Rattle.price_bound.proofs.worths.sum_in.Given as goal
+use Rattle.price_bound.proofs.priced_costs.sum_in.Given as goal
 
 abbrev pub invariant-loop-place : goal.invariant-loop-place
 invariant-loop-place l =

@@ -2,7 +2,7 @@
 use Rattle.std.proofs.Common.{pos, ap, arith, get_or, ◌∙◌}
 use Rattle.price_bound.specs.Costs.{cost_in}
 use Rattle.price_bound.proofs.TripAndLinkPrices.{cost_at, cost_small, costs_long}
-use Rattle.price_bound.proofs.worths.TripWorths.cost.Goals as goal
+use Rattle.price_bound.proofs.priced_costs.PricedCosts.cost.Goals as goal
 
 pub amount_for-requires : goal.amount_for-requires
 amount_for-requires c = omega (

@@ -3,10 +3,10 @@ use Rattle.std.proofs.Common.{◌≡◌, ◌+◌, ℤ, pos, ◌+ℤ◌, ◌-ℤ�
 use Rattle.std.specs.Prelude.{if◌then◌else◌, is_none}
 use Rattle.std.proofs.lemmas.Int.{ints}
 use Rattle.timetable.specs.Links.{outgoing}
-use Rattle.price_bound.specs.CellSizes.{IsSmall, most_amount, most_cost, most_price, most_units_price, most_worth}
+use Rattle.price_bound.specs.CellSizes.{IsSmall, most_amount, most_cost, most_price, most_units_price, most_priced_cost}
 use Rattle.price_bound.specs.Regrouped.{trip_value}
 use Rattle.price_bound.proofs.Adding.{small_difference, small_more, small_total}
-use Rattle.price_bound.proofs.worths.TripWorths.trip_value.Goals as goal
+use Rattle.price_bound.proofs.priced_costs.PricedCosts.trip_value.Goals as goal
 
 trip_is : (cost take give second paid taken given seconds cost_and_taken less_given whole : ℤ) → paid ≡ cost → taken ≡ take → given ≡ give
     → seconds ≡ second → cost_and_taken ≡ paid +ℤ taken → less_given ≡ cost_and_taken -ℤ given → whole ≡ less_given -ℤ seconds
@@ -14,14 +14,14 @@ trip_is : (cost take give second paid taken given seconds cost_and_taken less_gi
 trip_is cost take give second paid taken given seconds cost_and_taken less_given whole e f g h i j k = omega (arith, ints, e, f, g, h, i, j, k)
 
 -- nothing is given where a link leads on
-worth_small : (ends : Bool) (give paid taken given seconds cost_and_taken less_given whole : ℤ) → given ≡ (if ends then give else pos 0)
+priced_cost_small : (ends : Bool) (give paid taken given seconds cost_and_taken less_given whole : ℤ) → given ≡ (if ends then give else pos 0)
     → IsSmall most_cost paid → IsSmall most_units_price taken → IsSmall most_units_price given → IsSmall most_price seconds
-    → cost_and_taken ≡ paid +ℤ taken → less_given ≡ cost_and_taken -ℤ given → whole ≡ less_given -ℤ seconds → IsSmall (most_worth ends) whole
-worth_small true give paid taken given seconds cost_and_taken less_given whole is p q r s e f g = record {
+    → cost_and_taken ≡ paid +ℤ taken → less_given ≡ cost_and_taken -ℤ given → whole ≡ less_given -ℤ seconds → IsSmall (most_priced_cost ends) whole
+priced_cost_small true give paid taken given seconds cost_and_taken less_given whole is p q r s e f g = record {
   above = omega (arith, ints, p.above, q.above, r.below, s.below, e, f, g);
   below = omega (arith, ints, p.below, q.below, r.above, s.above, e, f, g);
 }
-worth_small false give paid taken given seconds cost_and_taken less_given whole is p q r s e f g = record {
+priced_cost_small false give paid taken given seconds cost_and_taken less_given whole is p q r s e f g = record {
   above = omega (arith, ints, is, p.above, q.above, s.below, e, f, g);
   below = omega (arith, ints, is, p.below, q.below, s.above, e, f, g);
 }
@@ -62,7 +62,7 @@ returns-clause-value c =
 
 pub returns-clause-small : goal.returns-clause-small
 returns-clause-small c =
-    worth_small (is_none (outgoing c.args.self.now.pricing.now.instance.now c.args.self.now.trip)) _ c.args.cost.0
+    priced_cost_small (is_none (outgoing c.args.self.now.pricing.now.instance.now c.args.self.now.trip)) _ c.args.cost.0
     c.taken_at_begin-taken_price.result.0 c.given_at_end-given_price.result.0 c.second-second_price.result.0 c.plus-cost_and_taken.result.0
     c.minus-less_given.result.0 c.minus.result.0 c.given_at_end-given_price.ensures.value c.requires.few
     c.taken_at_begin-taken_price.ensures.small c.given_at_end-given_price.ensures.small c.second-second_price.ensures.small

@@ -3,7 +3,7 @@ use Rattle.std.proofs.Common.{◌≡◌, List, [], ℕ, Option, Some, ap, slice_
 use Rattle.timetable.specs.Compositions.{compositions_of, greatest_platform}
 use Rattle.timetable.proofs.Picking.{types_known}
 use Rattle.price_bound.proofs.Summing.{types_below}
-use Rattle.price_bound.proofs.worths.types_of.Goals as goal
+use Rattle.price_bound.proofs.priced_costs.types_of.Goals as goal
 
 pub returns-clause-value : goal.returns-clause-value
 returns-clause-value c =

@@ -7,7 +7,7 @@ use Rattle.branch_tree.specs.IntSums.{int_sum}
 use Rattle.price_bound.specs.CellSizes.{IsSmall, most_price}
 use Rattle.price_bound.proofs.Adding.{small_more, small_sum}
 use Rattle.price_bound.proofs.Pricing.{int_sum_more}
-use Rattle.price_bound.proofs.worths.sum_in.Goals as goal
+use Rattle.price_bound.proofs.priced_costs.sum_in.Goals as goal
 
 pub loop-place-preserved : goal.loop-place-preserved
 loop-place-preserved c =

@@ -8,7 +8,7 @@ use Rattle.branch_tree.specs.declared.multipliers.Entry.{Entry}
 use Rattle.price_bound.specs.CellSizes.{IsSmall, most_units_price}
 use Rattle.price_bound.specs.YardPrices.{taking}
 use Rattle.price_bound.proofs.TripAndLinkPrices.{unit_price_at, unit_price_small, unit_prices_long}
-use Rattle.price_bound.proofs.worths.TripWorths.taken_at_begin.Goals as goal
+use Rattle.price_bound.proofs.priced_costs.PricedCosts.taken_at_begin.Goals as goal
 
 pub amount_for-requires : goal.amount_for-requires
 amount_for-requires c =

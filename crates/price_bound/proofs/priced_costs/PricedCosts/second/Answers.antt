@@ -2,7 +2,7 @@
 use Rattle.std.proofs.Common.{arith, sym, subst, ◌∙◌}
 use Rattle.price_bound.specs.CellSizes.{IsSmall, most_price}
 use Rattle.price_bound.proofs.TripAndLinkPrices.{second_at, second_at_small, seconds_long}
-use Rattle.price_bound.proofs.worths.TripWorths.second.Goals as goal
+use Rattle.price_bound.proofs.priced_costs.PricedCosts.second.Goals as goal
 
 pub amount_for-requires : goal.amount_for-requires
 amount_for-requires c = omega (
