@@ -63,70 +63,109 @@ type Row = (
     &'static str,
 );
 
+/// The rest of days that is planned, or not.
+const PLANNED: &[Row] = &[
+    // A changed trip costs more than the second unit saves; or it doesn't, and both trips change.
+    (
+        ONE_UNIT,
+        NONE,
+        &["replan", "day", "07:00", "--change", "2000"],
+        0,
+        "replan optimal 1060 changes 0\nrun 0 0\nrun 1 0\nend\n",
+    ),
+    (
+        ONE_UNIT,
+        NONE,
+        &["replan", "day", "07:00", "--change", "100"],
+        0,
+        "replan optimal 320 changes 2\nrun 0 0 1\nrun 1 1 0\nend\n",
+    ),
+    // With one of them uncoupled at Y the price would be 290, but both are wanted at X: without branchings and advice
+    // that is the bound. The improver finds the plan at once, and a little later that none is better.
+    (
+        ONE_UNIT,
+        NONE,
+        &[
+            "replan",
+            "day",
+            "7:00",
+            "--change=100",
+            "--nodes=0",
+            "--rounds=0",
+        ],
+        4,
+        "replan bounded 290\nbranchings 0\ntree\ncost 290 0\nend\n",
+    ),
+    (
+        ONE_UNIT,
+        NONE,
+        &[
+            "replan",
+            "day",
+            "7:00",
+            "--change=100",
+            "--nodes=0",
+            "--rounds=0",
+            "--evaluations=1",
+        ],
+        4,
+        "replan bounded 290 plan 320 changes 2\nrun 0 0 1\nrun 1 1 0\nbranchings 0\ntree\ncost 290 0\nend\n",
+    ),
+    (
+        ONE_UNIT,
+        NONE,
+        &[
+            "replan",
+            "day",
+            "7:00",
+            "--change=100",
+            "--nodes=0",
+            "--rounds=0",
+            "--evaluations=500",
+        ],
+        0,
+        "replan optimal 320 changes 2\nrun 0 0 1\nrun 1 1 0\nend\n",
+    ),
+    // So does advice.
+    (
+        ONE_UNIT,
+        NONE,
+        &["replan", "day", "07:00", "--change", "100", "--nodes", "0"],
+        0,
+        "replan optimal 320 changes 2\nrun 0 0 1\nrun 1 1 0\nend\n",
+    ),
+    // The first trip has left, with both units.
+    (
+        TWO_UNITS,
+        NONE,
+        &["replan", "day", "08:30"],
+        0,
+        "replan optimal 120 changes 0\nrun 0 0 1\nrun 1 1 0\nend\n",
+    ),
+    // They can't come back without the second.
+    (
+        TWO_UNITS,
+        b"trip\nT2\n",
+        &["replan", "day", "08:30"],
+        1,
+        "replan infeasible\nend\n",
+    ),
+    // A trip that has left can't be cancelled.
+    (
+        TWO_UNITS,
+        b"trip\nT1\n",
+        &["replan", "day", "08:30"],
+        3,
+        "refused cancelled.csv\n",
+    ),
+];
+
 #[test]
 fn the_rest_of_a_day_is_planned(rt: HostRuntime) -> Result<(), Fail> {
-    let rows: [Row; 5] = [
-        // A changed trip costs more than the second unit saves; or it doesn't, and both trips change.
-        (
-            ONE_UNIT,
-            NONE,
-            &["replan", "day", "07:00", "--change", "2000"],
-            0,
-            "replan optimal 1060 changes 0\nrun 0 0\nrun 1 0\nend\n",
-        ),
-        (
-            ONE_UNIT,
-            NONE,
-            &["replan", "day", "07:00", "--change", "100"],
-            0,
-            "replan optimal 320 changes 2\nrun 0 0 1\nrun 1 1 0\nend\n",
-        ),
-        // The first trip has left, with both units.
-        (
-            TWO_UNITS,
-            NONE,
-            &["replan", "day", "08:30"],
-            0,
-            "replan optimal 120 changes 0\nrun 0 0 1\nrun 1 1 0\nend\n",
-        ),
-        // They can't come back without the second.
-        (
-            TWO_UNITS,
-            b"trip\nT2\n",
-            &["replan", "day", "08:30"],
-            1,
-            "replan infeasible\nend\n",
-        ),
-        // A trip that has left can't be cancelled.
-        (
-            TWO_UNITS,
-            b"trip\nT1\n",
-            &["replan", "day", "08:30"],
-            3,
-            "refused cancelled.csv\n",
-        ),
-    ];
-    for (plan, cancelled, words, status, document) in &rows {
+    for (plan, cancelled, words, status, document) in PLANNED {
         let mut folder = folder_of(&rt, rt.alloc(), *plan, *cancelled, &[])?;
         expect(&rt, rt.alloc(), &mut folder, *words, *status, *document)?;
     }
-    Ok(())
-}
-
-#[test]
-fn the_improver_finds_the_same_price(rt: HostRuntime) -> Result<(), Fail> {
-    let words = [
-        "replan",
-        "day",
-        "7:00",
-        "--change=100",
-        "--evaluations=500",
-        "--rounds=0",
-    ];
-    let mut folder = folder_of(&rt, rt.alloc(), ONE_UNIT, NONE, &[])?;
-    let (status, out) = said(&rt, rt.alloc(), Program::Raildesk, &words, &mut folder)?;
-    assert!(&rt; out.written().starts_with(b"replan optimal 320 changes 2\n"));
-    assert!(&rt; status == 0);
     Ok(())
 }
 
@@ -190,6 +229,43 @@ type Ran = (
     &'static str,
 );
 
+/// Plans that are printed, and what they come to.
+const RAN: &[Ran] = &[
+    (
+        TURN,
+        ONE_UNIT,
+        NONE,
+        &["replan", "day", "07:00", "--change", "2000"],
+        TURN,
+        "runs 1060\n",
+    ),
+    (
+        TURN,
+        ONE_UNIT,
+        NONE,
+        &["replan", "day", "07:00", "--change", "100"],
+        TURN,
+        "runs 120\n",
+    ),
+    (
+        TURN,
+        TWO_UNITS,
+        NONE,
+        &["replan", "day", "08:30"],
+        TURN,
+        "runs 120\n",
+    ),
+    // The one unit that is out comes back by the last trip, for which two were planned.
+    (
+        TWICE,
+        b"trip,units\nT1,0\nT2,0\nT3,0 1\nT4,1 0\n",
+        b"trip\nT3\nT2\n",
+        &["replan", "day", "09:00", "--change=7", "--evaluations=500"],
+        FIRST_AND_LAST,
+        "runs 1060\n",
+    ),
+];
+
 /// The name of a trip by its number.
 fn name_of(number: &str) -> &'static str {
     match number {
@@ -230,42 +306,7 @@ fn plan_printed(alloc: Global, document: &str) -> Result<String, NoMemory> {
 #[test]
 fn what_is_printed_runs_in_the_later_day(rt: HostRuntime) -> Result<(), Fail> {
     let alloc = rt.alloc();
-    let rows: [Ran; 4] = [
-        (
-            TURN,
-            ONE_UNIT,
-            NONE,
-            &["replan", "day", "07:00", "--change", "2000"],
-            TURN,
-            "runs 1060\n",
-        ),
-        (
-            TURN,
-            ONE_UNIT,
-            NONE,
-            &["replan", "day", "07:00", "--change", "100"],
-            TURN,
-            "runs 120\n",
-        ),
-        (
-            TURN,
-            TWO_UNITS,
-            NONE,
-            &["replan", "day", "08:30"],
-            TURN,
-            "runs 120\n",
-        ),
-        // The one unit that is out comes back by the last trip, for which two were planned.
-        (
-            TWICE,
-            b"trip,units\nT1,0\nT2,0\nT3,0 1\nT4,1 0\n",
-            b"trip\nT3\nT2\n",
-            &["replan", "day", "09:00", "--change=7", "--evaluations=500"],
-            FIRST_AND_LAST,
-            "runs 1060\n",
-        ),
-    ];
-    for (texts, plan, cancelled, words, later, ran) in &rows {
+    for (texts, plan, cancelled, words, later, ran) in RAN {
         let mut folder = disturbed(&rt, alloc, texts, *plan, *cancelled, &[])?;
         let (_, out) = said(&rt, alloc, Program::Raildesk, *words, &mut folder)?;
         let Ok(document) = str::from_utf8(out.written()) else {

@@ -35,6 +35,13 @@ const LATE_TRIP: Texts<'static> = Texts {
     trips: b"trip,from,departure,to,arrival,km,demand\nT1,X,29:00,Y,30:00,10,300\nT2,Y,30:10,X,31:31,10,150\n",
     ..TURN
 };
+/// The day after `ONE_LEFT`: a unit stands at each station, and that at Y is coupled to the train that turns there.
+const FETCHED: Texts<'static> = Texts {
+    stock: b"station,type,start,end\nX,A,1,2\nY,A,1,0\n",
+    links: b"kind,arriving,arriving2,departing,departing2,reverse,uncouple,couple\n\
+        turn,T1,,T2,,yes,none,rear\n",
+    ..TURN
+};
 /// A day whose table of stock is none.
 const NO_STOCK: Texts<'static> = Texts {
     stock: b"station,type,start\nX,A,2\n",
@@ -187,6 +194,71 @@ fn weeks_are_planned_or_refused(rt: HostRuntime) -> Result<(), Fail> {
         let (found, out) = said(&rt, alloc, Program::Raildesk, &words, &mut folder)?;
         assert!(rt; out.written().starts_with(begins.as_bytes()), "{begins}");
         assert!(rt; found == *status, "{begins}");
+    }
+    Ok(())
+}
+
+/// Days, the words, the status, and all that is written.
+type Whole<'a> = (&'a [Texts<'a>], &'a [&'a str], u8, &'a str);
+
+/// Weeks with all that is written of them.
+const WHOLE: &[Whole<'static>] = &[
+    // The second unit comes back, so that it is the first at X on the next day. Advice spares branchings.
+    (
+        &[ONE_LEFT, FETCHED],
+        &["week", "week", "2"],
+        0,
+        "week optimal 1380\n\
+            day 1\nrailplan answer 1\noptimal 190\nbranchings 0\nrun 0 0 1\nrun 1 1\ntree\n\
+            cost 190 2 2:-45 3:45\nend\n\
+            day 2\nrailplan answer 1\noptimal 1190\nbranchings 1\nrun 0 0\nrun 1 0 1\ntree\n\
+            only 0 1\nray 1 0:1\ncost 1190 3 0:101 2:101 3:-101\nend\n\
+            names 1 0 1\nnames 2 1 0\nend\n",
+    ),
+    // Without both, the first two days stay bounded, and the third counts with what it costs.
+    (
+        &[ONE_LEFT, FETCHED, TURN],
+        &["week", "week", "3", "--nodes", "0", "--rounds", "0"],
+        4,
+        "week bounded 360\n\
+            day 1\nrailplan answer 1\nbounded 120\nbranchings 0\ntree\ncost 120 0\nend\n\
+            day 2\nrailplan answer 1\nbounded 120\nbranchings 0\ntree\ncost 120 0\nend\n\
+            day 3\nrailplan answer 1\noptimal 120\nbranchings 0\nrun 0 0 1\nrun 1 1 0\ntree\ncost 120 0\nend\n\
+            end\n",
+    ),
+    // The improver finds plans of them.
+    (
+        &[ONE_LEFT, FETCHED, TURN],
+        &[
+            "week",
+            "week",
+            "3",
+            "--nodes",
+            "0",
+            "--rounds",
+            "0",
+            "--evaluations",
+            "1",
+        ],
+        4,
+        "week bounded 360 plan 1500\n\
+            day 1\nrailplan answer 1\nbounded 120 plan 190\nbranchings 0\nrun 0 0 1\nrun 1 1\ntree\n\
+            cost 120 0\nend\n\
+            day 2\nrailplan answer 1\nbounded 120 plan 1190\nbranchings 0\nrun 0 0\nrun 1 0 1\ntree\n\
+            cost 120 0\nend\n\
+            day 3\nrailplan answer 1\noptimal 120\nbranchings 0\nrun 0 0 1\nrun 1 1 0\ntree\ncost 120 0\nend\n\
+            names 1 0 1\nnames 2 1 0\nnames 3 0 1\nend\n",
+    ),
+];
+
+#[test]
+fn weeks_are_written_whole(rt: HostRuntime) -> Result<(), Fail> {
+    let alloc = rt.alloc();
+    for (days, words, status, document) in WHOLE {
+        let mut folder = folder_of(&rt, alloc, *days, &[])?;
+        let (found, out) = said(&rt, alloc, Program::Raildesk, *words, &mut folder)?;
+        assert!(rt; out.written() == document.as_bytes(), "{document}");
+        assert!(rt; found == *status, "{document}");
     }
     Ok(())
 }

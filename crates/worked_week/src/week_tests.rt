@@ -188,6 +188,19 @@ const NIGHTS: &[Case] = &[
         branchings: 200,
         told: "refused: LateTrip { day: 2, trip: TripNo(0) }\n",
     },
+    Case {
+        about: "of two that are late the first is told, by its number and not by its time",
+        days: &[
+            Texts {
+                trips: b"trip,from,departure,to,arrival,km,demand\n\
+                    T1,X,20:00,Y,21:30,10,100\nT3,X,22:40,Y,24:10,10,100\nT4,X,22:30,Y,24:01,10,100\n",
+                ..EVENING
+            },
+            MORNING,
+        ],
+        branchings: 200,
+        told: "refused: LateTrip { day: 2, trip: TripNo(1) }\n",
+    },
 ];
 
 /// Days that make no week, for the first of several reasons.
