@@ -1,4 +1,5 @@
 pub mod AskedDays
 pub mod Answered
 pub mod WeekHeads
+pub mod HeadSums
 pub mod Refusals

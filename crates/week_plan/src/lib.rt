@@ -5,6 +5,7 @@
 mod answering;
 pub mod answers;
 pub mod heads;
+pub mod laws;
 pub mod planning;
 
 pub use answers::{Answers, Week};
