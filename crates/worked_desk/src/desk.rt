@@ -130,7 +130,19 @@ pub(crate) fn expect(
     document: &str,
 ) -> Result<(), NoMemory> {
     let mut folder = folder_of(rt, alloc, texts, &[])?;
-    let (found, out) = said(rt, alloc, Program::Raildesk, words, &mut folder)?;
+    expect_over(rt, alloc, &mut folder, words, status, document)
+}
+
+/// The same over a folder.
+pub(crate) fn expect_over(
+    rt: &impl Abort,
+    alloc: Global,
+    folder: &mut MemoryFolder,
+    words: &[&str],
+    status: u8,
+    document: &str,
+) -> Result<(), NoMemory> {
+    let (found, out) = said(rt, alloc, Program::Raildesk, words, folder)?;
     assert!(rt; out.written() == document.as_bytes());
     assert!(rt; found == status);
     Ok(())

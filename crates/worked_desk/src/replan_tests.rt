@@ -1,6 +1,6 @@
 //! The rest of a disturbed day that is planned at the desk.
 
-use crate::desk::{Program, folder_with, said};
+use crate::desk::{Program, expect_over, folder_with, said};
 use rail_base::NoMemory;
 use rail_io::MemoryFolder;
 use sample_days::{TURN, Texts};
@@ -37,21 +37,6 @@ fn disturbed(
 ) -> Result<MemoryFolder, NoMemory> {
     let more = [("day/plan.csv", plan), ("day/cancelled.csv", cancelled)];
     folder_with(rt, alloc, texts, &more, failing)
-}
-
-/// Asserts the status of words after the program's name over a folder, and all that is written.
-fn expect(
-    rt: &impl Abort,
-    alloc: Global,
-    folder: &mut MemoryFolder,
-    words: &[&str],
-    status: u8,
-    document: &str,
-) -> Result<(), NoMemory> {
-    let (found, out) = said(rt, alloc, Program::Raildesk, words, folder)?;
-    assert!(rt; out.written() == document.as_bytes());
-    assert!(rt; found == status);
-    Ok(())
 }
 
 /// A plan, the trips that are cancelled, the words after the folder, the status, and what is written.
@@ -164,7 +149,7 @@ const PLANNED: &[Row] = &[
 fn the_rest_of_a_day_is_planned(rt: HostRuntime) -> Result<(), Fail> {
     for (plan, cancelled, words, status, document) in PLANNED {
         let mut folder = folder_of(&rt, rt.alloc(), *plan, *cancelled, &[])?;
-        expect(&rt, rt.alloc(), &mut folder, *words, *status, *document)?;
+        expect_over(&rt, rt.alloc(), &mut folder, *words, *status, *document)?;
     }
     Ok(())
 }
@@ -180,7 +165,7 @@ fn the_plan_is_answered_before_cancelled_trips(rt: HostRuntime) -> Result<(), Fa
         // The table of cancelled trips would be refused.
         let mut folder = folder_of(&rt, rt.alloc(), *plan, b"", &[])?;
         let words = ["replan", "day", "08:30"];
-        expect(&rt, rt.alloc(), &mut folder, &words, *status, *document)?;
+        expect_over(&rt, rt.alloc(), &mut folder, &words, *status, *document)?;
     }
     Ok(())
 }
@@ -195,7 +180,7 @@ fn a_file_that_cannot_be_read_is_named(rt: HostRuntime) -> Result<(), Fail> {
     for (read, document) in &rows {
         let mut folder = folder_of(&rt, rt.alloc(), TWO_UNITS, NONE, &[*read])?;
         let words = ["replan", "day", "08:30"];
-        expect(&rt, rt.alloc(), &mut folder, &words, 5, *document)?;
+        expect_over(&rt, rt.alloc(), &mut folder, &words, 5, *document)?;
     }
     Ok(())
 }

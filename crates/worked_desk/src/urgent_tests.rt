@@ -1,6 +1,6 @@
 //! Units that are swapped at the desk.
 
-use crate::desk::{Program, folder_with, said};
+use crate::desk::{expect_over, folder_with};
 use rail_base::NoMemory;
 use rail_io::MemoryFolder;
 use sample_days::{TURN, Texts};
@@ -39,10 +39,7 @@ fn expect(
     status: u8,
     document: &str,
 ) -> Result<(), NoMemory> {
-    let (found, out) = said(rt, alloc, Program::Raildesk, &["urgent", "day"], folder)?;
-    assert!(rt; out.written() == document.as_bytes());
-    assert!(rt; found == status);
-    Ok(())
+    expect_over(rt, alloc, folder, &["urgent", "day"], status, document)
 }
 
 #[test]

@@ -1,6 +1,6 @@
 //! Weeks that are planned at the desk.
 
-use crate::desk::{Program, said};
+use crate::desk::{Program, expect_over, said};
 use rail_base::NoMemory;
 use rail_base::name::is_name;
 use rail_io::{MemoryFile, MemoryFolder};
@@ -256,9 +256,7 @@ fn weeks_are_written_whole(rt: HostRuntime) -> Result<(), Fail> {
     let alloc = rt.alloc();
     for (days, words, status, document) in WHOLE {
         let mut folder = folder_of(&rt, alloc, *days, &[])?;
-        let (found, out) = said(&rt, alloc, Program::Raildesk, *words, &mut folder)?;
-        assert!(rt; out.written() == document.as_bytes(), "{document}");
-        assert!(rt; found == *status, "{document}");
+        expect_over(&rt, alloc, &mut folder, *words, *status, *document)?;
     }
     Ok(())
 }
@@ -278,8 +276,7 @@ const OTHER_WORDS: &[&[&str]] = &[
 fn other_words_plan_no_week(rt: HostRuntime) -> Result<(), Fail> {
     for words in OTHER_WORDS {
         let mut folder = folder_of(&rt, rt.alloc(), &[TURN, TURN], &[])?;
-        let (found, out) = said(&rt, rt.alloc(), Program::Raildesk, *words, &mut folder)?;
-        assert!(rt; out.written() == "usage\n".as_bytes() && found == 2);
+        expect_over(&rt, rt.alloc(), &mut folder, *words, 2, "usage\n")?;
     }
     Ok(())
 }
