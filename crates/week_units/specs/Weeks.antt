@@ -22,7 +22,8 @@ pub record HasRowsOf (first day : Day) : Type 0 where
 abbrev pub BeginsAsEnded : Day → Day → Type 0
 BeginsAsEnded before day = (s m : ℕ) → IsYard day s m → wanted_of before s m ≡ start_of day s m
 
--- what a trip gives on the day before is not ready by a minute of the day
+-- the reallocation after a trip of the day before, whether it gives a unit to a yard or not, has not ended by a minute
+-- of the day
 abbrev pub IsReadyAfter : Day → ℕ → ℕ → Type 0
 IsReadyAfter before t minute = MINUTES_OF_A_DAY + minute < ready_at before t
 

@@ -18,9 +18,9 @@ pub fn weeks_make_day_plans()
     ensures law { WeeksMakeDayPlans }
 {}
 
-/// A trip of the day before is late exactly where what it gives is not ready at the departure of some trip of the day;
-/// or, where the day has no trip, not as it begins. The minutes of the day are counted from 1,440 on by the clock of
-/// the day before.
+/// A trip of the day before is late exactly where its reallocation has not ended at the departure of some trip of the
+/// day; or, where the day has no trip, not as it begins. The minutes of the day are counted from 1,440 on by the clock
+/// of the day before. It does not matter whether the trip gives a unit to a yard.
 pub fn late_trips_are_ready_too_late()
     ensures law { LateTripsAreReadyTooLate }
 {}
