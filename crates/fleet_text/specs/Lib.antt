@@ -1,0 +1,2 @@
+-- the document of a fleet
+pub mod FleetLines
