@@ -6,6 +6,7 @@ use Rattle.statuses.specs.Written.{CountsFailedReads, CountsFailedWrites, IsStat
 use Rattle.run_documents.specs.Planning.{EndsPlanning}
 use Rattle.desk_commands.specs.declared.command.Command.{Command}
 use Rattle.desk_commands.specs.declared.command.Command.TheVariants as command
+use Rattle.desk_commands.specs.declared.fleet_planning.FleetPlanning.{FleetPlanning}
 use Rattle.desk_commands.specs.declared.planning.Planning.{Planning}
 use Rattle.desk_commands.specs.declared.replanning.Replanning.{Replanning}
 use Rattle.desk_commands.specs.declared.swapping.Swapping.{Swapping}
@@ -15,10 +16,11 @@ use Rattle.desk_commands.proofs.OneCommand.{one_command}
 use Rattle.desk_app.specs.declared.outcome.DeskOutcome.{DeskOutcome}
 use Rattle.desk_app.specs.declared.outcome.DeskOutcome.TheVariants.{NoMemory}
 use Rattle.desk_app.specs.Documents.{IsDocument, table_refused_line, usage_line}
-use Rattle.desk_app.specs.Outcomes.{AskForWeek, AskInVain, AskToPlan, AskToReplan, AskToSwap, ComesTo, IsOutcome}
+use Rattle.desk_app.specs.Outcomes.{AskForFleet, AskForWeek, AskInVain, AskToPlan, AskToReplan, AskToSwap, ComesTo, IsOutcome}
 use Rattle.desk_app.specs.Outcomes.{OfCommand, InVain, Unread}
 use Rattle.desk_app.specs.Outcomes.{status_of, is_unread}
 use Rattle.desk_app.specs.Statuses.{EndsInUsage, LeavesFolder, LeavesSink, WroteOutcome}
+use Rattle.desk_app.specs.FleetEndings.{EndsFleet}
 use Rattle.desk_app.specs.ReplanEndings.{EndsReplanning}
 use Rattle.desk_app.specs.SwapEndings.{EndsSwapping}
 use Rattle.desk_app.specs.WeekEndings.{EndsWeek}
@@ -27,6 +29,7 @@ use Rattle.desk_app.proofs.PlannedDays.{IsOfCommand, plan_status, planning_ends}
 use Rattle.desk_app.proofs.ReplannedRests.{replan_status, replanning_ends}
 use Rattle.desk_app.proofs.SwappedUnits.{swap_status, swapping_ends}
 use Rattle.desk_app.proofs.PlannedWeeks.{week_ends, week_status}
+use Rattle.desk_app.proofs.FoundFleets.{fleet_ends, fleet_status}
 
 -- want of memory has no document
 no_document : (outcome : DeskOutcome) (text : List ℕ) → outcome ≡ NoMemory → IsDocument outcome text → ⊥
@@ -47,6 +50,7 @@ module _ {F : Type 0} (holds : F → Option Files) (may_fail : F → List ℕ �
   status_fits (command.Urgent swapping) comes = swap_status holds may_fail faults_of taken swapping.dir before after outcome comes
   status_fits (command.Replan replanning) comes = replan_status holds may_fail faults_of taken replanning before after outcome comes
   status_fits (command.Week planning) comes = week_status holds may_fail faults_of taken planning before after outcome comes
+  status_fits (command.Fleet planning) comes = fleet_status holds may_fail faults_of taken planning before after outcome comes
 
   -- the outcome of words that ask for a command
   of_command : (named : Command) → IsPlainForm words named → (outcome ≡ NoMemory → ⊥) → Comes named
@@ -105,6 +109,19 @@ module _ {F : Type 0} (holds : F → Option Files) (may_fail : F → List ℕ �
           subst (λ (n : ℕ). EndsWeek files planning n written written') (sym e)
           (week_ends holds may_fail faults_of taken planning before after outcome
           (of_command (command.Week planning) asked (λ none. no_document outcome text none document)) files tells text document
+          written written' appends (subst IsUndisturbed e undisturbed))
+      by (Part text document appends rose six) = absurd (undisturbed.1 six)
+      by (Nothing kept seven) = absurd (undisturbed.2 seven)
+
+  pub ends_fleet : (files : Files) (planning : FleetPlanning) → holds before ≡ Some files → AskForFleet words planning → IsUndisturbed status
+      → EndsFleet files planning status written written'
+  ends_fleet files planning tells asked undisturbed = by wrote
+    where
+      by : Wrote' → EndsFleet files planning status written written'
+      by (Whole text document appends e) =
+          subst (λ (n : ℕ). EndsFleet files planning n written written') (sym e)
+          (fleet_ends holds may_fail faults_of taken planning before after outcome
+          (of_command (command.Fleet planning) asked (λ none. no_document outcome text none document)) files tells text document
           written written' appends (subst IsUndisturbed e undisturbed))
       by (Part text document appends rose six) = absurd (undisturbed.1 six)
       by (Nothing kept seven) = absurd (undisturbed.2 seven)

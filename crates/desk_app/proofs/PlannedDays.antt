@@ -20,8 +20,8 @@ use Rattle.desk_commands.specs.declared.planning.Planning.{Planning}
 use Rattle.desk_commands.specs.PlainForm.{IsPlainForm}
 use Rattle.desk_commands.proofs.OneCommand.{one_command}
 use Rattle.desk_app.specs.declared.outcome.DeskOutcome.{DeskOutcome}
-use Rattle.desk_app.specs.declared.outcome.DeskOutcome.TheVariants.{Planned, Swapped, Replanned, PlannedWeek, Stops}
-use Rattle.desk_app.specs.declared.outcome.DeskOutcome.TheVariants.{Usage, Refused, CannotRead, NoMemory}
+use Rattle.desk_app.specs.declared.outcome.DeskOutcome.TheVariants.{Planned, Swapped, Replanned, PlannedWeek, FleetFound}
+use Rattle.desk_app.specs.declared.outcome.DeskOutcome.TheVariants.{Stops, Usage, Refused, CannotRead, NoMemory}
 use Rattle.desk_app.specs.Documents.{IsDocument, table_refused_line}
 use Rattle.desk_app.specs.Outcomes.{status_of}
 use Rattle.desk_app.specs.PlanOutcomes.{IsDayOutcome, IsPlanOutcome, NoDay, OfDay}
@@ -59,6 +59,7 @@ day_status day nodes NoMemory DidRise is = record { not_usage = λ two. omega (a
 day_status day nodes (Swapped swapped) DidRise is = absurd is
 day_status day nodes (Replanned rest) DidRise is = absurd is
 day_status day nodes (PlannedWeek week) DidRise is = absurd is
+day_status day nodes (FleetFound found) DidRise is = absurd is
 day_status day nodes Stops DidRise is = absurd is
 day_status day nodes Usage DidRise is = absurd is
 day_status day nodes (Refused file) DidRise is = absurd is
@@ -127,6 +128,7 @@ ended_by_day files planning day accepted (Planned answer) meets text is written 
 ended_by_day files planning day accepted NoMemory meets text is written written' appends undisturbed = absurd (undisturbed.2 refl)
 ended_by_day files planning day accepted (Replanned rest) meets text is written written' appends undisturbed = absurd meets
 ended_by_day files planning day accepted (PlannedWeek week) meets text is written written' appends undisturbed = absurd meets
+ended_by_day files planning day accepted (FleetFound found) meets text is written written' appends undisturbed = absurd meets
 ended_by_day files planning day accepted (Swapped swapped) meets text is written written' appends undisturbed = absurd meets
 ended_by_day files planning day accepted Stops meets text is written written' appends undisturbed = absurd meets
 ended_by_day files planning day accepted Usage meets text is written written' appends undisturbed = absurd meets

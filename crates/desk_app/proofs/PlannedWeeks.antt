@@ -21,6 +21,8 @@ use Rattle.week_files.specs.declared.error.DayError.{DayError}
 use Rattle.week_files.specs.WeekFiles.{AreDaysFrom, AreDaysIn, HasDay, IsCausedAt, IsEndedAt, IsErrorAt}
 use Rattle.week_files.specs.WeekFiles.{IsFirstRefusedDay, day_folder}
 use Rattle.week_files.proofs.ReadDays.{day_at}
+use Rattle.fleet_check.specs.declared.found.TheConstants.{MAX_SPLITS}
+use Rattle.fleet_size.specs.declared.planning.TheConstants.{MAX_DAY_BRANCHINGS}
 use Rattle.week_units.specs.declared.refusal.WeekRefusal.{WeekRefusal}
 use Rattle.week_units.specs.declared.refusal.WeekRefusal.TheVariants.{TypesDiffer, StationsDiffer, NightDiffers, LateTrip}
 use Rattle.week_units.specs.declared.refusal.WeekRefusal.TheVariants as week_refusal
@@ -34,8 +36,8 @@ use Rattle.desk_commands.specs.declared.week_planning.WeekPlanning.{WeekPlanning
 use Rattle.desk_app.specs.declared.files.DeskFile.{DeskFile}
 use Rattle.desk_app.specs.declared.files.DeskFile.TheVariants.{OfDay}
 use Rattle.desk_app.specs.declared.outcome.DeskOutcome.{DeskOutcome}
-use Rattle.desk_app.specs.declared.outcome.DeskOutcome.TheVariants.{Planned, Swapped, Replanned, PlannedWeek, Stops}
-use Rattle.desk_app.specs.declared.outcome.DeskOutcome.TheVariants.{Usage, Refused, CannotRead, NoMemory}
+use Rattle.desk_app.specs.declared.outcome.DeskOutcome.TheVariants.{Planned, Swapped, Replanned, PlannedWeek, FleetFound}
+use Rattle.desk_app.specs.declared.outcome.DeskOutcome.TheVariants.{Stops, Usage, Refused, CannotRead, NoMemory}
 use Rattle.desk_app.specs.Documents.{IsDocument, refused_line}
 use Rattle.desk_app.specs.Outcomes.{is_unread, status_of}
 use Rattle.desk_app.specs.Statuses.{AreAskedFor}
@@ -131,6 +133,7 @@ module _ (files : Files) (planning : WeekPlanning) where
     ended_by_days days accepted (Planned answer) says text is appends undisturbed = absurd says
     ended_by_days days accepted (Swapped swapped) says text is appends undisturbed = absurd says
     ended_by_days days accepted (Replanned rest) says text is appends undisturbed = absurd says
+    ended_by_days days accepted (FleetFound found) says text is appends undisturbed = absurd says
     ended_by_days days accepted Stops says text is appends undisturbed = absurd says
     ended_by_days days accepted Usage says text is appends undisturbed = absurd says
     ended_by_days days accepted (CannotRead file) says text is appends undisturbed = absurd says
@@ -236,6 +239,7 @@ module _ {F : Type 0} (holds : F → Option Files) (may_fail : F → List ℕ �
   days_status days (Planned answer) DidRise says = absurd says
   days_status days (Swapped swapped) DidRise says = absurd says
   days_status days (Replanned rest) DidRise says = absurd says
+  days_status days (FleetFound found) DidRise says = absurd says
   days_status days Stops DidRise says = absurd says
   days_status days Usage DidRise says = absurd says
   days_status days (CannotRead file) DidRise says = absurd says
@@ -272,6 +276,8 @@ none_asked_in_no_rounds asked has_quit advisors (Replanned rest) =
 none_asked_in_no_rounds asked has_quit advisors (PlannedWeek week) =
     subst (λ (least : ℕ). AreAsked advisors advisors asked has_quit least (most_asked 0 week.days)) (sym (least_none week.days))
     (are_unasked asked has_quit (most_asked 0 week.days) advisors)
+none_asked_in_no_rounds asked has_quit advisors (FleetFound found) =
+    are_unasked asked has_quit ((2 * MAX_SPLITS + 1) * (0 * (2 * MAX_DAY_BRANCHINGS + 1))) advisors
 none_asked_in_no_rounds asked has_quit advisors (Swapped swapped) = refl
 none_asked_in_no_rounds asked has_quit advisors Stops = refl
 none_asked_in_no_rounds asked has_quit advisors Usage = refl

@@ -25,10 +25,10 @@ use Rattle.cancellations.proofs.Tables.{tables_are_decided}
 use Rattle.replan_text.specs.ReplanLines.{document_of}
 use Rattle.desk_commands.specs.declared.replanning.Replanning.{Replanning}
 use Rattle.desk_app.specs.declared.files.DeskFile.{DeskFile}
-use Rattle.desk_app.specs.declared.files.DeskFile.TheVariants.{CancelledTrips, OfDay, OfTable, UrgentUnits}
+use Rattle.desk_app.specs.declared.files.DeskFile.TheVariants.{CancelledTrips, OfDay, OfTable, Prices, UrgentUnits}
 use Rattle.desk_app.specs.declared.outcome.DeskOutcome.{DeskOutcome}
-use Rattle.desk_app.specs.declared.outcome.DeskOutcome.TheVariants.{Planned, Swapped, Replanned, PlannedWeek, Stops}
-use Rattle.desk_app.specs.declared.outcome.DeskOutcome.TheVariants.{Usage, Refused, CannotRead, NoMemory}
+use Rattle.desk_app.specs.declared.outcome.DeskOutcome.TheVariants.{Planned, Swapped, Replanned, PlannedWeek, FleetFound}
+use Rattle.desk_app.specs.declared.outcome.DeskOutcome.TheVariants.{Stops, Usage, Refused, CannotRead, NoMemory}
 use Rattle.desk_app.specs.declared.outcome.PlannedRest.{PlannedRest}
 use Rattle.desk_app.specs.Cancelled.{AreDisturbed, AreWrong, IsRefusedForReplan, OfCancelled, SayCancelled, SayNoneCancelled}
 use Rattle.desk_app.specs.Cancelled.{TooMany, cancelled_bytes}
@@ -160,7 +160,9 @@ module _ (files : Files) (replanning : Replanning) where
       ended_by_table bytes NoMemory same says text is appends undisturbed = absurd (undisturbed.2 refl)
       ended_by_table bytes (Refused (OfTable read)) same says text is appends undisturbed = absurd says
       ended_by_table bytes (Refused (OfDay day read)) same says text is appends undisturbed = absurd says
+      ended_by_table bytes (Refused Prices) same says text is appends undisturbed = absurd says
       ended_by_table bytes (PlannedWeek week) same says text is appends undisturbed = absurd says
+      ended_by_table bytes (FleetFound found) same says text is appends undisturbed = absurd says
       ended_by_table bytes (Refused UrgentUnits) same says text is appends undisturbed = absurd says
       ended_by_table bytes (Planned answer) same says text is appends undisturbed = absurd says
       ended_by_table bytes (Swapped swapped) same says text is appends undisturbed = absurd says
@@ -246,7 +248,9 @@ module _ {F : Type 0} (holds : F → Option Files) (may_fail : F → List ℕ �
   table_status inputs bytes NoMemory DidRise says = record { not_usage = λ two. omega (arith, two); unread = λ five. absurd (omega (arith, five)) }
   table_status inputs bytes (Refused (OfTable read)) DidRise says = absurd says
   table_status inputs bytes (Refused (OfDay day read)) DidRise says = absurd says
+  table_status inputs bytes (Refused Prices) DidRise says = absurd says
   table_status inputs bytes (PlannedWeek week) DidRise says = absurd says
+  table_status inputs bytes (FleetFound found) DidRise says = absurd says
   table_status inputs bytes (Refused UrgentUnits) DidRise says = absurd says
   table_status inputs bytes (Planned answer) DidRise says = absurd says
   table_status inputs bytes Stops DidRise says = absurd says

@@ -8,8 +8,8 @@ use Rattle.rules.specs.declared.heads.Head.{Head}
 use Rattle.rules.specs.declared.heads.Head.TheVariants.{Optimal, Infeasible, Bounded, BoundedPlan}
 use Rattle.answer_check.specs.Headline.{status_said}
 use Rattle.desk_app.specs.declared.outcome.DeskOutcome.{DeskOutcome}
-use Rattle.desk_app.specs.declared.outcome.DeskOutcome.TheVariants.{Planned, Swapped, Replanned, PlannedWeek, Stops}
-use Rattle.desk_app.specs.declared.outcome.DeskOutcome.TheVariants.{Usage, Refused, CannotRead, NoMemory}
+use Rattle.desk_app.specs.declared.outcome.DeskOutcome.TheVariants.{Planned, Swapped, Replanned, PlannedWeek, FleetFound}
+use Rattle.desk_app.specs.declared.outcome.DeskOutcome.TheVariants.{Stops, Usage, Refused, CannotRead, NoMemory}
 use Rattle.desk_app.specs.Documents.{IsDocument}
 use Rattle.desk_app.specs.Outcomes.{status_of, is_unread}
 
@@ -31,6 +31,7 @@ few_with_document (Planned answer) text is = omega (arith, (head_status answer.h
 few_with_document (Swapped swapped) text is = omega arith
 few_with_document (Replanned rest) text is = omega (arith, (head_status rest.replanned.head).low)
 few_with_document (PlannedWeek week) text is = omega (arith, (head_status week.head).low)
+few_with_document (FleetFound found) text is = omega (arith, (head_status found.fleet.head).low)
 few_with_document Stops text is = omega arith
 few_with_document Usage text is = omega arith
 few_with_document (Refused file) text is = omega arith
@@ -58,6 +59,8 @@ unread_is_five (Replanned rest) =
 unread_is_five (Swapped swapped) = inr (refl, λ five. omega (arith, five), λ six. omega (arith, six))
 unread_is_five (PlannedWeek week) =
     let low = (head_status week.head).low in inr (refl, λ five. omega (arith, low, five), λ six. omega (arith, low, six))
+unread_is_five (FleetFound found) =
+    let low = (head_status found.fleet.head).low in inr (refl, λ five. omega (arith, low, five), λ six. omega (arith, low, six))
 unread_is_five Stops = inr (refl, λ five. omega (arith, five), λ six. omega (arith, six))
 unread_is_five Usage = inr (refl, λ five. omega (arith, five), λ six. omega (arith, six))
 unread_is_five (Refused file) = inr (refl, λ five. omega (arith, five), λ six. omega (arith, six))

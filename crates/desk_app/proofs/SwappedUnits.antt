@@ -21,10 +21,10 @@ use Rattle.urgent_units.specs.declared.wish.Wish.{Wish}
 use Rattle.urgent_units.specs.Answers.{BringsMost}
 use Rattle.urgent_units.proofs.Decided.{tables_are_decided}
 use Rattle.desk_app.specs.declared.files.DeskFile.{DeskFile}
-use Rattle.desk_app.specs.declared.files.DeskFile.TheVariants.{CancelledTrips, OfDay, OfTable, UrgentUnits}
+use Rattle.desk_app.specs.declared.files.DeskFile.TheVariants.{CancelledTrips, OfDay, OfTable, Prices, UrgentUnits}
 use Rattle.desk_app.specs.declared.outcome.DeskOutcome.{DeskOutcome}
-use Rattle.desk_app.specs.declared.outcome.DeskOutcome.TheVariants.{Planned, Swapped, Replanned, PlannedWeek, Stops}
-use Rattle.desk_app.specs.declared.outcome.DeskOutcome.TheVariants.{Usage, Refused, CannotRead, NoMemory}
+use Rattle.desk_app.specs.declared.outcome.DeskOutcome.TheVariants.{Planned, Swapped, Replanned, PlannedWeek, FleetFound}
+use Rattle.desk_app.specs.declared.outcome.DeskOutcome.TheVariants.{Stops, Usage, Refused, CannotRead, NoMemory}
 use Rattle.desk_app.specs.Documents.{IsDocument, refused_line, stops_line}
 use Rattle.desk_app.specs.FileNames.{urgent_file}
 use Rattle.desk_app.specs.Outcomes.{status_of}
@@ -124,7 +124,9 @@ module _ (files : Files) (dir : List ℕ) where
       ended_by_table bytes NoMemory same says text is appends undisturbed = absurd (undisturbed.2 refl)
       ended_by_table bytes (Refused (OfTable read)) same says text is appends undisturbed = absurd says
       ended_by_table bytes (Refused (OfDay day read)) same says text is appends undisturbed = absurd says
+      ended_by_table bytes (Refused Prices) same says text is appends undisturbed = absurd says
       ended_by_table bytes (PlannedWeek week) same says text is appends undisturbed = absurd says
+      ended_by_table bytes (FleetFound found) same says text is appends undisturbed = absurd says
       ended_by_table bytes (Planned answer) same says text is appends undisturbed = absurd says
       ended_by_table bytes (Refused CancelledTrips) same says text is appends undisturbed = absurd says
       ended_by_table bytes (Replanned rest) same says text is appends undisturbed = absurd says
@@ -169,7 +171,9 @@ module _ {F : Type 0} (holds : F → Option Files) (may_fail : F → List ℕ �
   table_status inputs bytes NoMemory DidRise says = record { not_usage = λ two. omega (arith, two); unread = λ five. absurd (omega (arith, five)) }
   table_status inputs bytes (Refused (OfTable read)) DidRise says = absurd says
   table_status inputs bytes (Refused (OfDay day read)) DidRise says = absurd says
+  table_status inputs bytes (Refused Prices) DidRise says = absurd says
   table_status inputs bytes (PlannedWeek week) DidRise says = absurd says
+  table_status inputs bytes (FleetFound found) DidRise says = absurd says
   table_status inputs bytes (Planned answer) DidRise says = absurd says
   table_status inputs bytes (Refused CancelledTrips) DidRise says = absurd says
   table_status inputs bytes (Replanned rest) DidRise says = absurd says

@@ -6,11 +6,13 @@ use Rattle.day_files.specs.Texts.{refusal_file}
 use Rattle.answer_text.specs.Texts.{text_of}
 use Rattle.replan_text.specs.ReplanLines.{document_of}
 use Rattle.week_text.specs.WeekLines.{week_text}
+use Rattle.fleet_text.specs.FleetLines.{fleet_text}
 use Rattle.desk_app.specs.declared.files.DeskFile.{DeskFile}
 use Rattle.desk_app.specs.declared.files.DeskFile.TheVariants.{OfTable}
 use Rattle.desk_app.specs.declared.outcome.DeskOutcome.{DeskOutcome}
-use Rattle.desk_app.specs.declared.outcome.DeskOutcome.TheVariants.{Planned, Swapped, Replanned, PlannedWeek, Stops}
-use Rattle.desk_app.specs.declared.outcome.DeskOutcome.TheVariants.{Usage, Refused, CannotRead, NoMemory}
+use Rattle.desk_app.specs.declared.outcome.DeskOutcome.TheVariants.{Planned, Swapped, Replanned, PlannedWeek}
+use Rattle.desk_app.specs.declared.outcome.DeskOutcome.TheVariants.{FleetFound}
+use Rattle.desk_app.specs.declared.outcome.DeskOutcome.TheVariants.{Stops, Usage, Refused, CannotRead, NoMemory}
 use Rattle.desk_app.specs.FileNames.{name_of}
 use Rattle.desk_app.specs.SwapTexts.{swapped_text}
 
@@ -40,6 +42,7 @@ IsDocument (Planned answer) text = text ≡ text_of answer
 IsDocument (Swapped swapped) text = text ≡ swapped_text swapped
 IsDocument (Replanned rest) text = text ≡ document_of rest.later.numbers.items rest.replanned
 IsDocument (PlannedWeek week) text = text ≡ week_text week
+IsDocument (FleetFound found) text = text ≡ fleet_text found.types found.fleet
 IsDocument Stops text = text ≡ stops_line
 IsDocument Usage text = text ≡ usage_line
 IsDocument (Refused file) text = text ≡ refused_line file

@@ -4,12 +4,14 @@ pub mod PlanOutcomes
 pub mod SwapOutcomes
 pub mod ReplanOutcomes
 pub mod WeekOutcomes
+pub mod FleetOutcomes
 pub mod ReadErrors
--- what the files say of urgent units, of cancelled trips and of weeks
+-- what the files say of urgent units, of cancelled trips, of weeks and of prices
 pub mod FileNames
 pub mod Wished
 pub mod Cancelled
 pub mod WeekDays
+pub mod Priced
 -- its document, and the status that it ends with
 pub mod Documents
 pub mod SwapTexts
@@ -17,5 +19,6 @@ pub mod Statuses
 pub mod SwapEndings
 pub mod ReplanEndings
 pub mod WeekEndings
+pub mod FleetEndings
 -- how far a search has come, in words
 pub mod ProgressTexts

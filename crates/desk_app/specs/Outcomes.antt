@@ -4,14 +4,17 @@ use Rattle.rail_io.specs.Folders.{Files}
 use Rattle.answer_check.specs.Headline.{status_said}
 use Rattle.desk_commands.specs.declared.command.Command.{Command}
 use Rattle.desk_commands.specs.declared.command.Command.TheVariants as command
+use Rattle.desk_commands.specs.declared.fleet_planning.FleetPlanning.{FleetPlanning}
 use Rattle.desk_commands.specs.declared.planning.Planning.{Planning}
 use Rattle.desk_commands.specs.declared.replanning.Replanning.{Replanning}
 use Rattle.desk_commands.specs.declared.swapping.Swapping.{Swapping}
 use Rattle.desk_commands.specs.declared.week_planning.WeekPlanning.{WeekPlanning}
 use Rattle.desk_commands.specs.PlainForm.{IsPlainForm}
 use Rattle.desk_app.specs.declared.outcome.DeskOutcome.{DeskOutcome}
-use Rattle.desk_app.specs.declared.outcome.DeskOutcome.TheVariants.{Planned, Swapped, Replanned, PlannedWeek, Stops}
-use Rattle.desk_app.specs.declared.outcome.DeskOutcome.TheVariants.{Usage, Refused, CannotRead, NoMemory}
+use Rattle.desk_app.specs.declared.outcome.DeskOutcome.TheVariants.{Planned, Swapped, Replanned, PlannedWeek}
+use Rattle.desk_app.specs.declared.outcome.DeskOutcome.TheVariants.{FleetFound}
+use Rattle.desk_app.specs.declared.outcome.DeskOutcome.TheVariants.{Stops, Usage, Refused, CannotRead, NoMemory}
+use Rattle.desk_app.specs.FleetOutcomes.{IsFleetOutcome}
 use Rattle.desk_app.specs.PlanOutcomes.{IsPlanOutcome}
 use Rattle.desk_app.specs.ReplanOutcomes.{IsReplanOutcome}
 use Rattle.desk_app.specs.SwapOutcomes.{IsSwapOutcome}
@@ -35,6 +38,10 @@ AskToReplan words replanning = IsPlainForm words (command.Replan replanning)
 abbrev pub AskForWeek : List (List ℕ) → WeekPlanning → Type 0
 AskForWeek words planning = IsPlainForm words (command.Week planning)
 
+-- to find the fleet of least cost
+abbrev pub AskForFleet : List (List ℕ) → FleetPlanning → Type 0
+AskForFleet words planning = IsPlainForm words (command.Fleet planning)
+
 -- the words are the plain form of no command
 abbrev pub AskInVain : List (List ℕ) → Type 0
 AskInVain words = (named : Command) → ¬ IsPlainForm words named
@@ -52,6 +59,8 @@ ComesTo holds may_fail faults taken (command.Replan replanning) before after out
     IsReplanOutcome holds may_fail faults taken replanning before after outcome
 ComesTo holds may_fail faults taken (command.Week planning) before after outcome =
     IsWeekOutcome holds may_fail faults taken planning before after outcome
+ComesTo holds may_fail faults taken (command.Fleet planning) before after outcome =
+    IsFleetOutcome holds may_fail faults taken planning before after outcome
 
 -- A run of these words comes to this: their command came to it; or they ask for no command, and are not understood; or
 -- memory ran out before they were read.
@@ -71,6 +80,7 @@ status_of (Planned answer) = status_said answer.head
 status_of (Swapped swapped) = 0
 status_of (Replanned rest) = status_said rest.replanned.head
 status_of (PlannedWeek week) = status_said week.head
+status_of (FleetFound found) = status_said found.fleet.head
 status_of Stops = 1
 status_of Usage = 2
 status_of (Refused file) = 3

@@ -19,6 +19,8 @@ pub enum DeskFile {
     UrgentUnits,
     /// The table of cancelled trips.
     CancelledTrips,
+    /// The table of prices.
+    Prices,
     /// The file of a table of the day of this number, of a week.
     OfDay(u32, Table),
 }
@@ -28,6 +30,9 @@ pub(crate) const URGENT_FILE: &str = "urgent.csv";
 
 /// That of the table of cancelled trips.
 pub(crate) const CANCELLED_FILE: &str = "cancelled.csv";
+
+/// That of the table of prices.
+pub(crate) const PRICES_FILE: &str = "fleet.csv";
 
 impl DeskFile {
     /// The name of the file, without the folder; that of a day of a week is its path below the folder of the week, as
@@ -39,6 +44,7 @@ impl DeskFile {
             DeskFile::OfTable(table) => Ok(String::from_str(alloc, file_name(*table))?),
             DeskFile::UrgentUnits => Ok(String::from_str(alloc, URGENT_FILE)?),
             DeskFile::CancelledTrips => Ok(String::from_str(alloc, CANCELLED_FILE)?),
+            DeskFile::Prices => Ok(String::from_str(alloc, PRICES_FILE)?),
             DeskFile::OfDay(day, table) => name_on_day(alloc, *day, *table),
         }
     }

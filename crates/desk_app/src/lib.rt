@@ -4,6 +4,7 @@
 
 pub mod document;
 pub mod files;
+mod fleet_finding;
 pub mod outcome;
 mod planning;
 pub mod progress;
@@ -15,6 +16,6 @@ mod top;
 mod week_planning;
 
 pub use files::DeskFile;
-pub use outcome::{DeskOutcome, PlannedRest};
+pub use outcome::{DeskOutcome, FoundFleet, PlannedRest};
 pub use progress::ProgressLines;
 pub use top::{raildesk, raildesk_watched};

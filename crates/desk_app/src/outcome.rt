@@ -8,6 +8,7 @@ use crate::files::DeskFile;
 use answer_text::Answer;
 use cancellations::Later;
 use day_files::ReadError;
+use fleet_check::Fleet;
 use rail_csv::Table;
 use replan::Replanned;
 use run_documents::status_said;
@@ -26,6 +27,15 @@ pub struct PlannedRest {
     pub replanned: Replanned,
 }
 
+/// The fleet of least cost for a day, as it was found.
+#[derive(Drop)]
+pub struct FoundFleet {
+    /// How many types the day has.
+    pub types: u32,
+    /// The fleet and its plan, and what is said of all fleets with the boxes that prove it.
+    pub fleet: Fleet,
+}
+
 /// What a run comes to: the document that it writes and the status that it ends with follow from it.
 #[derive(Drop)]
 pub enum DeskOutcome {
@@ -38,6 +48,8 @@ pub enum DeskOutcome {
     Replanned(PlannedRest),
     /// The days of a week are planned, and this is the answer to it.
     PlannedWeek(Week),
+    /// The fleet of least cost is found, or the best within what was granted.
+    FleetFound(FoundFleet),
     /// The plan doesn't run.
     Stops,
     /// The words are not understood.
@@ -124,6 +136,7 @@ impl DeskOutcome {
             DeskOutcome::Swapped(_) => SUCCESS,
             DeskOutcome::Replanned(rest) => status_said(rest.replanned.head),
             DeskOutcome::PlannedWeek(week) => status_said(week.head),
+            DeskOutcome::FleetFound(found) => status_said(found.fleet.head),
             DeskOutcome::Stops => FAILURE,
             DeskOutcome::Usage => USAGE,
             DeskOutcome::Refused(_) => REFUSED,

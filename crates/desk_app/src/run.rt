@@ -7,6 +7,7 @@ ghost use Rattle.desk_commands.specs.PlainForm.{IsPlainForm};
 ghost use Rattle.desk_app.specs.Outcomes.{AskInVain, IsOutcome, is_unread};
 ghost use Rattle.desk_app.specs.Statuses.{AreAskedFor, LeavesAdvisors, rounds_of};
 
+use crate::fleet_finding::found_fleet;
 use crate::outcome::DeskOutcome;
 use crate::planning::planned;
 use crate::replanning::replanned;
@@ -50,6 +51,7 @@ pub(crate) fn outcome_of<F: Folder, W: Watcher>(
         Ok(Command::Urgent(swapping)) => swapped(alloc, folder, swapping.dir.as_str()),
         Ok(Command::Replan(replanning)) => replanned(alloc, folder, &replanning, advisors),
         Ok(Command::Week(planning)) => planned_week(alloc, folder, &planning, advisors),
+        Ok(Command::Fleet(planning)) => found_fleet(alloc, folder, &planning, advisors),
         Err(WordsRefusal::NotUnderstood) => DeskOutcome::Usage,
         Err(WordsRefusal::NoMemory) => DeskOutcome::NoMemory,
     }

@@ -5,6 +5,7 @@ ghost use Rattle.rail_io.specs.Folders.{Files, faults_after};
 ghost use Rattle.statuses.specs.Written.{CountsFailedWrites, IsStatus, IsUndisturbed};
 ghost use Rattle.run_documents.specs.Planning.{EndsPlanning};
 ghost use Rattle.desk_commands.specs.declared.command.Command.{Command};
+ghost use Rattle.desk_commands.specs.declared.fleet_planning.FleetPlanning.{FleetPlanning};
 ghost use Rattle.desk_commands.specs.declared.planning.Planning.{Planning};
 ghost use Rattle.desk_commands.specs.declared.replanning.Replanning.{Replanning};
 ghost use Rattle.desk_commands.specs.declared.swapping.Swapping.{Swapping};
@@ -12,7 +13,9 @@ ghost use Rattle.desk_commands.specs.declared.week_planning.WeekPlanning.{WeekPl
 ghost use Rattle.desk_commands.specs.PlainForm.{IsPlainForm};
 ghost use Rattle.desk_app.specs.declared.outcome.DeskOutcome.{DeskOutcome};
 ghost use Rattle.desk_app.specs.Documents.{table_refused_line};
-ghost use Rattle.desk_app.specs.Outcomes.{AskForWeek, AskToPlan, AskToReplan, AskToSwap, IsOutcome, is_unread};
+ghost use Rattle.desk_app.specs.FleetEndings.{EndsFleet};
+ghost use Rattle.desk_app.specs.Outcomes.{AskForFleet, AskForWeek, AskToPlan, AskToReplan, AskToSwap, IsOutcome};
+ghost use Rattle.desk_app.specs.Outcomes.{is_unread};
 ghost use Rattle.desk_app.specs.ReplanEndings.{EndsReplanning};
 ghost use Rattle.desk_app.specs.Statuses.{AreAskedFor, EndsInUsage, LeavesAdvisors, LeavesFolder};
 ghost use Rattle.desk_app.specs.Statuses.{LeavesSink, WroteOutcome, rounds_of};
@@ -67,11 +70,18 @@ fn write_outcome<K: Sink>(alloc: Global, outcome: DeskOutcome, out: &mut K) -> u
 ///   each by a search of its own, with N, K and E as in `replan`, and writes the answers to the days and what they say
 ///   together of all week plans, whose units keep their numbers all week; and where there is a plan, which unit of the
 ///   week each unit of a day is.
+/// - `fleet DIR --nodes N --rounds K --splits S --evaluations E` reads `fleet.csv` as well: what a unit of each type
+///   costs. A fleet says how many units of each type stand at each station, in the morning and again in the evening, at
+///   most as many as the day's stock has in the morning. It looks for the fleet that costs the least together with a
+///   plan. For that it splits the fleets S times at most, 50 times where no S is given, and plans a day for each part
+///   by a search of at most N branchings, 50 where no N is given, with K and E as in `replan`. It writes the fleet and
+///   the plan. What it says of the price is true of all fleets and all their plans; where more splits or branchings are
+///   wanted than were granted, it writes the parts of the fleets with the trees that prove it.
 ///
 /// The statuses:
 ///
 /// - 0 comes exactly where the files that the command reads are accepted, and the answer found is optimal, to the day
-///   or to the rest of it or to the week, or the plan runs whose units are to be swapped.
+///   or to the rest of it or to the week or of all fleets, or the plan runs whose units are to be swapped.
 /// - 1 comes exactly where the tables are accepted and the answer found is infeasible, or where they and the plan are
 ///   accepted and the plan doesn't run: then the line `stops` is written, and no file is read after that of the plan.
 /// - 2 comes exactly where the words are no command; the line `usage` is written.
@@ -79,7 +89,7 @@ fn write_outcome<K: Sink>(alloc: Global, outcome: DeskOutcome, out: &mut K) -> u
 ///   file of the day which doesn't go on from the day before, as `2/stock.csv`, or the trips of the day before, where
 ///   one of them is late.
 /// - 4 comes exactly where the tables are accepted, and the answer found is bounded: all granted branchings were made,
-///   and a leaf is open.
+///   or all granted splits, and a leaf is open.
 /// - 5 comes only where the folder's count of faults rose in this call, or stands at its last value, 2^64 - 1; the line
 ///   `cannot read FILE` is written.
 /// - 6 comes only where the sink's count of faults rose in this call, or stands there; a front of the document was
@@ -102,8 +112,8 @@ pub fn raildesk<F: Folder, K: Sink>(
 ) -> u8
     requires asked { All (λ advisor. asked advisor ≤ 2 ^ 62) advisors.old.items }
 
-    // The headline, how units are swapped, how the rest of a day and how a week is planned, and the status of words
-    // that are no command, where the status is none of 5, 6 and 7.
+    // The headline, how units are swapped, how the rest of a day and how a week is planned, how a fleet is found, and
+    // the status of words that are no command, where the status is none of 5, 6 and 7.
     ensures plan { (files : Files) (planning : Planning) → F.holds folder.old ≡ Some files
         → AskToPlan words.now planning → IsUndisturbed result
         → EndsPlanning table_refused_line files planning.dir planning.nodes result (K.written out.old)
@@ -117,6 +127,9 @@ pub fn raildesk<F: Folder, K: Sink>(
     ensures week { (files : Files) (planning : WeekPlanning) → F.holds folder.old ≡ Some files
         → AskForWeek words.now planning → IsUndisturbed result
         → EndsWeek files planning result (K.written out.old) (K.written out.new) }
+    ensures fleet { (files : Files) (planning : FleetPlanning) → F.holds folder.old ≡ Some files
+        → AskForFleet words.now planning → IsUndisturbed result
+        → EndsFleet files planning result (K.written out.old) (K.written out.new) }
     ensures usage { IsUndisturbed result → EndsInUsage words.now result (K.written out.old) (K.written out.new) }
     ensures statuses { IsStatus result }
 
@@ -152,8 +165,8 @@ pub fn raildesk_watched<F: Folder, K: Sink, W: Watcher>(
 ) -> u8
     requires asked { All (λ advisor. asked advisor ≤ 2 ^ 62) advisors.old.items }
 
-    // The headline, how units are swapped, how the rest of a day and how a week is planned, and the status of words
-    // that are no command, where the status is none of 5, 6 and 7.
+    // The headline, how units are swapped, how the rest of a day and how a week is planned, how a fleet is found, and
+    // the status of words that are no command, where the status is none of 5, 6 and 7.
     ensures plan { (files : Files) (planning : Planning) → F.holds folder.old ≡ Some files
         → AskToPlan words.now planning → IsUndisturbed result
         → EndsPlanning table_refused_line files planning.dir planning.nodes result (K.written out.old)
@@ -167,6 +180,9 @@ pub fn raildesk_watched<F: Folder, K: Sink, W: Watcher>(
     ensures week { (files : Files) (planning : WeekPlanning) → F.holds folder.old ≡ Some files
         → AskForWeek words.now planning → IsUndisturbed result
         → EndsWeek files planning result (K.written out.old) (K.written out.new) }
+    ensures fleet { (files : Files) (planning : FleetPlanning) → F.holds folder.old ≡ Some files
+        → AskForFleet words.now planning → IsUndisturbed result
+        → EndsFleet files planning result (K.written out.old) (K.written out.new) }
     ensures usage { IsUndisturbed result → EndsInUsage words.now result (K.written out.old) (K.written out.new) }
     ensures statuses { IsStatus result }
 

@@ -8,7 +8,11 @@ use Rattle.plain_words.specs.Numbers.{IsOption}
 use Rattle.plain_words.specs.Reading.{items_from}
 use Rattle.plain_words.proofs.Made.{taken}
 use Rattle.desk_commands.specs.declared.command.Command.{Command}
-use Rattle.desk_commands.specs.declared.command.Command.TheVariants.{Plan, Replan, Urgent, Week}
+use Rattle.desk_commands.specs.declared.command.Command.TheVariants.{Fleet, Plan, Replan, Urgent, Week}
+use Rattle.desk_commands.specs.declared.fleet_planning.FleetPlanning.{FleetPlanning}
+use Rattle.desk_commands.specs.declared.fleet_planning.TheConstants.{MAX_NODES_OF_FLEET, MAX_SPLITS_OF_FLEET}
+use Rattle.desk_commands.specs.declared.fleet_planning.TheConstants.{USUAL_EVALUATIONS_OF_FLEET, USUAL_NODES_OF_FLEET}
+use Rattle.desk_commands.specs.declared.fleet_planning.TheConstants.{USUAL_ROUNDS_OF_FLEET, USUAL_SPLITS_OF_FLEET}
 use Rattle.desk_commands.specs.declared.planning.Planning.{Planning}
 use Rattle.desk_commands.specs.declared.planning.TheConstants.{MAX_EVALUATIONS, USUAL_EVALUATIONS_OF_PLAN}
 use Rattle.desk_commands.specs.declared.planning.TheConstants.{USUAL_NODES_OF_PLAN, USUAL_ROUNDS_OF_PLAN}
@@ -19,7 +23,7 @@ use Rattle.desk_commands.specs.declared.swapping.Swapping.{Swapping}
 use Rattle.desk_commands.specs.declared.week_planning.WeekPlanning.{WeekPlanning}
 use Rattle.desk_commands.specs.declared.week_planning.TheConstants.{MAX_DAYS_OF_WEEK, USUAL_EVALUATIONS_OF_WEEK}
 use Rattle.desk_commands.specs.declared.week_planning.TheConstants.{USUAL_NODES_OF_WEEK, USUAL_ROUNDS_OF_WEEK}
-use Rattle.desk_commands.specs.PlainForm.{IsMeant, IsPlainForm, IsPlanning, IsReplanning, IsSwapping, IsWeekPlanning}
+use Rattle.desk_commands.specs.PlainForm.{IsFleetPlanning, IsMeant, IsPlainForm, IsPlanning, IsReplanning, IsSwapping, IsWeekPlanning}
 use Rattle.desk_commands.specs.PlainForm.{command_word, form_for}
 
 -- words are of a form as one list of items at most
@@ -105,12 +109,30 @@ one_week_planning_of items one other first second =
     (one_number USUAL_EVALUATIONS_OF_WEEK MAX_EVALUATIONS (values_in (codes "--evaluations") items) one.evaluations other.evaluations
     first.evaluations second.evaluations)
 
+-- and the plannings of fleets of equal parts
+fleets_alike : (d d' : List ℕ) (n n' k k' s s' e e' : ℕ) → d ≡ d' → n ≡ n' → k ≡ k' → s ≡ s' → e ≡ e'
+    → ◌≡◌ {A = FleetPlanning} (record { dir = d; nodes = n; rounds = k; splits = s; evaluations = e })
+    (record { dir = d'; nodes = n'; rounds = k'; splits = s'; evaluations = e' })
+fleets_alike d d' n n' k k' s s' e e' dirs nodes rounds splits evaluations = cc
+
+one_fleet_planning_of : (items : List Item) (one other : FleetPlanning) → IsFleetPlanning items one → IsFleetPlanning items other → one ≡ other
+one_fleet_planning_of items one other first second =
+    let dirs : ◌≡◌ {A = List (List ℕ)} (one.dir ∷ []) (other.dir ∷ []) = sym first.dir ∙ second.dir in
+    let dir : one.dir ≡ other.dir = cc in
+    fleets_alike one.dir other.dir one.nodes other.nodes one.rounds other.rounds one.splits other.splits one.evaluations other.evaluations dir
+    (one_number USUAL_NODES_OF_FLEET MAX_NODES_OF_FLEET (values_in (codes "--nodes") items) one.nodes other.nodes first.nodes second.nodes)
+    (one_number USUAL_ROUNDS_OF_FLEET MAX_ROUNDS (values_in (codes "--rounds") items) one.rounds other.rounds first.rounds second.rounds)
+    (one_number USUAL_SPLITS_OF_FLEET MAX_SPLITS_OF_FLEET (values_in (codes "--splits") items) one.splits other.splits first.splits second.splits)
+    (one_number USUAL_EVALUATIONS_OF_FLEET MAX_EVALUATIONS (values_in (codes "--evaluations") items) one.evaluations other.evaluations
+    first.evaluations second.evaluations)
+
 -- two commands of one kind
 data AreOfOneKind : Command → Command → Type 0 where
   BothPlan : {one other : Planning} → AreOfOneKind (Plan one) (Plan other)
   BothUrgent : {one other : Swapping} → AreOfOneKind (Urgent one) (Urgent other)
   BothReplan : {one other : Replanning} → AreOfOneKind (Replan one) (Replan other)
   BothWeek : {one other : WeekPlanning} → AreOfOneKind (Week one) (Week other)
+  BothFleet : {one other : FleetPlanning} → AreOfOneKind (Fleet one) (Fleet other)
 
 -- words that differ in their first letters differ
 letters : (one other : List ℕ) → one ≡ other → get_or one 0 0 ≡ get_or other 0 0
@@ -134,6 +156,15 @@ one_kind (Week one) (Plan other) words = absurd (omega (arith, letters (codes "w
 one_kind (Week one) (Urgent other) words = absurd (omega (arith, letters (codes "week") (codes "urgent") words))
 one_kind (Week one) (Replan other) words = absurd (omega (arith, letters (codes "week") (codes "replan") words))
 one_kind (Week one) (Week other) words = BothWeek
+one_kind (Plan one) (Fleet other) words = absurd (omega (arith, letters (codes "plan") (codes "fleet") words))
+one_kind (Urgent one) (Fleet other) words = absurd (omega (arith, letters (codes "urgent") (codes "fleet") words))
+one_kind (Replan one) (Fleet other) words = absurd (omega (arith, letters (codes "replan") (codes "fleet") words))
+one_kind (Week one) (Fleet other) words = absurd (omega (arith, letters (codes "week") (codes "fleet") words))
+one_kind (Fleet one) (Plan other) words = absurd (omega (arith, letters (codes "fleet") (codes "plan") words))
+one_kind (Fleet one) (Urgent other) words = absurd (omega (arith, letters (codes "fleet") (codes "urgent") words))
+one_kind (Fleet one) (Replan other) words = absurd (omega (arith, letters (codes "fleet") (codes "replan") words))
+one_kind (Fleet one) (Week other) words = absurd (omega (arith, letters (codes "fleet") (codes "week") words))
+one_kind (Fleet one) (Fleet other) words = BothFleet
 
 -- items mean one command of a kind at most
 one_meant : {one other : Command} (items : List Item) → AreOfOneKind one other → IsMeant items one → IsMeant items other → one ≡ other
@@ -141,6 +172,7 @@ one_meant items BothPlan first second = ap Plan (one_planning_of items _ _ first
 one_meant items (BothUrgent {one} {other}) first second = ap Urgent (one_swapping_of items one other first second)
 one_meant items BothReplan first second = ap Replan (one_replanning_of items _ _ first second)
 one_meant items BothWeek first second = ap Week (one_week_planning_of items _ _ first second)
+one_meant items BothFleet first second = ap Fleet (one_fleet_planning_of items _ _ first second)
 
 -- commands of one kind have one form
 one_form : {one other : Command} → AreOfOneKind one other → form_for one ≡ form_for other
@@ -148,6 +180,7 @@ one_form BothPlan = refl
 one_form BothUrgent = refl
 one_form BothReplan = refl
 one_form BothWeek = refl
+one_form BothFleet = refl
 
 pub one_command : (words : WordList) (one other : Command) → IsPlainForm words one → IsPlainForm words other → one ≡ other
 one_command words one other first second =
@@ -178,6 +211,10 @@ one_replanning words one other first second =
 pub one_week_planning : (words : WordList) (one other : WeekPlanning) → IsPlainForm words (Week one) → IsPlainForm words (Week other) → one ≡ other
 one_week_planning words one other first second =
     let both : Week one ≡ Week other = one_command words (Week one) (Week other) first second in cc
+
+pub one_fleet_planning : (words : WordList) (one other : FleetPlanning) → IsPlainForm words (Fleet one) → IsPlainForm words (Fleet other) → one ≡ other
+one_fleet_planning words one other first second =
+    let both : Fleet one ≡ Fleet other = one_command words (Fleet one) (Fleet other) first second in cc
 
 -- ---- what may be granted
 
@@ -219,3 +256,18 @@ pub week_rounds_within : (words : WordList) (planning : WeekPlanning) → IsPlai
     → planning.rounds ≤ MAX_ROUNDS
 week_rounds_within words planning form =
     number_within USUAL_ROUNDS_OF_WEEK MAX_ROUNDS _ planning.rounds (omega arith) form.meant.rounds
+
+pub fleet_nodes_within : (words : WordList) (planning : FleetPlanning) → IsPlainForm words (Fleet planning)
+    → planning.nodes ≤ MAX_NODES_OF_FLEET
+fleet_nodes_within words planning form =
+    number_within USUAL_NODES_OF_FLEET MAX_NODES_OF_FLEET _ planning.nodes (omega arith) form.meant.nodes
+
+pub fleet_rounds_within : (words : WordList) (planning : FleetPlanning) → IsPlainForm words (Fleet planning)
+    → planning.rounds ≤ MAX_ROUNDS
+fleet_rounds_within words planning form =
+    number_within USUAL_ROUNDS_OF_FLEET MAX_ROUNDS _ planning.rounds (omega arith) form.meant.rounds
+
+pub fleet_splits_within : (words : WordList) (planning : FleetPlanning) → IsPlainForm words (Fleet planning)
+    → planning.splits ≤ MAX_SPLITS_OF_FLEET
+fleet_splits_within words planning form =
+    number_within USUAL_SPLITS_OF_FLEET MAX_SPLITS_OF_FLEET _ planning.splits (omega arith) form.meant.splits

@@ -3,6 +3,9 @@ use Rattle.std.specs.Prelude.{◌≡◌}
 use Rattle.rail_base.specs.declared.limits.TheConstants.{MAX_BRANCHINGS, MAX_CHANGE, MAX_ROUNDS}
 use Rattle.plain_words.specs.Items.{WordList}
 use Rattle.desk_commands.specs.declared.command.Command.{Command}
+use Rattle.desk_commands.specs.declared.fleet_planning.TheConstants.{MAX_NODES_OF_FLEET, MAX_SPLITS_OF_FLEET}
+use Rattle.desk_commands.specs.declared.fleet_planning.TheConstants.{USUAL_EVALUATIONS_OF_FLEET, USUAL_NODES_OF_FLEET}
+use Rattle.desk_commands.specs.declared.fleet_planning.TheConstants.{USUAL_ROUNDS_OF_FLEET, USUAL_SPLITS_OF_FLEET}
 use Rattle.desk_commands.specs.declared.planning.TheConstants.{MAX_EVALUATIONS, USUAL_EVALUATIONS_OF_PLAN}
 use Rattle.desk_commands.specs.declared.planning.TheConstants.{USUAL_NODES_OF_PLAN, USUAL_ROUNDS_OF_PLAN}
 use Rattle.desk_commands.specs.declared.replanning.TheConstants.{USUAL_CHANGE, USUAL_EVALUATIONS_OF_REPLAN}
@@ -33,3 +36,9 @@ pub record AreWordLimits : Type 0 where
   pub usual_nodes_of_week : USUAL_NODES_OF_WEEK ≡ 200
   pub usual_rounds_of_week : USUAL_ROUNDS_OF_WEEK ≡ 20
   pub usual_evaluations_of_week : USUAL_EVALUATIONS_OF_WEEK ≡ 0
+  pub nodes_of_fleet : MAX_NODES_OF_FLEET ≡ 200
+  pub splits_of_fleet : MAX_SPLITS_OF_FLEET ≡ 200
+  pub usual_nodes_of_fleet : USUAL_NODES_OF_FLEET ≡ 50
+  pub usual_rounds_of_fleet : USUAL_ROUNDS_OF_FLEET ≡ 20
+  pub usual_splits_of_fleet : USUAL_SPLITS_OF_FLEET ≡ 50
+  pub usual_evaluations_of_fleet : USUAL_EVALUATIONS_OF_FLEET ≡ 0

@@ -5,7 +5,11 @@ use Rattle.rail_csv.specs.Spelling.{SpellsTime}
 use Rattle.plain_words.specs.Items.{Form, IsPlain, Item, WordList, positional_in, times, values_in}
 use Rattle.plain_words.specs.Numbers.{IsNumber, IsOption}
 use Rattle.desk_commands.specs.declared.command.Command.{Command}
-use Rattle.desk_commands.specs.declared.command.Command.TheVariants.{Plan, Replan, Urgent, Week}
+use Rattle.desk_commands.specs.declared.command.Command.TheVariants.{Fleet, Plan, Replan, Urgent, Week}
+use Rattle.desk_commands.specs.declared.fleet_planning.FleetPlanning.{FleetPlanning}
+use Rattle.desk_commands.specs.declared.fleet_planning.TheConstants.{MAX_NODES_OF_FLEET, MAX_SPLITS_OF_FLEET}
+use Rattle.desk_commands.specs.declared.fleet_planning.TheConstants.{USUAL_EVALUATIONS_OF_FLEET, USUAL_NODES_OF_FLEET}
+use Rattle.desk_commands.specs.declared.fleet_planning.TheConstants.{USUAL_ROUNDS_OF_FLEET, USUAL_SPLITS_OF_FLEET}
 use Rattle.desk_commands.specs.declared.planning.Planning.{Planning}
 use Rattle.desk_commands.specs.declared.planning.TheConstants.{MAX_EVALUATIONS, USUAL_EVALUATIONS_OF_PLAN}
 use Rattle.desk_commands.specs.declared.planning.TheConstants.{USUAL_NODES_OF_PLAN, USUAL_ROUNDS_OF_PLAN}
@@ -46,11 +50,20 @@ week_form = record {
   flags = [];
 }
 
+-- a folder and options
+abbrev pub fleet_form : Form
+fleet_form = record {
+  places = 1;
+  valued = codes "--nodes" ∷ codes "--rounds" ∷ codes "--splits" ∷ codes "--evaluations" ∷ [];
+  flags = [];
+}
+
 abbrev pub form_for : Command → Form
 form_for (Plan planning) = plan_form
 form_for (Urgent swapping) = folder_form
 form_for (Replan replanning) = replan_form
 form_for (Week planning) = week_form
+form_for (Fleet planning) = fleet_form
 
 -- ---- what it says
 
@@ -89,11 +102,21 @@ pub record IsWeekPlanning (items : List Item) (planning : WeekPlanning) : Type 0
   pub evaluations : IsOption USUAL_EVALUATIONS_OF_WEEK MAX_EVALUATIONS (values_in (codes "--evaluations") items)
       planning.evaluations
 
+-- how the fleet of least cost is to be found: the folder of its day, and what is granted
+pub record IsFleetPlanning (items : List Item) (planning : FleetPlanning) : Type 0 where
+  pub dir : positional_in items ≡ planning.dir ∷ []
+  pub nodes : IsOption USUAL_NODES_OF_FLEET MAX_NODES_OF_FLEET (values_in (codes "--nodes") items) planning.nodes
+  pub rounds : IsOption USUAL_ROUNDS_OF_FLEET MAX_ROUNDS (values_in (codes "--rounds") items) planning.rounds
+  pub splits : IsOption USUAL_SPLITS_OF_FLEET MAX_SPLITS_OF_FLEET (values_in (codes "--splits") items) planning.splits
+  pub evaluations : IsOption USUAL_EVALUATIONS_OF_FLEET MAX_EVALUATIONS (values_in (codes "--evaluations") items)
+      planning.evaluations
+
 abbrev pub IsMeant : List Item → Command → Type 0
 IsMeant items (Plan planning) = IsPlanning items planning
 IsMeant items (Urgent swapping) = IsSwapping items swapping
 IsMeant items (Replan replanning) = IsReplanning items replanning
 IsMeant items (Week planning) = IsWeekPlanning items planning
+IsMeant items (Fleet planning) = IsFleetPlanning items planning
 
 -- ---- the command
 
@@ -102,6 +125,7 @@ command_word (Plan planning) = codes "plan"
 command_word (Urgent swapping) = codes "urgent"
 command_word (Replan replanning) = codes "replan"
 command_word (Week planning) = codes "week"
+command_word (Fleet planning) = codes "fleet"
 
 -- The words are the plain form of the command: any word for the program's name, the command word, and after it words of
 -- the command's form, which mean it.

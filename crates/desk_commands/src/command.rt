@@ -1,5 +1,6 @@
 //! The commands of the planner's desk.
 
+use crate::fleet_planning::FleetPlanning;
 use crate::planning::Planning;
 use crate::replanning::Replanning;
 use crate::swapping::Swapping;
@@ -16,4 +17,6 @@ pub enum Command {
     Replan(Replanning),
     /// Plan the days of a week, each in a folder of its own.
     Week(WeekPlanning),
+    /// Find the fleet of least cost for the day of a folder, and a plan with it.
+    Fleet(FleetPlanning),
 }

@@ -2,6 +2,7 @@
 #![tactic(auto)]
 
 pub mod command;
+pub mod fleet_planning;
 pub mod laws;
 pub mod planning;
 pub mod reading;
@@ -10,6 +11,7 @@ pub mod swapping;
 pub mod week_planning;
 
 pub use command::Command;
+pub use fleet_planning::FleetPlanning;
 pub use planning::Planning;
 pub use reading::read_words;
 pub use replanning::Replanning;

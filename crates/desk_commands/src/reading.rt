@@ -3,11 +3,16 @@
 ghost use Rattle.std.specs.Prelude.{ℕ, List, ◌≡◌, ◌≤◌, IfOk, codes, length, map};
 ghost use Rattle.plain_words.specs.Commands.{Reads};
 ghost use Rattle.plain_words.specs.Items.{positional_in, times};
-ghost use Rattle.desk_commands.specs.PlainForm.{IsPlainForm, IsPlanning, IsReplanning, IsSwapping, IsWeekPlanning};
-ghost use Rattle.desk_commands.specs.PlainForm.{folder_form, plan_form, replan_form, week_form};
+ghost use Rattle.desk_commands.specs.PlainForm.{IsFleetPlanning, IsPlainForm, IsPlanning, IsReplanning, IsSwapping};
+ghost use Rattle.desk_commands.specs.PlainForm.{IsWeekPlanning, fleet_form, folder_form, plan_form, replan_form};
+ghost use Rattle.desk_commands.specs.PlainForm.{week_form};
 ghost use Rattle.desk_commands.specs.Reading.{ReadsAs, ReadsCommand, SaysAs};
 
 use crate::command::Command;
+use crate::fleet_planning::{
+    FleetPlanning, MAX_NODES_OF_FLEET, MAX_SPLITS_OF_FLEET, USUAL_EVALUATIONS_OF_FLEET,
+    USUAL_NODES_OF_FLEET, USUAL_ROUNDS_OF_FLEET, USUAL_SPLITS_OF_FLEET,
+};
 use crate::planning::{
     MAX_EVALUATIONS, Planning, USUAL_EVALUATIONS_OF_PLAN, USUAL_NODES_OF_PLAN, USUAL_ROUNDS_OF_PLAN,
 };
@@ -40,6 +45,8 @@ use std::alloc::Global;
 ///   most 4,000, and else 200; K is at most 100, and else 20; E is at most 100,000, and else 0.
 /// - `week DIR DAYS [--nodes N] [--rounds K] [--evaluations E]`. DAYS is a number from 1 to 7; N is at most 4,000, and
 ///   200 where it is not given; K is at most 100, and else 20; E is at most 100,000, and else 0.
+/// - `fleet DIR [--nodes N] [--rounds K] [--splits S] [--evaluations E]`. N is at most 200, and 50 where it is not
+///   given; K is at most 100, and else 20; S is at most 200, and else 50; E is at most 100,000, and else 0.
 ///
 /// `NotUnderstood` comes exactly where the words are not of this form; `NoMemory` is want of memory.
 pub fn read_words(alloc: Global, words: &Words) -> Result<Command, WordsRefusal>
@@ -61,6 +68,7 @@ fn command_of(alloc: Global, word: &str, rest: &[&str]) -> Result<Command, Words
         "urgent" => urgent(alloc, rest),
         "replan" => replan(alloc, rest),
         "week" => week(alloc, rest),
+        "fleet" => fleet(alloc, rest),
         _ => Err(WordsRefusal::NotUnderstood),
     }
 }
@@ -101,6 +109,16 @@ fn week(alloc: Global, rest: &[&str]) -> Result<Command, WordsRefusal>
 {
     match week_planning(alloc, rest)? {
         Some(planning) => Ok(Command::Week(planning)),
+        None => Err(WordsRefusal::NotUnderstood),
+    }
+}
+
+/// The command `fleet` of the words after it.
+fn fleet(alloc: Global, rest: &[&str]) -> Result<Command, WordsRefusal>
+    ensures { ReadsCommand (codes "fleet") (map (λ word. word.now) rest.now) result }
+{
+    match fleet_planning(alloc, rest)? {
+        Some(planning) => Ok(Command::Fleet(planning)),
         None => Err(WordsRefusal::NotUnderstood),
     }
 }
@@ -283,6 +301,58 @@ fn week_planning_of(alloc: Global, given: &GivenWords<'_>) -> Result<Option<Week
         days,
         nodes,
         rounds: rounds as u8,
+        evaluations,
+    }))
+}
+
+/// How the fleet of least cost is to be found, by the words after `fleet`; nothing where they are not of its form. The
+/// error is want of memory.
+fn fleet_planning(alloc: Global, rest: &[&str]) -> Result<Option<FleetPlanning>, NoMemory>
+    ensures { IfOk result (ReadsAs fleet_form IsFleetPlanning (map (λ word. word.now) rest.now)) }
+{
+    let form = Form {
+        places: 1,
+        valued: &["--nodes", "--rounds", "--splits", "--evaluations"],
+        flags: &[],
+    };
+    let Some(given) = read_form(alloc, &form, rest)? else {
+        return Ok(None);
+    };
+    fleet_planning_of(alloc, &given)
+}
+
+/// How the fleet of least cost is to be found, by words that were taken apart; nothing where a number is none or over
+/// its limit. The error is want of memory.
+fn fleet_planning_of(
+    alloc: Global,
+    given: &GivenWords<'_>,
+) -> Result<Option<FleetPlanning>, NoMemory>
+    requires places { length (positional_in given.now) ≡ 1 }
+    requires once { (name : List ℕ) → times name given.now ≤ 1 }
+    ensures { IfOk result (SaysAs IsFleetPlanning given.now) }
+{
+    let Some(dir) = given.positional(0) else {
+        return Ok(None);
+    };
+    let Some(nodes) = given.number("--nodes", USUAL_NODES_OF_FLEET, MAX_NODES_OF_FLEET) else {
+        return Ok(None);
+    };
+    let Some(rounds) = given.number("--rounds", USUAL_ROUNDS_OF_FLEET, MAX_ROUNDS) else {
+        return Ok(None);
+    };
+    let most_splits = MAX_SPLITS_OF_FLEET;
+    let Some(splits) = given.number("--splits", USUAL_SPLITS_OF_FLEET, most_splits) else {
+        return Ok(None);
+    };
+    let usual = USUAL_EVALUATIONS_OF_FLEET;
+    let Some(evaluations) = given.number("--evaluations", usual, MAX_EVALUATIONS) else {
+        return Ok(None);
+    };
+    Ok(Some(FleetPlanning {
+        dir: Text::copy(alloc, dir)?,
+        nodes,
+        rounds: rounds as u8,
+        splits,
         evaluations,
     }))
 }

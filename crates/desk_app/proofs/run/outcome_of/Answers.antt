@@ -1,6 +1,7 @@
 use Rattle.std.proofs.Common.{rules, refl}
 use Rattle.desk_commands.specs.declared.command.Command.TheVariants as command
 use Rattle.desk_commands.proofs.OneCommand.{nodes_within, replan_change_within, replan_nodes_within, replan_rounds_within, rounds_within}
+use Rattle.desk_commands.proofs.OneCommand.{fleet_nodes_within, fleet_rounds_within, fleet_splits_within}
 use Rattle.desk_commands.proofs.OneCommand.{week_days_within, week_nodes_within, week_rounds_within}
 use Rattle.desk_app.specs.Outcomes.{InVain, OfCommand}
 use Rattle.desk_app.proofs.PlannedDays.{asked_for, leaves, left_alone}
@@ -109,3 +110,28 @@ returns-in-Ok-Week-clause-outcome g c =
 
 pub returns-in-Ok-Week-clause-untouched : goal.returns-in-Ok-Week-clause-untouched
 returns-in-Ok-Week-clause-untouched g c vain = absurd (vain (command.Week c.in-Ok-Week.planning) (c.in-Ok-Week.ensures.understood (command.Week c.in-Ok-Week.planning) (search rules)))
+
+pub found_fleet-requires-clause-nodes : goal.found_fleet-requires-clause-nodes
+found_fleet-requires-clause-nodes g c = fleet_nodes_within c.args.words.now c.in-Ok-Fleet.planning (c.in-Ok-Fleet.ensures.understood (command.Fleet c.in-Ok-Fleet.planning) (search rules))
+
+pub found_fleet-requires-clause-rounds : goal.found_fleet-requires-clause-rounds
+found_fleet-requires-clause-rounds g c = fleet_rounds_within c.args.words.now c.in-Ok-Fleet.planning (c.in-Ok-Fleet.ensures.understood (command.Fleet c.in-Ok-Fleet.planning) (search rules))
+
+pub found_fleet-requires-clause-splits : goal.found_fleet-requires-clause-splits
+found_fleet-requires-clause-splits g c = fleet_splits_within c.args.words.now c.in-Ok-Fleet.planning (c.in-Ok-Fleet.ensures.understood (command.Fleet c.in-Ok-Fleet.planning) (search rules))
+
+pub returns-in-Ok-Fleet-clause-outcome : goal.returns-in-Ok-Fleet-clause-outcome
+returns-in-Ok-Fleet-clause-outcome g c =
+    OfCommand (command.Fleet c.in-Ok-Fleet.planning) (c.in-Ok-Fleet.ensures.understood (command.Fleet c.in-Ok-Fleet.planning) (search rules)) c.found_fleet.ensures.outcome
+
+pub returns-in-Ok-Fleet-clause-untouched : goal.returns-in-Ok-Fleet-clause-untouched
+returns-in-Ok-Fleet-clause-untouched g c vain = absurd (vain (command.Fleet c.in-Ok-Fleet.planning) (c.in-Ok-Fleet.ensures.understood (command.Fleet c.in-Ok-Fleet.planning) (search rules)))
+
+pub returns-in-Ok-Fleet-clause-advisors : goal.returns-in-Ok-Fleet-clause-advisors
+returns-in-Ok-Fleet-clause-advisors g c =
+    leaves _ _ _ c.args.words.now (command.Fleet c.in-Ok-Fleet.planning) (c.in-Ok-Fleet.ensures.understood (command.Fleet c.in-Ok-Fleet.planning) (search rules)) _ _ refl
+    c.found_fleet.ensures.advisors c.found_fleet.ensures.asked
+
+pub returns-in-Ok-Fleet-clause-asked_for : goal.returns-in-Ok-Fleet-clause-asked_for
+returns-in-Ok-Fleet-clause-asked_for g c named given =
+    asked_for _ _ c.args.words.now (command.Fleet c.in-Ok-Fleet.planning) named (c.in-Ok-Fleet.ensures.understood (command.Fleet c.in-Ok-Fleet.planning) (search rules)) given _ _ _ c.found_fleet.ensures.asked_for

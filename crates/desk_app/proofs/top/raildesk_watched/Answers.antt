@@ -1,5 +1,5 @@
 use Rattle.std.proofs.Common.{rules}
-use Rattle.desk_app.proofs.Endings.{ends_in_usage, ends_planning, ends_replanning, ends_swapping, ends_week, is_status, leaves_folder, leaves_sink}
+use Rattle.desk_app.proofs.Endings.{ends_fleet, ends_in_usage, ends_planning, ends_replanning, ends_swapping, ends_week, is_status, leaves_folder, leaves_sink}
 use Rattle.desk_app.proofs.top.raildesk_watched.Goals as goal
 
 pub returns-clause-plan : goal.returns-clause-plan
@@ -17,6 +17,10 @@ returns-clause-replan g c files replanning =
 pub returns-clause-week : goal.returns-clause-week
 returns-clause-week g c files planning =
     ends_week _ _ _ _ _ _ _ _ _ _ _ _ _ c.outcome_of-outcome.ensures.outcome c.write_outcome.ensures.wrote files planning
+
+pub returns-clause-fleet : goal.returns-clause-fleet
+returns-clause-fleet g c files planning =
+    ends_fleet _ _ _ _ _ _ _ _ _ _ _ _ _ c.outcome_of-outcome.ensures.outcome c.write_outcome.ensures.wrote files planning
 
 pub returns-clause-usage : goal.returns-clause-usage
 returns-clause-usage g c =
