@@ -2,6 +2,7 @@
 use Rattle.std.proofs.Common.{◌≡◌, ◌≢◌, ◌≤◌, inl, inr, ℕ, Bool, true, false, List, Option, Some, ap, sym, ◌∙◌, subst, arith}
 use Rattle.rail_io.specs.Folders.{Files, OnlyReads, Rose, faults_after}
 use Rattle.rail_io.specs.Sinks.{Appends}
+use Rattle.statuses.specs.Endings.{EndsInUsage, LeavesFolder, LeavesSink}
 use Rattle.statuses.specs.Written.{CountsFailedReads, CountsFailedWrites, IsStatus, IsUndisturbed, Whole, Part, Nothing}
 use Rattle.run_documents.specs.Planning.{EndsPlanning}
 use Rattle.desk_commands.specs.declared.command.Command.{Command}
@@ -19,7 +20,8 @@ use Rattle.desk_app.specs.Documents.{IsDocument, table_refused_line, usage_line}
 use Rattle.desk_app.specs.Outcomes.{AskForFleet, AskForWeek, AskInVain, AskToPlan, AskToReplan, AskToSwap, ComesTo, IsOutcome}
 use Rattle.desk_app.specs.Outcomes.{OfCommand, InVain, Unread}
 use Rattle.desk_app.specs.Outcomes.{status_of, is_unread}
-use Rattle.desk_app.specs.Statuses.{EndsInUsage, LeavesFolder, LeavesSink, WroteOutcome}
+use Rattle.desk_app.specs.Statuses.{WroteOutcome}
+use Rattle.desk_app.specs.DeskEndings.{EndsByCommand}
 use Rattle.desk_app.specs.FleetEndings.{EndsFleet}
 use Rattle.desk_app.specs.ReplanEndings.{EndsReplanning}
 use Rattle.desk_app.specs.SwapEndings.{EndsSwapping}
@@ -61,7 +63,7 @@ module _ {F : Type 0} (holds : F → Option Files) (may_fail : F → List ℕ �
       by (InVain vain usage) = absurd (vain named asked)
       by (Unread none) = absurd (made none)
 
-  pub ends_planning : (files : Files) (planning : Planning) → holds before ≡ Some files → AskToPlan words planning → IsUndisturbed status
+  ends_planning : (files : Files) (planning : Planning) → holds before ≡ Some files → AskToPlan words planning → IsUndisturbed status
       → EndsPlanning table_refused_line files planning.dir planning.nodes status written written'
   ends_planning files planning tells asked undisturbed = by wrote
     where
@@ -74,7 +76,7 @@ module _ {F : Type 0} (holds : F → Option Files) (may_fail : F → List ℕ �
       by (Part text document appends rose six) = absurd (undisturbed.1 six)
       by (Nothing kept seven) = absurd (undisturbed.2 seven)
 
-  pub ends_swapping : (files : Files) (swapping : Swapping) → holds before ≡ Some files → AskToSwap words swapping → IsUndisturbed status
+  ends_swapping : (files : Files) (swapping : Swapping) → holds before ≡ Some files → AskToSwap words swapping → IsUndisturbed status
       → EndsSwapping files swapping.dir status written written'
   ends_swapping files swapping tells asked undisturbed = by wrote
     where
@@ -87,7 +89,7 @@ module _ {F : Type 0} (holds : F → Option Files) (may_fail : F → List ℕ �
       by (Part text document appends rose six) = absurd (undisturbed.1 six)
       by (Nothing kept seven) = absurd (undisturbed.2 seven)
 
-  pub ends_replanning : (files : Files) (replanning : Replanning) → holds before ≡ Some files → AskToReplan words replanning → IsUndisturbed status
+  ends_replanning : (files : Files) (replanning : Replanning) → holds before ≡ Some files → AskToReplan words replanning → IsUndisturbed status
       → EndsReplanning files replanning status written written'
   ends_replanning files replanning tells asked undisturbed = by wrote
     where
@@ -100,7 +102,7 @@ module _ {F : Type 0} (holds : F → Option Files) (may_fail : F → List ℕ �
       by (Part text document appends rose six) = absurd (undisturbed.1 six)
       by (Nothing kept seven) = absurd (undisturbed.2 seven)
 
-  pub ends_week : (files : Files) (planning : WeekPlanning) → holds before ≡ Some files → AskForWeek words planning → IsUndisturbed status
+  ends_week : (files : Files) (planning : WeekPlanning) → holds before ≡ Some files → AskForWeek words planning → IsUndisturbed status
       → EndsWeek files planning status written written'
   ends_week files planning tells asked undisturbed = by wrote
     where
@@ -113,7 +115,7 @@ module _ {F : Type 0} (holds : F → Option Files) (may_fail : F → List ℕ �
       by (Part text document appends rose six) = absurd (undisturbed.1 six)
       by (Nothing kept seven) = absurd (undisturbed.2 seven)
 
-  pub ends_fleet : (files : Files) (planning : FleetPlanning) → holds before ≡ Some files → AskForFleet words planning → IsUndisturbed status
+  ends_fleet : (files : Files) (planning : FleetPlanning) → holds before ≡ Some files → AskForFleet words planning → IsUndisturbed status
       → EndsFleet files planning status written written'
   ends_fleet files planning tells asked undisturbed = by wrote
     where
@@ -126,11 +128,11 @@ module _ {F : Type 0} (holds : F → Option Files) (may_fail : F → List ℕ �
       by (Part text document appends rose six) = absurd (undisturbed.1 six)
       by (Nothing kept seven) = absurd (undisturbed.2 seven)
 
-  pub ends_in_usage : IsUndisturbed status → EndsInUsage words status written written'
+  ends_in_usage : IsUndisturbed status → EndsInUsage (AskInVain words) usage_line status written written'
   ends_in_usage undisturbed = by wrote
     where
       of : (text : List ℕ) → IsDocument outcome text → Appends text written written' → status ≡ status_of outcome
-          → IsOutcome holds may_fail faults_of taken words before after outcome → EndsInUsage words status written written'
+          → IsOutcome holds may_fail faults_of taken words before after outcome → EndsInUsage (AskInVain words) usage_line status written written'
       of text document appends e (OfCommand named asked comes) =
           let other : status ≢ 2 = λ two. (status_fits named comes).not_usage (sym e ∙ two) in
           record { told = (λ two. absurd (other two), λ vain. absurd (vain named asked)); written = λ two. absurd (other two) }
@@ -142,10 +144,21 @@ module _ {F : Type 0} (holds : F → Option Files) (may_fail : F → List ℕ �
           }
       of text document appends e (Unread none) = absurd (no_document outcome text none document)
 
-      by : Wrote' → EndsInUsage words status written written'
+      by : Wrote' → EndsInUsage (AskInVain words) usage_line status written written'
       by (Whole text document appends e) = of text document appends e is
       by (Part text document appends rose six) = absurd (undisturbed.1 six)
       by (Nothing kept seven) = absurd (undisturbed.2 seven)
+
+  -- each command ends so
+  pub ends_by_command : IsUndisturbed status → EndsByCommand (holds before) words status written written'
+  ends_by_command undisturbed = record {
+    plan = λ files planning tells asked. ends_planning files planning tells asked undisturbed;
+    urgent = λ files swapping tells asked. ends_swapping files swapping tells asked undisturbed;
+    replan = λ files replanning tells asked. ends_replanning files replanning tells asked undisturbed;
+    week = λ files planning tells asked. ends_week files planning tells asked undisturbed;
+    fleet = λ files planning tells asked. ends_fleet files planning tells asked undisturbed;
+    usage = ends_in_usage undisturbed;
+  }
 
   pub is_status : IsStatus status
   is_status = by wrote
@@ -192,7 +205,7 @@ module _ {F : Type 0} (holds : F → Option Files) (may_fail : F → List ℕ �
 
   pub leaves_folder : (counts_failed : Bool) → OnlyReads holds may_fail faults_of taken before after → (AskInVain words → after ≡ before)
       → (counts_failed ≡ true → faults_of after ≡ faults_after (is_unread outcome) (faults_of before))
-      → LeavesFolder holds may_fail faults_of taken counts_failed words status before after
+      → LeavesFolder holds may_fail faults_of taken counts_failed (AskInVain words) status before after
   leaves_folder counts_failed only_reads untouched counts =
       record { only_reads = only_reads; untouched = untouched; unread = unread; failed_reads = λ counting. counts_reads (counts counting) }
 

@@ -7,6 +7,7 @@ use Rattle.timetable.specs.Day.{Day}
 use Rattle.day_files.specs.declared.errors.ReadError.{ReadError}
 use Rattle.day_files.specs.Inputs.{day_in}
 use Rattle.day_files.specs.OneFile.{path_in}
+use Rattle.run_documents.specs.Readings.{IsReadDay, IsReadError}
 use Rattle.fleet_check.specs.declared.refusal.PriceRefusal.{PriceRefusal}
 use Rattle.fleet_check.specs.declared.refusal.PriceRefusal.TheVariants as refusal
 use Rattle.fleet_check.specs.PriceTables.{IsPriceRefusal}
@@ -18,9 +19,8 @@ use Rattle.desk_app.specs.declared.outcome.FoundFleet.{FoundFleet}
 use Rattle.desk_app.specs.declared.outcome.DeskOutcome.{DeskOutcome}
 use Rattle.desk_app.specs.declared.outcome.DeskOutcome.TheVariants.{FleetFound, Refused, CannotRead, NoMemory}
 use Rattle.desk_app.specs.FileNames.{prices_file}
-use Rattle.desk_app.specs.PlanOutcomes.{IsReadDay}
 use Rattle.desk_app.specs.Priced.{SayPrices, price_bytes}
-use Rattle.desk_app.specs.ReadErrors.{IsReadError, outcome_of_error}
+use Rattle.desk_app.specs.ReadErrors.{outcome_of_error}
 
 -- ---- what comes of prices, and of the bytes of a table of them
 

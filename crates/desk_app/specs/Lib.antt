@@ -20,5 +20,6 @@ pub mod SwapEndings
 pub mod ReplanEndings
 pub mod WeekEndings
 pub mod FleetEndings
+pub mod DeskEndings
 -- how far a search has come, in words
 pub mod ProgressTexts

@@ -1,21 +1,16 @@
 -- What the planning of a day comes to.
-use Rattle.std.specs.Prelude.{ℕ, ◌≡◌, ◌≢◌, List, Bool, Option, Some, Ok, ⊤}
+use Rattle.std.specs.Prelude.{ℕ, ◌≡◌, ◌≢◌, List, Bool, Option, ⊤}
 use Rattle.rail_csv.specs.declared.rows.Table.TheVariants as table
 use Rattle.rail_io.specs.Folders.{Files}
 use Rattle.timetable.specs.Day.{Day}
 use Rattle.day_files.specs.declared.errors.ReadError.{ReadError}
 use Rattle.day_files.specs.Inputs.{day_in}
-use Rattle.day_files.specs.Tables.{IsMadeDay}
 use Rattle.answer_check.specs.Headline.{IsHeadline}
+use Rattle.run_documents.specs.Readings.{IsReadDay, IsReadError}
 use Rattle.desk_commands.specs.declared.planning.Planning.{Planning}
 use Rattle.desk_app.specs.declared.outcome.DeskOutcome.{DeskOutcome}
 use Rattle.desk_app.specs.declared.outcome.DeskOutcome.TheVariants.{Planned, NoMemory}
-use Rattle.desk_app.specs.ReadErrors.{IsReadError, outcome_of_error}
-
--- a day that tables make was read: where the folder tells what it holds, the one that its tables make
-pub record IsReadDay {F : Type 0} (holds : F → Option Files) (dir : List ℕ) (before : F) (day : Day) : Type 0 where
-  pub made : IsMadeDay day
-  pub told : (files : Files) → holds before ≡ Some files → day_in files dir ≡ Ok day
+use Rattle.desk_app.specs.ReadErrors.{outcome_of_error}
 
 -- a day was planned: its answer meets the headline; or memory ran out
 abbrev pub IsDayOutcome : Day → ℕ → DeskOutcome → Type 0

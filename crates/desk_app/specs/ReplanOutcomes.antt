@@ -8,6 +8,7 @@ use Rattle.day_files.specs.declared.errors.ReadError.{ReadError}
 use Rattle.day_files.specs.declared.inputs.Inputs.{Inputs}
 use Rattle.day_files.specs.Inputs.{inputs_in}
 use Rattle.day_files.specs.OneFile.{path_in}
+use Rattle.run_documents.specs.Readings.{AreReadInputs, IsReadError}
 use Rattle.cancellations.specs.declared.cancelling.CancelRefusal.{CancelRefusal}
 use Rattle.cancellations.specs.declared.cancelling.CancelRefusal.TheVariants as refusal
 use Rattle.cancellations.specs.Cancellations.{IsCancelRefusal}
@@ -20,8 +21,7 @@ use Rattle.desk_app.specs.declared.outcome.DeskOutcome.TheVariants.{Replanned, S
 use Rattle.desk_app.specs.declared.outcome.PlannedRest.{PlannedRest}
 use Rattle.desk_app.specs.Cancelled.{SayCancelled, cancelled_bytes, disturbed_at}
 use Rattle.desk_app.specs.FileNames.{cancelled_file}
-use Rattle.desk_app.specs.ReadErrors.{IsReadError, outcome_of_error}
-use Rattle.desk_app.specs.SwapOutcomes.{AreReadInputs}
+use Rattle.desk_app.specs.ReadErrors.{outcome_of_error}
 
 -- ---- what comes of cancelled trips, and of the bytes of a table of them
 
@@ -83,6 +83,6 @@ module _ {F : Type 0} (holds : F → Option Files) (may_fail : F → List ℕ �
         → IsReadError {Y = Inputs} holds may_fail faults taken (λ _. ⊤) (λ files. inputs_in files replanning.dir)
         replanning.dir before after error
         → outcome ≡ outcome_of_error error → IsReplanOutcome before after outcome
-    OfInputs : (inputs : Inputs) → AreReadInputs holds may_fail faults taken replanning.dir before inputs
+    OfInputs : (inputs : Inputs) → AreReadInputs holds replanning.dir before inputs
         → (between : F) → OnlyReads holds may_fail faults taken before between
         → IsRunningOutcome inputs between after outcome → IsReplanOutcome before after outcome

@@ -1,8 +1,6 @@
--- The status that a run ends with, what it wrote, and how the folder, the sink and the advisors stand after it.
-use Rattle.std.specs.Prelude.{ℕ, ◌≡◌, ◌≤◌, ◌↔◌, ◌+◌, ◌*◌, List, Option, Bool, true, false, ⊤}
-use Rattle.rail_io.specs.Folders.{Files, OnlyReads, Rose}
-use Rattle.rail_io.specs.Sinks.{Appends}
-use Rattle.statuses.specs.Written.{CountsFailedReads, CountsFailedWrites, Wrote}
+-- The document that a run wrote of its outcome, with its status, and how the advisors stand after it.
+use Rattle.std.specs.Prelude.{ℕ, ◌≡◌, ◌+◌, ◌*◌, List, Option, Bool, true, false, ⊤}
+use Rattle.statuses.specs.Written.{Wrote}
 use Rattle.branch_tree.specs.Trees.{branchings_of}
 use Rattle.search.specs.Questions.{AreAsked, AreTheSame, in_rounds}
 use Rattle.answer_check.specs.ProvedTrees.{open_leaves}
@@ -18,41 +16,13 @@ use Rattle.desk_app.specs.declared.outcome.DeskOutcome.{DeskOutcome}
 use Rattle.desk_app.specs.declared.outcome.DeskOutcome.TheVariants.{Planned, Swapped, Replanned, PlannedWeek}
 use Rattle.desk_app.specs.declared.outcome.DeskOutcome.TheVariants.{FleetFound}
 use Rattle.desk_app.specs.declared.outcome.DeskOutcome.TheVariants.{Stops, Usage, Refused, CannotRead, NoMemory}
-use Rattle.desk_app.specs.Documents.{IsDocument, usage_line}
-use Rattle.desk_app.specs.Outcomes.{AskInVain, status_of}
-
--- ---- what the words say of the status
-
--- the status with which words end that are not understood, and what was written
-pub record EndsInUsage (words : List (List ℕ)) (status : ℕ) (before after : Option (List ℕ)) : Type 0 where
-  -- 2 exactly where the words are the plain form of no command
-  pub told : (status ≡ 2) ↔ AskInVain words
-  pub written : status ≡ 2 → Appends usage_line before after
-
--- ---- whatever the words and the files say
+use Rattle.desk_app.specs.Documents.{IsDocument}
+use Rattle.desk_app.specs.Outcomes.{status_of}
 
 -- what was written of an outcome's document, and the status that says so
 abbrev pub WroteOutcome : DeskOutcome → ℕ → Option (List ℕ) → Option (List ℕ) → ℕ → ℕ → Type 0
 WroteOutcome outcome status before after faults faults' =
     Wrote (IsDocument outcome) (status_of outcome) status before after faults faults'
-
--- The folder after a run that ended with this status: it was only read, and left alone where the words ask for no
--- command; 5 comes only where its count of faults rose, and one that counts failed calls tells of one at most.
-pub record LeavesFolder {F : Type 0} (holds : F → Option Files) (may_fail : F → List ℕ → Bool) (faults taken : F → ℕ)
-    (counts_failed : Bool) (words : List (List ℕ)) (status : ℕ) (before after : F) : Type 0 where
-  pub only_reads : OnlyReads holds may_fail faults taken before after
-  pub untouched : AskInVain words → after ≡ before
-  pub unread : status ≡ 5 → Rose (faults before) (faults after)
-  pub failed_reads : counts_failed ≡ true → CountsFailedReads status (faults before) (faults after)
-
--- The sink after a run that ended with this status: 6 comes only where its count of faults rose, with 7 nothing was
--- written, and one that counts failed calls tells of one at most.
-pub record LeavesSink (counts_failed : Bool) (status : ℕ) (before after : Option (List ℕ)) (faults faults' : ℕ) : Type 0
-  where
-    pub unwritten : status ≡ 6 → Rose faults faults'
-    pub nothing : status ≡ 7 → after ≡ before
-    pub failed_writes : counts_failed ≡ true → CountsFailedWrites status faults faults'
-    pub lasting : faults ≤ faults'
 
 -- ---- the advisors
 

@@ -1,5 +1,5 @@
 -- What the swapping of units comes to.
-use Rattle.std.specs.Prelude.{ℕ, ◌≡◌, ◌≢◌, ◌<◌, List, length, Bool, IsTrue, Option, Some, Ok, Err, ⊤}
+use Rattle.std.specs.Prelude.{ℕ, ◌≡◌, ◌≢◌, ◌<◌, List, length, Bool, IsTrue, Option, Some, Err, ⊤}
 use Rattle.rail_base.specs.declared.limits.TheConstants.{MAX_TABLE_BYTES}
 use Rattle.rail_io.specs.Folders.{Files, OnlyReads, Rose, RosePast}
 use Rattle.timetable.specs.Running.{Runs}
@@ -7,9 +7,9 @@ use Rattle.day_files.specs.declared.errors.ReadError.{ReadError}
 use Rattle.day_files.specs.declared.inputs.Inputs.{Inputs}
 use Rattle.day_files.specs.Inputs.{inputs_in}
 use Rattle.day_files.specs.OneFile.{path_in}
-use Rattle.day_files.specs.Tables.{IsMadeDay, IsMadePlan}
 use Rattle.day_simulator.specs.declared.events.StepFault.{StepFault}
 use Rattle.day_simulator.specs.Finish.{simulation}
+use Rattle.run_documents.specs.Readings.{AreReadInputs, IsReadError}
 use Rattle.urgent_units.specs.declared.refusal.WishRefusal.{WishRefusal}
 use Rattle.urgent_units.specs.declared.refusal.WishRefusal.TheVariants as refusal
 use Rattle.urgent_units.specs.declared.wish.Wish.{Wish}
@@ -19,7 +19,7 @@ use Rattle.desk_app.specs.declared.files.DeskFile.TheVariants.{UrgentUnits}
 use Rattle.desk_app.specs.declared.outcome.DeskOutcome.{DeskOutcome}
 use Rattle.desk_app.specs.declared.outcome.DeskOutcome.TheVariants.{Swapped, Stops, Refused, CannotRead, NoMemory}
 use Rattle.desk_app.specs.FileNames.{urgent_file}
-use Rattle.desk_app.specs.ReadErrors.{IsReadError, outcome_of_error}
+use Rattle.desk_app.specs.ReadErrors.{outcome_of_error}
 use Rattle.desk_app.specs.Wished.{SayWish, urgent_bytes}
 
 -- the simulation of the plan goes through to the end of the day
@@ -47,12 +47,6 @@ IsTableOutcome inputs bytes other = ⊥
 
 module _ {F : Type 0} (holds : F → Option Files) (may_fail : F → List ℕ → Bool) (faults taken : F → ℕ) (dir : List ℕ)
   where
-    -- a plan of a day was read: where the folder tells what it holds, those that its files make
-    pub record AreReadInputs (before : F) (inputs : Inputs) : Type 0 where
-      pub made : IsMadeDay inputs.instance
-      pub made_plan : IsMadePlan inputs.instance inputs.plan
-      pub told : (files : Files) → holds before ≡ Some files → inputs_in files dir ≡ Ok inputs
-
     -- Of a plan that runs, units are to be swapped, from the folder before to the same folder after: the table of
     -- urgent units could not be read, and its cause is seen in the counts of the folder; or it is too long, likewise;
     -- or its bytes, which are those of the file where the folder tells what it holds, came to this; or memory ran out.
@@ -81,6 +75,6 @@ module _ {F : Type 0} (holds : F → Option Files) (may_fail : F → List ℕ �
           → IsReadError {Y = Inputs} holds may_fail faults taken (λ _. ⊤) (λ files. inputs_in files dir) dir before
           after error
           → outcome ≡ outcome_of_error error → IsSwapOutcome before after outcome
-      OfInputs : (inputs : Inputs) → AreReadInputs before inputs → (between : F)
+      OfInputs : (inputs : Inputs) → AreReadInputs holds dir before inputs → (between : F)
           → OnlyReads holds may_fail faults taken before between → IsInputsOutcome inputs between after outcome
           → IsSwapOutcome before after outcome

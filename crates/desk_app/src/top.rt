@@ -1,26 +1,15 @@
 //! The top call: it reads a folder, writes one document and answers a status.
 
-ghost use Rattle.std.specs.Prelude.{ℕ, true, List, ◌≡◌, ◌≤◌, ◌^◌, Some, All};
-ghost use Rattle.rail_io.specs.Folders.{Files, faults_after};
+ghost use Rattle.std.specs.Prelude.{true, ◌≡◌, ◌≤◌, ◌^◌, All};
+ghost use Rattle.rail_io.specs.Folders.{faults_after};
+ghost use Rattle.statuses.specs.Endings.{LeavesFolder, LeavesSink};
 ghost use Rattle.statuses.specs.Written.{CountsFailedWrites, IsStatus, IsUndisturbed};
-ghost use Rattle.run_documents.specs.Planning.{EndsPlanning};
 ghost use Rattle.desk_commands.specs.declared.command.Command.{Command};
-ghost use Rattle.desk_commands.specs.declared.fleet_planning.FleetPlanning.{FleetPlanning};
-ghost use Rattle.desk_commands.specs.declared.planning.Planning.{Planning};
-ghost use Rattle.desk_commands.specs.declared.replanning.Replanning.{Replanning};
-ghost use Rattle.desk_commands.specs.declared.swapping.Swapping.{Swapping};
-ghost use Rattle.desk_commands.specs.declared.week_planning.WeekPlanning.{WeekPlanning};
 ghost use Rattle.desk_commands.specs.PlainForm.{IsPlainForm};
 ghost use Rattle.desk_app.specs.declared.outcome.DeskOutcome.{DeskOutcome};
-ghost use Rattle.desk_app.specs.Documents.{table_refused_line};
-ghost use Rattle.desk_app.specs.FleetEndings.{EndsFleet};
-ghost use Rattle.desk_app.specs.Outcomes.{AskForFleet, AskForWeek, AskToPlan, AskToReplan, AskToSwap, IsOutcome};
-ghost use Rattle.desk_app.specs.Outcomes.{is_unread};
-ghost use Rattle.desk_app.specs.ReplanEndings.{EndsReplanning};
-ghost use Rattle.desk_app.specs.Statuses.{AreAskedFor, EndsInUsage, LeavesAdvisors, LeavesFolder};
-ghost use Rattle.desk_app.specs.Statuses.{LeavesSink, WroteOutcome, rounds_of};
-ghost use Rattle.desk_app.specs.SwapEndings.{EndsSwapping};
-ghost use Rattle.desk_app.specs.WeekEndings.{EndsWeek};
+ghost use Rattle.desk_app.specs.DeskEndings.{EndsByCommand};
+ghost use Rattle.desk_app.specs.Outcomes.{AskInVain, IsOutcome, is_unread};
+ghost use Rattle.desk_app.specs.Statuses.{AreAskedFor, LeavesAdvisors, WroteOutcome, rounds_of};
 
 use crate::document::document;
 use crate::outcome::DeskOutcome;
@@ -83,7 +72,7 @@ fn write_outcome<K: Sink>(alloc: Global, outcome: DeskOutcome, out: &mut K) -> u
 /// - 0 comes exactly where the files that the command reads are accepted, and the answer found is optimal, to the day
 ///   or to the rest of it or to the week or of all fleets, or the plan runs whose units are to be swapped.
 /// - 1 comes exactly where the tables are accepted and the answer found is infeasible, or where they and the plan are
-///   accepted and the plan doesn't run: then the line `stops` is written, and no file is read after that of the plan.
+///   accepted and the plan doesn't run: then the line `stops` is written.
 /// - 2 comes exactly where the words are no command; the line `usage` is written.
 /// - 3 comes exactly where a file is refused; the line `refused FILE` is written. Where days make no week, that is the
 ///   file of the day which doesn't go on from the day before, as `2/stock.csv`, or the trips of the day before, where
@@ -112,25 +101,9 @@ pub fn raildesk<F: Folder, K: Sink>(
 ) -> u8
     requires asked { All (λ advisor. asked advisor ≤ 2 ^ 62) advisors.old.items }
 
-    // The headline, how units are swapped, how the rest of a day and how a week is planned, how a fleet is found, and
-    // the status of words that are no command, where the status is none of 5, 6 and 7.
-    ensures plan { (files : Files) (planning : Planning) → F.holds folder.old ≡ Some files
-        → AskToPlan words.now planning → IsUndisturbed result
-        → EndsPlanning table_refused_line files planning.dir planning.nodes result (K.written out.old)
-        (K.written out.new) }
-    ensures urgent { (files : Files) (swapping : Swapping) → F.holds folder.old ≡ Some files
-        → AskToSwap words.now swapping → IsUndisturbed result
-        → EndsSwapping files swapping.dir result (K.written out.old) (K.written out.new) }
-    ensures replan { (files : Files) (replanning : Replanning) → F.holds folder.old ≡ Some files
-        → AskToReplan words.now replanning → IsUndisturbed result
-        → EndsReplanning files replanning result (K.written out.old) (K.written out.new) }
-    ensures week { (files : Files) (planning : WeekPlanning) → F.holds folder.old ≡ Some files
-        → AskForWeek words.now planning → IsUndisturbed result
-        → EndsWeek files planning result (K.written out.old) (K.written out.new) }
-    ensures fleet { (files : Files) (planning : FleetPlanning) → F.holds folder.old ≡ Some files
-        → AskForFleet words.now planning → IsUndisturbed result
-        → EndsFleet files planning result (K.written out.old) (K.written out.new) }
-    ensures usage { IsUndisturbed result → EndsInUsage words.now result (K.written out.old) (K.written out.new) }
+    // How each command ends, where the status is none of 5, 6 and 7.
+    ensures ends { IsUndisturbed result
+        → EndsByCommand (F.holds folder.old) words.now result (K.written out.old) (K.written out.new) }
     ensures statuses { IsStatus result }
 
     // What was written is the document of an outcome of these words and this folder, whose status is the result unless
@@ -144,8 +117,8 @@ pub fn raildesk<F: Folder, K: Sink>(
         → AreAskedFor (rounds_of named) outcome advisors.old.items advisors.new.items asked has_quit) }
 
     // How the folder, the sink and the advisors are left, whatever the status is.
-    ensures folder { LeavesFolder F.holds F.may_fail F.faults F.taken F.counts_failed words.now result folder.old
-        folder.new }
+    ensures folder { LeavesFolder F.holds F.may_fail F.faults F.taken F.counts_failed (AskInVain words.now) result
+        folder.old folder.new }
     ensures sink { LeavesSink K.counts_failed result (K.written out.old) (K.written out.new) (K.faults out.old)
         (K.faults out.new) }
     ensures advisors { LeavesAdvisors words.now advisors.old.items advisors.new.items identity asked has_quit }
@@ -165,25 +138,9 @@ pub fn raildesk_watched<F: Folder, K: Sink, W: Watcher>(
 ) -> u8
     requires asked { All (λ advisor. asked advisor ≤ 2 ^ 62) advisors.old.items }
 
-    // The headline, how units are swapped, how the rest of a day and how a week is planned, how a fleet is found, and
-    // the status of words that are no command, where the status is none of 5, 6 and 7.
-    ensures plan { (files : Files) (planning : Planning) → F.holds folder.old ≡ Some files
-        → AskToPlan words.now planning → IsUndisturbed result
-        → EndsPlanning table_refused_line files planning.dir planning.nodes result (K.written out.old)
-        (K.written out.new) }
-    ensures urgent { (files : Files) (swapping : Swapping) → F.holds folder.old ≡ Some files
-        → AskToSwap words.now swapping → IsUndisturbed result
-        → EndsSwapping files swapping.dir result (K.written out.old) (K.written out.new) }
-    ensures replan { (files : Files) (replanning : Replanning) → F.holds folder.old ≡ Some files
-        → AskToReplan words.now replanning → IsUndisturbed result
-        → EndsReplanning files replanning result (K.written out.old) (K.written out.new) }
-    ensures week { (files : Files) (planning : WeekPlanning) → F.holds folder.old ≡ Some files
-        → AskForWeek words.now planning → IsUndisturbed result
-        → EndsWeek files planning result (K.written out.old) (K.written out.new) }
-    ensures fleet { (files : Files) (planning : FleetPlanning) → F.holds folder.old ≡ Some files
-        → AskForFleet words.now planning → IsUndisturbed result
-        → EndsFleet files planning result (K.written out.old) (K.written out.new) }
-    ensures usage { IsUndisturbed result → EndsInUsage words.now result (K.written out.old) (K.written out.new) }
+    // How each command ends, where the status is none of 5, 6 and 7.
+    ensures ends { IsUndisturbed result
+        → EndsByCommand (F.holds folder.old) words.now result (K.written out.old) (K.written out.new) }
     ensures statuses { IsStatus result }
 
     // What was written is the document of an outcome of these words and this folder, whose status is the result unless
@@ -197,8 +154,8 @@ pub fn raildesk_watched<F: Folder, K: Sink, W: Watcher>(
         → AreAskedFor (rounds_of named) outcome advisors.old.items advisors.new.items asked has_quit) }
 
     // How the folder, the sink and the advisors are left, whatever the status is.
-    ensures folder { LeavesFolder F.holds F.may_fail F.faults F.taken F.counts_failed words.now result folder.old
-        folder.new }
+    ensures folder { LeavesFolder F.holds F.may_fail F.faults F.taken F.counts_failed (AskInVain words.now) result
+        folder.old folder.new }
     ensures sink { LeavesSink K.counts_failed result (K.written out.old) (K.written out.new) (K.faults out.old)
         (K.faults out.new) }
     ensures advisors { LeavesAdvisors words.now advisors.old.items advisors.new.items identity asked has_quit }

@@ -1,30 +1,10 @@
 use Rattle.std.proofs.Common.{rules}
-use Rattle.desk_app.proofs.Endings.{ends_fleet, ends_in_usage, ends_planning, ends_replanning, ends_swapping, ends_week, is_status, leaves_folder, leaves_sink}
+use Rattle.desk_app.proofs.Endings.{ends_by_command, is_status, leaves_folder, leaves_sink}
 use Rattle.desk_app.proofs.top.raildesk_watched.Goals as goal
 
-pub returns-clause-plan : goal.returns-clause-plan
-returns-clause-plan g c files planning =
-    ends_planning _ _ _ _ _ _ _ _ _ _ _ _ _ c.outcome_of-outcome.ensures.outcome c.write_outcome.ensures.wrote files planning
-
-pub returns-clause-urgent : goal.returns-clause-urgent
-returns-clause-urgent g c files swapping =
-    ends_swapping _ _ _ _ _ _ _ _ _ _ _ _ _ c.outcome_of-outcome.ensures.outcome c.write_outcome.ensures.wrote files swapping
-
-pub returns-clause-replan : goal.returns-clause-replan
-returns-clause-replan g c files replanning =
-    ends_replanning _ _ _ _ _ _ _ _ _ _ _ _ _ c.outcome_of-outcome.ensures.outcome c.write_outcome.ensures.wrote files replanning
-
-pub returns-clause-week : goal.returns-clause-week
-returns-clause-week g c files planning =
-    ends_week _ _ _ _ _ _ _ _ _ _ _ _ _ c.outcome_of-outcome.ensures.outcome c.write_outcome.ensures.wrote files planning
-
-pub returns-clause-fleet : goal.returns-clause-fleet
-returns-clause-fleet g c files planning =
-    ends_fleet _ _ _ _ _ _ _ _ _ _ _ _ _ c.outcome_of-outcome.ensures.outcome c.write_outcome.ensures.wrote files planning
-
-pub returns-clause-usage : goal.returns-clause-usage
-returns-clause-usage g c =
-    ends_in_usage _ _ _ _ _ _ _ _ _ _ _ _ _ c.outcome_of-outcome.ensures.outcome c.write_outcome.ensures.wrote
+pub returns-clause-ends : goal.returns-clause-ends
+returns-clause-ends g c =
+    ends_by_command _ _ _ _ _ _ _ _ _ _ _ _ _ c.outcome_of-outcome.ensures.outcome c.write_outcome.ensures.wrote
 
 pub returns-clause-statuses : goal.returns-clause-statuses
 returns-clause-statuses g c =
