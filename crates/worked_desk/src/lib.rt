@@ -4,6 +4,8 @@
 #[cfg(test)]
 mod desk;
 #[cfg(test)]
+mod fleet_tests;
+#[cfg(test)]
 mod line_tests;
 #[cfg(test)]
 mod plan_tests;

@@ -2,6 +2,10 @@
 #![tactic(auto)]
 
 #[cfg(test)]
+mod days;
+#[cfg(test)]
+mod fleet_tests;
+#[cfg(test)]
 mod price_tests;
 #[cfg(test)]
 mod verdict_tests;

@@ -1,22 +1,16 @@
 //! What is said of all fleets of a small day, by hand, with each verdict on it. One unit costs 1060 on the day, two
 //! cost 120, and none can run; a unit costs 500 more.
 
-ghost use Rattle.std.specs.Prelude.{◌≤◌, length, IfOk};
-ghost use Rattle.rail_base.specs.declared.limits.TheConstants.{MAX_TABLE_BYTES};
-ghost use Rattle.rail_csv.specs.Tables.{AreShort};
-ghost use Rattle.timetable.specs.DayTables.{IsDayOfBytes};
-
+use crate::days::{made_of, tables, texts};
 use answer_text::{Answer, Head};
 use day_planner::answer_for;
 use fleet_boxes::{BoxNode, Boxes};
 use fleet_check::{Chosen, DayOfTables, Fleet, MAX_BOX_NODES, check_fleet, read_prices};
 use fleets::Counts;
-use rail_base::{Bytes, Money, StationNo, TypeNo};
-use rail_csv::TableBytes;
-use sample_days::{TURN, Texts, day_of, plan_of, table};
+use rail_base::{Money, StationNo, TypeNo};
+use sample_days::{day_of, plan_of, table};
 use std::alloc::Global;
 use std::test::Fail;
-use timetable::{Instance, tables_of};
 
 /// A node of the boxes.
 #[derive(Clone, Copy)]
@@ -236,55 +230,6 @@ const CASES: &[Case] = &[
         ..BEST
     },
 ];
-
-/// The table of the stock with so many units at X, at most three.
-fn stock(units: u32) -> &'static [u8] {
-    match units {
-        0 => b"station,type,start,end\nX,A,0,0\n",
-        1 => b"station,type,start,end\nX,A,1,1\n",
-        2 => b"station,type,start,end\nX,A,2,2\n",
-        _ => b"station,type,start,end\nX,A,3,3\n",
-    }
-}
-
-/// The texts of the day with so many units at X.
-fn texts(units: u32) -> Texts<'static> {
-    Texts {
-        stock: stock(units),
-        ..TURN
-    }
-}
-
-/// The bytes of a table.
-fn bytes_of(alloc: Global, text: &[u8]) -> Result<Bytes, Fail>
-    ensures { IfOk result (λ bytes. length bytes ≤ MAX_TABLE_BYTES) }
-{
-    Ok(Bytes::of(table(text)?.to_vec(alloc)?))
-}
-
-/// The bytes of the tables of the day with so many units at X.
-fn tables(alloc: Global, units: u32) -> Result<TableBytes, Fail>
-    ensures { IfOk result AreShort }
-{
-    let texts = texts(units);
-    Ok(TableBytes {
-        types: bytes_of(alloc, texts.types)?,
-        stations: bytes_of(alloc, texts.stations)?,
-        stock: bytes_of(alloc, texts.stock)?,
-        trips: bytes_of(alloc, texts.trips)?,
-        links: bytes_of(alloc, texts.links)?,
-        weights: bytes_of(alloc, b"carriage,shortage,shunting\n1,1,100\n")?,
-    })
-}
-
-/// The day of tables. A table or a day that is refused fails the test.
-fn made_of(alloc: Global, bytes: &TableBytes) -> Result<Instance, Fail>
-    requires { AreShort bytes.now }
-    ensures { IfOk result (IsDayOfBytes bytes.now) }
-{
-    let tables = tables_of(alloc, bytes)?;
-    Ok(Instance::build(alloc, tables)?)
-}
 
 /// The leaf that is proved of the day with so many units at X.
 fn leaf(alloc: Global, units: u32) -> Result<BoxNode, Fail> {
