@@ -39,11 +39,12 @@ def resident(process):
         return 0
 
 
-def run(words):
-    """What a command writes, the seconds of processor time that it takes, and its most memory in MB."""
+def run(words, limit=LIMIT):
+    """What a command writes, the seconds of processor time that it takes, and its most memory in MB; nothing is written
+    by one that is ended after the limit."""
     with tempfile.TemporaryFile() as out:
         child = subprocess.Popen(words, stdout=out)
-        memory, until = 0, time.monotonic() + LIMIT
+        memory, until = 0, time.monotonic() + limit
         while True:
             memory = max(memory, resident(child.pid))
             ended, _, usage = os.wait4(child.pid, os.WNOHANG)
@@ -136,4 +137,5 @@ def main():
         small_days(raildesk, railplan, folder)
 
 
-main()
+if __name__ == "__main__":
+    main()
