@@ -18,7 +18,7 @@ use Rattle.price_bound.proofs.Whole.{relaxes}
 use Rattle.rail_base.specs.declared.numbers.Money.{Money}
 use Rattle.rules.specs.declared.heads.Head.TheVariants as heads
 use Rattle.answer_check.proofs.Truth.{holds}
-use Rattle.fleets.specs.Fleets.{IsFleet, IsNowhereAbove, own_fleet, with_fleet}
+use Rattle.fleets.specs.Fleets.{FitsDay, IsNowhereAbove, own_fleet, with_fleet}
 use Rattle.fleets.specs.Laws.{RunsAlikeWith}
 use Rattle.fleets.proofs.MoreUnits.{plans_run_with_more_units}
 use Rattle.fleets.proofs.OwnFleets.{own_fleet_fits}
@@ -31,7 +31,7 @@ use Rattle.fleet_boxes.specs.Boxes.{HasFleet, IsParted, box_of, lower_part, uppe
 use Rattle.fleet_boxes.specs.Laws.{ProvedBoxesBound}
 use Rattle.fleet_boxes.specs.Prices.{fleet_cost}
 use Rattle.fleet_boxes.specs.ProvedBoxes.{AreTrees, IsProvedAt, price_of, values_in, values_of}
-use Rattle.fleet_boxes.proofs.Costs.{larger_fleets_cost_more}
+use Rattle.fleet_boxes.proofs.Costs.{larger_fleets_cost_no_less}
 use Rattle.fleet_boxes.proofs.Parts.{boxes_have_all_fleets, not_above, splits_part}
 
 -- ---- what the tree of a leaf says of all plans of its day
@@ -68,10 +68,10 @@ later_worth value values price is =
     record { value = is.value; there = (suc k, (omega arith), e); small = is.small }
 
 module _ (day : Day) (prices : List ℕ) (sound : IsSoundDay day) where
-  -- the greatest fleet of each box is a fleet of the day
+  -- the greatest fleet of each box fits the day
   abbrev Fit : List FleetBox → Type 0
   Fit [] = Unit {0}
-  Fit (box ∷ boxes) = IsFleet day box.greatest × Fit boxes
+  Fit (box ∷ boxes) = FitsDay day box.greatest × Fit boxes
 
   -- the fleet is in one of the boxes
   abbrev InSome : List FleetBox → List ℕ → Type 0
@@ -83,7 +83,7 @@ module _ (day : Day) (prices : List ℕ) (sound : IsSoundDay day) where
   sums bound cost least units low less = omega (arith, ints)
 
   module _ (fleet : List ℕ) (plan : List (List ℕ)) (runs : Runs (with_fleet fleet day) plan) where
-    leaf_worth : (box : FleetBox) (bound : Money) (branchings : ℕ) (tree : List Node) → IsFleet day box.greatest → HasFleet box fleet
+    leaf_worth : (box : FleetBox) (bound : Money) (branchings : ℕ) (tree : List Node) → FitsDay day box.greatest → HasFleet box fleet
         → IsProved (meanings_of (with_fleet box.greatest day)) (root_of (with_fleet box.greatest day)) (bounded bound.0) branchings tree
         → (bound.0 +ℤ pos (fleet_cost prices box.least)) ≤ℤ pos (price_of day prices fleet plan)
     leaf_worth box bound branchings tree fits has proved =
@@ -93,9 +93,9 @@ module _ (day : Day) (prices : List ℕ) (sound : IsSoundDay day) where
         let low : bound.0 ≤ℤ pos (plan_cost (with_fleet fleet day) plan) =
         subst (λ (n : ℕ). bound.0 ≤ℤ pos n) more.cost (all more.other more.does_run) in
         sums bound.0 (plan_cost (with_fleet fleet day) plan) (fleet_cost prices box.least) (fleet_cost prices fleet) low
-        (larger_fleets_cost_more prices box.least fleet has.above)
+        (larger_fleets_cost_no_less prices box.least fleet has.above)
 
-    nothing_runs : (box : FleetBox) (branchings : ℕ) (tree : List Node) → IsFleet day box.greatest → HasFleet box fleet
+    nothing_runs : (box : FleetBox) (branchings : ℕ) (tree : List Node) → FitsDay day box.greatest → HasFleet box fleet
         → IsProved (meanings_of (with_fleet box.greatest day)) (root_of (with_fleet box.greatest day)) infeasible branchings tree → ⊥
     nothing_runs box branchings tree fits has proved =
         let more : RunsAlikeWith day fleet box.greatest plan = plans_run_with_more_units day fleet box.greatest plan has.below runs in

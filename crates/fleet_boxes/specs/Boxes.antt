@@ -9,7 +9,7 @@ pub record HasFleet (box : FleetBox) (fleet : List ℕ) : Type 0 where
   pub above : IsNowhereAbove box.least fleet
   pub below : IsNowhereAbove fleet box.greatest
 
--- the box of a day: the fleets that have nowhere more units than the day's stock at its start
+-- the box of a day, in which are all fleets of it
 abbrev pub box_of : Day → FleetBox
 box_of day = record { least = replicate (length day.stations * length day.types) 0; greatest = own_fleet day }
 

@@ -7,7 +7,7 @@ use Rattle.timetable.specs.Running.{Runs}
 use Rattle.branch_tree.specs.Claims.{IsProved, bounded, infeasible}
 use Rattle.branch_tree.specs.Regions.{root_of}
 use Rattle.price_bound.specs.DayMeanings.{meanings_of}
-use Rattle.fleets.specs.Fleets.{IsNowhereAbove, own_fleet, with_fleet}
+use Rattle.fleets.specs.Fleets.{IsFleetOf, with_fleet}
 use Rattle.fleet_boxes.specs.declared.boxes.FleetBox.{FleetBox}
 use Rattle.fleet_boxes.specs.declared.nodes.BoxNode.{BoxNode}
 use Rattle.fleet_boxes.specs.declared.nodes.BoxNode.TheVariants.{Split, Bound, Nothing}
@@ -74,12 +74,12 @@ values_of day prices nodes = values_in (length day.types) prices (box_of day ∷
 abbrev pub price_of : Day → List ℕ → List ℕ → List (List ℕ) → ℕ
 price_of day prices fleet plan = plan_cost (with_fleet fleet day) plan + fleet_cost prices fleet
 
--- no fleet with a plan that runs costs less, the fleets being those that have nowhere more units than the day's stock
+-- no fleet of the day costs less with a plan that runs
 abbrev pub FleetsCostAtLeast : Day → List ℕ → ℤ → Type 0
-FleetsCostAtLeast day prices bound = (fleet : List ℕ) (plan : List (List ℕ)) → IsNowhereAbove fleet (own_fleet day)
+FleetsCostAtLeast day prices bound = (fleet : List ℕ) (plan : List (List ℕ)) → IsFleetOf day fleet
     → Runs (with_fleet fleet day) plan → bound ≤ℤ pos (price_of day prices fleet plan)
 
--- no fleet has a plan that runs
+-- no fleet of the day has a plan that runs
 abbrev pub NoFleetRuns : Day → Type 0
-NoFleetRuns day = (fleet : List ℕ) (plan : List (List ℕ)) → IsNowhereAbove fleet (own_fleet day)
+NoFleetRuns day = (fleet : List ℕ) (plan : List (List ℕ)) → IsFleetOf day fleet
     → Runs (with_fleet fleet day) plan → ⊥

@@ -28,8 +28,8 @@ impl FleetBox {
         })
     }
 
-    /// Whether the box is parted by so many units at a place, which is below the number of places of both fleets: into
-    /// the fleets with as many there or fewer, and those with more, of which there are some of both.
+    /// Whether the box is parted by so many units at a place, which is below the number of places of both fleets: as
+    /// many or fewer stand there in the least fleet, and more in the greatest.
     pub fn is_parted(&self, place: u32, at: u32) -> bool
         requires least { place < length self.now.least }
         requires greatest { place < length self.now.greatest }

@@ -49,8 +49,8 @@ impl Prices {
         self.costs.as_slice()
     }
 
-    /// What all units of a fleet cost together, by station and then type. The fleet has no more units than a day may
-    /// have, and there is a price unless the fleet has no places. So it is less than 2^64.
+    /// What all units of a fleet cost together, as the law `fleets_cost_their_units` tells. The fleet has no more units
+    /// than a day may have, and there is a price unless the fleet has no places. So it is less than 2^64.
     pub fn of_fleet(&self, fleet: &Counts) -> Money
         requires prices { 0 < length fleet.now → 0 < length self.now }
         requires few { fleet_size fleet.now ≤ MAX_UNITS }
@@ -64,7 +64,7 @@ impl Prices {
         Money(cost as i128)
     }
 
-    /// What one unit at a place costs.
+    /// What one unit at a place costs: the price of the type whose place it is.
     fn at(&self, place: u32) -> u32
         requires { 0 < length self.now }
         ensures value { result ≡ price_at self.now place }

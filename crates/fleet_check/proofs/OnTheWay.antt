@@ -18,7 +18,7 @@ use Rattle.fleet_check.specs.declared.verdict.Stop.{Stop}
 use Rattle.fleet_check.specs.declared.verdict.Stop.TheVariants.{Found, NoMemory}
 use Rattle.fleet_check.specs.Tests.{FirstFails, StopsAt}
 use Rattle.fleet_check.specs.Verdicts.{FailsAt, IsWhole, splits_in, tests_from}
-use Rattle.fleet_check.specs.Walks.{AreLeavesOf, IsBoxOf}
+use Rattle.fleet_check.specs.Walks.{AreLeavesOf, IsFittingBox}
 use Rattle.fleet_check.proofs.Fitting.{Fit, parts_fit, root_fits}
 use Rattle.fleet_check.proofs.Passing.{passed_node}
 use Rattle.fleet_check.proofs.Shapes.{length-below, opens, opens_of_whole}
@@ -139,7 +139,7 @@ way_here day prices all number waiting left box leaves node inside at is here =
 
 -- the next box is one of the day
 pub fits_here : (day : Day) (prices : List ℕ) (all : List BoxNode) (number : ℕ) (waiting left : List FleetBox) (box : FleetBox) (leaves : Leaves) (node : BoxNode)
-    → number < length all → node ≡ get_or all number node → waiting ≡ left ++ box ∷ [] → IsHere day prices all number waiting leaves → IsBoxOf day box
+    → number < length all → node ≡ get_or all number node → waiting ≡ left ++ box ∷ [] → IsHere day prices all number waiting leaves → IsFittingBox day box
 fits_here day prices all number waiting left box leaves node inside at is here =
     (way_here day prices all number waiting left box leaves node inside at is here).fit.0
 

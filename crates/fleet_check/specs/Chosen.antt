@@ -2,13 +2,13 @@
 use Rattle.std.specs.Prelude.{ℕ, ◌≡◌, List, ℤ, pos, Option, Some}
 use Rattle.timetable.specs.Day.{Day}
 use Rattle.timetable.specs.Running.{Runs}
-use Rattle.fleets.specs.Fleets.{IsNowhereAbove, own_fleet, with_fleet}
+use Rattle.fleets.specs.Fleets.{IsFleetOf, with_fleet}
 use Rattle.fleet_boxes.specs.ProvedBoxes.{price_of}
 use Rattle.fleet_check.specs.declared.found.Chosen.{Chosen}
 
--- the stock is a fleet of the day: nowhere more units than its own stock; and the plan runs with it
+-- the stock is a fleet of the day, and the plan runs with it
 pub record DoesRun (day : Day) (chosen : Chosen) : Type 0 where
-  pub fleet : IsNowhereAbove chosen.stock (own_fleet day)
+  pub fleet : IsFleetOf day chosen.stock
   pub does_run : Runs (with_fleet chosen.stock day) chosen.plan
 
 -- it runs, and this is what it costs with the units of its fleet

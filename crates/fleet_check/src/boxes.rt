@@ -3,7 +3,7 @@
 ghost use Rattle.std.specs.Prelude.{◌≡◌, ◌++◌, ◌*◌, ◌+◌, ◌<◌, length, IfOk, reverse};
 ghost use Rattle.fleet_boxes.specs.Boxes.{box_of};
 ghost use Rattle.fleet_boxes.specs.ProvedBoxes.{IsProvedAt, boxes_below};
-ghost use Rattle.fleet_check.specs.Walks.{IsBoxOf};
+ghost use Rattle.fleet_check.specs.Walks.{IsFittingBox};
 
 use fleet_boxes::{BoxNode, FleetBox};
 use fleets::{Counts, fleet_of};
@@ -15,7 +15,7 @@ use timetable::Instance;
 /// memory.
 pub fn box_of(alloc: Global, instance: &Instance) -> Result<FleetBox, NoMemory>
     ensures all { IfOk result (λ fleets. fleets ≡ box_of instance.now) }
-    ensures fits { IfOk result (λ fleets. IsBoxOf instance.now fleets) }
+    ensures fits { IfOk result (λ fleets. IsFittingBox instance.now fleets) }
 {
     // What is known of an accepted day.
     instance.is_sound();

@@ -6,7 +6,7 @@ ghost use Rattle.timetable.specs.DayTables.{IsDayOfBytes};
 ghost use Rattle.timetable.specs.Links.{list_of};
 ghost use Rattle.timetable.specs.Plans.{are_units};
 ghost use Rattle.timetable.specs.Running.{IsPlan};
-ghost use Rattle.fleets.specs.Fleets.{IsNowhereAbove, own_fleet, with_fleet};
+ghost use Rattle.fleets.specs.Fleets.{IsFleetOf, IsNowhereAbove, with_fleet};
 ghost use Rattle.fleet_check.specs.Chosen.{DoesRun};
 ghost use Rattle.fleet_check.specs.Tests.{StopsAt};
 ghost use Rattle.fleet_check.specs.Verdicts.{HasPlanSaid, plan_tests, price_found, price_said};
@@ -23,8 +23,8 @@ use rail_base::{Money, NoMemory, TripNo, UnitNo};
 use std::alloc::Global;
 use timetable::{Instance, NamedPlan};
 
-/// What a chosen plan costs without the units of its fleet, where its stock is a fleet of the day that has nowhere more
-/// units than the day's own, and it is a plan with it that runs; else none. The error is want of memory.
+/// What a chosen plan costs without the units of its fleet, where its stock is a fleet of the day, with nowhere more
+/// units than the day's own stock, and it is a plan with it that runs; else none. The error is want of memory.
 pub fn cost_of(
     alloc: Global,
     tables: &DayOfTables<'_>,
@@ -51,10 +51,10 @@ pub fn cost_of(
     }
 }
 
-/// Whether a fleet has a number for each station and type of a day, and nowhere more units than the day's stock at its
-/// start. The error is want of memory.
+/// Whether it is a fleet of a day: it has a number for each station and type, and nowhere more units than the day's
+/// stock at its start. The error is want of memory.
 fn is_within_stock(alloc: Global, instance: &Instance, fleet: &Counts) -> Result<bool, NoMemory>
-    ensures { IfOk result (λ within. IsTrue within ↔ IsNowhereAbove fleet.now (own_fleet instance.now)) }
+    ensures { IfOk result (λ within. IsTrue within ↔ IsFleetOf instance.now fleet.now) }
 {
     let most = fleet_of(alloc, instance)?;
     Ok(is_nowhere_above(fleet, &most))

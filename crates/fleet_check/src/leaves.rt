@@ -11,7 +11,7 @@ ghost use Rattle.fleet_boxes.specs.Prices.{fleet_cost};
 ghost use Rattle.fleet_boxes.specs.ProvedBoxes.{IsProvedAt, values_in};
 ghost use Rattle.fleet_check.specs.declared.found.TheConstants.{MAX_BOX_NODES};
 ghost use Rattle.fleet_check.specs.Verdicts.{splits_in};
-ghost use Rattle.fleet_check.specs.Walks.{IsBoxOf};
+ghost use Rattle.fleet_check.specs.Walks.{IsFittingBox};
 
 use crate::amounts::with_units;
 use crate::found::MAX_BOX_NODES;
@@ -38,7 +38,7 @@ pub(crate) fn with_node(
     fleets: &FleetBox,
 ) -> Leaves
     requires prices { length prices.now ≡ length instance.now.types }
-    requires fits { IsBoxOf instance.now fleets.now }
+    requires fits { IsFittingBox instance.now fleets.now }
     requires proved { IsProvedAt instance.now fleets.now node.now }
     requires few { leaves.splits < MAX_BOX_NODES }
     ensures splits { result.splits ≡ leaves.splits + splits_in (node.now ∷ []) }
@@ -70,7 +70,7 @@ fn value_of(
     fleets: &FleetBox,
 ) -> Money
     requires prices { length prices.now ≡ length instance.now.types }
-    requires fits { IsBoxOf instance.now fleets.now }
+    requires fits { IsFittingBox instance.now fleets.now }
     requires proved { (branchings : ℕ) × IsProved (meanings_of (with_fleet fleets.now.greatest instance.now))
         (root_of (with_fleet fleets.now.greatest instance.now)) (bounded bound.0) branchings tree.now }
     ensures { result.0 ≡ bound.0 +ℤ pos (fleet_cost prices.now fleets.now.least) }

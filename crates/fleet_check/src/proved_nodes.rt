@@ -7,11 +7,11 @@ ghost use Rattle.branch_tree.specs.Claims.{IsProvedClaim};
 ghost use Rattle.branch_tree.specs.Regions.{root_of};
 ghost use Rattle.cert_check.specs.Verdicts.{IsVerdict};
 ghost use Rattle.price_bound.specs.DayMeanings.{meanings_of};
-ghost use Rattle.fleets.specs.Fleets.{IsFleet, with_fleet};
+ghost use Rattle.fleets.specs.Fleets.{FitsDay, with_fleet};
 ghost use Rattle.fleet_boxes.specs.ProvedBoxes.{IsProvedAt, IsSplit};
 ghost use Rattle.fleet_check.specs.Tests.{StopsAt, StopsWith};
 ghost use Rattle.fleet_check.specs.Verdicts.{FailsAt};
-ghost use Rattle.fleet_check.specs.Walks.{IsBoxOf};
+ghost use Rattle.fleet_check.specs.Walks.{IsFittingBox};
 
 use crate::boxes::place_of;
 use crate::day_of_tables::DayOfTables;
@@ -35,7 +35,7 @@ pub(crate) fn test_node(
     fleets: &FleetBox,
 ) -> Result<(), Stop>
     requires made { IsDayOfBytes tables.now.bytes.now tables.now.instance.now }
-    requires fits { IsBoxOf tables.now.instance.now fleets.now }
+    requires fits { IsFittingBox tables.now.instance.now fleets.now }
     ensures passed { IfOk result (λ _. IsProvedAt tables.now.instance.now fleets.now node.now) }
     ensures stops { IfErr result (StopsAt (FailsAt tables.now.instance.now number fleets.now node.now ∷ [])) }
 {
@@ -77,7 +77,7 @@ fn test_split(
     at: u32,
     fleets: &FleetBox,
 ) -> Result<(), Stop>
-    requires { IsBoxOf instance.now fleets.now }
+    requires { IsFittingBox instance.now fleets.now }
     ensures passed { IfOk result (λ _. IsSplit instance.now fleets.now station unit_type at) }
     ensures stops { IfErr result (StopsWith (FleetVerdict.SplitOutside number)
         (IsSplit instance.now fleets.now station unit_type at)) }
@@ -104,7 +104,7 @@ fn test_leaf(
     fleet: &Counts,
 ) -> Result<(), Stop>
     requires made { IsDayOfBytes tables.now.bytes.now tables.now.instance.now }
-    requires fleet { IsFleet tables.now.instance.now fleet.now }
+    requires fleet { FitsDay tables.now.instance.now fleet.now }
     ensures passed { IfOk result (λ _. IsProvedClaim (meanings_of (with_fleet fleet.now tables.now.instance.now))
         (root_of (with_fleet fleet.now tables.now.instance.now)) claim.now) }
     ensures stops { IfErr result (StopsWith (FleetVerdict.LeafFails number)

@@ -16,7 +16,7 @@ use Rattle.branch_tree.specs.Trees.{IsLeastOf}
 use Rattle.rules.specs.declared.heads.Head.{Head}
 use Rattle.rules.specs.declared.heads.Head.TheVariants.{Optimal, BoundedPlan}
 use Rattle.answer_check.specs.ProvedTrees.{bound_said}
-use Rattle.fleets.specs.Fleets.{IsFleet, own_fleet, start_at, with_fleet}
+use Rattle.fleets.specs.Fleets.{FitsDay, own_fleet, start_at, with_fleet}
 use Rattle.fleets.proofs.Sizes.{smaller_fleets_fit}
 use Rattle.fleet_boxes.specs.declared.boxes.FleetBox.{FleetBox}
 use Rattle.fleet_boxes.specs.declared.nodes.BoxNode.{BoxNode}
@@ -34,7 +34,7 @@ use Rattle.fleet_size.specs.declared.searching.Search.{Search}
 use Rattle.fleet_size.specs.declared.slots.Slot.{Slot}
 use Rattle.fleet_size.specs.Found.{BoundLeaf, IsFleetFound, IsOpenLeaf, IsPlanned, IsSearched, IsSpent, bound_leaves, fleets_below}
 use Rattle.fleet_size.specs.Slots.{IsBest, IsBoxOf, IsOfKind, IsPlaced, IsSearch, head_found, is_cheaper, nodes_in, price_in}
-use Rattle.fleet_size.specs.Values.{CanBeValued, HasEnded, IsDone, IsFleetOf, value_in, values_at}
+use Rattle.fleet_size.specs.Values.{CanBeValued, HasEnded, IsDone, IsConclusion, value_in, values_at}
 use Rattle.fleet_size.proofs.Counts.{IsCounted, all_below, each_alone, fleets_from}
 use Rattle.fleet_size.proofs.Leaves.{less_is_true}
 use Rattle.fleet_size.proofs.Offering.{fleet_fits, some_price}
@@ -220,7 +220,7 @@ none_said head none = at (bound_said head) none
 -- ---- all together
 
 module _ (day : Day) (prices : List ℕ) (granted : Granted) (search : Search) (fleet : Fleet) (searched : IsSearch day prices granted.branchings search)
-    (ended : HasEnded prices granted.splits search) (of : IsFleetOf prices search fleet) where
+    (ended : HasEnded prices granted.splits search) (of : IsConclusion prices search fleet) where
   abbrev types : ℕ
   types = length day.types
 
@@ -324,7 +324,7 @@ module _ (day : Day) (prices : List ℕ) (granted : Granted) (search : Search) (
 
 pub placed_can_be_valued : (day : Day) (prices : List ℕ) (grant : ℕ) (most : Option ℤ) → IsSoundDay day → length prices ≡ length day.types → (slot : Slot) → IsPlaced day prices grant most slot → CanBeValued prices slot
 placed_can_be_valued day prices grant most sound same slot is =
-    let fits : IsFleet day slot.fleets.least = smaller_fleets_fit day slot.fleets.least slot.fleets.greatest (fleet_fits day slot.fleets.greatest sound is.box.within) is.box.ordered in
+    let fits : FitsDay day slot.fleets.least = smaller_fleets_fit day slot.fleets.least slot.fleets.greatest (fleet_fits day slot.fleets.greatest sound is.box.within) is.box.ordered in
     record { priced = some_price day prices slot.fleets.least fits same; few = fits.few; small = is.small; ordered = is.box.ordered }
 
 pub search_can_be_valued : (day : Day) (prices : List ℕ) (grant : ℕ) (search : Search) → IsSoundDay day → length prices ≡ length day.types → IsSearch day prices grant search → All (CanBeValued prices) search.slots.items

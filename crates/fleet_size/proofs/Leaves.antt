@@ -24,7 +24,7 @@ use Rattle.answer_text.specs.Limits.{IsHead}
 use Rattle.answer_check.specs.Headline.{IsHeadline}
 use Rattle.answer_check.specs.ProvedTrees.{bound_said}
 use Rattle.answer_check.specs.Validity.{conclusion_of}
-use Rattle.fleets.specs.Fleets.{IsFleet, own_fleet, with_fleet}
+use Rattle.fleets.specs.Fleets.{FitsDay, own_fleet, with_fleet}
 use Rattle.fleets.proofs.OwnFleets.{own_fleet_fits}
 use Rattle.fleets.proofs.Sizes.{smaller_fleets_fit}
 use Rattle.fleets.proofs.SoundFleets.{days_of_fleets_are_sound}
@@ -47,7 +47,7 @@ less_is_true a b less = at (int_lt a b) refl
 
 -- ---- a day with the greatest fleet of a box
 
-pub box_fits : (day : Day) (box : FleetBox) → IsSoundDay day → IsBoxOf day box → IsFleet day box.greatest
+pub box_fits : (day : Day) (box : FleetBox) → IsSoundDay day → IsBoxOf day box → FitsDay day box.greatest
 box_fits day box sound is = smaller_fleets_fit day box.greatest (own_fleet day) (own_fleet_fits day sound.limits.units.few) is.within
 
 -- ---- a tree that proves a plan to be one of least cost proves its cost as a bound

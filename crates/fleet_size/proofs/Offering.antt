@@ -10,7 +10,7 @@ use Rattle.rules.specs.declared.heads.Head.TheVariants.{Optimal, Infeasible, Bou
 use Rattle.answer_text.specs.Limits.{IsAmount, IsHead}
 use Rattle.answer_check.specs.Headline.{IsTrueOf}
 use Rattle.timetable.specs.Accepted.{IsSoundDay}
-use Rattle.fleets.specs.Fleets.{IsFleet, IsNowhereAbove, own_fleet, with_fleet}
+use Rattle.fleets.specs.Fleets.{FitsDay, IsNowhereAbove, own_fleet, with_fleet}
 use Rattle.fleets.proofs.OwnFleets.{own_fleet_fits}
 use Rattle.fleets.proofs.Sizes.{smaller_fleets_fit}
 use Rattle.fleet_boxes.specs.Prices.{fleet_cost}
@@ -87,11 +87,11 @@ answer_offers day fleet (BoundedPlan bound price) runs cost below holds amounts 
 
 -- ---- sums
 
-pub fleet_fits : (day : Day) (fleet : List ℕ) → IsSoundDay day → IsNowhereAbove fleet (own_fleet day) → IsFleet day fleet
+pub fleet_fits : (day : Day) (fleet : List ℕ) → IsSoundDay day → IsNowhereAbove fleet (own_fleet day) → FitsDay day fleet
 fleet_fits day fleet sound below = smaller_fleets_fit day fleet (own_fleet day) (own_fleet_fits day sound.limits.units.few) below
 
 -- there is a price where there is a place
-pub some_price : (day : Day) (prices fleet : List ℕ) → IsFleet day fleet → length prices ≡ length day.types → 0 < length fleet → 0 < length prices
+pub some_price : (day : Day) (prices fleet : List ℕ) → FitsDay day fleet → length prices ≡ length day.types → 0 < length fleet → 0 < length prices
 some_price day prices fleet fits same some = at (length day.types) refl
   where
     at : (types : ℕ) → length day.types ≡ types → 0 < length prices

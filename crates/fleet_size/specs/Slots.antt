@@ -11,7 +11,7 @@ use Rattle.branch_tree.specs.Regions.{choices_of, root_of}
 use Rattle.rules.specs.declared.heads.Head.{Head}
 use Rattle.rules.specs.declared.heads.Head.TheVariants.{Optimal, Infeasible, Bounded, BoundedPlan}
 use Rattle.answer_text.specs.Limits.{IsAmount}
-use Rattle.fleets.specs.Fleets.{IsNowhereAbove, own_fleet, with_fleet}
+use Rattle.fleets.specs.Fleets.{IsFleetOf, IsNowhereAbove, with_fleet}
 use Rattle.fleet_boxes.specs.declared.boxes.FleetBox.{FleetBox}
 use Rattle.fleet_boxes.specs.declared.nodes.BoxNode.{BoxNode}
 use Rattle.fleet_boxes.specs.declared.nodes.BoxNode.TheVariants.{Split, Bound, Nothing}
@@ -56,9 +56,9 @@ abbrev pub IsTaken : List ℕ → List ℕ → Head → Option ℤ → Type 0
 IsTaken prices fleet head price =
     MatchOption (price_said head) (Unit {0}) (λ cost. IsPricedUpTo price (cost +ℤ pos (fleet_cost prices fleet)))
 
--- a plan that runs with a fleet of the day's own units, at a cost
+-- a plan that runs with a fleet of the day, at a cost
 pub record IsOffer (day : Day) (fleet : List ℕ) (plan : List (List ℕ)) (cost : ℤ) : Type 0 where
-  pub within : IsNowhereAbove fleet (own_fleet day)
+  pub within : IsFleetOf day fleet
   pub runs : Runs (with_fleet fleet day) plan
   pub costs : cost ≡ pos (plan_cost (with_fleet fleet day) plan)
   pub amount : IsAmount cost
@@ -76,7 +76,7 @@ head_found (Some bound) (Some price) =
 -- a box of fleets of the day
 pub record IsBoxOf (day : Day) (box : FleetBox) : Type 0 where
   pub ordered : IsNowhereAbove box.least box.greatest
-  pub within : IsNowhereAbove box.greatest (own_fleet day)
+  pub within : IsFleetOf day box.greatest
 
 -- the leaf that says of a box what an answer says of the day with its greatest fleet
 abbrev pub node_said : Head → ℕ → List Node → BoxNode

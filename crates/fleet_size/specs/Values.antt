@@ -57,7 +57,7 @@ lower_of (Some other) None = Some other
 lower_of (Some other) (Some value) = if int_lt value.0 other.0 then Some value else Some other
 
 -- what a search comes to
-pub record IsFleetOf (prices : List ℕ) (search : Search) (fleet : Fleet) : Type 0 where
+pub record IsConclusion (prices : List ℕ) (search : Search) (fleet : Fleet) : Type 0 where
   pub boxes : fleet.boxes ≡ nodes_in search.slots.items
   pub splits : fleet.splits ≡ search.splits
   pub chosen : fleet.chosen ≡ option_map (λ best. best.chosen) search.best

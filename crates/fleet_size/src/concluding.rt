@@ -3,7 +3,7 @@
 ghost use Rattle.std.specs.Prelude.{All, ◌≡◌, map, option_map, IfOk};
 ghost use Rattle.branch_tree.specs.Trees.{IsLeastOf};
 ghost use Rattle.fleet_size.specs.Slots.{head_found, price_in};
-ghost use Rattle.fleet_size.specs.Values.{CanBeValued, IsFleetOf, lower_of, values_at};
+ghost use Rattle.fleet_size.specs.Values.{CanBeValued, IsConclusion, lower_of, values_at};
 
 use crate::choosing::value_of;
 use crate::offers::Best;
@@ -18,7 +18,7 @@ use std::alloc::Global;
 /// What is found at the end of a search. The error is want of memory.
 pub(crate) fn concluded(alloc: Global, prices: &Prices, search: Search) -> Result<Fleet, NoMemory>
     requires { All (CanBeValued prices.now) search.slots.items }
-    ensures { IfOk result (IsFleetOf prices.now search) }
+    ensures { IfOk result (IsConclusion prices.now search) }
 {
     let least = least_value(prices, &search.slots);
     let head = head_of(least, &search.best);

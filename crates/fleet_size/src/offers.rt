@@ -6,7 +6,7 @@ ghost use Rattle.rail_base.specs.declared.limits.TheConstants.{MAX_COMPOSITION_U
 ghost use Rattle.timetable.specs.DayTables.{IsDayOfBytes};
 ghost use Rattle.answer_text.specs.Limits.{IsAmount, IsHead};
 ghost use Rattle.answer_check.specs.Headline.{IsTrueOf};
-ghost use Rattle.fleets.specs.Fleets.{IsNowhereAbove, own_fleet, with_fleet};
+ghost use Rattle.fleets.specs.Fleets.{IsFleetOf, with_fleet};
 ghost use Rattle.fleet_boxes.specs.Prices.{fleet_cost};
 ghost use Rattle.fleet_check.specs.Chosen.{RunsAtPrice};
 ghost use Rattle.fleet_check.specs.Verdicts.{price_said};
@@ -66,7 +66,7 @@ pub(crate) fn take_plan(
     requires made { IsDayOfBytes tables.bytes.now tables.instance.now }
     requires prices { length prices.now ≡ length tables.instance.now.types }
     requires day { answer.day.now ≡ with_fleet answer.fleet.now tables.instance.now }
-    requires fleet { IsNowhereAbove answer.fleet.now (own_fleet tables.instance.now) }
+    requires fleet { IsFleetOf tables.instance.now answer.fleet.now }
     requires holds { IsTrueOf answer.day.now answer.head answer.runs }
     requires amounts { IsHead answer.head }
     requires few { length answer.runs ≤ MAX_TRIPS }

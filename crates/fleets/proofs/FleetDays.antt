@@ -1,4 +1,4 @@
--- Tables that make a day make the day with a fleet of it.
+-- Tables that make a day make the day with a fleet that fits it.
 use Rattle.std.proofs.Common.{◌≡◌, ◌∙◌, ℕ, zero, suc, ◌+◌, ◌*◌, ◌/◌, ◌%◌, ◌<◌, ◌≤◌, List, [], ◌∷◌, length, refl, sym, ap, arith}
 use Rattle.std.proofs.Common.{subst}
 use Rattle.std.specs.List.{AllZip}
@@ -20,7 +20,7 @@ use Rattle.timetable.proofs.Meant.{day_is_meant}
 use Rattle.timetable.proofs.NumberedUnits.{units_are_numbered}
 use Rattle.timetable.proofs.OtherStock.{other_stock_keeps_timetables}
 use Rattle.timetable.proofs.Said.{is_day_of}
-use Rattle.fleets.specs.Fleets.{fleet_size, IsFleet, stock_from, with_fleet, name_at, rows_from, tables_with}
+use Rattle.fleets.specs.Fleets.{fleet_size, FitsDay, stock_from, with_fleet, name_at, rows_from, tables_with}
 use Rattle.fleets.specs.Laws.{TablesMakeDaysOfFleets}
 use Rattle.fleets.proofs.Places.{starts-stock_from, stock_apart}
 
@@ -69,7 +69,7 @@ module _ (day : Day) (stock : List Stock) where
   link_so : (row : LinkRow) (link : Link) → IsLinkOf day row link → IsLinkOf other row link
   link_so row link is = record { kind = is.kind; reverse = is.reverse }
 
-meant_with : (tables : Tables) (day : Day) (fleet : List ℕ) → IsDayOf tables day → IsFleet day fleet → IsDayOf (tables_with day fleet tables) (with_fleet fleet day)
+meant_with : (tables : Tables) (day : Day) (fleet : List ℕ) → IsDayOf tables day → FitsDay day fleet → IsDayOf (tables_with day fleet tables) (with_fleet fleet day)
 unfolding from_of to_of leaves arrives
 meant_with tables day fleet is fits =
     let stock : List Stock = stock_from (length day.types) 0 fleet in

@@ -3,6 +3,7 @@ pub mod Sizes
 pub mod FleetDays
 pub mod Standing
 pub mod MoreUnits
+pub mod Numbering
 pub mod OwnFleets
 pub mod Rows
 pub mod SoundFleets

@@ -1,4 +1,4 @@
--- The units of a day's own stock are a fleet of it.
+-- The units of a day's own stock are a fleet that fits it.
 use Rattle.std.proofs.Common.{◌<◌, ◌≡◌, ◌∙◌, ℕ, zero, suc, ◌+◌, ◌*◌, ◌/◌, ◌%◌, ◌≤◌, List, [], ◌∷◌, ◌++◌, length, refl, sym, arith}
 use Rattle.std.proofs.Common.{Bool, true, false, inl, inr}
 use Rattle.std.specs.Prelude.{◌==◌, ◌&&◌, if◌then◌else◌}
@@ -11,7 +11,7 @@ use Rattle.timetable.specs.Lists.{listed, sum_below}
 use Rattle.timetable.specs.Starts.{start_in, start_of}
 use Rattle.timetable.proofs.Listing.{length-listed, get_listed}
 use Rattle.timetable.proofs.NumberedUnits.{units_are_numbered}
-use Rattle.fleets.specs.Fleets.{fleet_size, IsFleet, own_fleet, start_at}
+use Rattle.fleets.specs.Fleets.{fleet_size, FitsDay, own_fleet, start_at}
 use Rattle.fleets.specs.Laws.{OwnFleetsStand}
 use Rattle.fleets.proofs.Places.{one_place}
 use Rattle.std.proofs.Math.Nat.{mul-le-mul_right, suc-mul}
@@ -83,7 +83,7 @@ module _ (types : ℕ) where
       let one = row_once row n in
       omega arith
 
-pub own_fleet_fits : (day : Day) → unit_count day ≤ MAX_UNITS → IsFleet day (own_fleet day)
+pub own_fleet_fits : (day : Day) → unit_count day ≤ MAX_UNITS → FitsDay day (own_fleet day)
 unfolding start_of
 own_fleet_fits day few =
     let places : ℕ = length day.stations * length day.types in

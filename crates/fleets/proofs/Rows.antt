@@ -8,7 +8,7 @@ use Rattle.rail_base.specs.declared.limits.TheConstants.{MAX_STOCK, MAX_STOCK_RO
 use Rattle.rail_csv.specs.declared.rows.StockRow.{StockRow}
 use Rattle.timetable.specs.Accepted.{IsSoundDay}
 use Rattle.timetable.specs.Day.{Day}
-use Rattle.fleets.specs.Fleets.{fleet_size, IsFleet, row_in, rows_from}
+use Rattle.fleets.specs.Fleets.{fleet_size, FitsDay, row_in, rows_from}
 
 -- no number of a fleet is greater than all together
 one_of_all : (fleet : List ℕ) (k n : ℕ) → slice_get fleet k ≡ Some n → n ≤ fleet_size fleet
@@ -16,7 +16,7 @@ one_of_all [] k n at = let inside = slice_get_within {A = ℕ} [] k n at in absu
 one_of_all (x ∷ fleet) zero n at = let same : x ≡ n = get_or_from_slice_get (x ∷ fleet) zero n n at in omega arith
 one_of_all (x ∷ fleet) (suc k) n at = let rest = one_of_all fleet k n at in omega arith
 
-pub few_at : (day : Day) (fleet : List ℕ) (k n : ℕ) → IsFleet day fleet → slice_get fleet k ≡ Some n → n ≤ MAX_STOCK
+pub few_at : (day : Day) (fleet : List ℕ) (k n : ℕ) → FitsDay day fleet → slice_get fleet k ≡ Some n → n ≤ MAX_STOCK
 few_at day fleet k n fits at = let one = one_of_all fleet k n at in omega (arith, fits.few)
 
 -- one row more
@@ -48,7 +48,7 @@ length-rows_from day place [] = refl
 length-rows_from day place (x ∷ fleet) = ap suc (length-rows_from day (place + 1) fleet)
 
 -- there are so few stations and types that the rows are no more than a table may have
-pub few_rows : (day : Day) (fleet : List ℕ) → IsSoundDay day → IsFleet day fleet → length (rows_from day 0 fleet) ≤ MAX_STOCK_ROWS
+pub few_rows : (day : Day) (fleet : List ℕ) → IsSoundDay day → FitsDay day fleet → length (rows_from day 0 fleet) ≤ MAX_STOCK_ROWS
 few_rows day fleet sound fits =
     let most : length day.stations * length day.types ≤ 60 * 6 = mul-le (length day.stations) (length day.types) 60 6 sound.limits.timetable.station_count sound.limits.timetable.type_count in
     omega (arith, length-rows_from day 0 fleet, fits.each, most)

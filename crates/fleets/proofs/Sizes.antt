@@ -1,4 +1,4 @@
--- A fleet that has nowhere more units than a fleet of a day is one too.
+-- A fleet that has nowhere more units than one that fits a day fits it too.
 use Rattle.std.proofs.Common.{◌≡◌, ◌∙◌, ℕ, suc, ◌≤◌, List, [], ◌∷◌, length, refl, ap, arith}
 use Rattle.fleets.specs.Fleets.{fleet_size, IsNowhereAbove}
 use Rattle.fleets.specs.Laws.{SmallerFleetsFit}

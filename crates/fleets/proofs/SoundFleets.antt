@@ -1,13 +1,12 @@
--- The day with a fleet of an accepted day is as the laws on days ask for it.
-use Rattle.std.proofs.Common.{◌≡◌, ◌∙◌, ℕ, zero, suc, ◌+◌, ◌*◌, ◌/◌, ◌%◌, ◌<◌, ◌≤◌, List, [], ◌∷◌, length, refl, sym, ap, arith, subst}
+-- An accepted day with a fleet that fits it is as the laws on days ask for it.
+use Rattle.std.proofs.Common.{◌≡◌, ◌∙◌, ℕ, ◌+◌, ◌*◌, ◌/◌, ◌%◌, ◌<◌, ◌≤◌, List, [], ◌∷◌, length, sym, ap, arith, subst}
 use Rattle.std.proofs.Common.{Bool, true, false}
 use Rattle.std.specs.Prelude.{◌==◌, ◌&&◌, if◌then◌else◌}
 use Rattle.std.specs.List.{All}
 use Rattle.std.proofs.lemmas.List.Elements.{All-nil, All-cons}
 use Rattle.rail_base.specs.declared.limits.TheConstants.{MAX_UNITS, MAX_COMPOSITIONS}
 use Rattle.rules.specs.declared.records.Stock.{Stock}
-use Rattle.rules.specs.declared.records.Unit as unit
-use Rattle.timetable.specs.Accepted.{IsSoundDay, AreUnitsOf, IsStocked}
+use Rattle.timetable.specs.Accepted.{AreUnitsOf, IsStocked}
 use Rattle.timetable.specs.Day.{Day, stock_units, unit_count, units_in, units_of, home_of, type_of, wanted_in, wanted_of}
 use Rattle.timetable.specs.DerivedDays.{KeepsTimetable}
 use Rattle.timetable.specs.Within.{IsStockAt, IsUnitAt}
@@ -16,7 +15,7 @@ use Rattle.timetable.proofs.FewPlaces.{few_places}
 use Rattle.timetable.proofs.Indices.{InRows, in_rows}
 use Rattle.timetable.proofs.NumberedUnits.{units_are_numbered}
 use Rattle.timetable.proofs.OtherStock.{other_stock_keeps_timetables}
-use Rattle.fleets.specs.Fleets.{fleet_size, IsFleet, stock_from, with_fleet}
+use Rattle.fleets.specs.Fleets.{fleet_size, FitsDay, stock_from, with_fleet}
 use Rattle.fleets.specs.Laws.{DaysOfFleetsAreSound}
 use Rattle.fleets.proofs.Places.{rows_once, starts-stock_from}
 
@@ -37,7 +36,7 @@ few_wanted types place s m (n ∷ fleet) = one (((place / types) == s) && ((plac
     one true rest few = omega arith
     one false rest few = omega arith
 
-units_there : (day : Day) (fleet : List ℕ) → IsFleet day fleet → AreUnitsOf (stock_units (with_fleet fleet day)) (with_fleet fleet day)
+units_there : (day : Day) (fleet : List ℕ) → FitsDay day fleet → AreUnitsOf (stock_units (with_fleet fleet day)) (with_fleet fleet day)
 unfolding home_of type_of units_of
 units_there day fleet fits =
     let stock : List Stock = stock_from (length day.types) 0 fleet in
@@ -50,7 +49,7 @@ units_there day fleet fits =
       few = subst (λ (n : ℕ). n ≤ MAX_UNITS) (sym count) fits.few;
     }
 
-stocked : (day : Day) (fleet : List ℕ) → IsFleet day fleet → IsStocked (with_fleet fleet day)
+stocked : (day : Day) (fleet : List ℕ) → FitsDay day fleet → IsStocked (with_fleet fleet day)
 unfolding wanted_of
 stocked day fleet fits = record {
   once = λ s m. rows_once (length day.types) 0 s m fleet;

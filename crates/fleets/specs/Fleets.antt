@@ -18,8 +18,9 @@ abbrev pub fleet_size : List ℕ → ℕ
 fleet_size [] = 0
 fleet_size (units ∷ fleet) = units + fleet_size fleet
 
--- one number for each station and type of the day, and no more units in all than a day may have
-pub record IsFleet (day : Day) (fleet : List ℕ) : Type 0 where
+-- The day can be made with the fleet: it has one number for each station and type of the day, and no more units in all
+-- than a day may have. Whether the day's own stock has so many does not matter here.
+pub record FitsDay (day : Day) (fleet : List ℕ) : Type 0 where
   pub each : length fleet ≡ length day.stations * length day.types
   pub few : fleet_size fleet ≤ MAX_UNITS
 
@@ -34,6 +35,10 @@ start_at day place = start_of day (place / length day.types) (place % length day
 -- the units of the day's own stock, as a fleet
 abbrev pub own_fleet : Day → List ℕ
 own_fleet day = listed (start_at day) (length day.stations * length day.types)
+
+-- A fleet of the day: nowhere has it more units of a type than the day's stock at its start.
+abbrev pub IsFleetOf : Day → List ℕ → Type 0
+IsFleetOf day fleet = IsNowhereAbove fleet (own_fleet day)
 
 -- ---- the day with a fleet
 

@@ -4,7 +4,7 @@ ghost use Rattle.std.specs.Prelude.{◌≡◌, ◌<◌, ◌≤◌, ◌*◌, leng
 ghost use Rattle.rail_base.specs.declared.limits.TheConstants.{MAX_STOCK};
 ghost use Rattle.rail_csv.specs.Rows.{AreStockRows, IsStockRow};
 ghost use Rattle.timetable.specs.DayTables.{IsDayOfBytes};
-ghost use Rattle.fleets.specs.Fleets.{IsFleet, own_fleet, row_in, rows_from, start_at, with_fleet};
+ghost use Rattle.fleets.specs.Fleets.{FitsDay, own_fleet, row_in, rows_from, start_at, with_fleet};
 
 use crate::counts::Counts;
 use rail_base::{Name, NoMemory, StationNo, TypeNo};
@@ -12,11 +12,11 @@ use rail_csv::{StockRow, TableBytes};
 use std::alloc::Global;
 use timetable::{Instance, Rows, Tables, tables_of};
 
-/// How many units of each type stand at each station as the day begins, as a fleet of the day. The error is want of
-/// memory.
+/// How many units of each type stand at each station as the day begins, as a fleet. It fits the day: it has no more
+/// units than a day may have. The error is want of memory.
 pub fn fleet_of(alloc: Global, instance: &Instance) -> Result<Counts, NoMemory>
     ensures own { IfOk result (λ fleet. fleet ≡ own_fleet instance.now) }
-    ensures fleet { IfOk result (IsFleet instance.now) }
+    ensures fits { IfOk result (FitsDay instance.now) }
 {
     let places = instance.stations() * instance.types().len();
     let mut counts = Vec::new(alloc);
@@ -37,8 +37,9 @@ fn start_at(instance: &Instance, place: u32) -> u32
     instance.start(StationNo(place / types), TypeNo(place % types))
 }
 
-/// The day with the units of a fleet of it in place of its stock: each station begins the day with these units, and is
-/// to end it with as many of each type. Units are numbered by station and then type. All else is as on the day.
+/// The day with the units of a fleet in place of its stock: each station begins the day with these units, and is to end
+/// it with as many of each type. Units are numbered by station and then type, as the law `fleets_are_numbered` tells.
+/// All else is as on the day.
 ///
 /// The bytes are those of the tables that made the day, and the fleet has a number for each of its stations and types,
 /// and no more units in all than a day may have; so the tables make the day with the fleet too, by the law
@@ -50,7 +51,7 @@ pub fn day_with(
     fleet: &Counts,
 ) -> Result<Instance, NoMemory>
     requires made { IsDayOfBytes bytes.now instance.now }
-    requires fleet { IsFleet instance.now fleet.now }
+    requires fleet { FitsDay instance.now fleet.now }
     ensures { IfOk result (λ day. day ≡ with_fleet fleet.now instance.now) }
 {
     let Ok(tables) = tables_of(alloc, bytes) else {
@@ -63,9 +64,9 @@ pub fn day_with(
     }
 }
 
-/// The stock rows of a fleet of the day.
+/// The stock rows of a fleet that fits the day.
 fn rows_of(alloc: Global, instance: &Instance, fleet: &Counts) -> Result<Vec<StockRow>, NoMemory>
-    requires { IsFleet instance.now fleet.now }
+    requires { FitsDay instance.now fleet.now }
     ensures rows { IfOk result (λ rows. rows.items ≡ rows_from instance.now 0 fleet.now) }
     ensures within { IfOk result (λ rows. AreStockRows rows.items) }
 {
@@ -78,7 +79,7 @@ fn rows_of(alloc: Global, instance: &Instance, fleet: &Counts) -> Result<Vec<Sto
     Ok(rows)
 }
 
-/// The stock row of a place of a fleet of the day, with so many units.
+/// The stock row of a place of the day's fleets, with so many units.
 fn row_in(alloc: Global, instance: &Instance, place: u32, units: u32) -> Result<StockRow, NoMemory>
     requires place { place < length instance.now.stations * length instance.now.types }
     requires units { units ≤ MAX_STOCK }

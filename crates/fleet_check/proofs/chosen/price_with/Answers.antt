@@ -3,7 +3,7 @@ use Rattle.rail_base.specs.declared.numbers.Money.{Money}
 use Rattle.timetable.specs.Cost.{plan_cost}
 use Rattle.timetable.specs.Day.{Day}
 use Rattle.price_bound.specs.declared.sizes.TheConstants.{MAX_PRICED_VALUE}
-use Rattle.fleets.specs.Fleets.{IsFleet, own_fleet, with_fleet}
+use Rattle.fleets.specs.Fleets.{FitsDay, own_fleet, with_fleet}
 use Rattle.fleets.proofs.OwnFleets.{own_fleet_fits}
 use Rattle.fleets.proofs.Sizes.{smaller_fleets_fit}
 use Rattle.fleets.proofs.SoundFleets.{days_of_fleets_are_sound}
@@ -20,7 +20,7 @@ of_fleet-requires-clause-few c =
 pub with_units-requires-clause-amount : goal.with_units-requires-clause-amount
 with_units-requires-clause-amount c =
     let day : Day = with_fleet c.args.chosen.now.stock c.args.instance.now in
-    let fit : IsFleet c.args.instance.now c.args.chosen.now.stock =
+    let fit : FitsDay c.args.instance.now c.args.chosen.now.stock =
     smaller_fleets_fit c.args.instance.now c.args.chosen.now.stock (own_fleet c.args.instance.now)
     (own_fleet_fits c.args.instance.now c.is_sound.ensures.limits.units.few) c.requires.runs.fleet in
     let below : plan_cost day c.args.chosen.now.plan < MAX_PRICED_VALUE =

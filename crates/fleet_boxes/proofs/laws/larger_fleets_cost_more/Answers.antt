@@ -1,5 +1,0 @@
-use Rattle.fleet_boxes.proofs.Costs.{larger_fleets_cost_more}
-use Rattle.fleet_boxes.proofs.laws.larger_fleets_cost_more.Goals as goal
-
-pub returns : goal.returns
-returns c = record { law = larger_fleets_cost_more }
