@@ -9,7 +9,7 @@ use Rattle.fleet_boxes.specs.declared.nodes.BoxNode.{BoxNode}
 use Rattle.fleet_boxes.specs.declared.nodes.BoxNode.TheVariants.{Split, Bound, Nothing}
 use Rattle.fleet_boxes.specs.ProvedBoxes.{AreTrees, boxes_below}
 use Rattle.fleet_check.specs.Tests.{IsPassed}
-use Rattle.fleet_check.specs.Verdicts.{IsAfterTree, IsMisshapen, IsMissing, IsWhole}
+use Rattle.fleet_check.specs.Verdicts.{IsAfterTree, IsMisshapen, LacksNodes, IsWhole}
 
 -- how many trees come below a node
 abbrev pub below : BoxNode → ℕ
@@ -132,7 +132,7 @@ shape_goes_on nodes place left next node inside at after is few = record {
 }
 
 -- trees are left after all nodes
-pub is_missing : (nodes : List BoxNode) (place left : ℕ) → place ≡ length nodes → IsOpenAfter nodes place (left + 1) → IsMissing nodes (length nodes)
+pub is_missing : (nodes : List BoxNode) (place left : ℕ) → place ≡ length nodes → IsOpenAfter nodes place (left + 1) → LacksNodes nodes (length nodes)
 is_missing nodes place left all after = (
   refl,
   (λ count inside whole. ⊎_elim

@@ -20,7 +20,7 @@ pub record AreDecided (day : Day) (bytes : List ℕ) : Type 0 where
 abbrev pub PricesAreDecided : Type 0
 PricesAreDecided = (day : Day) (bytes : List ℕ) → AreDecided day bytes
 
--- what is said of all fleets of a day has one verdict, and so one first thing that is wrong
+-- what is said of all fleets of a day has one verdict at most, and so one first thing that is wrong
 abbrev pub FleetVerdictsAreOne : Type 0
 FleetVerdictsAreOne = (day : Day) (prices : List ℕ) (fleet : Fleet) (one other : FleetVerdict)
     → IsVerdict day prices fleet one → IsVerdict day prices fleet other → one ≡ other

@@ -49,7 +49,7 @@ pub record IsValid (day : Day) (prices : List ℕ) (fleet : Fleet) : Type 0 wher
 
 -- ---- the tests in their order: each says for which verdict it is failed
 
--- the nodes are one whole tree: over a box that no split misses, whatever it is
+-- the nodes are one whole tree, whatever box it is over
 abbrev pub IsWhole : List BoxNode → Type 0
 IsWhole nodes = AreTrees (λ box node. Unit {0}) 0 (record { least = []; greatest = [] } ∷ []) nodes
 
@@ -58,13 +58,13 @@ abbrev pub IsAfterTree : List BoxNode → ℕ → Type 0
 IsAfterTree nodes node = (node < length nodes) × IsWhole (take node nodes)
 
 -- no first nodes are a whole tree, and the node is the number of all
-abbrev pub IsMissing : List BoxNode → ℕ → Type 0
-IsMissing nodes node = (node ≡ length nodes) × ((count : ℕ) → count ≤ length nodes → ¬ IsWhole (take count nodes))
+abbrev pub LacksNodes : List BoxNode → ℕ → Type 0
+LacksNodes nodes node = (node ≡ length nodes) × ((count : ℕ) → count ≤ length nodes → ¬ IsWhole (take count nodes))
 
 -- the nodes are not one whole tree: a node comes after one, or there are too few
 abbrev pub IsMisshapen : List BoxNode → Test
 IsMisshapen nodes verdict =
-    (node : ℕ) × (verdict ≡ TreeShape node) × (IsAfterTree nodes node ⊎ IsMissing nodes node)
+    (node : ℕ) × (verdict ≡ TreeShape node) × (IsAfterTree nodes node ⊎ LacksNodes nodes node)
 
 -- the verdict where a node is not proved in its box: a split does not part it, or a tree does not prove what its leaf
 -- says

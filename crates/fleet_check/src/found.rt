@@ -18,7 +18,7 @@ pub struct Chosen {
 pub const MAX_SPLITS: u32 = 200;
 
 /// The most nodes that its boxes then have: a split adds two.
-pub const MAX_BOX_NODES: u32 = 401;
+pub const MAX_BOX_NODES: u32 = 2 * MAX_SPLITS + 1;
 
 /// What is found of all fleets of a day.
 #[derive(Drop)]

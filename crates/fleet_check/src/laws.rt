@@ -5,12 +5,12 @@
 ghost use Rattle.fleet_check.specs.Laws.{FleetVerdictsAreOne, PricesAreDecided};
 
 /// A table of prices of a day says one list of prices at most. Where it says one it is refused for nothing but want of
-/// memory, and else it is refused for one cause alone, want of memory aside.
+/// memory, and else it is refused for one cause at most, want of memory aside.
 pub fn prices_are_decided()
     ensures law { PricesAreDecided }
 {}
 
-/// What is said of all fleets of a day has one verdict, so that the first thing that is wrong with it is one.
+/// What is said of all fleets of a day has one verdict at most, so that the first thing that is wrong with it is one.
 pub fn fleet_verdicts_are_one()
     ensures law { FleetVerdictsAreOne }
 {}
