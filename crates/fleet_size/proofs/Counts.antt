@@ -70,6 +70,17 @@ all_below (units ∷ fleet) =
 
 -- ---- trees
 
+-- a split adds two nodes
+pub nodes_in_all : (P : FleetBox → BoxNode → Type 0) (types : ℕ) (boxes : List FleetBox) (nodes : List BoxNode) → AreTrees P types boxes nodes → length nodes ≡ 2 * splits_in nodes + length boxes
+nodes_in_all P types [] [] trees = refl
+nodes_in_all P types [] (node ∷ nodes) trees = absurd trees
+nodes_in_all P types (box ∷ boxes) [] trees = absurd trees
+nodes_in_all P types (box ∷ boxes) (Split station unit_type at ∷ nodes) trees =
+    let rest = nodes_in_all P types (boxes_below types box (Split station unit_type at) ++ boxes) nodes trees.1 in
+    omega (arith, rest)
+nodes_in_all P types (box ∷ boxes) (Bound bound branchings tree ∷ nodes) trees = let rest = nodes_in_all P types boxes nodes trees.1 in omega (arith, rest)
+nodes_in_all P types (box ∷ boxes) (Nothing branchings tree ∷ nodes) trees = let rest = nodes_in_all P types boxes nodes trees.1 in omega (arith, rest)
+
 -- all fleets of boxes
 abbrev pub fleets_of : List FleetBox → ℕ
 fleets_of [] = 0

@@ -26,6 +26,7 @@ use Rattle.fleet_boxes.specs.Prices.{fleet_cost}
 use Rattle.fleet_boxes.specs.ProvedBoxes.{AreTrees, IsProvedAt, boxes_below, values_in}
 use Rattle.fleet_check.specs.declared.found.Chosen.{Chosen}
 use Rattle.fleet_check.specs.declared.found.Fleet.{Fleet}
+use Rattle.fleet_check.specs.declared.found.TheConstants.{MAX_BOX_NODES, MAX_SPLITS}
 use Rattle.fleet_check.specs.Heads.{DoesFollow, IsTrueOfFleets}
 use Rattle.fleet_check.specs.Verdicts.{HasPlanSaid, IsValid, price_said, splits_in}
 use Rattle.fleet_size.specs.declared.offers.Best.{Best}
@@ -35,7 +36,7 @@ use Rattle.fleet_size.specs.declared.slots.Slot.{Slot}
 use Rattle.fleet_size.specs.Found.{BoundLeaf, IsFleetFound, IsOpenLeaf, IsPlanned, IsSearched, IsSpent, bound_leaves, fleets_below}
 use Rattle.fleet_size.specs.Slots.{IsBest, IsBoxOf, IsOfKind, IsPlaced, IsSearch, head_found, is_cheaper, nodes_in, price_in}
 use Rattle.fleet_size.specs.Values.{CanBeValued, HasEnded, IsDone, IsConclusion, value_in, values_at}
-use Rattle.fleet_size.proofs.Counts.{IsCounted, all_below, each_alone, fleets_from}
+use Rattle.fleet_size.proofs.Counts.{IsCounted, all_below, each_alone, fleets_from, nodes_in_all}
 use Rattle.fleet_size.proofs.Leaves.{less_is_true}
 use Rattle.fleet_size.proofs.Offering.{fleet_fits, some_price}
 use Rattle.fleet_size.proofs.SlotTrees.{slots_all, slots_are_trees, slots_both, slots_map, values_are}
@@ -296,11 +297,18 @@ module _ (day : Day) (prices : List ℕ) (granted : Granted) (search : Search) (
   none_open few_fleets few (inl all) = λ k none lt. closed_leaf few _ (have_kinds k none lt) (λ leaf_open. all_alone few_fleets all k none lt)
   none_open few_fleets few (inr spent) = λ k none lt. closed_leaf few _ (have_kinds k none lt) (λ leaf_open. (spent k none lt leaf_open).alone)
 
-  pub found : IsTrueOfFleets day prices fleet.head fleet.chosen → IsFleetFound day prices granted fleet
-  found holds = record {
+  -- as few nodes as a check takes
+  few_nodes : granted.splits ≤ MAX_SPLITS → length fleet.boxes ≤ MAX_BOX_NODES
+  few_nodes few =
+      let all : length nodes ≡ 2 * splits_in nodes + 1 = nodes_in_all (IsProvedAt day) types (box_of day ∷ []) nodes are_proved in
+      subst (λ (boxes : List BoxNode). length boxes ≤ MAX_BOX_NODES) (sym of.boxes) (omega (arith, all, searched.splits, ended.0, few))
+
+  pub found : granted.splits ≤ MAX_SPLITS → IsTrueOfFleets day prices fleet.head fleet.chosen → IsFleetFound day prices granted fleet
+  found few holds = record {
     holds = holds;
     valid = found_is_valid;
     splits = subst (λ (n : ℕ). n ≤ granted.splits) (sym of.splits) ended.0;
+    nodes = few_nodes few;
     ends = subst (λ (boxes : List BoxNode). IsSome (bound_said fleet.head)
         ↔ (Any (IsOpenLeaf prices (price_said fleet.head)) (bound_leaves types (box_of day ∷ []) boxes)
         × ((fleet.splits ≡ granted.splits)

@@ -1,18 +1,19 @@
 -- What an answer to the day of a box's greatest fleet says of the box.
 use Rattle.std.proofs.Common.{◌≡◌, ℕ, zero, suc, ◌+◌, ◌≤◌, List, [], ◌∷◌, All, Bool, true, false, refl, sym, ap, subst, arith}
-use Rattle.std.proofs.Common.{Option, Some, None, inl, inr, if◌then◌else◌, int_lt}
-use Rattle.std.specs.Prelude.{ℤ, pos, ◌+ℤ◌, ◌≤ℤ◌, ◌<ℤ◌, MatchOption, IsSome}
+use Rattle.std.proofs.Common.{Option, Some, None, inl, inr, if◌then◌else◌, int_lt, unwrap_or}
+use Rattle.std.specs.Prelude.{ℤ, ◌≤ℤ◌, ◌<ℤ◌, MatchOption, IsSome}
 use Rattle.std.proofs.lemmas.Int.{ints}
 use Rattle.std.proofs.lemmas.List.Elements.{All-cons, All-head, All-nil, All-tail, All-weaker}
+use Rattle.rail_base.specs.declared.numbers.Money.{Money}
 use Rattle.timetable.specs.Accepted.{IsSoundDay}
 use Rattle.timetable.specs.Day.{Day}
 use Rattle.branch_tree.specs.declared.tree.Node.{Node}
 use Rattle.branch_tree.specs.declared.tree.Node.TheVariants.{Branch, CostLeaf, RayLeaf, EmptyLeaf}
-use Rattle.branch_tree.specs.Claims.{Conclusion, EndsInTime, HasOpenLeaf, IsNotEvidentAt, IsOpen, IsPlanIn, IsProved, CostedPicks, DoBound, concluded_plan}
+use Rattle.branch_tree.specs.Claims.{Conclusion, EndsInTime, HasOpenLeaf, IsNotEvident, IsNotEvidentAt, IsOpen, IsPlanIn, IsProved, CostedPicks, DoBound, concluded_plan}
 use Rattle.branch_tree.specs.Claims.{bounded, bounded_plan, infeasible, optimal}
 use Rattle.branch_tree.specs.Meanings.{IsRelaxation, Meanings}
 use Rattle.branch_tree.specs.Regions.{choices_of, root_of}
-use Rattle.branch_tree.specs.Trees.{IsLeast, bounds_of, branchings_of, cut_of}
+use Rattle.branch_tree.specs.Trees.{IsLeast, bound_of, bounds_of, branchings_of, cut_of}
 use Rattle.branch_tree.proofs.Concluding.{proved_is_concluded}
 use Rattle.branch_tree.proofs.Walking.{walks_map}
 use Rattle.price_bound.specs.DayMeanings.{meanings_of}
@@ -31,7 +32,7 @@ use Rattle.fleets.proofs.SoundFleets.{days_of_fleets_are_sound}
 use Rattle.fleet_boxes.specs.declared.boxes.FleetBox.{FleetBox}
 use Rattle.fleet_boxes.specs.declared.nodes.BoxNode.{BoxNode}
 use Rattle.fleet_boxes.specs.ProvedBoxes.{IsProvedAt}
-use Rattle.fleet_size.specs.Found.{IsSearched}
+use Rattle.fleet_size.specs.Found.{IsSearched, branchings_in}
 use Rattle.fleet_size.specs.declared.offers.Best.{Best}
 use Rattle.fleet_size.specs.Slots.{IsBest, IsBoxOf, IsEvaluated, IsNoDearer, IsOfKind, IsSmall, IsTaken, is_split, node_said, price_in}
 
@@ -142,22 +143,33 @@ node_is_proved day box (BoundedPlan bound cost) picks branchings tree sound prov
 
 -- ---- and is of one of the two kinds
 
--- a leaf of least bound is open where there is no plan
-open_with_none : (bound : ℤ) (node : Node) → IsOpen (Some (record { cost = bound; picks = [] })) node → IsOpen None node
-open_with_none bound (Branch cut) opens = opens
-open_with_none bound (CostLeaf value multipliers) opens = refl
-open_with_none bound (RayLeaf multipliers) opens = opens
-open_with_none bound EmptyLeaf opens = opens
+-- the node has the bound
+abbrev HasBound : ℤ → Node → Type 0
+HasBound bound node = bound_of node ≡ Some (record { 0 = bound })
 
-below_both : (value bound cost : ℤ) → bound <ℤ cost → int_lt value (bound +ℤ pos 1) ≡ true → value <ℤ cost
-below_both value bound cost less is = omega (arith, ints, less, is)
+no_bound : (bound : Money) → None ≡ Some bound → ⊥
+no_bound bound same = cc
 
--- and where the bound is below the cost of the plan
-open_with_plan : (bound : ℤ) (plan : CostedPicks) (node : Node) → bound <ℤ plan.cost → IsOpen (Some (record { cost = bound +ℤ pos 1; picks = [] })) node → IsOpen (Some plan) node
-open_with_plan bound plan (Branch cut) below opens = opens
-open_with_plan bound plan (CostLeaf value multipliers) below opens = less_is_true value.0 plan.cost (below_both value.0 bound plan.cost below opens)
-open_with_plan bound plan (RayLeaf multipliers) below opens = opens
-open_with_plan bound plan EmptyLeaf below opens = opens
+bound_is : (value bound : Money) → Some value ≡ Some bound → value.0 ≡ bound.0
+bound_is value bound same = ap (λ (some : Option Money). (unwrap_or some value).0) same
+
+-- a cost leaf is open where there is no plan
+open_with_none : (bound : ℤ) (node : Node) → HasBound bound node → IsOpen None node
+open_with_none bound (Branch cut) has = absurd (no_bound (record { 0 = bound }) has)
+open_with_none bound (CostLeaf value multipliers) has = refl
+open_with_none bound (RayLeaf multipliers) has = absurd (no_bound (record { 0 = bound }) has)
+open_with_none bound EmptyLeaf has = absurd (no_bound (record { 0 = bound }) has)
+
+below_cost : (value bound cost : ℤ) → bound <ℤ cost → value ≡ bound → value <ℤ cost
+below_cost value bound cost less same = omega (arith, ints, less, same)
+
+-- and one of least bound where that is below the cost of the plan
+open_with_plan : (bound : ℤ) (plan : CostedPicks) (node : Node) → bound <ℤ plan.cost → HasBound bound node → IsOpen (Some plan) node
+open_with_plan bound plan (Branch cut) below has = absurd (no_bound (record { 0 = bound }) has)
+open_with_plan bound plan (CostLeaf value multipliers) below has =
+    less_is_true value.0 plan.cost (below_cost value.0 bound plan.cost below (bound_is value (record { 0 = bound }) has))
+open_with_plan bound plan (RayLeaf multipliers) below has = absurd (no_bound (record { 0 = bound }) has)
+open_with_plan bound plan EmptyLeaf below has = absurd (no_bound (record { 0 = bound }) has)
 
 open_is_above : (bound : ℤ) (plan : CostedPicks) (nodes : List Node) → All (λ number. bound ≤ℤ number) (bounds_of nodes) → HasOpenLeaf (Some plan) nodes → bound <ℤ plan.cost
 open_is_above bound plan [] all some = absurd (omega (arith, some))
@@ -187,14 +199,14 @@ module _ (day : Day) (prices : List ℕ) (grant : ℕ) (price : Option ℤ) (box
   at_most = with_fleet box.greatest day
 
   searched : (bound : ℤ) (nodes : List Node) (plan : Option CostedPicks) → branchings_of nodes ≡ grant → EndsInTime (meanings_of at_most) (root_of at_most) plan nodes
-      → ((node : Node) → IsOpen (Some (record { cost = bound +ℤ pos 1; picks = [] })) node → IsOpen plan node)
+      → ((node : Node) → HasBound bound node → IsOpen plan node)
       → IsSearched day grant (record { fleets = box; bound = bound; tree = nodes })
   searched bound nodes plan all ends opens = record {
     branchings = all;
     raised = ends.raised;
     not_evident = walks_map cut_of (meanings_of at_most).catalogue (IsNotEvidentAt (meanings_of at_most) plan)
-        (IsNotEvidentAt (meanings_of at_most) (Some (record { cost = bound +ℤ pos 1; picks = [] })))
-        (λ region node is leaf_open. is (opens node leaf_open)) (root_of at_most ∷ []) nodes ends.not_evident;
+        (λ region node. HasBound bound node → IsNotEvident (meanings_of at_most) region)
+        (λ region node is has. is (opens node has)) (root_of at_most ∷ []) nodes ends.not_evident;
   }
 
   pub node_is_of_kind : (head : Head) (picks : List ℕ) (branchings : ℕ) (nodes : List Node)
@@ -208,12 +220,12 @@ module _ (day : Day) (prices : List ℕ) (grant : ℕ) (price : Option ℤ) (box
   node_is_of_kind Infeasible picks branchings nodes proved spent enough ends taken = tt
   node_is_of_kind (Bounded bound) picks branchings nodes proved spent enough ends taken =
       let both = spent refl in
-      inr (searched bound.0 nodes None both.0 ends (λ node opens. open_with_none (bound.0 +ℤ pos 1) node opens), λ few. never_none bound.0 (enough few))
+      inr (searched bound.0 nodes None both.0 ends (λ node has. open_with_none bound.0 node has), λ few. never_none bound.0 (enough few))
   node_is_of_kind (BoundedPlan bound cost) picks branchings nodes proved spent enough ends taken =
       let both = spent refl in
       let plan : CostedPicks = record { cost = cost.0; picks = picks } in
       let below : bound.0 <ℤ cost.0 = open_is_above bound.0 plan nodes proved.head.all both.1 in
-      inr (searched bound.0 nodes (Some plan) both.0 ends (λ node opens. open_with_plan bound.0 plan node below opens), λ few. never_none bound.0 (enough few))
+      inr (searched bound.0 nodes (Some plan) both.0 ends (λ node has. open_with_plan bound.0 plan node below has), λ few. never_none bound.0 (enough few))
 
 node_is_small : (head : Head) (branchings : ℕ) (tree : List Node) → IsHead head → IsSmall (node_said head branchings tree)
 node_is_small (Optimal cost) branchings tree is = is
@@ -238,6 +250,13 @@ leaf_of_answer day prices grant price box answer sound is headline taken =
       kind = node_is_of_kind day prices grant price box answer.head tree.valid.picks answer.branchings answer.tree tree.valid.proved (λ some. tree.bounded.0 some) tree.enough tree.evident taken;
       small = node_is_small answer.head answer.branchings answer.tree tree.within.head;
     }
+
+-- the leaf's tree has the branchings of the answer's
+pub branchings_said : (head : Head) (branchings : ℕ) (tree : List Node) → branchings_in (node_said head branchings tree ∷ []) ≡ branchings
+branchings_said (Optimal cost) branchings tree = omega arith
+branchings_said Infeasible branchings tree = omega arith
+branchings_said (Bounded bound) branchings tree = omega arith
+branchings_said (BoundedPlan bound cost) branchings tree = omega arith
 
 leaf_said : (head : Head) (branchings : ℕ) (tree : List Node) → is_split (node_said head branchings tree) ≡ false
 leaf_said (Optimal cost) branchings tree = refl

@@ -1,9 +1,10 @@
 -- The slots of a search: whole trees in preorder, in which a leaf is replaced by a split and two leaves.
 use Rattle.std.proofs.Common.{◌≡◌, ◌∙◌, ℕ, zero, suc, ◌+◌, ◌*◌, ◌<◌, List, [], ◌∷◌, ◌++◌, length, get_or, set, All, false, refl, sym, ap, subst, arith}
 use Rattle.std.proofs.Common.{Option, Some, None, inl, inr}
-use Rattle.std.specs.Prelude.{ℤ, pos, ◌+ℤ◌, replicate, slice_index}
+use Rattle.std.specs.Prelude.{ℤ, pos, ◌+ℤ◌, slice_index}
 use Rattle.std.specs.List.{insert}
 use Rattle.std.proofs.lemmas.Int.{ints}
+use Rattle.std.proofs.lemmas.List.{get_or_default}
 use Rattle.std.proofs.lemmas.List.Elements.{All-cons, All-head, All-nil, All-tail}
 use Rattle.timetable.specs.Day.{Day}
 use Rattle.timetable.proofs.Indices.{InRows, in_rows}
@@ -16,12 +17,12 @@ use Rattle.fleet_boxes.specs.declared.nodes.BoxNode.{BoxNode}
 use Rattle.fleet_boxes.specs.declared.nodes.BoxNode.TheVariants.{Split, Bound, Nothing}
 use Rattle.fleet_boxes.specs.Boxes.{IsParted, box_of, lower_part, upper_part}
 use Rattle.fleet_boxes.specs.Prices.{fleet_cost}
-use Rattle.fleet_boxes.specs.ProvedBoxes.{AreTrees, boxes_below, values_in}
+use Rattle.fleet_boxes.specs.ProvedBoxes.{AreTrees, IsProvedAt, boxes_below, values_in}
 use Rattle.fleet_check.specs.Verdicts.{splits_in}
 use Rattle.fleet_size.specs.declared.offers.Best.{Best}
 use Rattle.fleet_size.specs.declared.slots.Slot.{Slot}
-use Rattle.fleet_size.specs.Found.{IsPricedUpTo}
-use Rattle.fleet_size.specs.Slots.{AreSlots, IsBoxOf, IsEvaluated, IsNoDearer, IsOfKind, IsPlaced, is_split, nodes_in, price_in}
+use Rattle.fleet_size.specs.Found.{IsPricedUpTo, branchings_in}
+use Rattle.fleet_size.specs.Slots.{AreSlots, IsBest, IsBoxOf, IsEvaluated, IsNoDearer, IsOfKind, IsPlaced, is_split, nodes_in, price_in}
 use Rattle.fleet_size.specs.Values.{and_values, value_in, values_at}
 
 -- ---- facts of slots
@@ -63,6 +64,15 @@ pub put_in : (slots : List Slot) (place : ℕ) (split lower upper : Slot) → pl
 put_in [] place split lower upper within = absurd (omega (arith, within))
 put_in (slot ∷ slots) zero split lower upper within = refl
 put_in (slot ∷ slots) (suc place) split lower upper within = ap (λ (others : List Slot). slot ∷ others) (put_in slots place split lower upper (omega (arith, within)))
+
+-- as they are put in one after the other
+pub put_after : (slots : List Slot) (k : ℕ) (split first second : Slot) (put one_more : List Slot) → k < length slots → put ≡ insert (set slots k split) (k + 1) first → one_more ≡ insert put (k + 2) second
+    → one_more ≡ replaced slots k split first second
+put_after slots k split first second put one_more within one_is two_is =
+    let next : k + 1 ≡ suc k = omega arith in
+    let last : k + 2 ≡ suc (suc k) = omega arith in
+    two_is ∙ ap (λ (list : List Slot). insert list (k + 2) second) one_is ∙ ap (λ (p : ℕ). insert (insert (set slots k split) p first) (k + 2) second) next
+    ∙ ap (λ (p : ℕ). insert (insert (set slots k split) (suc k) first) p second) last ∙ put_in slots k split first second within
 
 none_below_leaf : (types : ℕ) (box : FleetBox) (node : BoxNode) → is_split node ≡ false → boxes_below types box node ≡ []
 none_below_leaf types box (Split station unit_type at) leaf = absurd cc
@@ -134,6 +144,31 @@ one_split (slot ∷ slots) (suc place) leaf split lower upper station unit_type 
     splits_rest slot.node (nodes_in slots) (nodes_in (replaced slots place split lower upper)) 1
     (one_split slots place leaf split lower upper station unit_type at (omega (arith, within)) is a b c d)
 
+-- ---- how many branchings there are
+
+branchings_first : (node : BoxNode) (nodes : List BoxNode) → branchings_in (node ∷ nodes) ≡ branchings_in (node ∷ []) + branchings_in nodes
+branchings_first (Split station unit_type at) nodes = omega arith
+branchings_first (Bound bound branchings tree) nodes = omega arith
+branchings_first (Nothing branchings tree) nodes = omega arith
+
+-- those of the first leaf are new, where the second one keeps the node of the leaf
+pub more_branchings : (slots : List Slot) (place : ℕ) (leaf split lower upper : Slot) (station unit_type at : ℕ) → place < length slots → leaf ≡ get_or slots place leaf
+    → split.node ≡ Split station unit_type at → upper.node ≡ leaf.node
+    → branchings_in (nodes_in (replaced slots place split lower upper)) ≡ branchings_in (nodes_in slots) + branchings_in (lower.node ∷ [])
+more_branchings [] place leaf split lower upper station unit_type at within is a b = absurd (omega (arith, within))
+more_branchings (slot ∷ slots) zero leaf split lower upper station unit_type at within is a b =
+    let first : branchings_in (split.node ∷ lower.node ∷ upper.node ∷ nodes_in slots) ≡ branchings_in (lower.node ∷ upper.node ∷ nodes_in slots) =
+    ap (λ (node : BoxNode). branchings_in (node ∷ lower.node ∷ upper.node ∷ nodes_in slots)) a in
+    let second = branchings_first lower.node (upper.node ∷ nodes_in slots) in
+    let kept : upper.node ≡ slot.node = b ∙ ap (λ (one : Slot). one.node) is in
+    let third : branchings_in (upper.node ∷ nodes_in slots) ≡ branchings_in (slot.node ∷ nodes_in slots) = ap (λ (node : BoxNode). branchings_in (node ∷ nodes_in slots)) kept in
+    omega (arith, first, second, third)
+more_branchings (slot ∷ slots) (suc place) leaf split lower upper station unit_type at within is a b =
+    let rest = more_branchings slots place leaf split lower upper station unit_type at (omega (arith, within)) is a b in
+    let old = branchings_first slot.node (nodes_in slots) in
+    let new = branchings_first slot.node (nodes_in (replaced slots place split lower upper)) in
+    omega (arith, rest, old, new)
+
 -- ---- a better best
 
 pub no_dearer_itself : (price : Option ℤ) → IsNoDearer price price
@@ -200,11 +235,6 @@ same_box box other least greatest = λ i. record { least = least i; greatest = g
 pub root_is_box : (day : Day) → IsBoxOf day (box_of day)
 root_is_box day = record { ordered = ((boxes_have_all_fleets day (own_fleet day)).1 (itself (own_fleet day))).above; within = itself (own_fleet day) }
 
-pub root_box : (day : Day) (box : FleetBox) (n : ℕ) → box.greatest ≡ own_fleet day → box.least ≡ replicate n 0 → n ≡ length box.greatest → box ≡ box_of day
-root_box day box n own none places =
-    let count : n ≡ length day.stations * length day.types = places ∙ (ap length own ∙ length-listed (start_at day) (length day.stations * length day.types)) in
-    same_box box (box_of day) (none ∙ ap (λ (k : ℕ). replicate k 0) count) own
-
 pub box_like : (day : Day) (box other : FleetBox) → box ≡ other → IsBoxOf day other → IsBoxOf day box
 box_like day box other same is = subst (λ (b : FleetBox). IsBoxOf day b) (sym same) is
 
@@ -225,6 +255,41 @@ upper_is_box day box place at is parted = record {
 pub places_of : (day : Day) (box : FleetBox) → IsBoxOf day box → length box.least ≡ length day.stations * length day.types
 places_of day box is =
     as_long box.least box.greatest is.ordered ∙ (as_long box.greatest (own_fleet day) is.within ∙ length-listed (start_at day) (length day.stations * length day.types))
+
+-- ---- the upper part of a leaf's box, which has the same greatest fleet
+
+upper_proved : (day : Day) (box : FleetBox) (place at : ℕ) (node : BoxNode) → is_split node ≡ false → IsProvedAt day box node → IsProvedAt day (upper_part place at box) node
+upper_proved day box place at (Split station unit_type v) leaf is = absurd cc
+upper_proved day box place at (Bound bound branchings tree) leaf is = is
+upper_proved day box place at (Nothing branchings tree) leaf is = is
+
+upper_of_kind : (day : Day) (prices : List ℕ) (grant : ℕ) (price : Option ℤ) (box : FleetBox) (place at : ℕ) (node : BoxNode) → IsOfKind day prices grant price box node
+    → IsOfKind day prices grant price (upper_part place at box) node
+upper_of_kind day prices grant price box place at (Split station unit_type v) is = tt
+upper_of_kind day prices grant price box place at (Bound bound branchings tree) (inl planned) = inl planned
+upper_of_kind day prices grant price box place at (Bound bound branchings tree) (inr searched) =
+    inr (record { branchings = searched.0.branchings; raised = searched.0.raised; not_evident = searched.0.not_evident }, searched.1)
+upper_of_kind day prices grant price box place at (Nothing branchings tree) is = tt
+
+-- what is known of a leaf in its box is known of it in the upper part
+pub upper_is_evaluated : (day : Day) (prices : List ℕ) (grant : ℕ) (best : Option Best) (leaf second : Slot) (place at : ℕ) → IsBest day prices best → is_split leaf.node ≡ false
+    → IsParted leaf.fleets place at → IsPlaced day prices grant (price_in best) leaf → second.fleets ≡ upper_part place at leaf.fleets → second.node ≡ leaf.node
+    → IsEvaluated day prices grant (upper_part place at leaf.fleets) best best second
+upper_is_evaluated day prices grant best leaf second place at is_best none parted placed box node =
+    let part : FleetBox = upper_part place at leaf.fleets in
+    let kept : second ≡ record { fleets = part; made = second.made; node = leaf.node } = λ i. record { fleets = box i; made = second.made; node = node i } in
+    subst (λ (slot : Slot). IsEvaluated day prices grant part best best slot) (sym kept) (record {
+      box = refl;
+      leaf = none;
+      placed = record {
+        box = upper_is_box day leaf.fleets place at placed.box parted;
+        proved = upper_proved day leaf.fleets place at leaf.node none placed.proved;
+        kind = upper_of_kind day prices grant (price_in best) leaf.fleets place at leaf.node placed.kind;
+        small = placed.small;
+      };
+      best = is_best;
+      no_dearer = no_dearer_itself (price_in best);
+    })
 
 -- ---- a search
 
@@ -277,13 +342,9 @@ module _ (day : Day) (prices : List ℕ) (grant : ℕ) (before middle after : Op
   pub splits_after : splits_in (nodes_in (replaced slots k split first second)) ≡ splits_in (nodes_in slots) + 1
   splits_after = one_split slots k leaf split first second s m at within is none refl one.leaf two.leaf
 
-  -- as lists are put together
-  pub put_after : (put one_more : List Slot) → put ≡ insert (set slots k split) (k + 1) first → one_more ≡ insert put (k + 2) second → one_more ≡ replaced slots k split first second
-  put_after put one_more one_is two_is =
-      let next : k + 1 ≡ suc k = omega arith in
-      let last : k + 2 ≡ suc (suc k) = omega arith in
-      two_is ∙ ap (λ (list : List Slot). insert list (k + 2) second) one_is ∙ ap (λ (p : ℕ). insert (insert (set slots k split) p first) (k + 2) second) next
-      ∙ ap (λ (p : ℕ). insert (insert (set slots k split) (suc k) first) p second) last ∙ put_in slots k split first second within
+-- two slots at one place are one
+pub same_slot : (slots : List Slot) (k : ℕ) (slot leaf : Slot) {other : Slot} → k < length slots → slot ≡ other → other ≡ get_or slots k other → leaf ≡ get_or slots k leaf → slot ≡ leaf
+same_slot slots k slot leaf {other} within same is at = same ∙ (is ∙ (get_or_default slots k other leaf within ∙ sym at))
 
 -- what is known of a slot of a search
 pub placed_slot : (day : Day) (prices : List ℕ) (grant : ℕ) (price : Option ℤ) (slots : List Slot) (k : ℕ) (leaf : Slot) → k < length slots → leaf ≡ get_or slots k leaf

@@ -1,12 +1,12 @@
 -- What a search for a fleet has found, where so many splits, and so many branchings of each tree, are granted.
 use Rattle.std.specs.Prelude.{ℕ, ◌≡◌, ◌+◌, ◌*◌, ◌≤◌, ◌↔◌, ◌⊎◌, List, [], ◌∷◌, ◌++◌, length, All, Any, ℤ, pos}
-use Rattle.std.specs.Prelude.{◌+ℤ◌, ◌≤ℤ◌, ◌<ℤ◌, Option, Some, None, MatchOption, IsSome}
+use Rattle.std.specs.Prelude.{◌+ℤ◌, ◌≤ℤ◌, ◌<ℤ◌, Bool, Option, Some, None, MatchOption, IsSome}
 use Rattle.rail_base.specs.declared.limits.TheConstants.{MAX_ROUNDS}
 use Rattle.timetable.specs.Day.{Day}
 use Rattle.branch_tree.specs.declared.tree.Node.{Node}
-use Rattle.branch_tree.specs.Claims.{IsRaisedAt, IsNotEvidentAt}
+use Rattle.branch_tree.specs.Claims.{IsRaisedAt, IsNotEvident}
 use Rattle.branch_tree.specs.Regions.{choices_of, root_of}
-use Rattle.branch_tree.specs.Trees.{Covers, branchings_of}
+use Rattle.branch_tree.specs.Trees.{Covers, bound_of, branchings_of}
 use Rattle.price_bound.specs.DayMeanings.{meanings_of}
 use Rattle.answer_check.specs.ProvedTrees.{bound_said}
 use Rattle.fleets.specs.Fleets.{own_fleet, with_fleet}
@@ -17,7 +17,7 @@ use Rattle.fleet_boxes.specs.Boxes.{box_of}
 use Rattle.fleet_boxes.specs.Prices.{fleet_cost}
 use Rattle.fleet_boxes.specs.ProvedBoxes.{boxes_below}
 use Rattle.fleet_check.specs.declared.found.Fleet.{Fleet}
-use Rattle.fleet_check.specs.declared.found.TheConstants.{MAX_SPLITS}
+use Rattle.fleet_check.specs.declared.found.TheConstants.{MAX_BOX_NODES, MAX_SPLITS}
 use Rattle.fleet_check.specs.Heads.{IsTrueOfFleets}
 use Rattle.fleet_check.specs.Verdicts.{IsValid, price_said}
 use Rattle.fleet_size.specs.declared.planning.Granted.{Granted}
@@ -55,7 +55,8 @@ abbrev pub IsOpenLeaf : List ℕ → Option ℤ → BoundLeaf → Type 0
 IsOpenLeaf prices price leaf =
     MatchOption price (Unit {0}) (λ price. (leaf.bound +ℤ pos (fleet_cost prices leaf.fleets.least)) <ℤ price)
 
--- a leaf of one fleet alone, whose tree has all branchings that were granted
+-- a leaf of one fleet alone, whose tree has all branchings that were granted; that its cuts are proper is known of each
+-- leaf whose boxes are proved
 pub record IsSpent (grant : ℕ) (leaf : BoundLeaf) : Type 0 where
   pub alone : leaf.fleets.least ≡ leaf.fleets.greatest
   pub branchings : branchings_of leaf.tree ≡ grant
@@ -68,19 +69,32 @@ IsPricedUpTo price most = MatchOption price ⊥ (λ price. price ≤ℤ most)
 abbrev pub IsPlanned : List ℕ → Option ℤ → BoundLeaf → Type 0
 IsPlanned prices price leaf = IsPricedUpTo price (leaf.bound +ℤ pos (fleet_cost prices leaf.fleets.greatest))
 
+-- the day with the greatest fleet of a leaf's box, of which the leaf's tree is
+abbrev pub day_of_leaf : Day → BoundLeaf → Day
+day_of_leaf day leaf = with_fleet leaf.fleets.greatest day
+
+-- a fact holds of each node of a leaf's tree, in its region
+abbrev pub HoldsInTree : Day → BoundLeaf → (List (List Bool) → Node → Type 0) → Type 0
+HoldsInTree day leaf P =
+    Covers (meanings_of (day_of_leaf day leaf)).catalogue P (root_of (day_of_leaf day leaf)) leaf.tree
+
 -- Of the second kind: all branchings that were granted are made, no bound is below that without multipliers, and no
--- cost leaf of least bound has an evident end. A leaf has that bound where its own is below one more.
+-- cost leaf of least bound, which is that of the leaf, has an evident end. That the cuts are proper is known of each
+-- leaf whose boxes are proved.
 pub record IsSearched (day : Day) (grant : ℕ) (leaf : BoundLeaf) : Type 0 where
   pub branchings : branchings_of leaf.tree ≡ grant
-  pub raised : Covers (meanings_of (with_fleet leaf.fleets.greatest day)).catalogue
-      (IsRaisedAt (meanings_of (with_fleet leaf.fleets.greatest day)))
-      (root_of (with_fleet leaf.fleets.greatest day)) leaf.tree
-  pub not_evident : Covers (meanings_of (with_fleet leaf.fleets.greatest day)).catalogue
-      (IsNotEvidentAt (meanings_of (with_fleet leaf.fleets.greatest day))
-      (Some (record { cost = leaf.bound +ℤ pos 1; picks = [] })))
-      (root_of (with_fleet leaf.fleets.greatest day)) leaf.tree
+  pub raised : HoldsInTree day leaf (IsRaisedAt (meanings_of (day_of_leaf day leaf)))
+  pub not_evident : HoldsInTree day leaf (λ region node. bound_of node ≡ Some (record { 0 = leaf.bound })
+      → IsNotEvident (meanings_of (day_of_leaf day leaf)) region)
 
 -- ---- the promise
+
+-- how many branchings the trees of leaves have in all
+abbrev pub branchings_in : List BoxNode → ℕ
+branchings_in [] = 0
+branchings_in (Split station unit_type at ∷ nodes) = branchings_in nodes
+branchings_in (Bound bound branchings tree ∷ nodes) = branchings + branchings_in nodes
+branchings_in (Nothing branchings tree ∷ nodes) = branchings + branchings_in nodes
 
 -- how many fleets are nowhere above one
 abbrev pub fleets_below : List ℕ → ℕ
@@ -95,6 +109,8 @@ pub record IsFleetFound (day : Day) (prices : List ℕ) (granted : Granted) (fle
   pub valid : IsValid day prices fleet
   -- no more splits were made than were granted
   pub splits : fleet.splits ≤ granted.splits
+  -- it can be checked: it has no more nodes than a check takes
+  pub nodes : length fleet.boxes ≤ MAX_BOX_NODES
   -- it is `bounded` exactly where a leaf is open, and either all splits that were granted are made, or each open leaf
   -- is of one fleet alone and its tree has all branchings that were granted
   pub ends : IsSome (bound_said fleet.head)

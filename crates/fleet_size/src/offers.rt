@@ -152,8 +152,8 @@ fn best_of(
     })
 }
 
-/// What a chosen plan costs with its fleet, where it runs with that and costs no more than so much without and with it.
-/// The error is want of memory.
+/// What a chosen plan costs with its fleet, where it runs and costs no more than `most` without its units and no more
+/// than `whole` with them. The error is want of memory.
 fn price_of(
     alloc: Global,
     tables: DayOfTables<'_>,

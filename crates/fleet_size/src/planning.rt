@@ -1,7 +1,7 @@
 //! The answer to the day with a fleet.
 
 ghost use Rattle.std.specs.Prelude.{All, ◌+◌, ◌*◌, ◌≤◌, ◌^◌, IfOk};
-ghost use Rattle.search.specs.Questions.{AreAsked, AreTheSame};
+ghost use Rattle.search.specs.Questions.{AreAsked, AreTheSame, in_rounds};
 ghost use Rattle.answer_check.specs.Headline.{IsHeadline};
 ghost use Rattle.fleet_size.specs.Found.{IsGranted};
 
@@ -20,11 +20,11 @@ pub const MAX_DAY_BRANCHINGS: u32 = 200;
 /// What a search for a fleet may take.
 #[derive(Clone, Copy)]
 pub struct Granted {
-    /// The most branchings of one day's tree, at most 200.
+    /// The most branchings of one day's tree, at most `MAX_DAY_BRANCHINGS`.
     pub branchings: u32,
-    /// In how many rounds advisors may be asked at a node, at most 100.
+    /// In how many rounds advisors may be asked at a node, at most `MAX_ROUNDS`.
     pub rounds: u8,
-    /// The most splits of boxes, at most 200.
+    /// The most splits of boxes, at most `MAX_SPLITS`.
     pub splits: u32,
     /// The most evaluations of bounds by the improver at the root of a day; with none it proposes nothing.
     pub evaluations: u32,
@@ -43,6 +43,8 @@ pub(crate) fn planned(
     ensures advisors { AreTheSame advisors.old.items advisors.new.items identity }
     ensures asked { AreAsked advisors.old.items advisors.new.items asked has_quit 0
         (granted.rounds * (2 * granted.branchings + 1)) }
+    ensures counted { IfOk result (λ answer. AreAsked advisors.old.items advisors.new.items asked has_quit
+        (in_rounds granted.rounds answer.branchings) (granted.rounds * (2 * answer.branchings + 1))) }
 {
     let graphs = Graphs::build(alloc, day)?;
     let mut improver = DayImprover::new(alloc, day, &graphs, granted.evaluations)?;
@@ -50,5 +52,6 @@ pub(crate) fn planned(
         branchings: granted.branchings,
         rounds: granted.rounds,
     };
-    improved_answer_for(alloc, day, &graphs, allowed, &mut improver, advisors)
+    let answer = improved_answer_for(alloc, day, &graphs, allowed, &mut improver, advisors)?;
+    Ok(answer)
 }

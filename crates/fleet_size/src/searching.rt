@@ -1,13 +1,13 @@
 //! The search for the fleet of least cost: boxes of fleets are split, the one of least value first.
 
-ghost use Rattle.std.specs.Prelude.{All, ◌≡◌, ◌+◌, ◌*◌, ◌<◌, ◌≤◌, ◌^◌, length, IfOk, OnOk};
+ghost use Rattle.std.specs.Prelude.{ℕ, All, ◌≡◌, ◌+◌, ◌*◌, ◌<◌, ◌≤◌, ◌^◌, length, IfOk, OnOk};
 ghost use Rattle.timetable.specs.DayTables.{IsDayOfBytes};
-ghost use Rattle.search.specs.Questions.{AreAsked, AreTheSame};
+ghost use Rattle.search.specs.Questions.{AreAsked, AreTheSame, in_rounds};
 ghost use Rattle.fleet_boxes.specs.Boxes.{IsParted};
 ghost use Rattle.fleet_check.specs.declared.verdict.FleetVerdict.{FleetVerdict};
 ghost use Rattle.fleet_check.specs.Verdicts.{IsVerdict};
-ghost use Rattle.fleet_size.specs.Found.{IsFleetFound, IsGranted};
-ghost use Rattle.fleet_size.specs.Slots.{IsNext, IsSearch, IsWideAt};
+ghost use Rattle.fleet_size.specs.Found.{IsFleetFound, IsGranted, branchings_in};
+ghost use Rattle.fleet_size.specs.Slots.{IsNext, IsSearch, IsWideAt, nodes_in};
 ghost use Rattle.fleet_size.specs.Values.{HasEnded};
 
 use crate::choosing::{Next, next_open};
@@ -17,10 +17,10 @@ use crate::planning::Granted;
 use crate::slots::{Problem, Slot, evaluated};
 use advisors::Advisor;
 use fleet_boxes::{BoxNode, FleetBox, Prices};
-use fleet_check::{DayOfTables, Fleet};
-use fleets::{Counts, fleet_of};
+use fleet_check::{DayOfTables, Fleet, box_of};
 use rail_base::{NoMemory, StationNo, TypeNo};
 use std::alloc::Global;
+use std::mem;
 
 /// What a search has so far.
 #[derive(Drop)]
@@ -30,20 +30,22 @@ pub(crate) struct Search {
     pub(crate) best: Option<Best>,
 }
 
-/// Finds the fleet of least cost with its plan, or the best within what is granted, with a proof over all fleets of the
-/// day: those that have nowhere more units than the day's stock at its start.
+/// Finds the fleet of least cost with its plan, or a bound on what fleets cost and maybe a fleet with a plan, with a
+/// proof over all fleets of the day: those that have nowhere more units than the day's stock at its start.
 ///
-/// The day is that of the tables whose bytes are given, and the prices are those of its types. At most 200 branchings
-/// of a day's tree and 200 splits of boxes are granted, and at most 100 rounds; each advisor was asked at most 2^62
-/// times before.
+/// The day is that of the tables whose bytes are given, and the prices are those of its types. What is granted is
+/// within the limits that `Granted` names; each advisor was asked at most 2^62 times before.
 ///
 /// The answer is true of all fleets whatever the advisors propose, its boxes prove that, and `check_fleet` finds it
 /// valid. It is `bounded` exactly where a leaf is open and either all splits that are granted were made, or each open
-/// leaf is of one fleet alone and its tree has all branchings that are granted.
+/// leaf is of one fleet alone and its tree has all branchings that are granted. Which plan is told with `bounded` no
+/// clause says, but that it runs with its fleet at its price.
 ///
 /// Afterwards an advisor of the same identity stands at each place, whatever the answer is. Each was asked at most
 /// `rounds` times for each node of a day's tree that may be made, of which there are at most `2 * branchings + 1`, and
-/// for each of the at most `2 * splits + 1` days. The error is want of memory alone.
+/// for each of at most `2 * splits + 1` days. Where there is an answer, each was asked at most `rounds` times for each
+/// node of its leaves' trees, and one that has not quit, if there are rounds, at least once for each of their
+/// branchings. The error is want of memory alone.
 pub fn fleet(
     alloc: Global,
     tables: &DayOfTables<'_>,
@@ -61,6 +63,9 @@ pub fn fleet(
     ensures advisors { AreTheSame advisors.old.items advisors.new.items identity }
     ensures asked { AreAsked advisors.old.items advisors.new.items asked has_quit 0
         ((2 * granted.splits + 1) * (granted.rounds * (2 * granted.branchings + 1))) }
+    ensures counted { IfOk result (λ fleet. AreAsked advisors.old.items advisors.new.items asked has_quit
+        (in_rounds granted.rounds (branchings_in fleet.boxes))
+        (granted.rounds * (2 * branchings_in fleet.boxes + (fleet.splits + 1)))) }
 {
     // What is known of an accepted day.
     tables.instance.is_sound();
@@ -92,6 +97,10 @@ fn run(
     ensures asked { AreAsked advisors.old.items advisors.new.items asked has_quit 0
         ((2 * problem.entry.granted.splits + 1)
         * (problem.entry.granted.rounds * (2 * problem.entry.granted.branchings + 1))) }
+    ensures counted { IfOk result (λ search. AreAsked advisors.old.items advisors.new.items asked has_quit
+        (in_rounds problem.entry.granted.rounds (branchings_in (nodes_in search.slots.items)))
+        (problem.entry.granted.rounds
+        * (2 * branchings_in (nodes_in search.slots.items) + (search.splits + 1)))) }
 {
     // What is known of an accepted day.
     problem.tables.instance.is_sound();
@@ -121,10 +130,11 @@ fn begun(
     ensures advisors { AreTheSame advisors.old.items advisors.new.items identity }
     ensures asked { AreAsked advisors.old.items advisors.new.items asked has_quit 0
         (problem.entry.granted.rounds * (2 * problem.entry.granted.branchings + 1)) }
+    ensures counted { IfOk result (λ search. AreAsked advisors.old.items advisors.new.items asked has_quit
+        (in_rounds problem.entry.granted.rounds (branchings_in (nodes_in search.slots.items)))
+        (problem.entry.granted.rounds * (2 * branchings_in (nodes_in search.slots.items) + 1))) }
 {
-    let greatest = fleet_of(alloc, problem.tables.instance)?;
-    let least = Counts::none(alloc, greatest.len())?;
-    let root = FleetBox { least, greatest };
+    let root = box_of(alloc, problem.tables.instance)?;
     let mut best = None;
     let slot = evaluated(alloc, problem, root, 0, &mut best, advisors)?;
     let mut slots = Vec::new(alloc);
@@ -136,7 +146,8 @@ fn begun(
     })
 }
 
-/// Splits the box of a leaf at the first place of greatest width. The error is want of memory.
+/// Splits the box of a leaf at the first place of greatest width. The day of the lower part is planned; the upper part
+/// has the greatest fleet of the whole box, so that what is said of its day is known. The error is want of memory.
 fn split(
     alloc: Global,
     problem: Problem<'_>,
@@ -150,14 +161,17 @@ fn split(
     requires search { IsSearch problem.tables.instance.now problem.prices.now problem.granted.branchings search.old }
     requires few { search.old.splits < problem.granted.splits }
     requires next { IsNext search.old.slots.items next }
-    requires asked { All (λ advisor. asked advisor
-        + problem.granted.rounds * (2 * problem.granted.branchings + 1) ≤ 2 ^ 63) advisors.old.items }
+    requires asked { All (λ advisor. asked advisor ≤ 2 ^ 63) advisors.old.items }
     ensures search { OnOk result (IsSearch problem.entry.tables.instance.now problem.entry.prices.now
         problem.entry.granted.branchings search.new) }
     ensures one { OnOk result (search.new.splits ≡ search.old.splits + 1) }
     ensures advisors { AreTheSame advisors.old.items advisors.new.items identity }
     ensures asked { AreAsked advisors.old.items advisors.new.items asked has_quit 0
-        (2 * (problem.entry.granted.rounds * (2 * problem.entry.granted.branchings + 1))) }
+        (problem.entry.granted.rounds * (2 * problem.entry.granted.branchings + 1)) }
+    ensures counted { OnOk result ((made : ℕ)
+        × (branchings_in (nodes_in search.new.slots.items) ≡ branchings_in (nodes_in search.old.slots.items) + made)
+        × AreAsked advisors.old.items advisors.new.items asked has_quit
+        (in_rounds problem.entry.granted.rounds made) (problem.entry.granted.rounds * (2 * made + 1))) }
 {
     // What is known of an accepted day.
     problem.tables.instance.is_sound();
@@ -173,21 +187,18 @@ fn split(
     let upper = fleets.upper(alloc, place, at)?;
     let number = 2 * search.splits + 1;
     let first = evaluated(alloc, problem, lower, number, &mut search.best, advisors)?;
-    let second = evaluated(
-        alloc,
-        problem,
-        upper,
-        number + 1,
-        &mut search.best,
-        advisors,
-    )?;
     let types = problem.tables.instance.types().len();
     let node = BoxNode::Split {
         station: StationNo(place / types),
         unit_type: TypeNo(place % types),
         at,
     };
-    search.slots[slot] = Slot { fleets, made, node };
+    let whole = mem::replace(&mut search.slots[slot], Slot { fleets, made, node });
+    let second = Slot {
+        fleets: upper,
+        made: number + 1,
+        node: whole.node,
+    };
     search.slots.insert(slot + 1, first)?;
     search.slots.insert(slot + 2, second)?;
     search.splits += 1;

@@ -1,9 +1,9 @@
 //! Nodes of a search for a fleet, each with its box.
 
-ghost use Rattle.std.specs.Prelude.{All, ◌≡◌, ◌+◌, ◌*◌, ◌≤◌, ◌^◌, length, IfOk};
+ghost use Rattle.std.specs.Prelude.{All, ◌≡◌, ◌+◌, ◌*◌, ◌≤◌, ◌^◌, ◌∷◌, [], length, IfOk};
 ghost use Rattle.timetable.specs.DayTables.{IsDayOfBytes};
-ghost use Rattle.search.specs.Questions.{AreAsked, AreTheSame};
-ghost use Rattle.fleet_size.specs.Found.{IsGranted};
+ghost use Rattle.search.specs.Questions.{AreAsked, AreTheSame, in_rounds};
+ghost use Rattle.fleet_size.specs.Found.{IsGranted, branchings_in};
 ghost use Rattle.fleet_size.specs.Slots.{IsBest, IsBoxOf, IsEvaluated, node_said};
 
 use crate::offers::{Best, DayAnswer, take_plan};
@@ -55,6 +55,9 @@ pub(crate) fn evaluated(
     ensures advisors { AreTheSame advisors.old.items advisors.new.items identity }
     ensures asked { AreAsked advisors.old.items advisors.new.items asked has_quit 0
         (problem.entry.granted.rounds * (2 * problem.entry.granted.branchings + 1)) }
+    ensures counted { IfOk result (λ slot. AreAsked advisors.old.items advisors.new.items asked has_quit
+        (in_rounds problem.entry.granted.rounds (branchings_in (slot.node ∷ [])))
+        (problem.entry.granted.rounds * (2 * branchings_in (slot.node ∷ []) + 1))) }
 {
     let Problem {
         tables,

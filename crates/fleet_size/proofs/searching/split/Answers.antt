@@ -1,52 +1,25 @@
-use Rattle.std.proofs.Common.{◌≡◌, ◌∙◌, ◌+◌, ◌*◌, ◌/◌, ◌%◌, ◌<◌, ◌≤◌, ℕ, List, [], ◌∷◌, ap, arith, false, length, subst, sym}
-use Rattle.search.proofs.Asking.{are_asked_again, are_asked_within, are_unasked}
+use Rattle.std.proofs.Common.{◌≡◌, ◌∙◌, ◌+◌, ◌*◌, ◌/◌, ◌%◌, ◌<◌, ◌≤◌, ℕ, List, [], ◌∷◌, ap, arith, false, length, refl, set, subst, sym}
+use Rattle.std.specs.List.{insert}
+use Rattle.search.proofs.Asking.{are_unasked}
 use Rattle.timetable.proofs.Indices.{InRows}
 use Rattle.fleet_boxes.specs.declared.boxes.FleetBox.{FleetBox}
 use Rattle.fleet_boxes.specs.declared.nodes.BoxNode.TheVariants.{Split}
 use Rattle.fleet_boxes.specs.Boxes.{IsParted, box_of, lower_part, upper_part}
 use Rattle.fleet_check.specs.Verdicts.{splits_in}
 use Rattle.fleet_size.specs.declared.slots.Slot.{Slot}
+use Rattle.fleet_size.specs.Found.{branchings_in}
 use Rattle.fleet_size.specs.Slots.{AreSlots, IsBoxOf, IsEvaluated, IsPlaced, IsWideAt, is_split, nodes_in, price_in}
-use Rattle.fleet_size.proofs.Asked.{may_be_asked_on}
-use Rattle.fleet_size.proofs.SlotTrees.{box_like, lower_is_box, placed_slot, put_after, replaced, rows_of_place, same_box, slots_after, splits_after, upper_is_box}
+use Rattle.fleet_size.proofs.SlotTrees.{box_like, lower_is_box, more_branchings, placed_slot, put_after, replaced, rows_of_place, same_box, same_slot, slots_after, splits_after, still_placed, upper_is_evaluated}
 use Rattle.fleet_size.proofs.searching.split.Goals as goal
 
 pub returns-in_err-fleets-clause-asked : goal.returns-in_err-fleets-clause-asked
-returns-in_err-fleets-clause-asked g c = are_unasked _ _ (2 * (c.args.problem.granted.rounds * (2 * c.args.problem.granted.branchings + 1))) c.args.advisors.now.items
+returns-in_err-fleets-clause-asked g c = are_unasked _ _ (c.args.problem.granted.rounds * (2 * c.args.problem.granted.branchings + 1)) c.args.advisors.now.items
 
 pub returns-in_err-lower-clause-asked : goal.returns-in_err-lower-clause-asked
-returns-in_err-lower-clause-asked g c = are_unasked _ _ (2 * (c.args.problem.granted.rounds * (2 * c.args.problem.granted.branchings + 1))) c.args.advisors.now.items
+returns-in_err-lower-clause-asked g c = are_unasked _ _ (c.args.problem.granted.rounds * (2 * c.args.problem.granted.branchings + 1)) c.args.advisors.now.items
 
 pub returns-in_err-upper-clause-asked : goal.returns-in_err-upper-clause-asked
-returns-in_err-upper-clause-asked g c = are_unasked _ _ (2 * (c.args.problem.granted.rounds * (2 * c.args.problem.granted.branchings + 1))) c.args.advisors.now.items
-
-pub returns-in_err-first-clause-asked : goal.returns-in_err-first-clause-asked
-returns-in_err-first-clause-asked g c =
-    are_asked_within _ _ 0 (c.args.problem.granted.rounds * (2 * c.args.problem.granted.branchings + 1)) 0 (2 * (c.args.problem.granted.rounds * (2 * c.args.problem.granted.branchings + 1))) c.args.advisors.now.items c.evaluated.new.advisors.items (omega arith) (omega arith) c.evaluated.ensures.asked
-
-pub evaluated-requires-2-clause-asked : goal.evaluated-requires-2-clause-asked
-evaluated-requires-2-clause-asked g c =
-    may_be_asked_on _ (λ b. (goal.Advisor-dyn g (b.vtable, b.value)).identity b.value) _ (c.args.problem.granted.rounds * (2 * c.args.problem.granted.branchings + 1)) c.args.advisors.now.items c.evaluated.new.advisors.items c.requires.asked c.evaluated.ensures.asked
-
-pub returns-in_err-second-clause-asked : goal.returns-in_err-second-clause-asked
-returns-in_err-second-clause-asked g c =
-    are_asked_within _ _ (0 + 0) (c.args.problem.granted.rounds * (2 * c.args.problem.granted.branchings + 1) + c.args.problem.granted.rounds * (2 * c.args.problem.granted.branchings + 1)) 0 (2 * (c.args.problem.granted.rounds * (2 * c.args.problem.granted.branchings + 1))) c.args.advisors.now.items c.evaluated-2.new.advisors.items (omega arith) (omega arith)
-    (are_asked_again _ _ 0 (c.args.problem.granted.rounds * (2 * c.args.problem.granted.branchings + 1)) 0 (c.args.problem.granted.rounds * (2 * c.args.problem.granted.branchings + 1)) c.args.advisors.now.items c.evaluated.new.advisors.items c.evaluated-2.new.advisors.items c.evaluated.ensures.asked c.evaluated-2.ensures.asked)
-
-pub returns-in_err-insert-clause-asked : goal.returns-in_err-insert-clause-asked
-returns-in_err-insert-clause-asked g c =
-    are_asked_within _ _ (0 + 0) (c.args.problem.granted.rounds * (2 * c.args.problem.granted.branchings + 1) + c.args.problem.granted.rounds * (2 * c.args.problem.granted.branchings + 1)) 0 (2 * (c.args.problem.granted.rounds * (2 * c.args.problem.granted.branchings + 1))) c.args.advisors.now.items c.evaluated-2.new.advisors.items (omega arith) (omega arith)
-    (are_asked_again _ _ 0 (c.args.problem.granted.rounds * (2 * c.args.problem.granted.branchings + 1)) 0 (c.args.problem.granted.rounds * (2 * c.args.problem.granted.branchings + 1)) c.args.advisors.now.items c.evaluated.new.advisors.items c.evaluated-2.new.advisors.items c.evaluated.ensures.asked c.evaluated-2.ensures.asked)
-
-pub returns-in_err-insert-2-clause-asked : goal.returns-in_err-insert-2-clause-asked
-returns-in_err-insert-2-clause-asked g c =
-    are_asked_within _ _ (0 + 0) (c.args.problem.granted.rounds * (2 * c.args.problem.granted.branchings + 1) + c.args.problem.granted.rounds * (2 * c.args.problem.granted.branchings + 1)) 0 (2 * (c.args.problem.granted.rounds * (2 * c.args.problem.granted.branchings + 1))) c.args.advisors.now.items c.evaluated-2.new.advisors.items (omega arith) (omega arith)
-    (are_asked_again _ _ 0 (c.args.problem.granted.rounds * (2 * c.args.problem.granted.branchings + 1)) 0 (c.args.problem.granted.rounds * (2 * c.args.problem.granted.branchings + 1)) c.args.advisors.now.items c.evaluated.new.advisors.items c.evaluated-2.new.advisors.items c.evaluated.ensures.asked c.evaluated-2.ensures.asked)
-
-pub returns-clause-asked : goal.returns-clause-asked
-returns-clause-asked g c =
-    are_asked_within _ _ (0 + 0) (c.args.problem.granted.rounds * (2 * c.args.problem.granted.branchings + 1) + c.args.problem.granted.rounds * (2 * c.args.problem.granted.branchings + 1)) 0 (2 * (c.args.problem.granted.rounds * (2 * c.args.problem.granted.branchings + 1))) c.args.advisors.now.items c.evaluated-2.new.advisors.items (omega arith) (omega arith)
-    (are_asked_again _ _ 0 (c.args.problem.granted.rounds * (2 * c.args.problem.granted.branchings + 1)) 0 (c.args.problem.granted.rounds * (2 * c.args.problem.granted.branchings + 1)) c.args.advisors.now.items c.evaluated.new.advisors.items c.evaluated-2.new.advisors.items c.evaluated.ensures.asked c.evaluated-2.ensures.asked)
+returns-in_err-upper-clause-asked g c = are_unasked _ _ (c.args.problem.granted.rounds * (2 * c.args.problem.granted.branchings + 1)) c.args.advisors.now.items
 
 -- the box of the leaf that is split
 pub middle-at-requires : goal.middle-at-requires
@@ -66,18 +39,6 @@ evaluated-requires-clause-fleets g c =
     box_like day c.in_ok-lower.lower (lower_part c.args.next.place c.middle-at.result fleets)
     (same_box c.in_ok-lower.lower (lower_part c.args.next.place c.middle-at.result fleets) c.in_ok-lower.ensures.least c.in_ok-lower.ensures.greatest)
     (lower_is_box day fleets c.args.next.place c.middle-at.result is c.middle-at.ensures)
-
-pub evaluated-requires-2-clause-fleets : goal.evaluated-requires-2-clause-fleets
-evaluated-requires-2-clause-fleets g c =
-    let day = c.args.problem.tables.instance.now in
-    let leaf = c.index.result.now in
-    let fleets : FleetBox = c.in_ok-fleets.fleets in
-    let same : fleets ≡ leaf.fleets = same_box fleets leaf.fleets c.in_ok-fleets.ensures.least c.in_ok-fleets.ensures.greatest in
-    let placed = placed_slot day c.args.problem.prices.now c.args.problem.granted.branchings (price_in c.args.search.now.best) c.args.search.now.slots.items c.args.next.slot leaf c.requires.next.within c.index.ensures c.requires.search.slots in
-    let is : IsBoxOf day fleets = box_like day fleets leaf.fleets same placed.box in
-    box_like day c.in_ok-upper.upper (upper_part c.args.next.place c.middle-at.result fleets)
-    (same_box c.in_ok-upper.upper (upper_part c.args.next.place c.middle-at.result fleets) c.in_ok-upper.ensures.least c.in_ok-upper.ensures.greatest)
-    (upper_is_box day fleets c.args.next.place c.middle-at.result is c.middle-at.ensures)
 
 pub nonzero_div-node : goal.nonzero_div-node
 nonzero_div-node g c =
@@ -112,8 +73,7 @@ returns-clause-search g c =
     let prices = c.args.problem.prices.now in
     let grant = c.args.problem.granted.branchings in
     let before = c.args.search.now.best in
-    let middle = c.evaluated.new.best in
-    let after = c.evaluated-2.new.best in
+    let after = c.evaluated.new.best in
     let slots = c.args.search.now.slots.items in
     let k = c.args.next.slot in
     let place = c.args.next.place in
@@ -130,17 +90,41 @@ returns-clause-search g c =
     same_box c.in_ok-lower.lower (lower_part place at fleets) c.in_ok-lower.ensures.least c.in_ok-lower.ensures.greatest ∙ ap (lower_part place at) same in
     let upper : c.in_ok-upper.upper ≡ upper_part place at leaf.fleets =
     same_box c.in_ok-upper.upper (upper_part place at fleets) c.in_ok-upper.ensures.least c.in_ok-upper.ensures.greatest ∙ ap (upper_part place at) same in
-    let one = subst (λ (box : FleetBox). IsEvaluated day prices grant box before middle c.in_ok-first.first) lower c.in_ok-first.ensures.evaluated in
-    let two = subst (λ (box : FleetBox). IsEvaluated day prices grant box middle after c.in_ok-second.second) upper c.in_ok-second.ensures.evaluated in
-    let new : List Slot = replaced slots k (record { fleets = fleets; made = c.args.next.made; node = Split s m at }) c.in_ok-first.first c.in_ok-second.second in
-    let items : c.insert-2.new.self.items ≡ new =
-    put_after day prices grant before middle after slots k leaf c.in_ok-first.first c.in_ok-second.second fleets c.args.next.made place s m at here c.requires.next.within c.index.ensures none parted row column same one two
-    c.insert.new.self.items c.insert-2.new.self.items c.in_ok-insert.ensures.items c.in_ok-insert-2.ensures.items in
+    let one = subst (λ (box : FleetBox). IsEvaluated day prices grant box before after c.in_ok-first.first) lower c.in_ok-first.ensures.evaluated in
+    let split : Slot = record { fleets = fleets; made = c.args.next.made; node = Split s m at } in
+    let second : Slot = record { fleets = c.in_ok-upper.upper; made = 2 * c.args.search.now.splits + 1 + 1; node = c.replace-whole.result.node } in
+    let kept : c.replace-whole.result ≡ leaf = same_slot slots k c.replace-whole.result leaf c.requires.next.within c.replace-whole.ensures.value c.index_mut.ensures.value c.index.ensures in
+    let still = still_placed day prices grant (price_in before) (price_in after) leaf one.no_dearer placed in
+    let two : IsEvaluated day prices grant (upper_part place at leaf.fleets) after after second =
+    upper_is_evaluated day prices grant after leaf second place at one.best none parted still upper (ap (λ (slot : Slot). slot.node) kept) in
+    let items : c.insert-2.new.self.items ≡ replaced slots k split c.in_ok-first.first second =
+    put_after slots k split c.in_ok-first.first second c.insert.new.self.items c.insert-2.new.self.items c.requires.next.within
+    (c.in_ok-insert.ensures.items ∙ ap (λ (slot : Slot). insert (set slots k slot) (k + 1) c.in_ok-first.first) c.replace-whole.ensures.after) c.in_ok-insert-2.ensures.items in
     record {
-      best = two.best;
+      best = one.best;
       slots = subst (λ (some : List Slot). AreSlots (IsPlaced day prices grant (price_in after)) (length day.types) (box_of day ∷ []) some) (sym items)
-          (slots_after day prices grant before middle after slots k leaf c.in_ok-first.first c.in_ok-second.second fleets c.args.next.made place s m at here c.requires.next.within c.index.ensures none parted row column same one two
+          (slots_after day prices grant before after after slots k leaf c.in_ok-first.first second fleets c.args.next.made place s m at here c.requires.next.within c.index.ensures none parted row column same one two
           c.requires.search.slots);
       splits = ap (λ (n : ℕ). n + 1) c.requires.search.splits ∙ sym (ap (λ (some : List Slot). splits_in (nodes_in some)) items
-          ∙ splits_after day prices grant before middle after slots k leaf c.in_ok-first.first c.in_ok-second.second fleets c.args.next.made place s m at here c.requires.next.within c.index.ensures none parted row column same one two);
+          ∙ splits_after day prices grant before after after slots k leaf c.in_ok-first.first second fleets c.args.next.made place s m at here c.requires.next.within c.index.ensures none parted row column same one two);
     }
+
+pub returns-clause-counted : goal.returns-clause-counted
+returns-clause-counted g c =
+    let leaf = c.index.result.now in
+    let slots = c.args.search.now.slots.items in
+    let k = c.args.next.slot in
+    let first = c.in_ok-first.first in
+    let s = c.args.next.place / c.len-types.result in
+    let m = c.args.next.place % c.len-types.result in
+    let split : Slot = record { fleets = c.in_ok-fleets.fleets; made = c.args.next.made; node = Split s m c.middle-at.result } in
+    let second : Slot = record { fleets = c.in_ok-upper.upper; made = 2 * c.args.search.now.splits + 1 + 1; node = c.replace-whole.result.node } in
+    let kept : c.replace-whole.result ≡ leaf = same_slot slots k c.replace-whole.result leaf c.requires.next.within c.replace-whole.ensures.value c.index_mut.ensures.value c.index.ensures in
+    let items : c.insert-2.new.self.items ≡ replaced slots k split first second =
+    put_after slots k split first second c.insert.new.self.items c.insert-2.new.self.items c.requires.next.within
+    (c.in_ok-insert.ensures.items ∙ ap (λ (slot : Slot). insert (set slots k slot) (k + 1) c.in_ok-first.first) c.replace-whole.ensures.after) c.in_ok-insert-2.ensures.items in (
+      branchings_in (first.node ∷ []),
+      ap (λ (some : List Slot). branchings_in (nodes_in some)) items
+          ∙ more_branchings slots k leaf split first second s m c.middle-at.result c.requires.next.within c.index.ensures refl (ap (λ (slot : Slot). slot.node) kept),
+      c.in_ok-first.ensures.counted,
+    )

@@ -1,6 +1,10 @@
-use Rattle.std.proofs.Common.{◌+◌, ◌*◌}
-use Rattle.search.proofs.Asking.{are_unasked}
-use Rattle.fleet_size.proofs.Leaves.{box_fits, leaf_is_evaluated}
+use Rattle.std.proofs.Common.{◌≡◌, ◌∙◌, ◌+◌, ◌*◌, ◌∷◌, [], ap, arith, sym}
+use Rattle.search.specs.Questions.{in_rounds}
+use Rattle.search.proofs.Asking.{are_asked_within, are_unasked}
+use Rattle.fleet_boxes.specs.declared.nodes.BoxNode.{BoxNode}
+use Rattle.fleet_size.specs.Found.{branchings_in}
+use Rattle.fleet_size.proofs.Asked.{fewer_in_rounds}
+use Rattle.fleet_size.proofs.Leaves.{box_fits, branchings_said, leaf_is_evaluated}
 use Rattle.fleet_size.proofs.slots.evaluated.Goals as goal
 
 pub day_with-requires-clause-fleet : goal.day_with-requires-clause-fleet
@@ -17,3 +21,15 @@ returns-clause-evaluated g c =
     c.in_ok-day.day c.is_sound.ensures c.requires.fleets c.in_ok-day.ensures c.in_ok-answer.ensures.headline
     c.in_ok-take_plan.ensures.taken c.node_of-node.ensures c.in_ok-take_plan.ensures.best
     c.in_ok-take_plan.ensures.no_dearer
+
+pub returns-clause-counted : goal.returns-clause-counted
+returns-clause-counted g c =
+    let rounds = c.args.problem.granted.rounds in
+    let answer = c.in_ok-answer.answer in
+    let node = c.node_of-node.result in
+    let made : branchings_in (node ∷ []) ≡ answer.branchings =
+    ap (λ (one : BoxNode). branchings_in (one ∷ [])) c.node_of-node.ensures ∙ branchings_said answer.head answer.branchings answer.tree in
+    let most : rounds * (2 * answer.branchings + 1) ≡ rounds * (2 * branchings_in (node ∷ []) + 1) = ap (λ (n : _). rounds * (2 * n + 1)) (sym made) in
+    are_asked_within _ _ (in_rounds rounds answer.branchings) (rounds * (2 * answer.branchings + 1)) (in_rounds rounds (branchings_in (node ∷ [])))
+    (rounds * (2 * branchings_in (node ∷ []) + 1)) c.args.advisors.now.items c.planned.new.advisors.items
+    (fewer_in_rounds rounds (branchings_in (node ∷ [])) answer.branchings (omega (arith, made))) (omega (arith, most)) c.in_ok-answer.ensures.counted
