@@ -41,7 +41,13 @@ fn bytes_of(alloc: Global, text: &[u8]) -> Result<Bytes, Fail>
 pub(crate) fn tables(alloc: Global, units: u32) -> Result<TableBytes, Fail>
     ensures { IfOk result AreShort }
 {
-    let texts = texts(units);
+    tables_in(alloc, &texts(units))
+}
+
+/// The bytes of the tables of a day.
+pub(crate) fn tables_in(alloc: Global, texts: &Texts<'_>) -> Result<TableBytes, Fail>
+    ensures { IfOk result AreShort }
+{
     Ok(TableBytes {
         types: bytes_of(alloc, texts.types)?,
         stations: bytes_of(alloc, texts.stations)?,

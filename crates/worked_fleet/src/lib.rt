@@ -8,4 +8,6 @@ mod fleet_tests;
 #[cfg(test)]
 mod price_tests;
 #[cfg(test)]
+mod search_tests;
+#[cfg(test)]
 mod verdict_tests;

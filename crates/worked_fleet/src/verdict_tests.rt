@@ -1,16 +1,18 @@
 //! What is said of all fleets of a small day, by hand, with each verdict on it. One unit costs 1060 on the day, two
 //! cost 120, and none can run; a unit costs 500 more.
 
-use crate::days::{made_of, tables, texts};
+use crate::days::{made_of, tables_in, texts};
 use answer_text::{Answer, Head};
 use day_planner::answer_for;
 use fleet_boxes::{BoxNode, Boxes};
 use fleet_check::{Chosen, DayOfTables, Fleet, MAX_BOX_NODES, check_fleet, read_prices};
 use fleets::Counts;
-use rail_base::{Money, StationNo, TypeNo};
-use sample_days::{day_of, plan_of, table};
+use rail_base::{Money, StationNo, TypeNo, UnitNo};
+use rail_csv::UnitList;
+use sample_days::{TURN, TWO_TYPES, Texts, day_of, table};
 use std::alloc::Global;
 use std::test::Fail;
+use timetable::NamedPlan;
 
 /// A node of the boxes.
 #[derive(Clone, Copy)]
@@ -21,8 +23,8 @@ enum Given {
     Leaf(u32),
 }
 
-/// A chosen fleet: so many units at X, and the table of its plan.
-type ChosenOf = (u32, &'static [u8]);
+/// A chosen fleet by station and then type, and its plan: the units of each trip, front to rear.
+type ChosenOf = (&'static [u32], &'static [&'static [u32]]);
 
 /// What is said of all fleets.
 #[derive(Clone, Copy)]
@@ -39,7 +41,7 @@ struct Case {
     verdict: &'static str,
 }
 
-const BOTH: ChosenOf = (2, b"trip,units\nT1,0 1\nT2,1 0\n");
+const BOTH: ChosenOf = (&[2, 0], &[&[0, 1], &[1, 0]]);
 
 /// The boxes of one split at one unit and one of the lower part at none, and the leaves.
 const SPLIT_TWICE: &[Given] = &[
@@ -113,6 +115,12 @@ const CASES: &[Case] = &[
         ..BEST
     },
     Case {
+        about: "no node at all",
+        boxes: &[],
+        verdict: "TreeShape(0)",
+        ..BEST
+    },
+    Case {
         about: "a node after the tree, which comes before what fails in it",
         boxes: &[Given::Leaf(0), Given::Split(9, 9, 9)],
         verdict: "TreeShape(1)",
@@ -155,8 +163,27 @@ const CASES: &[Case] = &[
         ..BEST
     },
     Case {
+        about: "a leaf that fails before a split that does not part its box",
+        boxes: &[
+            Given::Split(0, 0, 1),
+            Given::Leaf(0),
+            Given::Split(9, 9, 9),
+            Given::Leaf(0),
+            Given::Leaf(2),
+        ],
+        verdict: "LeafFails(1)",
+        ..BEST
+    },
+    Case {
         about: "another number of splits is said",
         splits: 3,
+        verdict: "SplitsDiffer { said: 3, found: 2 }",
+        ..BEST
+    },
+    Case {
+        about: "another number of splits is said, which comes before a plan that is not there",
+        splits: 3,
+        chosen: None,
         verdict: "SplitsDiffer { said: 3, found: 2 }",
         ..BEST
     },
@@ -174,26 +201,50 @@ const CASES: &[Case] = &[
     },
     Case {
         about: "more units than may be there",
-        chosen: Some((3, b"trip,units\nT1,0 1\nT2,1 0\n")),
+        chosen: Some((&[3, 0], &[&[0, 1], &[1, 0]])),
+        verdict: "PlanFails",
+        ..BEST
+    },
+    Case {
+        about: "a number for one station alone",
+        chosen: Some((&[2], &[&[0, 1], &[1, 0]])),
+        verdict: "PlanFails",
+        ..BEST
+    },
+    Case {
+        about: "a number for one station too many",
+        chosen: Some((&[2, 0, 0], &[&[0, 1], &[1, 0]])),
+        verdict: "PlanFails",
+        ..BEST
+    },
+    Case {
+        about: "a plan of one trip alone",
+        chosen: Some((&[2, 0], &[&[0, 1]])),
+        verdict: "PlanFails",
+        ..BEST
+    },
+    Case {
+        about: "a plan of one trip too many",
+        chosen: Some((&[2, 0], &[&[0, 1], &[1, 0], &[]])),
         verdict: "PlanFails",
         ..BEST
     },
     Case {
         about: "a unit that the fleet lacks",
-        chosen: Some((1, b"trip,units\nT1,0 1\nT2,1 0\n")),
+        chosen: Some((&[1, 0], &[&[0, 1], &[1, 0]])),
         verdict: "PlanFails",
         ..BEST
     },
     Case {
         about: "a plan that stops",
-        chosen: Some((2, b"trip,units\nT1,0\nT2,1\n")),
+        chosen: Some((&[2, 0], &[&[0], &[1]])),
         verdict: "PlanFails",
         ..BEST
     },
     Case {
         about: "one unit costs more, and a leaf is worth less",
         head: Head::Optimal { cost: Money(1560) },
-        chosen: Some((1, b"trip,units\nT1,0\nT2,0\n")),
+        chosen: Some((&[1, 0], &[&[0], &[0]])),
         verdict: "HeadFails",
         ..BEST
     },
@@ -220,6 +271,15 @@ const CASES: &[Case] = &[
         ..WHOLE
     },
     Case {
+        about: "a bound that is the value of a leaf, but not the least",
+        head: Head::BoundedPlan {
+            bound: Money(1560),
+            cost: Money(1120),
+        },
+        verdict: "HeadFails",
+        ..BEST
+    },
+    Case {
         about: "a bound where there is no value",
         most: 0,
         head: Head::Bounded { bound: Money(0) },
@@ -231,9 +291,9 @@ const CASES: &[Case] = &[
     },
 ];
 
-/// The leaf that is proved of the day with so many units at X.
-fn leaf(alloc: Global, units: u32) -> Result<BoxNode, Fail> {
-    let day = day_of(alloc, &texts(units))?;
+/// The leaf that is proved of a day.
+fn leaf(alloc: Global, texts: &Texts<'_>) -> Result<BoxNode, Fail> {
+    let day = day_of(alloc, texts)?;
     let mut advisors = Vec::new(alloc);
     let Answer {
         head,
@@ -254,16 +314,40 @@ fn leaf(alloc: Global, units: u32) -> Result<BoxNode, Fail> {
 
 /// The chosen fleet and its plan.
 fn chosen_of(alloc: Global, chosen: ChosenOf) -> Result<Chosen, Fail> {
-    let (units, plan) = chosen;
-    let mut counts = Vec::new(alloc);
-    counts.push(units)?;
-    counts.push(0)?;
-    // Its units are those of a day with three, so that too many can be named.
-    let day = day_of(alloc, &texts(3))?;
+    let (stock, plan) = chosen;
+    let mut lists = Vec::new(alloc);
+    for units in plan {
+        lists.push(units_of(alloc, units)?)?;
+    }
+    if lists.len() > 400 {
+        return Err(Fail::new("too many trips"));
+    }
     Ok(Chosen {
-        stock: Counts::of(counts),
-        plan: plan_of(alloc, &day, plan)?,
+        stock: counts_of(alloc, stock)?,
+        plan: NamedPlan::of(lists),
     })
+}
+
+/// A fleet of these numbers.
+fn counts_of(alloc: Global, numbers: &[u32]) -> Result<Counts, Fail> {
+    let mut counts = Vec::new(alloc);
+    counts.extend_from_slice(numbers)?;
+    if counts.len() > 360 {
+        return Err(Fail::new("too many places"));
+    }
+    Ok(Counts::of(counts))
+}
+
+/// The units of a trip.
+fn units_of(alloc: Global, numbers: &[u32]) -> Result<UnitList, Fail> {
+    let mut units = Vec::new(alloc);
+    for number in numbers {
+        units.push(UnitNo(*number))?;
+    }
+    if units.len() > 6 {
+        return Err(Fail::new("too many units"));
+    }
+    Ok(UnitList::of(units))
 }
 
 /// What is said of all fleets.
@@ -276,7 +360,7 @@ fn fleet_of(alloc: Global, case: &Case) -> Result<Fleet, Fail> {
                 unit_type: TypeNo(unit_type),
                 at,
             },
-            Given::Leaf(units) => leaf(alloc, units)?,
+            Given::Leaf(units) => leaf(alloc, &texts(units))?,
         })?;
     }
     let chosen = match case.chosen {
@@ -291,12 +375,11 @@ fn fleet_of(alloc: Global, case: &Case) -> Result<Fleet, Fail> {
     })
 }
 
-/// The verdict on what is said of all fleets.
-fn told(alloc: Global, case: &Case) -> Result<String, Fail> {
-    let bytes = tables(alloc, case.most)?;
+/// The verdict on what is said of all fleets of a day.
+fn told(alloc: Global, texts: &Texts<'_>, prices: &[u8], fleet: &Fleet) -> Result<String, Fail> {
+    let bytes = tables_in(alloc, texts)?;
     let instance = made_of(alloc, &bytes)?;
-    let prices = read_prices(alloc, &instance, table(b"type,cost\nA,500\n")?)?;
-    let fleet = fleet_of(alloc, case)?;
+    let prices = read_prices(alloc, &instance, table(prices)?)?;
     if fleet.boxes.items().len() > MAX_BOX_NODES as usize {
         return Err(Fail::new("too many nodes"));
     }
@@ -304,15 +387,67 @@ fn told(alloc: Global, case: &Case) -> Result<String, Fail> {
         bytes: &bytes,
         instance: &instance,
     };
-    let verdict = check_fleet(alloc, &day, &prices, &fleet)?;
+    let verdict = check_fleet(alloc, &day, &prices, fleet)?;
     Ok(format!(in alloc; "{verdict:?}")?)
 }
 
 #[test]
 fn each_verdict_comes(rt: HostRuntime) -> Result<(), Fail> {
     for case in CASES {
-        let told = told(rt.alloc(), case)?;
+        let fleet = fleet_of(rt.alloc(), case)?;
+        let told = told(rt.alloc(), &texts(case.most), b"type,cost\nA,500\n", &fleet)?;
         assert_eq!(rt; told.as_str(), case.verdict, "{}", case.about);
+    }
+    Ok(())
+}
+
+/// A fleet with a plan that is said to cost 1 on a day, and what it costs.
+struct Costing {
+    /// What it shows.
+    about: &'static str,
+    texts: Texts<'static>,
+    prices: &'static [u8],
+    chosen: ChosenOf,
+    /// The verdict.
+    verdict: &'static str,
+}
+
+const COSTINGS: &[Costing] = &[
+    Costing {
+        about: "a unit of each of two types: the day costs 100, and they cost 500 and 700",
+        texts: Texts {
+            stock: b"station,type,start,end\nX,A,1,1\nX,B,1,1\n",
+            ..TWO_TYPES
+        },
+        prices: b"type,cost\nA,500\nB,700\n",
+        chosen: (&[1, 1, 0, 0], &[&[0, 1], &[1, 0]]),
+        verdict: "PriceDiffers { said: Money(1), found: Money(1300) }",
+    },
+    Costing {
+        about: "a unit at each of two stations: unit 0 is at X, and runs both trips for 1060",
+        texts: Texts {
+            stock: b"station,type,start,end\nX,A,1,1\nY,A,1,1\n",
+            ..TURN
+        },
+        prices: b"type,cost\nA,500\n",
+        chosen: (&[1, 1], &[&[0], &[0]]),
+        verdict: "PriceDiffers { said: Money(1), found: Money(2060) }",
+    },
+];
+
+#[test]
+fn units_cost_by_their_type_and_are_numbered_by_station(rt: HostRuntime) -> Result<(), Fail> {
+    for costing in COSTINGS {
+        let mut nodes = Vec::new(rt.alloc());
+        nodes.push(leaf(rt.alloc(), &costing.texts)?)?;
+        let fleet = Fleet {
+            head: Head::Optimal { cost: Money(1) },
+            splits: 0,
+            boxes: Boxes::of(nodes),
+            chosen: Some(chosen_of(rt.alloc(), costing.chosen)?),
+        };
+        let told = told(rt.alloc(), &costing.texts, costing.prices, &fleet)?;
+        assert_eq!(rt; told.as_str(), costing.verdict, "{}", costing.about);
     }
     Ok(())
 }
