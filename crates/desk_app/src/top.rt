@@ -62,10 +62,11 @@ fn write_outcome<K: Sink>(alloc: Global, outcome: DeskOutcome, out: &mut K) -> u
 /// - `fleet DIR --nodes N --rounds K --splits S --evaluations E` reads `fleet.csv` as well: what a unit of each type
 ///   costs. A fleet says how many units of each type stand at each station, in the morning and again in the evening, at
 ///   most as many as the day's stock has in the morning. It looks for the fleet that costs the least together with a
-///   plan. For that it splits the fleets S times at most, 50 times where no S is given, and plans a day for each part
-///   by a search of at most N branchings, 50 where no N is given, with K and E as in `replan`. It writes the fleet and
-///   the plan. What it says of the price is true of all fleets and all their plans; where more splits or branchings are
-///   wanted than were granted, it writes the parts of the fleets with the trees that prove it.
+///   plan. For that it splits the fleets S times at most, 50 times where no S is given, and plans one day at
+///   first and one more for each split, by a search of at most N branchings, 50 where no N is given, with K and E as in
+///   `replan`. It writes the fleet and the plan. What it says of the price is true of all fleets and all their plans;
+///   where more splits or branchings are wanted than were granted, it writes the parts of the fleets with the trees that
+///   prove it.
 ///
 /// The statuses:
 ///
