@@ -4,7 +4,7 @@ ghost use Rattle.std.specs.Prelude.{◌≡◌, ◌<◌, length, nat_lt};
 ghost use Rattle.std.specs.List.{list_any};
 ghost use Rattle.timetable.specs.Day.{leaves};
 ghost use Rattle.timetable.specs.LinkRows.{AreBelow};
-ghost use Rattle.timetable.specs.Links.{listed};
+ghost use Rattle.timetable.specs.Links.{trip_list};
 
 use rail_base::{Minute, TripNo};
 use timetable::{Instance, LinkTrips};
@@ -21,7 +21,7 @@ pub fn has_left(instance: &Instance, now: Minute, trip: TripNo) -> bool
 /// Whether one of the trips on a side of a link leaves before a minute.
 pub(crate) fn has_any_left(instance: &Instance, now: Minute, trips: LinkTrips) -> bool
     requires { AreBelow (length instance.now.trips) trips }
-    ensures { result ≡ list_any (λ t. nat_lt (leaves instance.now t) now) (listed trips) }
+    ensures { result ≡ list_any (λ t. nat_lt (leaves instance.now t) now) (trip_list trips) }
 {
     if has_left(instance, now, trips.first) {
         return true;

@@ -2,7 +2,7 @@
 
 ghost use Rattle.std.specs.Prelude.{◌≡◌, ◌<◌, length, IfSome};
 ghost use Rattle.std.specs.List.{list_all};
-ghost use Rattle.timetable.specs.Links.{listed, trips_into};
+ghost use Rattle.timetable.specs.Links.{trip_list, trips_into};
 ghost use Rattle.timetable.specs.Running.{IsPlan};
 ghost use Rattle.day_simulator.specs.State.{stage_of, has_arrived};
 ghost use Rattle.day_simulator.specs.Steps.{is_tested_at, broken, broken_into, broken_out};
@@ -72,7 +72,7 @@ fn has_arrived(stages: &[Stage], trip: TripNo) -> bool
 
 /// Whether all these trips of a link have arrived.
 fn have_arrived(stages: &[Stage], trips: LinkTrips) -> bool
-    ensures { result ≡ list_all (λ a. has_arrived (stage_of stages.now a)) (listed trips) }
+    ensures { result ≡ list_all (λ a. has_arrived (stage_of stages.now a)) (trip_list trips) }
 {
     if !has_arrived(stages, trips.first) {
         return false;

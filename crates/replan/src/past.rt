@@ -4,7 +4,7 @@ ghost use Rattle.std.specs.Prelude.{◌≡◌, ◌<◌, length, nat_lt};
 ghost use Rattle.std.specs.List.{list_any};
 ghost use Rattle.timetable.specs.Day.{arrives};
 ghost use Rattle.timetable.specs.LinkRows.{AreBelow};
-ghost use Rattle.timetable.specs.Links.{listed};
+ghost use Rattle.timetable.specs.Links.{trip_list};
 ghost use Rattle.replan.specs.RestsOfDays.{is_frozen};
 
 use cancellations::has_left;
@@ -23,7 +23,7 @@ fn has_arrived(instance: &Instance, now: Minute, trip: TripNo) -> bool
 /// Whether one of the trips on a side of a link arrives before a minute.
 fn has_any_arrived(instance: &Instance, now: Minute, trips: LinkTrips) -> bool
     requires { AreBelow (length instance.now.trips) trips }
-    ensures { result ≡ list_any (λ t. nat_lt (arrives instance.now t) now) (listed trips) }
+    ensures { result ≡ list_any (λ t. nat_lt (arrives instance.now t) now) (trip_list trips) }
 {
     if has_arrived(instance, now, trips.first) {
         return true;

@@ -60,8 +60,8 @@ departing_in (Join a1 a2 b) = b ∷ []
 departing_in (Split a b1 b2) = b1 ∷ b2 ∷ []
 
 -- one or two of them as a list
-abbrev pub listed : LinkTrips → List ℕ
-listed trips = trips.first ∷ option_to_list trips.second
+abbrev pub trip_list : LinkTrips → List ℕ
+trip_list trips = trips.first ∷ option_to_list trips.second
 
 -- the number of the link that leads on from a trip, and of the one that leads into it
 unfoldable pub outgoing : Day → ℕ → Option ℕ

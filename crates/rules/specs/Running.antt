@@ -79,7 +79,7 @@ pub record RunsOf (units : Units) (day : Day) (plan : List (List ℕ)) : Type 0 
   pub links : (l : ℕ) (link : Link) → slice_get day.links l ≡ Some link → link_holds units.unit_type link plan ≡ true
   -- each unit begins the day at home
   pub homes : (u : ℕ) → u < units.count → BeginsAt day (units.home u) (duty day plan u)
-  -- each unit can go from one trip of its duty to the next
+  -- each unit can go from one trip of its duty to the next; so no unit is on two trips at once
   pub follows : (u : ℕ) → u < units.count → EachFollows (MayFollowOf units.unit_type day plan u) (duty day plan u)
   -- each station has, of each type, as many units at the end as are wanted
   pub balance : (s m : ℕ) → s < length day.stations → m < length day.types
@@ -105,7 +105,7 @@ abbrev pub EndsAsWanted : Units → Day → List (List ℕ) → Type 0
 EndsAsWanted units day plan = (s m : ℕ) → s < length day.stations → m < length day.types
     → ending_of units day plan s m ≡ wanted_of day s m
 
--- a plan runs exactly where both hold
+-- a plan runs exactly where both hold (a law of timetable)
 abbrev pub RunsInParts : Type 0
 RunsInParts = (units : Units) (day : Day) (plan : List (List ℕ))
     → RunsOf units day plan ↔ (RunsThrough units day plan × EndsAsWanted units day plan)

@@ -7,7 +7,8 @@ use Rattle.rules.specs.Cost.{plan_cost_of, PlansOfUnitsCostAtLeast, NoPlanOfUnit
 use Rattle.rules.specs.Day.{Day, Units, stock_units}
 use Rattle.rules.specs.Running.{RunsOf}
 
--- whether there is a plan, and so may be runs
+-- whether an answer has a plan. Its runs are the plan as it writes it: the units of each trip, in order, and nothing
+-- where it has none.
 abbrev pub has_plan : Head → Bool
 has_plan (Optimal cost) = true
 has_plan Infeasible = false

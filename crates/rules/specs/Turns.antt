@@ -1,6 +1,9 @@
 -- The rule of a turn: which units stay in the train. A turn has an end at which it may uncouple units, and one at which
 -- it may couple units. Which places of the two lists stay is read off the types; the rule is that the same units stand
 -- there, and that no more are taken off and put on than may be.
+-- The rule is said twice: of lists, by `IsKeptList` and `AreParts`, and by numbers, by `kept_length` and `turn_parts`.
+-- `RunsOf` reads `turn_parts`. That both say the same of all lists is proved: `kept_length` in the law KeepTheLongest, and
+-- `turn_parts` in the law HaveParts, both of timetable.
 use Rattle.std.specs.Prelude.{ℕ, zero, suc, ◌-◌, ◌≡◌, ◌≤◌, List, [], ◌++◌, length, take, drop, map, Bool, ◌&&◌, ◌||◌}
 use Rattle.std.specs.Prelude.{◌==◌, if◌then◌else◌, nat_le, Option, Some, None, option_and_then, unwrap_or, MatchOption}
 use Rattle.std.specs.Prelude.{IsTrue}

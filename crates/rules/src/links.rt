@@ -2,7 +2,7 @@
 
 ghost use Rattle.std.specs.Prelude.{ℕ, ◌≡◌, ◌<◌, ◌≤◌, ◌&&◌, length, IfSome, IsTrue};
 ghost use Rattle.rules.specs.Cost.{shunts};
-ghost use Rattle.rules.specs.Links.{turned, arriving_in, departing_in, listed};
+ghost use Rattle.rules.specs.Links.{turned, arriving_in, departing_in, trip_list};
 ghost use Rattle.rules.specs.Lists.{has};
 ghost use Rattle.rules.specs.NamedTrips.{leads_from, leads_to, second_of, AreBelow, NamesBelow};
 ghost use Rattle.rules.specs.Turns.{kept_of, IsKept, uncoupling_end, coupling_end};
@@ -16,7 +16,7 @@ use rail_base::{TripNo, TypeNo};
 impl LinkTrips {
     /// Whether a trip is one of them.
     pub fn has(&self, trip: TripNo) -> bool
-        ensures { result ≡ has trip (listed self.now) }
+        ensures { result ≡ has trip (trip_list self.now) }
     {
         if trip == self.first {
             return true;
@@ -31,7 +31,7 @@ impl LinkTrips {
 impl LinkKind {
     /// The trips that arrive for the link, the train in front first.
     pub fn arriving(&self) -> LinkTrips
-        ensures trips { listed result ≡ arriving_in self.now }
+        ensures trips { trip_list result ≡ arriving_in self.now }
         ensures first { result.first ≡ leads_from self.now }
         ensures below { (bound : ℕ) → NamesBelow bound self.now → AreBelow bound result }
     {
@@ -53,7 +53,7 @@ impl LinkKind {
 
     /// The trips that leave by the link, the train in front first.
     pub fn departing(&self) -> LinkTrips
-        ensures trips { listed result ≡ departing_in self.now }
+        ensures trips { trip_list result ≡ departing_in self.now }
         ensures first { result.first ≡ leads_to self.now }
         ensures below { (bound : ℕ) → NamesBelow bound self.now → AreBelow bound result }
     {

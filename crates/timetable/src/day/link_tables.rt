@@ -2,7 +2,7 @@
 
 ghost use Rattle.std.specs.Prelude.{ℕ, ◌≡◌, ◌≤◌, Some, length, set, IfOk};
 ghost use Rattle.timetable.specs.LinkRows.{AreBelow, NamesBelow};
-ghost use Rattle.timetable.specs.Links.{listed};
+ghost use Rattle.timetable.specs.Links.{trip_list};
 ghost use Rattle.timetable.specs.LinkTables.{trips_on, noted, link_table};
 
 use crate::day::records::{Link, LinkKind, LinkTrips};
@@ -22,7 +22,7 @@ pub enum Side {
 impl Side {
     /// The trips that a link names on this side.
     pub fn trips_of(self, kind: LinkKind) -> LinkTrips
-        ensures trips { listed result ≡ trips_on self kind }
+        ensures trips { trip_list result ≡ trips_on self kind }
         ensures below { (bound : ℕ) → NamesBelow bound kind → AreBelow bound result }
     {
         match self {
