@@ -1,6 +1,5 @@
 -- What the search for the fleet of a folder's day comes to, and how it ends.
 use Rattle.std.proofs.Common.{◌≡◌, ◌≢◌, ◌+◌, ◌*◌, ◌≤◌, ℕ, Bool, List, Option, Some, Ok, Err, length, inl, inr, refl, sym, ◌∙◌, subst, arith}
-use Rattle.std.proofs.Math.Nat.{mul-le-mul_left, mul-le-mul_right}
 use Rattle.rail_base.specs.declared.limits.TheConstants.{MAX_TABLE_BYTES}
 use Rattle.rail_csv.specs.declared.rows.Table.TheVariants as table
 use Rattle.rail_io.specs.declared.whole.FileRefusal.{FileRefusal}
@@ -17,13 +16,9 @@ use Rattle.day_files.specs.OneFile.{IsFileCaused, ReadsFile, bytes_at, path_in}
 use Rattle.day_files.specs.Order.{Reaches}
 use Rattle.day_files.specs.Tables.{IsMadeDay}
 use Rattle.day_files.specs.Texts.{refusal_file}
-use Rattle.search.specs.Questions.{AreAsked}
-use Rattle.search.proofs.Asking.{are_asked_within}
 use Rattle.answer_check.specs.Headline.{status_said}
-use Rattle.fleet_check.specs.declared.found.TheConstants.{MAX_SPLITS}
 use Rattle.fleet_check.specs.PriceTables.{ArePricesOf}
 use Rattle.fleet_check.proofs.PriceLaw.{prices_are_decided}
-use Rattle.fleet_size.specs.declared.planning.TheConstants.{MAX_DAY_BRANCHINGS}
 use Rattle.fleet_text.specs.FleetLines.{fleet_text}
 use Rattle.desk_commands.specs.declared.fleet_planning.FleetPlanning.{FleetPlanning}
 use Rattle.desk_app.specs.declared.files.DeskFile.{DeskFile}
@@ -307,25 +302,3 @@ module _ {F : Type 0} (holds : F → Option Files) (may_fail : F → List ℕ �
         → EndsFleet files planning (status_of it) written written'
     fleet_ends comes files tells text document written written' appends undisturbed =
         fleet_ends_so files tells text document written written' appends undisturbed comes
-
--- ---- the advisors
-
--- how often advisors were asked within what the words grant is within what may be granted
-pub asked_at_most : {A : Type 0} (asked : A → ℕ) (has_quit : A → Bool) (nodes rounds splits : ℕ) (before after : List A)
-    → nodes ≤ MAX_DAY_BRANCHINGS → splits ≤ MAX_SPLITS
-    → AreAsked before after asked has_quit 0 ((2 * splits + 1) * (rounds * (2 * nodes + 1)))
-    → AreAsked before after asked has_quit 0 ((2 * MAX_SPLITS + 1) * (rounds * (2 * MAX_DAY_BRANCHINGS + 1)))
-asked_at_most asked has_quit nodes rounds splits before after few few_splits within =
-    let node : 2 * nodes + 1 ≤ 2 * MAX_DAY_BRANCHINGS + 1 = omega (arith, few) in
-    let each : rounds * (2 * nodes + 1) ≤ rounds * (2 * MAX_DAY_BRANCHINGS + 1) = mul-le-mul_left rounds node in
-    let day : (2 * splits + 1) * (rounds * (2 * nodes + 1)) ≤ (2 * splits + 1) * (rounds * (2 * MAX_DAY_BRANCHINGS + 1)) =
-    mul-le-mul_left (2 * splits + 1) each in
-    let days : 2 * splits + 1 ≤ 2 * MAX_SPLITS + 1 = omega (arith, few_splits) in
-    let all : (2 * splits + 1) * (rounds * (2 * MAX_DAY_BRANCHINGS + 1)) ≤ (2 * MAX_SPLITS + 1) * (rounds * (2 * MAX_DAY_BRANCHINGS + 1)) =
-    mul-le-mul_right (rounds * (2 * MAX_DAY_BRANCHINGS + 1)) days in
-    are_asked_within asked has_quit 0 ((2 * splits + 1) * (rounds * (2 * nodes + 1))) 0
-    ((2 * MAX_SPLITS + 1) * (rounds * (2 * MAX_DAY_BRANCHINGS + 1))) before after (omega arith)
-    (less_still _ _ _ day all) within
-  where
-    less_still : (a b c : ℕ) → a ≤ b → b ≤ c → a ≤ c
-    less_still a b c first second = omega (arith, first, second)

@@ -21,8 +21,7 @@ use Rattle.week_files.specs.declared.error.DayError.{DayError}
 use Rattle.week_files.specs.WeekFiles.{AreDaysFrom, AreDaysIn, HasDay, IsCausedAt, IsEndedAt, IsErrorAt}
 use Rattle.week_files.specs.WeekFiles.{IsFirstRefusedDay, day_folder}
 use Rattle.week_files.proofs.ReadDays.{day_at}
-use Rattle.fleet_check.specs.declared.found.TheConstants.{MAX_SPLITS}
-use Rattle.fleet_size.specs.declared.planning.TheConstants.{MAX_DAY_BRANCHINGS}
+use Rattle.fleet_size.specs.Found.{branchings_in}
 use Rattle.week_units.specs.declared.refusal.WeekRefusal.{WeekRefusal}
 use Rattle.week_units.specs.declared.refusal.WeekRefusal.TheVariants.{TypesDiffer, StationsDiffer, NightDiffers, LateTrip}
 use Rattle.week_units.specs.declared.refusal.WeekRefusal.TheVariants as week_refusal
@@ -277,7 +276,7 @@ none_asked_in_no_rounds asked has_quit advisors (PlannedWeek week) =
     subst (λ (least : ℕ). AreAsked advisors advisors asked has_quit least (most_asked 0 week.days)) (sym (least_none week.days))
     (are_unasked asked has_quit (most_asked 0 week.days) advisors)
 none_asked_in_no_rounds asked has_quit advisors (FleetFound found) =
-    are_unasked asked has_quit ((2 * MAX_SPLITS + 1) * (0 * (2 * MAX_DAY_BRANCHINGS + 1))) advisors
+    are_unasked asked has_quit (0 * (2 * branchings_in found.fleet.boxes + (found.fleet.splits + 1))) advisors
 none_asked_in_no_rounds asked has_quit advisors (Swapped swapped) = refl
 none_asked_in_no_rounds asked has_quit advisors Stops = refl
 none_asked_in_no_rounds asked has_quit advisors Usage = refl

@@ -7,8 +7,7 @@ use Rattle.answer_check.specs.ProvedTrees.{open_leaves}
 use Rattle.replan.specs.Promises.{as_answer}
 use Rattle.week_units.specs.declared.nights.TheConstants.{MAX_DAYS}
 use Rattle.week_plan.specs.DayAnswers as week
-use Rattle.fleet_check.specs.declared.found.TheConstants.{MAX_SPLITS}
-use Rattle.fleet_size.specs.declared.planning.TheConstants.{MAX_DAY_BRANCHINGS}
+use Rattle.fleet_size.specs.Found.{branchings_in}
 use Rattle.desk_commands.specs.declared.command.Command.{Command}
 use Rattle.desk_commands.specs.declared.command.Command.TheVariants as command
 use Rattle.desk_commands.specs.PlainForm.{IsPlainForm}
@@ -35,13 +34,13 @@ asks_advisors (command.Week planning) = true
 asks_advisors (command.Fleet planning) = true
 
 -- how often a command asks each of them at most: its rounds at a root and at both sides of each branching granted, for
--- each day; where fleets are split, there is a day for all of them and one for both sides of each split granted
+-- each day; where fleets are split, there is a day for all of them and one for the lower part of each split granted
 abbrev pub most_asked : Command → ℕ
 most_asked (command.Plan planning) = planning.rounds * (2 * planning.nodes + 1)
 most_asked (command.Urgent swapping) = 0
 most_asked (command.Replan replanning) = replanning.rounds * (2 * replanning.nodes + 1)
 most_asked (command.Week planning) = MAX_DAYS * (planning.rounds * (2 * planning.nodes + 1))
-most_asked (command.Fleet planning) = (2 * planning.splits + 1) * (planning.rounds * (2 * planning.nodes + 1))
+most_asked (command.Fleet planning) = (planning.splits + 1) * (planning.rounds * (2 * planning.nodes + 1))
 
 -- in how many rounds they may be asked at a node
 abbrev pub rounds_of : Command → ℕ
@@ -63,8 +62,8 @@ pub record LeavesAdvisors {A : Type 0} (words : List (List ℕ)) (before after :
 -- Where an answer comes of so many rounds, each advisor that has not quit was asked, in all, at least as many times as
 -- the answer has branchings and open leaves, unless there are no rounds; and at most as many times a round as there are
 -- a root and both sides of each branching. For a week it is so for the answers to its days together. For a fleet it is
--- only said how often at most, whatever was granted. Where no answer comes, other than for want of memory, none was
--- asked.
+-- so for the trees of its boxes together, with a root for each day that is planned; open leaves do not count there.
+-- Where no answer comes, other than for want of memory, none was asked.
 abbrev pub AreAskedFor : {A : Type 0} → ℕ → DeskOutcome → List A → List A → (A → ℕ) → (A → Bool) → Type 0
 AreAskedFor rounds (Planned answer) before after asked has_quit =
     AreAsked before after asked has_quit (in_rounds rounds (answer.branchings + open_leaves answer))
@@ -77,7 +76,8 @@ AreAskedFor rounds (Replanned rest) before after asked has_quit =
 AreAskedFor rounds (PlannedWeek planned) before after asked has_quit =
     AreAsked before after asked has_quit (week.least_asked rounds planned.days) (week.most_asked rounds planned.days)
 AreAskedFor rounds (FleetFound found) before after asked has_quit =
-    AreAsked before after asked has_quit 0 ((2 * MAX_SPLITS + 1) * (rounds * (2 * MAX_DAY_BRANCHINGS + 1)))
+    AreAsked before after asked has_quit (in_rounds rounds (branchings_in found.fleet.boxes))
+    (rounds * (2 * branchings_in found.fleet.boxes + (found.fleet.splits + 1)))
 AreAskedFor rounds Stops before after asked has_quit = after ≡ before
 AreAskedFor rounds Usage before after asked has_quit = after ≡ before
 AreAskedFor rounds (Refused file) before after asked has_quit = after ≡ before

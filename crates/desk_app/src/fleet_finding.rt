@@ -48,7 +48,7 @@ pub(crate) fn found_fleet<F: Folder>(
     // The advisors.
     ensures advisors { AreTheSame advisors.old.items advisors.new.items identity }
     ensures asked { AreAsked advisors.old.items advisors.new.items asked has_quit 0
-        ((2 * planning.now.splits + 1) * (planning.now.rounds * (2 * planning.now.nodes + 1))) }
+        ((planning.now.splits + 1) * (planning.now.rounds * (2 * planning.now.nodes + 1))) }
     ensures asked_for { AreAskedFor planning.now.rounds result advisors.old.items advisors.new.items asked has_quit }
 {
     match day_with_bytes_in(alloc, folder, planning.dir.as_str()) {
@@ -87,7 +87,7 @@ fn found_as_priced<F: Folder>(
     // The advisors.
     ensures advisors { AreTheSame advisors.old.items advisors.new.items identity }
     ensures asked { AreAsked advisors.old.items advisors.new.items asked has_quit 0
-        ((2 * planning.now.splits + 1) * (planning.now.rounds * (2 * planning.now.nodes + 1))) }
+        ((planning.now.splits + 1) * (planning.now.rounds * (2 * planning.now.nodes + 1))) }
     ensures asked_for { AreAskedFor planning.now.rounds result advisors.old.items advisors.new.items asked has_quit }
 {
     let dir = planning.dir.as_str();
@@ -125,7 +125,7 @@ fn found_by_table(
     // The advisors.
     ensures advisors { AreTheSame advisors.old.items advisors.new.items identity }
     ensures asked { AreAsked advisors.old.items advisors.new.items asked has_quit 0
-        ((2 * planning.now.splits + 1) * (planning.now.rounds * (2 * planning.now.nodes + 1))) }
+        ((planning.now.splits + 1) * (planning.now.rounds * (2 * planning.now.nodes + 1))) }
     ensures asked_for { AreAskedFor planning.now.rounds result advisors.old.items advisors.new.items asked has_quit }
 {
     match read_prices(alloc, &read.instance, bytes) {
@@ -160,7 +160,7 @@ fn found_at_prices(
     // The advisors.
     ensures advisors { AreTheSame advisors.old.items advisors.new.items identity }
     ensures asked { AreAsked advisors.old.items advisors.new.items asked has_quit 0
-        ((2 * planning.now.splits + 1) * (planning.now.rounds * (2 * planning.now.nodes + 1))) }
+        ((planning.now.splits + 1) * (planning.now.rounds * (2 * planning.now.nodes + 1))) }
     ensures asked_for { AreAskedFor planning.now.rounds result advisors.old.items advisors.new.items asked has_quit }
 {
     let tables = DayOfTables {

@@ -43,7 +43,7 @@ pub(crate) struct Search {
 ///
 /// Afterwards an advisor of the same identity stands at each place, whatever the answer is. Each was asked at most
 /// `rounds` times for each node of a day's tree that may be made, of which there are at most `2 * branchings + 1`, and
-/// for each of at most `2 * splits + 1` days. Where there is an answer, each was asked at most `rounds` times for each
+/// for each of at most `splits + 1` days. Where there is an answer, each was asked at most `rounds` times for each
 /// node of its leaves' trees, and one that has not quit, if there are rounds, at least once for each of their
 /// branchings. The error is want of memory alone.
 pub fn fleet(
@@ -62,7 +62,7 @@ pub fn fleet(
         IsVerdict tables.now.instance.now prices.now fleet verdict → verdict ≡ FleetVerdict.Valid) }
     ensures advisors { AreTheSame advisors.old.items advisors.new.items identity }
     ensures asked { AreAsked advisors.old.items advisors.new.items asked has_quit 0
-        ((2 * granted.splits + 1) * (granted.rounds * (2 * granted.branchings + 1))) }
+        ((granted.splits + 1) * (granted.rounds * (2 * granted.branchings + 1))) }
     ensures counted { IfOk result (λ fleet. AreAsked advisors.old.items advisors.new.items asked has_quit
         (in_rounds granted.rounds (branchings_in fleet.boxes))
         (granted.rounds * (2 * branchings_in fleet.boxes + (fleet.splits + 1)))) }
@@ -95,7 +95,7 @@ fn run(
     ensures ended { IfOk result (HasEnded problem.entry.prices.now problem.entry.granted.splits) }
     ensures advisors { AreTheSame advisors.old.items advisors.new.items identity }
     ensures asked { AreAsked advisors.old.items advisors.new.items asked has_quit 0
-        ((2 * problem.entry.granted.splits + 1)
+        ((problem.entry.granted.splits + 1)
         * (problem.entry.granted.rounds * (2 * problem.entry.granted.branchings + 1))) }
     ensures counted { IfOk result (λ search. AreAsked advisors.old.items advisors.new.items asked has_quit
         (in_rounds problem.entry.granted.rounds (branchings_in (nodes_in search.slots.items)))

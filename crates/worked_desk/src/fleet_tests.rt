@@ -97,6 +97,37 @@ fn fleets_are_found_or_refused(rt: HostRuntime) -> Result<(), Fail> {
     Ok(())
 }
 
+/// Options where no branching is granted and two units may be bought at 1000 each, a beginning, and whether the document
+/// begins with it. One unit costs 1060 on the day, and two cost 120, which no plan betters where each trip is planned by
+/// itself. So without advice only the plan of two units is met, and 120 and the price of a unit is the bound; an
+/// evaluation meets the plan of one, and rounds raise the bound.
+const ADVISED: [(&[&str], &str, bool); 3] = [
+    (&["--rounds=0"], "fleet bounded 1120 plan 2120\n", true),
+    (
+        &["--rounds=0", "--evaluations=1"],
+        "fleet bounded 1120 plan 2060\n",
+        true,
+    ),
+    (&["--rounds=20"], "fleet bounded 1120 ", false),
+];
+
+#[test]
+fn evaluations_and_rounds_are_granted(rt: HostRuntime) -> Result<(), Fail> {
+    let alloc = rt.alloc();
+    for (options, beginning, begins) in &ADVISED {
+        let more: [(&str, &[u8]); 1] = [("day/fleet.csv", b"type,cost\nA,1000\n")];
+        let mut folder = folder_with(&rt, alloc, &TURN, &more, &[])?;
+        let mut words = vec![in alloc; "fleet", "day", "--nodes=0"]?;
+        words.extend_from_slice(*options)?;
+        let (_, out) = said(&rt, alloc, Program::Raildesk, &words, &mut folder)?;
+        assert!(rt;
+            out.written().starts_with(beginning.as_bytes()) == *begins,
+            "{beginning}"
+        );
+    }
+    Ok(())
+}
+
 /// Words of no plain form of `fleet`: a folder too few or too many, and numbers over their limits.
 const OTHER_WORDS: &[&[&str]] = &[
     &["fleet"],

@@ -78,6 +78,40 @@ const CASES: &[Case] = &[
         boxes: "split 0 0 1, bound 1060, bound 120",
         ..TWO_UNITS
     },
+    // Two and three units cost 120 and 1000 at the least, which is no less than the price of two.
+    Case {
+        about: "a part that holds no lower price is not split, though it has two fleets",
+        texts: Texts {
+            stock: b"station,type,start,end\nX,A,3,0\n",
+            ..TURN
+        },
+        ..TWO_UNITS
+    },
+    Case {
+        about: "the unit that never leaves stands at the first station, and the others move up",
+        texts: Texts {
+            stations: b"station,platform,reallocation\nY,200,30\nX,200,30\n",
+            stock: b"station,type,start,end\nX,A,2,0\nY,A,1,0\n",
+            ..TURN
+        },
+        splits: 0,
+        said: "bounded 120 plan 1120, stock 0 2",
+        boxes: "bound 120",
+        ..TWO_UNITS
+    },
+    Case {
+        about: "the unit that never leaves is of another type",
+        texts: Texts {
+            types: b"type,carriages,seats,metres,family\nZ,3,20,80,other\nA,3,200,80,regional\n",
+            stock: b"station,type,start,end\nX,Z,1,0\nX,A,2,0\n",
+            ..TURN
+        },
+        prices: b"type,cost\nZ,500\nA,500\n",
+        splits: 0,
+        said: "bounded 120 plan 1120, stock 0 2 0 0",
+        boxes: "bound 120",
+        ..TWO_UNITS
+    },
     // The parts are worth 1060 and 120, and 120 and 120 and 2000. One unit on each line costs 2120 and 2000.
     Case {
         about: "of two open boxes that of lower value is split next",
@@ -96,6 +130,16 @@ const CASES: &[Case] = &[
         splits: 2,
         said: "bounded 1180 plan 2120, stock 2 0 2 0",
         boxes: "split 0 0 1, split 2 0 1, bound 2120, bound 1180, bound 240",
+        ..TWO_UNITS
+    },
+    // The upper part of the first split and the lower part of the second are both worth 2120.
+    Case {
+        about: "of two open boxes of one value that which was made earlier is split next, though it is further back",
+        texts: TWO_LINES,
+        prices: b"type,cost\nA,940\n",
+        splits: 3,
+        said: "bounded 2120 plan 4000, stock 2 0 2 0",
+        boxes: "split 0 0 1, split 2 0 1, bound 2120, bound 1180, split 2 0 1, bound 1180, bound 240",
         ..TWO_UNITS
     },
 ];

@@ -1,5 +1,4 @@
 use Rattle.std.proofs.Common.{◌∙◌, List, ap, length}
-use Rattle.desk_app.proofs.FoundFleets.{asked_at_most}
 use Rattle.desk_app.proofs.fleet_finding.found_at_prices.Goals as goal
 
 pub returns-in-Ok-clause-outcome : goal.returns-in-Ok-clause-outcome
@@ -9,6 +8,4 @@ returns-in-Ok-clause-outcome g c = record {
 }
 
 pub returns-in-Ok-clause-asked_for : goal.returns-in-Ok-clause-asked_for
-returns-in-Ok-clause-asked_for g c =
-    asked_at_most _ _ c.args.planning.now.nodes c.args.planning.now.rounds c.args.planning.now.splits _ _ c.requires.nodes c.requires.splits
-    c.fleet.ensures.asked
+returns-in-Ok-clause-asked_for g c = c.in-Ok.ensures.counted

@@ -16,7 +16,7 @@ returns-in-Err-clause-outcome g c =
 
 pub returns-in-Err-clause-asked : goal.returns-in-Err-clause-asked
 returns-in-Err-clause-asked g c =
-    are_unasked _ _ ((2 * c.args.planning.now.splits + 1) * (c.args.planning.now.rounds * (2 * c.args.planning.now.nodes + 1))) c.args.advisors.now.items
+    are_unasked _ _ ((c.args.planning.now.splits + 1) * (c.args.planning.now.rounds * (2 * c.args.planning.now.nodes + 1))) c.args.advisors.now.items
 
 pub returns-in-Err-clause-asked_for : goal.returns-in-Err-clause-asked_for
 returns-in-Err-clause-asked_for g c =

@@ -15,8 +15,8 @@ returns-in_err-search-clause-asked g c =
     let rounds = c.args.problem.granted.rounds in
     let grant = c.args.problem.granted.branchings in
     let each = rounds * (2 * grant + 1) in
-    let times : 1 * each ≤ (2 * c.args.problem.granted.splits + 1) * each = mul-le-mul_right each (let one : 1 ≤ 2 * c.args.problem.granted.splits + 1 = omega arith in one) in
-    are_asked_within _ _ 0 each 0 ((2 * c.args.problem.granted.splits + 1) * each) c.args.advisors.now.items c.begun.new.advisors.items (omega arith) (omega (arith, times)) c.begun.ensures.asked
+    let times : 1 * each ≤ (c.args.problem.granted.splits + 1) * each = mul-le-mul_right each (let one : 1 ≤ c.args.problem.granted.splits + 1 = omega arith in one) in
+    are_asked_within _ _ 0 each 0 ((c.args.problem.granted.splits + 1) * each) c.args.advisors.now.items c.begun.new.advisors.items (omega arith) (omega (arith, times)) c.begun.ensures.asked
 
 pub loop-split-init : goal.loop-split-init
 loop-split-init g c = record {
@@ -49,7 +49,7 @@ returns-in_default-clause-advisors g c = c.loop-split.invariant.asked.same
 pub returns-in_default-clause-asked : goal.returns-in_default-clause-asked
 returns-in_default-clause-asked g c =
     asked_in_all _ _ _ c.args.problem.granted.rounds c.args.problem.granted.branchings c.args.advisors.now.items c.loop-split.advisors.items (c.loop-split._split + 1)
-    (branchings_in (nodes_in c.loop-split.search.slots.items)) (2 * c.args.problem.granted.splits + 1) c.loop-split.invariant.asked (omega (arith, c.loop-split-test.true))
+    (branchings_in (nodes_in c.loop-split.search.slots.items)) (c.args.problem.granted.splits + 1) c.loop-split.invariant.asked (omega (arith, c.loop-split-test.true))
 
 pub returns-in_default-clause-counted : goal.returns-in_default-clause-counted
 returns-in_default-clause-counted g c =
@@ -83,7 +83,7 @@ returns-in_err-split-clause-advisors g c = c.split.ensures.advisors ∙ c.loop-s
 pub returns-in_err-split-clause-asked : goal.returns-in_err-split-clause-asked
 returns-in_err-split-clause-asked g c =
     asked_in_vain _ _ _ c.args.problem.granted.rounds c.args.problem.granted.branchings c.args.advisors.now.items c.loop-split.advisors.items c.split.new.advisors.items (c.loop-split._split + 1)
-    (branchings_in (nodes_in c.loop-split.search.slots.items)) (2 * c.args.problem.granted.splits + 1) c.loop-split.invariant.asked (omega (arith, c.loop-split-test.true)) c.split.ensures.asked
+    (branchings_in (nodes_in c.loop-split.search.slots.items)) (c.args.problem.granted.splits + 1) c.loop-split.invariant.asked (omega (arith, c.loop-split-test.true)) c.split.ensures.asked
 
 pub loop-split-preserved : goal.loop-split-preserved
 loop-split-preserved g c =
@@ -112,7 +112,7 @@ returns-clause-advisors g c = c.loop-split.invariant.asked.same
 pub returns-clause-asked : goal.returns-clause-asked
 returns-clause-asked g c =
     asked_in_all _ _ _ c.args.problem.granted.rounds c.args.problem.granted.branchings c.args.advisors.now.items c.loop-split.advisors.items (c.loop-split._split + 1)
-    (branchings_in (nodes_in c.loop-split.search.slots.items)) (2 * c.args.problem.granted.splits + 1) c.loop-split.invariant.asked (omega arith)
+    (branchings_in (nodes_in c.loop-split.search.slots.items)) (c.args.problem.granted.splits + 1) c.loop-split.invariant.asked (omega arith)
 
 pub returns-clause-counted : goal.returns-clause-counted
 returns-clause-counted g c =
