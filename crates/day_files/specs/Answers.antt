@@ -1,7 +1,7 @@
 -- What a call that reads a folder answers.
 use Rattle.std.specs.Prelude.{ℕ, ◌≡◌, ◌≤◌, List, length, Bool, true, false, IsTrue, if◌then◌else◌, Result, Ok, Err, ⊤}
 use Rattle.rail_base.specs.declared.limits.TheConstants.{MAX_TABLE_BYTES}
-use Rattle.rail_io.specs.Folders.{Rose, RosePast}
+use Rattle.rail_io.specs.Folders.{FolderState, Rose, RosePast}
 use Rattle.rail_csv.specs.declared.rows.PlanRow.{PlanRow}
 use Rattle.rail_csv.specs.declared.rows.Table.{Table}
 use Rattle.rail_csv.specs.declared.rows.Table.TheVariants.{Plan}
@@ -37,12 +37,11 @@ Reads IsReached read said = ReadsAs (λ y. y) IsReached read said
 -- What an error says of the folder before and after. A file could not be read only where the count of faults rose and a
 -- read of it may fail. A file was too long only where more bytes were taken than a table may have, or the count of them
 -- was at 2^63.
-abbrev pub IsCaused : {F : Type 0} → (F → List ℕ → Bool) → (F → ℕ) → (F → ℕ) → List ℕ → F → F → ReadError → Type 0
-IsCaused may_fail faults taken dir before after (CannotRead table) =
-    Rose (faults before) (faults after) × IsTrue (may_fail before (path_of dir table))
-IsCaused may_fail faults taken dir before after (Refused (TooLong table)) =
-    RosePast MAX_TABLE_BYTES (taken before) (taken after)
-IsCaused may_fail faults taken dir before after _ = ⊤
+abbrev pub IsCaused : List ℕ → FolderState → FolderState → ReadError → Type 0
+IsCaused dir before after (CannotRead table) =
+    Rose before.faults after.faults × IsTrue (before.may_fail (path_of dir table))
+IsCaused dir before after (Refused (TooLong table)) = RosePast MAX_TABLE_BYTES before.taken after.taken
+IsCaused dir before after _ = ⊤
 
 -- whether an error is that a file could not be read
 abbrev pub is_unread : ReadError → Bool

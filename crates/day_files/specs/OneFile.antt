@@ -1,6 +1,6 @@
 -- One file of a folder, read whole: its path, what is answered of it, and what a refusal is caused by.
 use Rattle.std.specs.Prelude.{ℕ, ◌≡◌, ◌<◌, ◌≤◌, List, ◌++◌, codes, length, Bool, false, IsTrue, Result, Ok, Err, ⊤}
-use Rattle.rail_io.specs.Folders.{Files, Rose, RosePast, file_at}
+use Rattle.rail_io.specs.Folders.{Files, FolderState, Rose, RosePast, file_at}
 use Rattle.rail_io.specs.declared.whole.FileRefusal.{FileRefusal}
 use Rattle.rail_io.specs.declared.whole.FileRefusal.TheVariants.{NoMemory, ReadFault, TooLong}
 
@@ -23,12 +23,10 @@ ReadsFile file limit (Err NoMemory) = ⊤
 -- What a refusal says of the folder before and after, whatever it tells: the file could not be read only where the
 -- count of faults rose and a read of it may fail; it was too long only where more bytes were taken than are allowed, or
 -- the count of them was at 2^63. Want of memory has no cause.
-abbrev pub IsFileCaused : {F : Type 0} → (F → List ℕ → Bool) → (F → ℕ) → (F → ℕ) → List ℕ → ℕ → F → F → FileRefusal
-    → Type 0
-IsFileCaused may_fail faults taken path limit before after ReadFault =
-    Rose (faults before) (faults after) × IsTrue (may_fail before path)
-IsFileCaused may_fail faults taken path limit before after TooLong = RosePast limit (taken before) (taken after)
-IsFileCaused may_fail faults taken path limit before after NoMemory = ⊤
+abbrev pub IsFileCaused : List ℕ → ℕ → FolderState → FolderState → FileRefusal → Type 0
+IsFileCaused path limit before after ReadFault = Rose before.faults after.faults × IsTrue (before.may_fail path)
+IsFileCaused path limit before after TooLong = RosePast limit before.taken after.taken
+IsFileCaused path limit before after NoMemory = ⊤
 
 -- whether what a call answers is an error that says that a file could not be read, as these errors tell
 abbrev pub tells_unread : {E Y : Type 0} → (E → Bool) → Result Y E → Bool

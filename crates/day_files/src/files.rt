@@ -1,8 +1,8 @@
 //! One file of a folder, read whole.
 
-ghost use Rattle.std.specs.Prelude.{◌≡◌, ◌≤◌, true, Some, length, IfOk, IfErr, string_bytes};
+ghost use Rattle.std.specs.Prelude.{◌≡◌, ◌≤◌, Some, length, IfOk, IfErr, string_bytes};
 ghost use Rattle.rail_base.specs.declared.limits.TheConstants.{MAX_FILE_BYTES};
-ghost use Rattle.rail_io.specs.Folders.{Files, OnlyReads, faults_after};
+ghost use Rattle.rail_io.specs.Folders.{CountsFault, Files, OnlyReads};
 ghost use Rattle.rail_io.specs.Wholes.{tells_read_fault};
 ghost use Rattle.day_files.specs.OneFile.{IsFileCaused, ReadsFile, bytes_at, path_in};
 
@@ -37,14 +37,13 @@ pub fn file_in<F: Folder>(
     limit: u64,
 ) -> Result<Bytes, FileRefusal>
     requires { limit ≤ MAX_FILE_BYTES }
-    ensures told { (files : Files) → F.holds folder.old ≡ Some files
+    ensures told { (files : Files) → (F.state folder.old).holds ≡ Some files
         → ReadsFile (bytes_at files dir.now name.now) limit result }
     ensures few { IfOk result (λ bytes. length bytes ≤ limit) }
     ensures caused { IfErr result
-        (IsFileCaused F.may_fail F.faults F.taken (path_in dir.now name.now) limit folder.old folder.new) }
-    ensures fault_counted { F.counts_failed ≡ true
-        → F.faults folder.new ≡ faults_after (tells_read_fault result) (F.faults folder.old) }
-    ensures only_reads { OnlyReads F.holds F.may_fail F.faults F.taken folder.old folder.new }
+        (IsFileCaused (path_in dir.now name.now) limit (F.state folder.old) (F.state folder.new)) }
+    ensures fault_counted { CountsFault (tells_read_fault result) (F.state folder.old) (F.state folder.new) }
+    ensures only_reads { OnlyReads (F.state folder.old) (F.state folder.new) }
 {
     let Ok(path) = path_in(alloc, dir, name) else {
         return Err(FileRefusal::NoMemory);

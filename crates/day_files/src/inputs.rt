@@ -1,8 +1,8 @@
 //! The day and the plan of a folder: the tables, the day that they make, and the plan of it.
 
-ghost use Rattle.std.specs.Prelude.{◌≡◌, true, ◌≢◌, [], Some, Ok, Result, IfOk, IfErr, ⊤};
+ghost use Rattle.std.specs.Prelude.{◌≡◌, ◌≢◌, [], Some, Ok, Result, IfOk, IfErr, ⊤};
 ghost use Rattle.rail_csv.specs.declared.rows.Table.TheVariants.{Plan};
-ghost use Rattle.rail_io.specs.Folders.{Files, OnlyReads, faults_after};
+ghost use Rattle.rail_io.specs.Folders.{CountsFault, Files, OnlyReads};
 ghost use Rattle.rail_csv.specs.Rows.{ArePlanRows};
 ghost use Rattle.timetable.specs.Build.{day_of};
 ghost use Rattle.timetable.specs.DayTables.{IsDayOfBytes};
@@ -44,17 +44,16 @@ struct ReadTables {
 #[tactic(auto, unfolding(crate::specs::Inputs::tables_in))]
 fn tables_in<F: Folder>(alloc: Global, folder: &mut F, dir: &str) -> Result<ReadTables, ReadError>
     // What the files come to.
-    ensures told { (files : Files) → F.holds folder.old ≡ Some files
+    ensures told { (files : Files) → (F.state folder.old).holds ≡ Some files
         → ReadsAs (λ read. read.tables) (Reaches files dir.now) result (tables_in files dir.now) }
     ensures within { IfOk result (λ read. AreTables read.tables) }
     ensures kept { IfOk result (λ read. AreReadFrom read.bytes read.tables) }
 
     // What an error says, and what stays.
     ensures says { IfErr result (IsErrorOf (λ table. table ≢ Plan)) }
-    ensures caused { IfErr result (IsCaused F.may_fail F.faults F.taken dir.now folder.old folder.new) }
-    ensures fault_counted { F.counts_failed ≡ true
-        → F.faults folder.new ≡ faults_after (tells_unread is_unread result) (F.faults folder.old) }
-    ensures only_reads { OnlyReads F.holds F.may_fail F.faults F.taken folder.old folder.new }
+    ensures caused { IfErr result (IsCaused dir.now (F.state folder.old) (F.state folder.new)) }
+    ensures fault_counted { CountsFault (tells_unread is_unread result) (F.state folder.old) (F.state folder.new) }
+    ensures only_reads { OnlyReads (F.state folder.old) (F.state folder.new) }
 {
     let units = UnitTables {
         types: table_in(alloc, folder, dir)?,
@@ -81,21 +80,20 @@ fn tables_with<F: Folder>(
     units: UnitTables,
 ) -> Result<ReadTables, ReadError>
     // The tables that were read.
-    requires read { (files : Files) → F.holds folder.old ≡ Some files → AreUnitTablesIn files dir.now units }
+    requires read { (files : Files) → (F.state folder.old).holds ≡ Some files → AreUnitTablesIn files dir.now units }
     requires within { AreUnitTables units }
 
     // What the files come to.
-    ensures told { (files : Files) → F.holds folder.old ≡ Some files
+    ensures told { (files : Files) → (F.state folder.old).holds ≡ Some files
         → ReadsAs (λ read. read.tables) (Reaches files dir.now) result (tables_in files dir.now) }
     ensures within { IfOk result (λ read. AreTables read.tables) }
     ensures kept { IfOk result (λ read. AreReadFrom read.bytes read.tables) }
 
     // What an error says, and what stays.
     ensures says { IfErr result (IsErrorOf (λ table. table ≢ Plan)) }
-    ensures caused { IfErr result (IsCaused F.may_fail F.faults F.taken dir.now folder.old folder.new) }
-    ensures fault_counted { F.counts_failed ≡ true
-        → F.faults folder.new ≡ faults_after (tells_unread is_unread result) (F.faults folder.old) }
-    ensures only_reads { OnlyReads F.holds F.may_fail F.faults F.taken folder.old folder.new }
+    ensures caused { IfErr result (IsCaused dir.now (F.state folder.old) (F.state folder.new)) }
+    ensures fault_counted { CountsFault (tells_unread is_unread result) (F.state folder.old) (F.state folder.new) }
+    ensures only_reads { OnlyReads (F.state folder.old) (F.state folder.new) }
 {
     let trips = table_in(alloc, folder, dir)?;
     let links = table_in(alloc, folder, dir)?;
@@ -175,14 +173,13 @@ fn plan_of(alloc: Global, instance: &Instance, rows: &[PlanRow]) -> Result<Named
 /// it comes to that value, at most one read fails, and it is told.
 #[tactic(auto, unfolding(crate::specs::Inputs::day_in))]
 pub fn day_in<F: Folder>(alloc: Global, folder: &mut F, dir: &str) -> Result<Instance, ReadError>
-    ensures told { (files : Files) → F.holds folder.old ≡ Some files
+    ensures told { (files : Files) → (F.state folder.old).holds ≡ Some files
         → Reads (Reaches files dir.now) result (day_in files dir.now) }
     ensures made { IfOk result IsMadeDay }
     ensures says { IfErr result (IsErrorOf (λ table. table ≢ Plan)) }
-    ensures caused { IfErr result (IsCaused F.may_fail F.faults F.taken dir.now folder.old folder.new) }
-    ensures fault_counted { F.counts_failed ≡ true
-        → F.faults folder.new ≡ faults_after (tells_unread is_unread result) (F.faults folder.old) }
-    ensures only_reads { OnlyReads F.holds F.may_fail F.faults F.taken folder.old folder.new }
+    ensures caused { IfErr result (IsCaused dir.now (F.state folder.old) (F.state folder.new)) }
+    ensures fault_counted { CountsFault (tells_unread is_unread result) (F.state folder.old) (F.state folder.new) }
+    ensures only_reads { OnlyReads (F.state folder.old) (F.state folder.new) }
 {
     let read = tables_in(alloc, folder, dir)?;
     day_of(alloc, read.tables)
@@ -207,17 +204,16 @@ pub fn day_with_bytes_in<F: Folder>(
     dir: &str,
 ) -> Result<DayWithBytes, ReadError>
     // What the files come to.
-    ensures told { (files : Files) → F.holds folder.old ≡ Some files
+    ensures told { (files : Files) → (F.state folder.old).holds ≡ Some files
         → ReadsAs (λ read. read.instance) (Reaches files dir.now) result (day_in files dir.now) }
     ensures made { IfOk result (λ read. IsMadeDay read.instance) }
     ensures kept { IfOk result (λ read. IsDayOfBytes read.bytes read.instance) }
 
     // What an error says, and what stays.
     ensures says { IfErr result (IsErrorOf (λ table. table ≢ Plan)) }
-    ensures caused { IfErr result (IsCaused F.may_fail F.faults F.taken dir.now folder.old folder.new) }
-    ensures fault_counted { F.counts_failed ≡ true
-        → F.faults folder.new ≡ faults_after (tells_unread is_unread result) (F.faults folder.old) }
-    ensures only_reads { OnlyReads F.holds F.may_fail F.faults F.taken folder.old folder.new }
+    ensures caused { IfErr result (IsCaused dir.now (F.state folder.old) (F.state folder.new)) }
+    ensures fault_counted { CountsFault (tells_unread is_unread result) (F.state folder.old) (F.state folder.new) }
+    ensures only_reads { OnlyReads (F.state folder.old) (F.state folder.new) }
 {
     let ReadTables { bytes, tables } = tables_in(alloc, folder, dir)?;
     let instance = day_of(alloc, tables)?;
@@ -243,7 +239,7 @@ pub fn inputs_with_bytes_in<F: Folder>(
     dir: &str,
 ) -> Result<InputsWithBytes, ReadError>
     // What the files come to.
-    ensures told { (files : Files) → F.holds folder.old ≡ Some files
+    ensures told { (files : Files) → (F.state folder.old).holds ≡ Some files
         → ReadsAs (λ read. read.inputs) (Reaches files dir.now) result (inputs_in files dir.now) }
     ensures made { IfOk result (λ read. IsMadeDay read.inputs.instance) }
     ensures kept { IfOk result (λ read. IsDayOfBytes read.bytes read.inputs.instance) }
@@ -252,10 +248,9 @@ pub fn inputs_with_bytes_in<F: Folder>(
 
     // What an error says, and what stays.
     ensures says { IfErr result (IsErrorOf (λ _. ⊤)) }
-    ensures caused { IfErr result (IsCaused F.may_fail F.faults F.taken dir.now folder.old folder.new) }
-    ensures fault_counted { F.counts_failed ≡ true
-        → F.faults folder.new ≡ faults_after (tells_unread is_unread result) (F.faults folder.old) }
-    ensures only_reads { OnlyReads F.holds F.may_fail F.faults F.taken folder.old folder.new }
+    ensures caused { IfErr result (IsCaused dir.now (F.state folder.old) (F.state folder.new)) }
+    ensures fault_counted { CountsFault (tells_unread is_unread result) (F.state folder.old) (F.state folder.new) }
+    ensures only_reads { OnlyReads (F.state folder.old) (F.state folder.new) }
 {
     let day = day_with_bytes_in(alloc, folder, dir)?;
     let rows: ReadTable<Rows<PlanRow>> = table_in(alloc, folder, dir)?;
@@ -285,7 +280,7 @@ pub fn inputs_with_bytes_in<F: Folder>(
 /// told.
 pub fn inputs_in<F: Folder>(alloc: Global, folder: &mut F, dir: &str) -> Result<Inputs, ReadError>
     // What the files come to.
-    ensures told { (files : Files) → F.holds folder.old ≡ Some files
+    ensures told { (files : Files) → (F.state folder.old).holds ≡ Some files
         → Reads (Reaches files dir.now) result (inputs_in files dir.now) }
     ensures made { IfOk result (λ inputs. IsMadeDay inputs.instance) }
     ensures is_plan { IfOk result (λ inputs. IsPlan inputs.instance inputs.plan) }
@@ -293,10 +288,9 @@ pub fn inputs_in<F: Folder>(alloc: Global, folder: &mut F, dir: &str) -> Result<
 
     // What an error says, and what stays.
     ensures says { IfErr result (IsErrorOf (λ _. ⊤)) }
-    ensures caused { IfErr result (IsCaused F.may_fail F.faults F.taken dir.now folder.old folder.new) }
-    ensures fault_counted { F.counts_failed ≡ true
-        → F.faults folder.new ≡ faults_after (tells_unread is_unread result) (F.faults folder.old) }
-    ensures only_reads { OnlyReads F.holds F.may_fail F.faults F.taken folder.old folder.new }
+    ensures caused { IfErr result (IsCaused dir.now (F.state folder.old) (F.state folder.new)) }
+    ensures fault_counted { CountsFault (tells_unread is_unread result) (F.state folder.old) (F.state folder.new) }
+    ensures only_reads { OnlyReads (F.state folder.old) (F.state folder.new) }
 {
     let read = inputs_with_bytes_in(alloc, folder, dir)?;
     Ok(read.inputs)

@@ -1,7 +1,7 @@
 //! The tables of a folder: each is read from the bytes of its file by its own reader.
 
-ghost use Rattle.std.specs.Prelude.{◌≡◌, true, ◌≤◌, ℕ, length, List, Some, IfOk, IfErr};
-ghost use Rattle.rail_io.specs.Folders.{Files, OnlyReads, faults_after};
+ghost use Rattle.std.specs.Prelude.{◌≡◌, ◌≤◌, ℕ, length, List, Some, IfOk, IfErr};
+ghost use Rattle.rail_io.specs.Folders.{CountsFault, Files, OnlyReads};
 ghost use Rattle.day_files.specs.OneFile.{tells_unread};
 ghost use Rattle.day_files.specs.Tables.{bytes_in, read_by};
 ghost use Rattle.day_files.specs.Kept.{IsReadTable};
@@ -25,14 +25,13 @@ fn bytes_of<F: Folder>(
     dir: &str,
     table: Table,
 ) -> Result<Bytes, ReadError>
-    ensures told { (files : Files) → F.holds folder.old ≡ Some files
+    ensures told { (files : Files) → (F.state folder.old).holds ≡ Some files
         → Reads (λ other. other ≡ table) result (bytes_in files dir.now table) }
     ensures few { IfOk result (λ bytes. length bytes ≤ MAX_TABLE_BYTES) }
     ensures says { IfErr result (IsErrorOf (λ other. other ≡ table)) }
-    ensures caused { IfErr result (IsCaused F.may_fail F.faults F.taken dir.now folder.old folder.new) }
-    ensures fault_counted { F.counts_failed ≡ true
-        → F.faults folder.new ≡ faults_after (tells_unread is_unread result) (F.faults folder.old) }
-    ensures only_reads { OnlyReads F.holds F.may_fail F.faults F.taken folder.old folder.new }
+    ensures caused { IfErr result (IsCaused dir.now (F.state folder.old) (F.state folder.new)) }
+    ensures fault_counted { CountsFault (tells_unread is_unread result) (F.state folder.old) (F.state folder.new) }
+    ensures only_reads { OnlyReads (F.state folder.old) (F.state folder.new) }
 {
     match file_in(alloc, folder, dir, file_name(table), MAX_TABLE_BYTES) {
         Ok(bytes) => Ok(bytes),
@@ -70,16 +69,15 @@ pub(crate) fn table_in<F: Folder, T: DayTable>(
     folder: &mut F,
     dir: &str,
 ) -> Result<ReadTable<T>, ReadError>
-    ensures told { (files : Files) → F.holds folder.old ≡ Some files
+    ensures told { (files : Files) → (F.state folder.old).holds ≡ Some files
         → ReadsAs (λ read. read.table) (λ other. other ≡ T.table) result
         (read_by T.reading files dir.now T.table) }
     ensures within { IfOk result (λ read. T.is_within read.table) }
     ensures kept { IfOk result (IsReadTable T.reading) }
     ensures says { IfErr result (IsErrorOf (λ other. other ≡ T.table)) }
-    ensures caused { IfErr result (IsCaused F.may_fail F.faults F.taken dir.now folder.old folder.new) }
-    ensures fault_counted { F.counts_failed ≡ true
-        → F.faults folder.new ≡ faults_after (tells_unread is_unread result) (F.faults folder.old) }
-    ensures only_reads { OnlyReads F.holds F.may_fail F.faults F.taken folder.old folder.new }
+    ensures caused { IfErr result (IsCaused dir.now (F.state folder.old) (F.state folder.new)) }
+    ensures fault_counted { CountsFault (tells_unread is_unread result) (F.state folder.old) (F.state folder.new) }
+    ensures only_reads { OnlyReads (F.state folder.old) (F.state folder.new) }
 {
     let bytes = bytes_of(alloc, folder, dir, T::table())?;
     match T::read(alloc, bytes.items()) {

@@ -1,8 +1,8 @@
 -- How a run ends, by what it came to and what was written of it.
 use Rattle.std.proofs.Common.{◌≡◌, ◌≢◌, ◌≤◌, inl, inr, ℕ, Bool, true, false, List, Option, Some, ap, sym, ◌∙◌, subst, arith}
-use Rattle.rail_io.specs.Folders.{Files, OnlyReads, Rose, faults_after}
+use Rattle.rail_io.specs.Folders.{CountsFault, Files, FolderState, Rose, faults_after}
 use Rattle.rail_io.specs.Sinks.{Appends}
-use Rattle.statuses.specs.Endings.{EndsInUsage, LeavesFolder, LeavesSink}
+use Rattle.statuses.specs.Endings.{EndsInUsage, LeavesSink}
 use Rattle.statuses.specs.Written.{CountsFailedReads, CountsFailedWrites, IsStatus, IsUndisturbed, Whole, Part, Nothing}
 use Rattle.run_documents.specs.Planning.{EndsPlanning}
 use Rattle.desk_commands.specs.declared.command.Command.{Command}
@@ -37,92 +37,92 @@ use Rattle.desk_app.proofs.FoundFleets.{fleet_ends, fleet_status}
 no_document : (outcome : DeskOutcome) (text : List ℕ) → outcome ≡ NoMemory → IsDocument outcome text → ⊥
 no_document outcome text is document = subst (λ (it : DeskOutcome). IsDocument it text) is document
 
-module _ {F : Type 0} (holds : F → Option Files) (may_fail : F → List ℕ → Bool) (faults_of taken : F → ℕ) (words : List (List ℕ)) (before after : F)
+module _ (words : List (List ℕ)) (before after : FolderState)
     (outcome : DeskOutcome) (status : ℕ) (written written' : Option (List ℕ)) (faults faults' : ℕ)
-    (is : IsOutcome holds may_fail faults_of taken words before after outcome) (wrote : WroteOutcome outcome status written written' faults faults') where
+    (is : IsOutcome words before after outcome) (wrote : WroteOutcome outcome status written written' faults faults') where
   abbrev Wrote' : Type 0
   Wrote' = WroteOutcome outcome status written written' faults faults'
 
   abbrev Comes : Command → Type 0
-  Comes named = ComesTo holds may_fail faults_of taken named before after outcome
+  Comes named = ComesTo named before after outcome
 
   -- what a command has no status for, and what its status tells
-  status_fits : (named : Command) → Comes named → IsOfCommand outcome (Rose (faults_of before) (faults_of after))
-  status_fits (command.Plan planning) comes = plan_status holds may_fail faults_of taken planning before after outcome comes
-  status_fits (command.Urgent swapping) comes = swap_status holds may_fail faults_of taken swapping.dir before after outcome comes
-  status_fits (command.Replan replanning) comes = replan_status holds may_fail faults_of taken replanning before after outcome comes
-  status_fits (command.Week planning) comes = week_status holds may_fail faults_of taken planning before after outcome comes
-  status_fits (command.Fleet planning) comes = fleet_status holds may_fail faults_of taken planning before after outcome comes
+  status_fits : (named : Command) → Comes named → IsOfCommand outcome (Rose before.faults after.faults)
+  status_fits (command.Plan planning) comes = plan_status planning before after outcome comes
+  status_fits (command.Urgent swapping) comes = swap_status swapping.dir before after outcome comes
+  status_fits (command.Replan replanning) comes = replan_status replanning before after outcome comes
+  status_fits (command.Week planning) comes = week_status planning before after outcome comes
+  status_fits (command.Fleet planning) comes = fleet_status planning before after outcome comes
 
   -- the outcome of words that ask for a command
   of_command : (named : Command) → IsPlainForm words named → (outcome ≡ NoMemory → ⊥) → Comes named
   of_command named asked made = by is
     where
-      by : IsOutcome holds may_fail faults_of taken words before after outcome → Comes named
+      by : IsOutcome words before after outcome → Comes named
       by (OfCommand other asked' comes) = subst (λ (it : Command). Comes it) (one_command words other named asked' asked) comes
       by (InVain vain usage) = absurd (vain named asked)
       by (Unread none) = absurd (made none)
 
-  ends_planning : (files : Files) (planning : Planning) → holds before ≡ Some files → AskToPlan words planning → IsUndisturbed status
+  ends_planning : (files : Files) (planning : Planning) → before.holds ≡ Some files → AskToPlan words planning → IsUndisturbed status
       → EndsPlanning table_refused_line files planning.dir planning.nodes status written written'
   ends_planning files planning tells asked undisturbed = by wrote
     where
       by : Wrote' → EndsPlanning table_refused_line files planning.dir planning.nodes status written written'
       by (Whole text document appends e) =
           subst (λ (n : ℕ). EndsPlanning table_refused_line files planning.dir planning.nodes n written written') (sym e)
-          (planning_ends holds may_fail faults_of taken planning before after outcome
+          (planning_ends planning before after outcome
           (of_command (command.Plan planning) asked (λ none. no_document outcome text none document)) files tells text document
           written written' appends (subst IsUndisturbed e undisturbed))
       by (Part text document appends rose six) = absurd (undisturbed.1 six)
       by (Nothing kept seven) = absurd (undisturbed.2 seven)
 
-  ends_swapping : (files : Files) (swapping : Swapping) → holds before ≡ Some files → AskToSwap words swapping → IsUndisturbed status
+  ends_swapping : (files : Files) (swapping : Swapping) → before.holds ≡ Some files → AskToSwap words swapping → IsUndisturbed status
       → EndsSwapping files swapping.dir status written written'
   ends_swapping files swapping tells asked undisturbed = by wrote
     where
       by : Wrote' → EndsSwapping files swapping.dir status written written'
       by (Whole text document appends e) =
           subst (λ (n : ℕ). EndsSwapping files swapping.dir n written written') (sym e)
-          (swapping_ends holds may_fail faults_of taken swapping.dir before after outcome
+          (swapping_ends swapping.dir before after outcome
           (of_command (command.Urgent swapping) asked (λ none. no_document outcome text none document)) files tells text document
           written written' appends (subst IsUndisturbed e undisturbed))
       by (Part text document appends rose six) = absurd (undisturbed.1 six)
       by (Nothing kept seven) = absurd (undisturbed.2 seven)
 
-  ends_replanning : (files : Files) (replanning : Replanning) → holds before ≡ Some files → AskToReplan words replanning → IsUndisturbed status
+  ends_replanning : (files : Files) (replanning : Replanning) → before.holds ≡ Some files → AskToReplan words replanning → IsUndisturbed status
       → EndsReplanning files replanning status written written'
   ends_replanning files replanning tells asked undisturbed = by wrote
     where
       by : Wrote' → EndsReplanning files replanning status written written'
       by (Whole text document appends e) =
           subst (λ (n : ℕ). EndsReplanning files replanning n written written') (sym e)
-          (replanning_ends holds may_fail faults_of taken replanning before after outcome
+          (replanning_ends replanning before after outcome
           (of_command (command.Replan replanning) asked (λ none. no_document outcome text none document)) files tells text document
           written written' appends (subst IsUndisturbed e undisturbed))
       by (Part text document appends rose six) = absurd (undisturbed.1 six)
       by (Nothing kept seven) = absurd (undisturbed.2 seven)
 
-  ends_week : (files : Files) (planning : WeekPlanning) → holds before ≡ Some files → AskForWeek words planning → IsUndisturbed status
+  ends_week : (files : Files) (planning : WeekPlanning) → before.holds ≡ Some files → AskForWeek words planning → IsUndisturbed status
       → EndsWeek files planning status written written'
   ends_week files planning tells asked undisturbed = by wrote
     where
       by : Wrote' → EndsWeek files planning status written written'
       by (Whole text document appends e) =
           subst (λ (n : ℕ). EndsWeek files planning n written written') (sym e)
-          (week_ends holds may_fail faults_of taken planning before after outcome
+          (week_ends planning before after outcome
           (of_command (command.Week planning) asked (λ none. no_document outcome text none document)) files tells text document
           written written' appends (subst IsUndisturbed e undisturbed))
       by (Part text document appends rose six) = absurd (undisturbed.1 six)
       by (Nothing kept seven) = absurd (undisturbed.2 seven)
 
-  ends_fleet : (files : Files) (planning : FleetPlanning) → holds before ≡ Some files → AskForFleet words planning → IsUndisturbed status
+  ends_fleet : (files : Files) (planning : FleetPlanning) → before.holds ≡ Some files → AskForFleet words planning → IsUndisturbed status
       → EndsFleet files planning status written written'
   ends_fleet files planning tells asked undisturbed = by wrote
     where
       by : Wrote' → EndsFleet files planning status written written'
       by (Whole text document appends e) =
           subst (λ (n : ℕ). EndsFleet files planning n written written') (sym e)
-          (fleet_ends holds may_fail faults_of taken planning before after outcome
+          (fleet_ends planning before after outcome
           (of_command (command.Fleet planning) asked (λ none. no_document outcome text none document)) files tells text document
           written written' appends (subst IsUndisturbed e undisturbed))
       by (Part text document appends rose six) = absurd (undisturbed.1 six)
@@ -132,7 +132,7 @@ module _ {F : Type 0} (holds : F → Option Files) (may_fail : F → List ℕ �
   ends_in_usage undisturbed = by wrote
     where
       of : (text : List ℕ) → IsDocument outcome text → Appends text written written' → status ≡ status_of outcome
-          → IsOutcome holds may_fail faults_of taken words before after outcome → EndsInUsage (AskInVain words) usage_line status written written'
+          → IsOutcome words before after outcome → EndsInUsage (AskInVain words) usage_line status written written'
       of text document appends e (OfCommand named asked comes) =
           let other : status ≢ 2 = λ two. (status_fits named comes).not_usage (sym e ∙ two) in
           record { told = (λ two. absurd (other two), λ vain. absurd (vain named asked)); written = λ two. absurd (other two) }
@@ -150,7 +150,7 @@ module _ {F : Type 0} (holds : F → Option Files) (may_fail : F → List ℕ �
       by (Nothing kept seven) = absurd (undisturbed.2 seven)
 
   -- each command ends so
-  pub ends_by_command : IsUndisturbed status → EndsByCommand (holds before) words status written written'
+  pub ends_by_command : IsUndisturbed status → EndsByCommand before.holds words status written written'
   ends_by_command undisturbed = record {
     plan = λ files planning tells asked. ends_planning files planning tells asked undisturbed;
     urgent = λ files swapping tells asked. ends_swapping files swapping tells asked undisturbed;
@@ -170,32 +170,32 @@ module _ {F : Type 0} (holds : F → Option Files) (may_fail : F → List ℕ �
 
   -- ---- the folder
 
-  rose_of : status_of outcome ≡ 5 → Rose (faults_of before) (faults_of after)
+  rose_of : status_of outcome ≡ 5 → Rose before.faults after.faults
   rose_of five = by is
     where
-      by : IsOutcome holds may_fail faults_of taken words before after outcome → Rose (faults_of before) (faults_of after)
+      by : IsOutcome words before after outcome → Rose before.faults after.faults
       by (OfCommand named asked comes) = (status_fits named comes).unread five
       by (InVain vain usage) = absurd (omega (arith, five, ap status_of usage))
       by (Unread none) = absurd (omega (arith, five, ap status_of none))
 
-  unread : status ≡ 5 → Rose (faults_of before) (faults_of after)
+  pub unread : status ≡ 5 → Rose before.faults after.faults
   unread five = by wrote
     where
-      by : Wrote' → Rose (faults_of before) (faults_of after)
+      by : Wrote' → Rose before.faults after.faults
       by (Whole text document appends e) = rose_of (sym e ∙ five)
       by (Part text document appends rose six) = absurd (omega (arith, five, six))
       by (Nothing kept seven) = absurd (omega (arith, five, seven))
 
-  counts_reads : faults_of after ≡ faults_after (is_unread outcome) (faults_of before) → CountsFailedReads status (faults_of before) (faults_of after)
+  counts_reads : after.faults ≡ faults_after (is_unread outcome) before.faults → CountsFailedReads status before.faults after.faults
   counts_reads counts = by (unread_is_five outcome) wrote
     where
-      failed : is_unread outcome ≡ true → faults_of after ≡ faults_after true (faults_of before)
-      failed unread = counts ∙ ap (λ (failed : Bool). faults_after failed (faults_of before)) unread
+      failed : is_unread outcome ≡ true → after.faults ≡ faults_after true before.faults
+      failed unread = counts ∙ ap (λ (failed : Bool). faults_after failed before.faults) unread
 
-      same : is_unread outcome ≡ false → faults_of after ≡ faults_of before
-      same read = counts ∙ ap (λ (failed : Bool). faults_after failed (faults_of before)) read
+      same : is_unread outcome ≡ false → after.faults ≡ before.faults
+      same read = counts ∙ ap (λ (failed : Bool). faults_after failed before.faults) read
 
-      by : IsToldByFive outcome → Wrote' → CountsFailedReads status (faults_of before) (faults_of after)
+      by : IsToldByFive outcome → Wrote' → CountsFailedReads status before.faults after.faults
       by (inl (unread, five)) (Whole text d appends e) = record { failed = λ _. failed unread; undisturbed = λ undisturbed. absurd (undisturbed.0 (e ∙ five)); at_most_one = inr (failed unread) }
       by (inl (unread, five)) (Part text d appends rose six) = record { failed = λ _. failed unread; undisturbed = λ undisturbed. absurd (undisturbed.1 six); at_most_one = inr (failed unread) }
       by (inl (unread, five)) (Nothing kept seven) = record { failed = λ _. failed unread; undisturbed = λ undisturbed. absurd (undisturbed.2 seven); at_most_one = inr (failed unread) }
@@ -203,11 +203,8 @@ module _ {F : Type 0} (holds : F → Option Files) (may_fail : F → List ℕ �
       by (inr (read, not_five, not_six)) (Part text d appends rose six) = record { failed = λ five. absurd (omega (arith, five, six)); undisturbed = λ _. same read; at_most_one = inl (same read) }
       by (inr (read, not_five, not_six)) (Nothing kept seven) = record { failed = λ five. absurd (omega (arith, five, seven)); undisturbed = λ _. same read; at_most_one = inl (same read) }
 
-  pub leaves_folder : (counts_failed : Bool) → OnlyReads holds may_fail faults_of taken before after → (AskInVain words → after ≡ before)
-      → (counts_failed ≡ true → faults_of after ≡ faults_after (is_unread outcome) (faults_of before))
-      → LeavesFolder holds may_fail faults_of taken counts_failed (AskInVain words) status before after
-  leaves_folder counts_failed only_reads untouched counts =
-      record { only_reads = only_reads; untouched = untouched; unread = unread; failed_reads = λ counting. counts_reads (counts counting) }
+  pub failed_reads : CountsFault (is_unread outcome) before after → before.counts_failed ≡ true → CountsFailedReads status before.faults after.faults
+  failed_reads counts counting = counts_reads (counts counting)
 
   -- ---- the sink
 

@@ -4,7 +4,7 @@ use Rattle.rail_base.specs.declared.limits.TheConstants.{MAX_TABLE_BYTES}
 use Rattle.rail_csv.specs.declared.rows.Table.TheVariants as table
 use Rattle.rail_io.specs.declared.whole.FileRefusal.{FileRefusal}
 use Rattle.rail_io.specs.declared.whole.FileRefusal.TheVariants as file
-use Rattle.rail_io.specs.Folders.{Files, OnlyReads, Rose}
+use Rattle.rail_io.specs.Folders.{Files, FolderState, OnlyReads, Rose}
 use Rattle.rail_io.specs.Sinks.{Appends}
 use Rattle.statuses.specs.Written.{IsUndisturbed}
 use Rattle.timetable.specs.Day.{Day}
@@ -155,48 +155,46 @@ prices_said day planning bytes prices (Refused file) few says is = absurd is
 prices_said day planning bytes prices (CannotRead file) few says is = absurd is
 
 -- in the folder that the words name, by whatever text that stands
-module _ {F : Type 0} (holds : F → Option Files) (may_fail : F → List ℕ → Bool) (faults taken : F → ℕ) (planning : FleetPlanning) (dir : List ℕ)
-    (here : dir ≡ planning.dir) where
+module _ (planning : FleetPlanning) (dir : List ℕ) (here : dir ≡ planning.dir) where
   -- an error of the tables of the day
-  pub no_day_for_fleet : (before after : F) (error : ReadError) (it : DeskOutcome) → it ≡ outcome_of_error error
-      → ((files : Files) → holds before ≡ Some files → Reads {Y = Day} (Reaches files dir) (Err error) (day_in files dir))
-      → IsErrorOf (λ read. read ≢ table.Plan) error → IsCaused may_fail faults taken dir before after error
-      → IsFleetOutcome holds may_fail faults taken planning before after it
+  pub no_day_for_fleet : (before after : FolderState) (error : ReadError) (it : DeskOutcome) → it ≡ outcome_of_error error
+      → ((files : Files) → before.holds ≡ Some files → Reads {Y = Day} (Reaches files dir) (Err error) (day_in files dir))
+      → IsErrorOf (λ read. read ≢ table.Plan) error → IsCaused dir before after error
+      → IsFleetOutcome planning before after it
   no_day_for_fleet before after error it is told says caused =
       NoDay error
       (record {
         told = λ files tells. subst (λ (d : List ℕ). Reads {Y = Day} (Reaches files d) (Err error) (day_in files d)) here (told files tells);
         says = says;
-        caused = subst (λ (d : List ℕ). IsCaused may_fail faults taken d before after error) here caused;
+        caused = subst (λ (d : List ℕ). IsCaused d before after error) here caused;
       })
       is
 
   -- a day that was read
-  pub day_read : (before between after : F) (day : Day) (it : DeskOutcome) → IsMadeDay day
-      → ((files : Files) → holds before ≡ Some files → day_in files dir ≡ Ok day) → OnlyReads holds may_fail faults taken before between
-      → IsPricesOutcome holds may_fail faults taken planning day between after it
-      → IsFleetOutcome holds may_fail faults taken planning before after it
+  pub day_read : (before between after : FolderState) (day : Day) (it : DeskOutcome) → IsMadeDay day
+      → ((files : Files) → before.holds ≡ Some files → day_in files dir ≡ Ok day) → OnlyReads before between
+      → IsPricesOutcome planning day between after it
+      → IsFleetOutcome planning before after it
   day_read before between after day it made told only comes =
       OfReadDay day
       (record { made = made; told = λ files tells. subst (λ (d : List ℕ). day_in files d ≡ Ok day) here (told files tells) })
       between only comes
 
-  module _ (day : Day) (before after : F) where
+  module _ (day : Day) (before after : FolderState) where
     -- the bytes of the table of prices were read
     pub price_table_read : (bytes items : List ℕ) (same : items ≡ bytes) (it : DeskOutcome)
-        → ((files : Files) → holds before ≡ Some files → ReadsFile (bytes_at files dir prices_file) MAX_TABLE_BYTES (Ok bytes))
-        → IsPriceTableOutcome day planning items it → IsPricesOutcome holds may_fail faults taken planning day before after it
+        → ((files : Files) → before.holds ≡ Some files → ReadsFile (bytes_at files dir prices_file) MAX_TABLE_BYTES (Ok bytes))
+        → IsPriceTableOutcome day planning items it → IsPricesOutcome planning day before after it
     price_table_read bytes items same it told says =
         OfBytes items
         (λ files tells. same ∙ subst (λ (d : List ℕ). bytes ≡ bytes_at files d prices_file) here (told files tells).0) says
 
     module _ (why : FileRefusal) where
       abbrev Caused : FileRefusal → List ℕ → Type 0
-      Caused it d = IsFileCaused may_fail faults taken (path_in d prices_file) MAX_TABLE_BYTES before after it
+      Caused it d = IsFileCaused (path_in d prices_file) MAX_TABLE_BYTES before after it
 
       -- it could not be read
-      pub price_table_unread : why ≡ file.ReadFault → Caused why dir
-          → IsPricesOutcome holds may_fail faults taken planning day before after (CannotRead Prices)
+      pub price_table_unread : why ≡ file.ReadFault → Caused why dir → IsPricesOutcome planning day before after (CannotRead Prices)
       price_table_unread is caused =
           let so : Caused file.ReadFault planning.dir =
           subst (λ (d : List ℕ). Caused file.ReadFault d) here (subst (λ (it : FileRefusal). Caused it dir) is caused) in
@@ -204,8 +202,8 @@ module _ {F : Type 0} (holds : F → Option Files) (may_fail : F → List ℕ �
 
       -- it is too long
       pub price_table_too_long : why ≡ file.TooLong → Caused why dir
-          → ((files : Files) → holds before ≡ Some files → ReadsFile (bytes_at files dir prices_file) MAX_TABLE_BYTES (Err why))
-          → IsPricesOutcome holds may_fail faults taken planning day before after (Refused Prices)
+          → ((files : Files) → before.holds ≡ Some files → ReadsFile (bytes_at files dir prices_file) MAX_TABLE_BYTES (Err why))
+          → IsPricesOutcome planning day before after (Refused Prices)
       price_table_too_long is caused told =
           TooLong (subst (λ (it : FileRefusal). Caused it dir) is caused)
           (λ files tells. subst (λ (d : List ℕ). ReadsFile (bytes_at files d prices_file) MAX_TABLE_BYTES (Err file.TooLong)) here
@@ -213,9 +211,9 @@ module _ {F : Type 0} (holds : F → Option Files) (may_fail : F → List ℕ �
 
 -- ---- the status of the command
 
-module _ {F : Type 0} (holds : F → Option Files) (may_fail : F → List ℕ → Bool) (faults taken : F → ℕ) (planning : FleetPlanning) where
-  abbrev RoseFrom : F → F → Type 0
-  RoseFrom before after = Rose (faults before) (faults after)
+module _ (planning : FleetPlanning) where
+  abbrev RoseFrom : FolderState → FolderState → Type 0
+  RoseFrom before after = Rose before.faults after.faults
 
   table_status : (day : Day) (bytes : List ℕ) (it : DeskOutcome) (DidRise : Type 0) → IsPriceTableOutcome day planning bytes it → IsOfCommand it DidRise
   table_status day bytes (FleetFound found) DidRise says =
@@ -240,17 +238,16 @@ module _ {F : Type 0} (holds : F → Option Files) (may_fail : F → List ℕ �
   other_status it other DidRise is not_usage read =
       subst (λ (it : DeskOutcome). IsOfCommand it DidRise) (sym is) (record { not_usage = not_usage; unread = λ five. absurd (read five) })
 
-  module _ (before after : F) (it : DeskOutcome) where
-    pub fleet_status : IsFleetOutcome holds may_fail faults taken planning before after it → IsOfCommand it (RoseFrom before after)
-    fleet_status (NoDay error read is) =
-        made_of error it (RoseFrom before after) is (error_status may_fail faults taken planning.dir before after error read.caused)
+  module _ (before after : FolderState) (it : DeskOutcome) where
+    pub fleet_status : IsFleetOutcome planning before after it → IsOfCommand it (RoseFrom before after)
+    fleet_status (NoDay error read is) = made_of error it (RoseFrom before after) is (error_status planning.dir before after error read.caused)
     fleet_status (OfReadDay day read between only comes) = by comes
       where
         rose : RoseFrom between after → RoseFrom before after
         rose (inl more) = inl (omega (arith, only.lasting, more))
         rose (inr last) = inr last
 
-        by : IsPricesOutcome holds may_fail faults taken planning day between after it → IsOfCommand it (RoseFrom before after)
+        by : IsPricesOutcome planning day between after it → IsOfCommand it (RoseFrom before after)
         by (Unread did_rise may is) =
             subst (λ (it : DeskOutcome). IsOfCommand it (RoseFrom before after)) (sym is)
             (record { not_usage = λ two. omega (arith, two); unread = λ five. rose did_rise })
@@ -259,7 +256,7 @@ module _ {F : Type 0} (holds : F → Option Files) (may_fail : F → List ℕ �
         by (OfBytes bytes same says) = table_status day bytes it (RoseFrom before after) says
         by (OutOfMemory is) = other_status it NoMemory (RoseFrom before after) is (λ two. omega (arith, two)) (λ five. omega (arith, five))
 
-    module _ (files : Files) (tells : holds before ≡ Some files) (text : List ℕ) (document : IsDocument it text) (written written' : Option (List ℕ))
+    module _ (files : Files) (tells : before.holds ≡ Some files) (text : List ℕ) (document : IsDocument it text) (written written' : Option (List ℕ))
         (appends : Appends text written written') (undisturbed : IsUndisturbed (status_of it)) where
       -- the end of what is another outcome
       abbrev Ends : DeskOutcome → Type 0
@@ -278,8 +275,8 @@ module _ {F : Type 0} (holds : F → Option Files) (may_fail : F → List ℕ �
       calm : (other : DeskOutcome) → it ≡ other → IsUndisturbed (status_of other)
       calm other is = subst (λ (it : DeskOutcome). IsUndisturbed (status_of it)) is undisturbed
 
-      ended_by_prices : (day : Day) (accepted : day_in files planning.dir ≡ Ok day) (between : F) → holds between ≡ Some files
-          → IsPricesOutcome holds may_fail faults taken planning day between after it → Ends it
+      ended_by_prices : (day : Day) (accepted : day_in files planning.dir ≡ Ok day) (between : FolderState) → between.holds ≡ Some files
+          → IsPricesOutcome planning day between after it → Ends it
       ended_by_prices day accepted between tells' (Unread did_rise may is) = absurd ((calm (CannotRead Prices) is).0 refl)
       ended_by_prices day accepted between tells' (TooLong did_rise more is) =
           as_other (Refused Prices) is
@@ -289,7 +286,7 @@ module _ {F : Type 0} (holds : F → Option Files) (may_fail : F → List ℕ �
           ended_by_table files planning written written' day accepted bytes it (same files tells') says text document appends undisturbed
       ended_by_prices day accepted between tells' (OutOfMemory is) = absurd ((calm NoMemory is).2 refl)
 
-      pub fleet_ends_so : IsFleetOutcome holds may_fail faults taken planning before after it → Ends it
+      pub fleet_ends_so : IsFleetOutcome planning before after it → Ends it
       fleet_ends_so (NoDay error read is) =
           as_other (outcome_of_error error) is
           (ended_by_error files planning written written' error (read.told files tells) text (wrote (outcome_of_error error) is) appends
@@ -297,7 +294,7 @@ module _ {F : Type 0} (holds : F → Option Files) (may_fail : F → List ℕ �
       fleet_ends_so (OfReadDay day read between only comes) =
           ended_by_prices day (read.told files tells) between (only.same ∙ tells) comes
 
-    pub fleet_ends : IsFleetOutcome holds may_fail faults taken planning before after it → (files : Files) → holds before ≡ Some files
+    pub fleet_ends : IsFleetOutcome planning before after it → (files : Files) → before.holds ≡ Some files
         → (text : List ℕ) → IsDocument it text → (written written' : Option (List ℕ)) → Appends text written written' → IsUndisturbed (status_of it)
         → EndsFleet files planning (status_of it) written written'
     fleet_ends comes files tells text document written written' appends undisturbed =

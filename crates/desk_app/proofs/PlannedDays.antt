@@ -1,7 +1,7 @@
 -- What the planning of a folder's day comes to, and how advisors are asked by the command of the words.
 use Rattle.std.proofs.Common.{◌≡◌, ◌≢◌, ◌+◌, ◌*◌, ℕ, Bool, true, false, List, Option, Some, Ok, Err, refl, sym, ap, subst, arith}
 use Rattle.rail_csv.specs.declared.rows.Table.TheVariants as table
-use Rattle.rail_io.specs.Folders.{Files, Rose}
+use Rattle.rail_io.specs.Folders.{Files, FolderState, Rose}
 use Rattle.rail_io.specs.Sinks.{Appends}
 use Rattle.statuses.specs.Written.{IsUndisturbed}
 use Rattle.timetable.specs.Day.{Day}
@@ -38,13 +38,13 @@ pub record IsOfCommand (it : DeskOutcome) (DidRise : Type 0) : Type 0 where
   pub unread : status_of it ≡ 5 → DidRise
 
 -- that of an error of the tables
-pub error_status : {F : Type 0} (may_fail : F → List ℕ → Bool) (faults taken : F → ℕ) (dir : List ℕ) (before after : F) (error : ReadError)
-    → IsCaused may_fail faults taken dir before after error → IsOfCommand (outcome_of_error error) (Rose (faults before) (faults after))
-error_status may_fail faults taken dir before after (read_error.Refused why) caused =
+pub error_status : (dir : List ℕ) (before after : FolderState) (error : ReadError)
+    → IsCaused dir before after error → IsOfCommand (outcome_of_error error) (Rose before.faults after.faults)
+error_status dir before after (read_error.Refused why) caused =
     record { not_usage = λ two. omega (arith, two); unread = λ five. absurd (omega (arith, five)) }
-error_status may_fail faults taken dir before after (read_error.CannotRead read) caused =
+error_status dir before after (read_error.CannotRead read) caused =
     record { not_usage = λ two. omega (arith, two); unread = λ five. caused.0 }
-error_status may_fail faults taken dir before after read_error.NoMemory caused =
+error_status dir before after read_error.NoMemory caused =
     record { not_usage = λ two. omega (arith, two); unread = λ five. absurd (omega (arith, five)) }
 
 pub made_of : (error : ReadError) (it : DeskOutcome) (DidRise : Type 0) → it ≡ outcome_of_error error → IsOfCommand (outcome_of_error error) DidRise
@@ -67,25 +67,24 @@ day_status day nodes (CannotRead file) DidRise is = absurd is
 
 -- ---- what the planning of a day comes to
 
-module _ {F : Type 0} (holds : F → Option Files) (may_fail : F → List ℕ → Bool) (faults taken : F → ℕ) (planning : Planning) (before after : F) (dir : List ℕ)
-    (here : dir ≡ planning.dir) where
+module _ (planning : Planning) (before after : FolderState) (dir : List ℕ) (here : dir ≡ planning.dir) where
   -- an error of the tables
   pub no_day : (error : ReadError) (it : DeskOutcome) → it ≡ outcome_of_error error
-      → ((files : Files) → holds before ≡ Some files → Reads {Y = Day} (Reaches files dir) (Err error) (day_in files dir))
-      → IsErrorOf (λ read. read ≢ table.Plan) error → IsCaused may_fail faults taken dir before after error
-      → IsPlanOutcome holds may_fail faults taken planning before after it
+      → ((files : Files) → before.holds ≡ Some files → Reads {Y = Day} (Reaches files dir) (Err error) (day_in files dir))
+      → IsErrorOf (λ read. read ≢ table.Plan) error → IsCaused dir before after error
+      → IsPlanOutcome planning before after it
   no_day error it is told says caused =
       NoDay error
       (record {
         told = λ files tells. subst (λ (d : List ℕ). Reads {Y = Day} (Reaches files d) (Err error) (day_in files d)) here (told files tells);
         says = says;
-        caused = subst (λ (d : List ℕ). IsCaused may_fail faults taken d before after error) here caused;
+        caused = subst (λ (d : List ℕ). IsCaused d before after error) here caused;
       })
       is
 
   -- a day that was planned
-  pub day_planned : (day : Day) (it : DeskOutcome) → IsMadeDay day → ((files : Files) → holds before ≡ Some files → day_in files dir ≡ Ok day)
-      → IsDayOutcome day planning.nodes it → IsPlanOutcome holds may_fail faults taken planning before after it
+  pub day_planned : (day : Day) (it : DeskOutcome) → IsMadeDay day → ((files : Files) → before.holds ≡ Some files → day_in files dir ≡ Ok day)
+      → IsDayOutcome day planning.nodes it → IsPlanOutcome planning before after it
   day_planned day it made told is =
       OfDay day
       (record { made = made; told = λ files tells. subst (λ (d : List ℕ). day_in files d ≡ Ok day) here (told files tells) }) is
@@ -135,13 +134,12 @@ ended_by_day files planning day accepted Usage meets text is written written' ap
 ended_by_day files planning day accepted (Refused file) meets text is written written' appends undisturbed = absurd meets
 ended_by_day files planning day accepted (CannotRead file) meets text is written written' appends undisturbed = absurd meets
 
-module _ {F : Type 0} (holds : F → Option Files) (may_fail : F → List ℕ → Bool) (faults taken : F → ℕ) (planning : Planning) (before after : F) (it : DeskOutcome) where
-  pub plan_status : IsPlanOutcome holds may_fail faults taken planning before after it → IsOfCommand it (Rose (faults before) (faults after))
-  plan_status (NoDay error read is) =
-      made_of error it (Rose (faults before) (faults after)) is (error_status may_fail faults taken planning.dir before after error read.caused)
-  plan_status (OfDay day read is) = day_status day planning.nodes it (Rose (faults before) (faults after)) is
+module _ (planning : Planning) (before after : FolderState) (it : DeskOutcome) where
+  pub plan_status : IsPlanOutcome planning before after it → IsOfCommand it (Rose before.faults after.faults)
+  plan_status (NoDay error read is) = made_of error it (Rose before.faults after.faults) is (error_status planning.dir before after error read.caused)
+  plan_status (OfDay day read is) = day_status day planning.nodes it (Rose before.faults after.faults) is
 
-  pub planning_ends : IsPlanOutcome holds may_fail faults taken planning before after it → (files : Files) → holds before ≡ Some files
+  pub planning_ends : IsPlanOutcome planning before after it → (files : Files) → before.holds ≡ Some files
       → (text : List ℕ) → IsDocument it text → (written written' : Option (List ℕ)) → Appends text written written' → IsUndisturbed (status_of it)
       → EndsPlanning table_refused_line files planning.dir planning.nodes (status_of it) written written'
   planning_ends (NoDay error read is) files tells text document written written' appends undisturbed =

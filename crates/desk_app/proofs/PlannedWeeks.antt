@@ -1,7 +1,7 @@
 -- What the planning of a folder's week comes to, and how it ends.
 use Rattle.std.proofs.Common.{◌≡◌, ◌≢◌, ◌+◌, ◌-◌, ◌*◌, ◌≤◌, ℕ, zero, suc, Bool, List, [], ◌∷◌, Option, Some, None, Ok, Err, length, inl, inr, refl, sym, ap, ◌∙◌, subst, arith}
 use Rattle.std.specs.Prelude.{All, false, MatchOption, ⊤}
-use Rattle.rail_io.specs.Folders.{Files, Rose}
+use Rattle.rail_io.specs.Folders.{Files, FolderState, Rose}
 use Rattle.rail_io.specs.Sinks.{Appends}
 use Rattle.statuses.specs.Written.{IsUndisturbed}
 use Rattle.timetable.specs.Day.{Day}
@@ -140,25 +140,24 @@ module _ (files : Files) (planning : WeekPlanning) where
 -- ---- what it comes to
 
 -- in the folder that the words name, by whatever text that stands
-module _ {F : Type 0} (holds : F → Option Files) (may_fail : F → List ℕ → Bool) (faults taken : F → ℕ) (planning : WeekPlanning) (before after : F)
-    (dir : List ℕ) (here : dir ≡ planning.dir) where
+module _ (planning : WeekPlanning) (before after : FolderState) (dir : List ℕ) (here : dir ≡ planning.dir) where
   -- a day that was not read
   pub no_days : (error : DayError) (it : DeskOutcome) → it ≡ outcome_of_day_error error
-      → ((files : Files) → holds before ≡ Some files → IsEndedAt files dir error) → IsErrorAt planning.days error
-      → IsCausedAt may_fail faults taken dir before after error → IsWeekOutcome holds may_fail faults taken planning before after it
+      → ((files : Files) → before.holds ≡ Some files → IsEndedAt files dir error) → IsErrorAt planning.days error
+      → IsCausedAt dir before after error → IsWeekOutcome planning before after it
   no_days error it is told says caused =
       NoDays error
       (record {
         told = λ files tells. subst (λ (d : List ℕ). IsEndedAt files d error) here (told files tells);
         says = says;
-        caused = subst (λ (d : List ℕ). IsCausedAt may_fail faults taken d before after error) here caused;
+        caused = subst (λ (d : List ℕ). IsCausedAt d before after error) here caused;
       })
       is
 
   -- days that were read
   pub days_read : (days listed : List Day) (it : DeskOutcome) → listed ≡ days → All IsMadeDay days → length days ≡ planning.days
-      → ((files : Files) → holds before ≡ Some files → AreDaysIn files dir planning.days days) → IsDaysOutcome listed planning.nodes it
-      → IsWeekOutcome holds may_fail faults taken planning before after it
+      → ((files : Files) → before.holds ≡ Some files → AreDaysIn files dir planning.days days) → IsDaysOutcome listed planning.nodes it
+      → IsWeekOutcome planning before after it
   days_read days listed it same made count told says =
       OfDays days
       (record {
@@ -216,11 +215,11 @@ error_asks_none asked has_quit rounds error it advisors is =
 
 -- ---- the status of the command
 
-module _ {F : Type 0} (holds : F → Option Files) (may_fail : F → List ℕ → Bool) (faults taken : F → ℕ) (planning : WeekPlanning) where
-  abbrev RoseFrom : F → F → Type 0
-  RoseFrom before after = Rose (faults before) (faults after)
+module _ (planning : WeekPlanning) where
+  abbrev RoseFrom : FolderState → FolderState → Type 0
+  RoseFrom before after = Rose before.faults after.faults
 
-  on_day_status : (dir : List ℕ) (before after : F) (number : ℕ) (error : ReadError) → IsCaused may_fail faults taken dir before after error
+  on_day_status : (dir : List ℕ) (before after : FolderState) (number : ℕ) (error : ReadError) → IsCaused dir before after error
       → IsOfCommand (outcome_on_day number error) (RoseFrom before after)
   on_day_status dir before after number (read_error.Refused why) caused =
       record { not_usage = λ two. omega (arith, two); unread = λ five. absurd (omega (arith, five)) }
@@ -243,14 +242,14 @@ module _ {F : Type 0} (holds : F → Option Files) (may_fail : F → List ℕ �
   days_status days Usage DidRise says = absurd says
   days_status days (CannotRead file) DidRise says = absurd says
 
-  module _ (before after : F) (it : DeskOutcome) where
-    pub week_status : IsWeekOutcome holds may_fail faults taken planning before after it → IsOfCommand it (RoseFrom before after)
+  module _ (before after : FolderState) (it : DeskOutcome) where
+    pub week_status : IsWeekOutcome planning before after it → IsOfCommand it (RoseFrom before after)
     week_status (NoDays error read is) =
         subst (λ (it : DeskOutcome). IsOfCommand it (RoseFrom before after)) (sym is)
         (on_day_status (day_folder planning.dir error.day) before after error.day error.error read.caused)
     week_status (OfDays days read says) = days_status days it (RoseFrom before after) says
 
-    pub week_ends : IsWeekOutcome holds may_fail faults taken planning before after it → (files : Files) → holds before ≡ Some files
+    pub week_ends : IsWeekOutcome planning before after it → (files : Files) → before.holds ≡ Some files
         → (text : List ℕ) → IsDocument it text → (written written' : Option (List ℕ)) → Appends text written written' → IsUndisturbed (status_of it)
         → EndsWeek files planning (status_of it) written written'
     week_ends (NoDays error read is) files tells text document written written' appends undisturbed =

@@ -1,11 +1,11 @@
 -- What the planning of the rest of a folder's day comes to, and how it ends.
-use Rattle.std.proofs.Common.{◌≡◌, ◌≢◌, ℕ, Bool, List, Option, Some, Ok, Err, inl, inr, refl, sym, ◌∙◌, subst, arith}
+use Rattle.std.proofs.Common.{◌≡◌, ◌≢◌, ℕ, List, Option, Some, Ok, Err, inl, inr, refl, sym, ◌∙◌, subst, arith}
 use Rattle.std.specs.Prelude.{⊤}
 use Rattle.rail_base.specs.declared.limits.TheConstants.{MAX_TABLE_BYTES}
 use Rattle.rail_csv.specs.Tables.{records_of}
 use Rattle.rail_io.specs.declared.whole.FileRefusal.{FileRefusal}
 use Rattle.rail_io.specs.declared.whole.FileRefusal.TheVariants as file
-use Rattle.rail_io.specs.Folders.{Files, OnlyReads, Rose}
+use Rattle.rail_io.specs.Folders.{Files, FolderState, OnlyReads, Rose}
 use Rattle.rail_io.specs.Sinks.{Appends}
 use Rattle.statuses.specs.Written.{IsUndisturbed}
 use Rattle.timetable.specs.Accepted.{HaveNames}
@@ -173,29 +173,28 @@ module _ (files : Files) (replanning : Replanning) where
 -- ---- what it comes to
 
 -- in the folder that the words name, by whatever text that stands
-module _ {F : Type 0} (holds : F → Option Files) (may_fail : F → List ℕ → Bool) (faults taken : F → ℕ) (replanning : Replanning) (dir : List ℕ)
-    (here : dir ≡ replanning.dir) where
+module _ (replanning : Replanning) (dir : List ℕ) (here : dir ≡ replanning.dir) where
   -- an error of the tables of the day and its plan
-  pub no_inputs : (before after : F) (error : ReadError) (it : DeskOutcome) → it ≡ outcome_of_error error
-      → ((files : Files) → holds before ≡ Some files → Reads {Y = Inputs} (Reaches files dir) (Err error) (inputs_in files dir))
-      → IsErrorOf (λ _. ⊤) error → IsCaused may_fail faults taken dir before after error
-      → IsReplanOutcome holds may_fail faults taken replanning before after it
+  pub no_inputs : (before after : FolderState) (error : ReadError) (it : DeskOutcome) → it ≡ outcome_of_error error
+      → ((files : Files) → before.holds ≡ Some files → Reads {Y = Inputs} (Reaches files dir) (Err error) (inputs_in files dir))
+      → IsErrorOf (λ _. ⊤) error → IsCaused dir before after error
+      → IsReplanOutcome replanning before after it
   no_inputs before after error it is told says caused =
       NoInputs error
       (record {
         told = λ files tells.
             subst (λ (d : List ℕ). Reads {Y = Inputs} (Reaches files d) (Err error) (inputs_in files d)) here (told files tells);
         says = says;
-        caused = subst (λ (d : List ℕ). IsCaused may_fail faults taken d before after error) here caused;
+        caused = subst (λ (d : List ℕ). IsCaused d before after error) here caused;
       })
       is
 
   -- a day and its plan that were read
-  pub inputs_read : (before between after : F) (inputs : Inputs) (it : DeskOutcome) → IsMadeDay inputs.instance → IsMadePlan inputs.instance inputs.plan
-      → ((files : Files) → holds before ≡ Some files → inputs_in files dir ≡ Ok inputs)
-      → OnlyReads holds may_fail faults taken before between
-      → IsRunningOutcome holds may_fail faults taken replanning inputs between after it
-      → IsReplanOutcome holds may_fail faults taken replanning before after it
+  pub inputs_read : (before between after : FolderState) (inputs : Inputs) (it : DeskOutcome) → IsMadeDay inputs.instance → IsMadePlan inputs.instance inputs.plan
+      → ((files : Files) → before.holds ≡ Some files → inputs_in files dir ≡ Ok inputs)
+      → OnlyReads before between
+      → IsRunningOutcome replanning inputs between after it
+      → IsReplanOutcome replanning before after it
   inputs_read before between after inputs it made made_plan told only comes =
       OfInputs inputs
       (record {
@@ -205,22 +204,21 @@ module _ {F : Type 0} (holds : F → Option Files) (may_fail : F → List ℕ �
       })
       between only comes
 
-  module _ (inputs : Inputs) (before after : F) where
+  module _ (inputs : Inputs) (before after : FolderState) where
     -- the bytes of the table of cancelled trips were read
     pub bytes_read : (bytes items : List ℕ) (same : items ≡ bytes) (it : DeskOutcome)
-        → ((files : Files) → holds before ≡ Some files → ReadsFile (bytes_at files dir cancelled_file) MAX_TABLE_BYTES (Ok bytes))
-        → IsCancelledOutcome inputs replanning items it → IsTripsOutcome holds may_fail faults taken replanning inputs before after it
+        → ((files : Files) → before.holds ≡ Some files → ReadsFile (bytes_at files dir cancelled_file) MAX_TABLE_BYTES (Ok bytes))
+        → IsCancelledOutcome inputs replanning items it → IsTripsOutcome replanning inputs before after it
     bytes_read bytes items same it told says =
         OfBytes items
         (λ files tells. same ∙ subst (λ (d : List ℕ). bytes ≡ bytes_at files d cancelled_file) here (told files tells).0) says
 
     module _ (why : FileRefusal) where
       abbrev Caused : FileRefusal → List ℕ → Type 0
-      Caused it d = IsFileCaused may_fail faults taken (path_in d cancelled_file) MAX_TABLE_BYTES before after it
+      Caused it d = IsFileCaused (path_in d cancelled_file) MAX_TABLE_BYTES before after it
 
       -- it could not be read
-      pub file_unread : why ≡ file.ReadFault → Caused why dir
-          → IsTripsOutcome holds may_fail faults taken replanning inputs before after (CannotRead CancelledTrips)
+      pub file_unread : why ≡ file.ReadFault → Caused why dir → IsTripsOutcome replanning inputs before after (CannotRead CancelledTrips)
       file_unread is caused =
           let so : Caused file.ReadFault replanning.dir =
           subst (λ (d : List ℕ). Caused file.ReadFault d) here (subst (λ (it : FileRefusal). Caused it dir) is caused) in
@@ -228,16 +226,16 @@ module _ {F : Type 0} (holds : F → Option Files) (may_fail : F → List ℕ �
 
       -- it is too long
       pub file_too_long : why ≡ file.TooLong → Caused why dir
-          → ((files : Files) → holds before ≡ Some files → ReadsFile (bytes_at files dir cancelled_file) MAX_TABLE_BYTES (Err why))
-          → IsTripsOutcome holds may_fail faults taken replanning inputs before after (Refused CancelledTrips)
+          → ((files : Files) → before.holds ≡ Some files → ReadsFile (bytes_at files dir cancelled_file) MAX_TABLE_BYTES (Err why))
+          → IsTripsOutcome replanning inputs before after (Refused CancelledTrips)
       file_too_long is caused told =
           TooLong (subst (λ (it : FileRefusal). Caused it dir) is caused)
           (λ files tells. subst (λ (d : List ℕ). ReadsFile (bytes_at files d cancelled_file) MAX_TABLE_BYTES (Err file.TooLong)) here
           (subst (λ (it : FileRefusal). ReadsFile (bytes_at files dir cancelled_file) MAX_TABLE_BYTES (Err it)) is (told files tells))) refl
 
-module _ {F : Type 0} (holds : F → Option Files) (may_fail : F → List ℕ → Bool) (faults taken : F → ℕ) (replanning : Replanning) where
-  abbrev RoseFrom : F → F → Type 0
-  RoseFrom before after = Rose (faults before) (faults after)
+module _ (replanning : Replanning) where
+  abbrev RoseFrom : FolderState → FolderState → Type 0
+  RoseFrom before after = Rose before.faults after.faults
 
   table_status : (inputs : Inputs) (bytes : List ℕ) (it : DeskOutcome) (DidRise : Type 0) → IsCancelledOutcome inputs replanning bytes it → IsOfCommand it DidRise
   table_status inputs bytes (Replanned rest) DidRise says =
@@ -262,17 +260,16 @@ module _ {F : Type 0} (holds : F → Option Files) (may_fail : F → List ℕ �
   other_status it other DidRise is not_usage read =
       subst (λ (it : DeskOutcome). IsOfCommand it DidRise) (sym is) (record { not_usage = not_usage; unread = λ five. absurd (read five) })
 
-  module _ (before after : F) (it : DeskOutcome) where
-    pub replan_status : IsReplanOutcome holds may_fail faults taken replanning before after it → IsOfCommand it (RoseFrom before after)
-    replan_status (NoInputs error read is) =
-        made_of error it (RoseFrom before after) is (error_status may_fail faults taken replanning.dir before after error read.caused)
+  module _ (before after : FolderState) (it : DeskOutcome) where
+    pub replan_status : IsReplanOutcome replanning before after it → IsOfCommand it (RoseFrom before after)
+    replan_status (NoInputs error read is) = made_of error it (RoseFrom before after) is (error_status replanning.dir before after error read.caused)
     replan_status (OfInputs inputs read between only comes) = by comes
       where
         rose : RoseFrom between after → RoseFrom before after
         rose (inl more) = inl (omega (arith, only.lasting, more))
         rose (inr last) = inr last
 
-        of_trips : IsTripsOutcome holds may_fail faults taken replanning inputs between after it → IsOfCommand it (RoseFrom before after)
+        of_trips : IsTripsOutcome replanning inputs between after it → IsOfCommand it (RoseFrom before after)
         of_trips (Unread did_rise may is) =
             subst (λ (it : DeskOutcome). IsOfCommand it (RoseFrom before after)) (sym is)
             (record { not_usage = λ two. omega (arith, two); unread = λ five. rose did_rise })
@@ -281,12 +278,12 @@ module _ {F : Type 0} (holds : F → Option Files) (may_fail : F → List ℕ �
         of_trips (OfBytes bytes same says) = table_status inputs bytes it (RoseFrom before after) says
         of_trips (OutOfMemory is) = other_status it NoMemory (RoseFrom before after) is (λ two. omega (arith, two)) (λ five. omega (arith, five))
 
-        by : IsRunningOutcome holds may_fail faults taken replanning inputs between after it → IsOfCommand it (RoseFrom before after)
+        by : IsRunningOutcome replanning inputs between after it → IsOfCommand it (RoseFrom before after)
         by (DoesStop stops is) = other_status it Stops (RoseFrom before after) is (λ two. omega (arith, two)) (λ five. omega (arith, five))
         by (DoesRun runs trips) = of_trips trips
         by (Unsimulated is) = other_status it NoMemory (RoseFrom before after) is (λ two. omega (arith, two)) (λ five. omega (arith, five))
 
-    module _ (files : Files) (tells : holds before ≡ Some files) (text : List ℕ) (document : IsDocument it text) (written written' : Option (List ℕ))
+    module _ (files : Files) (tells : before.holds ≡ Some files) (text : List ℕ) (document : IsDocument it text) (written written' : Option (List ℕ))
         (appends : Appends text written written') (undisturbed : IsUndisturbed (status_of it)) where
       -- the end of what is another outcome
       abbrev Ends : DeskOutcome → Type 0
@@ -305,8 +302,8 @@ module _ {F : Type 0} (holds : F → Option Files) (may_fail : F → List ℕ �
       calm : (other : DeskOutcome) → it ≡ other → IsUndisturbed (status_of other)
       calm other is = subst (λ (it : DeskOutcome). IsUndisturbed (status_of it)) is undisturbed
 
-      ended_by_trips : (inputs : Inputs) → HaveNames inputs.instance → (running : AreRunning files replanning.dir inputs) (between : F) → holds between ≡ Some files
-          → IsTripsOutcome holds may_fail faults taken replanning inputs between after it → Ends it
+      ended_by_trips : (inputs : Inputs) → HaveNames inputs.instance → (running : AreRunning files replanning.dir inputs) (between : FolderState) → between.holds ≡ Some files
+          → IsTripsOutcome replanning inputs between after it → Ends it
       ended_by_trips inputs names running between tells' (Unread did_rise may is) = absurd ((calm (CannotRead CancelledTrips) is).0 refl)
       ended_by_trips inputs names running between tells' (TooLong did_rise more is) =
           as_other (Refused CancelledTrips) is
@@ -316,7 +313,7 @@ module _ {F : Type 0} (holds : F → Option Files) (may_fail : F → List ℕ �
           ended_by_table files replanning written written' inputs names running bytes it (same files tells') says text document appends undisturbed
       ended_by_trips inputs names running between tells' (OutOfMemory is) = absurd ((calm NoMemory is).2 refl)
 
-      pub replanning_ends_so : IsReplanOutcome holds may_fail faults taken replanning before after it → Ends it
+      pub replanning_ends_so : IsReplanOutcome replanning before after it → Ends it
       replanning_ends_so (NoInputs error read is) =
           as_other (outcome_of_error error) is
           (ended_by_error files replanning written written' error (read.told files tells) text (wrote (outcome_of_error error) is) appends (calm (outcome_of_error error) is))
@@ -328,7 +325,7 @@ module _ {F : Type 0} (holds : F → Option Files) (may_fail : F → List ℕ �
           names : HaveNames inputs.instance
           names = (sound_of inputs.instance read.made).names
 
-          by : IsRunningOutcome holds may_fail faults taken replanning inputs between after it → Ends it
+          by : IsRunningOutcome replanning inputs between after it → Ends it
           by (DoesStop stops is) =
               as_other Stops is
               (ended_stopped files replanning written written' inputs (record { accepted = accepted; stops = stops }) (line_is stops_line (wrote Stops is)))
@@ -336,7 +333,7 @@ module _ {F : Type 0} (holds : F → Option Files) (may_fail : F → List ℕ �
               ended_by_trips inputs names (record { accepted = accepted; runs = runs }) between (only.same ∙ tells) trips
           by (Unsimulated is) = absurd ((calm NoMemory is).2 refl)
 
-    pub replanning_ends : IsReplanOutcome holds may_fail faults taken replanning before after it → (files : Files) → holds before ≡ Some files
+    pub replanning_ends : IsReplanOutcome replanning before after it → (files : Files) → before.holds ≡ Some files
         → (text : List ℕ) → IsDocument it text → (written written' : Option (List ℕ)) → Appends text written written' → IsUndisturbed (status_of it)
         → EndsReplanning files replanning (status_of it) written written'
     replanning_ends comes files tells text document written written' appends undisturbed =

@@ -1,9 +1,9 @@
 -- What the swapping of a folder's units comes to, and how it ends.
-use Rattle.std.proofs.Common.{◌≡◌, ◌≢◌, ℕ, Bool, List, Option, Some, Ok, Err, inl, inr, refl, sym, ◌∙◌, subst, arith}
+use Rattle.std.proofs.Common.{◌≡◌, ◌≢◌, ℕ, List, Option, Some, Ok, Err, inl, inr, refl, sym, ◌∙◌, subst, arith}
 use Rattle.rail_base.specs.declared.limits.TheConstants.{MAX_TABLE_BYTES}
 use Rattle.rail_io.specs.declared.whole.FileRefusal.{FileRefusal}
 use Rattle.rail_io.specs.declared.whole.FileRefusal.TheVariants as file
-use Rattle.rail_io.specs.Folders.{Files, Rose}
+use Rattle.rail_io.specs.Folders.{Files, FolderState, Rose}
 use Rattle.rail_io.specs.Sinks.{Appends}
 use Rattle.statuses.specs.Written.{IsUndisturbed}
 use Rattle.timetable.specs.Day.{Day}
@@ -137,33 +137,31 @@ module _ (files : Files) (dir : List ℕ) where
 -- ---- what it comes to
 
 -- in a folder of the same name
-pub swapped_there : {F : Type 0} (holds : F → Option Files) (may_fail : F → List ℕ → Bool) (faults taken : F → ℕ) (dir other : List ℕ) (before after : F)
-    (it : DeskOutcome) → dir ≡ other → IsSwapOutcome holds may_fail faults taken dir before after it → IsSwapOutcome holds may_fail faults taken other before after it
-swapped_there holds may_fail faults taken dir other before after it here comes =
-    subst (λ (d : List ℕ). IsSwapOutcome holds may_fail faults taken d before after it) here comes
+pub swapped_there : (dir other : List ℕ) (before after : FolderState)
+    (it : DeskOutcome) → dir ≡ other → IsSwapOutcome dir before after it → IsSwapOutcome other before after it
+swapped_there dir other before after it here comes = subst (λ (d : List ℕ). IsSwapOutcome d before after it) here comes
 
-module _ {F : Type 0} (holds : F → Option Files) (may_fail : F → List ℕ → Bool) (faults taken : F → ℕ) (dir : List ℕ) (inputs : Inputs) (before after : F)
-    (why : FileRefusal) where
+module _ (dir : List ℕ) (inputs : Inputs) (before after : FolderState) (why : FileRefusal) where
   abbrev Caused : Type 0
-  Caused = IsFileCaused may_fail faults taken (path_in dir urgent_file) MAX_TABLE_BYTES before after why
+  Caused = IsFileCaused (path_in dir urgent_file) MAX_TABLE_BYTES before after why
 
   -- the table of urgent units could not be read
-  pub file_unread : why ≡ file.ReadFault → Caused → IsWishOutcome holds may_fail faults taken dir inputs before after (CannotRead UrgentUnits)
+  pub file_unread : why ≡ file.ReadFault → Caused → IsWishOutcome dir inputs before after (CannotRead UrgentUnits)
   file_unread is caused =
-      let so = subst (λ (it : FileRefusal). IsFileCaused may_fail faults taken (path_in dir urgent_file) MAX_TABLE_BYTES before after it) is caused in
+      let so = subst (λ (it : FileRefusal). IsFileCaused (path_in dir urgent_file) MAX_TABLE_BYTES before after it) is caused in
       Unread so.0 so.1 refl
 
   -- it is too long
   pub file_too_long : why ≡ file.TooLong → Caused
-      → ((files : Files) → holds before ≡ Some files → ReadsFile (urgent_bytes files dir) MAX_TABLE_BYTES (Err why))
-      → IsWishOutcome holds may_fail faults taken dir inputs before after (Refused UrgentUnits)
+      → ((files : Files) → before.holds ≡ Some files → ReadsFile (urgent_bytes files dir) MAX_TABLE_BYTES (Err why))
+      → IsWishOutcome dir inputs before after (Refused UrgentUnits)
   file_too_long is caused told =
-      TooLong (subst (λ (it : FileRefusal). IsFileCaused may_fail faults taken (path_in dir urgent_file) MAX_TABLE_BYTES before after it) is caused)
+      TooLong (subst (λ (it : FileRefusal). IsFileCaused (path_in dir urgent_file) MAX_TABLE_BYTES before after it) is caused)
       (λ files tells. subst (λ (it : FileRefusal). ReadsFile (urgent_bytes files dir) MAX_TABLE_BYTES (Err it)) is (told files tells)) refl
 
-module _ {F : Type 0} (holds : F → Option Files) (may_fail : F → List ℕ → Bool) (faults taken : F → ℕ) (dir : List ℕ) where
-  abbrev RoseFrom : F → F → Type 0
-  RoseFrom before after = Rose (faults before) (faults after)
+module _ (dir : List ℕ) where
+  abbrev RoseFrom : FolderState → FolderState → Type 0
+  RoseFrom before after = Rose before.faults after.faults
 
   table_status : (inputs : Inputs) (bytes : List ℕ) (it : DeskOutcome) (DidRise : Type 0) → IsTableOutcome inputs bytes it → IsOfCommand it DidRise
   table_status inputs bytes (Swapped swapped) DidRise says = record { not_usage = λ two. omega (arith, two); unread = λ five. absurd (omega (arith, five)) }
@@ -186,17 +184,16 @@ module _ {F : Type 0} (holds : F → Option Files) (may_fail : F → List ℕ �
   other_status it other DidRise is not_usage read =
       subst (λ (it : DeskOutcome). IsOfCommand it DidRise) (sym is) (record { not_usage = not_usage; unread = λ five. absurd (read five) })
 
-  module _ (before after : F) (it : DeskOutcome) where
-    pub swap_status : IsSwapOutcome holds may_fail faults taken dir before after it → IsOfCommand it (RoseFrom before after)
-    swap_status (NoInputs error read is) =
-        made_of error it (RoseFrom before after) is (error_status may_fail faults taken dir before after error read.caused)
+  module _ (before after : FolderState) (it : DeskOutcome) where
+    pub swap_status : IsSwapOutcome dir before after it → IsOfCommand it (RoseFrom before after)
+    swap_status (NoInputs error read is) = made_of error it (RoseFrom before after) is (error_status dir before after error read.caused)
     swap_status (OfInputs inputs read between only comes) = by comes
       where
         rose : RoseFrom between after → RoseFrom before after
         rose (inl more) = inl (omega (arith, only.lasting, more))
         rose (inr last) = inr last
 
-        of_wish : IsWishOutcome holds may_fail faults taken dir inputs between after it → IsOfCommand it (RoseFrom before after)
+        of_wish : IsWishOutcome dir inputs between after it → IsOfCommand it (RoseFrom before after)
         of_wish (Unread did_rise may is) =
             subst (λ (it : DeskOutcome). IsOfCommand it (RoseFrom before after)) (sym is)
             (record { not_usage = λ two. omega (arith, two); unread = λ five. rose did_rise })
@@ -205,12 +202,12 @@ module _ {F : Type 0} (holds : F → Option Files) (may_fail : F → List ℕ �
         of_wish (OfBytes bytes same says) = table_status inputs bytes it (RoseFrom before after) says
         of_wish (OutOfMemory is) = other_status it NoMemory (RoseFrom before after) is (λ two. omega (arith, two)) (λ five. omega (arith, five))
 
-        by : IsInputsOutcome holds may_fail faults taken dir inputs between after it → IsOfCommand it (RoseFrom before after)
+        by : IsInputsOutcome dir inputs between after it → IsOfCommand it (RoseFrom before after)
         by (DoesStop stops is) = other_status it Stops (RoseFrom before after) is (λ two. omega (arith, two)) (λ five. omega (arith, five))
         by (DoesRun runs wish) = of_wish wish
         by (Unsimulated is) = other_status it NoMemory (RoseFrom before after) is (λ two. omega (arith, two)) (λ five. omega (arith, five))
 
-    module _ (files : Files) (tells : holds before ≡ Some files) (text : List ℕ) (document : IsDocument it text) (written written' : Option (List ℕ))
+    module _ (files : Files) (tells : before.holds ≡ Some files) (text : List ℕ) (document : IsDocument it text) (written written' : Option (List ℕ))
         (appends : Appends text written written') (undisturbed : IsUndisturbed (status_of it)) where
       -- the end of what is another outcome
       abbrev Ends : DeskOutcome → Type 0
@@ -229,8 +226,8 @@ module _ {F : Type 0} (holds : F → Option Files) (may_fail : F → List ℕ �
       calm : (other : DeskOutcome) → it ≡ other → IsUndisturbed (status_of other)
       calm other is = subst (λ (it : DeskOutcome). IsUndisturbed (status_of it)) is undisturbed
 
-      ended_by_wish : (inputs : Inputs) (running : AreRunning files dir inputs) (between : F) → holds between ≡ Some files
-          → IsWishOutcome holds may_fail faults taken dir inputs between after it → Ends it
+      ended_by_wish : (inputs : Inputs) (running : AreRunning files dir inputs) (between : FolderState) → between.holds ≡ Some files
+          → IsWishOutcome dir inputs between after it → Ends it
       ended_by_wish inputs running between tells' (Unread did_rise may is) = absurd ((calm (CannotRead UrgentUnits) is).0 refl)
       ended_by_wish inputs running between tells' (TooLong did_rise more is) =
           as_other (Refused UrgentUnits) is
@@ -240,7 +237,7 @@ module _ {F : Type 0} (holds : F → Option Files) (may_fail : F → List ℕ �
           ended_by_table files dir written written' inputs running bytes it (same files tells') says text document appends undisturbed
       ended_by_wish inputs running between tells' (OutOfMemory is) = absurd ((calm NoMemory is).2 refl)
 
-      pub swapping_ends_so : IsSwapOutcome holds may_fail faults taken dir before after it → Ends it
+      pub swapping_ends_so : IsSwapOutcome dir before after it → Ends it
       swapping_ends_so (NoInputs error read is) =
           as_other (outcome_of_error error) is
           (ended_by_error files dir written written' error (read.told files tells) text (wrote (outcome_of_error error) is) appends (calm (outcome_of_error error) is))
@@ -249,7 +246,7 @@ module _ {F : Type 0} (holds : F → Option Files) (may_fail : F → List ℕ �
           accepted : inputs_in files dir ≡ Ok inputs
           accepted = read.told files tells
 
-          by : IsInputsOutcome holds may_fail faults taken dir inputs between after it → Ends it
+          by : IsInputsOutcome dir inputs between after it → Ends it
           by (DoesStop stops is) =
               as_other Stops is
               (ended_stopped files dir written written' inputs (record { accepted = accepted; stops = stops }) (line_is stops_line (wrote Stops is)))
@@ -257,7 +254,7 @@ module _ {F : Type 0} (holds : F → Option Files) (may_fail : F → List ℕ �
               ended_by_wish inputs (record { accepted = accepted; runs = runs }) between (only.same ∙ tells) wish
           by (Unsimulated is) = absurd ((calm NoMemory is).2 refl)
 
-    pub swapping_ends : IsSwapOutcome holds may_fail faults taken dir before after it → (files : Files) → holds before ≡ Some files
+    pub swapping_ends : IsSwapOutcome dir before after it → (files : Files) → before.holds ≡ Some files
         → (text : List ℕ) → IsDocument it text → (written written' : Option (List ℕ)) → Appends text written written' → IsUndisturbed (status_of it)
         → EndsSwapping files dir (status_of it) written written'
     swapping_ends comes files tells text document written written' appends undisturbed =

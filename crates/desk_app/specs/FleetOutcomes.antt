@@ -1,8 +1,8 @@
 -- What the search for the fleet of least cost comes to.
-use Rattle.std.specs.Prelude.{ℕ, ◌≡◌, ◌≢◌, ◌<◌, List, length, Bool, IsTrue, Option, Some, ⊤}
+use Rattle.std.specs.Prelude.{ℕ, ◌≡◌, ◌≢◌, ◌<◌, List, length, IsTrue, Some, ⊤}
 use Rattle.rail_base.specs.declared.limits.TheConstants.{MAX_TABLE_BYTES}
 use Rattle.rail_csv.specs.declared.rows.Table.TheVariants as table
-use Rattle.rail_io.specs.Folders.{Files, OnlyReads, Rose, RosePast}
+use Rattle.rail_io.specs.Folders.{Files, FolderState, OnlyReads, Rose, RosePast}
 use Rattle.timetable.specs.Day.{Day}
 use Rattle.day_files.specs.declared.errors.ReadError.{ReadError}
 use Rattle.day_files.specs.Inputs.{day_in}
@@ -55,30 +55,26 @@ IsPriceTableOutcome day planning bytes other = ⊥
 
 -- ---- what comes of a day
 
-module _ {F : Type 0} (holds : F → Option Files) (may_fail : F → List ℕ → Bool) (faults taken : F → ℕ)
-    (planning : FleetPlanning) where
+module _ (planning : FleetPlanning) where
   -- For a day, the fleet is to be found, from the folder before to the same folder after: the table of prices could not
   -- be read, and its cause is seen in the counts of the folder; or it is too long, likewise; or its bytes, which are
   -- those of the file where the folder tells what it holds, came to this; or memory ran out.
-  pub data IsPricesOutcome (day : Day) (before after : F) (outcome : DeskOutcome) : Type 0 where
-    Unread : Rose (faults before) (faults after) → IsTrue (may_fail before (path_in planning.dir prices_file))
+  pub data IsPricesOutcome (day : Day) (before after : FolderState) (outcome : DeskOutcome) : Type 0 where
+    Unread : Rose before.faults after.faults → IsTrue (before.may_fail (path_in planning.dir prices_file))
         → outcome ≡ CannotRead Prices → IsPricesOutcome day before after outcome
-    TooLong : RosePast MAX_TABLE_BYTES (taken before) (taken after)
-        → ((files : Files) → holds before ≡ Some files → MAX_TABLE_BYTES < length (price_bytes files planning.dir))
+    TooLong : RosePast MAX_TABLE_BYTES before.taken after.taken
+        → ((files : Files) → before.holds ≡ Some files → MAX_TABLE_BYTES < length (price_bytes files planning.dir))
         → outcome ≡ Refused Prices → IsPricesOutcome day before after outcome
-    OfBytes : (bytes : List ℕ)
-        → ((files : Files) → holds before ≡ Some files → bytes ≡ price_bytes files planning.dir)
+    OfBytes : (bytes : List ℕ) → ((files : Files) → before.holds ≡ Some files → bytes ≡ price_bytes files planning.dir)
         → IsPriceTableOutcome day planning bytes outcome → IsPricesOutcome day before after outcome
     OutOfMemory : outcome ≡ NoMemory → IsPricesOutcome day before after outcome
 
   -- The fleet for a folder's day was to be found, from the folder before to the same folder after, and that came to
   -- this: there is no day, for an error of its tables; or the day was read, and this came of it from the folder on as
   -- it stood then.
-  pub data IsFleetOutcome (before after : F) (outcome : DeskOutcome) : Type 0 where
-    NoDay : (error : ReadError)
-        → IsReadError {Y = Day} holds may_fail faults taken (λ read. read ≢ table.Plan)
+  pub data IsFleetOutcome (before after : FolderState) (outcome : DeskOutcome) : Type 0 where
+    NoDay : (error : ReadError) → IsReadError {Y = Day} (λ read. read ≢ table.Plan)
         (λ files. day_in files planning.dir) planning.dir before after error
         → outcome ≡ outcome_of_error error → IsFleetOutcome before after outcome
-    OfReadDay : (day : Day) → IsReadDay holds planning.dir before day → (between : F)
-        → OnlyReads holds may_fail faults taken before between → IsPricesOutcome day between after outcome
-        → IsFleetOutcome before after outcome
+    OfReadDay : (day : Day) → IsReadDay planning.dir before day → (between : FolderState)
+        → OnlyReads before between → IsPricesOutcome day between after outcome → IsFleetOutcome before after outcome

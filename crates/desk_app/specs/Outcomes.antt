@@ -1,6 +1,6 @@
 -- What a run comes to, by its words and the files in the folder that they name.
-use Rattle.std.specs.Prelude.{ℕ, ◌≡◌, List, Bool, true, false, Option}
-use Rattle.rail_io.specs.Folders.{Files}
+use Rattle.std.specs.Prelude.{ℕ, ◌≡◌, List, Bool, true, false}
+use Rattle.rail_io.specs.Folders.{FolderState}
 use Rattle.answer_check.specs.Headline.{status_said}
 use Rattle.desk_commands.specs.declared.command.Command.{Command}
 use Rattle.desk_commands.specs.declared.command.Command.TheVariants as command
@@ -49,28 +49,20 @@ AskInVain words = (named : Command) → ¬ IsPlainForm words named
 -- ---- what a run comes to
 
 -- what a command came to, from a folder before to the same folder after
-abbrev pub ComesTo : {F : Type 0} → (F → Option Files) → (F → List ℕ → Bool) → (F → ℕ) → (F → ℕ) → Command → F → F
-    → DeskOutcome → Type 0
-ComesTo holds may_fail faults taken (command.Plan planning) before after outcome =
-    IsPlanOutcome holds may_fail faults taken planning before after outcome
-ComesTo holds may_fail faults taken (command.Urgent swapping) before after outcome =
-    IsSwapOutcome holds may_fail faults taken swapping.dir before after outcome
-ComesTo holds may_fail faults taken (command.Replan replanning) before after outcome =
-    IsReplanOutcome holds may_fail faults taken replanning before after outcome
-ComesTo holds may_fail faults taken (command.Week planning) before after outcome =
-    IsWeekOutcome holds may_fail faults taken planning before after outcome
-ComesTo holds may_fail faults taken (command.Fleet planning) before after outcome =
-    IsFleetOutcome holds may_fail faults taken planning before after outcome
+abbrev pub ComesTo : Command → FolderState → FolderState → DeskOutcome → Type 0
+ComesTo (command.Plan planning) before after outcome = IsPlanOutcome planning before after outcome
+ComesTo (command.Urgent swapping) before after outcome = IsSwapOutcome swapping.dir before after outcome
+ComesTo (command.Replan replanning) before after outcome = IsReplanOutcome replanning before after outcome
+ComesTo (command.Week planning) before after outcome = IsWeekOutcome planning before after outcome
+ComesTo (command.Fleet planning) before after outcome = IsFleetOutcome planning before after outcome
 
 -- A run of these words comes to this: their command came to it; or they ask for no command, and are not understood; or
 -- memory ran out before they were read.
-pub data IsOutcome {F : Type 0} (holds : F → Option Files) (may_fail : F → List ℕ → Bool) (faults taken : F → ℕ)
-    (words : List (List ℕ)) (before after : F) (outcome : DeskOutcome) : Type 0 where
-  OfCommand : (named : Command) → IsPlainForm words named
-      → ComesTo holds may_fail faults taken named before after outcome
-      → IsOutcome holds may_fail faults taken words before after outcome
-  InVain : AskInVain words → outcome ≡ Usage → IsOutcome holds may_fail faults taken words before after outcome
-  Unread : outcome ≡ NoMemory → IsOutcome holds may_fail faults taken words before after outcome
+pub data IsOutcome (words : List (List ℕ)) (before after : FolderState) (outcome : DeskOutcome) : Type 0 where
+  OfCommand : (named : Command) → IsPlainForm words named → ComesTo named before after outcome
+      → IsOutcome words before after outcome
+  InVain : AskInVain words → outcome ≡ Usage → IsOutcome words before after outcome
+  Unread : outcome ≡ NoMemory → IsOutcome words before after outcome
 
 -- ---- what follows from an outcome
 

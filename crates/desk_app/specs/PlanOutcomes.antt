@@ -1,7 +1,7 @@
 -- What the planning of a day comes to.
-use Rattle.std.specs.Prelude.{ℕ, ◌≡◌, ◌≢◌, List, Bool, Option, ⊤}
+use Rattle.std.specs.Prelude.{ℕ, ◌≡◌, ◌≢◌, ⊤}
 use Rattle.rail_csv.specs.declared.rows.Table.TheVariants as table
-use Rattle.rail_io.specs.Folders.{Files}
+use Rattle.rail_io.specs.Folders.{FolderState}
 use Rattle.timetable.specs.Day.{Day}
 use Rattle.day_files.specs.declared.errors.ReadError.{ReadError}
 use Rattle.day_files.specs.Inputs.{day_in}
@@ -20,12 +20,9 @@ IsDayOutcome day nodes other = ⊥
 
 -- The day of a folder was planned so, from the folder before to the same folder after, and came to this: there is no
 -- day, for an error of its tables; or the day was read and planned.
-pub data IsPlanOutcome {F : Type 0} (holds : F → Option Files) (may_fail : F → List ℕ → Bool) (faults taken : F → ℕ)
-    (planning : Planning) (before after : F) (outcome : DeskOutcome) : Type 0 where
-  NoDay : (error : ReadError)
-      → IsReadError {Y = Day} holds may_fail faults taken (λ read. read ≢ table.Plan)
+pub data IsPlanOutcome (planning : Planning) (before after : FolderState) (outcome : DeskOutcome) : Type 0 where
+  NoDay : (error : ReadError) → IsReadError {Y = Day} (λ read. read ≢ table.Plan)
       (λ files. day_in files planning.dir) planning.dir before after error
-      → outcome ≡ outcome_of_error error
-      → IsPlanOutcome holds may_fail faults taken planning before after outcome
-  OfDay : (day : Day) → IsReadDay holds planning.dir before day → IsDayOutcome day planning.nodes outcome
-      → IsPlanOutcome holds may_fail faults taken planning before after outcome
+      → outcome ≡ outcome_of_error error → IsPlanOutcome planning before after outcome
+  OfDay : (day : Day) → IsReadDay planning.dir before day → IsDayOutcome day planning.nodes outcome
+      → IsPlanOutcome planning before after outcome

@@ -1,8 +1,8 @@
 -- What the planning of the rest of a disturbed day comes to.
-use Rattle.std.specs.Prelude.{ℕ, ◌≡◌, ◌≢◌, ◌<◌, List, length, Bool, IsTrue, Option, Some, ⊤}
+use Rattle.std.specs.Prelude.{ℕ, ◌≡◌, ◌≢◌, ◌<◌, List, length, IsTrue, Some, ⊤}
 use Rattle.rail_base.specs.declared.limits.TheConstants.{MAX_TABLE_BYTES}
 use Rattle.rail_csv.specs.Tables.{records_of}
-use Rattle.rail_io.specs.Folders.{Files, OnlyReads, Rose, RosePast}
+use Rattle.rail_io.specs.Folders.{Files, FolderState, OnlyReads, Rose, RosePast}
 use Rattle.timetable.specs.Running.{Runs}
 use Rattle.day_files.specs.declared.errors.ReadError.{ReadError}
 use Rattle.day_files.specs.declared.inputs.Inputs.{Inputs}
@@ -51,25 +51,24 @@ IsCancelledOutcome inputs replanning bytes other = ⊥
 
 -- ---- what comes of a day and a plan
 
-module _ {F : Type 0} (holds : F → Option Files) (may_fail : F → List ℕ → Bool) (faults taken : F → ℕ)
-    (replanning : Replanning) where
+module _ (replanning : Replanning) where
   -- Of a day whose plan runs, the rest is to be planned, from the folder before to the same folder after: the table of
   -- cancelled trips could not be read, and its cause is seen in the counts of the folder; or it is too long, likewise;
   -- or its bytes, which are those of the file where the folder tells what it holds, came to this; or memory ran out.
-  pub data IsTripsOutcome (inputs : Inputs) (before after : F) (outcome : DeskOutcome) : Type 0 where
-    Unread : Rose (faults before) (faults after) → IsTrue (may_fail before (path_in replanning.dir cancelled_file))
+  pub data IsTripsOutcome (inputs : Inputs) (before after : FolderState) (outcome : DeskOutcome) : Type 0 where
+    Unread : Rose before.faults after.faults → IsTrue (before.may_fail (path_in replanning.dir cancelled_file))
         → outcome ≡ CannotRead CancelledTrips → IsTripsOutcome inputs before after outcome
-    TooLong : RosePast MAX_TABLE_BYTES (taken before) (taken after)
-        → ((files : Files) → holds before ≡ Some files
+    TooLong : RosePast MAX_TABLE_BYTES before.taken after.taken
+        → ((files : Files) → before.holds ≡ Some files
         → MAX_TABLE_BYTES < length (cancelled_bytes files replanning.dir))
         → outcome ≡ Refused CancelledTrips → IsTripsOutcome inputs before after outcome
     OfBytes : (bytes : List ℕ)
-        → ((files : Files) → holds before ≡ Some files → bytes ≡ cancelled_bytes files replanning.dir)
+        → ((files : Files) → before.holds ≡ Some files → bytes ≡ cancelled_bytes files replanning.dir)
         → IsCancelledOutcome inputs replanning bytes outcome → IsTripsOutcome inputs before after outcome
     OutOfMemory : outcome ≡ NoMemory → IsTripsOutcome inputs before after outcome
 
   -- The plan doesn't run; or it does, and the rest of the day is to be planned; or memory ran out.
-  pub data IsRunningOutcome (inputs : Inputs) (before after : F) (outcome : DeskOutcome) : Type 0 where
+  pub data IsRunningOutcome (inputs : Inputs) (before after : FolderState) (outcome : DeskOutcome) : Type 0 where
     DoesStop : ¬ Runs inputs.instance inputs.plan → outcome ≡ Stops → IsRunningOutcome inputs before after outcome
     DoesRun : Runs inputs.instance inputs.plan → IsTripsOutcome inputs before after outcome
         → IsRunningOutcome inputs before after outcome
@@ -78,11 +77,10 @@ module _ {F : Type 0} (holds : F → Option Files) (may_fail : F → List ℕ �
   -- The rest of a folder's day was to be planned, from the folder before to the same folder after, and that came to
   -- this: there is no day or no plan, for an error of their tables; or they were read, and this came of them from the
   -- folder on as it stood then.
-  pub data IsReplanOutcome (before after : F) (outcome : DeskOutcome) : Type 0 where
-    NoInputs : (error : ReadError)
-        → IsReadError {Y = Inputs} holds may_fail faults taken (λ _. ⊤) (λ files. inputs_in files replanning.dir)
+  pub data IsReplanOutcome (before after : FolderState) (outcome : DeskOutcome) : Type 0 where
+    NoInputs : (error : ReadError) → IsReadError {Y = Inputs} (λ _. ⊤) (λ files. inputs_in files replanning.dir)
         replanning.dir before after error
         → outcome ≡ outcome_of_error error → IsReplanOutcome before after outcome
-    OfInputs : (inputs : Inputs) → AreReadInputs holds replanning.dir before inputs
-        → (between : F) → OnlyReads holds may_fail faults taken before between
-        → IsRunningOutcome inputs between after outcome → IsReplanOutcome before after outcome
+    OfInputs : (inputs : Inputs) → AreReadInputs replanning.dir before inputs → (between : FolderState)
+        → OnlyReads before between → IsRunningOutcome inputs between after outcome
+        → IsReplanOutcome before after outcome

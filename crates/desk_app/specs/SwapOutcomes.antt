@@ -1,7 +1,7 @@
 -- What the swapping of units comes to.
-use Rattle.std.specs.Prelude.{ℕ, ◌≡◌, ◌≢◌, ◌<◌, List, length, Bool, IsTrue, Option, Some, Err, ⊤}
+use Rattle.std.specs.Prelude.{ℕ, ◌≡◌, ◌≢◌, ◌<◌, List, length, IsTrue, Some, Err, ⊤}
 use Rattle.rail_base.specs.declared.limits.TheConstants.{MAX_TABLE_BYTES}
-use Rattle.rail_io.specs.Folders.{Files, OnlyReads, Rose, RosePast}
+use Rattle.rail_io.specs.Folders.{Files, FolderState, OnlyReads, Rose, RosePast}
 use Rattle.timetable.specs.Running.{Runs}
 use Rattle.day_files.specs.declared.errors.ReadError.{ReadError}
 use Rattle.day_files.specs.declared.inputs.Inputs.{Inputs}
@@ -45,36 +45,33 @@ IsTableOutcome inputs bytes other = ⊥
 
 -- ---- what comes of a day and a plan
 
-module _ {F : Type 0} (holds : F → Option Files) (may_fail : F → List ℕ → Bool) (faults taken : F → ℕ) (dir : List ℕ)
-  where
-    -- Of a plan that runs, units are to be swapped, from the folder before to the same folder after: the table of
-    -- urgent units could not be read, and its cause is seen in the counts of the folder; or it is too long, likewise;
-    -- or its bytes, which are those of the file where the folder tells what it holds, came to this; or memory ran out.
-    pub data IsWishOutcome (inputs : Inputs) (before after : F) (outcome : DeskOutcome) : Type 0 where
-      Unread : Rose (faults before) (faults after) → IsTrue (may_fail before (path_in dir urgent_file))
-          → outcome ≡ CannotRead UrgentUnits → IsWishOutcome inputs before after outcome
-      TooLong : RosePast MAX_TABLE_BYTES (taken before) (taken after)
-          → ((files : Files) → holds before ≡ Some files → MAX_TABLE_BYTES < length (urgent_bytes files dir))
-          → outcome ≡ Refused UrgentUnits → IsWishOutcome inputs before after outcome
-      OfBytes : (bytes : List ℕ) → ((files : Files) → holds before ≡ Some files → bytes ≡ urgent_bytes files dir)
-          → IsTableOutcome inputs bytes outcome → IsWishOutcome inputs before after outcome
-      OutOfMemory : outcome ≡ NoMemory → IsWishOutcome inputs before after outcome
+module _ (dir : List ℕ) where
+  -- Of a plan that runs, units are to be swapped, from the folder before to the same folder after: the table of
+  -- urgent units could not be read, and its cause is seen in the counts of the folder; or it is too long, likewise;
+  -- or its bytes, which are those of the file where the folder tells what it holds, came to this; or memory ran out.
+  pub data IsWishOutcome (inputs : Inputs) (before after : FolderState) (outcome : DeskOutcome) : Type 0 where
+    Unread : Rose before.faults after.faults → IsTrue (before.may_fail (path_in dir urgent_file))
+        → outcome ≡ CannotRead UrgentUnits → IsWishOutcome inputs before after outcome
+    TooLong : RosePast MAX_TABLE_BYTES before.taken after.taken
+        → ((files : Files) → before.holds ≡ Some files → MAX_TABLE_BYTES < length (urgent_bytes files dir))
+        → outcome ≡ Refused UrgentUnits → IsWishOutcome inputs before after outcome
+    OfBytes : (bytes : List ℕ) → ((files : Files) → before.holds ≡ Some files → bytes ≡ urgent_bytes files dir)
+        → IsTableOutcome inputs bytes outcome → IsWishOutcome inputs before after outcome
+    OutOfMemory : outcome ≡ NoMemory → IsWishOutcome inputs before after outcome
 
-    -- The plan doesn't run; or it does, and units are to be swapped; or memory ran out.
-    pub data IsInputsOutcome (inputs : Inputs) (before after : F) (outcome : DeskOutcome) : Type 0 where
-      DoesStop : ¬ Runs inputs.instance inputs.plan → outcome ≡ Stops → IsInputsOutcome inputs before after outcome
-      DoesRun : Runs inputs.instance inputs.plan → IsWishOutcome inputs before after outcome
-          → IsInputsOutcome inputs before after outcome
-      Unsimulated : outcome ≡ NoMemory → IsInputsOutcome inputs before after outcome
+  -- The plan doesn't run; or it does, and units are to be swapped; or memory ran out.
+  pub data IsInputsOutcome (inputs : Inputs) (before after : FolderState) (outcome : DeskOutcome) : Type 0 where
+    DoesStop : ¬ Runs inputs.instance inputs.plan → outcome ≡ Stops → IsInputsOutcome inputs before after outcome
+    DoesRun : Runs inputs.instance inputs.plan → IsWishOutcome inputs before after outcome
+        → IsInputsOutcome inputs before after outcome
+    Unsimulated : outcome ≡ NoMemory → IsInputsOutcome inputs before after outcome
 
-    -- Units of a folder's plan were to be swapped, from the folder before to the same folder after, and that came to
-    -- this: there is no day or no plan, for an error of their tables; or they were read, and this came of them from the
-    -- folder on as it stood then.
-    pub data IsSwapOutcome (before after : F) (outcome : DeskOutcome) : Type 0 where
-      NoInputs : (error : ReadError)
-          → IsReadError {Y = Inputs} holds may_fail faults taken (λ _. ⊤) (λ files. inputs_in files dir) dir before
-          after error
-          → outcome ≡ outcome_of_error error → IsSwapOutcome before after outcome
-      OfInputs : (inputs : Inputs) → AreReadInputs holds dir before inputs → (between : F)
-          → OnlyReads holds may_fail faults taken before between → IsInputsOutcome inputs between after outcome
-          → IsSwapOutcome before after outcome
+  -- Units of a folder's plan were to be swapped, from the folder before to the same folder after, and that came to
+  -- this: there is no day or no plan, for an error of their tables; or they were read, and this came of them from the
+  -- folder on as it stood then.
+  pub data IsSwapOutcome (before after : FolderState) (outcome : DeskOutcome) : Type 0 where
+    NoInputs : (error : ReadError) → IsReadError {Y = Inputs} (λ _. ⊤) (λ files. inputs_in files dir) dir before after
+        error → outcome ≡ outcome_of_error error → IsSwapOutcome before after outcome
+    OfInputs : (inputs : Inputs) → AreReadInputs dir before inputs → (between : FolderState)
+        → OnlyReads before between → IsInputsOutcome inputs between after outcome
+        → IsSwapOutcome before after outcome

@@ -1,6 +1,6 @@
 -- What the planning of a week comes to.
-use Rattle.std.specs.Prelude.{ℕ, ◌≡◌, List, length, All, Bool, Option, None, Some, ⊤}
-use Rattle.rail_io.specs.Folders.{Files}
+use Rattle.std.specs.Prelude.{ℕ, ◌≡◌, List, length, All, Option, None, Some, ⊤}
+use Rattle.rail_io.specs.Folders.{Files, FolderState}
 use Rattle.timetable.specs.Day.{Day}
 use Rattle.day_files.specs.declared.errors.ReadError.{ReadError}
 use Rattle.day_files.specs.declared.errors.ReadError.TheVariants as read_error
@@ -48,25 +48,24 @@ IsDaysOutcome days nodes (Refused file) = (why : WeekRefusal) × IsFirstFault da
 IsDaysOutcome days nodes NoMemory = ⊤
 IsDaysOutcome days nodes other = ⊥
 
-module _ {F : Type 0} (holds : F → Option Files) (may_fail : F → List ℕ → Bool) (faults taken : F → ℕ)
-    (planning : WeekPlanning) where
+module _ (planning : WeekPlanning) where
   -- days that tables make were read: where the folder tells what it holds, those of its files
-  pub record AreReadDays (before : F) (days : List Day) : Type 0 where
+  pub record AreReadDays (before : FolderState) (days : List Day) : Type 0 where
     pub made : All IsMadeDay days
     pub count : length days ≡ planning.days
-    pub told : (files : Files) → holds before ≡ Some files → AreDaysIn files planning.dir planning.days days
+    pub told : (files : Files) → before.holds ≡ Some files → AreDaysIn files planning.dir planning.days days
 
   -- The reading of the days, from the folder before to the same folder after, came to an error. Where the folder tells
   -- what it holds, the error is what is said of the files; and it is one of these days and has its cause, whatever the
   -- folder tells.
-  pub record IsWeekReadError (before after : F) (error : DayError) : Type 0 where
-    pub told : (files : Files) → holds before ≡ Some files → IsEndedAt files planning.dir error
+  pub record IsWeekReadError (before after : FolderState) (error : DayError) : Type 0 where
+    pub told : (files : Files) → before.holds ≡ Some files → IsEndedAt files planning.dir error
     pub says : IsErrorAt planning.days error
-    pub caused : IsCausedAt may_fail faults taken planning.dir before after error
+    pub caused : IsCausedAt planning.dir before after error
 
   -- The week of a folder was to be planned, from the folder before to the same folder after, and that came to this: a
   -- day was not read; or all were, and this came of them.
-  pub data IsWeekOutcome (before after : F) (outcome : DeskOutcome) : Type 0 where
+  pub data IsWeekOutcome (before after : FolderState) (outcome : DeskOutcome) : Type 0 where
     NoDays : (error : DayError) → IsWeekReadError before after error → outcome ≡ outcome_of_day_error error
         → IsWeekOutcome before after outcome
     OfDays : (days : List Day) → AreReadDays before days → IsDaysOutcome days planning.nodes outcome

@@ -1,8 +1,8 @@
 //! The command that finds the fleet of least cost.
 
-ghost use Rattle.std.specs.Prelude.{true, false, ◌≡◌, ◌≤◌, ◌+◌, ◌*◌, ◌^◌, All, length};
+ghost use Rattle.std.specs.Prelude.{false, ◌≡◌, ◌≤◌, ◌+◌, ◌*◌, ◌^◌, All, length};
 ghost use Rattle.rail_base.specs.declared.limits.TheConstants.{MAX_ROUNDS, MAX_TABLE_BYTES};
-ghost use Rattle.rail_io.specs.Folders.{OnlyReads, faults_after};
+ghost use Rattle.rail_io.specs.Folders.{CountsFault, OnlyReads};
 ghost use Rattle.timetable.specs.DayTables.{IsDayOfBytes};
 ghost use Rattle.search.specs.Questions.{AreAsked, AreTheSame};
 ghost use Rattle.fleet_check.specs.declared.found.TheConstants.{MAX_SPLITS};
@@ -38,12 +38,11 @@ pub(crate) fn found_fleet<F: Folder>(
     requires asked { All (λ advisor. asked advisor ≤ 2 ^ 62) advisors.old.items }
 
     // What it comes to.
-    ensures outcome { IsFleetOutcome F.holds F.may_fail F.faults F.taken planning.now folder.old folder.new result }
+    ensures outcome { IsFleetOutcome planning.now (F.state folder.old) (F.state folder.new) result }
 
     // The folder.
-    ensures only_reads { OnlyReads F.holds F.may_fail F.faults F.taken folder.old folder.new }
-    ensures fault_counted { F.counts_failed ≡ true
-        → F.faults folder.new ≡ faults_after (is_unread result) (F.faults folder.old) }
+    ensures only_reads { OnlyReads (F.state folder.old) (F.state folder.new) }
+    ensures fault_counted { CountsFault (is_unread result) (F.state folder.old) (F.state folder.new) }
 
     // The advisors.
     ensures advisors { AreTheSame advisors.old.items advisors.new.items identity }
@@ -76,13 +75,11 @@ fn found_as_priced<F: Folder>(
     requires kept { IsDayOfBytes read.now.bytes read.now.instance }
 
     // What it comes to.
-    ensures outcome { IsPricesOutcome F.holds F.may_fail F.faults F.taken planning.now read.now.instance folder.old
-        folder.new result }
+    ensures outcome { IsPricesOutcome planning.now read.now.instance (F.state folder.old) (F.state folder.new) result }
 
     // The folder.
-    ensures only_reads { OnlyReads F.holds F.may_fail F.faults F.taken folder.old folder.new }
-    ensures fault_counted { F.counts_failed ≡ true
-        → F.faults folder.new ≡ faults_after (is_unread result) (F.faults folder.old) }
+    ensures only_reads { OnlyReads (F.state folder.old) (F.state folder.new) }
+    ensures fault_counted { CountsFault (is_unread result) (F.state folder.old) (F.state folder.new) }
 
     // The advisors.
     ensures advisors { AreTheSame advisors.old.items advisors.new.items identity }

@@ -1,9 +1,9 @@
 //! The command that plans the rest of a disturbed day.
 
-ghost use Rattle.std.specs.Prelude.{true, false, ◌≡◌, ◌≤◌, ◌+◌, ◌*◌, ◌^◌, All, IfOk, length};
+ghost use Rattle.std.specs.Prelude.{false, ◌≡◌, ◌≤◌, ◌+◌, ◌*◌, ◌^◌, All, IfOk, length};
 ghost use Rattle.rail_base.specs.declared.limits.TheConstants.{MAX_BRANCHINGS, MAX_CHANGE, MAX_ROUNDS};
 ghost use Rattle.rail_base.specs.declared.limits.TheConstants.{MAX_TABLE_BYTES};
-ghost use Rattle.rail_io.specs.Folders.{OnlyReads, faults_after};
+ghost use Rattle.rail_io.specs.Folders.{CountsFault, OnlyReads};
 ghost use Rattle.timetable.specs.Running.{IsPlan, Runs};
 ghost use Rattle.timetable.specs.DayTables.{IsDayOfBytes};
 ghost use Rattle.branch_tree.specs.Trees.{branchings_of};
@@ -47,12 +47,11 @@ pub(crate) fn replanned<F: Folder>(
     requires asked { All (λ advisor. asked advisor ≤ 2 ^ 62) advisors.old.items }
 
     // What it comes to.
-    ensures outcome { IsReplanOutcome F.holds F.may_fail F.faults F.taken replanning.now folder.old folder.new result }
+    ensures outcome { IsReplanOutcome replanning.now (F.state folder.old) (F.state folder.new) result }
 
     // The folder.
-    ensures only_reads { OnlyReads F.holds F.may_fail F.faults F.taken folder.old folder.new }
-    ensures fault_counted { F.counts_failed ≡ true
-        → F.faults folder.new ≡ faults_after (is_unread result) (F.faults folder.old) }
+    ensures only_reads { OnlyReads (F.state folder.old) (F.state folder.new) }
+    ensures fault_counted { CountsFault (is_unread result) (F.state folder.old) (F.state folder.new) }
 
     // The advisors.
     ensures advisors { AreTheSame advisors.old.items advisors.new.items identity }
@@ -86,13 +85,11 @@ fn replanned_plan<F: Folder>(
     requires kept { IsDayOfBytes read.now.bytes read.now.inputs.instance }
 
     // What it comes to.
-    ensures outcome { IsRunningOutcome F.holds F.may_fail F.faults F.taken replanning.now read.now.inputs
-        folder.old folder.new result }
+    ensures outcome { IsRunningOutcome replanning.now read.now.inputs (F.state folder.old) (F.state folder.new) result }
 
     // The folder.
-    ensures only_reads { OnlyReads F.holds F.may_fail F.faults F.taken folder.old folder.new }
-    ensures fault_counted { F.counts_failed ≡ true
-        → F.faults folder.new ≡ faults_after (is_unread result) (F.faults folder.old) }
+    ensures only_reads { OnlyReads (F.state folder.old) (F.state folder.new) }
+    ensures fault_counted { CountsFault (is_unread result) (F.state folder.old) (F.state folder.new) }
 
     // The advisors.
     ensures advisors { AreTheSame advisors.old.items advisors.new.items identity }
@@ -128,13 +125,11 @@ fn replanned_as_told<F: Folder>(
     requires runs { Runs read.now.inputs.instance read.now.inputs.plan }
 
     // What it comes to.
-    ensures outcome { IsTripsOutcome F.holds F.may_fail F.faults F.taken replanning.now read.now.inputs
-        folder.old folder.new result }
+    ensures outcome { IsTripsOutcome replanning.now read.now.inputs (F.state folder.old) (F.state folder.new) result }
 
     // The folder.
-    ensures only_reads { OnlyReads F.holds F.may_fail F.faults F.taken folder.old folder.new }
-    ensures fault_counted { F.counts_failed ≡ true
-        → F.faults folder.new ≡ faults_after (is_unread result) (F.faults folder.old) }
+    ensures only_reads { OnlyReads (F.state folder.old) (F.state folder.new) }
+    ensures fault_counted { CountsFault (is_unread result) (F.state folder.old) (F.state folder.new) }
 
     // The advisors.
     ensures advisors { AreTheSame advisors.old.items advisors.new.items identity }

@@ -1,7 +1,7 @@
 //! From the words to the outcome.
 
-ghost use Rattle.std.specs.Prelude.{ℕ, true, ◌≡◌, ◌≤◌, ◌^◌, All, List};
-ghost use Rattle.rail_io.specs.Folders.{OnlyReads, faults_after};
+ghost use Rattle.std.specs.Prelude.{◌≡◌, ◌≤◌, ◌^◌, All};
+ghost use Rattle.rail_io.specs.Folders.{CountsFault, OnlyReads};
 ghost use Rattle.desk_commands.specs.declared.command.Command.{Command};
 ghost use Rattle.desk_commands.specs.PlainForm.{IsPlainForm};
 ghost use Rattle.desk_app.specs.Outcomes.{AskInVain, IsOutcome, is_unread};
@@ -33,7 +33,7 @@ pub(crate) fn outcome_of<F: Folder, W: Watcher>(
     requires asked { All (λ advisor. asked advisor ≤ 2 ^ 62) advisors.old.items }
 
     // What it comes to.
-    ensures outcome { IsOutcome F.holds F.may_fail F.faults F.taken words.now folder.old folder.new result }
+    ensures outcome { IsOutcome words.now (F.state folder.old) (F.state folder.new) result }
 
     // The advisors.
     ensures advisors { LeavesAdvisors words.now advisors.old.items advisors.new.items identity asked has_quit }
@@ -41,9 +41,8 @@ pub(crate) fn outcome_of<F: Folder, W: Watcher>(
         → AreAskedFor (rounds_of named) result advisors.old.items advisors.new.items asked has_quit }
 
     // The folder.
-    ensures only_reads { OnlyReads F.holds F.may_fail F.faults F.taken folder.old folder.new }
-    ensures fault_counted { F.counts_failed ≡ true
-        → F.faults folder.new ≡ faults_after (is_unread result) (F.faults folder.old) }
+    ensures only_reads { OnlyReads (F.state folder.old) (F.state folder.new) }
+    ensures fault_counted { CountsFault (is_unread result) (F.state folder.old) (F.state folder.new) }
     ensures untouched { AskInVain words.now → folder.new ≡ folder.old }
 {
     match read_words(alloc, words) {

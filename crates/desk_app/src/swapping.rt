@@ -1,8 +1,8 @@
 //! The command that swaps units of a day's plan.
 
-ghost use Rattle.std.specs.Prelude.{true, false, ◌≡◌, ◌≤◌, length};
+ghost use Rattle.std.specs.Prelude.{false, ◌≡◌, ◌≤◌, length};
 ghost use Rattle.rail_base.specs.declared.limits.TheConstants.{MAX_TABLE_BYTES};
-ghost use Rattle.rail_io.specs.Folders.{OnlyReads, faults_after};
+ghost use Rattle.rail_io.specs.Folders.{CountsFault, OnlyReads};
 ghost use Rattle.timetable.specs.Running.{IsPlan};
 ghost use Rattle.urgent_units.specs.Wishes.{IsWish};
 ghost use Rattle.desk_app.specs.Outcomes.{is_unread};
@@ -20,10 +20,9 @@ use urgent_units::{UrgentRefusal, Wish, WishRefusal, urgent};
 
 /// Swaps units of a folder's plan. The plan is simulated before the table of urgent units is read.
 pub(crate) fn swapped<F: Folder>(alloc: Global, folder: &mut F, dir: &str) -> DeskOutcome
-    ensures outcome { IsSwapOutcome F.holds F.may_fail F.faults F.taken dir.now folder.old folder.new result }
-    ensures only_reads { OnlyReads F.holds F.may_fail F.faults F.taken folder.old folder.new }
-    ensures fault_counted { F.counts_failed ≡ true
-        → F.faults folder.new ≡ faults_after (is_unread result) (F.faults folder.old) }
+    ensures outcome { IsSwapOutcome dir.now (F.state folder.old) (F.state folder.new) result }
+    ensures only_reads { OnlyReads (F.state folder.old) (F.state folder.new) }
+    ensures fault_counted { CountsFault (is_unread result) (F.state folder.old) (F.state folder.new) }
 {
     match inputs_in(alloc, folder, dir) {
         Ok(inputs) => swapped_plan(alloc, folder, dir, &inputs),
@@ -34,11 +33,9 @@ pub(crate) fn swapped<F: Folder>(alloc: Global, folder: &mut F, dir: &str) -> De
 /// Swaps units of a plan, where it runs.
 fn swapped_plan<F: Folder>(alloc: Global, folder: &mut F, dir: &str, inputs: &Inputs) -> DeskOutcome
     requires plan { IsPlan inputs.now.instance inputs.now.plan }
-    ensures outcome { IsInputsOutcome F.holds F.may_fail F.faults F.taken dir.now inputs.now folder.old folder.new
-        result }
-    ensures only_reads { OnlyReads F.holds F.may_fail F.faults F.taken folder.old folder.new }
-    ensures fault_counted { F.counts_failed ≡ true
-        → F.faults folder.new ≡ faults_after (is_unread result) (F.faults folder.old) }
+    ensures outcome { IsInputsOutcome dir.now inputs.now (F.state folder.old) (F.state folder.new) result }
+    ensures only_reads { OnlyReads (F.state folder.old) (F.state folder.new) }
+    ensures fault_counted { CountsFault (is_unread result) (F.state folder.old) (F.state folder.new) }
 {
     match simulate(alloc, &inputs.instance, &inputs.plan) {
         Ok(_) => swapped_as_wished(alloc, folder, dir, inputs),
@@ -56,11 +53,9 @@ fn swapped_as_wished<F: Folder>(
 ) -> DeskOutcome
     requires plan { IsPlan inputs.now.instance inputs.now.plan }
     requires goes { GoesThrough inputs.now }
-    ensures outcome { IsWishOutcome F.holds F.may_fail F.faults F.taken dir.now inputs.now folder.old folder.new
-        result }
-    ensures only_reads { OnlyReads F.holds F.may_fail F.faults F.taken folder.old folder.new }
-    ensures fault_counted { F.counts_failed ≡ true
-        → F.faults folder.new ≡ faults_after (is_unread result) (F.faults folder.old) }
+    ensures outcome { IsWishOutcome dir.now inputs.now (F.state folder.old) (F.state folder.new) result }
+    ensures only_reads { OnlyReads (F.state folder.old) (F.state folder.new) }
+    ensures fault_counted { CountsFault (is_unread result) (F.state folder.old) (F.state folder.new) }
 {
     match file_in(alloc, folder, dir, URGENT_FILE, MAX_TABLE_BYTES) {
         Ok(bytes) => swapped_by_table(alloc, inputs, bytes.items()),

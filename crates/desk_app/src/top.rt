@@ -1,7 +1,7 @@
 //! The top call: it reads a folder, writes one document and answers a status.
 
 ghost use Rattle.std.specs.Prelude.{true, ◌≡◌, ◌≤◌, ◌^◌, All};
-ghost use Rattle.rail_io.specs.Folders.{faults_after};
+ghost use Rattle.rail_io.specs.Folders.{CountsFault};
 ghost use Rattle.statuses.specs.Endings.{LeavesFolder, LeavesSink};
 ghost use Rattle.statuses.specs.Written.{CountsFailedWrites, IsStatus, IsUndisturbed};
 ghost use Rattle.desk_commands.specs.declared.command.Command.{Command};
@@ -104,22 +104,20 @@ pub fn raildesk<F: Folder, K: Sink>(
 
     // How each command ends, where the status is none of 5, 6 and 7.
     ensures ends { IsUndisturbed result
-        → EndsByCommand (F.holds folder.old) words.now result (K.written out.old) (K.written out.new) }
+        → EndsByCommand (F.state folder.old).holds words.now result (K.written out.old) (K.written out.new) }
     ensures statuses { IsStatus result }
 
     // What was written is the document of an outcome of these words and this folder, whose status is the result unless
     // that is 6 or 7; and the advisors were asked as it tells.
     ensures document { (outcome : DeskOutcome)
-        × IsOutcome F.holds F.may_fail F.faults F.taken words.now folder.old folder.new outcome
+        × IsOutcome words.now (F.state folder.old) (F.state folder.new) outcome
         × WroteOutcome outcome result (K.written out.old) (K.written out.new) (K.faults out.old) (K.faults out.new)
-        × (F.counts_failed ≡ true
-        → F.faults folder.new ≡ faults_after (is_unread outcome) (F.faults folder.old))
+        × CountsFault (is_unread outcome) (F.state folder.old) (F.state folder.new)
         × ((named : Command) → IsPlainForm words.now named
         → AreAskedFor (rounds_of named) outcome advisors.old.items advisors.new.items asked has_quit) }
 
     // How the folder, the sink and the advisors are left, whatever the status is.
-    ensures folder { LeavesFolder F.holds F.may_fail F.faults F.taken F.counts_failed (AskInVain words.now) result
-        folder.old folder.new }
+    ensures folder { LeavesFolder F.state (AskInVain words.now) result folder.old folder.new }
     ensures sink { LeavesSink K.counts_failed result (K.written out.old) (K.written out.new) (K.faults out.old)
         (K.faults out.new) }
     ensures advisors { LeavesAdvisors words.now advisors.old.items advisors.new.items identity asked has_quit }
@@ -141,22 +139,20 @@ pub fn raildesk_watched<F: Folder, K: Sink, W: Watcher>(
 
     // How each command ends, where the status is none of 5, 6 and 7.
     ensures ends { IsUndisturbed result
-        → EndsByCommand (F.holds folder.old) words.now result (K.written out.old) (K.written out.new) }
+        → EndsByCommand (F.state folder.old).holds words.now result (K.written out.old) (K.written out.new) }
     ensures statuses { IsStatus result }
 
     // What was written is the document of an outcome of these words and this folder, whose status is the result unless
     // that is 6 or 7; and the advisors were asked as it tells.
     ensures document { (outcome : DeskOutcome)
-        × IsOutcome F.holds F.may_fail F.faults F.taken words.now folder.old folder.new outcome
+        × IsOutcome words.now (F.state folder.old) (F.state folder.new) outcome
         × WroteOutcome outcome result (K.written out.old) (K.written out.new) (K.faults out.old) (K.faults out.new)
-        × (F.counts_failed ≡ true
-        → F.faults folder.new ≡ faults_after (is_unread outcome) (F.faults folder.old))
+        × CountsFault (is_unread outcome) (F.state folder.old) (F.state folder.new)
         × ((named : Command) → IsPlainForm words.now named
         → AreAskedFor (rounds_of named) outcome advisors.old.items advisors.new.items asked has_quit) }
 
     // How the folder, the sink and the advisors are left, whatever the status is.
-    ensures folder { LeavesFolder F.holds F.may_fail F.faults F.taken F.counts_failed (AskInVain words.now) result
-        folder.old folder.new }
+    ensures folder { LeavesFolder F.state (AskInVain words.now) result folder.old folder.new }
     ensures sink { LeavesSink K.counts_failed result (K.written out.old) (K.written out.new) (K.faults out.old)
         (K.faults out.new) }
     ensures advisors { LeavesAdvisors words.now advisors.old.items advisors.new.items identity asked has_quit }

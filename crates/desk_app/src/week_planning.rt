@@ -1,8 +1,8 @@
 //! The command that plans a week.
 
-ghost use Rattle.std.specs.Prelude.{true, false, ◌≡◌, ◌≤◌, ◌+◌, ◌*◌, ◌^◌, All, length};
+ghost use Rattle.std.specs.Prelude.{false, ◌≡◌, ◌≤◌, ◌+◌, ◌*◌, ◌^◌, All, length};
 ghost use Rattle.rail_base.specs.declared.limits.TheConstants.{MAX_BRANCHINGS, MAX_ROUNDS};
-ghost use Rattle.rail_io.specs.Folders.{OnlyReads, faults_after};
+ghost use Rattle.rail_io.specs.Folders.{CountsFault, OnlyReads};
 ghost use Rattle.search.specs.Questions.{AreAsked, AreTheSame};
 ghost use Rattle.week_units.specs.declared.nights.TheConstants.{MAX_DAYS};
 ghost use Rattle.desk_app.specs.Outcomes.{is_unread};
@@ -32,12 +32,11 @@ pub(crate) fn planned_week<F: Folder>(
     requires asked { All (λ advisor. asked advisor ≤ 2 ^ 62) advisors.old.items }
 
     // What it comes to.
-    ensures outcome { IsWeekOutcome F.holds F.may_fail F.faults F.taken planning.now folder.old folder.new result }
+    ensures outcome { IsWeekOutcome planning.now (F.state folder.old) (F.state folder.new) result }
 
     // The folder.
-    ensures only_reads { OnlyReads F.holds F.may_fail F.faults F.taken folder.old folder.new }
-    ensures fault_counted { F.counts_failed ≡ true
-        → F.faults folder.new ≡ faults_after (is_unread result) (F.faults folder.old) }
+    ensures only_reads { OnlyReads (F.state folder.old) (F.state folder.new) }
+    ensures fault_counted { CountsFault (is_unread result) (F.state folder.old) (F.state folder.new) }
 
     // The advisors.
     ensures advisors { AreTheSame advisors.old.items advisors.new.items identity }

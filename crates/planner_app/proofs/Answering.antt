@@ -1,6 +1,6 @@
 -- How the planning of a day and of a trial day ends.
-use Rattle.std.proofs.Common.{◌≡◌, ℕ, Bool, List, Option, Some, Ok, Err, refl, arith}
-use Rattle.rail_io.specs.Folders.{Files, Rose}
+use Rattle.std.proofs.Common.{◌≡◌, ℕ, List, Option, Some, Ok, Err, refl, arith}
+use Rattle.rail_io.specs.Folders.{Files, FolderState, Rose}
 use Rattle.timetable.specs.Day.{Day}
 use Rattle.day_files.specs.declared.errors.ReadError.{ReadError}
 use Rattle.day_files.specs.declared.errors.ReadError.TheVariants as read_error
@@ -63,17 +63,17 @@ plan_status day nodes it DidRise (IsPlanned answer headline is) =
     of_command is (read_status (Planned answer) head.not_usage (λ five. omega (arith, head.low, five)))
 plan_status day nodes it DidRise (NoMemoryToPlan none) = memory_status none
 
-module _ {F : Type 0} (holds : F → Option Files) (may_fail : F → List ℕ → Bool) (faults taken : F → ℕ) (dir : List ℕ) (nodes : ℕ) (old new : F) (it : Outcome) where
-  pub planning_ends : IsDayPlanned holds may_fail faults taken dir nodes old new it → (files : Files) → holds old ≡ Some files → (before after : Option (List ℕ))
+module _ (dir : List ℕ) (nodes : ℕ) (old new : FolderState) (it : Outcome) where
+  pub planning_ends : IsDayPlanned dir nodes old new it → (files : Files) → old.holds ≡ Some files → (before after : Option (List ℕ))
       → IsWritten it before after → EndsPlanning refused_line files dir nodes (status_of it) before after
   planning_ends (NoDay unread) files tells before after written =
       with_status (λ status. EndsPlanning refused_line files dir nodes status before after) unread.is
       (by_error files dir nodes before after unread.error (unread.of_tables.told files tells) (written_as unread.is written))
   planning_ends (OfDay day read comes) files tells before after written = by_answer files dir nodes before after day (read.told files tells) it comes written
 
-  pub planning_status : IsDayPlanned holds may_fail faults taken dir nodes old new it → IsOfCommand it (Rose (faults old) (faults new))
-  planning_status (NoDay unread) = of_command unread.is (error_status may_fail faults taken dir old new unread.error unread.of_tables.caused)
-  planning_status (OfDay day read comes) = plan_status day nodes it (Rose (faults old) (faults new)) comes
+  pub planning_status : IsDayPlanned dir nodes old new it → IsOfCommand it (Rose old.faults new.faults)
+  planning_status (NoDay unread) = of_command unread.is (error_status dir old new unread.error unread.of_tables.caused)
+  planning_status (OfDay day read comes) = plan_status day nodes it (Rose old.faults new.faults) comes
 
 -- ---- a trial day
 

@@ -14,7 +14,7 @@ use Rattle.commands.specs.declared.command.TheConstants.{USUAL_NODES, USUAL_ROUN
 use Rattle.plain_words.specs.Numbers.{IsOption}
 use Rattle.commands.specs.PlainForm.{IsPlainForm, IsSearch}
 use Rattle.commands.proofs.Meanings.{plain_form}
-use Rattle.rail_io.specs.Folders.{Files}
+use Rattle.rail_io.specs.Folders.{FolderState}
 use Rattle.search.specs.Questions.{AreAsked, AreTheSame, LeavesAdvisors}
 use Rattle.search.proofs.Leaving.{left_as, left_by}
 use Rattle.planner_app.specs.Advice.{AreAskedFor}
@@ -83,11 +83,10 @@ searched_by identity asked has_quit named searching is nodes rounds granted only
     (left_by (HasGrant searching) identity asked has_quit nodes rounds granted only before after same within)
 
 -- a command on a folder comes to what it does by another name of the folder
-pub comes_there : {F : Type 0} (holds : F → Option Files) (may_fail : F → List ℕ → Bool) (faults taken : F → ℕ) (old new : F) (it : Outcome)
+pub comes_there : (old new : FolderState) (it : Outcome)
     (make : List ℕ → Command) (named : Command) (dir there : List ℕ) → there ≡ dir → named ≡ make dir
-    → ComesTo holds may_fail faults taken (make there) old new it → ComesTo holds may_fail faults taken named old new it
-comes_there holds may_fail faults taken old new it make named dir there here is comes =
-    subst (λ (c : Command). ComesTo holds may_fail faults taken c old new it) (ap make here ∙ sym is) comes
+    → ComesTo (make there) old new it → ComesTo named old new it
+comes_there old new it make named dir there here is comes = subst (λ (c : Command). ComesTo c old new it) (ap make here ∙ sym is) comes
 
 -- where no day is read, no advisor is asked
 pub none_asked_for : {A : Type 0} (asked : A → ℕ) (has_quit : A → Bool) (rounds : ℕ) (error : ReadError) (it : Outcome)

@@ -1,7 +1,7 @@
 -- How the check of an answer ends, and a report on it.
 use Rattle.std.proofs.Common.{◌≡◌, ◌≢◌, ◌⊎◌, inl, inr, ℕ, Bool, false, List, Option, Some, Ok, Err, refl, sym, ap, ◌∙◌, subst, arith}
 use Rattle.std.specs.Prelude.{IsTrue}
-use Rattle.rail_io.specs.Folders.{Files, Rose}
+use Rattle.rail_io.specs.Folders.{Files, FolderState, Rose}
 use Rattle.rail_io.specs.Sinks.{Appends}
 use Rattle.timetable.specs.Day.{Day}
 use Rattle.day_files.specs.declared.errors.Refusal.{Refusal}
@@ -103,34 +103,32 @@ module _ (files : Files) (dir : List ℕ) where
   told_as : (it other : Outcome) (before after : Option (List ℕ)) → it ≡ other → AreToldRefused other before after → AreToldRefused it before after
   told_as it other before after is told = subst (λ (o : Outcome). AreToldRefused o before after) (sym is) told
 
-module _ {F : Type 0} (holds : F → Option Files) (may_fail : F → List ℕ → Bool) (faults taken : F → ℕ) (dir : List ℕ) (old new : F) (it : Outcome)
-  where
-    refused_files : (files : Files) → holds old ≡ Some files → (before after : Option (List ℕ)) → IsWritten it before after
-        → IsUnanswered holds may_fail faults taken dir old new it → AreToldRefused files dir it before after
-    refused_files files tells before after written (NoDay unread) =
-        told_as files dir it (outcome_of_error unread.error) before after unread.is
-        (refused_tables files dir before after unread.error (unread.of_tables.told files tells) (written_as unread.is written))
-    refused_files files tells before after written (NoneRead day read error wrong is) =
-        told_as files dir it (outcome.NoAnswer error) before after is
-        (refused_answer files dir before after day error (read.told files tells) (wrong.told files tells) (written_as is written))
-    refused_files files tells before after written (NoMemoryToRead none) = absurd (not_memory none written)
+module _ (dir : List ℕ) (old new : FolderState) (it : Outcome) where
+  refused_files : (files : Files) → old.holds ≡ Some files → (before after : Option (List ℕ)) → IsWritten it before after
+      → IsUnanswered dir old new it → AreToldRefused files dir it before after
+  refused_files files tells before after written (NoDay unread) =
+      told_as files dir it (outcome_of_error unread.error) before after unread.is
+      (refused_tables files dir before after unread.error (unread.of_tables.told files tells) (written_as unread.is written))
+  refused_files files tells before after written (NoneRead day read error wrong is) =
+      told_as files dir it (outcome.NoAnswer error) before after is
+      (refused_answer files dir before after day error (read.told files tells) (wrong.told files tells) (written_as is written))
+  refused_files files tells before after written (NoMemoryToRead none) = absurd (not_memory none written)
 
-    accepted_by : (files : Files) → holds old ≡ Some files → (day : Day) (answer : Answer) → IsReadAnswer holds dir old day answer → AreAnswered files dir day answer
-    accepted_by files tells day answer read = record { of_tables = read.of_day.told files tells; of_file = read.told files tells }
+  accepted_by : (files : Files) → old.holds ≡ Some files → (day : Day) (answer : Answer) → IsReadAnswer dir old day answer → AreAnswered files dir day answer
+  accepted_by files tells day answer read = record { of_tables = read.of_day.told files tells; of_file = read.told files tells }
 
-    -- what tells of no file that could not be read, but where the folder's count of faults rose
-    unread_answer : (error : AnswerError) → IsAnswerCaused may_fail faults taken dir old new error
-        → IsOfCommand (outcome.NoAnswer error) (Rose (faults old) (faults new))
-    unread_answer answer_error.CannotRead caused = record { not_usage = λ two. omega (arith, two); unread = λ five. caused.0 }
-    unread_answer answer_error.TooLong caused =
-        read_status (outcome.NoAnswer answer_error.TooLong) (λ two. omega (arith, two)) (λ five. omega (arith, five))
-    unread_answer (answer_error.Refused refusal) caused =
-        read_status (outcome.NoAnswer (answer_error.Refused refusal)) (λ two. omega (arith, two)) (λ five. omega (arith, five))
+  -- what tells of no file that could not be read, but where the folder's count of faults rose
+  unread_answer : (error : AnswerError) → IsAnswerCaused dir old new error → IsOfCommand (outcome.NoAnswer error) (Rose old.faults new.faults)
+  unread_answer answer_error.CannotRead caused = record { not_usage = λ two. omega (arith, two); unread = λ five. caused.0 }
+  unread_answer answer_error.TooLong caused =
+      read_status (outcome.NoAnswer answer_error.TooLong) (λ two. omega (arith, two)) (λ five. omega (arith, five))
+  unread_answer (answer_error.Refused refusal) caused =
+      read_status (outcome.NoAnswer (answer_error.Refused refusal)) (λ two. omega (arith, two)) (λ five. omega (arith, five))
 
-    unanswered_status : IsUnanswered holds may_fail faults taken dir old new it → IsOfCommand it (Rose (faults old) (faults new))
-    unanswered_status (NoDay unread) = of_command unread.is (error_status may_fail faults taken dir old new unread.error unread.of_tables.caused)
-    unanswered_status (NoneRead day read error wrong is) = of_command is (unread_answer error wrong.caused)
-    unanswered_status (NoMemoryToRead none) = memory_status none
+  unanswered_status : IsUnanswered dir old new it → IsOfCommand it (Rose old.faults new.faults)
+  unanswered_status (NoDay unread) = of_command unread.is (error_status dir old new unread.error unread.of_tables.caused)
+  unanswered_status (NoneRead day read error wrong is) = of_command is (unread_answer error wrong.caused)
+  unanswered_status (NoMemoryToRead none) = memory_status none
 
 -- what a check finds has status 0 or 1
 checked_status : {DidRise : Type 0} (it : Outcome) (answer : Answer) (verdict : AnswerVerdict) → it ≡ outcome.Checked answer.head verdict → IsOfCommand it DidRise
@@ -194,19 +192,18 @@ check_status : (day : Day) (answer : Answer) (it : Outcome) (DidRise : Type 0) �
 check_status day answer it DidRise (IsJudged verdict on is) = checked_status it answer verdict is
 check_status day answer it DidRise (NoMemoryToCheck none) = memory_status none
 
-module _ {F : Type 0} (holds : F → Option Files) (may_fail : F → List ℕ → Bool) (faults taken : F → ℕ) (dir : List ℕ) (old new : F) (it : Outcome)
-  where
-    pub checking_ends : IsAnswerChecked holds may_fail faults taken dir old new it → (files : Files) → holds old ≡ Some files
-        → (before after : Option (List ℕ)) → IsWritten it before after → EndsCheck files dir (status_of it) before after
-    checking_ends (NoAnswer none) files tells before after written =
-        let told = refused_files holds may_fail faults taken dir old new it files tells before after written none in
-        subst (λ (n : ℕ). EndsCheck files dir n before after) (sym told.status) (checked_refused files dir before after told.line told.refused told.appended)
-    checking_ends (OfAnswer day answer read comes) files tells before after written =
-        by_check files dir before after day answer (accepted_by holds may_fail faults taken dir old new it files tells day answer read) it comes written
+module _ (dir : List ℕ) (old new : FolderState) (it : Outcome) where
+  pub checking_ends : IsAnswerChecked dir old new it → (files : Files) → old.holds ≡ Some files
+      → (before after : Option (List ℕ)) → IsWritten it before after → EndsCheck files dir (status_of it) before after
+  checking_ends (NoAnswer none) files tells before after written =
+      let told = refused_files dir old new it files tells before after written none in
+      subst (λ (n : ℕ). EndsCheck files dir n before after) (sym told.status) (checked_refused files dir before after told.line told.refused told.appended)
+  checking_ends (OfAnswer day answer read comes) files tells before after written =
+      by_check files dir before after day answer (accepted_by dir old new it files tells day answer read) it comes written
 
-    pub checking_status : IsAnswerChecked holds may_fail faults taken dir old new it → IsOfCommand it (Rose (faults old) (faults new))
-    checking_status (NoAnswer none) = unanswered_status holds may_fail faults taken dir old new it none
-    checking_status (OfAnswer day answer read comes) = check_status day answer it (Rose (faults old) (faults new)) comes
+  pub checking_status : IsAnswerChecked dir old new it → IsOfCommand it (Rose old.faults new.faults)
+  checking_status (NoAnswer none) = unanswered_status dir old new it none
+  checking_status (OfAnswer day answer read comes) = check_status day answer it (Rose old.faults new.faults) comes
 
 -- ---- a report
 
@@ -294,17 +291,16 @@ report_status kind day answer it DidRise (HasNoPlan valid none is) =
     of_command is (read_status outcome.NoPlan (λ two. omega (arith, two)) (λ five. omega (arith, five)))
 report_status kind day answer it DidRise (NoMemoryToReport none) = memory_status none
 
-module _ {F : Type 0} (holds : F → Option Files) (may_fail : F → List ℕ → Bool) (faults taken : F → ℕ) (dir : List ℕ) (kind : ReportKind) (old new : F)
-    (it : Outcome) where
-  pub reporting_ends : IsAnswerReported holds may_fail faults taken dir kind old new it → (files : Files) → holds old ≡ Some files
+module _ (dir : List ℕ) (kind : ReportKind) (old new : FolderState) (it : Outcome) where
+  pub reporting_ends : IsAnswerReported dir kind old new it → (files : Files) → old.holds ≡ Some files
       → (before after : Option (List ℕ)) → IsWritten it before after → EndsReport files dir kind (status_of it) before after
   reporting_ends (NoAnswer none) files tells before after written =
-      let told = refused_files holds may_fail faults taken dir old new it files tells before after written none in
+      let told = refused_files dir old new it files tells before after written none in
       subst (λ (n : ℕ). EndsReport files dir kind n before after) (sym told.status)
       (ends_refused files dir kind before after told.line told.refused told.appended)
   reporting_ends (OfAnswer day answer read comes) files tells before after written =
-      by_report files dir kind before after day answer (accepted_by holds may_fail faults taken dir old new it files tells day answer read) it comes written
+      by_report files dir kind before after day answer (accepted_by dir old new it files tells day answer read) it comes written
 
-  pub reporting_status : IsAnswerReported holds may_fail faults taken dir kind old new it → IsOfCommand it (Rose (faults old) (faults new))
-  reporting_status (NoAnswer none) = unanswered_status holds may_fail faults taken dir old new it none
-  reporting_status (OfAnswer day answer read comes) = report_status kind day answer it (Rose (faults old) (faults new)) comes
+  pub reporting_status : IsAnswerReported dir kind old new it → IsOfCommand it (Rose old.faults new.faults)
+  reporting_status (NoAnswer none) = unanswered_status dir old new it none
+  reporting_status (OfAnswer day answer read comes) = report_status kind day answer it (Rose old.faults new.faults) comes

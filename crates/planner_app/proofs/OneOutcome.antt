@@ -1,9 +1,9 @@
 -- The outcome that words and files tell is one: the words ask for one command, and each thing that it reads is one.
-use Rattle.std.proofs.Common.{◌≡◌, ◌≢◌, ℕ, List, Bool, false, Option, Some, Result, Ok, Err, refl, sym, ap, subst, ◌∙◌, arith}
+use Rattle.std.proofs.Common.{◌≡◌, ◌≢◌, ℕ, List, Bool, false, Some, Result, Ok, Err, refl, sym, ap, subst, ◌∙◌, arith}
 use Rattle.std.specs.Prelude.{ℤ, IsTrue}
 use Rattle.rail_base.specs.declared.numbers.Money.{Money}
 use Rattle.rail_csv.specs.declared.rows.Table.{Table}
-use Rattle.rail_io.specs.Folders.{Files}
+use Rattle.rail_io.specs.Folders.{Files, FolderState}
 use Rattle.timetable.specs.Day.{Day}
 use Rattle.day_files.specs.declared.errors.Refusal.{Refusal}
 use Rattle.day_files.specs.declared.errors.ReadError.{ReadError}
@@ -246,8 +246,8 @@ record LeavesOut (Meant : Outcome → Type 0) : Type 0 where
   pub unread : (table : Table) → ¬ Meant (outcome.CannotRead table)
   pub memory : ¬ Meant outcome.NoMemory
 
-module _ {F : Type 0} (holds : F → Option Files) (may_fail : F → List ℕ → Bool) (faults taken : F → ℕ) (files : Files) (old new : F)
-    (tells : holds old ≡ Some files) (Meant : Outcome → Type 0) (leaves : LeavesOut Meant) (it : Outcome) (meant : Meant it) where
+module _ (files : Files) (old new : FolderState)
+    (tells : old.holds ≡ Some files) (Meant : Outcome → Type 0) (leaves : LeavesOut Meant) (it : Outcome) (meant : Meant it) where
   by_error : {X : Type 0} (read : Result X Refusal) (Tells : X → Outcome → Type 0) (dir : List ℕ) (error : ReadError)
       → Reads {Y = X} (Reaches files dir) (Err error) read → it ≡ outcome_of_error error → IsRead X read Tells it
   by_error read Tells dir (read_error.Refused why) said is = NotAccepted why said is
@@ -255,14 +255,14 @@ module _ {F : Type 0} (holds : F → Option Files) (may_fail : F → List ℕ �
   by_error read Tells dir read_error.NoMemory said is = absurd (leaves.memory (subst Meant is meant))
 
   by_answer : (dir : List ℕ) (Tells : Day → Answer → Outcome → Type 0)
-      → IsOfAnswer holds may_fail faults taken dir (λ day answer. Tells day answer it) old new it → ByAnswer files dir Tells it
+      → IsOfAnswer dir (λ day answer. Tells day answer it) old new it → ByAnswer files dir Tells it
   by_answer dir Tells (NoAnswer (NoDayRead unread)) =
       by_error (day_in files dir) (λ day. IsAnswered files dir (Tells day)) dir unread.error (unread.of_tables.told files tells) unread.is
   by_answer dir Tells (NoAnswer (NoneRead day read error wrong is)) = Accepted day (read.told files tells) (WrongFile error (wrong.told files tells) is)
   by_answer dir Tells (NoAnswer (NoMemoryToRead none)) = absurd (leaves.memory (subst Meant none meant))
   by_answer dir Tells (OfAnswer day answer read comes) = Accepted day (read.of_day.told files tells) (RightFile answer (read.told files tells) comes)
 
-  of_files : (named : Command) → ComesTo holds may_fail faults taken named old new it → OfFiles files named it
+  of_files : (named : Command) → ComesTo named old new it → OfFiles files named it
   of_files (command.Plan dir nodes rounds) (NoDay unread) =
       by_error (day_in files dir) (λ day. IsPlanOutcome day nodes) dir unread.error (unread.of_tables.told files tells) unread.is
   of_files (command.Plan dir nodes rounds) (OfDay day read comes) = Accepted day (read.told files tells) comes
@@ -283,39 +283,37 @@ found_leaves = record { unread = λ table found. found; memory = λ found. found
 
 -- ---- the laws
 
-module _ {F : Type 0} (holds : F → Option Files) (may_fail : F → List ℕ → Bool) (faults taken : F → ℕ)
-    {G : Type 0} (holds' : G → Option Files) (may_fail' : G → List ℕ → Bool) (faults' taken' : G → ℕ) where
-  pub outcomes_are_one : OutcomesAreOne holds may_fail faults taken holds' may_fail' faults' taken'
-  outcomes_are_one words files old new old' new' one other tells tells' told told' is is' = by is is'
-    where
-      by : IsOutcome holds may_fail faults taken words old new one → IsOutcome holds' may_fail' faults' taken' words old' new' other → one ≡ other
-      by (OfCommand named asked comes) (OfCommand named' asked' comes') =
-          let there : OfFiles files named' other =
-          of_files holds' may_fail' faults' taken' files old' new' tells' IsToldByFiles told_leaves other told' named' comes' in
-          one_of_files files named one other told told'
-          (of_files holds may_fail faults taken files old new tells IsToldByFiles told_leaves one told named comes)
-          (subst (λ (it : Command). OfFiles files it other) (one_command words named' named asked' asked) there)
-      by (OfCommand named asked comes) (InVain vain usage) = absurd (vain named asked)
-      by (InVain vain usage) (OfCommand named asked comes) = absurd (vain named asked)
-      by (InVain vain usage) (InVain vain' usage') = usage ∙ sym usage'
-      by (Unread none) comes = absurd (told_as none told)
-      by (OfCommand named asked comes) (Unread none) = absurd (told_as none told')
-      by (InVain vain usage) (Unread none) = absurd (told_as none told')
+pub outcomes_are_one : OutcomesAreOne
+outcomes_are_one words files old new old' new' one other tells tells' told told' is is' = by is is'
+  where
+    by : IsOutcome words old new one → IsOutcome words old' new' other → one ≡ other
+    by (OfCommand named asked comes) (OfCommand named' asked' comes') =
+        let there : OfFiles files named' other =
+        of_files files old' new' tells' IsToldByFiles told_leaves other told' named' comes' in
+        one_of_files files named one other told told'
+        (of_files files old new tells IsToldByFiles told_leaves one told named comes)
+        (subst (λ (it : Command). OfFiles files it other) (one_command words named' named asked' asked) there)
+    by (OfCommand named asked comes) (InVain vain usage) = absurd (vain named asked)
+    by (InVain vain usage) (OfCommand named asked comes) = absurd (vain named asked)
+    by (InVain vain usage) (InVain vain' usage') = usage ∙ sym usage'
+    by (Unread none) comes = absurd (told_as none told)
+    by (OfCommand named asked comes) (Unread none) = absurd (told_as none told')
+    by (InVain vain usage) (Unread none) = absurd (told_as none told')
 
-  pub searches_are_apart : SearchesAreApart holds may_fail faults taken holds' may_fail' faults' taken'
-  searches_are_apart words files old new old' new' one other tells tells' told found is is' = by is is'
-    where
-      by : IsOutcome holds may_fail faults taken words old new one → IsOutcome holds' may_fail' faults' taken' words old' new' other → ⊥
-      by (OfCommand named asked comes) (OfCommand named' asked' comes') =
-          let there : OfFiles files named' other =
-          of_files holds' may_fail' faults' taken' files old' new' tells' IsOfSearch found_leaves other found named' comes' in
-          apart files named one other told found
-          (of_files holds may_fail faults taken files old new tells IsToldByFiles told_leaves one told named comes)
-          (subst (λ (it : Command). OfFiles files it other) (one_command words named' named asked' asked) there)
-      by (InVain vain usage) (OfCommand named asked comes) = vain named asked
-      by comes (InVain vain usage) = found_as usage found
-      by comes (Unread none) = found_as none found
-      by (Unread none) (OfCommand named asked comes) = told_as none told
+pub searches_are_apart : SearchesAreApart
+searches_are_apart words files old new old' new' one other tells tells' told found is is' = by is is'
+  where
+    by : IsOutcome words old new one → IsOutcome words old' new' other → ⊥
+    by (OfCommand named asked comes) (OfCommand named' asked' comes') =
+        let there : OfFiles files named' other =
+        of_files files old' new' tells' IsOfSearch found_leaves other found named' comes' in
+        apart files named one other told found
+        (of_files files old new tells IsToldByFiles told_leaves one told named comes)
+        (subst (λ (it : Command). OfFiles files it other) (one_command words named' named asked' asked) there)
+    by (InVain vain usage) (OfCommand named asked comes) = vain named asked
+    by comes (InVain vain usage) = found_as usage found
+    by comes (Unread none) = found_as none found
+    by (Unread none) (OfCommand named asked comes) = told_as none told
 
 -- ---- the others
 

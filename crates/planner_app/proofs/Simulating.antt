@@ -1,7 +1,7 @@
 -- How the run of a plan ends.
-use Rattle.std.proofs.Common.{◌≡◌, ℕ, Bool, List, Option, Some, Ok, Err, refl, sym, subst, arith}
+use Rattle.std.proofs.Common.{◌≡◌, ℕ, List, Option, Some, Ok, Err, refl, sym, subst, arith}
 use Rattle.rail_base.specs.declared.numbers.Money.{Money}
-use Rattle.rail_io.specs.Folders.{Files, Rose}
+use Rattle.rail_io.specs.Folders.{Files, FolderState, Rose}
 use Rattle.rail_io.specs.Sinks.{Appends}
 use Rattle.day_files.specs.declared.errors.Refusal.{Refusal}
 use Rattle.day_files.specs.declared.errors.ReadError.{ReadError}
@@ -75,8 +75,8 @@ module _ (files : Files) (dir : List ℕ) (before after : Option (List ℕ)) whe
       with_status Ends is (stopped inputs accepted fault at (appends_line (stops_line fault) own own.document))
   by_run inputs accepted it (NoMemoryToRun none) written = absurd (not_memory none written)
 
-module _ {F : Type 0} (holds : F → Option Files) (may_fail : F → List ℕ → Bool) (faults taken : F → ℕ) (dir : List ℕ) (old new : F) (it : Outcome) where
-  pub simulation_ends : IsPlanRun holds may_fail faults taken dir old new it → (files : Files) → holds old ≡ Some files → (before after : Option (List ℕ))
+module _ (dir : List ℕ) (old new : FolderState) (it : Outcome) where
+  pub simulation_ends : IsPlanRun dir old new it → (files : Files) → old.holds ≡ Some files → (before after : Option (List ℕ))
       → IsWritten it before after → EndsSimulation files dir (status_of it) before after
   simulation_ends (NoInputs error read is) files tells before after written =
       with_status (λ status. EndsSimulation files dir status before after) is
@@ -86,13 +86,13 @@ module _ {F : Type 0} (holds : F → Option Files) (may_fail : F → List ℕ �
 -- ---- the status of a command
 
 -- that of an error of the tables
-pub error_status : {F : Type 0} (may_fail : F → List ℕ → Bool) (faults taken : F → ℕ) (dir : List ℕ) (old new : F) (error : ReadError)
-    → IsCaused may_fail faults taken dir old new error → IsOfCommand (outcome_of_error error) (Rose (faults old) (faults new))
-error_status may_fail faults taken dir old new (read_error.Refused why) caused =
+pub error_status : (dir : List ℕ) (old new : FolderState) (error : ReadError)
+    → IsCaused dir old new error → IsOfCommand (outcome_of_error error) (Rose old.faults new.faults)
+error_status dir old new (read_error.Refused why) caused =
     record { not_usage = λ two. omega (arith, two); unread = λ five. absurd (omega (arith, five)) }
-error_status may_fail faults taken dir old new (read_error.CannotRead read) caused =
+error_status dir old new (read_error.CannotRead read) caused =
     record { not_usage = λ two. omega (arith, two); unread = λ five. caused.0 }
-error_status may_fail faults taken dir old new read_error.NoMemory caused =
+error_status dir old new read_error.NoMemory caused =
     record { not_usage = λ two. omega (arith, two); unread = λ five. absurd (omega (arith, five)) }
 
 pub memory_status : {it : Outcome} {DidRise : Type 0} → it ≡ NoMemory → IsOfCommand it DidRise
@@ -103,7 +103,7 @@ run_status inputs it DidRise (DoesRun money at is) = of_command is (read_status 
 run_status inputs it DidRise (DoesStop fault at is) = of_command is (read_status (Stops fault) (λ two. omega (arith, two)) (λ five. omega (arith, five)))
 run_status inputs it DidRise (NoMemoryToRun none) = memory_status none
 
-module _ {F : Type 0} (holds : F → Option Files) (may_fail : F → List ℕ → Bool) (faults taken : F → ℕ) (dir : List ℕ) (old new : F) (it : Outcome) where
-  pub simulation_status : IsPlanRun holds may_fail faults taken dir old new it → IsOfCommand it (Rose (faults old) (faults new))
-  simulation_status (NoInputs error read is) = of_command is (error_status may_fail faults taken dir old new error read.caused)
-  simulation_status (OfInputs inputs read comes) = run_status inputs it (Rose (faults old) (faults new)) comes
+module _ (dir : List ℕ) (old new : FolderState) (it : Outcome) where
+  pub simulation_status : IsPlanRun dir old new it → IsOfCommand it (Rose old.faults new.faults)
+  simulation_status (NoInputs error read is) = of_command is (error_status dir old new error read.caused)
+  simulation_status (OfInputs inputs read comes) = run_status inputs it (Rose old.faults new.faults) comes

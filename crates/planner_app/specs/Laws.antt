@@ -1,6 +1,6 @@
 -- What holds of every answer that is found to a day, and of every outcome that the files tell.
-use Rattle.std.specs.Prelude.{ℕ, ◌≡◌, List, Bool, IsTrue, Ok, Option, Some, ⊤}
-use Rattle.rail_io.specs.Folders.{Files}
+use Rattle.std.specs.Prelude.{ℕ, ◌≡◌, List, IsTrue, Ok, Option, Some, ⊤}
+use Rattle.rail_io.specs.Folders.{Files, FolderState}
 use Rattle.timetable.specs.Day.{Day}
 use Rattle.day_files.specs.Inputs.{day_in}
 use Rattle.answer_text.specs.declared.answer.Answer.{Answer}
@@ -52,23 +52,18 @@ IsToldByFiles (NoAnswer answer_error.CannotRead) = ⊥
 IsToldByFiles NoMemory = ⊥
 IsToldByFiles other = ⊤
 
--- Runs of the same words, over folders of two kinds that hold the same files.
-module _ {F : Type 0} (holds : F → Option Files) (may_fail : F → List ℕ → Bool) (faults taken : F → ℕ)
-    {G : Type 0} (holds' : G → Option Files) (may_fail' : G → List ℕ → Bool) (faults' taken' : G → ℕ) where
-  -- They come to one such outcome at most.
-  abbrev pub OutcomesAreOne : Type 0
-  OutcomesAreOne = (words : List (List ℕ)) (files : Files) (old new : F) (old' new' : G) (one other : Outcome) →
-      holds old ≡ Some files → holds' old' ≡ Some files → IsToldByFiles one → IsToldByFiles other →
-      IsOutcome holds may_fail faults taken words old new one →
-      IsOutcome holds' may_fail' faults' taken' words old' new' other → one ≡ other
+-- Runs of the same words, over two folders that hold the same files, come to one such outcome at most.
+abbrev pub OutcomesAreOne : Type 0
+OutcomesAreOne = (words : List (List ℕ)) (files : Files) (old new old' new' : FolderState) (one other : Outcome) →
+    old.holds ≡ Some files → old'.holds ≡ Some files → IsToldByFiles one → IsToldByFiles other →
+    IsOutcome words old new one → IsOutcome words old' new' other → one ≡ other
 
-  -- And where the one comes to one, no search of the other comes to an answer: whether a day is refused is told by its
-  -- files alone.
-  abbrev pub SearchesAreApart : Type 0
-  SearchesAreApart = (words : List (List ℕ)) (files : Files) (old new : F) (old' new' : G) (one other : Outcome) →
-      holds old ≡ Some files → holds' old' ≡ Some files → IsToldByFiles one → IsOfSearch other →
-      IsOutcome holds may_fail faults taken words old new one →
-      ¬ (IsOutcome holds' may_fail' faults' taken' words old' new' other)
+-- And where the one comes to one, no search of the other comes to an answer: whether a day is refused is told by its
+-- files alone.
+abbrev pub SearchesAreApart : Type 0
+SearchesAreApart = (words : List (List ℕ)) (files : Files) (old new old' new' : FolderState) (one other : Outcome) →
+    old.holds ≡ Some files → old'.holds ≡ Some files → IsToldByFiles one → IsOfSearch other →
+    IsOutcome words old new one → ¬ (IsOutcome words old' new' other)
 
 -- Each other outcome whose status is none of 5, 6 and 7 is told so.
 abbrev pub OthersAreTold : Type 0

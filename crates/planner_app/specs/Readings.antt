@@ -1,8 +1,8 @@
 -- The answer that is read of a folder, and what a day or an answer that is not read comes to.
-use Rattle.std.specs.Prelude.{ℕ, ◌≡◌, ◌≢◌, List, Bool, Option, Some, Ok}
+use Rattle.std.specs.Prelude.{ℕ, ◌≡◌, ◌≢◌, List, Some, Ok}
 use Rattle.rail_base.specs.declared.limits.TheConstants.{MAX_NODES}
 use Rattle.rail_csv.specs.declared.rows.Table.TheVariants as table
-use Rattle.rail_io.specs.Folders.{Files}
+use Rattle.rail_io.specs.Folders.{Files, FolderState}
 use Rattle.timetable.specs.Day.{Day}
 use Rattle.day_files.specs.declared.errors.ReadError.{ReadError}
 use Rattle.day_files.specs.Inputs.{day_in}
@@ -22,33 +22,31 @@ pub record AreAnswered (files : Files) (dir : List ℕ) (day : Day) (answer : An
 
 -- A day that tables make and an answer within the limits of a document were read: where the folder tells what it holds,
 -- those of its files.
-pub record IsReadAnswer {F : Type 0} (holds : F → Option Files) (dir : List ℕ) (before : F) (day : Day)
-    (answer : Answer) : Type 0 where
-  pub of_day : IsReadDay holds dir before day
+pub record IsReadAnswer (dir : List ℕ) (before : FolderState) (day : Day) (answer : Answer) : Type 0 where
+  pub of_day : IsReadDay dir before day
   pub within : IsAnswerWithin MAX_NODES answer
-  pub told : (files : Files) → holds before ≡ Some files → IsAnswerOf (answer_bytes files dir) answer
+  pub told : (files : Files) → before.holds ≡ Some files → IsAnswerOf (answer_bytes files dir) answer
 
 -- ---- what is not read
 
-module _ {F : Type 0} (holds : F → Option Files) (may_fail : F → List ℕ → Bool) (faults taken : F → ℕ) (dir : List ℕ)
-  where
-    -- The reading of an answer came to an error, from the folder before to the same folder after. Where the folder
-    -- tells what it holds, that is wrong with the file; and the error has its cause, whatever the folder tells.
-    pub record IsAnswerError (before after : F) (error : AnswerError) : Type 0 where
-      pub told : (files : Files) → holds before ≡ Some files → IsWrongAnswer files dir error
-      pub caused : IsAnswerCaused may_fail faults taken dir before after error
+module _ (dir : List ℕ) where
+  -- The reading of an answer came to an error, from the folder before to the same folder after. Where the folder
+  -- tells what it holds, that is wrong with the file; and the error has its cause, whatever the folder tells.
+  pub record IsAnswerError (before after : FolderState) (error : AnswerError) : Type 0 where
+    pub told : (files : Files) → before.holds ≡ Some files → IsWrongAnswer files dir error
+    pub caused : IsAnswerCaused dir before after error
 
-    -- No day was read, for an error of its tables, and that came to this.
-    pub record IsUnreadDay (before after : F) (outcome : Outcome) : Type 0 where
-      pub error : ReadError
-      pub of_tables : IsReadError {Y = Day} holds may_fail faults taken (λ read. read ≢ table.Plan)
-          (λ files. day_in files dir) dir before after error
-      pub is : outcome ≡ outcome_of_error error
+  -- No day was read, for an error of its tables, and that came to this.
+  pub record IsUnreadDay (before after : FolderState) (outcome : Outcome) : Type 0 where
+    pub error : ReadError
+    pub of_tables : IsReadError {Y = Day} (λ read. read ≢ table.Plan) (λ files. day_in files dir) dir before after
+        error
+    pub is : outcome ≡ outcome_of_error error
 
-    -- No day or no answer to it was read, for an error of its tables or of the file of the answer, or since memory ran
-    -- out; and that came to this.
-    pub data IsUnanswered (before after : F) (outcome : Outcome) : Type 0 where
-      NoDay : IsUnreadDay before after outcome → IsUnanswered before after outcome
-      NoneRead : (day : Day) → IsReadDay holds dir before day → (error : AnswerError) → IsAnswerError before after error
-          → outcome ≡ NoAnswer error → IsUnanswered before after outcome
-      NoMemoryToRead : outcome ≡ NoMemory → IsUnanswered before after outcome
+  -- No day or no answer to it was read, for an error of its tables or of the file of the answer, or since memory ran
+  -- out; and that came to this.
+  pub data IsUnanswered (before after : FolderState) (outcome : Outcome) : Type 0 where
+    NoDay : IsUnreadDay before after outcome → IsUnanswered before after outcome
+    NoneRead : (day : Day) → IsReadDay dir before day → (error : AnswerError) → IsAnswerError before after error
+        → outcome ≡ NoAnswer error → IsUnanswered before after outcome
+    NoMemoryToRead : outcome ≡ NoMemory → IsUnanswered before after outcome

@@ -1,7 +1,7 @@
 //! The day and the answer of a folder, for the commands that read both.
 
-ghost use Rattle.std.specs.Prelude.{true, ◌≡◌, IfOk, IfErr};
-ghost use Rattle.rail_io.specs.Folders.{OnlyReads, faults_after};
+ghost use Rattle.std.specs.Prelude.{◌≡◌, IfOk, IfErr};
+ghost use Rattle.rail_io.specs.Folders.{CountsFault, OnlyReads};
 ghost use Rattle.day_files.specs.OneFile.{tells_unread};
 ghost use Rattle.planner_app.specs.Readings.{IsReadAnswer, IsUnanswered};
 ghost use Rattle.planner_app.specs.Statuses.{is_unread};
@@ -31,13 +31,12 @@ pub(crate) fn answered_in<F: Folder>(
     dir: &str,
 ) -> Result<Answered, Outcome>
     // What was read, or what the run comes to.
-    ensures read { IfOk result (λ read. IsReadAnswer F.holds dir.now folder.old read.instance read.answer) }
-    ensures error { IfErr result (IsUnanswered F.holds F.may_fail F.faults F.taken dir.now folder.old folder.new) }
+    ensures read { IfOk result (λ read. IsReadAnswer dir.now (F.state folder.old) read.instance read.answer) }
+    ensures error { IfErr result (IsUnanswered dir.now (F.state folder.old) (F.state folder.new)) }
 
     // The folder.
-    ensures fault_counted { F.counts_failed ≡ true
-        → F.faults folder.new ≡ faults_after (tells_unread is_unread result) (F.faults folder.old) }
-    ensures only_reads { OnlyReads F.holds F.may_fail F.faults F.taken folder.old folder.new }
+    ensures fault_counted { CountsFault (tells_unread is_unread result) (F.state folder.old) (F.state folder.new) }
+    ensures only_reads { OnlyReads (F.state folder.old) (F.state folder.new) }
 {
     let instance = match day_in(alloc, folder, dir) {
         Ok(instance) => instance,

@@ -9,7 +9,6 @@ ghost use Rattle.planner_app.specs.Limits.{AreColumnLimits, AreDayLimits, AreFie
 ghost use Rattle.planner_app.specs.Limits.{AreRowLimits, AreRunLimits};
 
 pub use answer_check::laws::valid_answers_are_found;
-use rail_io::Folder;
 
 /// What `plan DIR` writes is valid: where `answer.txt` in a folder is the text of an answer that meets the headline of
 /// the day in that folder, `check DIR` ends with status 0, unless it ends with 5, 6 or 7.
@@ -26,9 +25,9 @@ pub fn headlines_are_valid()
 /// Where one run comes to an outcome that files tell, no search of the other comes to an answer: so that `plan` ends
 /// with 3 is told by the files alone too.
 /// Every outcome but these is told so, where the status is none of 5, 6 and 7.
-pub fn outcomes_are_one<F: Folder, G: Folder>()
-    ensures one { OutcomesAreOne F.holds F.may_fail F.faults F.taken G.holds G.may_fail G.faults G.taken }
-    ensures search { SearchesAreApart F.holds F.may_fail F.faults F.taken G.holds G.may_fail G.faults G.taken }
+pub fn outcomes_are_one()
+    ensures one { OutcomesAreOne }
+    ensures search { SearchesAreApart }
     ensures others { OthersAreTold }
 {}
 

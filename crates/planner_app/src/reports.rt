@@ -1,8 +1,8 @@
 //! Reports on the plan of a folder's answer, once it is found valid.
 
-ghost use Rattle.std.specs.Prelude.{true, ◌≡◌, ◌≤◌, IfOk, length};
+ghost use Rattle.std.specs.Prelude.{◌≡◌, ◌≤◌, IfOk, length};
 ghost use Rattle.rail_base.specs.declared.limits.TheConstants.{MAX_TRIPS};
-ghost use Rattle.rail_io.specs.Folders.{OnlyReads, faults_after};
+ghost use Rattle.rail_io.specs.Folders.{CountsFault, OnlyReads};
 ghost use Rattle.timetable.specs.Running as running;
 ghost use Rattle.answer_text.specs.Limits.{has_plan};
 ghost use Rattle.planner_app.specs.DayOutcomes.{IsReportOutcome};
@@ -38,10 +38,9 @@ pub(crate) fn reported<F: Folder>(
     dir: &str,
     kind: ReportKind,
 ) -> Outcome
-    ensures outcome { IsAnswerReported F.holds F.may_fail F.faults F.taken dir.now kind folder.old folder.new result }
-    ensures only_reads { OnlyReads F.holds F.may_fail F.faults F.taken folder.old folder.new }
-    ensures fault_counted { F.counts_failed ≡ true
-        → F.faults folder.new ≡ faults_after (is_unread result) (F.faults folder.old) }
+    ensures outcome { IsAnswerReported dir.now kind (F.state folder.old) (F.state folder.new) result }
+    ensures only_reads { OnlyReads (F.state folder.old) (F.state folder.new) }
+    ensures fault_counted { CountsFault (is_unread result) (F.state folder.old) (F.state folder.new) }
 {
     let Answered { instance, answer } = match answered_in(alloc, folder, dir) {
         Ok(answered) => answered,

@@ -1,8 +1,8 @@
 //! From the words to the outcome: what each command does with the files of its folder.
 
-ghost use Rattle.std.specs.Prelude.{ℕ, true, false, ◌≡◌, ◌≤◌, ◌+◌, ◌*◌, ◌^◌, All, None, length};
+ghost use Rattle.std.specs.Prelude.{ℕ, false, ◌≡◌, ◌≤◌, ◌+◌, ◌*◌, ◌^◌, All, None, length};
 ghost use Rattle.rail_base.specs.declared.limits.TheConstants.{MAX_BRANCHINGS, MAX_ROUNDS, MAX_TRIPS};
-ghost use Rattle.rail_io.specs.Folders.{OnlyReads, faults_after};
+ghost use Rattle.rail_io.specs.Folders.{CountsFault, OnlyReads};
 ghost use Rattle.timetable.specs.Running.{IsPlan};
 ghost use Rattle.search.specs.Questions.{AreAsked, AreTheSame, LeavesAdvisors};
 ghost use Rattle.trial_day.specs.Trial.{IsTrialSize};
@@ -40,7 +40,7 @@ pub(crate) fn outcome_of<F: Folder>(
     requires asked { All (λ advisor. asked advisor ≤ 2 ^ 63) advisors.old.items }
 
     // What it comes to.
-    ensures outcome { IsOutcome F.holds F.may_fail F.faults F.taken words.now folder.old folder.new result }
+    ensures outcome { IsOutcome words.now (F.state folder.old) (F.state folder.new) result }
 
     // The advisors.
     ensures advisors { LeavesAdvisors (Grants words.now) advisors.old.items advisors.new.items identity asked
@@ -49,9 +49,8 @@ pub(crate) fn outcome_of<F: Folder>(
         → AreAskedFor rounds result advisors.old.items advisors.new.items asked has_quit }
 
     // The folder.
-    ensures only_reads { OnlyReads F.holds F.may_fail F.faults F.taken folder.old folder.new }
-    ensures fault_counted { F.counts_failed ≡ true
-        → F.faults folder.new ≡ faults_after (is_unread result) (F.faults folder.old) }
+    ensures only_reads { OnlyReads (F.state folder.old) (F.state folder.new) }
+    ensures fault_counted { CountsFault (is_unread result) (F.state folder.old) (F.state folder.new) }
     ensures untouched { AskForNoFolder words.now → folder.new ≡ folder.old }
 {
     match read_words(alloc, words) {
@@ -73,7 +72,7 @@ fn command_outcome<F: Folder>(
     requires asked { All (λ advisor. asked advisor ≤ 2 ^ 63) advisors.old.items }
 
     // What it comes to.
-    ensures outcome { ComesTo F.holds F.may_fail F.faults F.taken command.now folder.old folder.new result }
+    ensures outcome { ComesTo command.now (F.state folder.old) (F.state folder.new) result }
 
     // The advisors.
     ensures advisors { LeavesAdvisors (HasGrant command.now) advisors.old.items advisors.new.items identity asked
@@ -82,9 +81,8 @@ fn command_outcome<F: Folder>(
         → AreAskedFor rounds result advisors.old.items advisors.new.items asked has_quit }
 
     // The folder.
-    ensures only_reads { OnlyReads F.holds F.may_fail F.faults F.taken folder.old folder.new }
-    ensures fault_counted { F.counts_failed ≡ true
-        → F.faults folder.new ≡ faults_after (is_unread result) (F.faults folder.old) }
+    ensures only_reads { OnlyReads (F.state folder.old) (F.state folder.new) }
+    ensures fault_counted { CountsFault (is_unread result) (F.state folder.old) (F.state folder.new) }
     ensures untouched { folder_of command.now ≡ None → folder.new ≡ folder.old }
 {
     match command {
@@ -120,12 +118,11 @@ fn planned<F: Folder>(
     requires asked { All (λ advisor. asked advisor ≤ 2 ^ 63) advisors.old.items }
 
     // What it comes to.
-    ensures outcome { IsDayPlanned F.holds F.may_fail F.faults F.taken dir.now grant folder.old folder.new result }
+    ensures outcome { IsDayPlanned dir.now grant (F.state folder.old) (F.state folder.new) result }
 
     // The folder.
-    ensures only_reads { OnlyReads F.holds F.may_fail F.faults F.taken folder.old folder.new }
-    ensures fault_counted { F.counts_failed ≡ true
-        → F.faults folder.new ≡ faults_after (is_unread result) (F.faults folder.old) }
+    ensures only_reads { OnlyReads (F.state folder.old) (F.state folder.new) }
+    ensures fault_counted { CountsFault (is_unread result) (F.state folder.old) (F.state folder.new) }
 
     // The advisors.
     ensures advisors { AreTheSame advisors.old.items advisors.new.items identity }
@@ -204,10 +201,9 @@ fn tried(
 
 /// Runs the plan of a folder.
 fn simulated<F: Folder>(alloc: Global, folder: &mut F, dir: &str) -> Outcome
-    ensures outcome { IsPlanRun F.holds F.may_fail F.faults F.taken dir.now folder.old folder.new result }
-    ensures only_reads { OnlyReads F.holds F.may_fail F.faults F.taken folder.old folder.new }
-    ensures fault_counted { F.counts_failed ≡ true
-        → F.faults folder.new ≡ faults_after (is_unread result) (F.faults folder.old) }
+    ensures outcome { IsPlanRun dir.now (F.state folder.old) (F.state folder.new) result }
+    ensures only_reads { OnlyReads (F.state folder.old) (F.state folder.new) }
+    ensures fault_counted { CountsFault (is_unread result) (F.state folder.old) (F.state folder.new) }
 {
     match inputs_in(alloc, folder, dir) {
         Ok(inputs) => simulated_plan(alloc, &inputs),
@@ -230,10 +226,9 @@ fn simulated_plan(alloc: Global, inputs: &Inputs) -> Outcome
 
 /// Checks the answer of a folder.
 fn checked<F: Folder>(alloc: Global, folder: &mut F, dir: &str) -> Outcome
-    ensures outcome { IsAnswerChecked F.holds F.may_fail F.faults F.taken dir.now folder.old folder.new result }
-    ensures only_reads { OnlyReads F.holds F.may_fail F.faults F.taken folder.old folder.new }
-    ensures fault_counted { F.counts_failed ≡ true
-        → F.faults folder.new ≡ faults_after (is_unread result) (F.faults folder.old) }
+    ensures outcome { IsAnswerChecked dir.now (F.state folder.old) (F.state folder.new) result }
+    ensures only_reads { OnlyReads (F.state folder.old) (F.state folder.new) }
+    ensures fault_counted { CountsFault (is_unread result) (F.state folder.old) (F.state folder.new) }
 {
     match answered_in(alloc, folder, dir) {
         Ok(answered) => checked_answer(alloc, &answered.instance, &answered.answer),

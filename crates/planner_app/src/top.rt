@@ -1,7 +1,7 @@
 //! The top call: it reads a folder, writes one document and answers a status.
 
 ghost use Rattle.std.specs.Prelude.{ℕ, true, List, ◌≡◌, ◌≤◌, ◌^◌, Some, All};
-ghost use Rattle.rail_io.specs.Folders.{Files, faults_after};
+ghost use Rattle.rail_io.specs.Folders.{CountsFault, Files};
 ghost use Rattle.search.specs.Questions.{LeavesAdvisors};
 ghost use Rattle.statuses.specs.Endings.{EndsInUsage, LeavesFolder, LeavesSink};
 ghost use Rattle.statuses.specs.Written.{CountsFailedWrites, IsStatus, IsUndisturbed};
@@ -119,14 +119,16 @@ pub fn railplan<F: Folder, K: Sink>(
     requires asked { All (λ advisor. asked advisor ≤ 2 ^ 63) advisors.old.items }
 
     // What the status means and what was written, command by command, where the status is none of 5, 6 and 7.
-    ensures plan { (files : Files) (dir : List ℕ) (nodes rounds : ℕ) → F.holds folder.old ≡ Some files
+    ensures plan { (files : Files) (dir : List ℕ) (nodes rounds : ℕ) → (F.state folder.old).holds ≡ Some files
         → AskToPlan words.now dir nodes rounds → IsUndisturbed result
         → EndsPlanning refused_line files dir nodes result (K.written out.old) (K.written out.new) }
-    ensures simulate { (files : Files) (dir : List ℕ) → F.holds folder.old ≡ Some files → AskToSimulate words.now dir
-        → IsUndisturbed result → EndsSimulation files dir result (K.written out.old) (K.written out.new) }
-    ensures check { (files : Files) (dir : List ℕ) → F.holds folder.old ≡ Some files → AskToCheck words.now dir
-        → IsUndisturbed result → EndsCheck files dir result (K.written out.old) (K.written out.new) }
-    ensures report { (files : Files) (dir : List ℕ) (kind : ReportKind) → F.holds folder.old ≡ Some files
+    ensures simulate { (files : Files) (dir : List ℕ) → (F.state folder.old).holds ≡ Some files
+        → AskToSimulate words.now dir → IsUndisturbed result
+        → EndsSimulation files dir result (K.written out.old) (K.written out.new) }
+    ensures check { (files : Files) (dir : List ℕ) → (F.state folder.old).holds ≡ Some files
+        → AskToCheck words.now dir → IsUndisturbed result
+        → EndsCheck files dir result (K.written out.old) (K.written out.new) }
+    ensures report { (files : Files) (dir : List ℕ) (kind : ReportKind) → (F.state folder.old).holds ≡ Some files
         → AskToReport words.now kind dir → IsUndisturbed result
         → EndsReport files dir kind result (K.written out.old) (K.written out.new) }
     ensures trial { (seed trips nodes rounds : ℕ) → AskToTry words.now seed trips nodes rounds → IsUndisturbed result
@@ -139,16 +141,14 @@ pub fn railplan<F: Folder, K: Sink>(
     // that is 6 or 7. Whether a read failed, where the folder counts its failed calls, and how the advisors were asked
     // is as it tells.
     ensures document { (outcome : Outcome)
-        × IsOutcome F.holds F.may_fail F.faults F.taken words.now folder.old folder.new outcome
+        × IsOutcome words.now (F.state folder.old) (F.state folder.new) outcome
         × WroteOutcome outcome result (K.written out.old) (K.written out.new) (K.faults out.old) (K.faults out.new)
-        × (F.counts_failed ≡ true
-        → F.faults folder.new ≡ faults_after (is_unread outcome) (F.faults folder.old))
+        × CountsFault (is_unread outcome) (F.state folder.old) (F.state folder.new)
         × ((nodes rounds : ℕ) → Grants words.now nodes rounds
         → AreAskedFor rounds outcome advisors.old.items advisors.new.items asked has_quit) }
 
     // How the folder, the sink and the advisors are left, whatever the status is.
-    ensures folder { LeavesFolder F.holds F.may_fail F.faults F.taken F.counts_failed (AskForNoFolder words.now) result
-        folder.old folder.new }
+    ensures folder { LeavesFolder F.state (AskForNoFolder words.now) result folder.old folder.new }
     ensures sink { LeavesSink K.counts_failed result (K.written out.old) (K.written out.new) (K.faults out.old)
         (K.faults out.new) }
     ensures advisors { LeavesAdvisors (Grants words.now) advisors.old.items advisors.new.items identity asked

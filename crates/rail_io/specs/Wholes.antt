@@ -1,7 +1,7 @@
 -- What a read of a whole file did.
-use Rattle.std.specs.Prelude.{◌≡◌, ℕ, Bool, true, ◌+◌, ◌<◌, ◌≤◌, List, length, Option, Some, IsTrue, Result, IfOk, ⊤}
+use Rattle.std.specs.Prelude.{◌≡◌, ℕ, Bool, true, ◌+◌, ◌<◌, ◌≤◌, List, length, Some, IsTrue, Result, IfOk, ⊤}
 use Rattle.std.specs.Prelude.{IsErrOf, false, Ok, Err}
-use Rattle.rail_io.specs.Folders.{Files, OnlyReads, Rose, RosePast, faults_after, file_at}
+use Rattle.rail_io.specs.Folders.{CountsFault, Files, FolderState, OnlyReads, Rose, RosePast, file_at}
 use Rattle.rail_io.specs.declared.whole.FileRefusal.{FileRefusal}
 use Rattle.rail_io.specs.declared.whole.FileRefusal.TheVariants.{NoMemory, ReadFault, TooLong}
 
@@ -16,16 +16,15 @@ tells_read_fault (Err NoMemory) = false
 -- failed read and a file that is too long are caused by; want of memory has no cause. Where the count of faults is that
 -- of failed calls, it is one more where the answer is that a read failed, unless it stands at its last value, and else
 -- the same
-pub record HasRead {F : Type 0} (holds : F → Option Files) (may_fail : F → List ℕ → Bool) (faults taken : F → ℕ)
-    (counts_failed : Bool) (before after : F) (path : List ℕ) (limit : ℕ) (bytes : List ℕ)
+pub record HasRead (before after : FolderState) (path : List ℕ) (limit : ℕ) (bytes : List ℕ)
     (answer : Result ⊤ FileRefusal) : Type 0 where
-  pub told : (files : Files) → holds before ≡ Some files → IfOk answer (λ _. bytes ≡ file_at files path)
+  pub told : (files : Files) → before.holds ≡ Some files → IfOk answer (λ _. bytes ≡ file_at files path)
   pub within : IfOk answer (λ _. length bytes ≤ limit)
-  pub longer : (files : Files) → holds before ≡ Some files → IsErrOf answer TooLong
+  pub longer : (files : Files) → before.holds ≡ Some files → IsErrOf answer TooLong
       → limit < length (file_at files path)
-  pub fault : IsErrOf answer ReadFault → Rose (faults before) (faults after)
-  pub may : IsErrOf answer ReadFault → IsTrue (may_fail before path)
-  pub too_long : IsErrOf answer TooLong → RosePast limit (taken before) (taken after)
-  pub fault_counted : counts_failed ≡ true → faults after ≡ faults_after (tells_read_fault answer) (faults before)
-  pub only_reads : OnlyReads holds may_fail faults taken before after
-  pub taken_at_most : IfOk answer (λ _. taken after ≤ taken before + length bytes)
+  pub fault : IsErrOf answer ReadFault → Rose before.faults after.faults
+  pub may : IsErrOf answer ReadFault → IsTrue (before.may_fail path)
+  pub too_long : IsErrOf answer TooLong → RosePast limit before.taken after.taken
+  pub fault_counted : CountsFault (tells_read_fault answer) before after
+  pub only_reads : OnlyReads before after
+  pub taken_at_most : IfOk answer (λ _. after.taken ≤ before.taken + length bytes)

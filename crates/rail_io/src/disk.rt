@@ -120,13 +120,13 @@ impl<'a, R: Files> DiskFolder<'a, R> {
 }
 
 impl<'a, R: Files> Folder for DiskFolder<'a, R> {
-    ghost holds = { λ _. None };
-
-    ghost faults = { λ folder. folder.faults };
-
-    ghost counts_failed = { true };
-
-    ghost taken = { λ folder. folder.taken };
+    ghost state = { λ folder. record {
+      holds = None;
+      may_fail = λ _. true;
+      faults = folder.faults;
+      taken = folder.taken;
+      counts_failed = true;
+    } };
 
     fn read_at(&mut self, path: &str, from: u64, into: &mut [u8]) -> Result<usize, Failed>
         // What the trait asks.

@@ -1,8 +1,8 @@
 //! A folder: a place from which files are read piece by piece.
 
-ghost use Rattle.std.specs.Prelude.{◌≡◌, ◌≤◌, ℕ, Bool, true, false, List, Option, Some, IsTrue, length, IfOk, OnErr};
+ghost use Rattle.std.specs.Prelude.{◌≡◌, ◌≤◌, Some, IsTrue, length, IfOk, OnErr};
 ghost use Rattle.std.specs.Result.{is_err};
-ghost use Rattle.rail_io.specs.Folders.{Files, IsReadFrom, OnlyReads, Rose, RoseBy, faults_after, file_at};
+ghost use Rattle.rail_io.specs.Folders.{CountsFault, Files, FolderState, IsReadFrom, OnlyReads, Rose, RoseBy, file_at};
 
 use thiserror::Error;
 
@@ -13,21 +13,13 @@ pub struct Failed;
 
 /// A place from which files are read piece by piece. A path that it does not name has the empty file.
 pub trait Folder {
-    /// What is held, the bytes of each path, or `None` where the folder does not tell. It never changes.
-    ghost holds: { Self → Option Files };
-
-    /// A count of faults: a call that fails raises it, or finds it at a counter's last value, 2^64 - 1. It never falls.
-    ghost faults: { Self → ℕ };
-
-    /// How many bytes were handed out, exactly so up to 2^63. It never falls.
-    ghost taken: { Self → ℕ };
-
-    /// Whether a read of a path may fail: where nothing else is said, each may. It never changes.
-    ghost may_fail: { Self → List ℕ → Bool } = { λ _ _. true };
-
-    /// Whether the count of faults is that of failed calls: each raises it by one, below its last value, and no other
-    /// call changes it. Where nothing else is said, it need not be.
-    ghost counts_failed: { Bool } = { false };
+    /// What a contract says of the folder as it stands. Its field `holds` is what it holds, the bytes of each path, or
+    /// `None` where it does not tell; `faults` is a count of faults, which a call that fails raises, or finds at a
+    /// counter's last value, 2^64 - 1; `taken` is how many bytes were handed out, exactly so up to 2^63. `may_fail`
+    /// says whether a read of a path may fail, and `counts_failed` whether the count of faults is that of failed calls:
+    /// each raises it by one, below its last value, and no other call changes it. The two counts never fall, and the
+    /// other fields never change. Where no more is known, `may_fail` is `λ _. true` and `counts_failed` is `false`.
+    ghost state: { Self → FolderState };
 
     /// Puts bytes of the path's file, from place `from` on, at the front of `into`, and answers how many. Where the
     /// folder tells what it holds, it answers 0 exactly where `into` is empty or nothing is left from there on. What
@@ -37,15 +29,14 @@ pub trait Folder {
     /// by one, below its last value, and any other read leaves it.
     fn read_at(&mut self, path: &str, from: u64, into: &mut [u8]) -> Result<usize, Failed>
         // What is handed out.
-        ensures told { (files : Files) → holds self.old ≡ Some files →
+        ensures told { (files : Files) → (state self.old).holds ≡ Some files →
             IfOk result (λ n. IsReadFrom (file_at files path.now) from n into.new) }
         ensures room { IfOk result (λ n. n ≤ length into.new) }
-        ensures taken { IfOk result (λ n. RoseBy n (taken self.old) (taken self.new)) }
+        ensures taken { IfOk result (λ n. RoseBy n (state self.old).taken (state self.new).taken) }
 
         // When a read fails, and what stays.
-        ensures fault { OnErr result (Rose (faults self.old) (faults self.new)) }
-        ensures may { OnErr result (IsTrue (may_fail self.old path.now)) }
-        ensures fault_counted { counts_failed ≡ true
-            → faults self.new ≡ faults_after (is_err result) (faults self.old) }
-        ensures only_reads { OnlyReads holds may_fail faults taken self.old self.new };
+        ensures fault { OnErr result (Rose (state self.old).faults (state self.new).faults) }
+        ensures may { OnErr result (IsTrue ((state self.old).may_fail path.now)) }
+        ensures fault_counted { CountsFault (is_err result) (state self.old) (state self.new) }
+        ensures only_reads { OnlyReads (state self.old) (state self.new) };
 }

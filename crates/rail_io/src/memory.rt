@@ -134,15 +134,13 @@ impl MemoryFolder {
 }
 
 impl Folder for MemoryFolder {
-    ghost holds = { λ folder. Some folder.files };
-
-    ghost faults = { λ folder. folder.faults };
-
-    ghost counts_failed = { true };
-
-    ghost taken = { λ folder. folder.taken };
-
-    ghost may_fail = { λ folder path. read_may_fail folder path };
+    ghost state = { λ folder. record {
+      holds = Some folder.files;
+      may_fail = read_may_fail folder;
+      faults = folder.faults;
+      taken = folder.taken;
+      counts_failed = true;
+    } };
 
     fn read_at(&mut self, path: &str, from: u64, into: &mut [u8]) -> Result<usize, Failed>
         // What the trait asks.

@@ -50,15 +50,13 @@ impl SureFolder {
 }
 
 impl Folder for SureFolder {
-    ghost holds = { λ folder. Some folder.files };
-
-    ghost faults = { λ _. 0 };
-
-    ghost counts_failed = { true };
-
-    ghost taken = { λ folder. folder.taken };
-
-    ghost may_fail = { λ _ _. false };
+    ghost state = { λ folder. record {
+      holds = Some folder.files;
+      may_fail = λ _. false;
+      faults = 0;
+      taken = folder.taken;
+      counts_failed = true;
+    } };
 
     fn read_at(&mut self, path: &str, from: u64, into: &mut [u8]) -> Result<usize, Failed>
         ensures told { IfOk result (λ n. IsReadFrom (file_at self.old.files path.now) from n into.new) }

@@ -2,7 +2,7 @@
 
 ghost use Rattle.std.specs.Prelude.{◌≡◌, ◌+◌, ◌<◌, ◌≤◌, [], Some, true, IsTrue, length, IfOk, IsErrOf, OnOk, OnErr};
 ghost use Rattle.std.specs.Result.{is_err};
-ghost use Rattle.rail_io.specs.Folders.{Files, OnlyReads, Rose, RosePast, faults_after, file_at};
+ghost use Rattle.rail_io.specs.Folders.{CountsFault, Files, OnlyReads, Rose, RosePast, faults_after, file_at};
 ghost use Rattle.rail_io.specs.Sinks.{Appends, AppendsPart};
 ghost use Rattle.rail_io.specs.Wholes.{HasRead, tells_read_fault};
 ghost use Rattle.rail_io.specs.declared.whole.FileRefusal.TheVariants.{NoMemory, ReadFault};
@@ -64,22 +64,24 @@ pub fn read_file<F: Folder>(
     requires { limit ≤ MAX_FILE_BYTES }
 
     // The bytes, where the folder tells what it holds, and how many there are.
-    ensures told { (files : Files) → F.holds folder.old ≡ Some files →
+    ensures told { (files : Files) → (F.state folder.old).holds ≡ Some files →
         IfOk result (λ bytes. bytes.items ≡ file_at files path.now) }
     ensures within { IfOk result (λ bytes. length bytes.items ≤ limit) }
-    ensures longer { (files : Files) → F.holds folder.old ≡ Some files →
+    ensures longer { (files : Files) → (F.state folder.old).holds ≡ Some files →
         IsErrOf result FileRefusal.TooLong → limit < length (file_at files path.now) }
 
     // What each refusal is caused by, and by how much the count of faults rises.
-    ensures fault { IsErrOf result FileRefusal.ReadFault → Rose (F.faults folder.old) (F.faults folder.new) }
-    ensures may { IsErrOf result FileRefusal.ReadFault → IsTrue (F.may_fail folder.old path.now) }
-    ensures too_long { IsErrOf result FileRefusal.TooLong → RosePast limit (F.taken folder.old) (F.taken folder.new) }
-    ensures fault_counted { F.counts_failed ≡ true
-        → F.faults folder.new ≡ faults_after (tells_read_fault result) (F.faults folder.old) }
+    ensures fault { IsErrOf result FileRefusal.ReadFault
+        → Rose (F.state folder.old).faults (F.state folder.new).faults }
+    ensures may { IsErrOf result FileRefusal.ReadFault → IsTrue ((F.state folder.old).may_fail path.now) }
+    ensures too_long { IsErrOf result FileRefusal.TooLong
+        → RosePast limit (F.state folder.old).taken (F.state folder.new).taken }
+    ensures fault_counted { CountsFault (tells_read_fault result) (F.state folder.old) (F.state folder.new) }
 
     // What stays.
-    ensures only_reads { OnlyReads F.holds F.may_fail F.faults F.taken folder.old folder.new }
-    ensures taken_at_most { IfOk result (λ bytes. F.taken folder.new ≤ F.taken folder.old + length bytes.items) }
+    ensures only_reads { OnlyReads (F.state folder.old) (F.state folder.new) }
+    ensures taken_at_most { IfOk result (λ bytes.
+        (F.state folder.new).taken ≤ (F.state folder.old).taken + length bytes.items) }
 {
     let mut bytes = Vec::new(alloc);
     read_into(folder, path, limit, &mut bytes)?;
@@ -95,8 +97,7 @@ fn read_into<F: Folder>(
 ) -> Result<(), FileRefusal>
     requires small { limit ≤ MAX_FILE_BYTES }
     requires empty { bytes.old.items ≡ [] }
-    ensures { HasRead F.holds F.may_fail F.faults F.taken F.counts_failed folder.old folder.new path.now limit
-        bytes.new.items result }
+    ensures { HasRead (F.state folder.old) (F.state folder.new) path.now limit bytes.new.items result }
 {
     let mut piece = [0; PIECE_BYTES];
     loop {

@@ -2,7 +2,7 @@
 use Rattle.std.specs.Prelude.{ℕ, ◌≡◌, ◌<◌, ◌≤◌, List, length, codes, Bool, true, false, IsTrue, Result, ⊤}
 use Rattle.std.specs.Prelude.{Ok, Err}
 use Rattle.rail_base.specs.declared.limits.TheConstants.{MAX_FILE_BYTES}
-use Rattle.rail_io.specs.Folders.{Files, Rose, RosePast, file_at}
+use Rattle.rail_io.specs.Folders.{Files, FolderState, Rose, RosePast, file_at}
 use Rattle.day_files.specs.OneFile.{path_in}
 use Rattle.answer_text.specs.declared.answer.Answer.{Answer}
 use Rattle.answer_text.specs.declared.refusal.AnswerRefusal.{AnswerRefusal}
@@ -55,10 +55,8 @@ is_unread (Refused refusal) = false
 -- What an error says whatever the folder tells: the file could not be read only where the count of faults rose and a
 -- read of it may fail; it was too long only where more bytes were taken than an answer may have, or the count of them
 -- was at 2^63; and for any other refusal there are bytes that are refused for it.
-abbrev pub IsAnswerCaused : {F : Type 0} → (F → List ℕ → Bool) → (F → ℕ) → (F → ℕ) → List ℕ → F → F → AnswerError
-    → Type 0
-IsAnswerCaused may_fail faults taken dir before after CannotRead =
-    Rose (faults before) (faults after) × IsTrue (may_fail before (answer_path dir))
-IsAnswerCaused may_fail faults taken dir before after TooLong = RosePast MAX_FILE_BYTES (taken before) (taken after)
-IsAnswerCaused may_fail faults taken dir before after (Refused refusal) =
-    (bytes : List ℕ) × AreNoAnswer bytes refusal
+abbrev pub IsAnswerCaused : List ℕ → FolderState → FolderState → AnswerError → Type 0
+IsAnswerCaused dir before after CannotRead =
+    Rose before.faults after.faults × IsTrue (before.may_fail (answer_path dir))
+IsAnswerCaused dir before after TooLong = RosePast MAX_FILE_BYTES before.taken after.taken
+IsAnswerCaused dir before after (Refused refusal) = (bytes : List ℕ) × AreNoAnswer bytes refusal

@@ -1,7 +1,7 @@
 -- What was read of a folder, or the error that its tables came to, by whichever program.
-use Rattle.std.specs.Prelude.{ℕ, ◌≡◌, List, Bool, Option, Some, Result, Ok, Err}
+use Rattle.std.specs.Prelude.{ℕ, ◌≡◌, List, Some, Result, Ok, Err}
 use Rattle.rail_csv.specs.declared.rows.Table.{Table}
-use Rattle.rail_io.specs.Folders.{Files}
+use Rattle.rail_io.specs.Folders.{Files, FolderState}
 use Rattle.timetable.specs.Day.{Day}
 use Rattle.day_files.specs.declared.errors.Refusal.{Refusal}
 use Rattle.day_files.specs.declared.errors.ReadError.{ReadError}
@@ -14,21 +14,19 @@ use Rattle.day_files.specs.Tables.{IsMadeDay, IsMadePlan}
 -- The reading of these tables of a folder, from the folder before to the same folder after, came to an error. Where the
 -- folder tells what it holds, the error is what is said of the files; and it is one of these tables and has its cause,
 -- whatever the folder tells.
-pub record IsReadError {F Y : Type 0} (holds : F → Option Files) (may_fail : F → List ℕ → Bool) (faults taken : F → ℕ)
-    (AreRead : Table → Type 0) (said : Files → Result Y Refusal) (dir : List ℕ) (before after : F) (error : ReadError)
-    : Type 0 where
-  pub told : (files : Files) → holds before ≡ Some files → Reads {Y = Y} (Reaches files dir) (Err error) (said files)
+pub record IsReadError {Y : Type 0} (AreRead : Table → Type 0) (said : Files → Result Y Refusal) (dir : List ℕ)
+    (before after : FolderState) (error : ReadError) : Type 0 where
+  pub told : (files : Files) → before.holds ≡ Some files → Reads {Y = Y} (Reaches files dir) (Err error) (said files)
   pub says : IsErrorOf AreRead error
-  pub caused : IsCaused may_fail faults taken dir before after error
+  pub caused : IsCaused dir before after error
 
 -- a day that tables make was read: where the folder tells what it holds, the one that its tables make
-pub record IsReadDay {F : Type 0} (holds : F → Option Files) (dir : List ℕ) (before : F) (day : Day) : Type 0 where
+pub record IsReadDay (dir : List ℕ) (before : FolderState) (day : Day) : Type 0 where
   pub made : IsMadeDay day
-  pub told : (files : Files) → holds before ≡ Some files → day_in files dir ≡ Ok day
+  pub told : (files : Files) → before.holds ≡ Some files → day_in files dir ≡ Ok day
 
 -- a day and a plan of it were read, likewise
-pub record AreReadInputs {F : Type 0} (holds : F → Option Files) (dir : List ℕ) (before : F) (inputs : Inputs) : Type 0
-  where
-    pub made : IsMadeDay inputs.instance
-    pub made_plan : IsMadePlan inputs.instance inputs.plan
-    pub told : (files : Files) → holds before ≡ Some files → inputs_in files dir ≡ Ok inputs
+pub record AreReadInputs (dir : List ℕ) (before : FolderState) (inputs : Inputs) : Type 0 where
+  pub made : IsMadeDay inputs.instance
+  pub made_plan : IsMadePlan inputs.instance inputs.plan
+  pub told : (files : Files) → before.holds ≡ Some files → inputs_in files dir ≡ Ok inputs

@@ -1,7 +1,7 @@
 //! The answer of a folder, read from its file.
 
-ghost use Rattle.std.specs.Prelude.{◌≡◌, true, ◌≤◌, Some, IfOk, IfErr, length};
-ghost use Rattle.rail_io.specs.Folders.{Files, OnlyReads, faults_after};
+ghost use Rattle.std.specs.Prelude.{◌≡◌, ◌≤◌, false, Some, IfOk, IfErr, length};
+ghost use Rattle.rail_io.specs.Folders.{CountsFault, Files, OnlyReads};
 ghost use Rattle.day_files.specs.OneFile.{tells_unread};
 ghost use Rattle.answer_text.specs.Limits.{IsAnswerWithin};
 ghost use Rattle.rail_base.specs.declared.limits.TheConstants.{MAX_FILE_BYTES, MAX_NODES};
@@ -47,14 +47,14 @@ pub fn answer_in<F: Folder>(
     folder: &mut F,
     dir: &str,
 ) -> Result<Result<Answer, AnswerError>, NoMemory>
-    ensures told { (files : Files) → F.holds folder.old ≡ Some files → IfOk result (ReadsAnswer files dir.now) }
+    ensures told { (files : Files) → (F.state folder.old).holds ≡ Some files → IfOk result (ReadsAnswer files dir.now) }
     ensures within { IfOk result (λ read. IfOk read (IsAnswerWithin MAX_NODES)) }
     ensures caused { IfOk result (λ read.
-        IfErr read (IsAnswerCaused F.may_fail F.faults F.taken dir.now folder.old folder.new)) }
-    ensures fault_counted { F.counts_failed ≡ true → IfOk result (λ read.
-        F.faults folder.new ≡ faults_after (tells_unread is_unread read) (F.faults folder.old)) }
-    ensures unfaulted { F.counts_failed ≡ true → IfErr result (λ _. F.faults folder.new ≡ F.faults folder.old) }
-    ensures only_reads { OnlyReads F.holds F.may_fail F.faults F.taken folder.old folder.new }
+        IfErr read (IsAnswerCaused dir.now (F.state folder.old) (F.state folder.new))) }
+    ensures fault_counted { IfOk result (λ read.
+        CountsFault (tells_unread is_unread read) (F.state folder.old) (F.state folder.new)) }
+    ensures unfaulted { IfErr result (λ _. CountsFault false (F.state folder.old) (F.state folder.new)) }
+    ensures only_reads { OnlyReads (F.state folder.old) (F.state folder.new) }
 {
     let bytes = match file_in(alloc, folder, dir, ANSWER_FILE, MAX_FILE_BYTES) {
         Ok(bytes) => bytes,

@@ -1,18 +1,19 @@
 -- How a run leaves the folder that it reads and the sink that it writes to, whatever it comes to; and how one ends
 -- whose words ask for nothing.
 use Rattle.std.specs.Prelude.{ℕ, ◌≡◌, ◌≤◌, ◌↔◌, List, Option, Bool, true}
-use Rattle.rail_io.specs.Folders.{Files, OnlyReads, Rose}
+use Rattle.rail_io.specs.Folders.{FolderState, OnlyReads, Rose}
 use Rattle.rail_io.specs.Sinks.{Appends}
 use Rattle.statuses.specs.Written.{CountsFailedReads, CountsFailedWrites}
 
 -- The folder after a run that ended with this status: it was only read, and left alone where the words ask for no
 -- command on one; 5 comes only where its count of faults rose, and one that counts failed calls tells of one at most.
-pub record LeavesFolder {F : Type 0} (holds : F → Option Files) (may_fail : F → List ℕ → Bool) (faults taken : F → ℕ)
-    (counts_failed : Bool) (AskForNoFolder : Type 0) (status : ℕ) (before after : F) : Type 0 where
-  pub only_reads : OnlyReads holds may_fail faults taken before after
+pub record LeavesFolder {F : Type 0} (state : F → FolderState) (AskForNoFolder : Type 0) (status : ℕ)
+    (before after : F) : Type 0 where
+  pub only_reads : OnlyReads (state before) (state after)
   pub untouched : AskForNoFolder → after ≡ before
-  pub unread : status ≡ 5 → Rose (faults before) (faults after)
-  pub failed_reads : counts_failed ≡ true → CountsFailedReads status (faults before) (faults after)
+  pub unread : status ≡ 5 → Rose (state before).faults (state after).faults
+  pub failed_reads : (state before).counts_failed ≡ true
+      → CountsFailedReads status (state before).faults (state after).faults
 
 -- The sink after a run that ended with this status: 6 comes only where its count of faults rose, with 7 nothing was
 -- written, one that counts failed calls tells of one at most, and no count falls.

@@ -1,10 +1,10 @@
 -- The days that were read so far, and what ends the reading.
-use Rattle.std.proofs.Common.{◌≡◌, ◌≢◌, ℕ, zero, suc, ◌+◌, ◌-◌, ◌<◌, ◌≤◌, List, [], ◌∷◌, ◌++◌, length, All, Bool, true, false, Option, Some, Ok, Err, refl, sym, subst, ap, ◌∙◌, inl, inr, arith}
+use Rattle.std.proofs.Common.{◌≡◌, ◌≢◌, ℕ, zero, suc, ◌+◌, ◌-◌, ◌<◌, ◌≤◌, List, [], ◌∷◌, ◌++◌, length, All, Bool, false, Some, Ok, Err, refl, sym, subst, ap, ◌∙◌, inl, inr, arith}
 use Rattle.std.specs.Prelude.{IsTrue}
 use Rattle.std.proofs.lemmas.List.{length-append}
 use Rattle.std.proofs.lemmas.List.Elements.{All-append, All-cons, All-nil}
 use Rattle.rail_csv.specs.declared.rows.Table.TheVariants.{Plan}
-use Rattle.rail_io.specs.Folders.{Files, OnlyReads, Rose, faults_after}
+use Rattle.rail_io.specs.Folders.{CountsFault, Files, FolderState, OnlyReads, Rose, faults_after}
 use Rattle.rail_io.proofs.Calls.{OnlyReads-then}
 use Rattle.timetable.specs.Day.{Day}
 use Rattle.day_files.specs.declared.errors.Refusal.TheVariants as refusal
@@ -50,14 +50,13 @@ module _ (files : Files) (dir : List ℕ) where
 
 -- ---- causes
 
-module _ {F : Type 0} (holds : F → Option Files) (may_fail : F → List ℕ → Bool) (faults taken : F → ℕ) (dir : List ℕ) (before between after : F)
-    (only : OnlyReads holds may_fail faults taken before between) where
-  rose_since : Rose (faults between) (faults after) → Rose (faults before) (faults after)
+module _ (dir : List ℕ) (before between after : FolderState) (only : OnlyReads before between) where
+  rose_since : Rose between.faults after.faults → Rose before.faults after.faults
   rose_since (inl more) = inl (omega (arith, only.lasting, more))
   rose_since (inr last) = inr last
 
   -- a cause since later is one since earlier
-  pub caused_since : (error : ReadError) → IsCaused may_fail faults taken dir between after error → IsCaused may_fail faults taken dir before after error
+  pub caused_since : (error : ReadError) → IsCaused dir between after error → IsCaused dir before after error
   caused_since (read_error.CannotRead table) caused = (
     rose_since caused.0,
     subst (λ (may : List ℕ → Bool). IsTrue (may (path_of dir table))) only.steady caused.1,
@@ -71,22 +70,22 @@ module _ {F : Type 0} (holds : F → Option Files) (may_fail : F → List ℕ �
 
 -- ---- the reading
 
-module _ {F : Type 0} (holds : F → Option Files) (may_fail : F → List ℕ → Bool) (faults taken : F → ℕ) (counts_failed : Bool) (dir : List ℕ) (before : F) where
+module _ (dir : List ℕ) (before : FolderState) where
   -- so many days were read, from the folder before to this one
-  pub record HaveRead (now : F) (place : ℕ) (days : List Day) : Type 0 where
+  pub record HaveRead (now : FolderState) (place : ℕ) (days : List Day) : Type 0 where
     pub count : length days ≡ place
     pub made : All IsMadeDay days
-    pub told : (files : Files) → holds before ≡ Some files → AreDaysFrom files dir 1 days
-    pub counted : counts_failed ≡ true → faults now ≡ faults before
-    pub only_reads : OnlyReads holds may_fail faults taken before now
+    pub told : (files : Files) → before.holds ≡ Some files → AreDaysFrom files dir 1 days
+    pub counted : CountsFault false before now
+    pub only_reads : OnlyReads before now
 
   -- the reading ended so, of so many days
-  pub record HasEnded (after : F) (count : ℕ) (error : DayError) : Type 0 where
-    pub told : (files : Files) → holds before ≡ Some files → IsEndedAt files dir error
+  pub record HasEnded (after : FolderState) (count : ℕ) (error : DayError) : Type 0 where
+    pub told : (files : Files) → before.holds ≡ Some files → IsEndedAt files dir error
     pub says : IsErrorAt count error
-    pub caused : IsCausedAt may_fail faults taken dir before after error
-    pub counted : counts_failed ≡ true → faults after ≡ faults_after (is_day_unread error) (faults before)
-    pub only_reads : OnlyReads holds may_fail faults taken before after
+    pub caused : IsCausedAt dir before after error
+    pub counted : CountsFault (is_day_unread error) before after
+    pub only_reads : OnlyReads before after
 
   none : HaveRead before 0 []
   none = record {
@@ -94,26 +93,25 @@ module _ {F : Type 0} (holds : F → Option Files) (may_fail : F → List ℕ �
     made = All-nil IsMadeDay;
     told = λ files tells. tt;
     counted = λ counting. refl;
-    only_reads = record { same = refl; steady = refl; lasting = omega arith; growing = omega arith };
+    only_reads = record { same = refl; steady = refl; counting = refl; lasting = omega arith; growing = omega arith };
   }
 
   pub none_read : (days : List Day) → days ≡ [] → HaveRead before 0 days
   none_read days are = subst (HaveRead before 0) (sym are) none
 
   -- all days were read
-  pub read_all : (now : F) (place : ℕ) (days : List Day) → HaveRead now place days → (count : ℕ) → place ≤ count → count ≤ place
-      → (files : Files) → holds before ≡ Some files → AreDaysIn files dir count days
+  pub read_all : (now : FolderState) (place : ℕ) (days : List Day) → HaveRead now place days → (count : ℕ) → place ≤ count → count ≤ place
+      → (files : Files) → before.holds ≡ Some files → AreDaysIn files dir count days
   read_all now place days so count most least files tells =
       record { as_many = (let long = so.count in omega (arith, long, most, least)); each = so.told files tells }
 
-  module _ (between after : F) (place : ℕ) (days : List Day) (so : HaveRead between place days)
-      (only : OnlyReads holds may_fail faults taken between after) where
-    only_all : OnlyReads holds may_fail faults taken before after
-    only_all = OnlyReads-then holds may_fail faults taken before between after so.only_reads only
+  module _ (between after : FolderState) (place : ℕ) (days : List Day) (so : HaveRead between place days) (only : OnlyReads between after) where
+    only_all : OnlyReads before after
+    only_all = OnlyReads-then before between after so.only_reads only
 
     pub one_more_read : (day : Day) (all : List Day) → all ≡ days ++ day ∷ [] → IsMadeDay day
-        → ((files : Files) → holds between ≡ Some files → ReadsDay files dir (place + 1) (Ok day))
-        → (counts_failed ≡ true → faults after ≡ faults between) → HaveRead after (place + 1) all
+        → ((files : Files) → between.holds ≡ Some files → ReadsDay files dir (place + 1) (Ok day))
+        → CountsFault false between after → HaveRead after (place + 1) all
     one_more_read day all is made told counted = subst (HaveRead after (place + 1)) (sym is) (record {
       count = length-append days (day ∷ []) ∙ ap (λ (n : ℕ). n + 1) so.count;
       made = All-append IsMadeDay days (day ∷ []) so.made (All-cons IsMadeDay day [] made (All-nil IsMadeDay));
@@ -121,29 +119,29 @@ module _ {F : Type 0} (holds : F → Option Files) (may_fail : F → List ℕ �
           let number : place + 1 ≡ length days + 1 = ap (λ (n : ℕ). n + 1) (sym so.count) in
           days-push files dir 1 days day (so.told files tells)
           (subst (λ (n : ℕ). day_in files (day_folder dir n) ≡ Ok day) number (told files (so.only_reads.same ∙ tells)));
-      counted = λ counting. counted counting ∙ so.counted counting;
+      counted = λ counting. counted (so.only_reads.counting ∙ counting) ∙ so.counted counting;
       only_reads = only_all;
     })
 
     -- a day that is not read ends it
     pub ended_at : (count : ℕ) (error : DayError) → place < count → error.day ≡ place + 1
-        → ((files : Files) → holds between ≡ Some files → ReadsDay files dir (place + 1) (Err error))
-        → IsErrorOf (λ table. table ≢ Plan) error.error → IsCausedAt may_fail faults taken dir between after error
-        → (counts_failed ≡ true → faults after ≡ faults_after (is_day_unread error) (faults between)) → HasEnded after count error
+        → ((files : Files) → between.holds ≡ Some files → ReadsDay files dir (place + 1) (Err error))
+        → IsErrorOf (λ table. table ≢ Plan) error.error → IsCausedAt dir between after error
+        → CountsFault (is_day_unread error) between after → HasEnded after count error
     ended_at count error within number told says caused counted = record {
       told = λ files tells. record {
         before = subst (HaveDaysBefore files dir) (sym number) (before_next files dir days place (so.told files tells) so.count);
         told = subst (λ (n : ℕ). ReadsDay files dir n (Err error)) (sym number) (told files (so.only_reads.same ∙ tells));
       };
       says = record { from_one = omega (arith, number); within = omega (arith, number, within); says = says };
-      caused = caused_since holds may_fail faults taken (day_folder dir error.day) before between after so.only_reads error.error caused;
-      counted = λ counting. counted counting ∙ ap (faults_after (is_day_unread error)) (so.counted counting);
+      caused = caused_since (day_folder dir error.day) before between after so.only_reads error.error caused;
+      counted = λ counting. counted (so.only_reads.counting ∙ counting) ∙ ap (faults_after (is_day_unread error)) (so.counted counting);
       only_reads = only_all;
     }
 
     -- and so does want of memory
     pub out_of_memory : (count : ℕ) (error : DayError) → place < count → IsWantOfMemory (place + 1) error
-        → (counts_failed ≡ true → faults after ≡ faults between) → HasEnded after count error
+        → CountsFault false between after → HasEnded after count error
     out_of_memory count error within none counted = record {
       told = λ files tells. record {
         before = subst (HaveDaysBefore files dir) (sym none.0) (before_next files dir days place (so.told files tells) so.count);
@@ -156,8 +154,8 @@ module _ {F : Type 0} (holds : F → Option Files) (may_fail : F → List ℕ �
         within = omega (arith, none.0, within);
         says = subst (IsErrorOf (λ table. table ≢ Plan)) (sym none.1) tt;
       };
-      caused = subst (IsCaused may_fail faults taken (day_folder dir error.day) before after) (sym none.1) tt;
+      caused = subst (IsCaused (day_folder dir error.day) before after) (sym none.1) tt;
       counted = λ counting.
-          subst (λ (e : ReadError). faults after ≡ faults_after (is_unread e) (faults before)) (sym none.1) (counted counting ∙ so.counted counting);
+          subst (λ (e : ReadError). after.faults ≡ faults_after (is_unread e) before.faults) (sym none.1) (counted (so.only_reads.counting ∙ counting) ∙ so.counted counting);
       only_reads = only_all;
     }

@@ -4,7 +4,7 @@ use Rattle.std.specs.Prelude.{ℕ, suc, ◌≡◌, ◌≢◌, ◌<◌, ◌≤◌
 use Rattle.std.specs.Fmt.{decimal}
 use Rattle.std.specs.Global.{Vec}
 use Rattle.rail_csv.specs.declared.rows.Table.TheVariants.{Plan}
-use Rattle.rail_io.specs.Folders.{Files}
+use Rattle.rail_io.specs.Folders.{Files, FolderState}
 use Rattle.timetable.specs.Day.{Day}
 use Rattle.day_files.specs.declared.errors.Refusal.{Refusal}
 use Rattle.day_files.specs.declared.errors.ReadError.TheVariants.{NoMemory}
@@ -75,9 +75,8 @@ pub record IsErrorAt (count : ℕ) (error : DayError) : Type 0 where
   pub says : IsErrorOf (λ table. table ≢ Plan) error.error
 
 -- it has its cause
-abbrev pub IsCausedAt : {F : Type 0} → (F → List ℕ → Bool) → (F → ℕ) → (F → ℕ) → List ℕ → F → F → DayError → Type 0
-IsCausedAt may_fail faults taken dir before after error =
-    IsCaused may_fail faults taken (day_folder dir error.day) before after error.error
+abbrev pub IsCausedAt : List ℕ → FolderState → FolderState → DayError → Type 0
+IsCausedAt dir before after error = IsCaused (day_folder dir error.day) before after error.error
 
 -- whether it is that a file could not be read
 abbrev pub is_day_unread : DayError → Bool

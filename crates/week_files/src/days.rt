@@ -1,9 +1,9 @@
 //! The days of a week in a folder, one after another.
 
-ghost use Rattle.std.specs.Prelude.{All, true, ◌≡◌, ◌≢◌, ◌++◌, ◌∷◌, [], Some, Ok, IfErr, IfOk, OnOk, length};
+ghost use Rattle.std.specs.Prelude.{All, ◌≡◌, ◌≢◌, ◌++◌, ◌∷◌, [], Some, Ok, IfErr, IfOk, OnOk, length};
 ghost use Rattle.std.specs.Prelude.{string_bytes};
 ghost use Rattle.rail_csv.specs.declared.rows.Table.TheVariants.{Plan};
-ghost use Rattle.rail_io.specs.Folders.{Files, OnlyReads, faults_after};
+ghost use Rattle.rail_io.specs.Folders.{CountsFault, Files, OnlyReads};
 ghost use Rattle.day_files.specs.OneFile.{tells_unread};
 ghost use Rattle.day_files.specs.Tables.{IsMadeDay};
 ghost use Rattle.day_files.specs.Inputs.{day_in};
@@ -41,16 +41,15 @@ pub fn days_in<F: Folder>(
     count: u32,
 ) -> Result<Vec<Instance>, DayError>
     // What the files come to.
-    ensures told { (files : Files) → F.holds folder.old ≡ Some files → ReadsDays files dir.now count result }
+    ensures told { (files : Files) → (F.state folder.old).holds ≡ Some files → ReadsDays files dir.now count result }
     ensures made { IfOk result (λ days. All IsMadeDay days.items) }
     ensures count { IfOk result (λ days. length days.items ≡ count) }
 
     // What an error says, and what stays.
     ensures says { IfErr result (IsErrorAt count) }
-    ensures caused { IfErr result (IsCausedAt F.may_fail F.faults F.taken dir.now folder.old folder.new) }
-    ensures fault_counted { F.counts_failed ≡ true
-        → F.faults folder.new ≡ faults_after (tells_unread is_day_unread result) (F.faults folder.old) }
-    ensures only_reads { OnlyReads F.holds F.may_fail F.faults F.taken folder.old folder.new }
+    ensures caused { IfErr result (IsCausedAt dir.now (F.state folder.old) (F.state folder.new)) }
+    ensures fault_counted { CountsFault (tells_unread is_day_unread result) (F.state folder.old) (F.state folder.new) }
+    ensures only_reads { OnlyReads (F.state folder.old) (F.state folder.new) }
 {
     let mut days = Vec::new(alloc);
     for place in 0..count {
@@ -68,16 +67,15 @@ fn numbered_day<F: Folder>(
     number: u32,
 ) -> Result<Instance, DayError>
     // What the files come to.
-    ensures told { (files : Files) → F.holds folder.old ≡ Some files → ReadsDay files dir.now number result }
+    ensures told { (files : Files) → (F.state folder.old).holds ≡ Some files → ReadsDay files dir.now number result }
     ensures made { IfOk result IsMadeDay }
 
     // What an error says, and what stays.
     ensures number { IfErr result (λ error. error.day ≡ number) }
     ensures says { IfErr result (λ error. IsErrorOf (λ table. table ≢ Plan) error.error) }
-    ensures caused { IfErr result (IsCausedAt F.may_fail F.faults F.taken dir.now folder.old folder.new) }
-    ensures fault_counted { F.counts_failed ≡ true
-        → F.faults folder.new ≡ faults_after (tells_unread is_day_unread result) (F.faults folder.old) }
-    ensures only_reads { OnlyReads F.holds F.may_fail F.faults F.taken folder.old folder.new }
+    ensures caused { IfErr result (IsCausedAt dir.now (F.state folder.old) (F.state folder.new)) }
+    ensures fault_counted { CountsFault (tells_unread is_day_unread result) (F.state folder.old) (F.state folder.new) }
+    ensures only_reads { OnlyReads (F.state folder.old) (F.state folder.new) }
 {
     match day_of(alloc, folder, dir, number) {
         Ok(day) => Ok(day),
@@ -92,15 +90,14 @@ fn day_of<F: Folder>(
     dir: &str,
     number: u32,
 ) -> Result<Instance, ReadError>
-    ensures told { (files : Files) → F.holds folder.old ≡ Some files
+    ensures told { (files : Files) → (F.state folder.old).holds ≡ Some files
         → Reads (Reaches files (day_folder dir.now number)) result (day_in files (day_folder dir.now number)) }
     ensures made { IfOk result IsMadeDay }
     ensures says { IfErr result (IsErrorOf (λ table. table ≢ Plan)) }
     ensures caused { IfErr result
-        (IsCaused F.may_fail F.faults F.taken (day_folder dir.now number) folder.old folder.new) }
-    ensures fault_counted { F.counts_failed ≡ true
-        → F.faults folder.new ≡ faults_after (tells_unread is_unread result) (F.faults folder.old) }
-    ensures only_reads { OnlyReads F.holds F.may_fail F.faults F.taken folder.old folder.new }
+        (IsCaused (day_folder dir.now number) (F.state folder.old) (F.state folder.new)) }
+    ensures fault_counted { CountsFault (tells_unread is_unread result) (F.state folder.old) (F.state folder.new) }
+    ensures only_reads { OnlyReads (F.state folder.old) (F.state folder.new) }
 {
     let own = day_folder(alloc, dir, number)?;
     day_in(alloc, folder, own.as_str())

@@ -313,10 +313,10 @@ pub(crate) fn run<F: Folder, K: Sink>(
     folder: &mut F,
     out: &mut K,
 ) -> Result<u8, NoMemory>
-    ensures unread { IfOk result (λ status. status ≡ 5 → Rose (F.faults folder.old) (F.faults folder.new)) }
+    ensures unread { IfOk result (λ status. status ≡ 5 → Rose (F.state folder.old).faults (F.state folder.new).faults) }
     ensures unwritten { IfOk result (λ status. status ≡ 6 → Rose (K.faults out.old) (K.faults out.new)) }
-    ensures failed_reads { F.counts_failed ≡ true
-        → IfOk result (λ status. CountsFailedReads status (F.faults folder.old) (F.faults folder.new)) }
+    ensures failed_reads { (F.state folder.old).counts_failed ≡ true → IfOk result (λ status.
+        CountsFailedReads status (F.state folder.old).faults (F.state folder.new).faults) }
     ensures failed_writes { K.counts_failed ≡ true
         → IfOk result (λ status. CountsFailedWrites status (K.faults out.old) (K.faults out.new)) }
 {

@@ -5,12 +5,12 @@ use Rattle.desk_app.proofs.planning.planned.Goals as goal
 
 pub returns-in-Ok-clause-outcome : goal.returns-in-Ok-clause-outcome
 returns-in-Ok-clause-outcome g c =
-    day_planned _ _ _ _ c.args.planning.now _ _ c.as_str.result.now c.as_str.ensures c.in-Ok.instance c.planned_day.result
+    day_planned c.args.planning.now _ _ c.as_str.result.now c.as_str.ensures c.in-Ok.instance c.planned_day.result
     c.in-Ok.ensures.made c.in-Ok.ensures.told c.planned_day.ensures.outcome
 
 pub returns-in-Err-clause-outcome : goal.returns-in-Err-clause-outcome
 returns-in-Err-clause-outcome g c =
-    no_day _ _ _ _ c.args.planning.now _ _ c.as_str.result.now c.as_str.ensures c.in-Err.error _ (search rules)
+    no_day c.args.planning.now _ _ c.as_str.result.now c.as_str.ensures c.in-Err.error _ (search rules)
     c.in-Err.ensures.told c.in-Err.ensures.says c.in-Err.ensures.caused
 
 pub returns-in-Err-clause-asked : goal.returns-in-Err-clause-asked

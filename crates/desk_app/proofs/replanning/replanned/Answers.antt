@@ -6,12 +6,12 @@ use Rattle.desk_app.proofs.replanning.replanned.Goals as goal
 
 pub returns-in-Ok-clause-outcome : goal.returns-in-Ok-clause-outcome
 returns-in-Ok-clause-outcome g c =
-    inputs_read _ _ _ _ c.args.replanning.now c.as_str.result.now c.as_str.ensures _ _ _ c.in-Ok.read.inputs _ c.in-Ok.ensures.made
+    inputs_read c.args.replanning.now c.as_str.result.now c.as_str.ensures _ _ _ c.in-Ok.read.inputs _ c.in-Ok.ensures.made
     c.in-Ok.ensures.made_plan c.in-Ok.ensures.told c.in-Ok.ensures.only_reads c.replanned_plan.ensures.outcome
 
 pub returns-in-Err-clause-outcome : goal.returns-in-Err-clause-outcome
 returns-in-Err-clause-outcome g c =
-    no_inputs _ _ _ _ c.args.replanning.now c.as_str.result.now c.as_str.ensures _ _ c.in-Err.error _ (search rules)
+    no_inputs c.args.replanning.now c.as_str.result.now c.as_str.ensures _ _ c.in-Err.error _ (search rules)
     c.in-Err.ensures.told c.in-Err.ensures.says c.in-Err.ensures.caused
 
 pub returns-in-Err-clause-asked : goal.returns-in-Err-clause-asked

@@ -29,7 +29,7 @@ returns-in-Ok-Plan-clause-untouched g c vain =
 pub returns-in-Ok-Urgent-clause-outcome : goal.returns-in-Ok-Urgent-clause-outcome
 returns-in-Ok-Urgent-clause-outcome g c =
     OfCommand (command.Urgent c.in-Ok-Urgent.swapping) (c.in-Ok-Urgent.ensures.understood (command.Urgent c.in-Ok-Urgent.swapping) (search rules))
-    (swapped_there _ _ _ _ _ _ _ _ _ c.as_str.ensures c.swapped.ensures.outcome)
+    (swapped_there _ _ _ _ _ c.as_str.ensures c.swapped.ensures.outcome)
 
 pub returns-in-Ok-Urgent-clause-advisors : goal.returns-in-Ok-Urgent-clause-advisors
 returns-in-Ok-Urgent-clause-advisors g c = left_alone _ _ _ c.args.words.now c.args.advisors.now.items

@@ -8,9 +8,9 @@ returns-in-Ok-clause-outcome g c = OfBytes c.in-Ok.bytes (λ files tells. (c.in-
 
 pub returns-in-Err-ReadFault-clause-outcome : goal.returns-in-Err-ReadFault-clause-outcome
 returns-in-Err-ReadFault-clause-outcome g c =
-    file_unread _ _ _ _ c.args.dir.now c.args.inputs.now _ _ c.in-Err-ReadFault.field-0 (search rules) c.in-Err-ReadFault.ensures.caused
+    file_unread c.args.dir.now c.args.inputs.now _ _ c.in-Err-ReadFault.field-0 (search rules) c.in-Err-ReadFault.ensures.caused
 
 pub returns-in-Err-TooLong-clause-outcome : goal.returns-in-Err-TooLong-clause-outcome
 returns-in-Err-TooLong-clause-outcome g c =
-    file_too_long _ _ _ _ c.args.dir.now c.args.inputs.now _ _ c.in-Err-TooLong.field-0 (search rules) c.in-Err-TooLong.ensures.caused
+    file_too_long c.args.dir.now c.args.inputs.now _ _ c.in-Err-TooLong.field-0 (search rules) c.in-Err-TooLong.ensures.caused
     c.in-Err-TooLong.ensures.told

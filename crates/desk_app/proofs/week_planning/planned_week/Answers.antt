@@ -12,12 +12,12 @@ planned_days-requires-clause-days g c =
 
 pub returns-in-Ok-clause-outcome : goal.returns-in-Ok-clause-outcome
 returns-in-Ok-clause-outcome g c =
-    days_read _ _ _ _ c.args.planning.now _ _ c.as_str.result.now c.as_str.ensures c.in-Ok.days.items c.deref.result.now _ c.deref.ensures.value
+    days_read c.args.planning.now _ _ c.as_str.result.now c.as_str.ensures c.in-Ok.days.items c.deref.result.now _ c.deref.ensures.value
     c.in-Ok.ensures.made c.in-Ok.ensures.count c.in-Ok.ensures.told c.planned_days.ensures.outcome
 
 pub returns-in-Err-clause-outcome : goal.returns-in-Err-clause-outcome
 returns-in-Err-clause-outcome g c =
-    no_days _ _ _ _ c.args.planning.now _ _ c.as_str.result.now c.as_str.ensures c.in-Err.error _ (search rules) c.in-Err.ensures.told
+    no_days c.args.planning.now _ _ c.as_str.result.now c.as_str.ensures c.in-Err.error _ (search rules) c.in-Err.ensures.told
     c.in-Err.ensures.says c.in-Err.ensures.caused
 
 pub returns-in-Err-clause-asked : goal.returns-in-Err-clause-asked

@@ -2,10 +2,10 @@ use Rattle.planner_app.proofs.OneOutcome.{others_are_told, outcomes_are_one, sea
 use Rattle.planner_app.proofs.laws.outcomes_are_one.Goals as goal
 
 pub returns-clause-one : goal.returns-clause-one
-returns-clause-one g c = outcomes_are_one _ _ _ _ _ _ _ _
+returns-clause-one c = outcomes_are_one
 
 pub returns-clause-search : goal.returns-clause-search
-returns-clause-search g c = searches_are_apart _ _ _ _ _ _ _ _
+returns-clause-search c = searches_are_apart
 
 pub returns-clause-others : goal.returns-clause-others
-returns-clause-others g c = others_are_told
+returns-clause-others c = others_are_told

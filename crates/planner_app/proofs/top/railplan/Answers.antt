@@ -1,35 +1,28 @@
 use Rattle.std.proofs.Common.{rules}
 use Rattle.planner_app.proofs.Endings.{ends_check, ends_in_usage, ends_planning, ends_report, ends_simulation, ends_trial}
-use Rattle.planner_app.proofs.Endings.{is_status, leaves_folder, leaves_sink}
+use Rattle.planner_app.proofs.Endings.{failed_reads, is_status, leaves_sink, unread}
 use Rattle.planner_app.proofs.top.railplan.Goals as goal
 
 pub returns-clause-plan : goal.returns-clause-plan
-returns-clause-plan g c =
-    ends_planning _ _ _ _ _ _ _ _ _ _ _ _ _ c.outcome_of-outcome.ensures.outcome c.write_outcome.ensures.wrote
+returns-clause-plan g c = ends_planning _ _ _ _ _ _ _ _ _ c.outcome_of-outcome.ensures.outcome c.write_outcome.ensures.wrote
 
 pub returns-clause-simulate : goal.returns-clause-simulate
-returns-clause-simulate g c =
-    ends_simulation _ _ _ _ _ _ _ _ _ _ _ _ _ c.outcome_of-outcome.ensures.outcome c.write_outcome.ensures.wrote
+returns-clause-simulate g c = ends_simulation _ _ _ _ _ _ _ _ _ c.outcome_of-outcome.ensures.outcome c.write_outcome.ensures.wrote
 
 pub returns-clause-check : goal.returns-clause-check
-returns-clause-check g c =
-    ends_check _ _ _ _ _ _ _ _ _ _ _ _ _ c.outcome_of-outcome.ensures.outcome c.write_outcome.ensures.wrote
+returns-clause-check g c = ends_check _ _ _ _ _ _ _ _ _ c.outcome_of-outcome.ensures.outcome c.write_outcome.ensures.wrote
 
 pub returns-clause-report : goal.returns-clause-report
-returns-clause-report g c =
-    ends_report _ _ _ _ _ _ _ _ _ _ _ _ _ c.outcome_of-outcome.ensures.outcome c.write_outcome.ensures.wrote
+returns-clause-report g c = ends_report _ _ _ _ _ _ _ _ _ c.outcome_of-outcome.ensures.outcome c.write_outcome.ensures.wrote
 
 pub returns-clause-trial : goal.returns-clause-trial
-returns-clause-trial g c =
-    ends_trial _ _ _ _ _ _ _ _ _ _ _ _ _ c.outcome_of-outcome.ensures.outcome c.write_outcome.ensures.wrote
+returns-clause-trial g c = ends_trial _ _ _ _ _ _ _ _ _ c.outcome_of-outcome.ensures.outcome c.write_outcome.ensures.wrote
 
 pub returns-clause-usage : goal.returns-clause-usage
-returns-clause-usage g c =
-    ends_in_usage _ _ _ _ _ _ _ _ _ _ _ _ _ c.outcome_of-outcome.ensures.outcome c.write_outcome.ensures.wrote
+returns-clause-usage g c = ends_in_usage _ _ _ _ _ _ _ _ _ c.outcome_of-outcome.ensures.outcome c.write_outcome.ensures.wrote
 
 pub returns-clause-statuses : goal.returns-clause-statuses
-returns-clause-statuses g c =
-    is_status _ _ _ _ _ _ _ _ _ _ _ _ _ c.outcome_of-outcome.ensures.outcome c.write_outcome.ensures.wrote
+returns-clause-statuses g c = is_status _ _ _ _ _ _ _ _ _ c.outcome_of-outcome.ensures.outcome c.write_outcome.ensures.wrote
 
 pub returns-clause-document : goal.returns-clause-document
 returns-clause-document g c = (
@@ -41,11 +34,14 @@ returns-clause-document g c = (
 )
 
 pub returns-clause-folder : goal.returns-clause-folder
-returns-clause-folder g c =
-    leaves_folder _ _ _ _ _ _ _ _ _ _ _ _ _ c.outcome_of-outcome.ensures.outcome c.write_outcome.ensures.wrote _
-    c.outcome_of-outcome.ensures.only_reads c.outcome_of-outcome.ensures.untouched c.outcome_of-outcome.ensures.fault_counted
+returns-clause-folder g c = record {
+  only_reads = c.outcome_of-outcome.ensures.only_reads;
+  untouched = c.outcome_of-outcome.ensures.untouched;
+  unread = unread _ _ _ _ _ _ _ _ _ c.outcome_of-outcome.ensures.outcome c.write_outcome.ensures.wrote;
+  failed_reads = failed_reads _ _ _ _ _ _ _ _ _ c.outcome_of-outcome.ensures.outcome c.write_outcome.ensures.wrote c.outcome_of-outcome.ensures.fault_counted;
+}
 
 pub returns-clause-sink : goal.returns-clause-sink
 returns-clause-sink g c =
-    leaves_sink _ _ _ _ _ _ _ _ _ _ _ _ _ c.outcome_of-outcome.ensures.outcome c.write_outcome.ensures.wrote _
+    leaves_sink _ _ _ _ _ _ _ _ _ c.outcome_of-outcome.ensures.outcome c.write_outcome.ensures.wrote _
     c.write_outcome.ensures.failed_writes c.write_outcome.ensures.lasting

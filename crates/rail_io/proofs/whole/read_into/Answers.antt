@@ -9,7 +9,7 @@ loop-count-init g c =
     record {
       front = λ files tells. c.requires.empty ∙ sym (ap (λ (n : ℕ). take n (file_at files c.args.path.now)) none);
       within = omega (arith, none);
-      only_reads = record { same = refl; steady = refl; lasting = omega arith; growing = omega arith };
+      only_reads = record { same = refl; steady = refl; counting = refl; lasting = omega arith; growing = omega arith };
       no_fault = λ counts. refl;
       at_most = omega arith;
       exact = λ low. omega (arith, none);
@@ -22,4 +22,4 @@ loop-count-preserved g c =
     let told = λ (files : _) (tells : _).
     subst (λ (from : ℕ). IsReadFrom (file_at files c.args.path.now) from c.in_ok-count.count c.read_at.new.into) from_end (c.in_ok-count.ensures.told files tells) in
     rw c.in_ok-extend_from_slice.ensures.items
-    (IsReading-more _ _ _ _ _ _ _ _ _ _ _ _ _ c.loop-count.invariant told c.in_ok-count.ensures.room within c.in_ok-count.ensures.taken c.read_at.ensures.only_reads c.in_ok-count.ensures.fault_counted)
+    (IsReading-more _ _ _ _ _ _ _ _ c.loop-count.invariant told c.in_ok-count.ensures.room within c.in_ok-count.ensures.taken c.read_at.ensures.only_reads c.in_ok-count.ensures.fault_counted)

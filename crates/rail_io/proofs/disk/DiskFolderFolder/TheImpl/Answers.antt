@@ -12,5 +12,5 @@ read_at-tells g c = record {
   fault = c.ensures.fault;
   fault_counted = λ counts. c.ensures.faults;
   may = on_err_weaker c.result (λ _. refl) c.ensures.fault;
-  only_reads = record { same = refl; steady = refl; lasting = c.ensures.lasting; growing = c.ensures.growing };
+  only_reads = record { same = refl; steady = refl; counting = refl; lasting = c.ensures.lasting; growing = c.ensures.growing };
 }
