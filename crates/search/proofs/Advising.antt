@@ -1,5 +1,5 @@
 -- What the advisors make of a node, place by place and round by round.
-use Rattle.std.proofs.Common.{◌≡◌, ℕ, zero, suc, ◌≤◌, length, List, Option, Bool, true, false, not, Ok, refl, sym, subst}
+use Rattle.std.proofs.Common.{◌≡◌, ℕ, zero, suc, ◌≤◌, length, List, Option, Bool, true, false, not, Ok, refl, sym, subst, ◌∙◌}
 use Rattle.std.proofs.Common.{arith, add-one, ◌+◌, ◌⊎◌, inl, inr}
 use Rattle.std.proofs.lemmas.Bool.{both_ways, false≢true}
 use denote.Enum.Bare.{sameb}
@@ -10,7 +10,8 @@ use Rattle.advisors.specs.declared.advisor.Word.{Word}
 use Rattle.advisors.specs.declared.advisor.Word.TheVariants.{More, Enough, Quit}
 use Rattle.advisors.specs.Quits.{quit_after}
 use Rattle.search.specs.declared.work.Work.{Work}
-use Rattle.search.specs.NodeAdvice.{CallTest}
+use Rattle.search.specs.declared.rounds.Question.{Question}
+use Rattle.search.specs.NodeAdvice.{CallTest, IsQuestionFor, IsSameQuestion, is_enough}
 use Rattle.search.specs.NodesInWork.{is_open_work}
 use Rattle.search.specs.Rounds.{AdviceState, AreRounds, IsToBeAsked, WasAsked, WasAskedIfDue, WereAskedInOrder}
 
@@ -28,6 +29,32 @@ at_most (suc few) (suc many) below = elim (at_most few many (omega (arith, below
   | inl less ↦ inl (omega (arith, less))
   | inr same ↦ inr (omega (arith, same))
 ]
+
+pub enough_is : (word : Word) → sameb the_type word Enough ≡ is_enough word
+enough_is More = refl
+enough_is Enough = refl
+enough_is Quit = refl
+
+-- a question is put again: about the same region, where the problem is as before
+pub question_after : (problem : Meanings) (region : List (List Bool)) (before after : Question) → IsSameQuestion before after → IsQuestionFor problem region before → IsQuestionFor problem region after
+question_after problem region before after same is = record {
+  indices = same.over.indices ∙ is.indices;
+  free_from = same.over.free_from ∙ is.free_from;
+  sizes = same.sizes ∙ is.sizes;
+}
+
+pub question_again : {P : Type 0} (meanings : P → Meanings) (p q : P) (region now : List (List Bool)) (before after : Question) → q ≡ p → now ≡ region → IsSameQuestion before after →
+    IsQuestionFor (meanings p) region before → IsQuestionFor (meanings q) now after
+question_again meanings p q region now before after same here again is =
+    subst (λ problem. IsQuestionFor (meanings problem) now after) (sym same) (subst (λ sets. IsQuestionFor (meanings p) sets after) (sym here) (question_after (meanings p) region before after again is))
+
+-- and again
+pub question_then : (first second third : Question) → IsSameQuestion first second → IsSameQuestion second third → IsSameQuestion first third
+question_then first second third one two = record {
+  round = two.round ∙ one.round;
+  sizes = two.sizes ∙ one.sizes;
+  over = record { indices = two.over.indices ∙ one.over.indices; free_from = two.over.free_from ∙ one.over.free_from };
+}
 
 module _ {A : Type 0} (has_quit : A → Bool) (has_answered : CallTest A) (problem : Meanings) where
   -- an advisor that is not to be asked is passed over
@@ -73,8 +100,8 @@ module _ {A : Type 0} (has_quit : A → Bool) (has_answered : CallTest A) (probl
     | inr same ↦ subst (λ (n : ℕ). AreRounds has_quit has_answered problem n before after) same so_far
   ]
 
-  -- rounds about a node that is not open from the first change nothing
-  pub rounds_unasked : (rounds : ℕ) (advisors : List A) (enough : List Bool) (best : Option CostedPicks) (work : Work) → is_open_work best work ≡ false →
-      AreRounds has_quit has_answered problem rounds (record { advisors = advisors; enough = enough; best = best; work = work }) (record { advisors = advisors; enough = enough; best = best; work = work })
-  rounds_unasked rounds advisors enough best work shut =
-      rounds_to 0 rounds (record { advisors = advisors; enough = enough; best = best; work = work }) (record { advisors = advisors; enough = enough; best = best; work = work }) (omega arith) shut refl
+  -- before the first round
+  pub no_rounds : (advisors : List A) (enough flags : List Bool) (best : Option CostedPicks) (work : Work) → enough ≡ flags →
+      AreRounds has_quit has_answered problem 0 (record { advisors = advisors; enough = flags; best = best; work = work }) (record { advisors = advisors; enough = enough; best = best; work = work })
+  no_rounds advisors enough flags best work same =
+      subst (λ (list : List Bool). AreRounds has_quit has_answered problem 0 (record { advisors = advisors; enough = list; best = best; work = work }) (record { advisors = advisors; enough = enough; best = best; work = work })) same refl

@@ -5,7 +5,7 @@ use Rattle.std.proofs.Math.Nat.{mul-le-mul_left}
 use Rattle.branch_tree.specs.declared.tree.Node.{Node}
 use Rattle.branch_tree.specs.Claims.{CostedPicks, is_open}
 use Rattle.branch_tree.specs.Trees.{cut_of}
-use Rattle.search.specs.Questions.{AreAsked, MayBeAsked, in_rounds}
+use Rattle.search.specs.Questions.{AreAsked, AreOnlyAsked, AreTheSame, MayBeAsked, in_rounds}
 use Rattle.search.specs.Ends.{made_or_open}
 use Rattle.search.proofs.Asking.{are_asked_again, are_asked_within, in_rounds_less, in_rounds_sum, in_rounds_zero}
 use Rattle.search.proofs.Growing.{leaf_made}
@@ -44,10 +44,6 @@ module _ {A : Type 0} (asked : A → ℕ) (has_quit : A → Bool) where
       are_asked_within asked has_quit (least + 0) (rounds * (2 * made + 1) + 2 * rounds) 0 (rounds * (2 * grant + 1)) first after (omega arith) (omega (arith, mul-le-mul_left rounds few))
       (are_asked_again asked has_quit least (rounds * (2 * made + 1)) 0 (2 * rounds) first before after one two)
 
-  pub asked_within_grant : (rounds made grant least : ℕ) (first last : List A) → made ≤ grant → AreAsked first last asked has_quit least (rounds * (2 * made + 1)) → AreAsked first last asked has_quit 0 (rounds * (2 * grant + 1))
-  asked_within_grant rounds made grant least first last few is =
-      are_asked_within asked has_quit least (rounds * (2 * made + 1)) 0 (rounds * (2 * grant + 1)) first last (omega arith) (omega (arith, mul-le-mul_left rounds few)) is
-
   -- there is room for all rounds
   pub room_for : (most : ℕ) (advisors : List A) → All (λ advisor. asked advisor ≤ 2 ^ 63) advisors → most ≤ 1000000 → MayBeAsked advisors asked most
   room_for most advisors few within = λ place none below. omega (arith, few place none below, within)
@@ -56,3 +52,11 @@ pub few_rounds : (rounds made : ℕ) → rounds ≤ 100 → made ≤ 4000 → ro
 few_rounds rounds made few many =
     let within : 2 * made + 1 ≤ 8001 = omega arith in
     omega (arith, mul-le-mul_left rounds within)
+
+-- the advisors of a search were only asked, and within what is granted
+pub only_within_grant : {A : Type 0} (identity asked : A → ℕ) (has_quit : A → Bool) (rounds made grant least : ℕ) (first last : List A) → made ≤ grant → AreTheSame first last identity →
+    AreAsked first last asked has_quit least (rounds * (2 * made + 1)) → AreOnlyAsked first last identity asked has_quit (rounds * (2 * grant + 1))
+only_within_grant identity asked has_quit rounds made grant least first last few same is = record {
+  same = same;
+  times = are_asked_within asked has_quit least (rounds * (2 * made + 1)) 0 (rounds * (2 * grant + 1)) first last (omega arith) (omega (arith, mul-le-mul_left rounds few)) is;
+}

@@ -1,7 +1,7 @@
 -- The nodes of a search after a branching.
 use Rattle.std.proofs.Common.{◌≡◌, ℕ, zero, suc, ◌+◌, ◌<◌, ◌≤◌, List, [], ◌∷◌, ◌++◌, length, get_or, take, drop, set}
 use Rattle.std.proofs.Common.{Bool, true, false, IsTrue, if◌then◌else◌, Option, Some, None, refl, sym, ap, subst, arith}
-use Rattle.std.proofs.Common.{◌∙◌, inl, inr, ◌⊎◌, ℤ}
+use Rattle.std.proofs.Common.{◌∙◌, inl, inr, ℤ}
 use Rattle.std.specs.List.{insert}
 use Rattle.std.proofs.lemmas.List.{append_assoc, length-set}
 use Rattle.std.proofs.Math.Seq.{split_at}

@@ -1,6 +1,6 @@
 -- What is offered within a root, and what improvements make of a node.
 use Rattle.std.proofs.Common.{◌≡◌, ℕ, zero, suc, ◌+◌, List, [], ◌∷◌, ◌++◌, Bool, true, false, IsTrue, if◌then◌else◌, length, take, get_or, ◌<◌}
-use Rattle.std.proofs.Common.{Option, Some, None, ◌⊎◌, inl, inr, refl, sym, ◌∙◌, ap, subst, ℤ, arith}
+use Rattle.std.proofs.Common.{Option, Some, None, ◌⊎◌, inl, inr, refl, sym, ◌∙◌, ap, subst, arith}
 use Rattle.std.proofs.lemmas.Int.{ints}
 use Rattle.branch_tree.specs.Claims.{CostedPicks, is_below}
 use Rattle.branch_tree.specs.declared.multipliers.Entry.{Entry}
@@ -10,9 +10,9 @@ use Rattle.search.specs.declared.work.Work.{Work}
 use Rattle.improvers.specs.declared.improver.Improvement.{Improvement}
 use Rattle.search.specs.Improvements.{AreImproved, AreProposed, AreTried, IsProposed, IsUsedUp, or_cheaper}
 use Rattle.search.specs.Nodes.{IsSubregion}
-use Rattle.search.specs.NodesInWork.{IsConsidered, IsWorkedOn, is_open_work}
+use Rattle.search.specs.NodesInWork.{IsConsidered, is_open_work}
 use Rattle.search.specs.Offers.{HasCheaperIn, IsOffered}
-use Rattle.search.proofs.Below.{below_less, lower, no_better_on}
+use Rattle.search.proofs.Below.{below_less, lower}
 
 -- what is offered in a region of the root is offered in the root
 pub offered_within : (problem : Meanings) (root region : List (List Bool)) (old new : Option CostedPicks) → IsSubregion root region → IsOffered problem region old new → IsOffered problem root old new
@@ -27,18 +27,6 @@ offered_within problem root region old new within offered = record {
     widened : (best : Option CostedPicks) → HasCheaperIn problem region old best → HasCheaperIn problem root old best
     widened None has = has
     widened (Some plan) has = (record { inside = within plan.picks has.0.inside; solution = has.0.solution; cost = has.0.cost }, has.1)
-
--- a node in work stays one with a better best solution
-pub worked_with : (problem : Meanings) (old new : Option CostedPicks) (work : Work) → ((bound : ℤ) → is_below bound new ≡ true → is_below bound old ≡ true) → IsWorkedOn problem old work → IsWorkedOn problem new work
-worked_with problem old new work dearer is = record {
-  kept = is.kept;
-  last = is.last;
-  first = is.first;
-  settled = no_better_on problem old new work.kept.picks dearer is.settled;
-  raised = is.raised;
-  not_evident = λ below. is.not_evident (dearer work.first.0 below);
-  ended = is.ended;
-}
 
 -- a solution in the root, offered where it costs less
 cheaper_offered : (problem : Meanings) (root : List (List Bool)) (picks : List ℕ) (best : Option CostedPicks) → IsTrue (are_in picks root) → problem.IsSolution picks → (below : Bool) →

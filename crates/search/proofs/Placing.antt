@@ -1,6 +1,6 @@
 -- What is known of a node from its work.
 use Rattle.std.proofs.Common.{◌≡◌, ℕ, List, [], Bool, true, false, Option, Some, None, MatchOption, inl, inr, refl, sym}
-use Rattle.std.proofs.Common.{subst, arith, ℤ, pos, ◌+ℤ◌}
+use Rattle.std.proofs.Common.{length, subst, arith, ℤ, pos, ◌+ℤ◌}
 use Rattle.std.proofs.lemmas.Bool.{both_ways}
 use Rattle.std.proofs.lemmas.Int.{ints}
 use Rattle.rail_base.specs.declared.numbers.Money.{Money}
@@ -43,7 +43,7 @@ module _ (problem : Meanings) (region : List (List Bool)) (best : Option CostedP
     }
   ]
 
-  begun_by : (value : Money) (multipliers : List Entry) (picks : List ℕ) → multipliers ≡ [] → IsEvaluated problem region (record { value = value; multipliers = multipliers; picks = picks }) →
+  begun_by : (value : Money) (multipliers : List Entry) (picks : List ℕ) → length region ≡ problem.trips → multipliers ≡ [] → IsEvaluated problem region (record { value = value; multipliers = multipliers; picks = picks }) →
       AreSettled problem region best picks →
       IsWorkedOn problem best (record {
         region = region;
@@ -53,7 +53,8 @@ module _ (problem : Meanings) (region : List (List Bool)) (best : Option CostedP
         cut = None;
         end = None;
       })
-  begun_by value multipliers picks none is settled = record {
+  begun_by value multipliers picks sets none is settled = record {
+    sets = sets;
     kept = is;
     last = is;
     first = subst (λ entries. IsChainValue problem region entries Cost value.0) none (chain_of problem region (record { value = value; multipliers = multipliers; picks = picks }) is);
@@ -63,9 +64,9 @@ module _ (problem : Meanings) (region : List (List Bool)) (best : Option CostedP
     ended = tt;
   }
 
-  pub begun : (evaluation : Evaluation) → IsEvaluated problem region evaluation → evaluation.multipliers ≡ [] → AreSettled problem region best evaluation.picks →
+  pub begun : (evaluation : Evaluation) → length region ≡ problem.trips → IsEvaluated problem region evaluation → evaluation.multipliers ≡ [] → AreSettled problem region best evaluation.picks →
       IsWorkedOn problem best (record { region = region; first = evaluation.value; kept = evaluation; last = evaluation; cut = None; end = None })
-  begun evaluation is none settled = begun_by evaluation.value evaluation.multipliers evaluation.picks none is settled
+  begun evaluation sets is none settled = begun_by evaluation.value evaluation.multipliers evaluation.picks sets none is settled
 
   -- a leaf without a bound
   pub ended_leaf : (ending : Ending) → IsEnding problem region ending → IsLeafOf problem best region (Fixed (leaf_of ending))

@@ -1,13 +1,18 @@
 -- How a search ends: the least bound of its tree, and what is found by it.
 use Rattle.std.specs.Prelude.{ℕ, ◌≡◌, ◌+◌, ◌≤◌, ◌⊎◌, List, Bool, true, false, Option, Some, None}
+use Rattle.rail_base.specs.declared.limits.TheConstants.{MAX_BRANCHINGS, MAX_ROUNDS}
 use Rattle.rail_base.specs.declared.numbers.Money.{Money}
 use Rattle.branch_tree.specs.declared.tree.Node.{Node}
 use Rattle.branch_tree.specs.Claims.{CostedPicks, is_below, open_leaves_of}
+use Rattle.branch_tree.specs.Meanings.{Meanings}
 use Rattle.branch_tree.specs.Trees.{IsLeastOf, bounds_of, branchings_of}
 use Rattle.search.specs.declared.found.Best.{Best}
 use Rattle.search.specs.declared.found.Found.{Found}
 use Rattle.search.specs.declared.found.Found.TheVariants.{Optimal, Infeasible, Bounded}
+use Rattle.search.specs.declared.nodes.SearchNode.{SearchNode}
+use Rattle.search.specs.declared.solving.Allowed.{Allowed}
 use Rattle.search.specs.Conclusions.{plan_in}
+use Rattle.search.specs.Nodes.{IsSearched, tree_nodes}
 
 -- what is found where no leaf is open
 abbrev pub closed_by : Option Best → List Node → Found
@@ -42,3 +47,16 @@ HasEnded grant best nodes = (branchings_of nodes ≡ grant) ⊎ (open_leaves_of 
 abbrev pub HaveKeptUp : Option CostedPicks → List Node → Option CostedPicks → List Node → (ℕ → Type 0) → Type 0
 HaveKeptUp best nodes later more Times =
     (times : ℕ) × (made_or_open later more ≤ made_or_open best nodes + times) × Times times
+
+-- a search of a root has ended: its nodes are a tree over the root, no more branchings are made than are granted, and
+-- all that are granted, or else no leaf is open
+pub record HasSearched (problem : Meanings) (root : List (List Bool)) (grant : ℕ) (best : Option CostedPicks)
+    (nodes : List SearchNode) : Type 0 where
+  pub searched : IsSearched problem root best nodes
+  pub granted : branchings_of (tree_nodes nodes) ≤ grant
+  pub ended : HasEnded grant best (tree_nodes nodes)
+
+-- no more branchings and rounds are allowed than there may be
+pub record IsWithinLimits (allowed : Allowed) : Type 0 where
+  pub branchings : allowed.branchings ≤ MAX_BRANCHINGS
+  pub rounds : allowed.rounds ≤ MAX_ROUNDS

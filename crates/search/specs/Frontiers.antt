@@ -40,6 +40,11 @@ pub record HasLeastRank (best : Option CostedPicks) (nodes : List SearchNode) (p
   pub here : (node : SearchNode) → has_rank bound number (slice_index_or nodes place node) ≡ true
   pub least : All (λ node. is_open_node best node ≡ true → IsUpTo bound number node) nodes
 
+-- the node at a place is the next one to be branched: it is open, and of the open ones it has the least rank
+pub record IsNextAt (best : Option CostedPicks) (nodes : List SearchNode) (place : ℕ) : Type 0 where
+  pub opens : IsOpenAt best nodes place
+  pub least : HasLeastRank best nodes place
+
 -- a frontier has the rank of a node, where it may be branched and leaves room for a better solution
 abbrev pub IsEntered : Option CostedPicks → Frontier → SearchNode → Type 0
 IsEntered best frontier (Fixed node) = Unit {0}

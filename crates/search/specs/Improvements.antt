@@ -1,7 +1,6 @@
 -- What an improver is shown of a node, and what the improvements that it proposes make of the node and of the best
 -- solution.
 use Rattle.std.specs.Prelude.{ℕ, zero, suc, ◌≡◌, List, [], ◌∷◌, Bool, true, IsTrue, Option, Some, if◌then◌else◌}
-use Rattle.branch_tree.specs.declared.cuts.Cut.{Cut}
 use Rattle.branch_tree.specs.declared.multipliers.Entry.{Entry}
 use Rattle.branch_tree.specs.Bounds.{AreSlacks}
 use Rattle.branch_tree.specs.Claims.{CostedPicks, is_below}

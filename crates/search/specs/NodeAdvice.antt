@@ -1,5 +1,5 @@
 -- What is shown to the advisors of a node, and what they answered.
-use Rattle.std.specs.Prelude.{ℕ, ◌≡◌, [], length, get_or, map, List, Bool, true, false, None, Result}
+use Rattle.std.specs.Prelude.{ℕ, ◌≡◌, [], length, map, List, Bool, true, false, None, Result}
 use Rattle.rail_base.specs.declared.memory.NoMemory.{NoMemory}
 use Rattle.branch_tree.specs.Bounds.{AreSlacks}
 use Rattle.branch_tree.specs.Meanings.{Meanings}
@@ -7,21 +7,30 @@ use Rattle.branch_tree.specs.Sets.{size_of}
 use Rattle.advisors.specs.declared.advisor.Look.{Look}
 use Rattle.advisors.specs.declared.advisor.Word.{Word}
 use Rattle.advisors.specs.declared.advisor.Word.TheVariants.{More, Enough, Quit}
+use Rattle.advisors.specs.Proposals.{IsOverSame}
 use Rattle.advisors.specs.Proposed.{Proposed}
 use Rattle.search.specs.declared.rounds.NodeAdvice.{NodeAdvice}
+use Rattle.search.specs.declared.rounds.Question.{Question}
 use Rattle.search.specs.declared.work.Work.{Work}
 
--- a proposal for the problem's indices, how many compositions each trip of a region has, and a flag for each advisor
+-- what an advisor is asked about a region: a proposal for the problem's indices, and how many compositions each trip
+-- has
+pub record IsQuestionFor (problem : Meanings) (region : List (List Bool)) (question : Question) : Type 0 where
+  pub indices : question.proposal.indices ≡ problem.indices
+  pub free_from : question.proposal.free_from ≡ problem.free_from
+  pub sizes : question.shown.sizes.items ≡ map size_of region
+
+-- what so many advisors are asked about a region, and a flag for each of them
 pub record IsAdviceFor (problem : Meanings) (region : List (List Bool)) (advisors : ℕ) (advice : NodeAdvice) :
     Type 0 where
-  pub indices : advice.proposal.indices ≡ problem.indices
-  pub free_from : advice.proposal.free_from ≡ problem.free_from
-  pub sizes : advice.shown.sizes.items ≡ map size_of region
+  pub question : IsQuestionFor problem region advice.question
   pub each : length advice.has_enough.items ≡ advisors
 
--- where it was noted that an advisor has enough, it still is
-abbrev pub AreStillNoted : List Bool → List Bool → Type 0
-AreStillNoted before after = (place : ℕ) → get_or before place false ≡ true → get_or after place false ≡ true
+-- a question after an advisor was asked: it may be put again, to the next one
+pub record IsSameQuestion (before after : Question) : Type 0 where
+  pub round : after.shown.rounds_made ≡ before.shown.rounds_made
+  pub sizes : after.shown.sizes.items ≡ before.shown.sizes.items
+  pub over : IsOverSame before.proposal after.proposal
 
 -- whether an answer says that the advisor has enough
 abbrev pub is_enough : Word → Bool

@@ -16,6 +16,7 @@ use Rattle.branch_tree.specs.Regions.{IsOver, are_in, set_at}
 use Rattle.branch_tree.specs.Sets.{size_of}
 use Rattle.branch_tree.specs.Trees.{Walks, cut_of}
 use Rattle.search.specs.declared.nodes.Division.{Division}
+use Rattle.search.specs.declared.nodes.NewNode.{NewNode}
 use Rattle.search.specs.declared.nodes.PendingNode.{PendingNode}
 use Rattle.search.specs.declared.nodes.SearchNode.{SearchNode}
 use Rattle.search.specs.declared.nodes.SearchNode.TheVariants.{Fixed, Pending}
@@ -56,6 +57,17 @@ pub record IsLeafOf (problem : Meanings) (best : Option CostedPicks) (region : L
 -- all picks of a region are in the root
 abbrev pub IsSubregion : List (List Bool) → List (List Bool) → Type 0
 IsSubregion root region = (picks : List ℕ) → IsTrue (are_in picks region) → IsTrue (are_in picks root)
+
+-- a region below the root of which a node is to be made, and multipliers that fit, which it inherits
+pub record IsNewNode (problem : Meanings) (root : List (List Bool)) (node : NewNode) : Type 0 where
+  pub sets : length node.region ≡ problem.trips
+  pub within : IsSubregion root node.region
+  pub fits : DoFitFor problem node.inherited.now
+
+-- a new node is the next one of these nodes: it is put among them, and its number is how many they are
+pub record IsNext (nodes : List SearchNode) (node : NewNode) : Type 0 where
+  pub place : node.place ≤ length nodes
+  pub number : node.number ≡ length nodes
 
 -- what is known of a node and of its region below the root
 pub record IsPlaced (problem : Meanings) (root : List (List Bool)) (best : Option CostedPicks)

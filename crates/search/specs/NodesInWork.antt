@@ -17,12 +17,14 @@ use Rattle.search.specs.declared.nodes.SearchNode.{SearchNode}
 use Rattle.search.specs.declared.nodes.SearchNode.TheVariants.{Fixed, Pending}
 use Rattle.search.specs.declared.work.Work.{Work}
 use Rattle.search.specs.Evaluations.{IsEnding, IsEvaluated, IsOutcome, leaf_of}
+use Rattle.search.specs.Offers.{IsOffered}
 
--- What is known of a node in work: its kept and its last evaluation are of its region, its first value is the chain
--- value with no multipliers, and its end, where it has one, is one of its region. The kept picks are no better than the
--- best solution. The kept value is at least the first one; and where that leaves room for a better solution, the end of
--- the region is not evident.
+-- What is known of a node in work: its region has a set for each trip, its kept and its last evaluation are of its
+-- region, its first value is the chain value with no multipliers, and its end, where it has one, is one of its region.
+-- The kept picks are no better than the best solution. The kept value is at least the first one; and where that leaves
+-- room for a better solution, the end of the region is not evident.
 pub record IsWorkedOn (problem : Meanings) (best : Option CostedPicks) (work : Work) : Type 0 where
+  pub sets : length work.region ≡ problem.trips
   pub kept : IsEvaluated problem work.region work.kept
   pub last : IsEvaluated problem work.region work.last
   pub first : IsChainValue problem work.region [] Cost work.first.0
@@ -30,6 +32,14 @@ pub record IsWorkedOn (problem : Meanings) (best : Option CostedPicks) (work : W
   pub raised : work.first.0 ≤ℤ work.kept.value.0
   pub not_evident : is_below work.first.0 best ≡ true → IsNotEvident problem work.region
   pub ended : MatchOption work.end (Unit {0}) (IsEnding problem work.region)
+
+-- The work on a node goes on: its region stays, the best solution is the one before or a cheaper one of the root, and
+-- with it all that is known of a node in work holds again.
+pub record Advances (problem : Meanings) (root : List (List Bool)) (earlier best : Option CostedPicks)
+    (before after : Work) : Type 0 where
+  pub region : after.region ≡ before.region
+  pub offered : IsOffered problem root earlier best
+  pub worked : IsWorkedOn problem best after
 
 -- a node in work after its first evaluation
 abbrev pub begun : List (List Bool) → Evaluation → Work

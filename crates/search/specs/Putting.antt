@@ -1,12 +1,15 @@
 -- A node that is put among those of a search, and a node that is branched.
-use Rattle.std.specs.Prelude.{ℕ, ◌≡◌, ◌+◌, List, [], Bool, Option, true, false, length, replicate}
+use Rattle.std.specs.Prelude.{ℕ, ◌≡◌, ◌+◌, ◌*◌, List, [], All, Bool, Option, true, length}
 use Rattle.std.specs.List.{insert}
 use Rattle.branch_tree.specs.declared.multipliers.Entry.{Entry}
 use Rattle.branch_tree.specs.Claims.{CostedPicks, is_open}
 use Rattle.branch_tree.specs.Meanings.{Meanings}
+use Rattle.branch_tree.specs.Trees.{branchings_of}
+use Rattle.search.specs.declared.nodes.NewNode.{NewNode}
 use Rattle.search.specs.declared.nodes.SearchNode.{SearchNode}
 use Rattle.search.specs.declared.nodes.SearchNode.TheVariants.{Fixed, Pending}
 use Rattle.search.specs.declared.solving.Search.{Search}
+use Rattle.search.specs.declared.solving.Terms.{Terms}
 use Rattle.search.specs.Conclusions.{plan_in}
 use Rattle.search.specs.Frontiers.{IsEntered}
 use Rattle.search.specs.declared.nodes.Division.{Division}
@@ -14,30 +17,19 @@ use Rattle.search.specs.declared.evaluation.EvaluationEnd.{EvaluationEnd}
 use Rattle.search.specs.declared.evaluation.EvaluationEnd.TheVariants.{Ended, Open}
 use Rattle.search.specs.declared.work.Work.{Work}
 use Rattle.search.specs.Evaluations.{IsOutcome, leaf_of}
-use Rattle.search.specs.Nodes.{IsDivisionAt, IsLeafOf, branched, tree_node}
+use Rattle.search.specs.Ends.{HaveKeptUp}
+use Rattle.search.specs.Nodes.{IsDivisionAt, IsLeafOf, IsSearched, branched, tree_node, tree_nodes}
 use Rattle.search.specs.Improvements.{AreImproved}
 use Rattle.search.specs.NodeAdvice.{CallTest}
 use Rattle.search.specs.NodesInWork.{HasInherited, begun, node_from}
 use Rattle.search.specs.Offers.{IsOffered}
-use Rattle.search.specs.Rounds.{AreRounds}
+use Rattle.search.specs.Questions.{AreAsked, in_rounds}
+use Rattle.search.specs.Rounds.{AreAdvised}
 
 -- a node that may be branched has this number
 abbrev pub IsNumbered : ℕ → SearchNode → Type 0
 IsNumbered number (Fixed node) = Unit {0}
 IsNumbered number (Pending node) = node.number ≡ number
-
--- so many rounds of advice were made about a node, before which no advisor had enough
-abbrev pub AreAdvised : {A : Type 0} → (A → Bool) → CallTest A → Meanings → ℕ → List A → List A → Option CostedPicks →
-    Option CostedPicks → Work → Work → Type 0
-AreAdvised has_quit has_answered problem rounds advisors later earlier best before after = (enough : List Bool) ×
-    AreRounds has_quit has_answered problem rounds
-    (record {
-      advisors = advisors;
-      enough = replicate (length advisors) false;
-      best = earlier;
-      work = before;
-    })
-    (record { advisors = later; enough = enough; best = best; work = after })
 
 -- A node in work was evaluated under what it inherits, after which the best solution is the one before or a cheaper one
 -- of its region; then the improver was asked about it so many times, and what it proposed was used; and then the rounds
@@ -78,19 +70,24 @@ pub record IsMade {A : Type 0} (has_quit : A → Bool) (has_answered : CallTest 
   pub after : IsMadeAfter has_quit has_answered problem root rounds advisors later middle best region inherited number
       outcome node
 
--- A leaf over a region is put at a place and entered in the frontier, as the others still are. Where it may be branched
--- its number is how many nodes there were before; `Made` holds of it; and where it is open, `Done` holds.
-pub record IsPut (problem : Meanings) (region : List (List Bool)) (place : ℕ) (before after : Search)
-    (Made : SearchNode → Type 0) (Done : Type 0) : Type 0 where
-  pub node : SearchNode
-  pub leaf : IsLeafOf problem (plan_in after.best) region node
-  pub number : IsNumbered (length before.nodes.items) node
-  pub made : Made node
-  pub nodes : after.nodes.items ≡ insert before.nodes.items place node
-  pub entered : (best : Option CostedPicks) → IsEntered best after.frontier node
+-- what is made of a new node is a leaf over its region: where it may be branched it has its number, and where it is
+-- open `Done` holds
+pub record IsNewLeaf (problem : Meanings) (best : Option CostedPicks) (node : NewNode) (Done : Type 0)
+    (made : SearchNode) : Type 0 where
+  pub leaf : IsLeafOf problem best node.region made
+  pub number : IsNumbered node.number made
+  pub done : is_open best (tree_node made) ≡ true → Done
+
+-- a leaf that was made of a new node is put at its place and entered in the frontier, as the others still are
+pub record IsPut (problem : Meanings) (node : NewNode) (before after : Search) (Made : SearchNode → Type 0)
+    (Done : Type 0) : Type 0 where
+  pub leaf : SearchNode
+  pub known : IsNewLeaf problem (plan_in after.best) node Done leaf
+  pub made : Made leaf
+  pub nodes : after.nodes.items ≡ insert before.nodes.items node.place leaf
+  pub entered : (best : Option CostedPicks) → IsEntered best after.frontier leaf
   pub others : (best : Option CostedPicks) (other : SearchNode) →
       IsEntered best before.frontier other → IsEntered best after.frontier other
-  pub done : is_open (plan_in after.best) (tree_node node) ≡ true → Done
 
 -- The open node at a place was branched: by a division of it, and behind the branch stand two nodes. Where these may be
 -- branched they have the next two numbers, the first one the lower. The best solution is that of the first side, and
@@ -114,3 +111,21 @@ pub record IsBranchedAt {A : Type 0} (has_quit : A → Bool) (has_answered : Cal
       division.multipliers (length before) left
   pub right_made : IsMade has_quit has_answered problem root rounds between later middle best' division.right
       division.multipliers (length before + 1) right
+
+-- a search of a root is under way: its nodes are a tree over the root, and its frontier has those that are open
+pub record IsUnderWay (problem : Meanings) (root : List (List Bool)) (search : Search) : Type 0 where
+  pub searched : IsSearched problem root (plan_in search.best) search.nodes.items
+  pub entered : All (IsEntered (plan_in search.best) search.frontier) search.nodes.items
+
+-- The open node at a place of a search was branched. The search is still under way, with one branching more. Where
+-- there are rounds, each advisor that has not quit was asked at least as often as there are more branchings and open
+-- leaves.
+pub record HasBranched {A : Type 0} (asked : A → ℕ) (has_quit : A → Bool) (has_answered : CallTest A)
+    (problem : Meanings) (terms : Terms) (advisors later : List A) (before after : Search) (place : ℕ) : Type 0 where
+  pub under_way : IsUnderWay problem terms.root.now after
+  pub one : branchings_of (tree_nodes after.nodes.items) ≡ branchings_of (tree_nodes before.nodes.items) + 1
+  pub branched : IsBranchedAt has_quit has_answered problem terms.root.now terms.allowed.rounds advisors later
+      (plan_in before.best) (plan_in after.best) before.nodes.items after.nodes.items place
+  pub counted : HaveKeptUp (plan_in before.best) (tree_nodes before.nodes.items) (plan_in after.best)
+      (tree_nodes after.nodes.items) (λ times. AreAsked advisors later asked has_quit
+      (in_rounds terms.allowed.rounds times) (2 * terms.allowed.rounds))

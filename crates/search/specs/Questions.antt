@@ -1,5 +1,5 @@
 -- How the advisors of a search are asked.
-use Rattle.std.specs.Prelude.{ℕ, zero, suc, ◌+◌, ◌*◌, ◌<◌, ◌≤◌, ◌^◌, ◌≡◌, List, [], ◌∷◌, length, get_or, map, All, Bool}
+use Rattle.std.specs.Prelude.{ℕ, zero, suc, ◌+◌, ◌*◌, ◌<◌, ◌≤◌, ◌^◌, ◌≡◌, List, get_or, map, All, Bool}
 use Rattle.std.specs.Prelude.{true, false}
 use Rattle.std.specs.List.{AllZip}
 
@@ -30,44 +30,29 @@ in_rounds (suc rounds) times = times
 abbrev pub MayBeAsked : {A : Type 0} → List A → (A → ℕ) → ℕ → Type 0
 MayBeAsked advisors asked times = All (λ advisor. asked advisor + times < 2 ^ 64) advisors
 
--- how often an advisor is asked in a round at least: once where none has enough yet
-abbrev pub once : List Bool → ℕ
-once [] = 1
-once (true ∷ flags) = 0
-once (false ∷ flags) = once flags
+-- The advisors were asked so many times at most, and nothing else became of them: one of the same identity stands at
+-- each place.
+pub record AreOnlyAsked {A : Type 0} (before after : List A) (identity asked : A → ℕ) (has_quit : A → Bool) (most : ℕ) :
+    Type 0 where
+  pub same : AreTheSame before after identity
+  pub times : AreAsked before after asked has_quit 0 most
 
--- the advisors at the first places were asked once at least, where they have not quit and so much is claimed, and once
--- at most; and the others were not
-abbrev pub AreAskedUpTo : {A : Type 0} → List A → List A → (A → ℕ) → (A → Bool) → ℕ → ℕ → Type 0
-AreAskedUpTo before after asked has_quit least zero = after ≡ before
-AreAskedUpTo [] [] asked has_quit least (suc places) = Unit {0}
-AreAskedUpTo [] (new ∷ after) asked has_quit least (suc places) = ⊥
-AreAskedUpTo (old ∷ before) [] asked has_quit least (suc places) = ⊥
-AreAskedUpTo (old ∷ before) (new ∷ after) asked has_quit least (suc places) =
-    IsAsked least 1 (asked old) (asked new) (has_quit old) (has_quit new) ×
-    AreAskedUpTo before after asked has_quit least places
+-- an advisor has not quit, and may be asked once more
+pub record CanBeAsked {A : Type 0} (asked : A → ℕ) (has_quit : A → Bool) (advisor : A) : Type 0 where
+  pub stays : has_quit advisor ≡ false
+  pub room : asked advisor + 1 < 2 ^ 64
 
--- the advisor at a place was asked once at most, and once where it has not quit afterwards; and no other was asked
-abbrev pub IsAskedAt : {A : Type 0} → List A → List A → (A → ℕ) → (A → Bool) → ℕ → Type 0
-IsAskedAt [] after asked has_quit place = ⊥
-IsAskedAt (old ∷ before) [] asked has_quit place = ⊥
-IsAskedAt (old ∷ before) (new ∷ after) asked has_quit zero =
-    IsAsked 1 1 (asked old) (asked new) (has_quit old) (has_quit new) × (after ≡ before)
-IsAskedAt (old ∷ before) (new ∷ after) asked has_quit (suc place) =
-    (new ≡ old) × IsAskedAt before after asked has_quit place
-
--- the advisor at a place has not quit, and may be asked once more
-pub record CanAsk {A : Type 0} (advisors : List A) (asked : A → ℕ) (has_quit : A → Bool) (place : ℕ) : Type 0 where
-  pub within : place < length advisors
-  pub stays : (advisor : A) → has_quit (get_or advisors place advisor) ≡ false
-  pub room : (advisor : A) → asked (get_or advisors place advisor) + 1 < 2 ^ 64
+-- an advisor was asked once, and is the same still
+pub record IsAskedOnce {A : Type 0} (identity asked : A → ℕ) (before after : A) : Type 0 where
+  pub same : identity after ≡ identity before
+  pub once : asked after ≡ asked before + 1
 
 -- the advisors of which it is noted that they have enough are as they were
 abbrev pub AreLeftAlone : {A : Type 0} → List A → List A → List Bool → Type 0
 AreLeftAlone {A} before after enough =
     (place : ℕ) → (none : A) → get_or enough place false ≡ true → get_or after place none ≡ get_or before place none
 
--- each other advisor at the first places that has not quit was asked once
+-- each advisor at the first places that had not enough and has not quit was asked once
 abbrev pub AreAskedOnce : {A : Type 0} → List A → List A → (A → ℕ) → (A → Bool) → List Bool → ℕ → Type 0
 AreAskedOnce {A} before after asked has_quit enough places =
     (place : ℕ) → (none : A) → place < places → get_or enough place false ≡ false →

@@ -1,5 +1,5 @@
 -- Rounds of advice: what the advisors of a node make of it, one after another.
-use Rattle.std.specs.Prelude.{ℕ, zero, suc, ◌≡◌, List, length, get_or, set, Bool, true, false, Option, Ok}
+use Rattle.std.specs.Prelude.{ℕ, zero, suc, ◌≡◌, List, length, get_or, replicate, set, Bool, true, false, Option, Ok}
 use Rattle.branch_tree.specs.Claims.{CostedPicks}
 use Rattle.branch_tree.specs.Meanings.{Meanings}
 use Rattle.advisors.specs.declared.advisor.Word.{Word}
@@ -9,6 +9,7 @@ use Rattle.search.specs.declared.work.Work.{Work}
 use Rattle.search.specs.NodeAdvice.{CallTest, HasAdvised, is_enough}
 use Rattle.search.specs.NodesInWork.{IsTakenUp, is_open_work}
 use Rattle.search.specs.Offers.{IsOffered}
+use Rattle.search.specs.Questions.{AreAskedOnce}
 
 -- how far the advice on a node has come: the advisors, which of them have enough, the best solution, and the node
 pub record AdviceState (A : Type 0) : Type 0 where
@@ -38,17 +39,23 @@ pub record IsUsed (has_quit : Bool) (problem : Meanings) (earlier best : Option 
   pub taken_up : has_quit ≡ false → IsTakenUp problem earlier best proposal before after
   pub left : has_quit ≡ true → (after ≡ before) × (best ≡ earlier)
 
--- The advisor at a place was asked: it answered when it was shown the node, whether it has enough was noted, and what
--- it proposed was used. The best solution is the one before, or a cheaper one of the node's region.
+-- an advisor was asked: it answered this when it was shown the node, and what it proposed was used
+pub record IsFollowed {A : Type 0} (has_quit : A → Bool) (has_answered : CallTest A) (problem : Meanings) (round : ℕ)
+    (advisor : A) (earlier best : Option CostedPicks) (before after : Work) (word : Word) : Type 0 where
+  pub proposal : Proposed
+  pub answered : HasAdvised has_answered problem round before advisor (Ok word) proposal
+  pub used : IsUsed (has_quit advisor) problem earlier best proposal before after
+
+-- The advisor at a place was asked: what it answered was followed, and whether it has enough was noted. The best
+-- solution is the one before, or a cheaper one of the node's region.
 pub record WasAsked {A : Type 0} (has_quit : A → Bool) (has_answered : CallTest A) (problem : Meanings)
     (round place : ℕ) (before after : AdviceState A) : Type 0 where
   pub advisor : A
   pub word : Word
-  pub proposal : Proposed
-  pub answered : HasAdvised has_answered problem round before.work advisor (Ok word) proposal
+  pub followed : IsFollowed has_quit has_answered problem round advisor before.best after.best before.work after.work
+      word
   pub advisors : after.advisors ≡ set before.advisors place advisor
   pub enough : after.enough ≡ set before.enough place (is_enough word)
-  pub used : IsUsed (has_quit advisor) problem before.best after.best proposal before.work after.work
   pub offered : IsOffered problem before.work.region before.best after.best
 
 -- the advisor at a place was asked, where it is to be asked, and else nothing changed
@@ -65,9 +72,30 @@ WereAskedInOrder {A} has_quit has_answered problem round (suc place) before afte
     (middle : AdviceState A) × WereAskedInOrder has_quit has_answered problem round place before middle ×
     WasAskedIfDue has_quit has_answered problem round place middle after
 
+-- a round was made: the advisors were asked in it where it was due, one after another; and where the node is still
+-- open, each that had not enough before, and has not quit, was asked once
+pub record IsRound {A : Type 0} (asked : A → ℕ) (has_quit : A → Bool) (has_answered : CallTest A) (problem : Meanings)
+    (round : ℕ) (before after : AdviceState A) : Type 0 where
+  pub in_order : WereAskedInOrder has_quit has_answered problem round (length before.advisors) before after
+  pub each : is_open_work after.best after.work ≡ true →
+      AreAskedOnce before.advisors after.advisors asked has_quit before.enough (length before.advisors)
+
 -- so many rounds were made, in each of which all advisors were asked where it was due, one after another
 abbrev pub AreRounds : {A : Type 0} → (A → Bool) → CallTest A → Meanings → ℕ → AdviceState A → AdviceState A → Type 0
 AreRounds has_quit has_answered problem zero before after = after ≡ before
 AreRounds {A} has_quit has_answered problem (suc round) before after =
     (middle : AdviceState A) × AreRounds has_quit has_answered problem round before middle ×
     WereAskedInOrder has_quit has_answered problem round (length middle.advisors) middle after
+
+-- so many rounds of advice were made about a node, before which no advisor had enough
+abbrev pub AreAdvised : {A : Type 0} → (A → Bool) → CallTest A → Meanings → ℕ → List A → List A → Option CostedPicks →
+    Option CostedPicks → Work → Work → Type 0
+AreAdvised has_quit has_answered problem rounds advisors later earlier best before after = (enough : List Bool) ×
+    AreRounds has_quit has_answered problem rounds
+    (record {
+      advisors = advisors;
+      enough = replicate (length advisors) false;
+      best = earlier;
+      work = before;
+    })
+    (record { advisors = later; enough = enough; best = best; work = after })

@@ -1,14 +1,15 @@
 //! Improvements: an improver is asked about a node while it is open, and what it proposes is tested before it is used.
 
-ghost use Rattle.std.specs.Prelude.{◌≡◌, ℕ, length, OnOk};
+ghost use Rattle.std.specs.Prelude.{◌≡◌, ℕ, OnOk};
 ghost use Rattle.search.specs.Conclusions.{plan_in};
 ghost use Rattle.search.specs.Improvements.{AreImproved, AreProposed, IsProposed};
 ghost use Rattle.search.specs.Nodes.{IsSubregion};
-ghost use Rattle.search.specs.NodesInWork.{IsWorkedOn};
+ghost use Rattle.search.specs.NodesInWork.{Advances, IsWorkedOn};
 ghost use Rattle.search.specs.Offers.{IsOffered};
 
 use crate::evaluation::offer;
 use crate::found::Best;
+use crate::solving::Terms;
 use crate::work::Work;
 use branch_tree::{Region, Relaxation, Settled, Slacks};
 use improvers::{Improvement, Improver};
@@ -42,38 +43,34 @@ struct Reply {
 /// Asks an improver about a node while it is open and the improver has more to propose, and uses what it proposes. The
 /// error is want of memory.
 pub(crate) fn improve<R: Relaxation, I: Improver>(
-    alloc: Global,
+    terms: &Terms<'_>,
     problem: &mut R,
-    root: &Region,
     work: &mut Work,
     number: u32,
     best: &mut Option<Best>,
     improver: &mut I,
 ) -> Result<(), NoMemory>
-    requires region { length work.old.region ≡ (R.meanings (R.problem problem.old)).trips }
-    requires within { IsSubregion root.now work.old.region }
+    requires within { IsSubregion terms.now.root.now work.old.region }
     requires worked { IsWorkedOn (R.meanings (R.problem problem.old)) (plan_in best.old) work.old }
     ensures same { R.problem problem.new ≡ R.problem problem.old }
-    ensures region { OnOk result (work.new.region ≡ work.old.region) }
-    ensures offered { OnOk result (IsOffered (R.meanings (R.problem problem.old)) root.now (plan_in best.old)
-        (plan_in best.new)) }
-    ensures worked { OnOk result (IsWorkedOn (R.meanings (R.problem problem.old)) (plan_in best.new) work.new) }
-    ensures improved { OnOk result ((attempts : ℕ) × AreImproved (R.meanings (R.problem problem.old)) root.now attempts
-        (plan_in best.old) (plan_in best.new) work.old work.new) }
+    ensures advances { OnOk result (Advances (R.meanings (R.problem problem.old)) terms.now.root.now (plan_in best.old)
+        (plan_in best.new) work.old work.new) }
+    ensures improved { OnOk result ((attempts : ℕ) × AreImproved (R.meanings (R.problem problem.old)) terms.now.root.now
+        attempts (plan_in best.old) (plan_in best.new) work.old work.new) }
 {
     let mut attempt = Attempt {
         node: number,
         number: 0,
-        slacks: Slacks::new(alloc)?,
+        slacks: Slacks::new(terms.alloc)?,
     };
     for made in 0..MAX_ATTEMPTS {
         if !work.is_open(best) {
             return Ok(());
         }
         attempt.number = made;
-        let reply = ask(alloc, problem, work, best, &mut attempt, improver)?;
+        let reply = ask(terms.alloc, problem, work, best, &mut attempt, improver)?;
         let Reply { improvement, more } = reply;
-        work.take_improvement(alloc, problem, root, improvement, best)?;
+        work.take_improvement(terms.alloc, problem, terms.root, improvement, best)?;
         if !more {
             return Ok(());
         }

@@ -51,6 +51,19 @@ pub(crate) struct Division {
     pub multipliers: Multipliers,
 }
 
+/// A node that is to be made.
+#[derive(Drop)]
+pub(crate) struct NewNode<'a> {
+    /// At which place it is to be put among the nodes in preorder.
+    pub place: usize,
+    /// How many nodes were made before it.
+    pub number: u32,
+    /// Its region.
+    pub region: Region,
+    /// The multipliers that it inherits.
+    pub inherited: &'a Multipliers,
+}
+
 impl SearchNode {
     /// Whether the node is a leaf that may be branched and has this bound and number.
     pub(crate) fn has_rank(&self, bound: Money, number: u32) -> bool

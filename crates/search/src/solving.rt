@@ -1,29 +1,27 @@
 //! The search: it begins with the root, branches the open node of the least bound while branchings are granted, and
 //! tells what its tree proves.
 
-ghost use Rattle.std.specs.Prelude.{ℕ, List, [], ◌∷◌, Bool, Option, ◌≡◌, ◌+◌, ◌*◌, ◌<◌, ◌≤◌, ◌^◌, true, length, All};
+ghost use Rattle.std.specs.Prelude.{List, [], ◌∷◌, Bool, ◌≡◌, ◌+◌, ◌*◌, ◌<◌, ◌≤◌, ◌^◌, length, All};
 ghost use Rattle.std.specs.Prelude.{IfOk, None, OnOk};
 ghost use Rattle.rail_base.specs.declared.limits.TheConstants.{MAX_BRANCHINGS, MAX_NODES, MAX_ROUNDS};
-ghost use Rattle.branch_tree.specs.Claims.{IsConcluded, CostedPicks, is_open, open_leaves_of};
-ghost use Rattle.branch_tree.specs.Meanings.{DoFitFor};
+ghost use Rattle.branch_tree.specs.Claims.{IsConcluded, open_leaves_of};
 ghost use Rattle.branch_tree.specs.Regions.{IsOver};
 ghost use Rattle.branch_tree.specs.Trees.{branchings_of};
 ghost use Rattle.search.specs.declared.nodes.SearchNode.{SearchNode};
-ghost use Rattle.search.specs.Questions.{AreAsked, AreTheSame, MayBeAsked, in_rounds};
-ghost use Rattle.search.specs.Ends.{HasEnded, HaveKeptUp, IsFoundBy, found_by, made_or_open};
-ghost use Rattle.search.specs.Frontiers.{HasLeastRank, IsEntered, IsOpenAt};
-ghost use Rattle.search.specs.Putting.{AreAdvised, IsBranchedAt, IsInheritedAndAdvised, IsMade, IsNumbered, IsPut};
-ghost use Rattle.search.specs.Nodes.{IsDivisionAt, IsLeafOf, IsSearched, IsSubregion, tree_node, tree_nodes};
+ghost use Rattle.search.specs.Questions.{AreAsked, AreOnlyAsked, AreTheSame, MayBeAsked, in_rounds};
+ghost use Rattle.search.specs.Ends.{HasSearched, IsFoundBy, IsWithinLimits, found_by, made_or_open};
+ghost use Rattle.search.specs.Frontiers.{IsNextAt, IsOpenAt};
+ghost use Rattle.search.specs.Putting.{HasBranched, IsMade, IsNewLeaf, IsPut, IsUnderWay};
+ghost use Rattle.search.specs.Nodes.{IsDivisionAt, IsNewNode, IsNext, IsSearched, tree_nodes};
 ghost use Rattle.search.specs.Offers.{IsOffered};
 ghost use Rattle.search.specs.Conclusions.{IsSolved, conclusion_found, nodes_found, plan_found, plan_in};
-ghost use Rattle.search.specs.NodesInWork.{IsWorkedOn, is_open_work};
 
 use crate::evaluation::{EvaluationEnd, evaluate, is_below};
 use crate::found::{Best, Found};
 use crate::frontier::Frontier;
 use crate::improving::improve;
-use crate::nodes::{Division, SearchNode};
-use crate::rounds::{NodeAdvice, make_rounds};
+use crate::nodes::{Division, NewNode, SearchNode};
+use crate::rounds::advise;
 use crate::work::Work;
 use advisors::Advisor;
 use branch_tree::{Multipliers, Node, Region, Relaxation, Tree};
@@ -38,6 +36,17 @@ pub struct Allowed {
     pub branchings: u32,
     /// In how many rounds the advisors may be asked at a node, at most 100.
     pub rounds: u8,
+}
+
+/// How a search is made.
+#[derive(Clone, Copy)]
+pub(crate) struct Terms<'a> {
+    /// The allocator.
+    pub alloc: Global,
+    /// The region that is searched.
+    pub root: &'a Region,
+    /// How far the search may go.
+    pub allowed: Allowed,
 }
 
 /// A search that is under way.
@@ -140,146 +149,109 @@ pub fn solve_with<R: Relaxation, I: Improver>(
         + open_leaves_of (plan_found found) (nodes_found found)))
         (allowed.rounds * (2 * branchings_of (nodes_found found) + 1))) }
 {
-    let search = run(
+    let terms = Terms {
         alloc,
-        problem,
         root,
-        allowed.branchings,
-        allowed.rounds,
-        improver,
-        advisors,
-    )?;
+        allowed,
+    };
+    let search = run(&terms, problem, improver, advisors)?;
     let found = search.finish(alloc)?;
     Ok(found)
 }
 
-/// Branches open nodes until none is left or so many branchings are made.
+/// Branches open nodes until none is left or so many branchings are made as are granted. The error is want of memory.
 fn run<R: Relaxation, I: Improver>(
-    alloc: Global,
+    terms: &Terms<'_>,
     problem: &mut R,
-    root: &Region,
-    grant: u32,
-    rounds: u8,
     improver: &mut I,
     advisors: &mut Vec<Box<dyn Advisor>>,
 ) -> Result<Search, NoMemory>
     requires over { IsOver (R.meanings (R.problem problem.old)).trips
-        (R.meanings (R.problem problem.old)).catalogue root.now }
-    requires grant { grant ≤ MAX_BRANCHINGS }
-    requires rounds { rounds ≤ MAX_ROUNDS }
+        (R.meanings (R.problem problem.old)).catalogue terms.now.root.now }
+    requires allowed { IsWithinLimits terms.now.allowed }
     requires asked { All (λ advisor. asked advisor ≤ 2 ^ 63) advisors.old.items }
-
-    // The problem, and the nodes.
     ensures same { R.problem problem.new ≡ R.problem problem.old }
     ensures accepted { OnOk result (R.IsWellPosed (R.problem problem.old)) }
-    ensures searched { IfOk result (λ search. IsSearched (R.meanings (R.problem problem.old)) root.now
-        (plan_in search.best) search.nodes.items) }
-    ensures granted { IfOk result (λ search. branchings_of (tree_nodes search.nodes.items) ≤ grant) }
-    ensures ended { IfOk result (λ search. HasEnded grant (plan_in search.best) (tree_nodes search.nodes.items)) }
-
-    // The advisors: that one of the same identity stands at each place, and how often it was asked.
-    ensures advisors { AreTheSame advisors.old.items advisors.new.items identity }
-    ensures asked { AreAsked advisors.old.items advisors.new.items asked has_quit 0 (rounds * (2 * grant + 1)) }
+    ensures searched { IfOk result (λ search. HasSearched (R.meanings (R.problem problem.old)) terms.now.root.now
+        terms.now.allowed.branchings (plan_in search.best) search.nodes.items) }
+    ensures advisors { AreOnlyAsked advisors.old.items advisors.new.items identity asked has_quit
+        (terms.now.allowed.rounds * (2 * terms.now.allowed.branchings + 1)) }
     ensures counted { IfOk result (λ search. AreAsked advisors.old.items advisors.new.items asked has_quit
-        (in_rounds rounds (made_or_open (plan_in search.best) (tree_nodes search.nodes.items)))
-        (rounds * (2 * branchings_of (tree_nodes search.nodes.items) + 1))) }
+        (in_rounds terms.now.allowed.rounds (made_or_open (plan_in search.best) (tree_nodes search.nodes.items)))
+        (terms.now.allowed.rounds * (2 * branchings_of (tree_nodes search.nodes.items) + 1))) }
 {
-    let mut search = Search::begin(alloc, problem, root, rounds, improver, advisors)?;
-    for _branching in 0..grant {
+    let mut search = Search::begin(terms, problem, improver, advisors)?;
+    for _branching in 0..terms.allowed.branchings {
         let Some(place) = search.frontier.next_open(&search.nodes, &search.best) else {
             return Ok(search);
         };
-        search.branch(alloc, problem, root, place, rounds, improver, advisors)?;
+        search.branch(terms, problem, place, improver, advisors)?;
     }
     Ok(search)
 }
 
 impl Search {
-    /// A search over a region, which is its one node.
+    /// A search over the root, which is its one node. The error is want of memory.
     fn begin<R: Relaxation, I: Improver>(
-        alloc: Global,
+        terms: &Terms<'_>,
         problem: &mut R,
-        root: &Region,
-        rounds: u8,
         improver: &mut I,
         advisors: &mut Vec<Box<dyn Advisor>>,
     ) -> Result<Search, NoMemory>
         requires over { IsOver (R.meanings (R.problem problem.old)).trips
-            (R.meanings (R.problem problem.old)).catalogue root.now }
-        requires room { MayBeAsked advisors.old.items asked rounds }
-
-        // The problem, and the nodes.
+            (R.meanings (R.problem problem.old)).catalogue terms.now.root.now }
+        requires room { MayBeAsked advisors.old.items asked terms.now.allowed.rounds }
         ensures same { R.problem problem.new ≡ R.problem problem.old }
         ensures accepted { OnOk result (R.IsWellPosed (R.problem problem.old)) }
-        ensures searched { IfOk result (λ search. IsSearched (R.meanings (R.problem problem.old)) root.now
-            (plan_in search.best) search.nodes.items) }
-        ensures entered { IfOk result (λ search.
-            All (IsEntered (plan_in search.best) search.frontier) search.nodes.items) }
-        ensures none { IfOk result (λ search. branchings_of (tree_nodes search.nodes.items) ≡ 0) }
+        ensures under_way { IfOk result (IsUnderWay (R.meanings (R.problem problem.old)) terms.now.root.now) }
         ensures made { IfOk result (λ search. (node : SearchNode) × (search.nodes.items ≡ node ∷ []) ×
-            IsMade has_quit has_answered (R.meanings (R.problem problem.old)) root.now rounds advisors.old.items
-            advisors.new.items None (plan_in search.best) root.now [] 0 node) }
-
-        // The advisors: that one of the same identity stands at each place, and how often it was asked.
-        ensures advisors { AreTheSame advisors.old.items advisors.new.items identity }
-        ensures asked { AreAsked advisors.old.items advisors.new.items asked has_quit 0 rounds }
+            IsMade has_quit has_answered (R.meanings (R.problem problem.old)) terms.now.root.now
+            terms.now.allowed.rounds advisors.old.items advisors.new.items None (plan_in search.best)
+            terms.now.root.now [] 0 node) }
+        ensures advisors { AreOnlyAsked advisors.old.items advisors.new.items identity asked has_quit
+            terms.now.allowed.rounds }
         ensures counted { IfOk result (λ search. AreAsked advisors.old.items advisors.new.items asked has_quit
-            (in_rounds rounds (made_or_open (plan_in search.best) (tree_nodes search.nodes.items))) rounds) }
+            (in_rounds terms.now.allowed.rounds (made_or_open (plan_in search.best) (tree_nodes search.nodes.items)))
+            terms.now.allowed.rounds) }
     {
-        let inherited = Multipliers::new(alloc)?;
-        let region = root.copy(alloc)?;
+        let inherited = Multipliers::new(terms.alloc)?;
+        let node = NewNode {
+            place: 0,
+            number: 0,
+            region: terms.root.copy(terms.alloc)?,
+            inherited: &inherited,
+        };
         let mut search = Search {
-            nodes: Vec::new(alloc),
-            frontier: Frontier::new(alloc),
+            nodes: Vec::new(terms.alloc),
+            frontier: Frontier::new(terms.alloc),
             best: None,
         };
-        search.put_node(
-            alloc, problem, root, 0, region, &inherited, rounds, improver, advisors,
-        )?;
+        search.put_node(terms, problem, node, improver, advisors)?;
         Ok(search)
     }
 
     /// Branches the open node of the least bound, of these the one with the least number, which is at a place. Its left
-    /// side is made first.
+    /// side is made first. The error is want of memory.
     fn branch<R: Relaxation, I: Improver>(
         &mut self,
-        alloc: Global,
+        terms: &Terms<'_>,
         problem: &mut R,
-        root: &Region,
         place: usize,
-        rounds: u8,
         improver: &mut I,
         advisors: &mut Vec<Box<dyn Advisor>>,
     ) -> Result<(), NoMemory>
         requires accepted { R.IsWellPosed (R.problem problem.old) }
-        requires searched { IsSearched (R.meanings (R.problem problem.old)) root.now (plan_in self.old.best)
-            self.old.nodes.items }
-        requires entered { All (IsEntered (plan_in self.old.best) self.old.frontier) self.old.nodes.items }
+        requires under_way { IsUnderWay (R.meanings (R.problem problem.old)) terms.now.root.now self.old }
         requires few { length self.old.nodes.items < MAX_NODES }
-        requires open { IsOpenAt (plan_in self.old.best) self.old.nodes.items place }
-        requires least { HasLeastRank (plan_in self.old.best) self.old.nodes.items place }
-        requires room { MayBeAsked advisors.old.items asked (2 * rounds) }
-
-        // The problem, and the nodes.
+        requires next { IsNextAt (plan_in self.old.best) self.old.nodes.items place }
+        requires room { MayBeAsked advisors.old.items asked (2 * terms.now.allowed.rounds) }
         ensures same { R.problem problem.new ≡ R.problem problem.old }
-        ensures searched { OnOk result (IsSearched (R.meanings (R.problem problem.old)) root.now
-            (plan_in self.new.best) self.new.nodes.items) }
-        ensures entered { OnOk result (All (IsEntered (plan_in self.new.best) self.new.frontier) self.new.nodes.items) }
-        ensures one { OnOk result
-            (branchings_of (tree_nodes self.new.nodes.items) ≡ branchings_of (tree_nodes self.old.nodes.items) + 1) }
-        ensures branched { OnOk result (IsBranchedAt has_quit has_answered (R.meanings (R.problem problem.old)) root.now
-            rounds advisors.old.items advisors.new.items (plan_in self.old.best) (plan_in self.new.best)
-            self.old.nodes.items self.new.nodes.items place) }
-
-        // The advisors: that one of the same identity stands at each place, and how often it was asked.
-        ensures advisors { AreTheSame advisors.old.items advisors.new.items identity }
-        ensures asked { AreAsked advisors.old.items advisors.new.items asked has_quit 0 (2 * rounds) }
-        ensures counted { OnOk result (HaveKeptUp (plan_in self.old.best) (tree_nodes self.old.nodes.items)
-            (plan_in self.new.best) (tree_nodes self.new.nodes.items)
-            (λ times. AreAsked advisors.old.items advisors.new.items asked has_quit (in_rounds rounds times)
-            (2 * rounds))) }
+        ensures advisors { AreOnlyAsked advisors.old.items advisors.new.items identity asked has_quit
+            (2 * terms.now.allowed.rounds) }
+        ensures branched { OnOk result (HasBranched asked has_quit has_answered (R.meanings (R.problem problem.old))
+            terms.now advisors.old.items advisors.new.items self.old self.new place) }
     {
-        let division = self.divide_at(alloc, problem, place)?;
+        let division = self.divide_at(terms.alloc, problem, place)?;
         let Division {
             cut,
             left,
@@ -287,75 +259,50 @@ impl Search {
             multipliers,
         } = division;
         self.nodes[place] = SearchNode::Fixed(Node::Branch(cut));
-        self.put_node(
-            alloc,
-            problem,
-            root,
-            place + 1,
-            left,
-            &multipliers,
-            rounds,
-            improver,
-            advisors,
-        )?;
-        self.put_node(
-            alloc,
-            problem,
-            root,
-            place + 2,
-            right,
-            &multipliers,
-            rounds,
-            improver,
-            advisors,
-        )
+        let first = NewNode {
+            place: place + 1,
+            number: self.nodes.len() as u32,
+            region: left,
+            inherited: &multipliers,
+        };
+        self.put_node(terms, problem, first, improver, advisors)?;
+        let second = NewNode {
+            place: place + 2,
+            number: self.nodes.len() as u32,
+            region: right,
+            inherited: &multipliers,
+        };
+        self.put_node(terms, problem, second, improver, advisors)
     }
 
-    /// Makes the node of a region, puts it at a place, and enters it in the frontier. The error is want of memory.
+    /// Makes the next node, puts it at its place, and enters it in the frontier. The error is want of memory.
     fn put_node<R: Relaxation, I: Improver>(
         &mut self,
-        alloc: Global,
+        terms: &Terms<'_>,
         problem: &mut R,
-        root: &Region,
-        place: usize,
-        region: Region,
-        inherited: &Multipliers,
-        rounds: u8,
+        node: NewNode<'_>,
         improver: &mut I,
         advisors: &mut Vec<Box<dyn Advisor>>,
     ) -> Result<(), NoMemory>
-        requires few { length self.old.nodes.items ≤ MAX_NODES }
-        requires place { place ≤ length self.old.nodes.items }
-        requires region { length region ≡ (R.meanings (R.problem problem.old)).trips }
-        requires within { IsSubregion root.now region }
-        requires fits { DoFitFor (R.meanings (R.problem problem.old)) inherited.now }
-        requires room { MayBeAsked advisors.old.items asked rounds }
+        requires node { IsNewNode (R.meanings (R.problem problem.old)) terms.now.root.now node }
+        requires next { IsNext self.old.nodes.items node }
+        requires room { MayBeAsked advisors.old.items asked terms.now.allowed.rounds }
         ensures same { R.problem problem.new ≡ R.problem problem.old }
-        ensures offered { OnOk result (IsOffered (R.meanings (R.problem problem.old)) root.now (plan_in self.old.best)
-            (plan_in self.new.best)) }
         ensures accepted { OnOk result (R.IsWellPosed (R.problem problem.old)) }
-        ensures put { OnOk result (IsPut (R.meanings (R.problem problem.old)) region place self.old self.new
-            (IsMade has_quit has_answered (R.meanings (R.problem problem.old)) root.now rounds advisors.old.items
-            advisors.new.items (plan_in self.old.best) (plan_in self.new.best) region inherited.now
-            (length self.old.nodes.items))
-            (AreAsked advisors.old.items advisors.new.items asked has_quit (in_rounds rounds 1) rounds)) }
-        ensures advisors { AreTheSame advisors.old.items advisors.new.items identity }
-        ensures asked { AreAsked advisors.old.items advisors.new.items asked has_quit 0 rounds }
+        ensures offered { OnOk result (IsOffered (R.meanings (R.problem problem.old)) terms.now.root.now
+            (plan_in self.old.best) (plan_in self.new.best)) }
+        ensures put { OnOk result (IsPut (R.meanings (R.problem problem.old)) node.entry self.old self.new
+            (IsMade has_quit has_answered (R.meanings (R.problem problem.old)) terms.now.root.now
+            terms.now.allowed.rounds advisors.old.items advisors.new.items (plan_in self.old.best)
+            (plan_in self.new.best) node.entry.region node.entry.inherited.now node.entry.number)
+            (AreAsked advisors.old.items advisors.new.items asked has_quit (in_rounds terms.now.allowed.rounds 1)
+            terms.now.allowed.rounds)) }
+        ensures advisors { AreOnlyAsked advisors.old.items advisors.new.items identity asked has_quit
+            terms.now.allowed.rounds }
     {
-        let number = self.nodes.len() as u32;
-        let node = make_node(
-            alloc,
-            problem,
-            root,
-            region,
-            number,
-            inherited,
-            &mut self.best,
-            rounds,
-            improver,
-            advisors,
-        )?;
-        self.nodes.insert(place, node)?;
+        let place = node.place;
+        let made = make_node(terms, problem, node, &mut self.best, improver, advisors)?;
+        self.nodes.insert(place, made)?;
         self.frontier.enter(&self.nodes[place])
     }
 
@@ -421,130 +368,53 @@ fn found_of(least: Option<Money>, best: Option<Best>, tree: Tree) -> Found
 }
 
 /// Makes a node of the search: evaluates its region with no multipliers and then under those that it inherits, and asks
-/// the improver and then the advisors about it.
+/// the improver and then the advisors about it. The error is want of memory.
 fn make_node<R: Relaxation, I: Improver>(
-    alloc: Global,
+    terms: &Terms<'_>,
     problem: &mut R,
-    root: &Region,
-    region: Region,
-    number: u32,
-    inherited: &Multipliers,
+    node: NewNode<'_>,
     best: &mut Option<Best>,
-    rounds: u8,
     improver: &mut I,
     advisors: &mut Vec<Box<dyn Advisor>>,
 ) -> Result<SearchNode, NoMemory>
-    requires region { length region ≡ (R.meanings (R.problem problem.old)).trips }
-    requires within { IsSubregion root.now region }
-    requires fits { DoFitFor (R.meanings (R.problem problem.old)) inherited.now }
-    requires room { MayBeAsked advisors.old.items asked rounds }
-
-    // The problem, and the node.
+    requires node { IsNewNode (R.meanings (R.problem problem.old)) terms.now.root.now node }
+    requires room { MayBeAsked advisors.old.items asked terms.now.allowed.rounds }
     ensures same { R.problem problem.new ≡ R.problem problem.old }
-    ensures offered { OnOk result (IsOffered (R.meanings (R.problem problem.old)) root.now (plan_in best.old)
-        (plan_in best.new)) }
     ensures accepted { OnOk result (R.IsWellPosed (R.problem problem.old)) }
-    ensures node { IfOk result (IsLeafOf (R.meanings (R.problem problem.old)) (plan_in best.new) region) }
-    ensures number { IfOk result (IsNumbered number) }
-    ensures made { IfOk result (IsMade has_quit has_answered (R.meanings (R.problem problem.old)) root.now rounds
-        advisors.old.items advisors.new.items (plan_in best.old) (plan_in best.new) region inherited.now number) }
-
-    // The advisors: that one of the same identity stands at each place, and how often it was asked.
-    ensures advisors { AreTheSame advisors.old.items advisors.new.items identity }
-    ensures asked { AreAsked advisors.old.items advisors.new.items asked has_quit 0 rounds }
-    ensures least { IfOk result (λ node. is_open (plan_in best.new) (tree_node node) ≡ true →
-        AreAsked advisors.old.items advisors.new.items asked has_quit (in_rounds rounds 1) rounds) }
+    ensures offered { OnOk result (IsOffered (R.meanings (R.problem problem.old)) terms.now.root.now (plan_in best.old)
+        (plan_in best.new)) }
+    ensures leaf { IfOk result (IsNewLeaf (R.meanings (R.problem problem.old)) (plan_in best.new) node.entry
+        (AreAsked advisors.old.items advisors.new.items asked has_quit (in_rounds terms.now.allowed.rounds 1)
+        terms.now.allowed.rounds)) }
+    ensures made { IfOk result (IsMade has_quit has_answered (R.meanings (R.problem problem.old)) terms.now.root.now
+        terms.now.allowed.rounds advisors.old.items advisors.new.items (plan_in best.old) (plan_in best.new)
+        node.entry.region node.entry.inherited.now node.entry.number) }
+    ensures advisors { AreOnlyAsked advisors.old.items advisors.new.items identity asked has_quit
+        terms.now.allowed.rounds }
 {
-    let none = Multipliers::new(alloc)?;
-    let outcome = evaluate(alloc, problem, &region, none, best)?;
+    let NewNode {
+        number,
+        region,
+        inherited,
+        ..
+    } = node;
+    let none = Multipliers::new(terms.alloc)?;
+    let outcome = evaluate(terms.alloc, problem, &region, none, best)?;
     match outcome {
         EvaluationEnd::Ended(ending) => Ok(SearchNode::Fixed(ending.into_leaf())),
         EvaluationEnd::Open(evaluation) => {
-            let mut work = Work::new(alloc, region, evaluation)?;
-            let worked = work_on(
-                alloc, problem, root, &mut work, number, inherited, best, rounds, improver,
+            let mut work = Work::new(terms.alloc, region, evaluation)?;
+            work.inherit(terms.alloc, problem, inherited, best)?;
+            improve(terms, problem, &mut work, number, best, improver)?;
+            advise(
+                terms.alloc,
+                problem,
+                &mut work,
+                best,
+                terms.allowed.rounds,
                 advisors,
-            );
-            worked.and(Ok(work.into_node(number, best)))
+            )?;
+            Ok(work.into_node(number, best))
         }
     }
-}
-
-/// Works on a node after its first evaluation: evaluates it under the multipliers that it inherits, and asks the
-/// improver and then the advisors about it. The error is want of memory.
-fn work_on<R: Relaxation, I: Improver>(
-    alloc: Global,
-    problem: &mut R,
-    root: &Region,
-    work: &mut Work,
-    number: u32,
-    inherited: &Multipliers,
-    best: &mut Option<Best>,
-    rounds: u8,
-    improver: &mut I,
-    advisors: &mut Vec<Box<dyn Advisor>>,
-) -> Result<(), NoMemory>
-    requires region { length work.old.region ≡ (R.meanings (R.problem problem.old)).trips }
-    requires within { IsSubregion root.now work.old.region }
-    requires worked { IsWorkedOn (R.meanings (R.problem problem.old)) (plan_in best.old) work.old }
-    requires fits { DoFitFor (R.meanings (R.problem problem.old)) inherited.now }
-    requires room { MayBeAsked advisors.old.items asked rounds }
-
-    // The problem, and the node.
-    ensures same { R.problem problem.new ≡ R.problem problem.old }
-    ensures region { OnOk result (work.new.region ≡ work.old.region) }
-    ensures offered { OnOk result (IsOffered (R.meanings (R.problem problem.old)) root.now (plan_in best.old)
-        (plan_in best.new)) }
-    ensures worked { OnOk result (IsWorkedOn (R.meanings (R.problem problem.old)) (plan_in best.new) work.new) }
-
-    // The advisors: that one of the same identity stands at each place, and how often it was asked.
-    ensures advisors { AreTheSame advisors.old.items advisors.new.items identity }
-    ensures asked { AreAsked advisors.old.items advisors.new.items asked has_quit 0 rounds }
-    ensures least { OnOk result (is_open_work (plan_in best.new) work.new ≡ true →
-        AreAsked advisors.old.items advisors.new.items asked has_quit (in_rounds rounds 1) rounds) }
-
-    // What is inherited, the improvements and the rounds make of the node.
-    ensures advised { OnOk result (IsInheritedAndAdvised has_quit has_answered (R.meanings (R.problem problem.old))
-        root.now rounds inherited.now advisors.old.items advisors.new.items (plan_in best.old) (plan_in best.new)
-        work.old work.new) }
-{
-    work.inherit(alloc, problem, inherited, best)?;
-    improve(alloc, problem, root, work, number, best, improver)?;
-    advise(alloc, problem, work, best, rounds, advisors)
-}
-
-/// Asks the advisors about a node, where it is open. The error is want of memory.
-fn advise<R: Relaxation>(
-    alloc: Global,
-    problem: &mut R,
-    work: &mut Work,
-    best: &mut Option<Best>,
-    rounds: u8,
-    advisors: &mut Vec<Box<dyn Advisor>>,
-) -> Result<(), NoMemory>
-    requires region { length work.old.region ≡ (R.meanings (R.problem problem.old)).trips }
-    requires worked { IsWorkedOn (R.meanings (R.problem problem.old)) (plan_in best.old) work.old }
-    requires room { MayBeAsked advisors.old.items asked rounds }
-
-    // The problem, and the node.
-    ensures same { R.problem problem.new ≡ R.problem problem.old }
-    ensures region { OnOk result (work.new.region ≡ work.old.region) }
-    ensures offered { OnOk result (IsOffered (R.meanings (R.problem problem.old)) work.old.region (plan_in best.old)
-        (plan_in best.new)) }
-    ensures worked { OnOk result (IsWorkedOn (R.meanings (R.problem problem.old)) (plan_in best.new) work.new) }
-
-    // The advisors: that one of the same identity stands at each place, how often it was asked, and what the rounds
-    // make of the node.
-    ensures advisors { AreTheSame advisors.old.items advisors.new.items identity }
-    ensures asked { AreAsked advisors.old.items advisors.new.items asked has_quit 0 rounds }
-    ensures least { OnOk result (is_open_work (plan_in best.new) work.new ≡ true →
-        AreAsked advisors.old.items advisors.new.items asked has_quit (in_rounds rounds 1) rounds) }
-    ensures advised { OnOk result (AreAdvised has_quit has_answered (R.meanings (R.problem problem.old)) rounds
-        advisors.old.items advisors.new.items (plan_in best.old) (plan_in best.new) work.old work.new) }
-{
-    if !work.is_open(best) {
-        return Ok(());
-    }
-    let mut advice = NodeAdvice::new(alloc, problem, work.region(), advisors.len())?;
-    make_rounds(alloc, problem, work, best, rounds, &mut advice, advisors)
 }

@@ -1,15 +1,14 @@
 //! A node in work: its region, and what its evaluations have given so far.
 
-ghost use Rattle.std.specs.Prelude.{◌≡◌, true, length, map, IfOk, OnOk};
+ghost use Rattle.std.specs.Prelude.{◌≡◌, map, IfOk, OnOk};
 ghost use Rattle.branch_tree.specs.Bounds.{AreSlacks};
 ghost use Rattle.branch_tree.specs.Meanings.{DoFitFor};
 ghost use Rattle.branch_tree.specs.Sets.{size_of};
 ghost use Rattle.search.specs.Improvements.{AreTried, IsSeenOf, IsUsedUp};
 ghost use Rattle.search.specs.NodeAdvice.{IsLookAt};
 ghost use Rattle.search.specs.Nodes.{IsSubregion};
-ghost use Rattle.search.specs.Offers.{IsOffered};
 ghost use Rattle.search.specs.Conclusions.{plan_in};
-ghost use Rattle.search.specs.NodesInWork.{HasInherited, IsConsidered, IsTakenUp, IsWorkedOn};
+ghost use Rattle.search.specs.NodesInWork.{Advances, HasInherited, IsConsidered, IsTakenUp, IsWorkedOn};
 ghost use Rattle.search.specs.NodesInWork.{begun, is_open_work, learned, node_from, remembering};
 
 use crate::evaluation::{Ending, Evaluation, EvaluationEnd, evaluate, is_below};
@@ -140,8 +139,8 @@ impl Work {
         self.end.is_none() && is_below(self.kept.value, best)
     }
 
-    /// Evaluates the node, which is open, under multipliers that fit. They are kept where their value is greater than
-    /// that of the kept ones. The error is want of memory.
+    /// Evaluates the node under multipliers that fit. They are kept where their value is greater than that of the kept
+    /// ones. The error is want of memory.
     pub(crate) fn consider<R: Relaxation>(
         &mut self,
         alloc: Global,
@@ -150,14 +149,10 @@ impl Work {
         best: &mut Option<Best>,
     ) -> Result<(), NoMemory>
         requires fits { DoFitFor (R.meanings (R.problem problem.old)) multipliers }
-        requires region { length self.old.region ≡ (R.meanings (R.problem problem.old)).trips }
-        requires open { is_open_work (plan_in best.old) self.old ≡ true }
         requires worked { IsWorkedOn (R.meanings (R.problem problem.old)) (plan_in best.old) self.old }
         ensures same { R.problem problem.new ≡ R.problem problem.old }
-        ensures region { OnOk result (self.new.region ≡ self.old.region) }
-        ensures offered { OnOk result (IsOffered (R.meanings (R.problem problem.old)) self.old.region
-            (plan_in best.old) (plan_in best.new)) }
-        ensures worked { OnOk result (IsWorkedOn (R.meanings (R.problem problem.old)) (plan_in best.new) self.new) }
+        ensures advances { OnOk result (Advances (R.meanings (R.problem problem.old)) self.old.region
+            (plan_in best.old) (plan_in best.new) self.old self.new) }
         ensures considered { OnOk result (IsConsidered (R.meanings (R.problem problem.old)) (plan_in best.new)
             multipliers self.old self.new) }
     {
@@ -170,6 +165,7 @@ impl Work {
 
     /// Evaluates the node under the multipliers that it inherits, where there are such and the node is open. The
     /// error is want of memory.
+    #[tactic(auto, using(crate::proofs::Working::not_advanced))]
     pub(crate) fn inherit<R: Relaxation>(
         &mut self,
         alloc: Global,
@@ -178,13 +174,10 @@ impl Work {
         best: &mut Option<Best>,
     ) -> Result<(), NoMemory>
         requires fits { DoFitFor (R.meanings (R.problem problem.old)) inherited.now }
-        requires region { length self.old.region ≡ (R.meanings (R.problem problem.old)).trips }
         requires worked { IsWorkedOn (R.meanings (R.problem problem.old)) (plan_in best.old) self.old }
         ensures same { R.problem problem.new ≡ R.problem problem.old }
-        ensures region { OnOk result (self.new.region ≡ self.old.region) }
-        ensures offered { OnOk result (IsOffered (R.meanings (R.problem problem.old)) self.old.region
-            (plan_in best.old) (plan_in best.new)) }
-        ensures worked { OnOk result (IsWorkedOn (R.meanings (R.problem problem.old)) (plan_in best.new) self.new) }
+        ensures advances { OnOk result (Advances (R.meanings (R.problem problem.old)) self.old.region
+            (plan_in best.old) (plan_in best.new) self.old self.new) }
         ensures inherited { OnOk result (HasInherited (R.meanings (R.problem problem.old)) (plan_in best.old)
             (plan_in best.new) inherited.now self.old self.new) }
     {
@@ -194,8 +187,8 @@ impl Work {
         Ok(())
     }
 
-    /// Takes up a proposal for the node, which is open: its cut is remembered, and its multipliers, where it has an
-    /// entry, are considered. The error is want of memory.
+    /// Takes up a proposal for the node: its cut is remembered, and its multipliers, where it has an entry, are
+    /// considered. The error is want of memory.
     pub(crate) fn take_up<R: Relaxation>(
         &mut self,
         alloc: Global,
@@ -205,14 +198,10 @@ impl Work {
     ) -> Result<(), NoMemory>
         requires indices { proposal.now.indices ≡ (R.meanings (R.problem problem.old)).indices }
         requires free_from { proposal.now.free_from ≡ (R.meanings (R.problem problem.old)).free_from }
-        requires region { length self.old.region ≡ (R.meanings (R.problem problem.old)).trips }
-        requires open { is_open_work (plan_in best.old) self.old ≡ true }
         requires worked { IsWorkedOn (R.meanings (R.problem problem.old)) (plan_in best.old) self.old }
         ensures same { R.problem problem.new ≡ R.problem problem.old }
-        ensures region { OnOk result (self.new.region ≡ self.old.region) }
-        ensures offered { OnOk result (IsOffered (R.meanings (R.problem problem.old)) self.old.region
-            (plan_in best.old) (plan_in best.new)) }
-        ensures worked { OnOk result (IsWorkedOn (R.meanings (R.problem problem.old)) (plan_in best.new) self.new) }
+        ensures advances { OnOk result (Advances (R.meanings (R.problem problem.old)) self.old.region
+            (plan_in best.old) (plan_in best.new) self.old self.new) }
         ensures taken_up { OnOk result (IsTakenUp (R.meanings (R.problem problem.old)) (plan_in best.old)
             (plan_in best.new) proposal.now self.old self.new) }
     {
@@ -233,14 +222,11 @@ impl Work {
         improvement: Improvement,
         best: &mut Option<Best>,
     ) -> Result<(), NoMemory>
-        requires region { length self.old.region ≡ (R.meanings (R.problem problem.old)).trips }
         requires within { IsSubregion root.now self.old.region }
         requires worked { IsWorkedOn (R.meanings (R.problem problem.old)) (plan_in best.old) self.old }
         ensures same { R.problem problem.new ≡ R.problem problem.old }
-        ensures region { OnOk result (self.new.region ≡ self.old.region) }
-        ensures offered { OnOk result (IsOffered (R.meanings (R.problem problem.old)) root.now (plan_in best.old)
-            (plan_in best.new)) }
-        ensures worked { OnOk result (IsWorkedOn (R.meanings (R.problem problem.old)) (plan_in best.new) self.new) }
+        ensures advances { OnOk result (Advances (R.meanings (R.problem problem.old)) root.now (plan_in best.old)
+            (plan_in best.new) self.old self.new) }
         ensures used { OnOk result (IsUsedUp (R.meanings (R.problem problem.old)) root.now improvement
             (plan_in best.old) (plan_in best.new) self.old self.new) }
     {
@@ -256,6 +242,7 @@ impl Work {
 
     /// Evaluates the node under multipliers, where there are any, they fit and the node is open. The error is want of
     /// memory.
+    #[tactic(auto, using(crate::proofs::Working::not_advanced))]
     fn consider_any<R: Relaxation>(
         &mut self,
         alloc: Global,
@@ -263,13 +250,10 @@ impl Work {
         multipliers: Option<Multipliers>,
         best: &mut Option<Best>,
     ) -> Result<(), NoMemory>
-        requires region { length self.old.region ≡ (R.meanings (R.problem problem.old)).trips }
         requires worked { IsWorkedOn (R.meanings (R.problem problem.old)) (plan_in best.old) self.old }
         ensures same { R.problem problem.new ≡ R.problem problem.old }
-        ensures region { OnOk result (self.new.region ≡ self.old.region) }
-        ensures offered { OnOk result (IsOffered (R.meanings (R.problem problem.old)) self.old.region
-            (plan_in best.old) (plan_in best.new)) }
-        ensures worked { OnOk result (IsWorkedOn (R.meanings (R.problem problem.old)) (plan_in best.new) self.new) }
+        ensures advances { OnOk result (Advances (R.meanings (R.problem problem.old)) self.old.region
+            (plan_in best.old) (plan_in best.new) self.old self.new) }
         ensures tried { OnOk result (AreTried (R.meanings (R.problem problem.old)) multipliers (plan_in best.old)
             (plan_in best.new) self.old self.new) }
     {

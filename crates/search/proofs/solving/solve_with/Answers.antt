@@ -8,16 +8,37 @@ use Rattle.search.specs.Conclusions.{conclusion_found, nodes_found, plan_found, 
 use Rattle.search.proofs.Finishing.{found_nodes, length-tree, solved}
 use Rattle.search.proofs.solving.solve_with.Goals as goal
 
+pub run-requires-clause-allowed : goal.run-requires-clause-allowed
+run-requires-clause-allowed g c = record { branchings = c.requires.grant; rounds = c.requires.rounds }
+
+pub returns-in_err-search-clause-advisors : goal.returns-in_err-search-clause-advisors
+returns-in_err-search-clause-advisors g c = c.run.ensures.advisors.same
+
+pub returns-in_err-search-clause-asked : goal.returns-in_err-search-clause-asked
+returns-in_err-search-clause-asked g c = c.run.ensures.advisors.times
+
+pub returns-in_err-found-clause-advisors : goal.returns-in_err-found-clause-advisors
+returns-in_err-found-clause-advisors g c = c.run.ensures.advisors.same
+
+pub returns-in_err-found-clause-asked : goal.returns-in_err-found-clause-asked
+returns-in_err-found-clause-asked g c = c.run.ensures.advisors.times
+
+pub returns-clause-advisors : goal.returns-clause-advisors
+returns-clause-advisors g c = c.run.ensures.advisors.same
+
+pub returns-clause-asked : goal.returns-clause-asked
+returns-clause-asked g c = c.run.ensures.advisors.times
+
 pub finish-requires : goal.finish-requires
 finish-requires g c =
     let many : length c.in_ok-search.search.nodes.items ≡ 2 * branchings_of (tree_nodes c.in_ok-search.search.nodes.items) + 1 =
-    length-tree (g.R.Relaxation.meanings (g.R.Relaxation.problem c.args.problem.now)) c.args.root.now (plan_in c.in_ok-search.search.best) c.in_ok-search.search.nodes.items c.in_ok-search.ensures.searched in
-    omega (arith, many, c.in_ok-search.ensures.granted, c.requires.grant)
+    length-tree (g.R.Relaxation.meanings (g.R.Relaxation.problem c.args.problem.now)) c.args.root.now (plan_in c.in_ok-search.search.best) c.in_ok-search.search.nodes.items c.in_ok-search.ensures.searched.searched in
+    omega (arith, many, c.in_ok-search.ensures.searched.granted, c.requires.grant)
 
 pub returns-clause-solved : goal.returns-clause-solved
 returns-clause-solved g c =
     solved (g.R.Relaxation.meanings (g.R.Relaxation.problem c.args.problem.now)) c.args.root.now c.args.allowed.branchings c.in_ok-search.search.best c.in_ok-search.search.nodes.items c.in_ok-found.found
-    c.in_ok-search.ensures.searched c.in_ok-search.ensures.granted c.in_ok-search.ensures.ended c.in_ok-found.ensures
+    c.in_ok-search.ensures.searched.searched c.in_ok-search.ensures.searched.granted c.in_ok-search.ensures.searched.ended c.in_ok-found.ensures
 
 pub returns-clause-holds : goal.returns-clause-holds
 returns-clause-holds g c =

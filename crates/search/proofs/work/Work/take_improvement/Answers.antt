@@ -1,29 +1,34 @@
-use Rattle.std.proofs.Common.{◌≡◌, sym, ap, subst}
+use Rattle.std.proofs.Common.{refl, sym, subst}
 use Rattle.std.proofs.lemmas.Result.{on_ok_weaker}
-use Rattle.search.specs.declared.work.Work.{Work}
 use Rattle.search.specs.Conclusions.{plan_in}
-use Rattle.search.specs.NodesInWork.{IsWorkedOn}
-use Rattle.search.specs.Offers.{IsOffered}
-use Rattle.search.proofs.Evaluating.{offered_again}
-use Rattle.search.proofs.Offering.{offered_within, worked_with}
-use Rattle.search.proofs.Working.{worked_with_cut}
+use Rattle.search.specs.Nodes.{IsSubregion}
+use Rattle.search.specs.NodesInWork.{Advances, IsWorkedOn}
+use Rattle.search.proofs.Working.{advanced_by_cut, advanced_by_offer, advanced_within}
 use Rattle.search.proofs.work.Work.take_improvement.Goals as goal
 
-pub consider_any-requires-clause-worked : goal.consider_any-requires-clause-worked
-consider_any-requires-clause-worked g c =
+pub consider_any-requires : goal.consider_any-requires
+consider_any-requires g c =
     let problem = g.R.Relaxation.meanings (g.R.Relaxation.problem c.args.problem.now) in
-    let best = plan_in c.offer_solutions.new.best in
-    subst (λ p. IsWorkedOn (g.R.Relaxation.meanings p) best c.remember.new.self) (sym c.offer_solutions.ensures.same)
-    (subst (λ (work : Work). IsWorkedOn problem best work) (sym c.remember.ensures)
-    (worked_with_cut _ _ _ _ (worked_with problem (plan_in c.args.best.now) best c.args.self.now c.in_ok-offer_solutions.ensures.offered.no_dearer c.requires.worked)))
+    record {
+      worked = subst (λ p. IsWorkedOn (g.R.Relaxation.meanings p) (plan_in c.offer_solutions.new.best) c.remember.new.self) (sym c.offer_solutions.ensures.same)
+          (advanced_by_offer problem c.args.root.now (plan_in c.args.best.now) (plan_in c.offer_solutions.new.best) c.remember.new.self c.in_ok-offer_solutions.ensures.offered
+          (advanced_by_cut problem c.args.root.now (plan_in c.args.best.now) _ c.args.self.now c.remember.new.self c.remember.ensures c.requires.worked).worked).worked;
+    }
 
-pub returns-clause-offered : goal.returns-clause-offered
-returns-clause-offered g c =
-    let problem = g.R.Relaxation.meanings (g.R.Relaxation.problem c.args.problem.now) in
+pub returns-clause-advances : goal.returns-clause-advances
+returns-clause-advances g c =
+    let p = g.R.Relaxation.problem c.args.problem.now in
+    let problem = g.R.Relaxation.meanings p in
     let root = c.args.root.now in
+    let first = plan_in c.args.best.now in
     let middle = plan_in c.offer_solutions.new.best in
     let last = plan_in c.consider_any.new.best in
-    on_ok_weaker c.consider_any.result (λ offered. offered_again problem root (plan_in c.args.best.now) middle last c.in_ok-offer_solutions.ensures.offered
-    (offered_within problem root c.args.self.now.region middle last c.requires.within
-    (subst (λ region. IsOffered problem region middle last) (ap (λ (work : Work). work.region) c.remember.ensures)
-    (subst (λ p. IsOffered (g.R.Relaxation.meanings p) c.remember.new.self.region middle last) c.offer_solutions.ensures.same offered)))) c.consider_any.ensures.offered
+    let before = c.args.self.now in
+    let with_cut = c.remember.new.self in
+    let cut : Advances problem root first first before with_cut = advanced_by_cut problem root first _ before with_cut c.remember.ensures c.requires.worked in
+    let offered : Advances problem root first middle before with_cut =
+    advanced_within g.R.Relaxation.meanings p p root root first first middle before with_cut with_cut refl (λ picks inside. inside) cut
+    (advanced_by_offer problem root first middle with_cut c.in_ok-offer_solutions.ensures.offered cut.worked) in
+    on_ok_weaker c.consider_any.result (λ tried.
+    advanced_within g.R.Relaxation.meanings p (g.R.Relaxation.problem c.offer_solutions.new.problem) root with_cut.region first middle last before with_cut c.consider_any.new.self
+    c.offer_solutions.ensures.same (subst (λ sets. IsSubregion root sets) (sym cut.region) c.requires.within) offered tried) c.consider_any.ensures.advances

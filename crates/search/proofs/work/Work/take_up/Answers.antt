@@ -1,30 +1,9 @@
-use Rattle.std.proofs.Common.{sym, ◌∙◌, ap, subst}
-use Rattle.std.proofs.lemmas.Result.{IfOk-from_err}
+use Rattle.std.proofs.Common.{refl, sym, ◌∙◌, subst}
 use Rattle.search.specs.declared.work.Work.{Work}
 use Rattle.search.specs.Conclusions.{plan_in}
 use Rattle.search.specs.NodesInWork.{IsWorkedOn}
-use Rattle.search.specs.Offers.{IsOffered}
-use Rattle.search.proofs.Evaluating.{not_offered}
-use Rattle.search.proofs.Working.{fits_for, worked_with_cut}
+use Rattle.search.proofs.Working.{advanced_by_cut, advanced_on, fits_for, worked_with_cut}
 use Rattle.search.proofs.work.Work.take_up.Goals as goal
-
-pub returns-in_err-copy-clause-region : goal.returns-in_err-copy-clause-region
-returns-in_err-copy-clause-region g c = IfOk-from_err c.from_residual.result _ c.from_residual.ensures.0
-
-pub returns-in_err-copy-clause-offered : goal.returns-in_err-copy-clause-offered
-returns-in_err-copy-clause-offered g c = IfOk-from_err c.from_residual.result _ c.from_residual.ensures.0
-
-pub returns-in_err-copy-clause-worked : goal.returns-in_err-copy-clause-worked
-returns-in_err-copy-clause-worked g c = IfOk-from_err c.from_residual.result _ c.from_residual.ensures.0
-
-pub returns-in_err-consider-clause-region : goal.returns-in_err-consider-clause-region
-returns-in_err-consider-clause-region g c = IfOk-from_err c.from_residual-in_err-consider.result _ c.from_residual-in_err-consider.ensures.0
-
-pub returns-in_err-consider-clause-offered : goal.returns-in_err-consider-clause-offered
-returns-in_err-consider-clause-offered g c = IfOk-from_err c.from_residual-in_err-consider.result _ c.from_residual-in_err-consider.ensures.0
-
-pub returns-in_err-consider-clause-worked : goal.returns-in_err-consider-clause-worked
-returns-in_err-consider-clause-worked g c = IfOk-from_err c.from_residual-in_err-consider.result _ c.from_residual-in_err-consider.ensures.0
 
 pub consider-requires-clause-fits : goal.consider-requires-clause-fits
 consider-requires-clause-fits g c =
@@ -36,24 +15,15 @@ consider-requires-clause-worked g c =
     subst (λ (work : Work). IsWorkedOn (g.R.Relaxation.meanings (g.R.Relaxation.problem c.args.problem.now)) (plan_in c.args.best.now) work)
     (sym c.remember.ensures) (worked_with_cut _ _ _ _ c.requires.worked)
 
-pub returns-in_ok-consider-clause-region : goal.returns-in_ok-consider-clause-region
-returns-in_ok-consider-clause-region g c = c.in_ok-consider.ensures.region ∙ ap (λ (work : Work). work.region) c.remember.ensures
+pub returns-in_ok-consider-clause-advances : goal.returns-in_ok-consider-clause-advances
+returns-in_ok-consider-clause-advances g c =
+    let p = g.R.Relaxation.problem c.args.problem.now in
+    let problem = g.R.Relaxation.meanings p in
+    let best = plan_in c.args.best.now in
+    let before = c.args.self.now in
+    let with_cut = c.remember.new.self in
+    advanced_on g.R.Relaxation.meanings p p best best (plan_in c.consider.new.best) before with_cut c.consider.new.self refl
+    (advanced_by_cut problem before.region best _ before with_cut c.remember.ensures c.requires.worked) c.in_ok-consider.ensures.advances
 
-pub returns-in_ok-consider-clause-offered : goal.returns-in_ok-consider-clause-offered
-returns-in_ok-consider-clause-offered g c =
-    subst (λ region. IsOffered (g.R.Relaxation.meanings (g.R.Relaxation.problem c.args.problem.now)) region (plan_in c.args.best.now) (plan_in c.consider.new.best))
-    (ap (λ (work : Work). work.region) c.remember.ensures) c.in_ok-consider.ensures.offered
-
-pub returns-in_ok-consider-clause-worked : goal.returns-in_ok-consider-clause-worked
-returns-in_ok-consider-clause-worked g c = c.in_ok-consider.ensures.worked
-
-pub returns-else-len-gt0-clause-region : goal.returns-else-len-gt0-clause-region
-returns-else-len-gt0-clause-region g c = ap (λ (work : Work). work.region) c.remember.ensures
-
-pub returns-else-len-gt0-clause-offered : goal.returns-else-len-gt0-clause-offered
-returns-else-len-gt0-clause-offered g c = not_offered _ _ _
-
-pub returns-else-len-gt0-clause-worked : goal.returns-else-len-gt0-clause-worked
-returns-else-len-gt0-clause-worked g c =
-    subst (λ (work : Work). IsWorkedOn (g.R.Relaxation.meanings (g.R.Relaxation.problem c.args.problem.now)) (plan_in c.args.best.now) work)
-    (sym c.remember.ensures) (worked_with_cut _ _ _ _ c.requires.worked)
+pub returns-else-len-gt0-clause-advances : goal.returns-else-len-gt0-clause-advances
+returns-else-len-gt0-clause-advances g c = advanced_by_cut _ _ _ _ _ _ c.remember.ensures c.requires.worked
