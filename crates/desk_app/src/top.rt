@@ -64,9 +64,9 @@ fn write_outcome<K: Sink>(alloc: Global, outcome: DeskOutcome, out: &mut K) -> u
 ///   most as many as the day's stock has in the morning. It looks for the fleet that costs the least together with a
 ///   plan. For that it splits the fleets S times at most, 50 times where no S is given, and plans one day at
 ///   first and one more for each split, by a search of at most N branchings, 50 where no N is given, with K and E as in
-///   `replan`. Where it finds a plan it writes the fleet and the plan. What it says of the price is true of all fleets and
-///   all their plans; where more splits or branchings are wanted than were granted, it writes the parts of the fleets
-///   with the trees that prove it.
+///   `replan`. Where it finds a plan it writes the fleet and the plan. What it says of the price is true of all fleets
+///   and all their plans; where more splits or branchings are wanted than were granted, it writes the parts of the
+///   fleets with the trees that prove it.
 ///
 /// The statuses:
 ///

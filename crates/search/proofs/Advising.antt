@@ -11,7 +11,7 @@ use Rattle.advisors.specs.declared.advisor.Word.TheVariants.{More, Enough, Quit}
 use Rattle.advisors.specs.Quits.{quit_after}
 use Rattle.search.specs.declared.work.Work.{Work}
 use Rattle.search.specs.declared.rounds.Question.{Question}
-use Rattle.search.specs.NodeAdvice.{CallTest, IsQuestionFor, IsSameQuestion, is_enough}
+use Rattle.search.specs.NodeAdvice.{CallTest, IsQuestionFor, MayBePutAgain, is_enough}
 use Rattle.search.specs.NodesInWork.{is_open_work}
 use Rattle.search.specs.Rounds.{AdviceState, AreRounds, IsToBeAsked, WasAsked, WasAskedIfDue, WereAskedInOrder}
 
@@ -36,20 +36,20 @@ enough_is Enough = refl
 enough_is Quit = refl
 
 -- a question is put again: about the same region, where the problem is as before
-pub question_after : (problem : Meanings) (region : List (List Bool)) (before after : Question) → IsSameQuestion before after → IsQuestionFor problem region before → IsQuestionFor problem region after
+pub question_after : (problem : Meanings) (region : List (List Bool)) (before after : Question) → MayBePutAgain before after → IsQuestionFor problem region before → IsQuestionFor problem region after
 question_after problem region before after same is = record {
   indices = same.over.indices ∙ is.indices;
   free_from = same.over.free_from ∙ is.free_from;
   sizes = same.sizes ∙ is.sizes;
 }
 
-pub question_again : {P : Type 0} (meanings : P → Meanings) (p q : P) (region now : List (List Bool)) (before after : Question) → q ≡ p → now ≡ region → IsSameQuestion before after →
+pub question_again : {P : Type 0} (meanings : P → Meanings) (p q : P) (region now : List (List Bool)) (before after : Question) → q ≡ p → now ≡ region → MayBePutAgain before after →
     IsQuestionFor (meanings p) region before → IsQuestionFor (meanings q) now after
 question_again meanings p q region now before after same here again is =
     subst (λ problem. IsQuestionFor (meanings problem) now after) (sym same) (subst (λ sets. IsQuestionFor (meanings p) sets after) (sym here) (question_after (meanings p) region before after again is))
 
 -- and again
-pub question_then : (first second third : Question) → IsSameQuestion first second → IsSameQuestion second third → IsSameQuestion first third
+pub question_then : (first second third : Question) → MayBePutAgain first second → MayBePutAgain second third → MayBePutAgain first third
 question_then first second third one two = record {
   round = two.round ∙ one.round;
   sizes = two.sizes ∙ one.sizes;

@@ -5,7 +5,7 @@ use Rattle.std.proofs.lemmas.Bool.{both_ways}
 use Rattle.std.proofs.lemmas.Bool.{cases_eq}
 use Rattle.std.proofs.lemmas.List.{get_or_read, get_or-set_other, get_or-set_same}
 use Rattle.std.proofs.lemmas.List.Elements.{All-cons, All-nil, All-head, All-tail}
-use Rattle.search.specs.Questions.{AreAsked, AreAskedOnce, AreLeftAlone, AreOnlyAsked, AreTheSame, IsAsked, IsAskedOnce, MayBeAsked, in_rounds}
+use Rattle.search.specs.Questions.{AreAsked, AreDueAskedOnce, AreLeftAlone, AreOnlyAsked, AreTheSame, IsAsked, IsAskedOnce, MayBeAsked, in_rounds}
 
 -- ---- one advisor
 
@@ -207,7 +207,7 @@ AreNotYetAsked {A} before after places = (place : ℕ) → (none : A) → places
 module _ {A : Type 0} (asked : A → ℕ) (has_quit : A → Bool) where
   -- the next advisor is asked
   pub then_asked_once : (enough : List Bool) (place : ℕ) (first now : List A) (old new : A) → place < length now → ((none : A) → get_or now place none ≡ get_or first place none) → old ≡ get_or now place old →
-      asked new ≡ asked old + 1 → AreAskedOnce first now asked has_quit enough place → AreAskedOnce first (set now place new) asked has_quit enough (place + 1)
+      asked new ≡ asked old + 1 → AreDueAskedOnce first now asked has_quit enough place → AreDueAskedOnce first (set now place new) asked has_quit enough (place + 1)
   then_asked_once enough place first now old new within not_yet here once so_far = λ other none below flag stays.
       elim (cases_eq other place) as (λ _. asked (get_or (set now place new) other none) ≡ asked (get_or first other none) + 1) [
         | inl same ↦ subst (λ (p : ℕ). asked (get_or (set now place new) p none) ≡ asked (get_or first p none) + 1) (sym same)
@@ -228,7 +228,7 @@ module _ {A : Type 0} (asked : A → ℕ) (has_quit : A → Bool) where
 
   -- the next advisor is passed over, which has enough or has quit
   pub then_passed : (enough : List Bool) (place : ℕ) (first now : List A) → ((none : A) → get_or enough place false ≡ false → has_quit (get_or now place none) ≡ false → ⊥) →
-      AreAskedOnce first now asked has_quit enough place → AreAskedOnce first now asked has_quit enough (place + 1)
+      AreDueAskedOnce first now asked has_quit enough place → AreDueAskedOnce first now asked has_quit enough (place + 1)
   then_passed enough place first now passed once = λ other none below flag stays.
       elim (cases_eq other place) as (λ _. asked (get_or now other none) ≡ asked (get_or first other none) + 1) [
         | inl here ↦ absurd (passed none (subst (λ (p : ℕ). get_or enough p false ≡ false) here flag) (subst (λ (p : ℕ). has_quit (get_or now p none) ≡ false) here stays))

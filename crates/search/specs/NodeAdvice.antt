@@ -27,7 +27,7 @@ pub record IsAdviceFor (problem : Meanings) (region : List (List Bool)) (advisor
   pub each : length advice.has_enough.items ≡ advisors
 
 -- a question after an advisor was asked: it may be put again, to the next one
-pub record IsSameQuestion (before after : Question) : Type 0 where
+pub record MayBePutAgain (before after : Question) : Type 0 where
   pub round : after.shown.rounds_made ≡ before.shown.rounds_made
   pub sizes : after.shown.sizes.items ≡ before.shown.sizes.items
   pub over : IsOverSame before.proposal after.proposal

@@ -65,7 +65,7 @@ pub record IsNewNode (problem : Meanings) (root : List (List Bool)) (node : NewN
   pub fits : DoFitFor problem node.inherited.now
 
 -- a new node is the next one of these nodes: it is put among them, and its number is how many they are
-pub record IsNext (nodes : List SearchNode) (node : NewNode) : Type 0 where
+pub record HasNextNumber (nodes : List SearchNode) (node : NewNode) : Type 0 where
   pub place : node.place ≤ length nodes
   pub number : node.number ≡ length nodes
 

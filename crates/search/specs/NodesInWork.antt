@@ -33,12 +33,12 @@ pub record IsWorkedOn (problem : Meanings) (best : Option CostedPicks) (work : W
   pub not_evident : is_below work.first.0 best ≡ true → IsNotEvident problem work.region
   pub ended : MatchOption work.end (Unit {0}) (IsEnding problem work.region)
 
--- The work on a node goes on: its region stays, the best solution is the one before or a cheaper one of the root, and
--- with it all that is known of a node in work holds again.
-pub record Advances (problem : Meanings) (root : List (List Bool)) (earlier best : Option CostedPicks)
+-- The work on a node goes on: its region stays, the best solution is the one before or a cheaper one of what is
+-- searched, the root or the node's own region, and with it all that is known of a node in work holds again.
+pub record Advances (problem : Meanings) (searched : List (List Bool)) (earlier best : Option CostedPicks)
     (before after : Work) : Type 0 where
   pub region : after.region ≡ before.region
-  pub offered : IsOffered problem root earlier best
+  pub offered : IsOffered problem searched earlier best
   pub worked : IsWorkedOn problem best after
 
 -- a node in work after its first evaluation

@@ -30,8 +30,7 @@ in_rounds (suc rounds) times = times
 abbrev pub MayBeAsked : {A : Type 0} → List A → (A → ℕ) → ℕ → Type 0
 MayBeAsked advisors asked times = All (λ advisor. asked advisor + times < 2 ^ 64) advisors
 
--- The advisors were asked so many times at most, and nothing else became of them: one of the same identity stands at
--- each place.
+-- Each advisor was asked so many times at most, and one of the same identity stands at each place.
 pub record AreOnlyAsked {A : Type 0} (before after : List A) (identity asked : A → ℕ) (has_quit : A → Bool) (most : ℕ) :
     Type 0 where
   pub same : AreTheSame before after identity
@@ -53,8 +52,8 @@ AreLeftAlone {A} before after enough =
     (place : ℕ) → (none : A) → get_or enough place false ≡ true → get_or after place none ≡ get_or before place none
 
 -- each advisor at the first places that had not enough and has not quit was asked once
-abbrev pub AreAskedOnce : {A : Type 0} → List A → List A → (A → ℕ) → (A → Bool) → List Bool → ℕ → Type 0
-AreAskedOnce {A} before after asked has_quit enough places =
+abbrev pub AreDueAskedOnce : {A : Type 0} → List A → List A → (A → ℕ) → (A → Bool) → List Bool → ℕ → Type 0
+AreDueAskedOnce {A} before after asked has_quit enough places =
     (place : ℕ) → (none : A) → place < places → get_or enough place false ≡ false →
     has_quit (get_or after place none) ≡ false →
     asked (get_or after place none) ≡ asked (get_or before place none) + 1

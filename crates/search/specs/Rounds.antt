@@ -9,7 +9,7 @@ use Rattle.search.specs.declared.work.Work.{Work}
 use Rattle.search.specs.NodeAdvice.{CallTest, HasAdvised, is_enough}
 use Rattle.search.specs.NodesInWork.{IsTakenUp, is_open_work}
 use Rattle.search.specs.Offers.{IsOffered}
-use Rattle.search.specs.Questions.{AreAskedOnce}
+use Rattle.search.specs.Questions.{AreDueAskedOnce}
 
 -- how far the advice on a node has come: the advisors, which of them have enough, the best solution, and the node
 pub record AdviceState (A : Type 0) : Type 0 where
@@ -78,7 +78,7 @@ pub record IsRound {A : Type 0} (asked : A → ℕ) (has_quit : A → Bool) (has
     (round : ℕ) (before after : AdviceState A) : Type 0 where
   pub in_order : WereAskedInOrder has_quit has_answered problem round (length before.advisors) before after
   pub each : is_open_work after.best after.work ≡ true →
-      AreAskedOnce before.advisors after.advisors asked has_quit before.enough (length before.advisors)
+      AreDueAskedOnce before.advisors after.advisors asked has_quit before.enough (length before.advisors)
 
 -- so many rounds were made, in each of which all advisors were asked where it was due, one after another
 abbrev pub AreRounds : {A : Type 0} → (A → Bool) → CallTest A → Meanings → ℕ → AdviceState A → AdviceState A → Type 0

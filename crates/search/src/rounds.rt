@@ -8,7 +8,7 @@ ghost use Rattle.advisors.specs.Quits.{quit_after};
 ghost use Rattle.advisors.specs.Proposals.{IsOverSame};
 ghost use Rattle.search.specs.Questions.{AreAsked, AreLeftAlone, AreOnlyAsked, CanBeAsked, IsAskedOnce, MayBeAsked};
 ghost use Rattle.search.specs.Questions.{in_rounds};
-ghost use Rattle.search.specs.NodeAdvice.{HasAdvised, IsAdviceFor, IsQuestionFor, IsSameQuestion};
+ghost use Rattle.search.specs.NodeAdvice.{HasAdvised, IsAdviceFor, IsQuestionFor, MayBePutAgain};
 ghost use Rattle.search.specs.Conclusions.{plan_in};
 ghost use Rattle.search.specs.NodesInWork.{Advances, IsWorkedOn, is_open_work};
 ghost use Rattle.search.specs.Rounds.{AreAdvised, IsFollowed, IsRound, advice_state};
@@ -135,7 +135,7 @@ fn take_advice<R: Relaxation>(
     ensures same { R.problem problem.new ≡ R.problem problem.old }
     ensures advances { OnOk result (Advances (R.meanings (R.problem problem.old)) work.old.region (plan_in best.old)
         (plan_in best.new) work.old work.new) }
-    ensures question { IsSameQuestion question.old question.new }
+    ensures question { MayBePutAgain question.old question.new }
     ensures once { IsAskedOnce identity asked advisor.old advisor.new }
     ensures followed { IfOk result (IsFollowed has_quit has_answered (R.meanings (R.problem problem.old))
         question.old.shown.rounds_made advisor.new (plan_in best.old) (plan_in best.new) work.old work.new) }
@@ -165,7 +165,7 @@ fn ask<R: Relaxation>(
     requires question { IsQuestionFor (R.meanings (R.problem problem.old)) work.now.region question.old }
     requires ready { CanBeAsked asked has_quit advisor.old }
     ensures same { R.problem problem.new ≡ R.problem problem.old }
-    ensures question { IsSameQuestion question.old question.new }
+    ensures question { MayBePutAgain question.old question.new }
     ensures once { IsAskedOnce identity asked advisor.old advisor.new }
     ensures quit { has_quit advisor.new ≡ quit_after result }
     ensures answered { HasAdvised has_answered (R.meanings (R.problem problem.old)) question.old.shown.rounds_made

@@ -12,7 +12,7 @@ ghost use Rattle.search.specs.Questions.{AreAsked, AreOnlyAsked, AreTheSame, May
 ghost use Rattle.search.specs.Ends.{HasSearched, IsFoundBy, IsWithinLimits, found_by, made_or_open};
 ghost use Rattle.search.specs.Frontiers.{IsNextAt, IsOpenAt};
 ghost use Rattle.search.specs.Putting.{HasBranched, IsMade, IsNewLeaf, IsPut, IsUnderWay};
-ghost use Rattle.search.specs.Nodes.{IsDivisionAt, IsNewNode, IsNext, IsSearched, tree_nodes};
+ghost use Rattle.search.specs.Nodes.{IsDivisionAt, IsNewNode, HasNextNumber, IsSearched, tree_nodes};
 ghost use Rattle.search.specs.Offers.{IsOffered};
 ghost use Rattle.search.specs.Conclusions.{IsSolved, conclusion_found, nodes_found, plan_found, plan_in};
 
@@ -285,7 +285,7 @@ impl Search {
         advisors: &mut Vec<Box<dyn Advisor>>,
     ) -> Result<(), NoMemory>
         requires node { IsNewNode (R.meanings (R.problem problem.old)) terms.now.root.now node }
-        requires next { IsNext self.old.nodes.items node }
+        requires next { HasNextNumber self.old.nodes.items node }
         requires room { MayBeAsked advisors.old.items asked terms.now.allowed.rounds }
         ensures same { R.problem problem.new ≡ R.problem problem.old }
         ensures accepted { OnOk result (R.IsWellPosed (R.problem problem.old)) }

@@ -97,10 +97,10 @@ fn fleets_are_found_or_refused(rt: HostRuntime) -> Result<(), Fail> {
     Ok(())
 }
 
-/// Options where no branching is granted and two units may be bought at 1000 each, a beginning, and whether the document
-/// begins with it. One unit costs 1060 on the day, and two cost 120, which no plan betters where each trip is planned by
-/// itself. So without advice only the plan of two units is met, and 120 and the price of a unit is the bound; an
-/// evaluation meets the plan of one, and rounds raise the bound.
+/// Options where no branching is granted and two units may be bought at 1000 each, a beginning, and whether the
+/// document begins with it. One unit costs 1060 on the day, and two cost 120, which no plan betters where each trip is
+/// planned by itself. So without advice only the plan of two units is met, and 120 and the price of a unit is the
+/// bound; an evaluation meets the plan of one, and rounds raise the bound.
 const ADVISED: [(&[&str], &str, bool); 3] = [
     (&["--rounds=0"], "fleet bounded 1120 plan 2120\n", true),
     (

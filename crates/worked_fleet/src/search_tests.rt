@@ -1,5 +1,6 @@
-//! Fleets of least cost that are found for small days: what is said, which boxes were split, and that the check finds it
-//! valid. On a line whose trip out wants 300 seats and whose trip back wants 150, two units cost 120 and one costs 1060.
+//! Fleets of least cost that are found for small days: what is said, which boxes were split, and that the check finds
+//! it valid. On a line whose trip out wants 300 seats and whose trip back wants 150, two units cost 120 and one costs
+//! 1060.
 
 use crate::days::{made_of, tables_in};
 use answer_text::Head;
