@@ -10,7 +10,7 @@ use Rattle.timetable.proofs.Picking.{types_known}
 use Rattle.branch_tree.specs.declared.multipliers.Entry.{Entry}
 use Rattle.price_bound.specs.declared.price_tables.PriceTables.{PriceTables}
 use Rattle.price_bound.specs.CellSizes.{IsSmall, most_units_price}
-use Rattle.price_bound.specs.Credits.{AreCredits, AreDebits, AreRowsBut, AreSumsBelow, AreSumsIn, put_in, sum_in}
+use Rattle.price_bound.specs.Credits.{AreCredits, AreDebits, AreRowsBut, AreSumsBelow, AreSumsIn, IsRowSummed, put_in}
 use Rattle.price_bound.specs.PriceTables.{ArePrices, HasSize, amount_at}
 use Rattle.price_bound.proofs.Steps.{entry_below}
 use Rattle.price_bound.proofs.Summing.{giving_is, taking_is, types_below}
@@ -46,30 +46,22 @@ module _ (rows columns : ℕ) (table : List (List ℤ)) (size : HasSize rows col
     put_beside c differ = ap (λ (xs : List ℤ). get_or xs c (pos 0)) (row_here r0 below refl)
         ∙ get_or-set_other (get_or table r0 []) c0 c x (pos 0) differ
 
--- ---- the sums of a row, and of all rows
-
--- one sum more
-pub sums_more : (day : Day) (rows columns : ℕ) (table : List (List ℤ)) (amounts : List ℤ) (t comp : ℕ) (sum : ℤ) → HasSize rows columns table
-    → t < rows → comp < columns → AreSumsIn day amounts t comp table → sum ≡ sum_in amounts (composition_at day comp)
-    → IsSmall most_units_price sum → AreSumsIn day amounts t (comp + 1) (put_in t comp sum table)
-sums_more day rows columns table amounts t comp sum size below lt done is small = record {
-  values = λ c before. elim (cases_eq c comp) [
-    | inl same ↦ subst (λ (k : ℕ). amount_at (put_in t comp sum table) t k ≡ sum_in amounts (composition_at day k)) (sym same)
-        (put_here rows columns table size t comp sum below lt ∙ is)
-    | inr differ ↦ put_beside rows columns table size t comp sum below c differ ∙ done.values c (omega (arith, before, differ))
-  ];
-  small = λ c before. elim (cases_eq c comp) [
-    | inl same ↦ subst (λ (k : ℕ). IsSmall most_units_price (amount_at (put_in t comp sum table) t k)) (sym same)
-        (subst (IsSmall most_units_price) (sym (put_here rows columns table size t comp sum below lt)) small)
-    | inr differ ↦ subst (IsSmall most_units_price) (sym (put_beside rows columns table size t comp sum below c differ))
-        (done.small c (omega (arith, before, differ)))
-  ];
-}
+-- ---- rows
 
 pub others_more : (rows columns : ℕ) (table old : List (List ℤ)) (t comp : ℕ) (sum : ℤ) → HasSize rows columns table
     → AreRowsBut t old table → AreRowsBut t old (put_in t comp sum table)
 others_more rows columns table old t comp sum size same other differ =
     row_other rows columns table size t comp sum other differ ∙ same other differ
+
+pub summed_size : (day : Day) (amounts : List ℤ) (t : ℕ) (table new : List (List ℤ)) → HasSize (length day.trips) (length (compositions_of day)) table
+    → IsRowSummed day amounts t table new → HasSize (length day.trips) (length (compositions_of day)) new
+summed_size day amounts t table new size is = record {
+  height = is.height ∙ size.height;
+  widths = λ r below. elim (cases_eq r t) [
+    | inl same ↦ ap (λ (k : ℕ). length (get_or new k [])) same ∙ is.width
+    | inr differ ↦ ap length (is.others r differ) ∙ size.widths r below
+  ];
+}
 
 -- one row more
 pub below_more : (day : Day) (amounts table new : List (List ℤ)) (trip : ℕ) → AreSumsBelow day amounts trip table

@@ -1,24 +1,31 @@
 -- Sums over the units of compositions, by those over the units of lower ones.
-use Rattle.std.proofs.Common.{◌≡◌, ℕ, zero, suc, ◌+◌, ◌*◌, ◌<◌, List, [], ◌∷◌, ◌++◌, length, take, get_or, Option, Some, None}
-use Rattle.std.proofs.Common.{refl, sym, ap, ◌∙◌, subst, arith, ℤ, pos, ◌+ℤ◌, inl, inr, slice_get, unwrap_or}
-use Rattle.std.specs.Prelude.{IfSome}
-use Rattle.std.proofs.lemmas.Bool.{cases_eq, cases_lt}
+use Rattle.std.proofs.Common.{◌≡◌, ℕ, zero, suc, ◌+◌, ◌*◌, ◌<◌, ◌⊎◌, List, [], ◌∷◌, ◌++◌, length, take, set, get_or, sym, ap, ◌∙◌}
+use Rattle.std.proofs.Common.{subst, arith, ℤ, pos, ◌+ℤ◌, inl, inr, length-append, slice_get, Some}
+use Rattle.std.proofs.lemmas.Bool.{cases_eq}
 use Rattle.std.proofs.lemmas.Int.{ints}
-use Rattle.std.proofs.lemmas.List.{get_or_append_left, get_or_past}
+use Rattle.std.proofs.lemmas.List.{get_or-set_other, get_or-set_same, get_or_past}
 use Rattle.std.proofs.lemmas.List.Elements.{All-get_or}
 use Rattle.std.proofs.Math.Seq.{get_or-append_seam}
+use Rattle.rules.specs.declared.records.End.TheVariants as at
 use Rattle.timetable.specs.Compositions.{compositions_of, composition_at}
 use Rattle.timetable.specs.Day.{Day}
 use Rattle.transitions.proofs.Listed.{few_units}
-use Rattle.price_bound.specs.declared.fronts.Front.{Front}
 use Rattle.price_bound.specs.CellSizes.{IsSmall, most_price, most_units_price}
-use Rattle.price_bound.specs.Credits.{AreSmallAmounts, sum_in}
-use Rattle.price_bound.specs.Fronts.{IsFront}
+use Rattle.price_bound.specs.CompositionTrees.{IsLast, IsRest}
+use Rattle.price_bound.specs.Credits.{AreRowSums, AreSmallAmounts, sum_in}
 use Rattle.price_bound.proofs.Adding.{small_more, sum_small}
+use Rattle.price_bound.proofs.CompositionTrees.{fewer_lower, number_past}
 use Rattle.price_bound.proofs.Crediting.{known}
 use Rattle.price_bound.proofs.IntLaws.{sum_append}
+use Rattle.price_bound.proofs.Resting.{number_is}
 
 -- ---- what a composition is made of
+
+same_last : (xs ys : List ℕ) (x y : ℕ) → xs ++ x ∷ [] ≡ ys ++ y ∷ [] → x ≡ y
+same_last xs ys x y e =
+    let long : length xs ≡ length ys = omega (arith, ap length e, length-append xs (x ∷ []), length-append ys (y ∷ [])) in
+    sym (get_or-append_seam xs x [] 0) ∙ ap (λ (zs : List ℕ). get_or zs (length xs) 0) e
+    ∙ ap (λ (n : ℕ). get_or (ys ++ y ∷ []) n 0) long ∙ get_or-append_seam ys y [] 0
 
 -- a list is its front and its last entry
 with_last : (ms : List ℕ) (k last : ℕ) → slice_get ms k ≡ Some last → suc k ≡ length ms → ms ≡ take k ms ++ last ∷ []
@@ -30,77 +37,45 @@ with_last (m ∷ ms) zero last at long = by ms (omega (arith, long))
     by (x ∷ rest) none = absurd (omega (arith, none))
 with_last (m ∷ ms) (suc k) last at long = ap (λ (xs : List ℕ). m ∷ xs) (with_last ms k last at (omega (arith, long)))
 
-number_is : (day : Day) (comp : ℕ) (ms : List ℕ) → slice_get (compositions_of day) comp ≡ Some ms → composition_at day comp ≡ ms
-number_is day comp ms at = ap (λ (o : Option (List ℕ)). unwrap_or o []) at
-
-pub front_is : (day : Day) (comp : ℕ) (ms : List ℕ) (k : ℕ) (front : Front) → comp < length (compositions_of day)
-    → slice_get (compositions_of day) comp ≡ Some ms → suc k ≡ length ms → slice_get (compositions_of day) front.rest ≡ Some (take k ms)
-    → slice_get ms k ≡ Some front.last → front.rest < comp → IsFront day comp front
-front_is day comp ms k front listed at long rest last lower =
-    let units : composition_at day comp ≡ composition_at day front.rest ++ front.last ∷ [] =
-    number_is day comp ms at ∙ with_last ms k front.last last long
-    ∙ ap (λ (xs : List ℕ). xs ++ front.last ∷ []) (sym (number_is day front.rest (take k ms) rest)) in
-    let end : ℕ = length (composition_at day front.rest) in
-    let here : get_or (composition_at day comp) end 0 ≡ front.last =
-    ap (λ (xs : List ℕ). get_or xs end 0) units ∙ get_or-append_seam (composition_at day front.rest) front.last [] 0 in
+pub last_is : (day : Day) (comp : ℕ) (ms : List ℕ) (k last : ℕ) → comp < length (compositions_of day)
+    → slice_get (compositions_of day) comp ≡ Some ms → suc k ≡ length ms → slice_get ms k ≡ Some last → IsLast day comp last
+last_is day comp ms k last listed at long here =
+    let units : composition_at day comp ≡ take k ms ++ last ∷ [] = number_is day comp ms at ∙ with_last ms k last here long in
+    let there : get_or (composition_at day comp) (length (take k ms)) 0 ≡ last =
+    ap (λ (xs : List ℕ). get_or xs (length (take k ms)) 0) units ∙ get_or-append_seam (take k ms) last [] 0 in
     record {
-      lower = lower;
-      listed = listed;
-      units = units;
-      known = subst (λ (m : ℕ). m < length day.types) here
-          (All-get_or (λ (m : ℕ). m < length day.types) (composition_at day comp) end 0
-          (long_enough (composition_at day comp) (composition_at day front.rest) front.last units) (known day comp listed));
+      rest = take k ms;
+      is = units;
+      known = subst (λ (m : ℕ). m < length day.types) there
+          (All-get_or (λ (m : ℕ). m < length day.types) (composition_at day comp) (length (take k ms)) 0
+          (omega (arith, ap length units, length-append (take k ms) (last ∷ []))) (known day comp listed));
     }
-  where
-    long_more : (xs : List ℕ) (x : ℕ) → length xs < length (xs ++ x ∷ [])
-    long_more [] x = omega arith
-    long_more (y ∷ xs) x = omega (arith, long_more xs x)
 
-    long_enough : (whole xs : List ℕ) (x : ℕ) → whole ≡ xs ++ x ∷ [] → length xs < length whole
-    long_enough whole xs x is = subst (λ (zs : List ℕ). length xs < length zs) (sym is) (long_more xs x)
-
--- one composition more
-pub record AreFrontsBelow (day : Day) (comps : ℕ) (fronts : List (Option Front)) : Type 0 where
-  pub count : length fronts ≡ comps
-  pub each : (comp : ℕ) (front : Front) → get_or fronts comp None ≡ Some front → IsFront day comp front
-
-pub front_more : (day : Day) (comps : ℕ) (fronts : List (Option Front)) (one : Option Front) (new : List (Option Front))
-    → new ≡ fronts ++ one ∷ [] → AreFrontsBelow day comps fronts → IfSome one (IsFront day comps)
-    → AreFrontsBelow day (comps + 1) new
-front_more day comps fronts one new is done here = subst (AreFrontsBelow day (comps + 1)) (sym is) (record {
-  count = long fronts ∙ ap (λ (n : ℕ). n + 1) done.count;
-  each = λ comp front at. elim (cases_lt comp (length fronts)) [
-    | inl before ↦ done.each comp front (sym (get_or_append_left fronts (one ∷ []) None comp before) ∙ at)
-    | inr past ↦ elim (cases_eq comp (length fronts)) [
-      | inl same ↦
-          let last : one ≡ Some front =
-          sym (get_or-append_seam fronts one [] None) ∙ subst (λ (k : ℕ). get_or (fronts ++ one ∷ []) k None ≡ Some front) same at in
-          subst (λ (k : ℕ). IsFront day k front) (sym (same ∙ done.count)) (of_some one here last)
-      | inr differ ↦ absurd (
-          let none : None ≡ Some front = sym (get_or_past (fronts ++ one ∷ []) comp None (omega (arith, past, differ, long fronts))) ∙ at in cc)
-    ]
-  ];
-})
-  where
-    long : (xs : List (Option Front)) → length (xs ++ one ∷ []) ≡ length xs + 1
-    long [] = refl
-    long (x ∷ xs) = omega (arith, long xs)
-
-    of_some : (o : Option Front) {front : Front} → IfSome o (IsFront day comps) → o ≡ Some front → IsFront day comps front
-    of_some None each none = absurd cc
-    of_some (Some it) {front} each some = let same : it ≡ front = cc in subst (IsFront day comps) same each
+units_are : (day : Day) (comp rest last : ℕ) → IsRest day at.Rear comp rest → IsLast day comp last
+    → composition_at day comp ≡ composition_at day rest ++ last ∷ []
+units_are day comp rest last is by =
+    is.is ∙ ap (λ (unit : ℕ). composition_at day rest ++ unit ∷ []) (same_last (composition_at day rest) by.rest is.unit last (sym is.is ∙ by.is))
 
 -- ---- sums
 
-pub front_sum : (row : List ℤ) (day : Day) (comp : ℕ) (front : Front) → IsFront day comp front
-    → sum_in row (composition_at day comp) ≡ sum_in row (composition_at day front.rest) +ℤ get_or row front.last (pos 0)
-front_sum row day comp front is =
-    ap (sum_in row) is.units
-    ∙ sum_append (λ m. get_or row m (pos 0)) (composition_at day front.rest) (front.last ∷ [])
-    ∙ one_more (sum_in row (composition_at day front.rest)) (get_or row front.last (pos 0))
+pub rest_sum : (row : List ℤ) (day : Day) (comp rest last : ℕ) → IsRest day at.Rear comp rest → IsLast day comp last
+    → sum_in row (composition_at day comp) ≡ sum_in row (composition_at day rest) +ℤ get_or row last (pos 0)
+rest_sum row day comp rest last is by =
+    ap (sum_in row) (units_are day comp rest last is by)
+    ∙ sum_append (λ m. get_or row m (pos 0)) (composition_at day rest) (last ∷ [])
+    ∙ one_more (sum_in row (composition_at day rest)) (get_or row last (pos 0))
   where
     one_more : (a b : ℤ) → a +ℤ (b +ℤ pos 0) ≡ a +ℤ b
     one_more a b = omega (arith, ints)
+
+-- a composition has one unit more than its rest, which has a lower number or is past the last
+rest_lower : (day : Day) (comp rest : ℕ) → comp < length (compositions_of day) → IsRest day at.Rear comp rest
+    → (rest < comp) ⊎ (rest ≡ length (compositions_of day))
+rest_lower day comp rest listed is = elim (cases_eq rest (length (compositions_of day))) [
+  | inl past ↦ inr past
+  | inr differ ↦ inl (fewer_lower day rest comp (omega (arith, differ, is.within)) listed
+      (omega (arith, ap length is.is, length-append (composition_at day rest) (is.unit ∷ []))))
+]
 
 pub sum_of_comp_small : (row : List ℤ) (day : Day) (comp : ℕ) → comp < length (compositions_of day) → length row ≡ length day.types
     → AreSmallAmounts row → IsSmall most_units_price (sum_in row (composition_at day comp))
@@ -110,3 +85,37 @@ sum_of_comp_small row day comp listed long small =
     (sum_small (λ m. get_or row m (pos 0)) most_price ms (λ k d lt.
     small (get_or ms k d) (subst (λ (n : ℕ). get_or ms k d < n) (sym long)
     (All-get_or (λ (m : ℕ). m < length day.types) ms k d lt (known day comp listed)))))
+
+-- the sum at the place of a rest
+pub rest_sum_at : (row sums : List ℤ) (day : Day) (comp rest : ℕ) → comp < length (compositions_of day) → length sums ≡ length (compositions_of day)
+    → IsRest day at.Rear comp rest → AreRowSums day row comp sums → get_or sums rest (pos 0) ≡ sum_in row (composition_at day rest)
+rest_sum_at row sums day comp rest listed long is done = elim (rest_lower day comp rest listed is) [
+  | inl lower ↦ done.values rest lower
+  | inr past ↦ get_or_past sums rest (pos 0) (omega (arith, past, long))
+      ∙ sym (ap (sum_in row) (number_past day rest (omega (arith, past))))
+]
+
+pub rest_small_at : (row sums : List ℤ) (day : Day) (comp rest : ℕ) → comp < length (compositions_of day) → length sums ≡ length (compositions_of day)
+    → IsRest day at.Rear comp rest → AreRowSums day row comp sums → IsSmall most_units_price (get_or sums rest (pos 0))
+rest_small_at row sums day comp rest listed long is done = elim (rest_lower day comp rest listed is) [
+  | inl lower ↦ done.small rest lower
+  | inr past ↦ subst (IsSmall most_units_price) (sym (get_or_past sums rest (pos 0) (omega (arith, past, long))))
+      (record { above = omega (arith, ints); below = omega (arith, ints) })
+]
+
+-- one sum more
+pub row_sums_more : (day : Day) (row sums : List ℤ) (comp : ℕ) (sum : ℤ) → comp < length sums → AreRowSums day row comp sums
+    → sum ≡ sum_in row (composition_at day comp) → IsSmall most_units_price sum → AreRowSums day row (comp + 1) (set sums comp sum)
+row_sums_more day row sums comp sum lt done is small = record {
+  values = λ c before. elim (cases_eq c comp) [
+    | inl same ↦ subst (λ (k : ℕ). get_or (set sums comp sum) k (pos 0) ≡ sum_in row (composition_at day k)) (sym same)
+        (get_or-set_same sums comp sum (pos 0) lt ∙ is)
+    | inr differ ↦ get_or-set_other sums comp c sum (pos 0) differ ∙ done.values c (omega (arith, before, differ))
+  ];
+  small = λ c before. elim (cases_eq c comp) [
+    | inl same ↦ subst (λ (k : ℕ). IsSmall most_units_price (get_or (set sums comp sum) k (pos 0))) (sym same)
+        (subst (IsSmall most_units_price) (sym (get_or-set_same sums comp sum (pos 0) lt)) small)
+    | inr differ ↦ subst (IsSmall most_units_price) (sym (get_or-set_other sums comp c sum (pos 0) differ))
+        (done.small c (omega (arith, before, differ)))
+  ];
+}

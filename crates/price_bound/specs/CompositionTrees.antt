@@ -36,6 +36,12 @@ pub record IsTurnedPlace (day : Day) (reversed : Bool) (comp place : ℕ) : Type
   pub listed : place < length (compositions_of day)
   pub is : composition_at day place ≡ turned reversed (composition_at day comp)
 
+-- a composition has a unit of this type, which is one of the day, at its rear
+pub record IsLast (day : Day) (comp last : ℕ) : Type 0 where
+  pub rest : List ℕ
+  pub is : composition_at day comp ≡ rest ++ last ∷ []
+  pub known : last < length day.types
+
 abbrev pub AreTurnedPlaces : Day → Bool → (ℕ → ℕ) → Type 0
 AreTurnedPlaces day reversed place = (comp : ℕ) → comp < length (compositions_of day)
     → IsTurnedPlace day reversed comp (place comp)
@@ -64,6 +70,7 @@ turned_at false trains = trains.same.items
 pub record AreTrains (day : Day) (trains : Trains) : Type 0 where
   pub rests : (end : End) → AreEach (IsRest day end) (length (compositions_of day)) (rests_at end trains)
   pub turned : (r : Bool) → AreEach (IsTurnedPlace day r) (length (compositions_of day)) (turned_at r trains)
+  pub lasts : AreEach (IsLast day) (length (compositions_of day)) trains.lasts.items
 
 -- a list of types is another one and a unit more at an end
 pub record IsOneLess (end : End) (whole rest : List ℕ) : Type 0 where

@@ -39,6 +39,13 @@ AreSumsBelow day amounts trips table =
 abbrev pub AreRowsBut : ℕ → List (List ℤ) → List (List ℤ) → Type 0
 AreRowsBut t table new = (other : ℕ) → other ≢ t → get_or new other [] ≡ get_or table other []
 
+-- one row of a table is put anew: it has as many columns as the day has compositions, and the sums
+pub record IsRowSummed (day : Day) (amounts : List ℤ) (t : ℕ) (table new : List (List ℤ)) : Type 0 where
+  pub height : length new ≡ length table
+  pub width : length (get_or new t []) ≡ length (compositions_of day)
+  pub sums : AreSumsIn day amounts t (length (compositions_of day)) new
+  pub others : AreRowsBut t table new
+
 -- a table has for each trip and composition a price of the composition's units
 pub record AreUnitPrices (day : Day) (price : ℕ → List ℕ → ℤ) (table : List (List ℤ)) : Type 0 where
   pub sized : HasSize (length day.trips) (length (compositions_of day)) table

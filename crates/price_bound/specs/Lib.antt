@@ -31,7 +31,6 @@ pub mod FirstPaths
 pub mod CellSizes
 pub mod YardTables
 pub mod PriceTables
-pub mod Fronts
 pub mod Credits
 pub mod Costs
 pub mod CellRows

@@ -11,14 +11,12 @@ use Rattle.price_bound.specs.ChangedDays.{AreChanges}
 use Rattle.price_bound.specs.CompositionTrees.{AreTrains}
 use Rattle.price_bound.specs.Costs.{AreCosts}
 use Rattle.price_bound.specs.DayMeanings.{IsWorkedOn}
-use Rattle.price_bound.specs.Fronts.{AreFronts}
 use Rattle.price_bound.specs.PriceTables.{AreSized, HasSize}
 
 -- the room has the sizes of a day, and its costs under changes
 pub record IsRoomFor (day : Day) (changes : List Change) (room : Workspace) : Type 0 where
   pub costs : AreCosts day changes room.costs
   pub tables : AreSized day room.tables
-  pub fronts : AreFronts day room.fronts.items
   pub credits : HasSize (length day.trips) (length (compositions_of day)) room.credits
   pub debits : HasSize (length day.trips) (length (compositions_of day)) room.debits
   pub trains : AreTrains day room.trains

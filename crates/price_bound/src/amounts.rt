@@ -2,13 +2,18 @@
 
 ghost use Rattle.std.specs.Prelude.{◌≡◌, ◌<◌, [], map, length, get_or, set, replicate, pos, IfOk};
 ghost use Rattle.inventory.specs.CountTable.{changed_at, changed_in};
-ghost use Rattle.price_bound.specs.Credits.{put_in};
+ghost use Rattle.timetable.specs.Compositions.{compositions_of};
+ghost use Rattle.price_bound.specs.CompositionTrees.{AreTrains};
+ghost use Rattle.price_bound.specs.Credits.{AreRowSums, AreSmallAmounts, IsRowSummed, put_in};
 ghost use Rattle.price_bound.specs.PriceTables.{cleared_table};
 ghost use Rattle.price_bound.specs.YardTables.{column_of, later_sums};
 
+use crate::credits::put_sums;
+use crate::trains::Trains;
 use rail_base::NoMemory;
 use std::alloc::Global;
 use std::marker::Model;
+use timetable::Instance;
 
 /// The amounts of one row. A contract sees the list of them.
 #[derive(Drop)]
@@ -100,6 +105,24 @@ impl AmountRow {
         }
     }
 
+    /// Puts for each composition the sum of what another row has for its types.
+    fn put_sums(&mut self, instance: &Instance, trains: &Trains, amounts: &AmountRow)
+        requires trains { AreTrains instance.now trains.now }
+        requires sized { length amounts.now ≡ length instance.now.types }
+        requires small { AreSmallAmounts amounts.now }
+        requires room { length self.old ≡ length (compositions_of instance.now) }
+        ensures room { length self.new ≡ length (compositions_of instance.now) }
+        ensures sums { AreRowSums instance.now amounts.now (length (compositions_of instance.now)) self.new }
+    {
+        put_sums(
+            instance,
+            &trains.fronts,
+            &trains.lasts,
+            &amounts.amounts,
+            &mut self.amounts,
+        );
+    }
+
     /// Changes the amount of a column, if there is one.
     fn put(&mut self, column: usize, amount: i64)
         ensures { self.new ≡ set self.old column amount }
@@ -163,6 +186,24 @@ impl AmountTable {
         ensures { self.new ≡ set self.old row (column_of column table.now) }
     {
         self.rows[row].copy_column(table, column);
+    }
+
+    /// Puts into a row for each composition the sum of what another row has for its types.
+    pub(crate) fn put_sums(
+        &mut self,
+        row: usize,
+        instance: &Instance,
+        trains: &Trains,
+        amounts: &AmountRow,
+    )
+        requires row { row < length self.old }
+        requires trains { AreTrains instance.now trains.now }
+        requires sized { length amounts.now ≡ length instance.now.types }
+        requires small { AreSmallAmounts amounts.now }
+        requires room { length (get_or self.old row []) ≡ length (compositions_of instance.now) }
+        ensures { IsRowSummed instance.now amounts.now row self.old self.new }
+    {
+        self.rows[row].put_sums(instance, trains, amounts);
     }
 
     /// Changes the amount of a row and a column, if there is one.

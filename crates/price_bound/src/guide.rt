@@ -57,13 +57,13 @@ pub(crate) fn put_prices(room: &mut Workspace, asked: &Asked<'_>, guide: &mut Pr
     room.tables.fill(asked.instance, asked.multipliers);
     fill_sums(
         asked.instance,
-        &room.fronts,
+        &room.trains,
         &room.tables.gives,
         &mut room.credits,
     );
     fill_sums(
         asked.instance,
-        &room.fronts,
+        &room.trains,
         &room.tables.takes,
         &mut room.debits,
     );

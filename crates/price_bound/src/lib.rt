@@ -10,7 +10,6 @@ mod credits;
 pub mod day_bounds;
 mod edge_prices;
 mod following;
-mod fronts;
 mod guide;
 pub mod laws;
 mod least_edges;

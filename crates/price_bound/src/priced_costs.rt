@@ -17,7 +17,6 @@ ghost use Rattle.price_bound.specs.Pricing.{ArePriced, priced_by};
 ghost use Rattle.price_bound.specs.Regrouped.{second_price, trip_value};
 ghost use Rattle.price_bound.specs.YardPrices.{giving, taking};
 
-use crate::amounts::AmountRow;
 use crate::costs::cost_in;
 use crate::priced::Pricing;
 use branch_tree::{CompositionSet, Weight};
@@ -200,17 +199,6 @@ pub(crate) fn amount_for(amounts: &[i64], comp: CompNo) -> Amount
     ensures { result.0 ≡ get_or amounts.now comp (pos 0) }
 {
     Amount(amounts[comp.place()])
-}
-
-/// The sum of what a row has for each of these types.
-pub(crate) fn sum_of(row: &AmountRow, types: &[TypeNo]) -> i64
-    requires few { length types.now ≤ MAX_COMPOSITION_UNITS }
-    requires known { All (λ m. m < length row.now) types.now }
-    requires small { AreSmallAmounts row.now }
-    ensures value { result ≡ sum_in row.now types.now }
-    ensures small { IsSmall most_units_price result }
-{
-    sum_in(row.items(), types).0
 }
 
 /// The sum of what there is for each of these types.

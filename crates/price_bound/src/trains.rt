@@ -4,11 +4,11 @@
 
 ghost use Rattle.std.specs.Prelude.{◌≡◌, ◌<◌, ◌≤◌, [], length, IfOk, IfSome, IsNone, Some, Contains, slice_get};
 ghost use Rattle.timetable.specs.Compositions.{compositions_of};
-ghost use Rattle.price_bound.specs.CompositionTrees.{AreEach, AreTrains, IsOneLess, IsRest, IsTurnedPlace, rests_at};
-ghost use Rattle.price_bound.specs.CompositionTrees.{turned_at};
+ghost use Rattle.price_bound.specs.CompositionTrees.{AreEach, AreTrains, IsLast, IsOneLess, IsRest, IsTurnedPlace};
+ghost use Rattle.price_bound.specs.CompositionTrees.{rests_at, turned_at};
 
 use compositions::{Catalogue, Composition};
-use rail_base::{CompNo, NoMemory};
+use rail_base::{CompNo, NoMemory, TypeNo};
 use rail_csv::End;
 use std::alloc::Global;
 use timetable::Instance;
@@ -26,6 +26,8 @@ pub(crate) struct Trains {
     pub turned: Vec<u32>,
     /// The composition.
     pub same: Vec<u32>,
+    /// The type of the unit at its rear.
+    pub lasts: Vec<TypeNo>,
 }
 
 impl Trains {
@@ -38,12 +40,14 @@ impl Trains {
         let none = rests(alloc, instance, End::None)?;
         let turned = turned_places(alloc, instance, true)?;
         let same = turned_places(alloc, instance, false)?;
+        let lasts = lasts(alloc, instance)?;
         Ok(Trains {
             fronts,
             rears,
             none,
             turned,
             same,
+            lasts,
         })
     }
 
@@ -90,6 +94,17 @@ fn turned_places(alloc: Global, instance: &Instance, reversed: bool) -> Result<V
     Ok(places)
 }
 
+/// For each composition the type of the unit at its rear.
+fn lasts(alloc: Global, instance: &Instance) -> Result<Vec<TypeNo>, NoMemory>
+    ensures { IfOk result (λ lasts. AreEach (IsLast instance.now) (length (compositions_of instance.now)) lasts.items) }
+{
+    let mut lasts = Vec::new(alloc);
+    for comp in 0..instance.catalogue().len() {
+        lasts.push(last(instance, CompNo(comp)))?;
+    }
+    Ok(lasts)
+}
+
 /// The place of a composition without the unit at an end.
 fn rest(instance: &Instance, end: End, comp: CompNo) -> u32
     requires { comp < length (compositions_of instance.now) }
@@ -112,6 +127,15 @@ fn turned_place(instance: &Instance, reversed: bool, comp: CompNo) -> u32
     }
     let composition = instance.catalogue().get(comp);
     place_of(instance.catalogue(), &composition.reversed())
+}
+
+/// The type of the unit at the rear of a composition.
+fn last(instance: &Instance, comp: CompNo) -> TypeNo
+    requires { comp < length (compositions_of instance.now) }
+    ensures { IsLast instance.now comp result }
+{
+    let composition = instance.catalogue().get(comp);
+    composition.at(composition.len() - 1)
 }
 
 /// A composition without the unit at an end, or nothing where no units are left; none are where no end is named.

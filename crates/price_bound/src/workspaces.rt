@@ -21,7 +21,6 @@ use crate::chain_rows::ChainRows;
 use crate::changes::Change;
 use crate::costs::fill_costs;
 use crate::credits::fill_sums;
-use crate::fronts::{Front, fronts_of};
 use crate::price_tables::PriceTables;
 use crate::priced::Pricing;
 use crate::priced_costs::added;
@@ -40,8 +39,6 @@ pub(crate) struct Workspace {
     pub costs: AmountTable,
     /// The prices under the multipliers of a bound.
     pub tables: PriceTables,
-    /// What compositions are made of.
-    pub fronts: Vec<Option<Front>>,
     /// For each trip and composition the price of the composition's units, where the trip gives them.
     pub credits: AmountTable,
     /// For each trip and composition the price of the composition's units, where the trip takes them.
@@ -68,7 +65,6 @@ impl Workspace {
         let comps = instance.catalogue().len() as usize;
         let mut costs = AmountTable::new(alloc, trips, comps)?;
         fill_costs(instance, changes, &mut costs);
-        let fronts = fronts_of(alloc, instance)?;
         let credits = AmountTable::new(alloc, trips, comps)?;
         let debits = AmountTable::new(alloc, trips, comps)?;
         let trains = Trains::of(alloc, instance)?;
@@ -77,7 +73,6 @@ impl Workspace {
         Ok(Workspace {
             costs,
             tables,
-            fronts,
             credits,
             debits,
             trains,
@@ -118,11 +113,11 @@ impl Workspace {
         self.tables.fill(instance, multipliers);
         fill_sums(
             instance,
-            &self.fronts,
+            &self.trains,
             &self.tables.gives,
             &mut self.credits,
         );
-        fill_sums(instance, &self.fronts, &self.tables.takes, &mut self.debits);
+        fill_sums(instance, &self.trains, &self.tables.takes, &mut self.debits);
         let pricing = Pricing {
             instance,
             graphs,

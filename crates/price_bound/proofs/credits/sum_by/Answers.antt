@@ -1,77 +1,56 @@
--- The sum of the lower composition is there, and one unit more.
-use Rattle.std.proofs.Common.{◌≡◌, ◌<◌, ℕ, ℤ, List, Option, Some, None, length, get_or, pos, ◌+ℤ◌, ap, sym, subst}
-use Rattle.std.proofs.Common.{arith, ◌∙◌}
+-- The sum of the composition without its last unit is there, and one unit more.
+use Rattle.std.proofs.Common.{◌≡◌, ◌<◌, ℕ, ℤ, List, length, get_or, pos, ◌+ℤ◌, ap, sym, subst, arith, ◌∙◌}
 use Rattle.std.proofs.lemmas.Int.{ints}
-use Rattle.std.proofs.lemmas.List.{get_or_default}
+use Rattle.std.proofs.lemmas.List.{get_or_read}
+use Rattle.rules.specs.declared.records.End.TheVariants as at
 use Rattle.timetable.specs.Compositions.{compositions_of, composition_at}
 use Rattle.timetable.specs.Day.{Day}
-use Rattle.price_bound.specs.declared.fronts.Front.{Front}
 use Rattle.price_bound.specs.CellSizes.{IsSmall, most_amount, most_units_price}
-use Rattle.price_bound.specs.Credits.{AreRowSums, sum_in}
-use Rattle.price_bound.specs.Fronts.{AreFronts, IsFront}
-use Rattle.price_bound.proofs.Adding.{read_is, small_more}
-use Rattle.price_bound.proofs.FrontSums.{front_sum, sum_of_comp_small}
+use Rattle.price_bound.specs.CompositionTrees.{IsLast, IsRest, place_at}
+use Rattle.price_bound.specs.Credits.{sum_in}
+use Rattle.price_bound.proofs.Adding.{small_more}
+use Rattle.price_bound.proofs.FrontSums.{rest_small_at, rest_sum, rest_sum_at, sum_of_comp_small}
 use Rattle.price_bound.proofs.credits.sum_by.Goals as goal
 
-front_at : (day : Day) (fronts : List (Option Front)) (place comp : ℕ) (d : Option Front) (front : Front) → AreFronts day fronts
-    → place ≡ comp → comp < length (compositions_of day) → get_or fronts place d ≡ Some front → IsFront day comp front
-front_at day fronts place comp d front are number listed at =
-    are.each comp front (ap (λ (k : ℕ). get_or fronts k None) (sym number)
-    ∙ get_or_default fronts place None d (omega (arith, number, listed, are.count)) ∙ at)
-
-whole_sum : (day : Day) (amounts sums : List ℤ) (comp : ℕ) (front : Front) (rest last whole : ℤ) → IsFront day comp front
-    → AreRowSums day amounts comp sums → rest ≡ get_or sums front.rest (pos 0) → last ≡ get_or amounts front.last (pos 0)
-    → whole ≡ rest +ℤ last → whole ≡ sum_in amounts (composition_at day comp)
-whole_sum day amounts sums comp front rest last whole is are e f g =
-    added (sum_in amounts (composition_at day front.rest)) (get_or amounts front.last (pos 0)) rest last whole
-    (e ∙ are.values front.rest is.lower) f g
-    ∙ sym (front_sum amounts day comp front is)
-  where
-    added : (x y a b sum : ℤ) → a ≡ x → b ≡ y → sum ≡ a +ℤ b → sum ≡ x +ℤ y
-    added x y a b sum one two three = omega (arith, ints, one, two, three)
-
-pub amount_for-rest-requires : goal.amount_for-rest-requires
-amount_for-rest-requires c =
-    let front : IsFront c.args.instance.now c.args.comp c.in-Some.front =
-    front_at c.args.instance.now c.args.fronts.now c.place.result c.args.comp _ c.in-Some.front c.requires.fronts
-    c.place.ensures.number c.requires.comp c.in-Some.is in
-    omega (arith, front.lower, front.listed, c.requires.room, ap length c.items.ensures)
+added : (x y a b sum : ℤ) → a ≡ x → b ≡ y → sum ≡ a +ℤ b → sum ≡ x +ℤ y
+added x y a b sum one two three = omega (arith, ints, one, two, three)
 
 pub amount_of-last-requires : goal.amount_of-last-requires
 amount_of-last-requires c =
-    let front : IsFront c.args.instance.now c.args.comp c.in-Some.front =
-    front_at c.args.instance.now c.args.fronts.now c.place.result c.args.comp _ c.in-Some.front c.requires.fronts
-    c.place.ensures.number c.requires.comp c.in-Some.is in
-    omega (arith, front.known, c.requires.sized, ap length c.items-in-Some.ensures)
+    let last : IsLast c.args.instance.now c.args.comp (place_at c.args.lasts.now c.args.comp) = c.requires.lasts.each c.args.comp c.requires.comp in
+    let below : c.args.comp < length c.args.lasts.now = omega (arith, c.requires.comp, c.requires.lasts.long) in
+    let here : c.index-lasts-comp.result ≡ place_at c.args.lasts.now c.args.comp =
+    get_or_read c.args.lasts.now c.args.comp c.index-lasts-comp.result below c.index-lasts-comp.is 0 in
+    omega (arith, here, last.known, c.requires.sized)
 
 pub plus-requires-clause-amount : goal.plus-requires-clause-amount
 plus-requires-clause-amount c =
-    let front : IsFront c.args.instance.now c.args.comp c.in-Some.front =
-    front_at c.args.instance.now c.args.fronts.now c.place.result c.args.comp _ c.in-Some.front c.requires.fronts
-    c.place.ensures.number c.requires.comp c.in-Some.is in
-    subst (IsSmall most_amount) (sym (c.amount_for-rest.ensures
-    ∙ ap (λ (row : List ℤ). get_or row c.in-Some.front.rest (pos 0)) c.items.ensures))
-    (small_more most_units_price most_amount (get_or c.args.sums.now c.in-Some.front.rest (pos 0)) (omega arith)
-    (c.requires.sums.small c.in-Some.front.rest front.lower))
+    let day : Day = c.args.instance.now in
+    let rest : ℕ = place_at c.args.fronts.now c.args.comp in
+    subst (IsSmall most_amount) (sym c.sum_at-rest.ensures)
+    (small_more most_units_price most_amount (get_or c.args.sums.now rest (pos 0)) (omega arith)
+    (rest_small_at c.args.amounts.now c.args.sums.now day c.args.comp rest c.requires.comp c.requires.room
+    (c.requires.fronts.each c.args.comp c.requires.comp) c.requires.sums))
 
-pub returns-in-Some-clause-value : goal.returns-in-Some-clause-value
-returns-in-Some-clause-value c =
+pub returns-clause-value : goal.returns-clause-value
+returns-clause-value c =
     let day : Day = c.args.instance.now in
     let amounts : List ℤ = c.args.amounts.now in
-    let front : IsFront day c.args.comp c.in-Some.front =
-    front_at day c.args.fronts.now c.place.result c.args.comp _ c.in-Some.front c.requires.fronts
-    c.place.ensures.number c.requires.comp c.in-Some.is in
-    let whole : c.plus.result.0 ≡ sum_in amounts (composition_at day c.args.comp) =
-    whole_sum day amounts c.args.sums.now c.args.comp c.in-Some.front c.amount_for-rest.result.0 c.amount_of-last.result.0
-    c.plus.result.0 front c.requires.sums
-    (c.amount_for-rest.ensures ∙ ap (λ (row : List ℤ). get_or row c.in-Some.front.rest (pos 0)) c.items.ensures)
-    (c.amount_of-last.ensures ∙ ap (λ (row : List ℤ). get_or row c.in-Some.front.last (pos 0)) c.items-in-Some.ensures)
-    c.plus.ensures in
-    read_is most_units_price c.plus.result.0 (omega arith)
-    (subst (IsSmall most_units_price) (sym whole) (sum_of_comp_small amounts day c.args.comp c.requires.comp c.requires.sized c.requires.small))
-    ∙ whole
+    let rest : ℕ = place_at c.args.fronts.now c.args.comp in
+    let last : ℕ = place_at c.args.lasts.now c.args.comp in
+    let front_is : IsRest day at.Rear c.args.comp rest = c.requires.fronts.each c.args.comp c.requires.comp in
+    let last_is : IsLast day c.args.comp last = c.requires.lasts.each c.args.comp c.requires.comp in
+    let in_lasts : c.args.comp < length c.args.lasts.now = omega (arith, c.requires.comp, c.requires.lasts.long) in
+    let last_there : c.index-lasts-comp.result ≡ last =
+    get_or_read c.args.lasts.now c.args.comp c.index-lasts-comp.result in_lasts c.index-lasts-comp.is 0 in
+    added (sum_in amounts (composition_at day rest)) (get_or amounts last (pos 0)) c.sum_at-rest.result.0 c.amount_of-last.result.0
+    c.plus.result.0
+    (c.sum_at-rest.ensures
+    ∙ rest_sum_at amounts c.args.sums.now day c.args.comp rest c.requires.comp c.requires.room front_is c.requires.sums)
+    (c.amount_of-last.ensures ∙ ap (λ (k : ℕ). get_or amounts k (pos 0)) last_there) c.plus.ensures
+    ∙ sym (rest_sum amounts day c.args.comp rest last front_is last_is)
 
-pub returns-in-Some-clause-small : goal.returns-in-Some-clause-small
-returns-in-Some-clause-small c =
-    subst (IsSmall most_units_price) (sym (returns-in-Some-clause-value c))
+pub returns-clause-small : goal.returns-clause-small
+returns-clause-small c =
+    subst (IsSmall most_units_price) (sym (returns-clause-value c))
     (sum_of_comp_small c.args.amounts.now c.args.instance.now c.args.comp c.requires.comp c.requires.sized c.requires.small)

@@ -14,7 +14,6 @@ pub returns : goal.returns
 returns c = record {
   costs = c.fill_costs.ensures;
   tables = c.in_ok-tables.ensures;
-  fronts = c.in_ok-fronts.ensures;
   credits = zeros_sized _ _ c.trips-trips.result c.len-comps.result c.in_ok-credits.credits c.in_ok-credits.ensures
       c.trips-trips.ensures.value (c.len-comps.ensures.value ∙ ap length c.catalogue.ensures);
   debits = zeros_sized _ _ c.trips-trips.result c.len-comps.result c.in_ok-debits.debits c.in_ok-debits.ensures
