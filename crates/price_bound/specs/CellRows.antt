@@ -42,6 +42,10 @@ all_bare row = map bare row
 abbrev pub cell_in : ℤ → Option Cell
 cell_in value = if int_lt value (pos 9050000000000000000) then Some (record { value = value; next = 0 }) else None
 
+-- a cell, if its value is one
+abbrev pub held_cell : Cell → Option Cell
+held_cell cell = if int_lt cell.value (pos 9050000000000000000) then Some cell else None
+
 -- a number stands for a value, which is below the limit, or is the one that stands for none
 abbrev pub IsHeld : ℤ → Type 0
 IsHeld value = (value <ℤ pos 9050000000000000000) ⊎ (value ≡ pos 9100000000000000000)

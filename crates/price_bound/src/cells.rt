@@ -3,7 +3,7 @@
 
 ghost use Rattle.std.specs.Prelude.{ℕ, ◌≡◌, ◌<◌, ◌+◌, map, length, get_or, set, replicate, IfOk, IfSome, Some};
 ghost use Rattle.std.specs.Prelude.{None, if◌then◌else◌, option_map, ◌+ℤ◌};
-ghost use Rattle.price_bound.specs.CellRows.{AreHeld, IsHeld, bare, cell_in};
+ghost use Rattle.price_bound.specs.CellRows.{AreHeld, IsHeld, bare, cell_in, held_cell};
 ghost use Rattle.price_bound.specs.Paths.{entered, least_from, lower_cell, offer_by, with_priced_cost};
 ghost use Rattle.price_bound.specs.CellSizes.{IsSmall, most_edge_price, most_offered, most_step};
 
@@ -62,12 +62,21 @@ impl CellRow {
         self.values.len()
     }
 
+    /// The value that a composition, which is below `len`, has in the row; `NO_VALUE` where there is no cell.
+    fn value(&self, comp: CompNo) -> i64
+        requires { comp < length self.now }
+        ensures cell { cell_in result ≡ get_or self.now comp None }
+        ensures held { IsHeld result }
+    {
+        self.values[comp.place()]
+    }
+
     /// The cell of a composition, which is below `len`.
     pub(crate) fn get(&self, comp: CompNo) -> Option<Cell>
         requires { comp < length self.now }
         ensures { result ≡ get_or self.now comp None }
     {
-        cell_in(self.values[comp.place()])
+        cell_in(self.value(comp))
     }
 
     /// The values of the cells, and `NO_VALUE` where there is none.
@@ -102,11 +111,14 @@ impl CellRow {
         requires { comps ≡ length self.now }
         ensures { result ≡ least_from 0 None self.now }
     {
-        let mut least = None;
+        let mut least = Cell {
+            value: NO_VALUE,
+            next: CompNo(0),
+        };
         for comp in 0..comps {
-            least = lower_cell(least, entered(CompNo(comp), self.get(CompNo(comp))));
+            least = lower_value(least, CompNo(comp), self.value(CompNo(comp)));
         }
-        least
+        held_cell(least)
     }
 }
 
@@ -134,6 +146,28 @@ fn value_of(cell: Option<Cell>) -> i64
         Some(cell) => cell.value,
         None => NO_VALUE,
     }
+}
+
+/// A cell, unless the value that a composition has in a row is lower: then one of that value and of the composition.
+/// Both may stand for no cell.
+fn lower_value(cell: Cell, comp: CompNo, value: i64) -> Cell
+    requires cell { IsHeld cell.value }
+    requires value { IsHeld value }
+    ensures lower { held_cell result ≡ lower_cell (held_cell cell) (entered comp (cell_in value)) }
+    ensures held { IsHeld result.value }
+{
+    if value < cell.value {
+        Cell { value, next: comp }
+    } else {
+        cell
+    }
+}
+
+/// The cell, if its value is one.
+fn held_cell(cell: Cell) -> Option<Cell>
+    ensures { result ≡ held_cell cell }
+{
+    if cell.value < LIMIT { Some(cell) } else { None }
 }
 
 /// The first of two cells, unless the other is of lower value.
@@ -190,15 +224,4 @@ fn with_amount(cell: Cell, by: Amount, next: CompNo) -> Cell
         value: by.0 + cell.value,
         next,
     }
-}
-
-/// What a cell offers to a path's begin: its value, at its own composition.
-fn entered(comp: CompNo, cell: Option<Cell>) -> Option<Cell>
-    ensures { result ≡ entered comp cell }
-{
-    let cell = cell?;
-    Some(Cell {
-        value: cell.value,
-        next: comp,
-    })
 }
