@@ -24,6 +24,7 @@ use crate::passes::{Passes, PlainTurn, fill_by_passes};
 use crate::priced::Pricing;
 use crate::priced_costs::PricedCosts;
 use crate::turn_prices::{TurnPrices, TurnTrips};
+use branch_tree::sets::WORD_BITS;
 use rail_base::limits::{MAX_LINKS, MAX_TRIPS};
 use rail_base::{CompNo, LinkNo, NoMemory, TripNo};
 use std::alloc::Global;
@@ -357,8 +358,9 @@ fn is_narrow(pricing: &Pricing<'_>, trip: TripNo) -> bool
     requires trip { trip < length pricing.now.instance.now.trips }
 {
     let words = pricing.region.set(trip).words();
+    let used = pricing.instance.catalogue().len() as usize / WORD_BITS + 1;
     let mut members: u64 = 0;
-    for place in 0..words.len() {
+    for place in 0..words.len().min(used) {
         members = members.saturating_add(u64::from(words[place].count_ones()));
     }
     members.saturating_mul(FEW) < u64::from(pricing.instance.catalogue().len())
