@@ -1,6 +1,6 @@
 -- Amounts in a table that is added to: in the rows and the column that it is added to they are more by it, and else
 -- they stay.
-use Rattle.std.proofs.Common.{◌≡◌, ◌≢◌, ℕ, suc, ◌+◌, ◌*◌, ◌^◌, ◌-◌, ◌<◌, ◌≤◌, List, [], ◌∷◌, length, set, get_or}
+use Rattle.std.proofs.Common.{◌≡◌, ◌≢◌, ℕ, zero, suc, ◌+◌, ◌*◌, ◌^◌, ◌-◌, ◌<◌, ◌≤◌, List, [], ◌∷◌, length, set, get_or}
 use Rattle.std.proofs.Common.{replicate, map, Bool, ◌&&◌, refl, sym, ap, ◌∙◌, subst, arith, ℤ, pos, negsuc, ◌+ℤ◌, ◌-ℤ◌}
 use Rattle.std.proofs.Common.{inl, inr, length-set, unsigned_abs}
 use Rattle.std.specs.Prelude.{◌==◌, if◌then◌else◌, min}
@@ -126,6 +126,31 @@ cleared_size rows columns table size = record {
   height = length-map table (map (λ _. pos 0)) ∙ size.height;
   widths = λ r below. ap length (cleared_row table r) ∙ length-map (get_or table r []) (λ _. pos 0) ∙ size.widths r below;
 }
+
+row_again : (row : List ℤ) → map (λ _. pos 0) (map (λ _. pos 0) row) ≡ map (λ _. pos 0) row
+row_again [] = refl
+row_again (x ∷ row) = ap (λ (xs : List ℤ). pos 0 ∷ xs) (row_again row)
+
+pub cleared_again : (table : List (List ℤ)) → cleared_table (cleared_table table) ≡ cleared_table table
+cleared_again [] = refl
+cleared_again (row ∷ table) =
+    ap (λ (xs : List ℤ). xs ∷ cleared_table (cleared_table table)) (row_again row)
+    ∙ ap (λ (rows : List (List ℤ)). map (λ _. pos 0) row ∷ rows) (cleared_again table)
+
+zero_row : (columns : ℕ) → map (λ _. pos 0) (replicate columns (pos 0)) ≡ replicate columns (pos 0)
+zero_row zero = refl
+zero_row (suc columns) = ap (λ (xs : List ℤ). pos 0 ∷ xs) (zero_row columns)
+
+zero_rows : (rows : ℕ) (amounts : List ℤ) → map (λ _. pos 0) amounts ≡ amounts → cleared_table (replicate rows amounts) ≡ replicate rows amounts
+zero_rows zero amounts same = refl
+zero_rows (suc rows) amounts same =
+    ap (λ (xs : List ℤ). xs ∷ cleared_table (replicate rows amounts)) same
+    ∙ ap (λ (xs : List (List ℤ)). amounts ∷ xs) (zero_rows rows amounts same)
+
+-- zeros are as cleared
+pub zeros_clear : (rows columns : ℕ) (table : List (List ℤ)) → table ≡ replicate rows (replicate columns (pos 0)) → cleared_table table ≡ table
+zeros_clear rows columns table is =
+    ap cleared_table is ∙ zero_rows rows (replicate columns (pos 0)) (zero_row columns) ∙ sym is
 
 pub cleared_number : (yards : List (List (List ℤ))) (s m k : ℕ) → number_at (map cleared_table yards) s m k ≡ pos 0
 cleared_number yards s m k = ap (λ (table : List (List ℤ)). amount_at table m k) (map_entry cleared_table yards s refl) ∙ cleared_amount (get_or yards s []) m k

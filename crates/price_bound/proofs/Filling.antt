@@ -36,8 +36,8 @@ use Rattle.price_bound.specs.Regrouped.{of_handover, second_price}
 use Rattle.price_bound.specs.CellSizes.{IsSmall, most_price}
 use Rattle.price_bound.specs.YardPrices.{by_place, of_type, price_by, yard_price}
 use Rattle.price_bound.specs.YardTables.{ArePlaces, CanLook, amounts_at, given_at, later_sums, taken_at}
-use Rattle.price_bound.proofs.Adding.{changed_amount, changed_size, cleared_amount, cleared_number, cleared_places}
-use Rattle.price_bound.proofs.Adding.{cleared_size, small_by_size, small_more, small_zero, sum_small}
+use Rattle.price_bound.proofs.Adding.{changed_amount, changed_size, cleared_again, cleared_amount, cleared_number}
+use Rattle.price_bound.proofs.Adding.{cleared_places, cleared_size, small_by_size, small_more, small_zero, sum_small}
 use Rattle.price_bound.proofs.IntLaws.{none_more, sum_append}
 use Rattle.price_bound.proofs.YardPuts.{all_from, all_next, all_put, from_at, none_from, prices_from, put_at, put_by}
 use Rattle.price_bound.proofs.YardPuts.{put_more}
@@ -93,6 +93,8 @@ module _ (day : Day) where
         gives = sized.gives;
         seconds = changed_size trips comps old.seconds sized.seconds handover.second c v;
         parts = changed_size (length day.links) comps old.parts sized.parts handover.link c v;
+        clear_seconds = λ none. absurd (let no : true ≡ false = none in cc);
+        clear_parts = λ none. absurd (let no : true ≡ false = none in cc);
         yards = sized.yards;
         taken_at = sized.taken_at;
         given_at = sized.given_at;
@@ -113,6 +115,8 @@ module _ (day : Day) where
         gives = sized.gives;
         seconds = sized.seconds;
         parts = sized.parts;
+        clear_seconds = sized.clear_seconds;
+        clear_parts = sized.clear_parts;
         yards = changed_places day old.yards sized.yards station unit_type place v;
         taken_at = sized.taken_at;
         given_at = sized.given_at;
@@ -284,6 +288,8 @@ module _ (day : Day) where
           gives = sized.gives;
           seconds = cleared_size trips comps tables.seconds sized.seconds;
           parts = cleared_size (length day.links) comps tables.parts sized.parts;
+          clear_seconds = λ none. cleared_again tables.seconds;
+          clear_parts = λ none. cleared_again tables.parts;
           yards = cleared_places day tables.yards sized.yards;
           taken_at = sized.taken_at;
           given_at = sized.given_at;
@@ -369,6 +375,8 @@ module _ (day : Day) where
         gives = looked_size (given_at day) tables.given_at.items are.sized.given_at;
         seconds = are.sized.seconds;
         parts = are.sized.parts;
+        clear_seconds = are.sized.clear_seconds;
+        clear_parts = are.sized.clear_parts;
         yards = summed_places;
         taken_at = are.sized.taken_at;
         given_at = are.sized.given_at;

@@ -1,5 +1,6 @@
 -- Tables of prices under multipliers, and how each multiplier is added to them.
 use Rattle.std.specs.Prelude.{ℕ, ◌≡◌, ◌<◌, List, [], map, length, get_or, option_map, unwrap_or, slice_get, ℤ, pos}
+use Rattle.std.specs.Prelude.{false, true}
 use Rattle.timetable.specs.declared.day.indices.Place.{Place}
 use Rattle.timetable.specs.declared.day.indices.Place.TheVariants.{Lambda, Mu, Sigma}
 use Rattle.timetable.specs.declared.day.records.Handover.{Handover}
@@ -26,6 +27,7 @@ abbrev pub with_handover : Handover → ℕ → ℤ → PriceTables → PriceTab
 with_handover handover comp value tables = record tables {
   seconds = changed_in handover.second comp value tables.seconds;
   parts = changed_in handover.link comp value tables.parts;
+  has_handovers = true;
 }
 
 -- the tables after a multiplier is added, by what it belongs to: that of a station and type at its departure minute, or
@@ -46,13 +48,17 @@ with_entry day tables entry =
 abbrev pub cleared_table : List (List ℤ) → List (List ℤ)
 cleared_table table = map (map (λ _. pos 0)) table
 
--- nothing is added yet
-abbrev pub cleared : PriceTables → PriceTables
-cleared tables = record tables {
-  yards = map cleared_table tables.yards;
+-- no multiplier of a hand-over is added yet
+abbrev pub without_handovers : PriceTables → PriceTables
+without_handovers tables = record tables {
   seconds = cleared_table tables.seconds;
   parts = cleared_table tables.parts;
+  has_handovers = false;
 }
+
+-- nothing is added yet
+abbrev pub cleared : PriceTables → PriceTables
+cleared tables = without_handovers (record tables { yards = map cleared_table tables.yards })
 
 -- the prices of yards: all that is put is added up, from the last minute to the first
 abbrev pub summed : PriceTables → List (List (List ℤ))
@@ -73,12 +79,15 @@ pub record HasSize (rows columns : ℕ) (table : List (List ℤ)) : Type 0 where
   pub height : length table ≡ rows
   pub widths : (row : ℕ) → row < rows → length (get_or table row []) ≡ columns
 
--- the tables have the sizes of a day, and the places of trips are found
+-- the tables have the sizes of a day, and the places of trips are found; where no multiplier of a hand-over is added,
+-- the amounts at hand-overs are 0
 pub record AreSized (day : Day) (tables : PriceTables) : Type 0 where
   pub takes : HasSize (length day.trips) (length day.types) tables.takes
   pub gives : HasSize (length day.trips) (length day.types) tables.gives
   pub seconds : HasSize (length day.trips) (length (compositions_of day)) tables.seconds
   pub parts : HasSize (length day.links) (length (compositions_of day)) tables.parts
+  pub clear_seconds : tables.has_handovers ≡ false → cleared_table tables.seconds ≡ tables.seconds
+  pub clear_parts : tables.has_handovers ≡ false → cleared_table tables.parts ≡ tables.parts
   pub yards : HasPlaces day tables.yards
   pub taken_at : ArePlaces day (taken_at day) tables.taken_at.items
   pub given_at : ArePlaces day (given_at day) tables.given_at.items

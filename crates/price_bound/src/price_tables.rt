@@ -4,12 +4,14 @@
 //! type is put at its place among the departure minutes of the station, or after them, and these are added up from the
 //! last to the first: the sum at a minute is the price of a unit there. So no trip is looked at for each multiplier.
 //! The time, of which no clause speaks, grows with the multipliers times the stations, with the minutes and the trips
-//! times the types, and, since the tables are cleared first, with the trips and the links times the compositions.
+//! times the types, and, where there were multipliers at hand-overs before, which are cleared first, with the trips and
+//! the links times the compositions.
 
-ghost use Rattle.std.specs.Prelude.{◌≡◌, ◌<◌, length, fold, IfOk};
+ghost use Rattle.std.specs.Prelude.{◌≡◌, ◌<◌, false, length, fold, IfOk};
 ghost use Rattle.timetable.specs.Indices.{IsPlace, lambdas_of, places_of};
 ghost use Rattle.branch_tree.specs.Entries.{AreMultipliers, DoFit};
-ghost use Rattle.price_bound.specs.PriceTables.{AreSized, ArePrices, cleared, looked_up, with_entry, with_place};
+ghost use Rattle.price_bound.specs.PriceTables.{AreSized, ArePrices, cleared, cleared_table, looked_up, with_entry};
+ghost use Rattle.price_bound.specs.PriceTables.{with_place, without_handovers};
 ghost use Rattle.price_bound.specs.YardTables.{CanLook};
 
 use crate::amounts::AmountTable;
@@ -31,6 +33,8 @@ pub(crate) struct PriceTables {
     pub seconds: AmountTable,
     /// For each link and composition the multiplier of the composition at the hand-over of the link.
     pub parts: AmountTable,
+    /// Whether multipliers at hand-overs are added to these two.
+    has_handovers: bool,
     /// For each station and type the price of a unit at each departure minute of the station, and later.
     yards: YardTable,
     /// For each trip where it takes units.
@@ -59,6 +63,7 @@ impl PriceTables {
             gives,
             seconds,
             parts,
+            has_handovers: false,
             yards,
             taken_at,
             given_at,
@@ -80,11 +85,26 @@ impl PriceTables {
 
     /// Sets to zero what multipliers are added to.
     fn clear(&mut self)
+        requires seconds { self.old.has_handovers ≡ false → cleared_table self.old.seconds ≡ self.old.seconds }
+        requires parts { self.old.has_handovers ≡ false → cleared_table self.old.parts ≡ self.old.parts }
         ensures { self.new ≡ cleared self.old }
     {
         self.yards.clear();
+        self.clear_handovers();
+    }
+
+    /// Sets to zero what multipliers at hand-overs are added to, unless it is.
+    fn clear_handovers(&mut self)
+        requires seconds { self.old.has_handovers ≡ false → cleared_table self.old.seconds ≡ self.old.seconds }
+        requires parts { self.old.has_handovers ≡ false → cleared_table self.old.parts ≡ self.old.parts }
+        ensures { self.new ≡ without_handovers self.old }
+    {
+        if !self.has_handovers {
+            return;
+        }
         self.seconds.clear();
         self.parts.clear();
+        self.has_handovers = false;
     }
 
     /// Adds all multipliers. Their indices are the day's.
@@ -128,6 +148,7 @@ impl PriceTables {
                 self.seconds
                     .add(handover.second.place(), comp.place(), value);
                 self.parts.add(handover.link.place(), comp.place(), value);
+                self.has_handovers = true;
             }
         }
     }

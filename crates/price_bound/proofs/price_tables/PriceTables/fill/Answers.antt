@@ -7,6 +7,12 @@ use Rattle.price_bound.specs.YardTables.{CanLook}
 use Rattle.price_bound.proofs.Filling.{filled, gives_can, takes_can}
 use Rattle.price_bound.proofs.price_tables.PriceTables.fill.Goals as goal
 
+pub clear-requires-clause-seconds : goal.clear-requires-clause-seconds
+clear-requires-clause-seconds c = c.requires.sized.clear_seconds
+
+pub clear-requires-clause-parts : goal.clear-requires-clause-parts
+clear-requires-clause-parts c = c.requires.sized.clear_parts
+
 pub look_up_trips-requires-clause-taken : goal.look_up_trips-requires-clause-taken
 look_up_trips-requires-clause-taken c =
     let added : c.add_all.new.self ≡ fold (with_entry c.args.instance.now) (cleared c.args.self.now) c.args.multipliers.now =
