@@ -89,9 +89,7 @@ impl AmountRow {
         requires { length self.old ≡ length table.now }
         ensures { self.new ≡ column_of column table.now }
     {
-        for row in 0..table.rows.len() {
-            self.amounts[row] = table.rows[row].at(column);
-        }
+        copy_column(&mut self.amounts, &table.rows, column);
     }
 
     /// The amount of a column, and 0 where there is none.
@@ -221,5 +219,15 @@ impl AmountTable {
         ensures { result.now ≡ get_or self.now row [] }
     {
         &self.rows[row]
+    }
+}
+
+/// Puts into each place the amount of a column of the row of the same number.
+fn copy_column(amounts: &mut [i64], rows: &[AmountRow], column: usize)
+    requires { length amounts.old ≡ length rows.now }
+    ensures { amounts.new ≡ column_of column rows.now }
+{
+    for row in 0..rows.len() {
+        amounts[row] = rows[row].at(column);
     }
 }
